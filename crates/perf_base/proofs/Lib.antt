@@ -1,0 +1,6 @@
+pub mod Bridge
+pub mod Algebra
+pub mod Tables
+pub mod Fields
+pub mod ReadBound
+pub mod Cuts

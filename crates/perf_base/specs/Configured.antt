@@ -1,0 +1,9 @@
+-- What a `ParseConfig` holds.
+use Rattle.perf_base.specs.Configuration.{Configuration, unpacked}
+use Rattle.perf_base.specs.declared.config.ParseConfig.{ParseConfig}
+
+abbrev pub configuration_of : {E : Type 0} → ParseConfig E → Configuration
+configuration_of c = unpacked c.word c.regs_user c.regs_intr
+
+abbrev pub endian_of : {E : Type 0} → ParseConfig E → E
+endian_of c = c.endian

@@ -1,0 +1,68 @@
+-- What an error is made of, and what `{}` writes of it.
+use Rattle.std.specs.Prelude.{◌≡◌, ℕ, ◌++◌, List, codes, Bool, true, false, Option, Some, None}
+use Rattle.std.specs.Fmt.InlineText.{inline_text}
+use Rattle.std.specs.declared.io.Error.{Error as IoError}
+use Rattle.std.specs.declared.io.ErrorKind.{ErrorKind as IoKind}
+use Rattle.std.specs.declared.io.ErrorKind.TheVariants.{UnexpectedEof}
+use Rattle.std.specs.IoError.{error_kind}
+use Rattle.anyhow.specs.declared.error.Error.{Error}
+use Rattle.anyhow.specs.Error.{error_message}
+use Rattle.perf_base.specs.declared.error.ErrorKind.{ErrorKind}
+use Rattle.perf_base.specs.declared.error.ErrorKind.TheVariants.{Eof, InvalidRecord, UnsupportedConfig, UnsupportedData, External, OutOfMemory}
+use Rattle.perf_base.specs.declared.error.Detail.{Detail}
+use Rattle.perf_base.specs.declared.error.Detail.TheVariants.{Nothing, Message, Cause}
+use Rattle.perf_base.specs.declared.error.ParseError.{ParseError}
+
+abbrev pub kind_of : ParseError → ErrorKind
+kind_of e = e.kind
+
+abbrev pub detail_message : Detail → Option (List ℕ)
+detail_message Nothing = None
+detail_message (Message text) = Some (inline_text text)
+detail_message (Cause cause) = None
+
+abbrev pub detail_cause : Detail → Option Error
+detail_cause Nothing = None
+detail_cause (Message text) = None
+detail_cause (Cause cause) = Some cause
+
+-- the message that an error was made with
+abbrev pub message_of : ParseError → Option (List ℕ)
+message_of e = detail_message e.detail
+
+-- the outside error that it was made of
+abbrev pub cause_of : ParseError → Option Error
+cause_of e = detail_cause e.detail
+
+-- what an error was made of
+pub record IsMadeOf (e : ParseError) (kind : ErrorKind) (message : Option (List ℕ)) (cause : Option Error) : Type 0 where
+  pub kind_is : kind_of e ≡ kind
+  pub message_is : message_of e ≡ message
+  pub cause_is : cause_of e ≡ cause
+
+-- the text of a kind
+abbrev pub kind_text : ErrorKind → List ℕ
+kind_text Eof = codes "unexpected EOF during parsing"
+kind_text InvalidRecord = codes "invalid record"
+kind_text UnsupportedConfig = codes "unsupported config"
+kind_text UnsupportedData = codes "unsupported serialized data"
+kind_text External = codes "user-provided error"
+kind_text OutOfMemory = codes "out of memory"
+
+-- a colon, a space and the message or the cause, where there is one
+abbrev pub detail_text : Detail → List ℕ
+detail_text Nothing = codes ""
+detail_text (Message text) = codes ": " ++ inline_text text
+detail_text (Cause cause) = codes ": " ++ error_message cause
+
+-- what `{}` writes of an error
+abbrev pub error_text : ParseError → List ℕ
+error_text e = kind_text e.kind ++ detail_text e.detail
+
+abbrev pub is_eof : IoKind → Bool
+is_eof UnexpectedEof = true
+is_eof _ = false
+
+-- the error of a reader that says that the input ended
+abbrev pub is_unexpected_eof : IoError → Bool
+is_unexpected_eof e = is_eof (error_kind e)

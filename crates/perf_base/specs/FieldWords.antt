@@ -1,0 +1,40 @@
+-- The words in which the parts of a structure are written down, one line a field, as in the manual page.
+use Rattle.std.specs.Prelude.{ℕ, Bool, List, Option}
+use Rattle.perf_base.specs.Layout.{w1, w2, w4, w8, number, optional, run, words, padding, rest, Parts, done, part, check}
+use Rattle.perf_base.specs.declared.error.ErrorKind.{ErrorKind}
+
+abbrev pub u8 : Parts ℕ
+u8 = part (number w1) done
+
+abbrev pub u16 : Parts ℕ
+u16 = part (number w2) done
+
+abbrev pub u32 : Parts ℕ
+u32 = part (number w4) done
+
+abbrev pub u64 : Parts ℕ
+u64 = part (number w8) done
+
+-- a number that is there, or not
+abbrev pub u64_if : Bool → Parts (Option ℕ)
+u64_if present = part (optional present w8) done
+
+-- n bytes
+abbrev pub bytes : ℕ → Parts (List ℕ)
+bytes n = part (run n) done
+
+-- n numbers of eight bytes
+abbrev pub numbers : ℕ → Parts (List ℕ)
+numbers n = part (words n) done
+
+-- n bytes that say nothing
+abbrev pub ignored : ℕ → Parts (Unit {0})
+ignored n = part (padding n) done
+
+-- all bytes that are left
+abbrev pub all_left : Parts (List ℕ)
+all_left = part rest done
+
+-- a check, which refuses with its kind where it is false
+abbrev pub require : Bool → ErrorKind → Parts (Unit {0})
+require holds kind = check holds kind (done tt)

@@ -1,0 +1,157 @@
+-- A layout, as perf_event_open(2) writes one: which parts stand one behind another in the bytes of a value, and where.
+-- A part has a size, and its place is the sum of the sizes before it. The value is made of the slices at those places,
+-- and a refusal has the kind of the first part that does not stand. Nothing here reads step by step.
+use Rattle.std.specs.Prelude.{ℕ, zero, suc, ◌+◌, ◌-◌, ◌*◌, Bool, true, false, List, [], ◌∷◌, length, take, drop, get_or, Option, Some, None, Result, Ok, Err, nat_le}
+use Rattle.perf_base.specs.Order.{Order}
+use Rattle.perf_base.specs.declared.error.ErrorKind.{ErrorKind}
+use Rattle.perf_base.specs.declared.error.ErrorKind.TheVariants.{Eof}
+
+-- ---- shapes
+
+-- how many bytes a number has
+pub data Width : Type 0 where
+  w1 w2 w4 w8 : Width
+
+abbrev pub bytes_in : Width → ℕ
+bytes_in w1 = 1
+bytes_in w2 = 2
+bytes_in w4 = 4
+bytes_in w8 = 8
+
+-- What bytes a part takes.
+pub data Shape : Type 0 where
+  -- one number
+  number : Width → Shape
+  -- one number that is there, or not
+  optional : Bool → Width → Shape
+  -- k bytes
+  run : ℕ → Shape
+  -- k numbers of eight bytes
+  words : ℕ → Shape
+  -- k bytes that say nothing
+  padding : ℕ → Shape
+  -- all bytes that are left
+  rest : Shape
+
+-- what a part of that shape answers
+abbrev pub Answer : Shape → Type 0
+Answer (number w) = ℕ
+Answer (optional b w) = Option ℕ
+Answer (run k) = List ℕ
+Answer (words k) = List ℕ
+Answer (padding k) = Unit {0}
+Answer rest = List ℕ
+
+-- the number that an order makes of bytes; one byte is itself in every order
+abbrev pub number_of : Order → Width → List ℕ → ℕ
+number_of o w1 bytes = get_or bytes 0 0
+number_of o w2 bytes = o.two bytes
+number_of o w4 bytes = o.four bytes
+number_of o w8 bytes = o.eight bytes
+
+-- k numbers of eight bytes
+abbrev pub words_of : Order → ℕ → List ℕ → List ℕ
+words_of o zero bytes = []
+words_of o (suc k) bytes = o.eight (take 8 bytes) ∷ words_of o k (drop 8 bytes)
+
+-- what a part answers, from its bytes
+abbrev pub answer_of : Order → (shape : Shape) → List ℕ → Answer shape
+answer_of o (number w) bytes = number_of o w bytes
+answer_of o (optional true w) bytes = Some (number_of o w bytes)
+answer_of o (optional false w) bytes = None
+answer_of o (run k) bytes = bytes
+answer_of o (words k) bytes = words_of o k bytes
+answer_of o (padding k) bytes = tt
+answer_of o rest bytes = bytes
+
+-- the size of a part, of which left bytes lie between its place and the end
+abbrev pub size : Shape → ℕ → ℕ
+size (number w) left = bytes_in w
+size (optional true w) left = bytes_in w
+size (optional false w) left = 0
+size (run k) left = k
+size (words k) left = 8 * k
+size (padding k) left = k
+size rest left = left
+
+-- ---- parts
+
+-- The parts of a value of A. What follows a part may hang on what it answers. A check takes no bytes, and where it is
+-- false it refuses with its kind.
+pub data Parts (A : Type 0) : Type 0 where
+  done : A → Parts A
+  part : (shape : Shape) → (Answer shape → Parts A) → Parts A
+  check : Bool → ErrorKind → Parts A → Parts A
+
+-- parts, and then those that follow from their value
+infixl 10 ◌>>=◌
+abbrev pub ◌>>=◌ : {A B : Type 0} → Parts A → (A → Parts B) → Parts B
+(done v) >>= f = f v
+(part shape k) >>= f = part shape (λ a. k a >>= f)
+(check t e p) >>= f = check t e (p >>= f)
+
+infixl 10 ◌>>◌
+abbrev pub ◌>>◌ : {A B : Type 0} → Parts A → Parts B → Parts B
+p >> q = p >>= λ _. q
+
+-- ---- places
+
+-- n bytes from place s on
+abbrev pub slice : List ℕ → ℕ → ℕ → List ℕ
+slice body s n = take n (drop s body)
+
+-- a part at its place, or a check
+pub data Spot : Type 0 where
+  takes : (place size : ℕ) → Shape → Spot
+  holds : (place : ℕ) → Bool → ErrorKind → Spot
+
+-- The present parts from place s on, each at the sum of the sizes before it.
+abbrev pub spots : {A : Type 0} → Order → List ℕ → ℕ → Parts A → List Spot
+spots o body s (done v) = []
+spots o body s (part shape k) =
+    let n = size shape (length body - s) in
+    takes s n shape ∷ spots o body (s + n) (k (answer_of o shape (slice body s n)))
+spots o body s (check t e p) = holds s t e ∷ spots o body s p
+
+-- the place behind them
+abbrev pub ending : {A : Type 0} → Order → List ℕ → ℕ → Parts A → ℕ
+ending o body s (done v) = s
+ending o body s (part shape k) =
+    let n = size shape (length body - s) in
+    ending o body (s + n) (k (answer_of o shape (slice body s n)))
+ending o body s (check t e p) = ending o body s p
+
+-- the value made of the slices at the places
+abbrev pub value : {A : Type 0} → Order → List ℕ → ℕ → Parts A → A
+value o body s (done v) = v
+value o body s (part shape k) =
+    let n = size shape (length body - s) in
+    value o body (s + n) (k (answer_of o shape (slice body s n)))
+value o body s (check t e p) = value o body s p
+
+-- ---- what stands
+
+-- A part stands where its place plus its size is at most the body's length, and a check where it is true.
+abbrev pub stands : ℕ → Spot → Bool
+stands len (takes s n shape) = nat_le (s + n) len
+stands len (holds s t e) = t
+
+-- why one that does not stand is refused: bytes are lacking, or the check says it
+abbrev pub kind_of : Spot → ErrorKind
+kind_of (takes s n shape) = Eof
+kind_of (holds s t e) = e
+
+-- the kind of the first that does not stand
+abbrev pub fault : ℕ → List Spot → Option ErrorKind
+fault len [] = None
+fault len (x ∷ xs) = elim (stands len x) [ true ↦ fault len xs | false ↦ Some (kind_of x) ]
+
+-- ---- the layout
+
+-- The value, where every part stands; else the kind of the first that does not.
+abbrev pub layout_at : {A : Type 0} → Order → List ℕ → ℕ → Parts A → Result A ErrorKind
+layout_at o body s p = elim (fault (length body) (spots o body s p)) [ None ↦ Ok (value o body s p) | Some e ↦ Err e ]
+
+-- The same from the body's first byte on. Bytes behind the last part do not matter.
+abbrev pub layout : {A : Type 0} → Order → Parts A → List ℕ → Result A ErrorKind
+layout o p body = layout_at o body 0 p

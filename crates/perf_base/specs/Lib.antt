@@ -1,0 +1,14 @@
+pub mod Order
+pub mod Layout
+pub mod Table
+pub mod Run
+pub mod Splice
+pub mod Reads
+pub mod FieldWords
+pub mod Header
+pub mod Configuration
+pub mod Configured
+pub mod Dynamic
+pub mod Errors
+pub mod Cow
+pub mod ReadCount

@@ -1,0 +1,7 @@
+-- What a count of elementary reads counts.
+use Rattle.std.specs.Prelude.{ℕ, ◌+◌}
+use Rattle.perf_base.specs.declared.reads.Steps.{Steps, Many, Sum'}
+
+abbrev pub steps_of : Steps → ℕ
+steps_of (Many n) = n
+steps_of (Sum' p s q t) = steps_of s + steps_of t

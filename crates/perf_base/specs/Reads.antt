@@ -1,0 +1,57 @@
+-- Elementary reads: how much work a layout may cost. One read is one number, or one run of bytes that wants at least one.
+use Rattle.std.specs.Prelude.{ℕ, zero, suc, ◌+◌, ◌-◌, ◌/◌, true, false, List, [], ◌∷◌, length, take, drop, Option, Some, None, nat_le}
+use Rattle.perf_base.specs.Order.{Order}
+use Rattle.perf_base.specs.Layout.{Shape, number, optional, run, words, padding, rest, answer_of, size, Parts, done, part, check, Spot, takes, holds, spots}
+use Rattle.perf_base.specs.declared.error.ErrorKind.{ErrorKind}
+
+abbrev pub one_if_any : ℕ → ℕ
+one_if_any zero = 0
+one_if_any (suc n) = 1
+
+-- The reads of a part of n bytes that stands: each number is one, and so are other bytes, where there are any.
+abbrev pub reads_of : Shape → ℕ → ℕ
+reads_of (number w) n = 1
+reads_of (optional b w) n = one_if_any n
+reads_of (run k) n = one_if_any n
+reads_of (words k) n = k
+reads_of (padding k) n = one_if_any n
+reads_of rest n = one_if_any n
+
+-- The reads of one that does not, of which so many bytes are left: the last of them fails.
+abbrev pub failed_reads : Shape → ℕ → ℕ
+failed_reads (words k) left = left / 8 + 1
+failed_reads _ left = 1
+
+-- the reads of parts at their places, up to the first that does not stand
+abbrev pub reads : ℕ → List Spot → ℕ
+reads len [] = 0
+reads len (takes s n shape ∷ xs) = elim (nat_le (s + n) len) [ true ↦ reads_of shape n + reads len xs | false ↦ failed_reads shape (len - s) ]
+reads len (holds s t e ∷ xs) = elim t [ true ↦ reads len xs | false ↦ 0 ]
+
+-- The bytes that are consumed: all, where bytes are lacking; those before a check that is false.
+abbrev pub consumed : ℕ → ℕ → List Spot → ℕ
+consumed len at [] = at
+consumed len at (takes s n shape ∷ xs) = elim (nat_le (s + n) len) [ true ↦ consumed len (s + n) xs | false ↦ len ]
+consumed len at (holds s t e ∷ xs) = elim t [ true ↦ consumed len s xs | false ↦ s ]
+
+abbrev pub one_if_fault : Option ErrorKind → ℕ
+one_if_fault None = 0
+one_if_fault (Some e) = 1
+
+-- the reads of a layout, and the bytes that it consumes
+abbrev pub layout_reads : {A : Type 0} → Order → Parts A → List ℕ → ℕ
+layout_reads o p body = reads (length body) (spots o body 0 p)
+
+abbrev pub layout_consumed : {A : Type 0} → Order → Parts A → List ℕ → ℕ
+layout_consumed o p body = consumed (length body) 0 (spots o body 0 p)
+
+-- the reads of a run over the bytes that are left
+abbrev pub run_reads : {A : Type 0} → Order → Parts A → List ℕ → ℕ
+run_reads o (done v) bytes = 0
+run_reads o (part shape k) bytes =
+    let n = size shape (length bytes) in
+    elim (nat_le n (length bytes)) [
+      | true ↦ reads_of shape n + run_reads o (k (answer_of o shape (take n bytes))) (drop n bytes)
+      | false ↦ failed_reads shape (length bytes)
+    ]
+run_reads o (check t e p) bytes = elim t [ true ↦ run_reads o p bytes | false ↦ 0 ]

@@ -1,0 +1,18 @@
+-- Tables: fields one behind another, each there or absent, as the sample type of perf_event_open(2) says it of a SAMPLE.
+use Rattle.std.specs.Prelude.{ℕ, List, [], ◌∷◌, take, Option, Some, None}
+use Rattle.perf_base.specs.Order.{Order}
+use Rattle.perf_base.specs.Layout.{Parts, done, ◌>>=◌, ending}
+
+-- the parts of a field, none where it is absent
+abbrev pub slot : {A : Type 0} → Option (Parts A) → Parts (Option A)
+slot None = done None
+slot (Some p) = p >>= λ v. done (Some v)
+
+-- A table is parts again: those of its fields in a row. Its value is the list of theirs.
+abbrev pub table : {A : Type 0} → List (Option (Parts A)) → Parts (List (Option A))
+table [] = done []
+table (field ∷ fields) = slot field >>= λ v. (table fields >>= λ vs. done (v ∷ vs))
+
+-- the place that field i has, or would have
+abbrev pub place_of : {A : Type 0} → Order → List ℕ → List (Option (Parts A)) → ℕ → ℕ
+place_of o body fields i = ending o body 0 (table (take i fields))

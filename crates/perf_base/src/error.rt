@@ -1,0 +1,209 @@
+//! Why something could not be parsed.
+
+ghost use Rattle.std.specs.Prelude.{◌≡◌, ◌≤◌, Some, None, option_map, codes, length};
+ghost use Rattle.std.specs.Fmt.Cut.{cut_to};
+ghost use Rattle.perf_base.specs.Errors.{kind_text, kind_of, message_of, cause_of, error_text, IsMadeOf, is_unexpected_eof};
+ghost use Rattle.perf_base.specs.declared.error.ErrorKind.TheVariants.{Eof, External, OutOfMemory};
+
+use std::alloc::{AllocError, AllocFailed};
+use std::fmt::InlineText;
+use std::{fmt, io};
+
+/// How many bytes of a message are kept. Every message of this library fits.
+const ROOM: usize = 120;
+
+/// What a call of this library answers: a value, or why there is none.
+pub type ParseResult<T> = Result<T, ParseError>;
+
+/// The six kinds of refusal.
+#[derive(Copy, Clone, Debug, PartialEq, Eq, Hash)]
+pub enum ErrorKind {
+    /// There are fewer bytes than a number, a list or a record wants.
+    Eof,
+    /// A record says of itself what cannot be, such as a size below that of its header.
+    InvalidRecord,
+    /// The configuration asks for a format that this record cannot have.
+    UnsupportedConfig,
+    /// An attribute has fields of a kernel that is newer than this library.
+    UnsupportedData,
+    /// The buffer could not go on, as where a reader failed. This library answers it for nothing else.
+    External,
+    /// Memory was refused.
+    OutOfMemory,
+}
+
+impl ErrorKind {
+    fn text(self) -> &'static str
+        ensures { result.now ≡ kind_text self }
+    {
+        match self {
+            ErrorKind::Eof => "unexpected EOF during parsing",
+            ErrorKind::InvalidRecord => "invalid record",
+            ErrorKind::UnsupportedConfig => "unsupported config",
+            ErrorKind::UnsupportedData => "unsupported serialized data",
+            ErrorKind::External => "user-provided error",
+            ErrorKind::OutOfMemory => "out of memory",
+        }
+    }
+}
+
+// What an error says beside its kind.
+#[derive(Drop)]
+enum Detail {
+    Nothing,
+    Message(InlineText<{ ROOM }>),
+    Cause(anyhow::Error),
+}
+
+/// Why something could not be parsed: a kind, and perhaps a message or an outside cause.
+#[derive(Drop)]
+pub struct ParseError {
+    kind: ErrorKind,
+    detail: Detail,
+}
+
+impl ParseError {
+    #[inline]
+    fn plain(kind: ErrorKind) -> ParseError
+        ensures { IsMadeOf result kind None None }
+    {
+        ParseError {
+            kind,
+            detail: Detail::Nothing,
+        }
+    }
+
+    /// An error from outside, of the kind [`ErrorKind::External`].
+    #[cold]
+    pub fn new(cause: anyhow::Error) -> ParseError
+        ensures { IsMadeOf result ErrorKind.External None (Some cause) }
+    {
+        ParseError {
+            kind: ErrorKind::External,
+            detail: Detail::Cause(cause),
+        }
+    }
+
+    /// An error with a message, of which the first 120 bytes are kept.
+    #[cold]
+    pub fn custom(kind: ErrorKind, message: &'static str) -> ParseError
+        ensures cut { IsMadeOf result kind (Some (cut_to 120 message.now)) None }
+        ensures whole { length message.now ≤ 120 → IsMadeOf result kind (Some message.now) None }
+    {
+        ParseError {
+            kind,
+            detail: Detail::Message(InlineText::new().and_str(message, ROOM)),
+        }
+    }
+
+    /// There are not enough bytes.
+    #[inline]
+    pub fn eof() -> ParseError
+        ensures { IsMadeOf result ErrorKind.Eof None None }
+    {
+        ParseError::plain(ErrorKind::Eof)
+    }
+
+    /// Memory was refused.
+    #[inline]
+    pub fn out_of_memory() -> ParseError
+        ensures { IsMadeOf result ErrorKind.OutOfMemory None None }
+    {
+        ParseError::plain(ErrorKind::OutOfMemory)
+    }
+
+    /// The kind of this error.
+    #[inline]
+    pub fn kind(&self) -> ErrorKind
+        ensures { result ≡ kind_of self.now }
+    {
+        self.kind
+    }
+
+    /// The message that it was made with, if there is one.
+    pub fn message(&self) -> Option<&str>
+        ensures { option_map (λ text. text.now) result ≡ message_of self.now }
+    {
+        match &self.detail {
+            Detail::Message(text) => Some(text.as_str()),
+            Detail::Nothing | Detail::Cause(_) => None,
+        }
+    }
+
+    /// The outside error that it was made of, if there is one.
+    pub fn cause(&self) -> Option<&anyhow::Error>
+        ensures { option_map (λ cause. cause.now) result ≡ cause_of self.now }
+    {
+        match &self.detail {
+            Detail::Cause(cause) => Some(cause),
+            Detail::Nothing | Detail::Message(_) => None,
+        }
+    }
+}
+
+impl From<anyhow::Error> for ParseError {
+    ghost from_gives = { λ cause e. IsMadeOf e External None (Some cause) };
+
+    fn from(cause: anyhow::Error) -> ParseError {
+        ParseError::new(cause)
+    }
+}
+
+impl From<AllocError> for ParseError {
+    ghost from_gives = { λ _ e. IsMadeOf e OutOfMemory None None };
+
+    fn from(_error: AllocError) -> ParseError {
+        ParseError::out_of_memory()
+    }
+}
+
+impl<T: Drop> From<AllocFailed<T>> for ParseError {
+    ghost from_gives = { λ _ e. IsMadeOf e OutOfMemory None None };
+
+    fn from(_error: AllocFailed<T>) -> ParseError {
+        ParseError::out_of_memory()
+    }
+}
+
+/// An input that ended too early is [`ErrorKind::Eof`], and any other error [`ErrorKind::External`].
+impl From<io::Error> for ParseError {
+    ghost use Rattle.std.specs.Prelude.{if◌then◌else◌};
+
+    ghost from_gives = { λ x e. IsMadeOf e (if is_unexpected_eof x then Eof else External) None None };
+
+    fn from(error: io::Error) -> ParseError {
+        if error.kind() == io::ErrorKind::UnexpectedEof {
+            ParseError::eof()
+        } else {
+            ParseError::plain(ErrorKind::External)
+        }
+    }
+}
+
+impl fmt::Display for ParseError {
+    ghost output = { λ e. Some (error_text e) };
+
+    fn fmt<W: fmt::Write>(&self, f: &mut fmt::Formatter<W>) -> fmt::Result {
+        f.write_str(self.kind.text())?;
+        match &self.detail {
+            Detail::Nothing => Ok(()),
+            Detail::Message(text) => {
+                f.write_str(": ")?;
+                f.write_str(text.as_str())
+            }
+            Detail::Cause(cause) => {
+                f.write_str(": ")?;
+                write!(f, "{cause}")
+            }
+        }
+    }
+}
+
+impl fmt::Debug for ParseError {
+    fn fmt<W: fmt::Write>(&self, f: &mut fmt::Formatter<W>) -> fmt::Result {
+        f.write_str("ParseError: ")?;
+        write!(f, "{self}")
+    }
+}
+
+impl std::error::Error for ParseError {}

@@ -1,0 +1,68 @@
+//! A count of elementary reads that takes no bytes and no time.
+
+ghost use Rattle.std.specs.Prelude.{◌≡◌, ℕ, ◌+◌};
+ghost use Rattle.perf_base.specs.ReadCount.{steps_of};
+
+use std::marker::Model;
+use std::mem;
+use std::snapshot::Snapshot;
+
+#[derive(Drop)]
+enum Steps {
+    Many(u64),
+    Sum(Snapshot<Steps>, Snapshot<Steps>),
+}
+
+/// How many elementary reads were made: a number for contracts alone, of which no byte is kept when it runs.
+#[derive(Drop)]
+pub struct Reads {
+    made: Snapshot<Steps>,
+}
+
+impl Model for Reads {
+    ghost Value = { ℕ };
+
+    ghost view = { λ r. steps_of r.made.value };
+}
+
+impl Reads {
+    /// No reads yet.
+    #[inline]
+    pub fn new() -> Reads
+        ensures { result ≡ 0 }
+    {
+        Reads {
+            made: Snapshot::of(&Steps::Many(0)),
+        }
+    }
+
+    /// Counts one read.
+    #[inline]
+    pub fn tick(&mut self)
+        ensures { self.new ≡ self.old + 1 }
+    {
+        self.add(Reads {
+            made: Snapshot::of(&Steps::Many(1)),
+        });
+    }
+
+    /// Counts the reads of another count.
+    #[inline]
+    pub fn add(&mut self, more: Reads)
+        ensures { self.new ≡ self.old + more }
+    {
+        let before = mem::replace(&mut self.made, Snapshot::of(&Steps::Many(0)));
+        let Reads { made } = more;
+        self.made = Snapshot::of(&Steps::Sum(before, made));
+    }
+}
+
+#[cfg(test)]
+mod tests {
+    use super::Reads;
+
+    #[test]
+    fn takes_no_bytes(rt: HostRuntime) {
+        assert_eq!(rt; std::mem::size_of::<Reads>(), 0);
+    }
+}

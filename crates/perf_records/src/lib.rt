@@ -1,0 +1,4 @@
+//! One value for every record that the kernel writes.
+#![tactic(auto)]
+
+pub mod record;

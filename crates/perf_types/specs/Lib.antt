@@ -1,0 +1,3 @@
+pub mod Exit
+pub mod Lost
+pub mod LostSamples
