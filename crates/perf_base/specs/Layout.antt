@@ -94,6 +94,10 @@ infixl 10 ◌>>◌
 abbrev pub ◌>>◌ : {A B : Type 0} → Parts A → Parts B → Parts B
 p >> q = p >>= λ _. q
 
+-- the same parts, whose value goes through f
+abbrev pub mapped : {A B : Type 0} → (A → B) → Parts A → Parts B
+mapped f p = p >>= λ v. done (f v)
+
 -- ---- places
 
 -- n bytes from place s on

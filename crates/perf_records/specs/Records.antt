@@ -1,6 +1,7 @@
 -- What a record is in plain numbers and lists, and which parts the body of each type has.
-use Rattle.std.specs.Prelude.{ℕ, Bool, true, List, ◌==◌, if◌then◌else◌, IsTrue}
-use Rattle.perf_base.specs.Layout.{Parts, done, part, check, ◌>>=◌}
+use Rattle.std.specs.Prelude.{ℕ, List, ◌==◌, if◌then◌else◌, IsTrue}
+use Rattle.perf_base.specs.Configuration.{Configuration}
+use Rattle.perf_base.specs.Layout.{Parts, mapped}
 use Rattle.perf_base.specs.FieldWords.{all_left}
 use Rattle.perf_base.specs.Cow.{cow_items, is_borrowed}
 use Rattle.perf_base.specs.declared.sys.TheConstants.{PERF_RECORD_LOST, PERF_RECORD_EXIT, PERF_RECORD_FORK, PERF_RECORD_LOST_SAMPLES}
@@ -38,11 +39,12 @@ IsBorrowed (record_of.Fork r) = Unit {0}
 IsBorrowed (record_of.LostSamples r) = Unit {0}
 IsBorrowed (record_of.Unknown ty bytes) = IsTrue (is_borrowed bytes)
 
--- The parts of a record's body, by the type in its header. Any other type is all the bytes behind the header.
-abbrev pub body : ℕ → Parts RecordValue
-body ty =
-    if ty == PERF_RECORD_LOST then lost >>= λ r. done (lost_is r)
-    else (if ty == PERF_RECORD_EXIT then exit >>= λ r. done (exit_is r)
-    else (if ty == PERF_RECORD_FORK then exit >>= λ r. done (fork_is r)
-    else (if ty == PERF_RECORD_LOST_SAMPLES then lost_samples >>= λ r. done (lost_samples_is r)
-    else all_left >>= λ bytes. done (unknown_is ty bytes))))
+-- The parts of a record's body under a configuration, by the type in its header. Of any other type it is all the bytes
+-- behind the header.
+abbrev pub body : Configuration → ℕ → Parts RecordValue
+body c ty =
+    if ty == PERF_RECORD_LOST then mapped lost_is lost
+    else (if ty == PERF_RECORD_EXIT then mapped exit_is exit
+    else (if ty == PERF_RECORD_FORK then mapped fork_is exit
+    else (if ty == PERF_RECORD_LOST_SAMPLES then mapped lost_samples_is lost_samples
+    else mapped (unknown_is ty) all_left)))

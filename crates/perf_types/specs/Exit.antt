@@ -1,5 +1,5 @@
 -- PERF_RECORD_EXIT and PERF_RECORD_FORK: five numbers.
-use Rattle.perf_base.specs.Layout.{Parts, done, part, check, ◌>>=◌}
+use Rattle.perf_base.specs.Layout.{Parts, done, ◌>>=◌}
 use Rattle.perf_base.specs.FieldWords.{u32, u64}
 use Rattle.perf_types.specs.declared.exit.Exit.{Exit}
 

@@ -1,5 +1,5 @@
 -- PERF_RECORD_LOST_SAMPLES: how many were lost.
-use Rattle.perf_base.specs.Layout.{Parts, done, part, check, ◌>>=◌}
+use Rattle.perf_base.specs.Layout.{Parts, done, ◌>>=◌}
 use Rattle.perf_base.specs.FieldWords.{u64}
 use Rattle.perf_types.specs.declared.lost_samples.LostSamples.{LostSamples}
 

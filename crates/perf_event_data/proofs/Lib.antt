@@ -1,0 +1,10 @@
+pub mod Taking
+pub mod Options
+pub mod Hints
+pub mod Paying
+pub mod Steps
+pub mod Saying
+pub mod Cutting
+pub mod Headers
+pub mod Ending
+pub mod Listing

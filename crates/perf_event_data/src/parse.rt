@@ -1,0 +1,122 @@
+//! Parsing: what can be parsed, and the parser that does it.
+
+ghost use Rattle.std.specs.Prelude.{◌≡◌, ℕ, List, IsTrue, Result};
+ghost use Rattle.perf_base.specs.Configuration.{Configuration};
+ghost use Rattle.perf_base.specs.Configured.{configuration_of, endian_of};
+ghost use Rattle.perf_base.specs.Layout.{number, w1, w2, w4, w8};
+ghost use Rattle.perf_base.specs.Order.{Order};
+ghost use Rattle.perf_base.specs.declared.error.ParseError.{ParseError as Refusal};
+ghost use Rattle.perf_event_data.specs.Answers.{body_length};
+ghost use Rattle.perf_event_data.specs.Buffer.{refusal};
+ghost use Rattle.perf_event_data.specs.Meaning.{Meaning, meaning};
+ghost use Rattle.perf_event_data.specs.Reading.{ReadsOne, KeepsBuffer, KeepsFaults, KeepsCost, KeepsPlace};
+ghost use Rattle.perf_event_data.specs.Taking.{MovesWithin};
+ghost use Rattle.perf_base.specs.declared.sys.perf_event_header.{perf_event_header};
+
+pub use crate::cursor::ParseBufCursor;
+pub use crate::parsebuf::{ParseBuf, ParseBufChunk};
+pub use crate::parser::Parser;
+pub use perf_base::config::ParseConfig;
+use perf_base::endian::Endian;
+pub use perf_base::error::{ErrorKind, ParseError, ParseResult};
+use perf_base::sys::perf_event_header;
+
+/// What the parse of a type means.
+pub trait Layout: Sized {
+    // What a call answers, from what the parser meant before, and what the parser means after it.
+    ghost parses: { Meaning → Result Self Refusal → Meaning → Type 0 };
+}
+
+/// A type that can be parsed out of a buffer.
+pub trait Parse<'p, B: ParseBuf<'p>>: Layout {
+    /// Parses one value.
+    fn parse<E: Endian>(parser: &mut Parser<B, E>) -> ParseResult<Self>
+        ensures config { parser.new.config ≡ parser.old.config }
+        ensures answer { IsTrue (B.source parser.old.buf).told → Self.parses (meaning B.source E.order parser.old) result (meaning B.source E.order parser.new) }
+        ensures keeps { KeepsBuffer (meaning B.source E.order parser.old) (refusal result) (meaning B.source E.order parser.new) }
+        ensures faults { KeepsFaults (meaning B.source E.order parser.old) (refusal result) }
+        ensures cost { KeepsCost (meaning B.source E.order parser.old) (refusal result) (meaning B.source E.order parser.new) }
+        ensures place { KeepsPlace (meaning B.source E.order parser.old) (meaning B.source E.order parser.new) };
+}
+
+impl<'p, B: ParseBuf<'p>, E: Endian> Parser<B, E> {
+    /// Parses one value of a type.
+    #[inline]
+    pub fn parse<P: Parse<'p, B>>(&mut self) -> ParseResult<P>
+        ensures config { self.new.config ≡ self.old.config }
+        ensures answer { IsTrue (B.source self.old.buf).told → P.parses (meaning B.source E.order self.old) result (meaning B.source E.order self.new) }
+        ensures keeps { KeepsBuffer (meaning B.source E.order self.old) (refusal result) (meaning B.source E.order self.new) }
+        ensures faults { KeepsFaults (meaning B.source E.order self.old) (refusal result) }
+        ensures cost { KeepsCost (meaning B.source E.order self.old) (refusal result) (meaning B.source E.order self.new) }
+        ensures place { KeepsPlace (meaning B.source E.order self.old) (meaning B.source E.order self.new) }
+    {
+        P::parse(self)
+    }
+}
+
+impl Layout for u8 {
+    ghost parses = { ReadsOne (number w1) (λ n. n) };
+}
+
+impl<'p, B: ParseBuf<'p>> Parse<'p, B> for u8 {
+    #[inline]
+    fn parse<E: Endian>(parser: &mut Parser<B, E>) -> ParseResult<Self> {
+        parser.parse_u8()
+    }
+}
+
+impl Layout for u16 {
+    ghost parses = { ReadsOne (number w2) (λ n. n) };
+}
+
+impl<'p, B: ParseBuf<'p>> Parse<'p, B> for u16 {
+    #[inline]
+    fn parse<E: Endian>(parser: &mut Parser<B, E>) -> ParseResult<Self> {
+        parser.parse_u16()
+    }
+}
+
+impl Layout for u32 {
+    ghost parses = { ReadsOne (number w4) (λ n. n) };
+}
+
+impl<'p, B: ParseBuf<'p>> Parse<'p, B> for u32 {
+    #[inline]
+    fn parse<E: Endian>(parser: &mut Parser<B, E>) -> ParseResult<Self> {
+        parser.parse_u32()
+    }
+}
+
+impl Layout for u64 {
+    ghost parses = { ReadsOne (number w8) (λ n. n) };
+}
+
+impl<'p, B: ParseBuf<'p>> Parse<'p, B> for u64 {
+    #[inline]
+    fn parse<E: Endian>(parser: &mut Parser<B, E>) -> ParseResult<Self> {
+        parser.parse_u64()
+    }
+}
+
+/// What the parse of a frame means, by its header.
+pub trait FrameLayout: Sized {
+    // What a call answers, from the header and the bytes behind it, and which bytes it leaves.
+    ghost says_behind: { Configuration → Order → perf_event_header → List ℕ → Result Self Refusal → List ℕ → Type 0 };
+}
+
+/// A type that is parsed out of a frame whose header was read before.
+pub trait ParseRecord<'p, B: ParseBuf<'p>>: FrameLayout {
+    /// Parses the rest of a frame. After a refusal exactly the frame is taken, or all that was left where that is less;
+    /// after a fault, and where memory for the frame was refused, a beginning of it.
+    fn parse_with_header<E: Endian>(
+        parser: &mut Parser<B, E>,
+        header: perf_event_header,
+    ) -> ParseResult<Self>
+        ensures config { parser.new.config ≡ parser.old.config }
+        ensures answer { IsTrue (B.source parser.old.buf).told → Self.says_behind (configuration_of parser.old.config) (E.order (endian_of parser.old.config)) header (B.source parser.old.buf).left result (B.source parser.new.buf).left }
+        ensures within { IsTrue (B.source parser.old.buf).told → MovesWithin (B.source parser.old.buf) (body_length header) (B.source parser.new.buf) }
+        ensures keeps { KeepsBuffer (meaning B.source E.order parser.old) (refusal result) (meaning B.source E.order parser.new) }
+        ensures faults { KeepsFaults (meaning B.source E.order parser.old) (refusal result) }
+        ensures cost { KeepsCost (meaning B.source E.order parser.old) (refusal result) (meaning B.source E.order parser.new) }
+        ensures place { KeepsPlace (meaning B.source E.order parser.old) (meaning B.source E.order parser.new) };
+}

@@ -1,0 +1,56 @@
+//! A buffer and how to read it.
+
+ghost use Rattle.std.specs.Prelude.{◌≡◌, ◌+◌, ℕ, IfOk, IfErr, IsTrue};
+ghost use Rattle.perf_base.specs.Configured.{configuration_of, endian_of};
+ghost use Rattle.perf_base.specs.Errors.{kind_of};
+
+use crate::parsebuf::ParseBuf;
+use perf_base::config::ParseConfig;
+use perf_base::endian::Endian;
+use perf_base::reads::Reads;
+use std::alloc::Global;
+
+/// Reads values out of a buffer, under a configuration.
+///
+/// [`Parser::parse`] reads one value. Where bytes are lacking, all that was left is taken; after a record that is
+/// refused exactly its frame is, so that the next record can be read.
+#[derive(Drop)]
+pub struct Parser<B, E> {
+    pub(crate) buf: B,
+    pub(crate) config: ParseConfig<E>,
+    pub(crate) reads: Reads,
+    pub(crate) alloc: Global,
+}
+
+impl<'p, B: ParseBuf<'p>, E: Endian> Parser<B, E> {
+    /// A parser of the bytes in a buffer, which takes what memory it needs from `alloc`.
+    #[inline]
+    pub fn new(alloc: Global, buf: B, config: ParseConfig<E>) -> Parser<B, E>
+        ensures buf { result.buf ≡ buf }
+        ensures config { result.config ≡ config }
+        ensures reads { result.reads ≡ 0 }
+    {
+        Parser {
+            buf,
+            config,
+            reads: Reads::new(),
+            alloc,
+        }
+    }
+
+    /// The configuration.
+    #[inline]
+    pub fn config(&self) -> &ParseConfig<E>
+        ensures { result.now ≡ self.now.config }
+    {
+        &self.config
+    }
+
+    /// The byte order.
+    #[inline]
+    pub fn endian(&self) -> &E
+        ensures { result.now ≡ endian_of self.now.config }
+    {
+        self.config.endian()
+    }
+}
