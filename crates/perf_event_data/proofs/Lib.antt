@@ -8,3 +8,5 @@ pub mod Cutting
 pub mod Headers
 pub mod Ending
 pub mod Listing
+mod Worked
+mod Covering

@@ -43,7 +43,7 @@ one_more_borrowed (pair ∷ pairs) h r p q = (p.0, one_more_borrowed pairs h r p
 
 -- ---- frames in a row
 -- the first frame, and those behind it
-frames_next : (o : Order) (n : ℕ) (bytes : List ℕ) → 8 ≤ length bytes → first_frames o (suc n) bytes ≡ take (frame_length o bytes) bytes ∷ first_frames o n (drop (frame_length o bytes) bytes)
+pub frames_next : (o : Order) (n : ℕ) (bytes : List ℕ) → 8 ≤ length bytes → first_frames o (suc n) bytes ≡ take (frame_length o bytes) bytes ∷ first_frames o n (drop (frame_length o bytes) bytes)
 frames_next o n bytes fits = let a : nat_lt (length bytes) 8 ≡ false = le-ltb (length bytes) 8 fits in rw a refl
 
 frames_none : (o : Order) (n : ℕ) (bytes : List ℕ) → length bytes < 8 → first_frames o n bytes ≡ []
@@ -55,13 +55,13 @@ abbrev pub AreThere : Order → ℕ → List ℕ → Type 0
 AreThere o k bytes = length (first_frames o k bytes) ≡ k
 
 -- where one more is there, so is the first
-there_fits : (o : Order) (k : ℕ) (bytes : List ℕ) → AreThere o (suc k) bytes → 8 ≤ length bytes
+pub there_fits : (o : Order) (k : ℕ) (bytes : List ℕ) → AreThere o (suc k) bytes → 8 ≤ length bytes
 there_fits o k bytes h = elim (cases_lt (length bytes) 8) [
   | inr fits ↦ fits
   | inl short ↦ absurd (omega (arith, h, ap length (frames_none o (suc k) bytes short)))
 ]
 
-there_next : (o : Order) (k : ℕ) (bytes : List ℕ) → AreThere o (suc k) bytes → AreThere o k (drop (frame_length o bytes) bytes)
+pub there_next : (o : Order) (k : ℕ) (bytes : List ℕ) → AreThere o (suc k) bytes → AreThere o k (drop (frame_length o bytes) bytes)
 there_next o k bytes h =
     let e = ap length (frames_next o k bytes (there_fits o k bytes h)) in
     omega (arith, h, e)
