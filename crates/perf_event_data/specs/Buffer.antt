@@ -1,5 +1,5 @@
 -- A buffer: the bytes that are left in it, and what its calls show, refuse and take. Nothing above speaks of chunks.
-use Rattle.std.specs.Prelude.{Option, Result, ◌≡◌, ℕ, ◌+◌, ◌<◌, Bool, true, false, IsTrue, List, [], length, drop, Ok, Err, Some, None, IfOk, IsOkAnd}
+use Rattle.std.specs.Prelude.{Option, Result, ◌≡◌, ℕ, ◌+◌, ◌<◌, Bool, true, false, IsTrue, List, [], length, drop, Ok, Err, Some, None, IfOk, IfErr, IsOkAnd, ◌≢◌}
 use Rattle.std.specs.Io.{StartsWith}
 use Rattle.perf_base.specs.Errors.{kind_of}
 use Rattle.perf_base.specs.declared.error.ErrorKind.{ErrorKind}
@@ -58,6 +58,10 @@ Refuses old OutOfMemory = ⊥
 abbrev pub refusal : {A : Type 0} → Result A ParseError → Option ErrorKind
 refusal (Ok x) = None
 refusal (Err e) = Some (kind_of e)
+
+-- a call that takes no memory, so that none can be refused
+abbrev pub NeedsNoMemory : {A : Type 0} → Result A ParseError → Type 0
+NeedsNoMemory r = IfErr r (λ e. kind_of e ≢ OutOfMemory)
 
 -- ---- what it leaves
 

@@ -2,7 +2,7 @@
 
 ghost use Rattle.std.specs.Prelude.{◌≡◌, ◌≢◌, ℕ, ◌+◌, ◌<◌, ◌≤◌, true, false, None, Some, length, take, drop, IsTrue, IsOk, OnOk, IfOk, IfErr, ◌++◌, MatchOption, IfNone, vec_len, vec_capacity};
 ghost use Rattle.perf_base.specs.Errors.{kind_of};
-ghost use Rattle.perf_event_data.specs.Buffer.{Source, Stays, refusal};
+ghost use Rattle.perf_event_data.specs.Buffer.{NeedsNoMemory, Source, Stays, refusal};
 ghost use Rattle.perf_event_data.specs.Taking.{Takes, FailsToTake, FailsToKeep, CanFail};
 ghost use Rattle.perf_event_data.specs.Room.{falls_short, is_made_beforehand, makes_all_room};
 
@@ -100,7 +100,7 @@ fn lend<'p, B: ParseBuf<'p>>(buf: &mut B, len: usize) -> ParseResult<Option<&'p 
     ensures stays { Stays (B.source buf.old) (refusal result) (B.source buf.new) }
     ensures can_fail { CanFail (B.source buf.old) (refusal result) }
     ensures whole { IsTrue (B.source buf.old).whole → IfOk result (λ o. IfNone o (IsTrue (B.source buf.old).told × (length (B.source buf.old).left < len))) }
-    ensures no_memory { IfErr result (λ e. kind_of e ≢ ErrorKind.OutOfMemory) }
+    ensures memory { NeedsNoMemory result }
     ensures ok { IsTrue (B.source buf.old).told → IfOk result (λ o. MatchOption o ((B.source buf.new).left ≡ (B.source buf.old).left)
         (λ s. Takes (B.source buf.old) len (B.source buf.new) × (s.now ≡ take len (B.source buf.old).left))) }
     ensures err { IsTrue (B.source buf.old).told → IfErr result (λ e. FailsToTake (B.source buf.old) len (kind_of e) (B.source buf.new)) }
@@ -121,7 +121,7 @@ fn skip_some<'p, B: ParseBuf<'p>>(buf: &mut B, len: usize) -> ParseResult<usize>
     requires { 0 < len }
     ensures stays { Stays (B.source buf.old) (refusal result) (B.source buf.new) }
     ensures can_fail { CanFail (B.source buf.old) (refusal result) }
-    ensures no_memory { IfErr result (λ e. kind_of e ≢ ErrorKind.OutOfMemory) }
+    ensures memory { NeedsNoMemory result }
     ensures count { IfOk result (λ n. (0 < n) × (n ≤ len)) }
     ensures ok { IsTrue (B.source buf.old).told → IfOk result (λ n. Takes (B.source buf.old) n (B.source buf.new)) }
     ensures err { IsTrue (B.source buf.old).told → IfErr result (λ e. FailsToTake (B.source buf.old) len (kind_of e) (B.source buf.new)) }
@@ -136,7 +136,7 @@ fn skip_some<'p, B: ParseBuf<'p>>(buf: &mut B, len: usize) -> ParseResult<usize>
 fn skip<'p, B: ParseBuf<'p>>(buf: &mut B, len: usize) -> ParseResult<()>
     ensures stays { Stays (B.source buf.old) (refusal result) (B.source buf.new) }
     ensures can_fail { CanFail (B.source buf.old) (refusal result) }
-    ensures no_memory { IfErr result (λ e. kind_of e ≢ ErrorKind.OutOfMemory) }
+    ensures memory { NeedsNoMemory result }
     ensures ok { IsTrue (B.source buf.old).told → OnOk result (Takes (B.source buf.old) len (B.source buf.new)) }
     ensures err { IsTrue (B.source buf.old).told → IfErr result (λ e. FailsToTake (B.source buf.old) len (kind_of e) (B.source buf.new)) }
 {
@@ -156,7 +156,7 @@ fn append_some<'p, B: ParseBuf<'p>>(
     requires { 0 < len }
     ensures stays { Stays (B.source buf.old) (refusal result) (B.source buf.new) }
     ensures can_fail { CanFail (B.source buf.old) (refusal result) }
-    ensures room { vec_len out.old + len ≤ vec_capacity out.old → IfErr result (λ e. kind_of e ≢ ErrorKind.OutOfMemory) }
+    ensures room { vec_len out.old + len ≤ vec_capacity out.old → NeedsNoMemory result }
     ensures capacity { vec_capacity out.old ≤ vec_capacity out.new }
     ensures count { IfOk result (λ n. (0 < n) × (n ≤ len) × (vec_len out.new ≡ vec_len out.old + n)) }
     ensures ok { IsTrue (B.source buf.old).told → IfOk result (λ n. Takes (B.source buf.old) n (B.source buf.new) × (out.new.items ≡ out.old.items ++ take n (B.source buf.old).left)) }
@@ -176,7 +176,7 @@ fn append_some<'p, B: ParseBuf<'p>>(
 fn append<'p, B: ParseBuf<'p>>(buf: &mut B, out: &mut Vec<u8>, len: usize) -> ParseResult<()>
     ensures stays { Stays (B.source buf.old) (refusal result) (B.source buf.new) }
     ensures can_fail { CanFail (B.source buf.old) (refusal result) }
-    ensures room { vec_len out.old + len ≤ vec_capacity out.old → IfErr result (λ e. kind_of e ≢ ErrorKind.OutOfMemory) }
+    ensures room { vec_len out.old + len ≤ vec_capacity out.old → NeedsNoMemory result }
     ensures ok { IsTrue (B.source buf.old).told → OnOk result (Takes (B.source buf.old) len (B.source buf.new) × (out.new.items ≡ out.old.items ++ take len (B.source buf.old).left)) }
     ensures err { IsTrue (B.source buf.old).told → IfErr result (λ e. FailsToKeep (B.source buf.old) len (kind_of e) (B.source buf.new)) }
 {
@@ -263,11 +263,11 @@ impl<'p> ParseBufCursor<'p> {
 
         // A whole buffer lends its bytes, and nothing is always there: neither takes memory.
         ensures whole { IsTrue (B.source buf.old).whole → IfOk result (λ c. IsTrue (cursor_lent c)) }
-        ensures whole_memory { IsTrue (B.source buf.old).whole → IfErr result (λ e. kind_of e ≢ ErrorKind.OutOfMemory) }
+        ensures whole_memory { IsTrue (B.source buf.old).whole → NeedsNoMemory result }
         ensures nothing { len ≡ 0 → IsOk result × (B.source buf.new ≡ B.source buf.old) }
 
         // No room is made where the buffer says that it has too few, and else all room first, where that is little.
-        ensures short { falls_short (B.hint buf.old) len ≡ true → IfErr result (λ e. kind_of e ≢ ErrorKind.OutOfMemory) }
+        ensures short { falls_short (B.hint buf.old) len ≡ true → NeedsNoMemory result }
         ensures beforehand { IsTrue (B.source buf.old).told → is_made_beforehand (B.hint buf.old) len ≡ true →
             IfErr result (λ e. kind_of e ≡ ErrorKind.OutOfMemory → (B.source buf.new).left ≡ (B.source buf.old).left) }
 

@@ -3,7 +3,7 @@
 ghost use Rattle.std.specs.Prelude.{◌≡◌, ℕ, ◌<◌, ◌≤◌, length, take, OnOk, IfOk, IfErr, IsTrue};
 ghost use Rattle.perf_base.specs.Errors.{kind_of};
 ghost use Rattle.perf_event_data.specs.Taking.{Takes, TakesAtOnce, FailsToTake, CanFail};
-ghost use Rattle.perf_event_data.specs.Buffer.{Stays, refusal};
+ghost use Rattle.perf_event_data.specs.Buffer.{NeedsNoMemory, Stays, refusal};
 
 use crate::parsebuf::ParseBuf;
 use perf_base::error::ParseResult;
@@ -14,6 +14,7 @@ fn fill_at_once<'p, B: ParseBuf<'p>>(buf: &mut B, out: &mut [u8]) -> ParseResult
     requires { 0 < length out.old }
     ensures stays { Stays (B.source buf.old) (refusal result) (B.source buf.new) }
     ensures can_fail { CanFail (B.source buf.old) (refusal result) }
+    ensures memory { NeedsNoMemory result }
     ensures ok { IsTrue (B.source buf.old).told → IfOk result (λ all. TakesAtOnce (B.source buf.old) (length out.old) all out.new (B.source buf.new)) }
     ensures err { IsTrue (B.source buf.old).told → IfErr result (λ e. FailsToTake (B.source buf.old) (length out.old) (kind_of e) (B.source buf.new)) }
 {
@@ -34,6 +35,7 @@ fn take_some<'p, B: ParseBuf<'p>>(buf: &mut B, out: &mut [u8]) -> ParseResult<us
     ensures count { IfOk result (λ n. (0 < n) × (n ≤ length out.old)) }
     ensures stays { Stays (B.source buf.old) (refusal result) (B.source buf.new) }
     ensures can_fail { CanFail (B.source buf.old) (refusal result) }
+    ensures memory { NeedsNoMemory result }
     ensures ok { IsTrue (B.source buf.old).told → IfOk result (λ n. Takes (B.source buf.old) n (B.source buf.new) × (take n out.new ≡ take n (B.source buf.old).left)) }
     ensures err { IsTrue (B.source buf.old).told → IfErr result (λ e. FailsToTake (B.source buf.old) (length out.old) (kind_of e) (B.source buf.new)) }
 {
@@ -51,6 +53,7 @@ fn take_some<'p, B: ParseBuf<'p>>(buf: &mut B, out: &mut [u8]) -> ParseResult<us
 fn fill<'p, B: ParseBuf<'p>>(buf: &mut B, out: &mut [u8]) -> ParseResult<()>
     ensures stays { Stays (B.source buf.old) (refusal result) (B.source buf.new) }
     ensures can_fail { CanFail (B.source buf.old) (refusal result) }
+    ensures memory { NeedsNoMemory result }
     ensures ok { IsTrue (B.source buf.old).told → OnOk result (Takes (B.source buf.old) (length out.old) (B.source buf.new) × (out.new ≡ take (length out.old) (B.source buf.old).left)) }
     ensures err { IsTrue (B.source buf.old).told → IfErr result (λ e. FailsToTake (B.source buf.old) (length out.old) (kind_of e) (B.source buf.new)) }
 {
@@ -67,6 +70,7 @@ pub fn take_array<'p, B: ParseBuf<'p>, const N: usize>(buf: &mut B) -> ParseResu
     requires { 0 < N }
     ensures stays { Stays (B.source buf.old) (refusal result) (B.source buf.new) }
     ensures can_fail { CanFail (B.source buf.old) (refusal result) }
+    ensures memory { NeedsNoMemory result }
     ensures ok { IsTrue (B.source buf.old).told → IfOk result (λ bytes. Takes (B.source buf.old) N (B.source buf.new) × (bytes ≡ take N (B.source buf.old).left)) }
     ensures err { IsTrue (B.source buf.old).told → IfErr result (λ e. FailsToTake (B.source buf.old) N (kind_of e) (B.source buf.new)) }
 {

@@ -3,7 +3,7 @@
 
 ghost use Rattle.std.specs.Prelude.{◌≡◌, IsTrue};
 ghost use Rattle.perf_base.specs.Layout.{number, w1, w2, w4, w8};
-ghost use Rattle.perf_event_data.specs.Buffer.{refusal};
+ghost use Rattle.perf_event_data.specs.Buffer.{NeedsNoMemory, refusal};
 ghost use Rattle.perf_event_data.specs.Meaning.{meaning};
 ghost use Rattle.perf_event_data.specs.Reading.{ReadsOne, KeepsBuffer, KeepsFaults, KeepsCost, KeepsPlace};
 
@@ -18,6 +18,7 @@ impl<'p, B: ParseBuf<'p>, E: Endian> Parser<B, E> {
     #[inline]
     pub fn parse_u8(&mut self) -> ParseResult<u8>
         ensures config { self.new.config ≡ self.old.config }
+        ensures memory { NeedsNoMemory result }
         ensures answer { IsTrue (B.source self.old.buf).told → ReadsOne (number w1) (λ n. n) (meaning B.source E.order self.old) result (meaning B.source E.order self.new) }
         ensures keeps { KeepsBuffer (meaning B.source E.order self.old) (refusal result) (meaning B.source E.order self.new) }
         ensures faults { KeepsFaults (meaning B.source E.order self.old) (refusal result) }
@@ -33,6 +34,7 @@ impl<'p, B: ParseBuf<'p>, E: Endian> Parser<B, E> {
     #[inline]
     pub fn parse_u16(&mut self) -> ParseResult<u16>
         ensures config { self.new.config ≡ self.old.config }
+        ensures memory { NeedsNoMemory result }
         ensures answer { IsTrue (B.source self.old.buf).told → ReadsOne (number w2) (λ n. n) (meaning B.source E.order self.old) result (meaning B.source E.order self.new) }
         ensures keeps { KeepsBuffer (meaning B.source E.order self.old) (refusal result) (meaning B.source E.order self.new) }
         ensures faults { KeepsFaults (meaning B.source E.order self.old) (refusal result) }
@@ -48,6 +50,7 @@ impl<'p, B: ParseBuf<'p>, E: Endian> Parser<B, E> {
     #[inline]
     pub fn parse_u32(&mut self) -> ParseResult<u32>
         ensures config { self.new.config ≡ self.old.config }
+        ensures memory { NeedsNoMemory result }
         ensures answer { IsTrue (B.source self.old.buf).told → ReadsOne (number w4) (λ n. n) (meaning B.source E.order self.old) result (meaning B.source E.order self.new) }
         ensures keeps { KeepsBuffer (meaning B.source E.order self.old) (refusal result) (meaning B.source E.order self.new) }
         ensures faults { KeepsFaults (meaning B.source E.order self.old) (refusal result) }
@@ -63,6 +66,7 @@ impl<'p, B: ParseBuf<'p>, E: Endian> Parser<B, E> {
     #[inline]
     pub fn parse_u64(&mut self) -> ParseResult<u64>
         ensures config { self.new.config ≡ self.old.config }
+        ensures memory { NeedsNoMemory result }
         ensures answer { IsTrue (B.source self.old.buf).told → ReadsOne (number w8) (λ n. n) (meaning B.source E.order self.old) result (meaning B.source E.order self.new) }
         ensures keeps { KeepsBuffer (meaning B.source E.order self.old) (refusal result) (meaning B.source E.order self.new) }
         ensures faults { KeepsFaults (meaning B.source E.order self.old) (refusal result) }

@@ -2,6 +2,7 @@
 #![tactic(auto, using(crate::proofs::Paying::chain))]
 
 ghost use Rattle.perf_base.specs.Header.{header};
+ghost use Rattle.perf_event_data.specs.Buffer.{NeedsNoMemory};
 ghost use Rattle.perf_event_data.specs.Reading.{Reads};
 ghost use Rattle.perf_types.specs.Exit.{exit};
 ghost use Rattle.perf_types.specs.Lost.{lost};
@@ -18,16 +19,16 @@ use perf_types::lost::Lost;
 use perf_types::lost_samples::LostSamples;
 
 impl Layout for perf_event_header {
-    ghost parses = { Reads (λ _. header) (λ h. h) };
+    ghost parses = { λ old result new. Reads (λ _. header) (λ h. h) old result new × NeedsNoMemory result };
 }
 
 impl<'p, B: ParseBuf<'p>> Parse<'p, B> for perf_event_header {
     #[inline]
     fn parse<E: Endian>(parser: &mut Parser<B, E>) -> ParseResult<Self> {
         Ok(perf_event_header {
-            type_: parser.parse()?,
-            misc: parser.parse()?,
-            size: parser.parse()?,
+            type_: parser.parse_u32()?,
+            misc: parser.parse_u16()?,
+            size: parser.parse_u16()?,
         })
     }
 }

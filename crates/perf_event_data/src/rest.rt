@@ -5,7 +5,7 @@ ghost use Rattle.std.specs.Prelude.{◌≡◌, ℕ, length, take, IsTrue, IfOk, 
 ghost use Rattle.perf_base.specs.Cow.{cow_items, is_borrowed};
 ghost use Rattle.perf_base.specs.Errors.{kind_of};
 ghost use Rattle.perf_base.specs.Layout.{rest};
-ghost use Rattle.perf_event_data.specs.Buffer.{refusal, Stays};
+ghost use Rattle.perf_event_data.specs.Buffer.{NeedsNoMemory, refusal, Stays};
 ghost use Rattle.perf_event_data.specs.Meaning.{meaning};
 ghost use Rattle.perf_event_data.specs.Reading.{ReadsOne, KeepsBuffer, KeepsFaults, KeepsCost, KeepsPlace};
 ghost use Rattle.perf_event_data.specs.Taking.{Takes, FailsInRest, CanFail, AppendsSome};
@@ -23,6 +23,7 @@ fn lend_first<'p, B: ParseBuf<'p>>(buf: &mut B) -> ParseResult<&'p [u8]>
     ensures stays { Stays (B.source buf.old) (refusal result) (B.source buf.new) }
     ensures can_fail { CanFail (B.source buf.old) (refusal result) }
     ensures whole { IsTrue (B.source buf.old).whole → IsTrue (B.source buf.old).told → IfOk result (λ s. s.now ≡ (B.source buf.old).left) }
+    ensures memory { NeedsNoMemory result }
     ensures ok { IsTrue (B.source buf.old).told → IfOk result (λ s. Takes (B.source buf.old) (length s.now) (B.source buf.new) × (s.now ≡ take (length s.now) (B.source buf.old).left)) }
     ensures err { IsTrue (B.source buf.old).told → IfErr result (λ e. FailsInRest (B.source buf.old) (kind_of e) (B.source buf.new)) }
 {
@@ -114,6 +115,7 @@ fn take_rest<'p, B: ParseBuf<'p>>(alloc: Global, buf: &mut B) -> ParseResult<Cow
     ensures stays { Stays (B.source buf.old) (refusal result) (B.source buf.new) }
     ensures can_fail { CanFail (B.source buf.old) (refusal result) }
     ensures whole { IsTrue (B.source buf.old).whole → IsTrue (B.source buf.old).told → IfOk result (λ c. IsTrue (is_borrowed c)) }
+    ensures whole_memory { IsTrue (B.source buf.old).whole → IsTrue (B.source buf.old).told → NeedsNoMemory result }
     ensures ok { IsTrue (B.source buf.old).told → IfOk result (λ c. (cow_items c ≡ (B.source buf.old).left) × ((B.source buf.new).left ≡ [])) }
     ensures err { IsTrue (B.source buf.old).told → IfErr result (λ e. FailsInRest (B.source buf.old) (kind_of e) (B.source buf.new)) }
 {
@@ -142,6 +144,7 @@ impl<'p, B: ParseBuf<'p>, E: Endian> Parser<B, E> {
     pub fn parse_rest(&mut self) -> ParseResult<CowSlice<'p, u8>>
         ensures config { self.new.config ≡ self.old.config }
         ensures whole { IsTrue (B.source self.old.buf).whole → IsTrue (B.source self.old.buf).told → IfOk result (λ c. IsTrue (is_borrowed c)) }
+        ensures whole_memory { IsTrue (B.source self.old.buf).whole → IsTrue (B.source self.old.buf).told → NeedsNoMemory result }
         ensures answer { IsTrue (B.source self.old.buf).told → ReadsOne rest cow_items (meaning B.source E.order self.old) result (meaning B.source E.order self.new) }
         ensures keeps { KeepsBuffer (meaning B.source E.order self.old) (refusal result) (meaning B.source E.order self.new) }
         ensures faults { KeepsFaults (meaning B.source E.order self.old) (refusal result) }

@@ -11,7 +11,7 @@ pub returns-in-Err-clause-answer : goal.returns-in-Err-clause-answer
 returns-in-Err-clause-answer g c = λ told kind.
     let old : Meaning = meaning g.B.ParseBuf.source g.E.Endian.order c.args.parser.now in
     let new : Meaning = meaning g.B.ParseBuf.source g.E.Endian.order c.parse.new.self in
-    let h = header_unread old.order old.source.left new.source.left (kind_of c.in-Err.error) (c.in-Err.ensures.answer told kind) in
+    let h = header_unread old.order old.source.left new.source.left (kind_of c.in-Err.error) ((c.in-Err.ensures.answer told).0 kind) in
     let said = says_no_header old.settings old.order old.source.left new.source.left h.0 h.2 in
     (said.0 ∙ ap Err (sym h.1), said.1)
 
@@ -21,7 +21,7 @@ returns-in-Ok-parse_with_header-clause-answer g c = λ told.
     let old : Meaning = meaning g.B.ParseBuf.source g.E.Endian.order c.args.parser.now in
     let mid : Meaning = meaning g.B.ParseBuf.source g.E.Endian.order c.parse.new.self in
     let new : Meaning = meaning g.B.ParseBuf.source g.E.Endian.order c.parse_with_header.new.parser in
-    let h = header_read old.order old.source.left mid.source.left c.in-Ok.header (c.in-Ok.ensures.answer told) in
+    let h = header_read old.order old.source.left mid.source.left c.in-Ok.header (c.in-Ok.ensures.answer told).0 in
     let P : ParseConfig g.row.E.Denot → Type 0 = λ k. SaysBehind (configuration_of k) (g.E.Endian.order (endian_of k)) c.in-Ok.header mid.source.left (Ok c.in-Ok-parse_with_header.record) new.source.left in
     says_frame old.settings old.order old.source.left mid.source.left new.source.left c.in-Ok.header (Ok c.in-Ok-parse_with_header.record) h.0 h.1 h.2
     (subst P c.in-Ok.ensures.config (c.in-Ok-parse_with_header.ensures.answer (c.in-Ok.ensures.keeps.3 told)))
@@ -31,7 +31,7 @@ returns-in-Err-parse_with_header-clause-answer g c = λ told.
     let old : Meaning = meaning g.B.ParseBuf.source g.E.Endian.order c.args.parser.now in
     let mid : Meaning = meaning g.B.ParseBuf.source g.E.Endian.order c.parse.new.self in
     let new : Meaning = meaning g.B.ParseBuf.source g.E.Endian.order c.parse_with_header.new.parser in
-    let h = header_read old.order old.source.left mid.source.left c.in-Ok.header (c.in-Ok.ensures.answer told) in
+    let h = header_read old.order old.source.left mid.source.left c.in-Ok.header (c.in-Ok.ensures.answer told).0 in
     let P : ParseConfig g.row.E.Denot → Type 0 = λ k. SaysBehind (configuration_of k) (g.E.Endian.order (endian_of k)) c.in-Ok.header mid.source.left (Err c.in-Err-parse_with_header.error) new.source.left in
     says_frame old.settings old.order old.source.left mid.source.left new.source.left c.in-Ok.header (Err c.in-Err-parse_with_header.error) h.0 h.1 h.2
     (subst P c.in-Ok.ensures.config (c.in-Err-parse_with_header.ensures.answer (c.in-Ok.ensures.keeps.3 told)))
