@@ -1,0 +1,91 @@
+-- A stream in batches: what the frames behind the first n of a stream are, and how it ends.
+use Rattle.std.proofs.Common.{◌≡◌, ℕ, zero, suc, ◌+◌, ◌-◌, ◌<◌, ◌≤◌, Bool, true, false, List, [], ◌∷◌, length, take, drop, map, refl, sym, ap, ◌∙◌, arith, length-drop, zero-add, inl, inr}
+use Rattle.std.specs.Prelude.{Result, nat_lt, ◌⊎◌}
+use Rattle.std.proofs.lemmas.Bool.Decides.{nat_tests}
+use Rattle.std.proofs.lemmas.List.{drop-map}
+use Rattle.perf_base.specs.Order.{Order}
+use Rattle.perf_base.specs.Header.{header_of}
+use Rattle.perf_base.specs.Configuration.{Configuration}
+use Rattle.perf_base.specs.declared.sys.perf_event_header.{perf_event_header}
+use Rattle.perf_base.specs.declared.error.ErrorKind.{ErrorKind}
+use Rattle.perf_records.specs.Records.{RecordValue}
+use Rattle.perf_event_data.specs.Frames.{frame_length, first_frames, frames, behind_frames, stream_end, end_with}
+use Rattle.perf_event_data.specs.Answers.{answers, answer_of_frame}
+
+-- ---- frames
+
+below_or_not : (n m : ℕ) (b : Bool) → nat_lt n m ≡ b → (n < m) ⊎ (m ≤ n)
+below_or_not n m true h = inl (grind (arith, nat_tests))
+below_or_not n m false h = inr (grind (arith, nat_tests))
+
+-- where eight bytes are left there is a frame, and else there is none
+first_frames-some : (o : Order) (n : ℕ) (bytes : List ℕ) → 8 ≤ length bytes → first_frames o (suc n) bytes ≡ take (frame_length o bytes) bytes ∷ first_frames o n (drop (frame_length o bytes) bytes)
+first_frames-some o n bytes h = grind (arith, nat_tests)
+
+first_frames-none : (o : Order) (n : ℕ) (bytes : List ℕ) → length bytes < 8 → first_frames o n bytes ≡ []
+first_frames-none o zero bytes h = refl
+first_frames-none o (suc n) bytes h = grind (arith, nat_tests)
+
+-- what is left behind a frame is shorter
+behind_one : (o : Order) (n : ℕ) (bytes : List ℕ) → length bytes ≤ suc n → length (drop (frame_length o bytes) bytes) ≤ n
+behind_one o n bytes h = omega (arith, length-drop (frame_length o bytes) bytes)
+
+-- as many frames are looked for as there are bytes, and more make no difference
+same_frames : (o : Order) (n m : ℕ) (bytes : List ℕ) → length bytes ≤ n → length bytes ≤ m → first_frames o n bytes ≡ first_frames o m bytes
+same_frames o zero m bytes p q = sym (first_frames-none o m bytes (omega arith))
+same_frames o (suc n) zero bytes p q = first_frames-none o (suc n) bytes (omega arith)
+same_frames o (suc n) (suc m) bytes p q = elim (below_or_not (length bytes) 8 (nat_lt (length bytes) 8) refl) [
+  | inl h ↦ first_frames-none o (suc n) bytes h ∙ sym (first_frames-none o (suc m) bytes h)
+  | inr h ↦
+      let rest : List ℕ = drop (frame_length o bytes) bytes in
+      first_frames-some o n bytes h
+      ∙ ap (λ others. take (frame_length o bytes) bytes ∷ others) (same_frames o n m rest (behind_one o n bytes p) (behind_one o m bytes q))
+      ∙ sym (first_frames-some o m bytes h)
+]
+
+-- the first frame, and those behind it
+frames-some : (o : Order) (bytes : List ℕ) → 8 ≤ length bytes → frames o bytes ≡ take (frame_length o bytes) bytes ∷ frames o (drop (frame_length o bytes) bytes)
+frames-some o bytes h =
+    let rest : List ℕ = drop (frame_length o bytes) bytes in
+    same_frames o (length bytes) (suc (length bytes)) bytes (omega arith) (omega arith)
+    ∙ first_frames-some o (length bytes) bytes h
+    ∙ ap (λ others. take (frame_length o bytes) bytes ∷ others) (same_frames o (length bytes) (length rest) rest (behind_one o (length bytes) bytes (omega arith)) (omega arith))
+
+has_eight : (o : Order) (n : ℕ) (bytes : List ℕ) → suc n ≤ length (frames o bytes) → 8 ≤ length bytes
+has_eight o n bytes h = elim (below_or_not (length bytes) 8 (nat_lt (length bytes) 8) refl) [
+  | inl short ↦ let none : length (frames o bytes) ≡ 0 = ap length (first_frames-none o (length bytes) bytes short) in omega arith
+  | inr long ↦ long
+]
+
+-- the frames behind the first n
+pub frames_behind : (o : Order) (n : ℕ) (bytes : List ℕ) → n ≤ length (frames o bytes) → frames o (behind_frames o n bytes) ≡ drop n (frames o bytes)
+frames_behind o zero bytes h = refl
+frames_behind o (suc n) bytes h =
+    let first : List ℕ = take (frame_length o bytes) bytes in
+    let rest : List ℕ = drop (frame_length o bytes) bytes in
+    let parts : frames o bytes ≡ first ∷ frames o rest = frames-some o bytes (has_eight o n bytes h) in
+    let count : length (frames o bytes) ≡ suc (length (frames o rest)) = ap length parts in
+    frames_behind o n rest (omega arith) ∙ sym (ap (λ xs. drop (suc n) xs) parts)
+
+-- the bytes behind k frames more
+pub behind_more : (o : Order) (n k : ℕ) (bytes : List ℕ) → behind_frames o k (behind_frames o n bytes) ≡ behind_frames o (n + k) bytes
+behind_more o zero k bytes = ap (λ j. behind_frames o j bytes) (sym (zero-add k))
+behind_more o (suc n) k bytes =
+    let next : suc (n + k) ≡ suc n + k = omega arith in
+    behind_more o n k (drop (frame_length o bytes) bytes) ∙ ap (λ j. behind_frames o j bytes) next
+
+-- ---- answers
+
+-- the answers behind the first n frames
+pub answers_behind : (c : Configuration) (o : Order) (n : ℕ) (bytes : List ℕ) → n ≤ length (frames o bytes) → answers c o (behind_frames o n bytes) ≡ drop n (answers c o bytes)
+answers_behind c o n bytes h =
+    let answered : List ℕ → perf_event_header × Result RecordValue ErrorKind = λ frame. (header_of o frame, answer_of_frame c o frame) in
+    ap (λ xs. map answered xs) (frames_behind o n bytes h) ∙ sym (drop-map answered n (frames o bytes))
+
+-- a stream ends as what is left of it behind some frames does
+pub end_behind : (o : Order) (n : ℕ) (bytes : List ℕ) → n ≤ length (frames o bytes) → stream_end o (behind_frames o n bytes) ≡ stream_end o bytes
+end_behind o n bytes h =
+    let left : ℕ = length (frames o (behind_frames o n bytes)) in
+    let count : left ≡ length (frames o bytes) - n = ap length (frames_behind o n bytes h) ∙ length-drop n (frames o bytes) in
+    let all : n + left ≡ length (frames o bytes) = omega arith in
+    ap (λ rest. end_with (length rest)) (behind_more o n left bytes ∙ ap (λ j. behind_frames o j bytes) all)

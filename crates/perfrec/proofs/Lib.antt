@@ -1,0 +1,5 @@
+pub mod Lines
+pub mod Batches
+pub mod Known
+pub mod Progress
+pub mod Endings

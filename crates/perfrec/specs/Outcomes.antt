@@ -1,0 +1,70 @@
+-- How a run of the program ends, and what it has then written.
+use Rattle.std.specs.Prelude.{◌≡◌, ℕ, ◌<◌, Bool, true, false, ◌||◌, ◌&&◌, not, List, ◌++◌, take, codes, is_err, if◌then◌else◌, ◌⊎◌, Option}
+use Rattle.std.specs.List.{list_any}
+use Rattle.std.specs.Io.{StartsWith}
+use Rattle.std.specs.Io.KnownBytes.{Appends}
+use Rattle.perf_base.specs.Order.{Order}
+use Rattle.perf_base.specs.Configuration.{Configuration}
+use Rattle.perf_base.specs.declared.error.ErrorKind.{ErrorKind}
+use Rattle.perf_base.specs.declared.error.ErrorKind.TheVariants.{External, OutOfMemory}
+use Rattle.perf_event_data.specs.Frames.{StreamEnd, done, cut_header, stream_end}
+use Rattle.perf_event_data.specs.Answers.{answers}
+use Rattle.perfrec.specs.declared.outcome.Outcome.{Outcome}
+use Rattle.perfrec.specs.declared.outcome.Outcome.TheVariants.{Clean, Refused, BadAttr, Faulted, Stopped}
+use Rattle.perfrec.specs.Text.{printed, is_at_limit, text, lines_from, end_line, kind_name}
+
+-- the exit status of an outcome
+abbrev pub status_of : Outcome → ℕ
+status_of Clean = 0
+status_of Refused = 1
+status_of BadAttr = 2
+status_of Faulted = 3
+status_of Stopped = 3
+
+-- ---- a text without a fault
+
+abbrev pub is_cut : StreamEnd → Bool
+is_cut done = false
+is_cut cut_header = true
+
+-- a printed answer is a refusal
+abbrev pub prints_refusal : Configuration → Order → ℕ → List ℕ → Bool
+prints_refusal c o limit bytes = list_any (λ pair. is_err pair.1) (printed c o limit bytes)
+
+-- the text ends inside a header
+abbrev pub ends_cut : Configuration → Order → ℕ → List ℕ → Bool
+ends_cut c o limit bytes = not (is_at_limit c o limit bytes) && is_cut (stream_end o bytes)
+
+-- what the text of a stream amounts to
+abbrev pub outcome_of : Configuration → Order → ℕ → List ℕ → Outcome
+outcome_of c o limit bytes = if prints_refusal c o limit bytes || ends_cut c o limit bytes then Refused else Clean
+
+-- ---- a text with a fault
+
+-- a kind that ends a run early
+abbrev pub EndsEarly : ErrorKind → Type 0
+EndsEarly kind = (kind ≡ External) ⊎ (kind ≡ OutOfMemory)
+
+-- The text of a run that a fault ended: the lines of the first k answers, fewer than the limit or none, and the fault.
+abbrev pub IsFaultText : Configuration → Order → ℕ → List ℕ → List ℕ → Type 0
+IsFaultText c o limit bytes written =
+    (k : ℕ) × (kind : ErrorKind) × ((k < limit) ⊎ (k ≡ 0)) × EndsEarly kind
+    × (written ≡ lines_from 0 (take k (answers c o bytes)) ++ end_line (codes "fault " ++ kind_name kind))
+
+-- ---- what an outcome says
+
+-- a whole text, with a fault or without
+abbrev pub IsText : Configuration → Order → ℕ → List ℕ → List ℕ → Type 0
+IsText c o limit bytes written = (written ≡ text c o limit bytes) ⊎ IsFaultText c o limit bytes written
+
+-- What was written of a stream, by the outcome of its run.
+abbrev pub Says : Configuration → Order → ℕ → List ℕ → Outcome → List ℕ → Type 0
+Says c o limit bytes Clean written = (written ≡ text c o limit bytes) × (outcome_of c o limit bytes ≡ Clean)
+Says c o limit bytes Refused written = (written ≡ text c o limit bytes) × (outcome_of c o limit bytes ≡ Refused)
+Says c o limit bytes BadAttr written = ⊥
+Says c o limit bytes Faulted written = IsFaultText c o limit bytes written
+Says c o limit bytes Stopped written = (whole : List ℕ) × IsText c o limit bytes whole × StartsWith whole written
+
+-- The writer, where it tells its bytes, has got what such a run writes.
+abbrev pub Writes : Configuration → Order → ℕ → List ℕ → Outcome → (old new : Option (List ℕ)) → Type 0
+Writes c o limit bytes outcome old new = (written : List ℕ) × Appends old new written × Says c o limit bytes outcome written

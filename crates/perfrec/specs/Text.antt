@@ -1,0 +1,118 @@
+-- The text that the program writes: a line for each frame, and a last one that says how reading ended.
+use Rattle.std.specs.Prelude.{ℕ, ◌+◌, ◌-◌, ◌/◌, ◌%◌, Bool, List, [], ◌∷◌, ◌++◌, length, take, nat_lt, nat_le, codes, decimal, Result, Ok, Err, if◌then◌else◌}
+use Rattle.std.specs.List.{flat_map, enumerate_from}
+use Rattle.perf_base.specs.Order.{Order}
+use Rattle.perf_base.specs.Configuration.{Configuration}
+use Rattle.perf_base.specs.declared.sys.perf_event_header.{perf_event_header}
+use Rattle.perf_base.specs.declared.error.ErrorKind.{ErrorKind}
+use Rattle.perf_base.specs.declared.error.ErrorKind.TheVariants.{Eof, InvalidRecord, UnsupportedConfig, UnsupportedData, External, OutOfMemory}
+use Rattle.perf_types.specs.declared.exit.Exit.{Exit}
+use Rattle.perf_types.specs.declared.lost.Lost.{Lost}
+use Rattle.perf_types.specs.declared.lost_samples.LostSamples.{LostSamples}
+use Rattle.perf_records.specs.Records.{RecordValue, lost_is, exit_is, fork_is, lost_samples_is, unknown_is}
+use Rattle.perf_event_data.specs.Frames.{StreamEnd, done, cut_header, stream_end}
+use Rattle.perf_event_data.specs.Answers.{answers}
+
+-- ---- words
+
+-- the digit of a number below sixteen: 48 is `0`, and 97 is `a`
+abbrev pub hex_digit : ℕ → ℕ
+hex_digit n = if nat_lt n 10 then 48 + n else 97 + (n - 10)
+
+-- the two digits of a byte
+abbrev pub hex_byte : ℕ → List ℕ
+hex_byte b = hex_digit (b / 16) ∷ hex_digit (b % 16) ∷ []
+
+-- a byte string
+abbrev pub hex : List ℕ → List ℕ
+hex bytes = flat_map hex_byte bytes
+
+-- a name, `=` and what it has
+abbrev pub field : List ℕ → List ℕ → List ℕ
+field name has = name ++ (codes "=" ++ has)
+
+-- the same of a number
+abbrev pub number : List ℕ → ℕ → List ℕ
+number name n = field name (decimal n)
+
+-- each word with a space in front
+abbrev pub spaced : List (List ℕ) → List ℕ
+spaced words = flat_map (λ word. codes " " ++ word) words
+
+-- ---- records
+
+abbrev pub lost_words : Lost → List (List ℕ)
+lost_words r = codes "Lost" ∷ number (codes "id") r.id ∷ number (codes "lost") r.lost ∷ []
+
+-- the fields of an EXIT or a FORK
+abbrev pub exit_fields : Exit → List (List ℕ)
+exit_fields r =
+    number (codes "pid") r.pid ∷ number (codes "ppid") r.ppid
+    ∷ number (codes "tid") r.tid ∷ number (codes "ptid") r.ptid ∷ number (codes "time") r.time ∷ []
+
+abbrev pub lost_samples_words : LostSamples → List (List ℕ)
+lost_samples_words r = codes "LostSamples" ∷ number (codes "lost") r.lost ∷ []
+
+-- a record that is not read further
+abbrev pub unknown_words : List ℕ → List (List ℕ)
+unknown_words bytes = codes "Unknown" ∷ field (codes "data") (hex bytes) ∷ []
+
+-- the name of a record, and its fields
+abbrev pub record_words : RecordValue → List (List ℕ)
+record_words (lost_is r) = lost_words r
+record_words (exit_is r) = codes "Exit" ∷ exit_fields r
+record_words (fork_is r) = codes "Fork" ∷ exit_fields r
+record_words (lost_samples_is r) = lost_samples_words r
+record_words (unknown_is ty bytes) = unknown_words bytes
+
+-- ---- lines
+
+abbrev pub kind_name : ErrorKind → List ℕ
+kind_name Eof = codes "Eof"
+kind_name InvalidRecord = codes "InvalidRecord"
+kind_name UnsupportedConfig = codes "UnsupportedConfig"
+kind_name UnsupportedData = codes "UnsupportedData"
+kind_name External = codes "External"
+kind_name OutOfMemory = codes "OutOfMemory"
+
+-- a record, or why there is none
+abbrev pub answer_words : Result RecordValue ErrorKind → List (List ℕ)
+answer_words (Ok r) = record_words r
+answer_words (Err e) = codes "refused" ∷ kind_name e ∷ []
+
+-- the number of a frame, what its header says, and its answer
+abbrev pub line : ℕ → perf_event_header → Result RecordValue ErrorKind → List ℕ
+line index h answer =
+    decimal index ++ (spaced (decimal h.type_ ∷ decimal h.misc ∷ decimal h.size ∷ []) ++ spaced (answer_words answer))
+
+-- a line with the line feed that ends it
+abbrev pub ended : List ℕ → List ℕ
+ended text = text ++ codes "\n"
+
+-- the lines of answers, numbered from a first number on
+abbrev pub lines_from : ℕ → List (perf_event_header × Result RecordValue ErrorKind) → List ℕ
+lines_from first pairs = flat_map (λ numbered. ended (line numbered.0 numbered.1.0 numbered.1.1)) (enumerate_from first pairs)
+
+-- the line that says how reading ended
+abbrev pub end_line : List ℕ → List ℕ
+end_line how = ended (codes "end " ++ how)
+
+-- ---- the text
+
+-- the answers that are printed: the first ones, at most limit of them
+abbrev pub printed : Configuration → Order → ℕ → List ℕ → List (perf_event_header × Result RecordValue ErrorKind)
+printed c o limit bytes = take limit (answers c o bytes)
+
+-- whether the limit is what ends the text
+abbrev pub is_at_limit : Configuration → Order → ℕ → List ℕ → Bool
+is_at_limit c o limit bytes = nat_le limit (length (answers c o bytes))
+
+abbrev pub end_name : StreamEnd → List ℕ
+end_name done = codes "done"
+end_name cut_header = codes "cut"
+
+-- The text of a stream for a limit: a line for each answer that is printed, and then the end.
+abbrev pub text : Configuration → Order → ℕ → List ℕ → List ℕ
+text c o limit bytes =
+    lines_from 0 (printed c o limit bytes)
+    ++ end_line (if is_at_limit c o limit bytes then codes "limit" else end_name (stream_end o bytes))

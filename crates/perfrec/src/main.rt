@@ -1,0 +1,70 @@
+//! Prints the records that Linux wrote for performance events, a line each.
+//!
+//! `perfrec little|big|native LIMIT` reads records from standard input, in the byte order that is named, and writes at
+//! most LIMIT lines to standard output, and a last one that says how reading ended. The exit status is 0 where every
+//! record could be read, 1 where one was refused or the input ends inside a header, 2 for other words, and 3 where
+//! reading or writing failed or memory was refused.
+#![tactic(auto)]
+
+mod command;
+mod line;
+mod outcome;
+mod output;
+mod run;
+#[cfg(test)]
+mod tests;
+mod words;
+
+use crate::command::{Command, OrderName};
+use crate::outcome::Outcome;
+use perf_event_data::endian::{Big, Endian, Little, Native};
+use std::process::ExitCode;
+use std::{env, io};
+
+// What is printed where the words ask for nothing.
+const USAGE: &str = "usage: perfrec little|big|native LIMIT [attr]";
+
+// How many bytes are read at a time.
+const PIECE: usize = 8192;
+
+fn main(rt: HostRuntime) -> ExitCode {
+    let Ok(words) = words_of(&rt) else {
+        return ExitCode::from(Outcome::Faulted.status());
+    };
+    let Some(command) = words::command(&words) else {
+        // Where standard error fails, the status alone says it.
+        let _ = rt.eprintln(USAGE);
+        return ExitCode::from(Outcome::BadAttr.status());
+    };
+    let outcome = match command.order {
+        OrderName::Little => obey(&rt, Little, command),
+        OrderName::Big => obey(&rt, Big, command),
+        OrderName::Native => obey(&rt, Native, command),
+    };
+    ExitCode::from(outcome.status())
+}
+
+// The words behind the program's name.
+fn words_of(rt: &HostRuntime) -> io::Result<Vec<String>> {
+    let words = env::args(rt)?.skip(1).collect(rt.alloc())?;
+    Ok(words)
+}
+
+// Runs on the standard streams. The input is not buffered twice, and the text is written as it is.
+fn obey<E: Endian>(rt: &HostRuntime, order: E, command: Command) -> Outcome {
+    let mut output = rt.stdout();
+    let Command {
+        limit,
+        with_attr,
+        ..
+    } = command;
+    run::run(
+        rt.alloc(),
+        rt.stdin(),
+        &mut output,
+        order,
+        limit,
+        with_attr,
+        PIECE,
+    )
+}

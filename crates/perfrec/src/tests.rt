@@ -1,0 +1,443 @@
+//! Texts and statuses of streams whose answers are known.
+
+ghost use Rattle.std.specs.Prelude.{◌<◌};
+
+use crate::command::{Command, OrderName};
+use crate::line::line_of;
+use crate::outcome::Outcome;
+use crate::run::run;
+use crate::words::command;
+use perf_event_data::endian::{Big, Endian, Little};
+use perf_event_data::parse::{ErrorKind, ParseError, ParseResult};
+use perf_event_data::sys::perf_event_header;
+use perf_event_data::{LostSamples, Record};
+use std::alloc::{AllocError, Global};
+use std::io;
+use std::io::{Read, Write};
+use std::process::Abort;
+
+// Five lost samples, the lowest byte first.
+const FIVE_LOST: [u8; 16] = [13, 0, 0, 0, 0, 0, 16, 0, 5, 0, 0, 0, 0, 0, 0, 0];
+
+// The text and the outcome of an input that is read in pieces.
+fn check_pieces<E: Endian>(
+    rt: &(impl AllocGlobal + Abort),
+    order: E,
+    limit: usize,
+    input: &[u8],
+    text: &str,
+    outcome: Outcome,
+    piece: usize,
+)
+    requires { 0 < piece }
+{
+    let mut written = Vec::new(rt.alloc());
+    let ended = run(rt.alloc(), input, &mut written, order, limit, false, piece);
+    assert_eq!(rt; written.as_slice(), text.as_bytes(), "in pieces of {piece}");
+    assert_eq!(rt; ended, outcome, "in pieces of {piece}");
+}
+
+// The same in pieces of one byte, of seven and of more than there are.
+fn check<E: Endian + Copy>(
+    rt: &(impl AllocGlobal + Abort),
+    order: E,
+    limit: usize,
+    input: &[u8],
+    text: &str,
+    outcome: Outcome,
+) {
+    check_pieces(rt, order, limit, input, text, outcome, 1);
+    check_pieces(rt, order, limit, input, text, outcome, 7);
+    check_pieces(rt, order, limit, input, text, outcome, 8192);
+}
+
+// A frame and then five lost samples.
+fn with_five_lost(alloc: Global, frame: &[u8]) -> Result<Vec<u8>, AllocError> {
+    let mut input = Vec::from_slice(alloc, frame)?;
+    input.extend_from_slice(&FIVE_LOST)?;
+    Ok(input)
+}
+
+#[test]
+fn no_input_is_done(rt: HostRuntime) {
+    check(&rt, Little, 10, &[], "end done\n", Outcome::Clean);
+}
+
+#[test]
+fn three_bytes_are_a_cut_header(rt: HostRuntime) {
+    check(&rt, Little, 10, &[13, 0, 0], "end cut\n", Outcome::Refused);
+}
+
+#[test]
+fn a_size_below_the_headers_costs_eight_bytes(rt: HostRuntime) -> Result<(), AllocError> {
+    let input = with_five_lost(rt.alloc(), &[2, 0, 0, 0, 0, 0, 7, 0])?;
+    let text = "0 2 0 7 refused InvalidRecord\n1 13 0 16 LostSamples lost=5\nend done\n";
+    check(&rt, Little, 10, &input, text, Outcome::Refused);
+    Ok(())
+}
+
+#[test]
+fn a_body_that_is_too_short_costs_its_frame(rt: HostRuntime) -> Result<(), AllocError> {
+    let input = with_five_lost(
+        rt.alloc(),
+        &[2, 0, 0, 0, 0, 0, 16, 0, 1, 0, 0, 0, 0, 0, 0, 0],
+    )?;
+    let text = "0 2 0 16 refused Eof\n1 13 0 16 LostSamples lost=5\nend done\n";
+    check(&rt, Little, 10, &input, text, Outcome::Refused);
+    Ok(())
+}
+
+#[test]
+fn an_unfinished_frame_is_the_last(rt: HostRuntime) {
+    let input = [13, 0, 0, 0, 0, 0, 24, 0, 5, 0, 0, 0, 0, 0, 0, 0];
+    check(
+        &rt,
+        Little,
+        10,
+        &input,
+        "0 13 0 24 refused Eof\nend done\n",
+        Outcome::Refused,
+    );
+}
+
+#[test]
+fn other_types_are_unknown(rt: HostRuntime) {
+    let input = [0, 0, 0, 0, 0, 0, 8, 0, 22, 0, 0, 0, 0, 0, 8, 0];
+    let text = "0 0 0 8 Unknown data=\n1 22 0 8 Unknown data=\nend done\n";
+    check(&rt, Little, 10, &input, text, Outcome::Clean);
+}
+
+#[test]
+fn bytes_are_printed_in_lower_case(rt: HostRuntime) {
+    let input = [22, 0, 0, 0, 0, 64, 13, 0, 0, 9, 0xab, 0xcd, 0xff];
+    check(
+        &rt,
+        Little,
+        10,
+        &input,
+        "0 22 16384 13 Unknown data=0009abcdff\nend done\n",
+        Outcome::Clean,
+    );
+}
+
+#[test]
+fn a_limit_ends_the_text(rt: HostRuntime) {
+    check(&rt, Little, 0, &FIVE_LOST, "end limit\n", Outcome::Clean);
+    check(
+        &rt,
+        Little,
+        1,
+        &FIVE_LOST,
+        "0 13 0 16 LostSamples lost=5\nend limit\n",
+        Outcome::Clean,
+    );
+    check(
+        &rt,
+        Little,
+        2,
+        &FIVE_LOST,
+        "0 13 0 16 LostSamples lost=5\nend done\n",
+        Outcome::Clean,
+    );
+}
+
+#[test]
+fn the_highest_byte_may_come_first(rt: HostRuntime) {
+    let input = [0, 0, 0, 13, 0, 0, 0, 16, 0, 0, 0, 0, 0, 0, 0, 5];
+    check(
+        &rt,
+        Big,
+        10,
+        &input,
+        "0 13 0 16 LostSamples lost=5\nend done\n",
+        Outcome::Clean,
+    );
+}
+
+#[test]
+fn exit_and_fork_have_the_same_fields(rt: HostRuntime) -> Result<(), AllocError> {
+    let body = [
+        16, 16, 0, 0, 0, 5, 0, 0, 1, 0, 0, 0, 2, 0, 0, 0, 3, 0, 0, 0, 4, 0, 0, 0,
+    ];
+    let mut input = Vec::from_slice(rt.alloc(), &[4, 0, 0, 0, 0, 0, 32, 0])?;
+    input.extend_from_slice(&body)?;
+    input.extend_from_slice(&[7, 0, 0, 0, 0, 0, 32, 0])?;
+    input.extend_from_slice(&body)?;
+    let text = "0 4 0 32 Exit pid=4112 ppid=1280 tid=1 ptid=2 time=17179869187\n\
+        1 7 0 32 Fork pid=4112 ppid=1280 tid=1 ptid=2 time=17179869187\nend done\n";
+    check(&rt, Little, 10, &input, text, Outcome::Clean);
+    Ok(())
+}
+
+#[test]
+fn both_numbers_of_a_lost_are_printed(rt: HostRuntime) {
+    let input = [
+        2, 0, 0, 0, 0, 0, 24, 0, 16, 0, 153, 0, 0, 0, 0, 0, 0, 175, 0, 0, 0, 123, 0, 0,
+    ];
+    check(
+        &rt,
+        Little,
+        10,
+        &input,
+        "0 2 0 24 Lost id=10027024 lost=135239930261248\nend done\n",
+        Outcome::Clean,
+    );
+}
+
+// Frames of a header alone, more than are held at a time, and the text for a limit.
+fn check_many(
+    rt: &(impl AllocGlobal + Abort),
+    count: usize,
+    limit: usize,
+    end: &str,
+) -> Result<(), AllocError> {
+    let mut input = Vec::new(rt.alloc());
+    let mut text = String::new(rt.alloc());
+    for index in 0..count {
+        input.extend_from_slice(&[22, 0, 0, 0, 0, 0, 8, 0])?;
+        if index < limit {
+            writeln(&mut text, rt.alloc(), index)?;
+        }
+    }
+    text.push_str(end)?;
+    check(rt, Little, limit, &input, &text, Outcome::Clean);
+    Ok(())
+}
+
+fn writeln(text: &mut String, alloc: Global, index: usize) -> Result<(), AllocError> {
+    let line = format!(in alloc; "{index} 22 0 8 Unknown data=\n")?;
+    text.push_str(&line)
+}
+
+#[test]
+fn frames_are_numbered_on_from_batch_to_batch(rt: HostRuntime) -> Result<(), AllocError> {
+    check_many(&rt, 256, 256, "end limit\n")?;
+    check_many(&rt, 256, 257, "end done\n")?;
+    check_many(&rt, 257, 256, "end limit\n")?;
+    check_many(&rt, 600, 1000, "end done\n")?;
+    check_many(&rt, 600, 513, "end limit\n")
+}
+
+// Some bytes, and then a fault.
+struct Failing<'a> {
+    bytes: &'a [u8],
+    kind: io::ErrorKind,
+}
+
+impl Drop for Failing<'_> {
+    fn drop(self) {
+        let Failing { bytes: _, kind: _ } = self;
+    }
+}
+
+impl Read for Failing<'_> {
+    fn read(&mut self, buf: &mut [u8]) -> io::Result<usize> {
+        if self.bytes.is_empty() {
+            return Err(io::Error::from(self.kind));
+        }
+        self.bytes.read(buf)
+    }
+}
+
+// The text of bytes and then a fault.
+fn check_fault(rt: &(impl AllocGlobal + Abort), bytes: &[u8], kind: io::ErrorKind, text: &str) {
+    let mut written = Vec::new(rt.alloc());
+    let ended = run(
+        rt.alloc(),
+        Failing { bytes, kind },
+        &mut written,
+        Little,
+        10,
+        false,
+        8192,
+    );
+    assert_eq!(rt; written.as_slice(), text.as_bytes());
+    assert_eq!(rt; ended, Outcome::Faulted);
+}
+
+#[test]
+fn a_fault_of_the_reader_ends_the_text(rt: HostRuntime) {
+    let cut = [1, 0, 0, 0, 0, 0, 48, 0, 0x16, 0x4c, 1, 0];
+    check_fault(
+        &rt,
+        &cut,
+        io::ErrorKind::UnexpectedEof,
+        "end fault External\n",
+    );
+    check_fault(&rt, &[], io::ErrorKind::Interrupted, "end fault External\n");
+    let text = "0 13 0 16 LostSamples lost=5\nend fault External\n";
+    check_fault(&rt, &FIVE_LOST, io::ErrorKind::Other, text);
+}
+
+// Keeps what it is given, a few bytes at a time, up to a number of calls; then it fails or takes nothing.
+#[derive(Drop)]
+struct Full {
+    kept: Vec<u8>,
+    calls: usize,
+    fails: bool,
+}
+
+impl Write for Full {
+    fn write(&mut self, buf: &[u8]) -> io::Result<usize> {
+        if self.calls == 0 {
+            return if self.fails {
+                Err(io::Error::from(io::ErrorKind::Interrupted))
+            } else {
+                Ok(0)
+            };
+        }
+        self.calls -= 1;
+        let taken = buf.len().min(4);
+        self.kept.extend_from_slice(&buf[..taken])?;
+        Ok(taken)
+    }
+
+    fn flush(&mut self) -> io::Result<()> {
+        Err(io::Error::from(io::ErrorKind::Other))
+    }
+}
+
+// What a writer has that is full after some calls, which is tried once more and no further.
+fn check_full(rt: &(impl AllocGlobal + Abort), calls: usize, fails: bool, kept: &str) {
+    let mut writer = Full {
+        kept: Vec::new(rt.alloc()),
+        calls,
+        fails,
+    };
+    let input: &[u8] = &FIVE_LOST;
+    let ended = run(rt.alloc(), input, &mut writer, Little, 10, false, 8192);
+    assert_eq!(rt; writer.kept.as_slice(), kept.as_bytes());
+    assert_eq!(rt; ended, Outcome::Stopped);
+}
+
+#[test]
+fn a_writer_that_fails_stops_the_run(rt: HostRuntime) {
+    for fails in [false, true] {
+        check_full(&rt, 0, fails, "");
+        check_full(&rt, 2, fails, "0 13 0 1");
+        check_full(&rt, 100, fails, "0 13 0 16 LostSamples lost=5\nend done\n");
+    }
+}
+
+#[test]
+fn an_attribute_is_not_read_yet(rt: HostRuntime) {
+    let mut written = Vec::new(rt.alloc());
+    let input: &[u8] = &FIVE_LOST;
+    let ended = run(rt.alloc(), input, &mut written, Little, 10, true, 8192);
+    assert_eq!(rt; ended, Outcome::BadAttr);
+    assert!(rt; written.is_empty());
+}
+
+#[test]
+fn a_line_has_no_line_feed(rt: HostRuntime) -> ParseResult<()> {
+    let header = perf_event_header {
+        type_: 13,
+        misc: 0,
+        size: 16,
+    };
+    let found: ParseResult<Record> = Ok(Record::LostSamples(LostSamples { lost: 5 }));
+    let line = line_of(rt.alloc(), 0, &header, &found)?;
+    assert_eq!(rt; line.as_str(), "0 13 0 16 LostSamples lost=5");
+    Ok(())
+}
+
+#[test]
+fn each_kind_has_its_name(rt: HostRuntime) -> ParseResult<()> {
+    let kinds = [
+        (ErrorKind::Eof, "7 1 2 3 refused Eof"),
+        (ErrorKind::InvalidRecord, "7 1 2 3 refused InvalidRecord"),
+        (
+            ErrorKind::UnsupportedConfig,
+            "7 1 2 3 refused UnsupportedConfig",
+        ),
+        (
+            ErrorKind::UnsupportedData,
+            "7 1 2 3 refused UnsupportedData",
+        ),
+        (ErrorKind::External, "7 1 2 3 refused External"),
+        (ErrorKind::OutOfMemory, "7 1 2 3 refused OutOfMemory"),
+    ];
+    for (kind, text) in kinds {
+        let header = perf_event_header {
+            type_: 1,
+            misc: 2,
+            size: 3,
+        };
+        let refused: ParseResult<Record> = Err(ParseError::custom(kind, "why"));
+        let line = line_of(rt.alloc(), 7, &header, &refused)?;
+        assert_eq!(rt; line.as_str(), text);
+    }
+    Ok(())
+}
+
+// What words ask for.
+fn asked(rt: &(impl AllocGlobal + Abort), words: &[&str]) -> Result<Option<Command>, AllocError> {
+    let mut owned = Vec::new(rt.alloc());
+    for word in words {
+        owned.push(String::from_str(rt.alloc(), word)?)?;
+    }
+    Ok(command(&owned))
+}
+
+#[test]
+fn an_order_and_a_limit_are_a_command(rt: HostRuntime) -> Result<(), AllocError> {
+    let table = [
+        ("little", "10", OrderName::Little, 10),
+        ("big", "0", OrderName::Big, 0),
+        ("native", "007", OrderName::Native, 7),
+        (
+            "little",
+            "18446744073709551615",
+            OrderName::Little,
+            usize::MAX,
+        ),
+        ("little", "00000000000000000000000001", OrderName::Little, 1),
+    ];
+    for (name, digits, order, limit) in table {
+        let wanted = Command {
+            order,
+            limit,
+            with_attr: false,
+        };
+        assert_eq!(rt; asked(&rt, &[name, digits])?, Some(wanted));
+    }
+    Ok(())
+}
+
+#[test]
+fn other_words_are_no_command(rt: HostRuntime) -> Result<(), AllocError> {
+    for name in ["middle", "Little", "", "little "] {
+        assert_eq!(rt; asked(&rt, &[name, "3"])?, None);
+    }
+    for digits in [
+        "",
+        "+1",
+        "-1",
+        "1 ",
+        "1x",
+        "0x1",
+        "18446744073709551616",
+        "99999999999999999999",
+    ] {
+        assert_eq!(rt; asked(&rt, &["little", digits])?, None);
+    }
+    assert_eq!(rt; asked(&rt, &[])?, None);
+    assert_eq!(rt; asked(&rt, &["little"])?, None);
+    assert_eq!(rt; asked(&rt, &["little", "3", "attr"])?, None);
+    assert_eq!(rt; asked(&rt, &["little", "3", "attr", "attr"])?, None);
+    Ok(())
+}
+
+#[test]
+fn each_outcome_has_its_status(rt: HostRuntime) {
+    let statuses = [
+        (Outcome::Clean, 0),
+        (Outcome::Refused, 1),
+        (Outcome::BadAttr, 2),
+        (Outcome::Faulted, 3),
+        (Outcome::Stopped, 3),
+    ];
+    for (outcome, status) in statuses {
+        assert_eq!(rt; outcome.status(), status);
+    }
+}

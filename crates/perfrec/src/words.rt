@@ -1,0 +1,50 @@
+//! The words of the command line.
+
+ghost use Rattle.std.specs.Prelude.{◌≡◌, map, string_bytes};
+ghost use Rattle.std.specs.Char.{is_ascii_digit};
+ghost use Rattle.std.specs.List.{list_all};
+ghost use Rattle.perfrec.specs.Words.{order_named, limit_named, command_of};
+
+use crate::command::{Command, OrderName};
+
+/// What the words behind the program's name ask for: an order's name and a limit, in digits alone. Other words ask for
+/// nothing, `attr` among them, as no attribute is read yet.
+pub fn command(words: &[String]) -> Option<Command>
+    ensures { result ≡ command_of (map string_bytes words.now) }
+{
+    let [order, limit] = words else {
+        return None;
+    };
+    Some(Command {
+        order: order_named(order.as_str())?,
+        limit: limit_named(limit.as_str())?,
+        with_attr: false,
+    })
+}
+
+fn order_named(word: &str) -> Option<OrderName>
+    ensures { result ≡ order_named word.now }
+{
+    match word {
+        "little" => Some(OrderName::Little),
+        "big" => Some(OrderName::Big),
+        "native" => Some(OrderName::Native),
+        _ => None,
+    }
+}
+
+// `parse` alone would take a sign too.
+fn limit_named(word: &str) -> Option<usize>
+    ensures { result ≡ limit_named word.now }
+{
+    if !is_number(word) {
+        return None;
+    }
+    word.parse().ok()
+}
+
+fn is_number(word: &str) -> bool
+    ensures { result ≡ list_all is_ascii_digit word.now }
+{
+    word.as_bytes().iter().all(|byte| byte.is_ascii_digit())
+}
