@@ -63,7 +63,8 @@ pub struct ParseError {
 }
 
 impl ParseError {
-    #[inline]
+    #[cold]
+    #[inline(never)]
     fn plain(kind: ErrorKind) -> ParseError
         ensures { IsMadeOf result kind None None }
     {
@@ -97,7 +98,8 @@ impl ParseError {
     }
 
     /// There are not enough bytes.
-    #[inline]
+    #[cold]
+    #[inline(never)]
     pub fn eof() -> ParseError
         ensures { IsMadeOf result ErrorKind.Eof None None }
     {
@@ -105,7 +107,8 @@ impl ParseError {
     }
 
     /// Memory was refused.
-    #[inline]
+    #[cold]
+    #[inline(never)]
     pub fn out_of_memory() -> ParseError
         ensures { IsMadeOf result ErrorKind.OutOfMemory None None }
     {

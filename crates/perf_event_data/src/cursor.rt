@@ -207,8 +207,6 @@ fn shortage<'p, B: ParseBuf<'p>>(buf: &mut B, len: usize) -> ParseError
 }
 
 // The next `len` bytes, copied.
-#[cold]
-#[inline(never)]
 fn copy<'p, B: ParseBuf<'p>>(
     alloc: Global,
     buf: &mut B,

@@ -29,6 +29,18 @@ use perf_types::exit::Exit;
 use perf_types::lost::Lost;
 use perf_types::lost_samples::LostSamples;
 
+// The refusal of a header whose size does not count the header.
+#[cold]
+#[inline(never)]
+fn small_header() -> ParseError
+    ensures { kind_of result ≡ ErrorKind.InvalidRecord }
+{
+    ParseError::custom(
+        ErrorKind::InvalidRecord,
+        "header size was too small to be valid",
+    )
+}
+
 impl<'p, B: ParseBuf<'p>, E: Endian> Parser<B, E> {
     // A parser of the bytes behind a header alone, under the same configuration. It has made no reads.
     #[inline]
@@ -44,10 +56,7 @@ impl<'p, B: ParseBuf<'p>, E: Endian> Parser<B, E> {
         ensures err { IsTrue (B.source self.old.buf).told → IfErr result (λ e. FailsToCut (B.source self.old.buf) header (kind_of e) (B.source self.new.buf)) }
     {
         if header.size < 8 {
-            return Err(ParseError::custom(
-                ErrorKind::InvalidRecord,
-                "header size was too small to be valid",
-            ));
+            return Err(small_header());
         }
         let config = match self.config.duplicate() {
             Ok(config) => config,

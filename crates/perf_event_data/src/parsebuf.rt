@@ -7,8 +7,8 @@ ghost use Rattle.perf_base.specs.Errors.{kind_of};
 ghost use Rattle.perf_event_data.specs.Buffer.{Source, Shows, ShowsReady, Refuses, KeepsChunk, Advances, chunk_bytes, known, is_known, RefusesReader};
 ghost use Rattle.std.specs.Io.Buffered.{reader_remaining, reader_buffer};
 
-use perf_base::error::{ParseError, ParseResult};
-use std::io::{BufRead, BufReader, Read};
+use perf_base::error::{ErrorKind, ParseError, ParseResult};
+use std::io::{self, BufRead, BufReader, Read};
 
 /// The bytes that a buffer shows next.
 #[derive(Copy, Clone, Debug)]
@@ -90,7 +90,17 @@ impl<'p> ParseBuf<'p> for &'p [u8] {
     }
 }
 
+// The fault that an error of a reader is, whatever the reader calls it.
+#[cold]
+#[inline(never)]
+fn fault_of(error: io::Error) -> ParseError
+    ensures { kind_of result ≡ ErrorKind.External }
+{
+    ParseError::new(anyhow::Error::from(error))
+}
+
 // Reads ahead where nothing is read and not yet taken.
+#[inline]
 fn read_ahead<R: Read>(reader: &mut BufReader<R>) -> ParseResult<()>
     ensures ready { 0 < length (reader_buffer reader.old) → OnOk result (reader_buffer reader.new ≡ reader_buffer reader.old) × IsOk result }
     ensures some { OnOk result (0 < length (reader_buffer reader.new)) }
@@ -101,7 +111,7 @@ fn read_ahead<R: Read>(reader: &mut BufReader<R>) -> ParseResult<()>
         return Ok(());
     }
     if let Err(error) = reader.fill_buf() {
-        return Err(ParseError::new(anyhow::Error::from(error)));
+        return Err(fault_of(error));
     }
     if reader.buffer().is_empty() {
         return Err(ParseError::eof());
