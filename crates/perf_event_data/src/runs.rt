@@ -156,6 +156,8 @@ pub fn read_records<'p, B: ParseBuf<'p>, E: Endian>(
     ensures answers { IsTrue (B.source parser.old.buf).told → listed result ≡ take (listed_count result)
         (answers (configuration_of parser.old.config) (E.order (endian_of parser.old.config)) (B.source parser.old.buf).left) }
 
+    ensures count { listed_count result ≤ limit }
+
     // How it ends, and what it leaves.
     ensures end { IsTrue (B.source parser.old.buf).told → EndsWith (E.order (endian_of parser.old.config)) limit
         (B.source parser.old.buf).left (listed_count result) result.end (B.source parser.new.buf).left }
