@@ -9,7 +9,7 @@ ghost use Rattle.perf_records.specs.Records.{record_value, body, IsBorrowed};
 ghost use Rattle.perf_event_data.specs.Answers.{body_length, FailsToCut, Says, SaysBehind, ParsesRecord};
 ghost use Rattle.perf_event_data.specs.Buffer.{refusal, Stays};
 ghost use Rattle.perf_event_data.specs.Cursor.{cursor_left, cursor_lent};
-ghost use Rattle.perf_event_data.specs.Meaning.{meaning};
+ghost use Rattle.perf_event_data.specs.Meaning.{buffer_of, config_of, reads_of, meaning};
 ghost use Rattle.perf_event_data.specs.Reading.{Reads as ReadsLayout, KeepsBuffer, KeepsFaults, KeepsCost, KeepsPlace, is_external, one_if_refused};
 ghost use Rattle.perf_event_data.specs.Taking.{Takes, CanFail, MovesWithin};
 
@@ -45,15 +45,15 @@ impl<'p, B: ParseBuf<'p>, E: Endian> Parser<B, E> {
     // A parser of the bytes behind a header alone, under the same configuration. It has made no reads.
     #[inline]
     fn cut_frame(&mut self, header: perf_event_header) -> ParseResult<Parser<ParseBufCursor<'p>, E>>
-        ensures config { self.new.config ≡ self.old.config }
-        ensures reads { self.new.reads ≡ self.old.reads }
-        ensures stays { Stays (B.source self.old.buf) (refusal result) (B.source self.new.buf) }
-        ensures can_fail { CanFail (B.source self.old.buf) (refusal result) }
-        ensures inner { IfOk result (λ p. (configuration_of p.config ≡ configuration_of self.old.config) × (E.order (endian_of p.config) ≡ E.order (endian_of self.old.config)) × (p.reads ≡ 0)) }
-        ensures whole { IsTrue (B.source self.old.buf).whole → IfOk result (λ p. IsTrue (cursor_lent p.buf)) }
-        ensures ok { IsTrue (B.source self.old.buf).told → IfOk result (λ p. (8 ≤ header.size) × Takes (B.source self.old.buf) (body_length header) (B.source self.new.buf)
-            × (cursor_left p.buf ≡ take (body_length header) (B.source self.old.buf).left)) }
-        ensures err { IsTrue (B.source self.old.buf).told → IfErr result (λ e. FailsToCut (B.source self.old.buf) header (kind_of e) (B.source self.new.buf)) }
+        ensures config { config_of self.new ≡ config_of self.old }
+        ensures reads { reads_of self.new ≡ reads_of self.old }
+        ensures stays { Stays (B.source (buffer_of self.old)) (refusal result) (B.source (buffer_of self.new)) }
+        ensures can_fail { CanFail (B.source (buffer_of self.old)) (refusal result) }
+        ensures inner { IfOk result (λ p. (configuration_of p.config ≡ configuration_of (config_of self.old)) × (E.order (endian_of p.config) ≡ E.order (endian_of (config_of self.old))) × (p.reads ≡ 0)) }
+        ensures whole { IsTrue (B.source (buffer_of self.old)).whole → IfOk result (λ p. IsTrue (cursor_lent p.buf)) }
+        ensures ok { IsTrue (B.source (buffer_of self.old)).told → IfOk result (λ p. (8 ≤ header.size) × Takes (B.source (buffer_of self.old)) (body_length header) (B.source (buffer_of self.new))
+            × (cursor_left p.buf ≡ take (body_length header) (B.source (buffer_of self.old)).left)) }
+        ensures err { IsTrue (B.source (buffer_of self.old)).told → IfErr result (λ e. FailsToCut (B.source (buffer_of self.old)) header (kind_of e) (B.source (buffer_of self.new))) }
     {
         if header.size < 8 {
             return Err(small_header());
@@ -75,9 +75,9 @@ fn parse_body<'p, B: ParseBuf<'p>, E: Endian>(
     parser: &mut Parser<B, E>,
     ty: u32,
 ) -> ParseResult<Record<'p>>
-    ensures config { parser.new.config ≡ parser.old.config }
-    ensures answer { IsTrue (B.source parser.old.buf).told → ReadsLayout (λ c. body c ty) record_value (meaning B.source E.order parser.old) result (meaning B.source E.order parser.new) }
-    ensures borrowed { IsTrue (B.source parser.old.buf).whole → IsTrue (B.source parser.old.buf).told → IfOk result (λ r. IsBorrowed r) }
+    ensures config { config_of parser.new ≡ config_of parser.old }
+    ensures answer { IsTrue (B.source (buffer_of parser.old)).told → ReadsLayout (λ c. body c ty) record_value (meaning B.source E.order parser.old) result (meaning B.source E.order parser.new) }
+    ensures borrowed { IsTrue (B.source (buffer_of parser.old)).whole → IsTrue (B.source (buffer_of parser.old)).told → IfOk result (λ r. IsBorrowed r) }
     ensures keeps { KeepsBuffer (meaning B.source E.order parser.old) (refusal result) (meaning B.source E.order parser.new) }
     ensures faults { KeepsFaults (meaning B.source E.order parser.old) (refusal result) }
     ensures cost { KeepsCost (meaning B.source E.order parser.old) (refusal result) (meaning B.source E.order parser.new) }
@@ -111,10 +111,10 @@ impl<'p, E: Endian> Parser<ParseBufCursor<'p>, E> {
     // The record that the bytes of a frame are, and how many reads it took. Bytes behind the record do not matter.
     #[inline]
     fn finish(self, ty: u32) -> (ParseResult<Record<'p>>, Reads)
-        ensures answer { Says (layout (E.order (endian_of self.entry.config)) (body (configuration_of self.entry.config) ty) (cursor_left self.entry.buf)) result.0 }
-        ensures borrowed { IsTrue (cursor_lent self.entry.buf) → IfOk result.0 (λ r. IsBorrowed r) }
+        ensures answer { Says (layout (E.order (endian_of (config_of self.entry))) (body (configuration_of (config_of self.entry)) ty) (cursor_left (buffer_of self.entry))) result.0 }
+        ensures borrowed { IsTrue (cursor_lent (buffer_of self.entry)) → IfOk result.0 (λ r. IsBorrowed r) }
         ensures faults { is_external (refusal result.0) ≡ false }
-        ensures cost { result.1 ≤ self.entry.reads + length (cursor_left self.entry.buf) + one_if_refused (refusal result.0) }
+        ensures cost { result.1 ≤ (reads_of self.entry) + length (cursor_left (buffer_of self.entry)) + one_if_refused (refusal result.0) }
     {
         let Parser {
             buf,
@@ -153,10 +153,10 @@ impl<'p, B: ParseBuf<'p>> ParseRecord<'p, B> for Record<'p> {
         parser: &mut Parser<B, E>,
         header: perf_event_header,
     ) -> ParseResult<Self>
-        ensures config { parser.new.config ≡ parser.old.config }
-        ensures answer { IsTrue (B.source parser.old.buf).told → SaysBehind (configuration_of parser.old.config) (E.order (endian_of parser.old.config)) header (B.source parser.old.buf).left result (B.source parser.new.buf).left }
-        ensures within { IsTrue (B.source parser.old.buf).told → MovesWithin (B.source parser.old.buf) (body_length header) (B.source parser.new.buf) }
-        ensures borrowed { IsTrue (B.source parser.old.buf).whole → IfOk result (λ r. IsBorrowed r) }
+        ensures config { config_of parser.new ≡ config_of parser.old }
+        ensures answer { IsTrue (B.source (buffer_of parser.old)).told → SaysBehind (configuration_of (config_of parser.old)) (E.order (endian_of (config_of parser.old))) header (B.source (buffer_of parser.old)).left result (B.source (buffer_of parser.new)).left }
+        ensures within { IsTrue (B.source (buffer_of parser.old)).told → MovesWithin (B.source (buffer_of parser.old)) (body_length header) (B.source (buffer_of parser.new)) }
+        ensures borrowed { IsTrue (B.source (buffer_of parser.old)).whole → IfOk result (λ r. IsBorrowed r) }
         ensures keeps { KeepsBuffer (meaning B.source E.order parser.old) (refusal result) (meaning B.source E.order parser.new) }
         ensures faults { KeepsFaults (meaning B.source E.order parser.old) (refusal result) }
         ensures cost { KeepsCost (meaning B.source E.order parser.old) (refusal result) (meaning B.source E.order parser.new) }

@@ -4,7 +4,7 @@
 ghost use Rattle.std.specs.Prelude.{◌≡◌, IsTrue};
 ghost use Rattle.perf_base.specs.Layout.{number, w1, w2, w4, w8};
 ghost use Rattle.perf_event_data.specs.Buffer.{NeedsNoMemory, refusal};
-ghost use Rattle.perf_event_data.specs.Meaning.{meaning};
+ghost use Rattle.perf_event_data.specs.Meaning.{buffer_of, config_of, meaning};
 ghost use Rattle.perf_event_data.specs.Reading.{ReadsOne, KeepsBuffer, KeepsFaults, KeepsCost, KeepsPlace};
 
 use crate::fill::take_array;
@@ -17,9 +17,9 @@ impl<'p, B: ParseBuf<'p>, E: Endian> Parser<B, E> {
     /// The next byte.
     #[inline]
     pub fn parse_u8(&mut self) -> ParseResult<u8>
-        ensures config { self.new.config ≡ self.old.config }
+        ensures config { config_of self.new ≡ config_of self.old }
         ensures memory { NeedsNoMemory result }
-        ensures answer { IsTrue (B.source self.old.buf).told → ReadsOne (number w1) (λ n. n) (meaning B.source E.order self.old) result (meaning B.source E.order self.new) }
+        ensures answer { IsTrue (B.source (buffer_of self.old)).told → ReadsOne (number w1) (λ n. n) (meaning B.source E.order self.old) result (meaning B.source E.order self.new) }
         ensures keeps { KeepsBuffer (meaning B.source E.order self.old) (refusal result) (meaning B.source E.order self.new) }
         ensures faults { KeepsFaults (meaning B.source E.order self.old) (refusal result) }
         ensures cost { KeepsCost (meaning B.source E.order self.old) (refusal result) (meaning B.source E.order self.new) }
@@ -33,9 +33,9 @@ impl<'p, B: ParseBuf<'p>, E: Endian> Parser<B, E> {
     /// The number of the next two bytes.
     #[inline]
     pub fn parse_u16(&mut self) -> ParseResult<u16>
-        ensures config { self.new.config ≡ self.old.config }
+        ensures config { config_of self.new ≡ config_of self.old }
         ensures memory { NeedsNoMemory result }
-        ensures answer { IsTrue (B.source self.old.buf).told → ReadsOne (number w2) (λ n. n) (meaning B.source E.order self.old) result (meaning B.source E.order self.new) }
+        ensures answer { IsTrue (B.source (buffer_of self.old)).told → ReadsOne (number w2) (λ n. n) (meaning B.source E.order self.old) result (meaning B.source E.order self.new) }
         ensures keeps { KeepsBuffer (meaning B.source E.order self.old) (refusal result) (meaning B.source E.order self.new) }
         ensures faults { KeepsFaults (meaning B.source E.order self.old) (refusal result) }
         ensures cost { KeepsCost (meaning B.source E.order self.old) (refusal result) (meaning B.source E.order self.new) }
@@ -49,9 +49,9 @@ impl<'p, B: ParseBuf<'p>, E: Endian> Parser<B, E> {
     /// The number of the next four bytes.
     #[inline]
     pub fn parse_u32(&mut self) -> ParseResult<u32>
-        ensures config { self.new.config ≡ self.old.config }
+        ensures config { config_of self.new ≡ config_of self.old }
         ensures memory { NeedsNoMemory result }
-        ensures answer { IsTrue (B.source self.old.buf).told → ReadsOne (number w4) (λ n. n) (meaning B.source E.order self.old) result (meaning B.source E.order self.new) }
+        ensures answer { IsTrue (B.source (buffer_of self.old)).told → ReadsOne (number w4) (λ n. n) (meaning B.source E.order self.old) result (meaning B.source E.order self.new) }
         ensures keeps { KeepsBuffer (meaning B.source E.order self.old) (refusal result) (meaning B.source E.order self.new) }
         ensures faults { KeepsFaults (meaning B.source E.order self.old) (refusal result) }
         ensures cost { KeepsCost (meaning B.source E.order self.old) (refusal result) (meaning B.source E.order self.new) }
@@ -65,9 +65,9 @@ impl<'p, B: ParseBuf<'p>, E: Endian> Parser<B, E> {
     /// The number of the next eight bytes.
     #[inline]
     pub fn parse_u64(&mut self) -> ParseResult<u64>
-        ensures config { self.new.config ≡ self.old.config }
+        ensures config { config_of self.new ≡ config_of self.old }
         ensures memory { NeedsNoMemory result }
-        ensures answer { IsTrue (B.source self.old.buf).told → ReadsOne (number w8) (λ n. n) (meaning B.source E.order self.old) result (meaning B.source E.order self.new) }
+        ensures answer { IsTrue (B.source (buffer_of self.old)).told → ReadsOne (number w8) (λ n. n) (meaning B.source E.order self.old) result (meaning B.source E.order self.new) }
         ensures keeps { KeepsBuffer (meaning B.source E.order self.old) (refusal result) (meaning B.source E.order self.new) }
         ensures faults { KeepsFaults (meaning B.source E.order self.old) (refusal result) }
         ensures cost { KeepsCost (meaning B.source E.order self.old) (refusal result) (meaning B.source E.order self.new) }

@@ -8,7 +8,7 @@ ghost use Rattle.perf_base.specs.Order.{Order};
 ghost use Rattle.perf_base.specs.declared.error.ParseError.{ParseError as Refusal};
 ghost use Rattle.perf_event_data.specs.Answers.{body_length};
 ghost use Rattle.perf_event_data.specs.Buffer.{refusal};
-ghost use Rattle.perf_event_data.specs.Meaning.{Meaning, meaning};
+ghost use Rattle.perf_event_data.specs.Meaning.{Meaning, buffer_of, config_of, meaning};
 ghost use Rattle.perf_event_data.specs.Reading.{ReadsOne, KeepsBuffer, KeepsFaults, KeepsCost, KeepsPlace};
 ghost use Rattle.perf_event_data.specs.Taking.{MovesWithin};
 ghost use Rattle.perf_base.specs.declared.sys.perf_event_header.{perf_event_header};
@@ -31,8 +31,8 @@ pub trait Layout: Sized {
 pub trait Parse<'p, B: ParseBuf<'p>>: Layout {
     /// Parses one value.
     fn parse<E: Endian>(parser: &mut Parser<B, E>) -> ParseResult<Self>
-        ensures config { parser.new.config ≡ parser.old.config }
-        ensures answer { IsTrue (B.source parser.old.buf).told → Self.parses (meaning B.source E.order parser.old) result (meaning B.source E.order parser.new) }
+        ensures config { config_of parser.new ≡ config_of parser.old }
+        ensures answer { IsTrue (B.source (buffer_of parser.old)).told → Self.parses (meaning B.source E.order parser.old) result (meaning B.source E.order parser.new) }
         ensures keeps { KeepsBuffer (meaning B.source E.order parser.old) (refusal result) (meaning B.source E.order parser.new) }
         ensures faults { KeepsFaults (meaning B.source E.order parser.old) (refusal result) }
         ensures cost { KeepsCost (meaning B.source E.order parser.old) (refusal result) (meaning B.source E.order parser.new) }
@@ -43,8 +43,8 @@ impl<'p, B: ParseBuf<'p>, E: Endian> Parser<B, E> {
     /// Parses one value of a type.
     #[inline]
     pub fn parse<P: Parse<'p, B>>(&mut self) -> ParseResult<P>
-        ensures config { self.new.config ≡ self.old.config }
-        ensures answer { IsTrue (B.source self.old.buf).told → P.parses (meaning B.source E.order self.old) result (meaning B.source E.order self.new) }
+        ensures config { config_of self.new ≡ config_of self.old }
+        ensures answer { IsTrue (B.source (buffer_of self.old)).told → P.parses (meaning B.source E.order self.old) result (meaning B.source E.order self.new) }
         ensures keeps { KeepsBuffer (meaning B.source E.order self.old) (refusal result) (meaning B.source E.order self.new) }
         ensures faults { KeepsFaults (meaning B.source E.order self.old) (refusal result) }
         ensures cost { KeepsCost (meaning B.source E.order self.old) (refusal result) (meaning B.source E.order self.new) }
@@ -112,9 +112,9 @@ pub trait ParseRecord<'p, B: ParseBuf<'p>>: FrameLayout {
         parser: &mut Parser<B, E>,
         header: perf_event_header,
     ) -> ParseResult<Self>
-        ensures config { parser.new.config ≡ parser.old.config }
-        ensures answer { IsTrue (B.source parser.old.buf).told → Self.says_behind (configuration_of parser.old.config) (E.order (endian_of parser.old.config)) header (B.source parser.old.buf).left result (B.source parser.new.buf).left }
-        ensures within { IsTrue (B.source parser.old.buf).told → MovesWithin (B.source parser.old.buf) (body_length header) (B.source parser.new.buf) }
+        ensures config { config_of parser.new ≡ config_of parser.old }
+        ensures answer { IsTrue (B.source (buffer_of parser.old)).told → Self.says_behind (configuration_of (config_of parser.old)) (E.order (endian_of (config_of parser.old))) header (B.source (buffer_of parser.old)).left result (B.source (buffer_of parser.new)).left }
+        ensures within { IsTrue (B.source (buffer_of parser.old)).told → MovesWithin (B.source (buffer_of parser.old)) (body_length header) (B.source (buffer_of parser.new)) }
         ensures keeps { KeepsBuffer (meaning B.source E.order parser.old) (refusal result) (meaning B.source E.order parser.new) }
         ensures faults { KeepsFaults (meaning B.source E.order parser.old) (refusal result) }
         ensures cost { KeepsCost (meaning B.source E.order parser.old) (refusal result) (meaning B.source E.order parser.new) }

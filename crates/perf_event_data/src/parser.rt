@@ -2,7 +2,7 @@
 
 ghost use Rattle.std.specs.Prelude.{◌≡◌, ◌+◌, ℕ, IfOk, IfErr, IsTrue};
 ghost use Rattle.perf_base.specs.Configured.{configuration_of, endian_of};
-ghost use Rattle.perf_base.specs.Errors.{kind_of};
+ghost use Rattle.perf_event_data.specs.Meaning.{buffer_of, config_of, reads_of};
 
 use crate::parsebuf::ParseBuf;
 use perf_base::config::ParseConfig;
@@ -26,9 +26,9 @@ impl<'p, B: ParseBuf<'p>, E: Endian> Parser<B, E> {
     /// A parser of the bytes in a buffer, which takes what memory it needs from `alloc`.
     #[inline]
     pub fn new(alloc: Global, buf: B, config: ParseConfig<E>) -> Parser<B, E>
-        ensures buf { result.buf ≡ buf }
-        ensures config { result.config ≡ config }
-        ensures reads { result.reads ≡ 0 }
+        ensures buf { buffer_of result ≡ buf }
+        ensures config { config_of result ≡ config }
+        ensures reads { reads_of result ≡ 0 }
     {
         Parser {
             buf,
@@ -41,7 +41,7 @@ impl<'p, B: ParseBuf<'p>, E: Endian> Parser<B, E> {
     /// The configuration.
     #[inline]
     pub fn config(&self) -> &ParseConfig<E>
-        ensures { result.now ≡ self.now.config }
+        ensures { result.now ≡ config_of self.now }
     {
         &self.config
     }
@@ -49,7 +49,7 @@ impl<'p, B: ParseBuf<'p>, E: Endian> Parser<B, E> {
     /// The byte order.
     #[inline]
     pub fn endian(&self) -> &E
-        ensures { result.now ≡ endian_of self.now.config }
+        ensures { result.now ≡ endian_of (config_of self.now) }
     {
         self.config.endian()
     }

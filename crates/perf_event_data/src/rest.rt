@@ -6,7 +6,7 @@ ghost use Rattle.perf_base.specs.Cow.{cow_items, is_borrowed};
 ghost use Rattle.perf_base.specs.Errors.{kind_of};
 ghost use Rattle.perf_base.specs.Layout.{rest};
 ghost use Rattle.perf_event_data.specs.Buffer.{NeedsNoMemory, refusal, Stays};
-ghost use Rattle.perf_event_data.specs.Meaning.{meaning};
+ghost use Rattle.perf_event_data.specs.Meaning.{buffer_of, config_of, meaning};
 ghost use Rattle.perf_event_data.specs.Reading.{ReadsOne, KeepsBuffer, KeepsFaults, KeepsCost, KeepsPlace};
 ghost use Rattle.perf_event_data.specs.Taking.{Takes, FailsInRest, CanFail, AppendsSome};
 
@@ -142,10 +142,10 @@ impl<'p, B: ParseBuf<'p>, E: Endian> Parser<B, E> {
     #[inline]
     #[tactic(auto, using(crate::proofs::Paying::lasts, crate::proofs::Steps::rest_there))]
     pub fn parse_rest(&mut self) -> ParseResult<CowSlice<'p, u8>>
-        ensures config { self.new.config ≡ self.old.config }
-        ensures whole { IsTrue (B.source self.old.buf).whole → IsTrue (B.source self.old.buf).told → IfOk result (λ c. IsTrue (is_borrowed c)) }
-        ensures whole_memory { IsTrue (B.source self.old.buf).whole → IsTrue (B.source self.old.buf).told → NeedsNoMemory result }
-        ensures answer { IsTrue (B.source self.old.buf).told → ReadsOne rest cow_items (meaning B.source E.order self.old) result (meaning B.source E.order self.new) }
+        ensures config { config_of self.new ≡ config_of self.old }
+        ensures whole { IsTrue (B.source (buffer_of self.old)).whole → IsTrue (B.source (buffer_of self.old)).told → IfOk result (λ c. IsTrue (is_borrowed c)) }
+        ensures whole_memory { IsTrue (B.source (buffer_of self.old)).whole → IsTrue (B.source (buffer_of self.old)).told → NeedsNoMemory result }
+        ensures answer { IsTrue (B.source (buffer_of self.old)).told → ReadsOne rest cow_items (meaning B.source E.order self.old) result (meaning B.source E.order self.new) }
         ensures keeps { KeepsBuffer (meaning B.source E.order self.old) (refusal result) (meaning B.source E.order self.new) }
         ensures faults { KeepsFaults (meaning B.source E.order self.old) (refusal result) }
         ensures cost { KeepsCost (meaning B.source E.order self.old) (refusal result) (meaning B.source E.order self.new) }

@@ -4,7 +4,7 @@ ghost use Rattle.std.specs.Prelude.{◌≡◌, ℕ, ◌+◌, ◌≤◌, ◌∷�
 ghost use Rattle.perf_base.specs.Configured.{configuration_of, endian_of};
 ghost use Rattle.perf_base.specs.Errors.{kind_of};
 ghost use Rattle.perf_base.specs.Header.{header_of};
-ghost use Rattle.perf_event_data.specs.Meaning.{meaning};
+ghost use Rattle.perf_event_data.specs.Meaning.{buffer_of, config_of, reads_of, meaning};
 ghost use Rattle.perf_event_data.specs.Reading.{KeepsBuffer, KeepsFaults, of_layout};
 ghost use Rattle.perf_event_data.specs.Answers.{answers};
 ghost use Rattle.perf_event_data.specs.Runs.{listed, listed_count, refused_count, AllBorrowed, end_refusal, EndsWith, EndsAtHeader, IsListed, ListsNext, ended_by, one_if_ended};
@@ -70,15 +70,15 @@ fn end_at(error: ParseError, end: RunEnd) -> RunEnd
 fn read_header<'p, B: ParseBuf<'p>, E: Endian>(
     parser: &mut Parser<B, E>,
 ) -> Result<perf_event_header, RunEnd>
-    ensures config { parser.new.config ≡ parser.old.config }
-    ensures ok { IsTrue (B.source parser.old.buf).told → IfOk result (λ h. (8 ≤ length (B.source parser.old.buf).left)
-        × (h ≡ header_of (E.order (endian_of parser.old.config)) (B.source parser.old.buf).left)
-        × ((B.source parser.new.buf).left ≡ drop 8 (B.source parser.old.buf).left)) }
-    ensures err { IsTrue (B.source parser.old.buf).told → IfErr result (λ end. EndsAtHeader (E.order (endian_of parser.old.config)) (B.source parser.old.buf).left end (B.source parser.new.buf).left) }
+    ensures config { config_of parser.new ≡ config_of parser.old }
+    ensures ok { IsTrue (B.source (buffer_of parser.old)).told → IfOk result (λ h. (8 ≤ length (B.source (buffer_of parser.old)).left)
+        × (h ≡ header_of (E.order (endian_of (config_of parser.old))) (B.source (buffer_of parser.old)).left)
+        × ((B.source (buffer_of parser.new)).left ≡ drop 8 (B.source (buffer_of parser.old)).left)) }
+    ensures err { IsTrue (B.source (buffer_of parser.old)).told → IfErr result (λ end. EndsAtHeader (E.order (endian_of (config_of parser.old))) (B.source (buffer_of parser.old)).left end (B.source (buffer_of parser.new)).left) }
     ensures keeps { KeepsBuffer (meaning B.source E.order parser.old) (ended_by result) (meaning B.source E.order parser.new) }
     ensures faults { KeepsFaults (meaning B.source E.order parser.old) (ended_by result) }
-    ensures cost { IsTrue (B.source parser.old.buf).told → (parser.old.reads ≤ parser.new.reads) ×
-        (parser.new.reads + length (B.source parser.new.buf).left ≤ parser.old.reads + length (B.source parser.old.buf).left + one_if_ended result) }
+    ensures cost { IsTrue (B.source (buffer_of parser.old)).told → ((reads_of parser.old) ≤ (reads_of parser.new)) ×
+        ((reads_of parser.new) + length (B.source (buffer_of parser.new)).left ≤ (reads_of parser.old) + length (B.source (buffer_of parser.old)).left + one_if_ended result) }
 {
     parser.reads.tick();
     let [first] = match take_array::<B, 1>(&mut parser.buf) {
@@ -117,15 +117,15 @@ fn read_next<'p, B: ParseBuf<'p>, E: Endian>(
     parser: &mut Parser<B, E>,
     frames: &mut Vec<(perf_event_header, ParseResult<Record<'p>>)>,
 ) -> Result<(), RunEnd>
-    ensures config { parser.new.config ≡ parser.old.config }
-    ensures listed { OnOk result (ListsNext (configuration_of parser.old.config) (E.order (endian_of parser.old.config)) (B.source parser.old.buf) frames.old.items frames.new.items (B.source parser.new.buf)) }
+    ensures config { config_of parser.new ≡ config_of parser.old }
+    ensures listed { OnOk result (ListsNext (configuration_of (config_of parser.old)) (E.order (endian_of (config_of parser.old))) (B.source (buffer_of parser.old)) frames.old.items frames.new.items (B.source (buffer_of parser.new))) }
     ensures kept { OnErr result (frames.new.items ≡ frames.old.items) }
-    ensures err { IsTrue (B.source parser.old.buf).told → IfErr result (λ end. EndsAtHeader (E.order (endian_of parser.old.config)) (B.source parser.old.buf).left end (B.source parser.new.buf).left) }
+    ensures err { IsTrue (B.source (buffer_of parser.old)).told → IfErr result (λ end. EndsAtHeader (E.order (endian_of (config_of parser.old))) (B.source (buffer_of parser.old)).left end (B.source (buffer_of parser.new)).left) }
     ensures keeps { KeepsBuffer (meaning B.source E.order parser.old) (ended_by result) (meaning B.source E.order parser.new) }
     ensures faults { KeepsFaults (meaning B.source E.order parser.old) (ended_by result) }
-    ensures cost { IsTrue (B.source parser.old.buf).told → (parser.old.reads ≤ parser.new.reads) ×
-        (parser.new.reads + length (B.source parser.new.buf).left + refused_count frames.old.items
-        ≤ parser.old.reads + length (B.source parser.old.buf).left + refused_count frames.new.items + one_if_ended result) }
+    ensures cost { IsTrue (B.source (buffer_of parser.old)).told → ((reads_of parser.old) ≤ (reads_of parser.new)) ×
+        ((reads_of parser.new) + length (B.source (buffer_of parser.new)).left + refused_count frames.old.items
+        ≤ (reads_of parser.old) + length (B.source (buffer_of parser.old)).left + refused_count frames.new.items + one_if_ended result) }
 {
     if frames.reserve(1).is_err() {
         return Err(RunEnd::Fault(ParseError::out_of_memory()));
@@ -150,27 +150,27 @@ pub fn read_records<'p, B: ParseBuf<'p>, E: Endian>(
     parser: &mut Parser<B, E>,
     limit: usize,
 ) -> Run<'p>
-    ensures config { parser.new.config ≡ parser.old.config }
+    ensures config { config_of parser.new ≡ config_of parser.old }
 
     // What is listed are the first answers of the bytes.
-    ensures answers { IsTrue (B.source parser.old.buf).told → listed result ≡ take (listed_count result)
-        (answers (configuration_of parser.old.config) (E.order (endian_of parser.old.config)) (B.source parser.old.buf).left) }
+    ensures answers { IsTrue (B.source (buffer_of parser.old)).told → listed result ≡ take (listed_count result)
+        (answers (configuration_of (config_of parser.old)) (E.order (endian_of (config_of parser.old))) (B.source (buffer_of parser.old)).left) }
 
     ensures count { listed_count result ≤ limit }
 
     // How it ends, and what it leaves.
-    ensures end { IsTrue (B.source parser.old.buf).told → EndsWith (E.order (endian_of parser.old.config)) limit
-        (B.source parser.old.buf).left (listed_count result) result.end (B.source parser.new.buf).left }
+    ensures end { IsTrue (B.source (buffer_of parser.old)).told → EndsWith (E.order (endian_of (config_of parser.old))) limit
+        (B.source (buffer_of parser.old)).left (listed_count result) result.end (B.source (buffer_of parser.new)).left }
     ensures keeps { KeepsBuffer (meaning B.source E.order parser.old) (end_refusal result.end) (meaning B.source E.order parser.new) }
     ensures faults { KeepsFaults (meaning B.source E.order parser.old) (end_refusal result.end) }
 
     // At most as many elementary reads as bytes taken, one more for each refused answer, and one.
-    ensures cost { IsTrue (B.source parser.old.buf).told → (parser.old.reads ≤ parser.new.reads) ×
-        (parser.new.reads + length (B.source parser.new.buf).left
-        ≤ parser.old.reads + length (B.source parser.old.buf).left + refused_count result.frames.items + 1) }
+    ensures cost { IsTrue (B.source (buffer_of parser.old)).told → ((reads_of parser.old) ≤ (reads_of parser.new)) ×
+        ((reads_of parser.new) + length (B.source (buffer_of parser.new)).left
+        ≤ (reads_of parser.old) + length (B.source (buffer_of parser.old)).left + refused_count result.frames.items + 1) }
 
     // Over a slice no byte is copied.
-    ensures borrowed { IsTrue (B.source parser.old.buf).whole → AllBorrowed result.frames.items }
+    ensures borrowed { IsTrue (B.source (buffer_of parser.old)).whole → AllBorrowed result.frames.items }
 {
     let mut frames = Vec::new(parser.alloc);
     for _ in 0..limit {
