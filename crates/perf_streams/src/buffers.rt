@@ -1,0 +1,127 @@
+//! One stream through every buffer, told as text.
+
+use perf_event_data::endian::{Endian, Little, Native};
+use perf_event_data::parse::{ParseBuf, ParseConfig, Parser};
+use perf_event_data::{PieceBuf, Record, Run, RunEnd, read_records};
+use std::alloc::{AllocError, Global};
+use std::io::BufReader;
+use std::process::Abort;
+use std::test::Fail;
+
+fn tell_record(text: &mut String, record: &Record<'_>) -> Result<(), AllocError> {
+    match record {
+        Record::Lost(r) => write!(text, "Lost {} {}", r.id, r.lost),
+        Record::Exit(r) => write!(
+            text,
+            "Exit {} {} {} {} {}",
+            r.pid, r.ppid, r.tid, r.ptid, r.time
+        ),
+        Record::Fork(r) => write!(
+            text,
+            "Fork {} {} {} {} {}",
+            r.pid, r.ppid, r.tid, r.ptid, r.time
+        ),
+        Record::LostSamples(r) => write!(text, "LostSamples {}", r.lost),
+        Record::Unknown { ty, bytes } => {
+            let bytes = bytes.as_slice();
+            write!(text, "Unknown {ty} {bytes:?}")
+        }
+    }
+}
+
+/// Writes each frame of a run as `type misc size answer; `, and then how the run ended.
+pub fn tell_run(text: &mut String, run: &Run<'_>) -> Result<(), AllocError> {
+    for (header, answer) in run.frames.iter() {
+        write!(text, "{} {} {} ", header.type_, header.misc, header.size)?;
+        match answer {
+            Ok(record) => tell_record(text, record)?,
+            Err(error) => write!(text, "{:?}", error.kind())?,
+        }
+        text.push_str("; ")?;
+    }
+    match &run.end {
+        RunEnd::Limit => text.push_str("limit"),
+        RunEnd::Done => text.push_str("done"),
+        RunEnd::CutHeader => text.push_str("cut"),
+        RunEnd::Fault(error) => write!(text, "fault {:?}", error.kind()),
+    }
+}
+
+/// The runs of one parser with these limits, in turn.
+pub fn tell<'p, B: ParseBuf<'p> + Drop, E: Endian>(
+    alloc: Global,
+    buf: B,
+    endian: E,
+    limits: &[usize],
+) -> Result<String, AllocError> {
+    let config = ParseConfig::<Native>::default().with_endian(endian);
+    let mut parser = Parser::new(alloc, buf, config);
+    let mut text = String::new(alloc);
+    for limit in limits {
+        let run = read_records(&mut parser, *limit);
+        if !text.is_empty() {
+            text.push_str(" | ")?;
+        }
+        tell_run(&mut text, &run)?;
+    }
+    Ok(text)
+}
+
+/// Asserts what the runs over these bytes are, through a slice, buffered readers and pieces.
+pub fn check_everywhere<E: Endian + Copy>(
+    rt: &impl Abort,
+    alloc: Global,
+    bytes: &[u8],
+    endian: E,
+    limits: &[usize],
+    want: &str,
+) -> Result<(), Fail> {
+    let text = tell(alloc, bytes, endian, limits)?;
+    assert_eq!(rt; text.as_str(), want, "a slice");
+    for capacity in [1, 7, 8192] {
+        let reader = BufReader::with_capacity(alloc, capacity, bytes)?;
+        let text = tell(alloc, reader, endian, limits)?;
+        assert_eq!(rt; text.as_str(), want, "a reader of {capacity}");
+    }
+    for most in [1, 3, 64] {
+        for lasting in [true, false] {
+            let text = tell(alloc, PieceBuf::new(bytes, most, lasting), endian, limits)?;
+            assert_eq!(rt; text.as_str(), want, "pieces of {most}, lasting: {lasting}");
+        }
+    }
+    Ok(())
+}
+
+/// What a test does with a parser over a buffer.
+pub trait Check<'p, B: ParseBuf<'p>> {
+    fn check<E: Endian>(rt: &impl Abort, parser: &mut Parser<B, E>) -> Result<(), Fail>;
+}
+
+// The test over one buffer.
+fn check_over<'p, B: ParseBuf<'p> + Drop, C: Check<'p, B>>(
+    rt: &impl Abort,
+    alloc: Global,
+    buf: B,
+) -> Result<(), Fail> {
+    let mut parser = Parser::new(alloc, buf, ParseConfig::<Little>::default());
+    C::check(rt, &mut parser)
+}
+
+/// Runs a test over these bytes through a slice, buffered readers and pieces, the lowest byte first.
+pub fn check_through<'p, C>(rt: &impl Abort, alloc: Global, bytes: &'p [u8]) -> Result<(), Fail>
+where
+    C: Check<'p, &'p [u8]> + Check<'p, BufReader<&'p [u8]>> + Check<'p, PieceBuf<'p>>,
+{
+    check_over::<&'p [u8], C>(rt, alloc, bytes)?;
+    for capacity in [1, 7, 8192] {
+        let reader = BufReader::with_capacity(alloc, capacity, bytes)?;
+        check_over::<BufReader<&'p [u8]>, C>(rt, alloc, reader)?;
+    }
+    for most in [1, 3, 64] {
+        for lasting in [true, false] {
+            let pieces = PieceBuf::new(bytes, most, lasting);
+            check_over::<PieceBuf<'p>, C>(rt, alloc, pieces)?;
+        }
+    }
+    Ok(())
+}

@@ -1,0 +1,217 @@
+//! Readers that fail, and a buffer that counts its faults.
+
+ghost use Rattle.std.specs.Prelude.{◌≡◌, true, false, None, Some, take, nat_lt};
+
+use crate::buffers::tell;
+use anyhow::anyhow;
+use perf_event_data::endian::Little;
+use perf_event_data::parse::{
+    ErrorKind, ParseBuf, ParseBufChunk, ParseConfig, ParseError, ParseResult, Parser,
+};
+use perf_event_data::{RunEnd, read_records};
+use std::io;
+use std::io::{BufReader, Read};
+use std::test::Fail;
+
+// Two frames of 16 bytes, which lost 5 and 6.
+const TWO: &[u8] = b"\x0D\0\0\0\0\0\x10\0\x05\0\0\0\0\0\0\0\x0D\0\0\0\0\0\x10\0\x06\0\0\0\0\0\0\0";
+
+// Gives one byte a read, and fails once `before` of them are given: from then on, or once.
+#[derive(Drop)]
+struct Faulty<'a> {
+    bytes: &'a [u8],
+    before: Option<usize>,
+    kind: io::ErrorKind,
+    once: bool,
+}
+
+impl Read for Faulty<'_> {
+    fn read(&mut self, buf: &mut [u8]) -> io::Result<usize> {
+        if self.before == Some(0) {
+            if self.once {
+                self.before = None;
+            }
+            return Err(self.kind.into());
+        }
+        if self.bytes.is_empty() || buf.is_empty() {
+            return Ok(0);
+        }
+        self.before = self.before.map(|n| n.saturating_sub(1));
+        buf[0] = self.bytes[0];
+        self.bytes = &self.bytes[1..];
+        Ok(1)
+    }
+}
+
+const IO_KINDS: [io::ErrorKind; 3] = [
+    io::ErrorKind::Other,
+    io::ErrorKind::UnexpectedEof,
+    io::ErrorKind::Interrupted,
+];
+
+#[test]
+fn a_failing_reader_ends_the_run_behind_whole_frames(rt: HostRuntime) -> Result<(), Fail> {
+    for n in 0..33 {
+        let want = match n {
+            0..=15 => "fault External",
+            16..=31 => "13 0 16 LostSamples 5; fault External",
+            _ => "13 0 16 LostSamples 5; 13 0 16 LostSamples 6; fault External",
+        };
+        for kind in IO_KINDS {
+            for capacity in [1, 7, 8192] {
+                let reader = Faulty {
+                    bytes: TWO,
+                    before: Some(n),
+                    kind,
+                    once: false,
+                };
+                let reader = BufReader::with_capacity(rt.alloc(), capacity, reader)?;
+                let text = tell(rt.alloc(), reader, Little, &[10])?;
+                assert_eq!(rt; text.as_str(), want, "after {n} bytes");
+            }
+        }
+    }
+    Ok(())
+}
+
+#[test]
+fn a_run_goes_on_behind_a_reader_that_failed_once(rt: HostRuntime) -> Result<(), Fail> {
+    for kind in IO_KINDS {
+        for capacity in [1, 7, 8192] {
+            let reader = Faulty {
+                bytes: TWO,
+                before: Some(16),
+                kind,
+                once: true,
+            };
+            let reader = BufReader::with_capacity(rt.alloc(), capacity, reader)?;
+            let text = tell(rt.alloc(), reader, Little, &[10, 10])?;
+            let want = "13 0 16 LostSamples 5; fault External | 13 0 16 LostSamples 6; done";
+            assert_eq!(rt; text.as_str(), want, "a reader of {capacity}");
+        }
+    }
+    Ok(())
+}
+
+#[test]
+fn a_fault_of_a_reader_has_it_as_its_cause(rt: HostRuntime) -> Result<(), Fail> {
+    let reader = Faulty {
+        bytes: TWO,
+        before: Some(0),
+        kind: io::ErrorKind::UnexpectedEof,
+        once: false,
+    };
+    let reader = BufReader::with_capacity(rt.alloc(), 7, reader)?;
+    let mut parser = Parser::new(rt.alloc(), reader, ParseConfig::<Little>::default());
+    let RunEnd::Fault(error) = read_records(&mut parser, 10).end else {
+        panic!(rt; "no fault");
+    };
+    assert_eq!(rt; error.kind(), ErrorKind::External);
+    assert!(rt; error.cause().is_some());
+    Ok(())
+}
+
+// Counts its faults: after `before` bytes come so many, and then all the rest. Its count cannot go past its greatest
+// value, so there it fails no more.
+#[derive(Drop)]
+struct Counting<'p> {
+    bytes: &'p [u8],
+    before: usize,
+    to_come: u64,
+    faults: u64,
+}
+
+impl<'p> ParseBuf<'p> for Counting<'p> {
+    ghost source = { λ s. record { left = s.bytes.now; told = true; whole = false; can_fault = nat_lt s.faults 18446744073709551615; faults = Some s.faults } };
+
+    ghost ready = { λ s. take s.before s.bytes.now };
+
+    ghost hint = { λ _. None };
+
+    fn chunk(&mut self) -> ParseResult<ParseBufChunk<'_, 'p>> {
+        if self.before == 0 {
+            if self.to_come > 0 && self.faults < u64::MAX {
+                self.to_come -= 1;
+                self.faults += 1;
+                return Err(ParseError::new(anyhow!("no disk")));
+            }
+            self.before = self.bytes.len();
+        }
+        if self.bytes.is_empty() {
+            return Err(ParseError::eof());
+        }
+        let bytes = self.bytes;
+        Ok(ParseBufChunk::External(&bytes[..self.before.min(bytes.len())]))
+    }
+
+    fn advance(&mut self, count: usize) {
+        self.bytes = &self.bytes[count..];
+        self.before -= count;
+    }
+
+    fn remaining_hint(&self) -> Option<usize> {
+        None
+    }
+}
+
+#[test]
+fn a_run_goes_on_behind_counted_faults(rt: HostRuntime) -> Result<(), Fail> {
+    let first = "13 0 16 LostSamples 5; fault External | 13 0 16 LostSamples 6; done";
+    let twice =
+        "13 0 16 LostSamples 5; fault External | fault External | 13 0 16 LostSamples 6; done";
+    let never = "13 0 16 LostSamples 5; 13 0 16 LostSamples 6; done";
+    for (to_come, faults, limits, want) in [
+        (0, 0, [10].as_slice(), never),
+        (1, 0, [10, 10].as_slice(), first),
+        (2, 0, [10, 10, 10].as_slice(), twice),
+        (2, u64::MAX - 1, [10, 10].as_slice(), first),
+        (1, u64::MAX, [10].as_slice(), never),
+    ] {
+        let buf = Counting {
+            bytes: TWO,
+            before: 16,
+            to_come,
+            faults,
+        };
+        let text = tell(rt.alloc(), buf, Little, limits)?;
+        assert_eq!(rt; text.as_str(), want, "{to_come} faults behind {faults}");
+    }
+    Ok(())
+}
+
+#[test]
+fn a_counted_fault_ends_the_run_wherever_it_comes(rt: HostRuntime) -> Result<(), Fail> {
+    for before in 0..33 {
+        let want = match before {
+            0..=15 => "fault External",
+            16..=31 => "13 0 16 LostSamples 5; fault External",
+            _ => "13 0 16 LostSamples 5; 13 0 16 LostSamples 6; fault External",
+        };
+        let buf = Counting {
+            bytes: TWO,
+            before,
+            to_come: 1,
+            faults: 0,
+        };
+        let text = tell(rt.alloc(), buf, Little, &[10])?;
+        assert_eq!(rt; text.as_str(), want, "after {before} bytes");
+    }
+    Ok(())
+}
+
+#[test]
+fn a_fault_is_no_end_of_the_rest(rt: HostRuntime) {
+    for before in [0, 3, 32] {
+        let buf = Counting {
+            bytes: TWO,
+            before,
+            to_come: 1,
+            faults: 0,
+        };
+        let mut parser = Parser::new(rt.alloc(), buf, ParseConfig::<Little>::default());
+        let Err(error) = parser.parse_rest() else {
+            panic!(rt; "no fault after {before} bytes");
+        };
+        assert_eq!(rt; error.kind(), ErrorKind::External);
+    }
+}

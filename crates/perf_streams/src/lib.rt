@@ -1,0 +1,18 @@
+//! Tests that cross the crates: whole streams through every buffer, orders and buffers of a user's own, and what lies
+//! outside the contracts, such as the texts of errors. Without its tests this crate is empty.
+#![tactic(auto)]
+
+#[cfg(test)]
+mod buffers;
+#[cfg(test)]
+mod cursors;
+#[cfg(test)]
+mod errors;
+#[cfg(test)]
+mod faults;
+#[cfg(test)]
+mod orders;
+#[cfg(test)]
+mod streams;
+#[cfg(test)]
+mod values;

@@ -1,0 +1,186 @@
+//! Byte orders, and some of a user's own.
+
+ghost use Rattle.std.specs.Prelude.{◌++◌, take, drop, true, false};
+ghost use Rattle.std.specs.Int.{w16, w32, w64, from_le_bytes};
+
+use crate::buffers::check_everywhere;
+use perf_base::config::ParseConfig;
+use perf_base::endian::{Big, Dynamic, Endian, Little, Native};
+use perf_base::error::{ErrorKind, ParseError, ParseResult};
+use perf_base::sys::perf_event_header;
+use perf_event_data::parse::Parser;
+use perf_event_data::{RunEnd, read_records};
+use std::process::Abort;
+use std::test::Fail;
+
+// Every number of two bytes is 8. The others have their lowest byte first.
+#[derive(Copy, Clone)]
+struct Eights;
+
+impl Endian for Eights {
+    ghost order = { λ _. record { two = λ _. 8; four = from_le_bytes w32; eight = from_le_bytes w64 } };
+
+    ghost may_refuse = { λ _. false };
+
+    fn convert_u16(&self, _bytes: [u8; 2]) -> u16 {
+        8
+    }
+
+    fn convert_u32(&self, bytes: [u8; 4]) -> u32 {
+        u32::from_le_bytes(bytes)
+    }
+
+    fn convert_u64(&self, bytes: [u8; 8]) -> u64 {
+        u64::from_le_bytes(bytes)
+    }
+
+    fn duplicate(&self) -> ParseResult<Self> {
+        Ok(*self)
+    }
+}
+
+// Words of two bytes, the highest word first, each with its low byte first.
+#[derive(Copy, Clone)]
+struct Words;
+
+impl Endian for Words {
+    ghost order = { λ _. record {
+      two = from_le_bytes w16;
+      four = λ b. from_le_bytes w32 (drop 2 b ++ take 2 b);
+      eight = λ b. from_le_bytes w64 (drop 6 b ++ take 2 (drop 4 b) ++ take 2 (drop 2 b) ++ take 2 b);
+    } };
+
+    ghost may_refuse = { λ _. false };
+
+    fn convert_u16(&self, bytes: [u8; 2]) -> u16 {
+        u16::from_le_bytes(bytes)
+    }
+
+    fn convert_u32(&self, bytes: [u8; 4]) -> u32 {
+        let [b0, b1, b2, b3] = bytes;
+        u32::from_le_bytes([b2, b3, b0, b1])
+    }
+
+    fn convert_u64(&self, bytes: [u8; 8]) -> u64 {
+        let [b0, b1, b2, b3, b4, b5, b6, b7] = bytes;
+        u64::from_le_bytes([b6, b7, b4, b5, b2, b3, b0, b1])
+    }
+
+    fn duplicate(&self) -> ParseResult<Self> {
+        Ok(*self)
+    }
+}
+
+// The lowest byte first. There is never memory for a second one.
+#[derive(Copy, Clone)]
+struct Single;
+
+impl Endian for Single {
+    ghost order = { λ _. record { two = from_le_bytes w16; four = from_le_bytes w32; eight = from_le_bytes w64 } };
+
+    ghost may_refuse = { λ _. true };
+
+    fn convert_u16(&self, bytes: [u8; 2]) -> u16 {
+        u16::from_le_bytes(bytes)
+    }
+
+    fn convert_u32(&self, bytes: [u8; 4]) -> u32 {
+        u32::from_le_bytes(bytes)
+    }
+
+    fn convert_u64(&self, bytes: [u8; 8]) -> u64 {
+        u64::from_le_bytes(bytes)
+    }
+
+    fn duplicate(&self) -> ParseResult<Self> {
+        Err(ParseError::out_of_memory())
+    }
+}
+
+#[test]
+fn an_order_of_eights_has_frames_of_eight_bytes(rt: HostRuntime) -> Result<(), Fail> {
+    let want = "0 8 8 Unknown 0 []; 0 8 8 Unknown 0 []; done";
+    check_everywhere(&rt, rt.alloc(), &[0; 16], Eights, &[10], want)
+}
+
+#[test]
+fn an_order_of_words_reads_its_own_bytes(rt: HostRuntime) -> Result<(), Fail> {
+    let bytes = b"\0\0\x0D\0\0\0\x10\0\0\0\0\0\0\0\x05\0";
+    check_everywhere(
+        &rt,
+        rt.alloc(),
+        bytes,
+        Words,
+        &[10],
+        "13 0 16 LostSamples 5; done",
+    )
+}
+
+#[test]
+fn a_refused_duplicate_ends_the_run_behind_the_header(rt: HostRuntime) -> Result<(), Fail> {
+    let bytes = b"\x02\0\0\0\0\0\x07\0\x0D\0\0\0\0\0\x10\0\x05\0\0\0\0\0\0\0";
+
+    // The eight bytes of the second body are then the next header, whose size is 0.
+    let want = "2 0 7 InvalidRecord; fault OutOfMemory | 5 0 0 InvalidRecord; done";
+    check_everywhere(&rt, rt.alloc(), bytes, Single, &[10, 10], want)?;
+    let mut parser = Parser::new(
+        rt.alloc(),
+        &bytes[..],
+        ParseConfig::<Little>::default().with_endian(Single),
+    );
+    assert!(rt; matches!(read_records(&mut parser, 10).end, RunEnd::Fault(_)));
+    assert_eq!(rt; parser.parse_u64()?, 5);
+    let rest = parser.parse_rest()?;
+    assert!(rt; rest.is_empty());
+    Ok(())
+}
+
+#[test]
+fn a_refused_duplicate_refuses_the_configuration(rt: HostRuntime) {
+    let config = ParseConfig::<Little>::default().with_endian(Single);
+    let refused = config.duplicate().map_err(|error| error.kind());
+    assert!(rt; matches!(refused, Err(ErrorKind::OutOfMemory)));
+}
+
+// Asserts what an order makes of the bytes 1 to 8.
+fn check_order<E: Endian>(rt: &impl Abort, order: &E, two: u16, four: u32, eight: u64) {
+    assert_eq!(rt; order.convert_u16([1, 2]), two);
+    assert_eq!(rt; order.convert_u32([1, 2, 3, 4]), four);
+    assert_eq!(rt; order.convert_u64([1, 2, 3, 4, 5, 6, 7, 8]), eight);
+}
+
+#[test]
+fn orders_convert_as_they_are_named(rt: HostRuntime) {
+    check_order(&rt, &Little, 0x0201, 0x04030201, 0x0807060504030201);
+    check_order(&rt, &Native, 0x0201, 0x04030201, 0x0807060504030201);
+    check_order(
+        &rt,
+        &Dynamic::Little,
+        0x0201,
+        0x04030201,
+        0x0807060504030201,
+    );
+    check_order(&rt, &Big, 0x0102, 0x01020304, 0x0102030405060708);
+    check_order(&rt, &Dynamic::Big, 0x0102, 0x01020304, 0x0102030405060708);
+    check_order(&rt, &Words, 0x0201, 0x02010403, 0x0201040306050807);
+}
+
+#[test]
+fn the_little_orders_are_native(rt: HostRuntime) {
+    assert!(rt; Native.is_native() && Little.is_native() && Dynamic::Little.is_native());
+    assert!(rt; !Big.is_native() && !Dynamic::Big.is_native());
+    assert!(rt; !Eights.is_native() && !Words.is_native() && !Single.is_native());
+}
+
+#[test]
+fn a_configuration_keeps_its_order(rt: HostRuntime) -> Result<(), Fail> {
+    let config = ParseConfig::<Native>::default().with_endian(Dynamic::Big);
+    assert_eq!(rt; *config.endian(), Dynamic::Big);
+    assert_eq!(rt; *config.duplicate()?.endian(), Dynamic::Big);
+    let mut parser = Parser::new(rt.alloc(), &b"\0\0\0\x0D\0\x01\0\x10"[..], config);
+    assert_eq!(rt; *parser.endian(), Dynamic::Big);
+    assert_eq!(rt; *parser.config().endian(), Dynamic::Big);
+    let header = parser.parse::<perf_event_header>()?;
+    assert_eq!(rt; (header.type_, header.misc, header.size), (13, 1, 16));
+    Ok(())
+}

@@ -1,0 +1,187 @@
+//! Whole streams.
+
+use crate::buffers::check_everywhere;
+use perf_event_data::endian::{Big, Dynamic, Little, Native};
+use perf_event_data::parse::{ParseBuf, ParseConfig, Parser};
+use perf_event_data::{CowSlice, PieceBuf, Record, RunEnd, read_records};
+use std::alloc::Global;
+use std::io::BufReader;
+use std::process::Abort;
+use std::test::Fail;
+
+#[test]
+fn an_empty_input_is_done_and_three_bytes_are_a_cut_header(rt: HostRuntime) -> Result<(), Fail> {
+    check_everywhere(&rt, rt.alloc(), b"", Little, &[10], "done")?;
+    check_everywhere(
+        &rt,
+        rt.alloc(),
+        b"\x0D\0\0",
+        Little,
+        &[10, 10],
+        "cut | done",
+    )
+}
+
+#[test]
+fn a_size_of_seven_costs_one_answer(rt: HostRuntime) -> Result<(), Fail> {
+    let bytes = b"\x02\0\0\0\0\0\x07\0\x0D\0\0\0\0\0\x10\0\x05\0\0\0\0\0\0\0";
+    let want = "2 0 7 InvalidRecord; 13 0 16 LostSamples 5; done";
+    check_everywhere(&rt, rt.alloc(), bytes, Little, &[10], want)
+}
+
+#[test]
+fn a_short_body_costs_one_answer(rt: HostRuntime) -> Result<(), Fail> {
+    let bytes = b"\x02\0\0\0\0\0\x10\0\x01\0\0\0\0\0\0\0\x0D\0\0\0\0\0\x10\0\x05\0\0\0\0\0\0\0";
+    let want = "2 0 16 Eof; 13 0 16 LostSamples 5; done";
+    check_everywhere(&rt, rt.alloc(), bytes, Little, &[10], want)
+}
+
+#[test]
+fn an_unfinished_frame_is_listed_as_eof(rt: HostRuntime) -> Result<(), Fail> {
+    let bytes = b"\x0D\0\0\0\0\0\x18\0\x05\0\0\0\0\0\0\0";
+    check_everywhere(&rt, rt.alloc(), bytes, Little, &[10], "13 0 24 Eof; done")
+}
+
+#[test]
+fn other_types_are_unknown(rt: HostRuntime) -> Result<(), Fail> {
+    let bytes = b"\0\0\0\0\0\0\x08\0\x16\0\0\0\0\0\x08\0";
+    let want = "0 0 8 Unknown 0 []; 22 0 8 Unknown 22 []; done";
+    check_everywhere(&rt, rt.alloc(), bytes, Little, &[10], want)
+}
+
+#[test]
+fn unknown_bytes_are_borrowed_over_a_slice(rt: HostRuntime) {
+    let bytes: &[u8] = b"\0\0\0\0\0\0\x08\0\x16\0\0\0\0\0\x0A\0\x01\x02";
+    let mut parser = Parser::new(rt.alloc(), bytes, ParseConfig::<Little>::default());
+    let run = read_records(&mut parser, 10);
+    assert_eq!(rt; run.frames.len(), 2);
+    for (_, answer) in run.frames.iter() {
+        assert!(rt;
+            matches!(
+                answer,
+                Ok(Record::Unknown {
+                    bytes: CowSlice::Borrowed(_),
+                    ..
+                })
+            )
+        );
+    }
+}
+
+#[test]
+fn a_limit_stops_before_anything_is_read(rt: HostRuntime) -> Result<(), Fail> {
+    let bytes = b"\x0D\0\0\0\0\0\x10\0\x05\0\0\0\0\0\0\0\x0D\0\0\0\0\0\x10\0\x06\0\0\0\0\0\0\0";
+    let want = "limit | 13 0 16 LostSamples 5; 13 0 16 LostSamples 6; done";
+    check_everywhere(&rt, rt.alloc(), bytes, Little, &[0, 10], want)?;
+    let want = "13 0 16 LostSamples 5; limit | 13 0 16 LostSamples 6; limit | done";
+    check_everywhere(&rt, rt.alloc(), bytes, Little, &[1, 1, 1], want)
+}
+
+#[test]
+fn every_order_reads_its_own_bytes(rt: HostRuntime) -> Result<(), Fail> {
+    let want = "13 0 16 LostSamples 5; done";
+    let little = b"\x0D\0\0\0\0\0\x10\0\x05\0\0\0\0\0\0\0";
+    check_everywhere(&rt, rt.alloc(), little, Little, &[10], want)?;
+    check_everywhere(&rt, rt.alloc(), little, Native, &[10], want)?;
+    check_everywhere(&rt, rt.alloc(), little, Dynamic::Little, &[10], want)?;
+    let big = b"\0\0\0\x0D\0\0\0\x10\0\0\0\0\0\0\0\x05";
+    check_everywhere(&rt, rt.alloc(), big, Big, &[10], want)?;
+    check_everywhere(&rt, rt.alloc(), big, Dynamic::Big, &[10], want)
+}
+
+#[test]
+fn exit_and_fork_have_one_layout(rt: HostRuntime) -> Result<(), Fail> {
+    let exit =
+        b"\x04\0\0\0\0\0\x20\0\x10\x10\0\0\0\x05\0\0\x01\0\0\0\x02\0\0\0\x03\0\0\0\x04\0\0\0";
+    let want = "4 0 32 Exit 4112 1280 1 2 17179869187; done";
+    check_everywhere(&rt, rt.alloc(), exit, Little, &[10], want)?;
+    let fork =
+        b"\x07\0\0\0\0\0\x20\0\x10\x10\0\0\0\x05\0\0\x01\0\0\0\x02\0\0\0\x03\0\0\0\x04\0\0\0";
+    let want = "7 0 32 Fork 4112 1280 1 2 17179869187; done";
+    check_everywhere(&rt, rt.alloc(), fork, Little, &[10], want)
+}
+
+#[test]
+fn the_misc_and_the_bytes_behind_a_record_do_not_matter(rt: HostRuntime) -> Result<(), Fail> {
+    let bytes =
+        b"\x0D\0\0\0\x02\x01\x13\0\x05\0\0\0\0\0\0\0\xAA\xBB\xCC\x16\0\0\0\0\0\x0A\0\xAA\xBB";
+    let want = "13 258 19 LostSamples 5; 22 0 10 Unknown 22 [170, 187]; done";
+    check_everywhere(&rt, rt.alloc(), bytes, Little, &[10], want)
+}
+
+#[test]
+fn an_early_end_is_listed_as_eof_whatever_the_size_says(rt: HostRuntime) -> Result<(), Fail> {
+    for (bytes, want) in [
+        (b"\0\0\0\0\0\0\0\0".as_slice(), "0 0 0 InvalidRecord; done"),
+        (b"\x16\0\0\0\0\0\xFF\xFF".as_slice(), "22 0 65535 Eof; done"),
+        (
+            [9, 0, 0, 0, 0, 251, 85, 182, 246].as_slice(),
+            "9 64256 46677 Eof; done",
+        ),
+        (
+            [16, 0, 0, 0, 0, 180, 8, 69, 86, 81, 0, 180, 180, 8].as_slice(),
+            "16 46080 17672 Eof; done",
+        ),
+    ] {
+        check_everywhere(&rt, rt.alloc(), bytes, Little, &[10], want)?;
+    }
+    Ok(())
+}
+
+#[test]
+fn a_claimed_size_past_the_end_takes_all_that_is_left(rt: HostRuntime) -> Result<(), Fail> {
+    for (header, want) in [
+        (
+            [255, 255, 255, 255, 255, 255, 255, 255],
+            "4294967295 65535 65535 Eof; done",
+        ),
+        (
+            [255, 255, 255, 1, 0, 0, 0, 255],
+            "33554431 0 65280 Eof; done",
+        ),
+        (
+            [0, 115, 115, 122, 115, 115, 115, 255],
+            "2054386432 29555 65395 Eof; done",
+        ),
+        (
+            [0, 0, 0, 115, 16, 115, 123, 255],
+            "1929379840 29456 65403 Eof; done",
+        ),
+    ] {
+        let mut bytes = header.to_vec(rt.alloc())?;
+        bytes.resize(108, 115)?;
+        check_everywhere(&rt, rt.alloc(), bytes.as_slice(), Little, &[10], want)?;
+    }
+    Ok(())
+}
+
+// A frame of type 22 of the greatest size, whose body is all `AB`.
+fn check_large<'p, B: ParseBuf<'p> + Drop>(rt: &impl Abort, alloc: Global, buf: B) {
+    let mut parser = Parser::new(alloc, buf, ParseConfig::<Little>::default());
+    let run = read_records(&mut parser, 10);
+    assert!(rt; matches!(run.end, RunEnd::Done));
+    assert_eq!(rt; run.frames.len(), 1);
+    let (header, answer) = &run.frames[0];
+    assert_eq!(rt; (header.type_, header.misc, header.size), (22, 0, 65535));
+    let Ok(Record::Unknown { ty, bytes }) = answer else {
+        panic!(rt; "not unknown");
+    };
+    assert_eq!(rt; *ty, 22);
+    assert_eq!(rt; bytes.len(), 65527);
+    assert!(rt; bytes.as_slice().iter().all(|byte| *byte == 0xAB));
+}
+
+#[test]
+fn a_frame_of_the_greatest_size_is_read_whole(rt: HostRuntime) -> Result<(), Fail> {
+    let mut bytes = b"\x16\0\0\0\0\0\xFF\xFF".to_vec(rt.alloc())?;
+    bytes.resize(65535, 0xAB)?;
+    let bytes = bytes.as_slice();
+    check_large(&rt, rt.alloc(), bytes);
+    check_large(
+        &rt,
+        rt.alloc(),
+        BufReader::with_capacity(rt.alloc(), 8192, bytes)?,
+    );
+    check_large(&rt, rt.alloc(), PieceBuf::new(bytes, 1, false));
+    Ok(())
+}
