@@ -1,13 +1,13 @@
 -- What a call of a parser answers and leaves, and four things that every call keeps.
 use Rattle.std.specs.Prelude.{Option, Result, ◌≡◌, ℕ, ◌+◌, ◌-◌, ◌≤◌, Bool, true, false, IsTrue, List, length, drop, Ok, Err, Some, None}
 use Rattle.perf_base.specs.Configuration.{Configuration}
-use Rattle.perf_base.specs.Layout.{Shape, Answer, Parts}
+use Rattle.perf_base.specs.Layout.{Width, Shape, number, Answer, Parts}
 use Rattle.perf_base.specs.Run.{Ran, ran, stopped, one, by_places}
 use Rattle.perf_base.specs.Errors.{kind_of}
 use Rattle.perf_base.specs.declared.error.ErrorKind.{ErrorKind}
 use Rattle.perf_base.specs.declared.error.ErrorKind.TheVariants.{Eof, InvalidRecord, UnsupportedConfig, UnsupportedData, External, OutOfMemory}
 use Rattle.perf_base.specs.declared.error.ParseError.{ParseError}
-use Rattle.perf_event_data.specs.Buffer.{Stays}
+use Rattle.perf_event_data.specs.Buffer.{NeedsNoMemory, Stays}
 use Rattle.perf_event_data.specs.Meaning.{Meaning}
 
 -- ---- what is answered
@@ -34,6 +34,10 @@ Reads parts view old result new = Gives view (by_places old.order (parts old.set
 -- the same of a single part
 abbrev pub ReadsOne : {X : Type 0} → (shape : Shape) → (X → Answer shape) → Meaning → Result X ParseError → Meaning → Type 0
 ReadsOne shape view old result new = Gives view (one old.order shape old.source.left) result new.source.left
+
+-- the same of a number, for which no memory is taken
+abbrev pub ReadsNumber : Width → Meaning → Result ℕ ParseError → Meaning → Type 0
+ReadsNumber w old result new = ReadsOne (number w) (λ n. n) old result new × NeedsNoMemory result
 
 -- ---- what is kept
 

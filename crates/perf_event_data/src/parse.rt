@@ -3,13 +3,13 @@
 ghost use Rattle.std.specs.Prelude.{◌≡◌, ℕ, List, IsTrue, Result};
 ghost use Rattle.perf_base.specs.Configuration.{Configuration};
 ghost use Rattle.perf_base.specs.Configured.{configuration_of, endian_of};
-ghost use Rattle.perf_base.specs.Layout.{number, w1, w2, w4, w8};
+ghost use Rattle.perf_base.specs.Layout.{w1, w2, w4, w8};
 ghost use Rattle.perf_base.specs.Order.{Order};
 ghost use Rattle.perf_base.specs.declared.error.ParseError.{ParseError as Refusal};
 ghost use Rattle.perf_event_data.specs.Answers.{body_length};
 ghost use Rattle.perf_event_data.specs.Buffer.{refusal};
 ghost use Rattle.perf_event_data.specs.Meaning.{Meaning, buffer_of, config_of, meaning};
-ghost use Rattle.perf_event_data.specs.Reading.{ReadsOne, KeepsBuffer, KeepsFaults, KeepsCost, KeepsPlace};
+ghost use Rattle.perf_event_data.specs.Reading.{ReadsNumber, KeepsBuffer, KeepsFaults, KeepsCost, KeepsPlace};
 ghost use Rattle.perf_event_data.specs.Taking.{MovesWithin};
 ghost use Rattle.perf_base.specs.declared.sys.perf_event_header.{perf_event_header};
 
@@ -55,7 +55,7 @@ impl<'p, B: ParseBuf<'p>, E: Endian> Parser<B, E> {
 }
 
 impl Layout for u8 {
-    ghost parses = { ReadsOne (number w1) (λ n. n) };
+    ghost parses = { ReadsNumber w1 };
 }
 
 impl<'p, B: ParseBuf<'p>> Parse<'p, B> for u8 {
@@ -66,7 +66,7 @@ impl<'p, B: ParseBuf<'p>> Parse<'p, B> for u8 {
 }
 
 impl Layout for u16 {
-    ghost parses = { ReadsOne (number w2) (λ n. n) };
+    ghost parses = { ReadsNumber w2 };
 }
 
 impl<'p, B: ParseBuf<'p>> Parse<'p, B> for u16 {
@@ -77,7 +77,7 @@ impl<'p, B: ParseBuf<'p>> Parse<'p, B> for u16 {
 }
 
 impl Layout for u32 {
-    ghost parses = { ReadsOne (number w4) (λ n. n) };
+    ghost parses = { ReadsNumber w4 };
 }
 
 impl<'p, B: ParseBuf<'p>> Parse<'p, B> for u32 {
@@ -88,7 +88,7 @@ impl<'p, B: ParseBuf<'p>> Parse<'p, B> for u32 {
 }
 
 impl Layout for u64 {
-    ghost parses = { ReadsOne (number w8) (λ n. n) };
+    ghost parses = { ReadsNumber w8 };
 }
 
 impl<'p, B: ParseBuf<'p>> Parse<'p, B> for u64 {
