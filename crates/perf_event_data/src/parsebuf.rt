@@ -99,6 +99,22 @@ fn fault_of(error: io::Error) -> ParseError
     ParseError::new(anyhow::Error::from(error))
 }
 
+// Reads ahead. Nothing that was read before is left to take.
+#[inline(never)]
+fn read_more<R: Read>(reader: &mut BufReader<R>) -> ParseResult<()>
+    ensures some { OnOk result (0 < length (reader_buffer reader.new)) }
+    ensures kept { IsTrue (is_known (reader_remaining R.remaining reader.old)) → reader_remaining R.remaining reader.new ≡ reader_remaining R.remaining reader.old }
+    ensures refuses { IfErr result (λ e. RefusesReader (reader_remaining R.remaining reader.old) (kind_of e)) }
+{
+    if let Err(error) = reader.fill_buf() {
+        return Err(fault_of(error));
+    }
+    if reader.buffer().is_empty() {
+        return Err(ParseError::eof());
+    }
+    Ok(())
+}
+
 // Reads ahead where nothing is read and not yet taken.
 #[inline]
 fn read_ahead<R: Read>(reader: &mut BufReader<R>) -> ParseResult<()>
@@ -110,13 +126,7 @@ fn read_ahead<R: Read>(reader: &mut BufReader<R>) -> ParseResult<()>
     if !reader.buffer().is_empty() {
         return Ok(());
     }
-    if let Err(error) = reader.fill_buf() {
-        return Err(fault_of(error));
-    }
-    if reader.buffer().is_empty() {
-        return Err(ParseError::eof());
-    }
-    Ok(())
+    read_more(reader)
 }
 
 /// Every fault of the reader is `External`, also where the reader calls it an interruption or an early end.
