@@ -29,8 +29,8 @@ fn tell_record(text: &mut String, record: &Record<'_>) -> Result<(), AllocError>
     }
 }
 
-/// Writes each frame of a run as `type misc size answer; `, and then how the run ended.
-pub fn tell_run(text: &mut String, run: &Run<'_>) -> Result<(), AllocError> {
+// Writes each frame of a run as `type misc size answer; `, and then how the run ended.
+fn tell_run(text: &mut String, run: &Run<'_>) -> Result<(), AllocError> {
     for (header, answer) in run.frames.iter() {
         write!(text, "{} {} {} ", header.type_, header.misc, header.size)?;
         match answer {

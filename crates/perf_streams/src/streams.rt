@@ -110,7 +110,7 @@ fn the_misc_and_the_bytes_behind_a_record_do_not_matter(rt: HostRuntime) -> Resu
 }
 
 #[test]
-fn an_early_end_is_listed_as_eof_whatever_the_size_says(rt: HostRuntime) -> Result<(), Fail> {
+fn a_false_size_costs_one_answer(rt: HostRuntime) -> Result<(), Fail> {
     for (bytes, want) in [
         (b"\0\0\0\0\0\0\0\0".as_slice(), "0 0 0 InvalidRecord; done"),
         (b"\x16\0\0\0\0\0\xFF\xFF".as_slice(), "22 0 65535 Eof; done"),
