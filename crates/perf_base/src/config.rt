@@ -48,7 +48,7 @@ impl<E: Endian> ParseConfig<E> {
     #[inline]
     pub fn duplicate(&self) -> ParseResult<ParseConfig<E>>
         ensures same { IfOk result (λ c. configuration_of c ≡ configuration_of self.now) }
-        ensures order { IfOk result (λ c. E.order (endian_of c) ≡ E.order (endian_of self.now)) }
+        ensures order { IfOk result (λ c. (E.order (endian_of c) ≡ E.order (endian_of self.now)) × (E.may_refuse (endian_of c) ≡ E.may_refuse (endian_of self.now))) }
         ensures refused { IfErr result (λ e. (kind_of e ≡ ErrorKind.OutOfMemory) × IsTrue (E.may_refuse (endian_of self.now))) }
     {
         Ok(ParseConfig {

@@ -1,5 +1,5 @@
 -- When room for n bytes is made before the first of them is taken.
-use Rattle.std.specs.Prelude.{ℕ, Bool, true, false, Option, Some, None, nat_le, nat_lt}
+use Rattle.std.specs.Prelude.{ℕ, Bool, true, false, Option, Some, None, nat_le, nat_lt, min}
 
 -- the buffer says that it has fewer than n
 abbrev pub falls_short : Option ℕ → ℕ → Bool
@@ -15,3 +15,8 @@ is_made_beforehand (Some left) n = nat_le n left
 abbrev pub makes_all_room : Bool → ℕ → Bool
 makes_all_room true n = true
 makes_all_room false n = nat_le n 16384
+
+-- The room that is made first: all of it, or no more than 16,384 bytes where the buffer does not say what it has.
+abbrev pub room_made : Bool → ℕ → ℕ
+room_made true n = n
+room_made false n = min n 16384

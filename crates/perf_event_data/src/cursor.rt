@@ -4,7 +4,7 @@ ghost use Rattle.std.specs.Prelude.{◌≡◌, ◌≢◌, ℕ, ◌+◌, ◌<◌,
 ghost use Rattle.perf_base.specs.Errors.{kind_of};
 ghost use Rattle.perf_event_data.specs.Buffer.{NeedsNoMemory, Source, Stays, refusal};
 ghost use Rattle.perf_event_data.specs.Taking.{Takes, FailsToTake, FailsToKeep, CanFail};
-ghost use Rattle.perf_event_data.specs.Room.{falls_short, is_made_beforehand, makes_all_room};
+ghost use Rattle.perf_event_data.specs.Room.{falls_short, is_made_beforehand, makes_all_room, room_made};
 
 use crate::parsebuf::{ParseBuf, ParseBufChunk};
 use perf_base::cow::CowSlice;
@@ -204,6 +204,14 @@ fn shortage<'p, B: ParseBuf<'p>>(buf: &mut B, len: usize) -> ParseError
         Ok(()) => ParseError::eof(),
         Err(error) => error,
     }
+}
+
+// How much room is made before the first byte is taken.
+#[inline]
+fn first_room(hinted: bool, len: usize) -> usize
+    ensures { result ≡ room_made hinted len }
+{
+    if hinted { len } else { len.min(UNHINTED_ROOM) }
 }
 
 // The next `len` bytes, copied.

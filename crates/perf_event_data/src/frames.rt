@@ -7,7 +7,7 @@ ghost use Rattle.perf_base.specs.Errors.{kind_of};
 ghost use Rattle.perf_base.specs.Layout.{layout};
 ghost use Rattle.perf_records.specs.Records.{record_value, body, IsBorrowed};
 ghost use Rattle.perf_event_data.specs.Answers.{body_length, FailsToCut, Says, SaysBehind, ParsesRecord};
-ghost use Rattle.perf_event_data.specs.Buffer.{refusal, Stays};
+ghost use Rattle.perf_event_data.specs.Buffer.{NeedsNoMemory, refusal, Stays};
 ghost use Rattle.perf_event_data.specs.Cursor.{cursor_left, cursor_lent};
 ghost use Rattle.perf_event_data.specs.Meaning.{buffer_of, config_of, reads_of, meaning};
 ghost use Rattle.perf_event_data.specs.Reading.{Reads as ReadsLayout, KeepsBuffer, KeepsFaults, KeepsCost, KeepsPlace, is_external, one_if_refused};
@@ -51,6 +51,7 @@ impl<'p, B: ParseBuf<'p>, E: Endian> Parser<B, E> {
         ensures can_fail { CanFail (B.source (buffer_of self.old)) (refusal result) }
         ensures inner { IfOk result (λ p. (configuration_of p.config ≡ configuration_of (config_of self.old)) × (E.order (endian_of p.config) ≡ E.order (endian_of (config_of self.old))) × (p.reads ≡ 0)) }
         ensures whole { IsTrue (B.source (buffer_of self.old)).whole → IfOk result (λ p. IsTrue (cursor_lent p.buf)) }
+        ensures whole_memory { IsTrue (B.source (buffer_of self.old)).whole → E.may_refuse (endian_of (config_of self.old)) ≡ false → NeedsNoMemory result }
         ensures ok { IsTrue (B.source (buffer_of self.old)).told → IfOk result (λ p. (8 ≤ header.size) × Takes (B.source (buffer_of self.old)) (body_length header) (B.source (buffer_of self.new))
             × (cursor_left p.buf ≡ take (body_length header) (B.source (buffer_of self.old)).left)) }
         ensures err { IsTrue (B.source (buffer_of self.old)).told → IfErr result (λ e. FailsToCut (B.source (buffer_of self.old)) header (kind_of e) (B.source (buffer_of self.new))) }
@@ -78,6 +79,7 @@ fn parse_body<'p, B: ParseBuf<'p>, E: Endian>(
     ensures config { config_of parser.new ≡ config_of parser.old }
     ensures answer { IsTrue (B.source (buffer_of parser.old)).told → ReadsLayout (λ c. body c ty) record_value (meaning B.source E.order parser.old) result (meaning B.source E.order parser.new) }
     ensures borrowed { IsTrue (B.source (buffer_of parser.old)).whole → IsTrue (B.source (buffer_of parser.old)).told → IfOk result (λ r. IsBorrowed r) }
+    ensures whole_memory { IsTrue (B.source (buffer_of parser.old)).whole → IsTrue (B.source (buffer_of parser.old)).told → NeedsNoMemory result }
     ensures keeps { KeepsBuffer (meaning B.source E.order parser.old) (refusal result) (meaning B.source E.order parser.new) }
     ensures faults { KeepsFaults (meaning B.source E.order parser.old) (refusal result) }
     ensures cost { KeepsCost (meaning B.source E.order parser.old) (refusal result) (meaning B.source E.order parser.new) }
@@ -113,6 +115,7 @@ impl<'p, E: Endian> Parser<ParseBufCursor<'p>, E> {
     fn finish(self, ty: u32) -> (ParseResult<Record<'p>>, Reads)
         ensures answer { Says (layout (E.order (endian_of (config_of self.entry))) (body (configuration_of (config_of self.entry)) ty) (cursor_left (buffer_of self.entry))) result.0 }
         ensures borrowed { IsTrue (cursor_lent (buffer_of self.entry)) → IfOk result.0 (λ r. IsBorrowed r) }
+        ensures whole_memory { IsTrue (cursor_lent (buffer_of self.entry)) → NeedsNoMemory result.0 }
         ensures faults { is_external (refusal result.0) ≡ false }
         ensures cost { result.1 ≤ (reads_of self.entry) + length (cursor_left (buffer_of self.entry)) + one_if_refused (refusal result.0) }
     {
@@ -157,6 +160,7 @@ impl<'p, B: ParseBuf<'p>> ParseRecord<'p, B> for Record<'p> {
         ensures answer { IsTrue (B.source (buffer_of parser.old)).told → SaysBehind (configuration_of (config_of parser.old)) (E.order (endian_of (config_of parser.old))) header (B.source (buffer_of parser.old)).left result (B.source (buffer_of parser.new)).left }
         ensures within { IsTrue (B.source (buffer_of parser.old)).told → MovesWithin (B.source (buffer_of parser.old)) (body_length header) (B.source (buffer_of parser.new)) }
         ensures borrowed { IsTrue (B.source (buffer_of parser.old)).whole → IfOk result (λ r. IsBorrowed r) }
+        ensures whole_memory { IsTrue (B.source (buffer_of parser.old)).whole → E.may_refuse (endian_of (config_of parser.old)) ≡ false → NeedsNoMemory result }
         ensures keeps { KeepsBuffer (meaning B.source E.order parser.old) (refusal result) (meaning B.source E.order parser.new) }
         ensures faults { KeepsFaults (meaning B.source E.order parser.old) (refusal result) }
         ensures cost { KeepsCost (meaning B.source E.order parser.old) (refusal result) (meaning B.source E.order parser.new) }

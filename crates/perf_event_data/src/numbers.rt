@@ -1,10 +1,10 @@
 //! Elementary reads of a parser: numbers.
 #![tactic(auto, using(crate::proofs::Paying::lasts, crate::proofs::Steps::number_there, crate::proofs::Steps::number_short))]
 
-ghost use Rattle.std.specs.Prelude.{◌≡◌, IsTrue};
+ghost use Rattle.std.specs.Prelude.{◌≡◌, ◌+◌, IsTrue};
 ghost use Rattle.perf_base.specs.Layout.{number, w1, w2, w4, w8};
 ghost use Rattle.perf_event_data.specs.Buffer.{NeedsNoMemory, refusal};
-ghost use Rattle.perf_event_data.specs.Meaning.{buffer_of, config_of, meaning};
+ghost use Rattle.perf_event_data.specs.Meaning.{buffer_of, config_of, reads_of, meaning};
 ghost use Rattle.perf_event_data.specs.Reading.{ReadsOne, KeepsBuffer, KeepsFaults, KeepsCost, KeepsPlace};
 
 use crate::fill::take_array;
@@ -19,6 +19,7 @@ impl<'p, B: ParseBuf<'p>, E: Endian> Parser<B, E> {
     pub fn parse_u8(&mut self) -> ParseResult<u8>
         ensures config { config_of self.new ≡ config_of self.old }
         ensures memory { NeedsNoMemory result }
+        ensures counted { reads_of self.new ≡ reads_of self.old + 1 }
         ensures answer { IsTrue (B.source (buffer_of self.old)).told → ReadsOne (number w1) (λ n. n) (meaning B.source E.order self.old) result (meaning B.source E.order self.new) }
         ensures keeps { KeepsBuffer (meaning B.source E.order self.old) (refusal result) (meaning B.source E.order self.new) }
         ensures faults { KeepsFaults (meaning B.source E.order self.old) (refusal result) }
@@ -35,6 +36,7 @@ impl<'p, B: ParseBuf<'p>, E: Endian> Parser<B, E> {
     pub fn parse_u16(&mut self) -> ParseResult<u16>
         ensures config { config_of self.new ≡ config_of self.old }
         ensures memory { NeedsNoMemory result }
+        ensures counted { reads_of self.new ≡ reads_of self.old + 1 }
         ensures answer { IsTrue (B.source (buffer_of self.old)).told → ReadsOne (number w2) (λ n. n) (meaning B.source E.order self.old) result (meaning B.source E.order self.new) }
         ensures keeps { KeepsBuffer (meaning B.source E.order self.old) (refusal result) (meaning B.source E.order self.new) }
         ensures faults { KeepsFaults (meaning B.source E.order self.old) (refusal result) }
@@ -51,6 +53,7 @@ impl<'p, B: ParseBuf<'p>, E: Endian> Parser<B, E> {
     pub fn parse_u32(&mut self) -> ParseResult<u32>
         ensures config { config_of self.new ≡ config_of self.old }
         ensures memory { NeedsNoMemory result }
+        ensures counted { reads_of self.new ≡ reads_of self.old + 1 }
         ensures answer { IsTrue (B.source (buffer_of self.old)).told → ReadsOne (number w4) (λ n. n) (meaning B.source E.order self.old) result (meaning B.source E.order self.new) }
         ensures keeps { KeepsBuffer (meaning B.source E.order self.old) (refusal result) (meaning B.source E.order self.new) }
         ensures faults { KeepsFaults (meaning B.source E.order self.old) (refusal result) }
@@ -67,6 +70,7 @@ impl<'p, B: ParseBuf<'p>, E: Endian> Parser<B, E> {
     pub fn parse_u64(&mut self) -> ParseResult<u64>
         ensures config { config_of self.new ≡ config_of self.old }
         ensures memory { NeedsNoMemory result }
+        ensures counted { reads_of self.new ≡ reads_of self.old + 1 }
         ensures answer { IsTrue (B.source (buffer_of self.old)).told → ReadsOne (number w8) (λ n. n) (meaning B.source E.order self.old) result (meaning B.source E.order self.new) }
         ensures keeps { KeepsBuffer (meaning B.source E.order self.old) (refusal result) (meaning B.source E.order self.new) }
         ensures faults { KeepsFaults (meaning B.source E.order self.old) (refusal result) }

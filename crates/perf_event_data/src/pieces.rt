@@ -15,6 +15,7 @@ pub struct PieceBuf<'p> {
 }
 
 impl<'p> PieceBuf<'p> {
+    ghost use Rattle.perf_event_data.specs.Buffer.{chunk_bytes, lasts};
     ghost use Rattle.perf_event_data.specs.Pieces.{piece_bytes, piece_most, piece_lasting};
 
     /// Pieces of at most `most` bytes of the slice. They last as long as the slice where `lasting` says so, and else
@@ -31,6 +32,20 @@ impl<'p> PieceBuf<'p> {
             lasting,
         }
     }
+
+    // The next piece, which lasts where pieces do.
+    fn piece(&self) -> ParseBufChunk<'_, 'p>
+        ensures bytes { chunk_bytes result ≡ take (piece_most self.now) (piece_bytes self.now) }
+        ensures lasting { lasts result ≡ piece_lasting self.now }
+    {
+        let bytes = self.bytes;
+        let piece = &bytes[..self.most.min(bytes.len())];
+        if self.lasting {
+            ParseBufChunk::External(piece)
+        } else {
+            ParseBufChunk::Temporary(piece)
+        }
+    }
 }
 
 impl<'p> ParseBuf<'p> for PieceBuf<'p> {
@@ -44,13 +59,7 @@ impl<'p> ParseBuf<'p> for PieceBuf<'p> {
         if self.bytes.is_empty() {
             return Err(ParseError::eof());
         }
-        let bytes = self.bytes;
-        let piece = &bytes[..self.most.min(bytes.len())];
-        if self.lasting {
-            Ok(ParseBufChunk::External(piece))
-        } else {
-            Ok(ParseBufChunk::Temporary(piece))
-        }
+        Ok(self.piece())
     }
 
     fn advance(&mut self, count: usize) {

@@ -34,7 +34,7 @@ impl<'p, B: ParseBuf<'p>> Parse<'p, B> for perf_event_header {
 }
 
 impl Layout for Exit {
-    ghost parses = { Reads (λ _. exit) (λ r. r) };
+    ghost parses = { λ old result new. Reads (λ _. exit) (λ r. r) old result new × NeedsNoMemory result };
 }
 
 impl<'p, B: ParseBuf<'p>> Parse<'p, B> for Exit {
@@ -51,7 +51,7 @@ impl<'p, B: ParseBuf<'p>> Parse<'p, B> for Exit {
 }
 
 impl Layout for Lost {
-    ghost parses = { Reads (λ _. lost) (λ r. r) };
+    ghost parses = { λ old result new. Reads (λ _. lost) (λ r. r) old result new × NeedsNoMemory result };
 }
 
 impl<'p, B: ParseBuf<'p>> Parse<'p, B> for Lost {
@@ -65,7 +65,7 @@ impl<'p, B: ParseBuf<'p>> Parse<'p, B> for Lost {
 }
 
 impl Layout for LostSamples {
-    ghost parses = { Reads (λ _. lost_samples) (λ r. r) };
+    ghost parses = { λ old result new. Reads (λ _. lost_samples) (λ r. r) old result new × NeedsNoMemory result };
 }
 
 impl<'p, B: ParseBuf<'p>> Parse<'p, B> for LostSamples {

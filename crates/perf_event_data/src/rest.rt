@@ -1,12 +1,13 @@
 //! All that is left in a buffer.
 #![tactic(auto, using(crate::proofs::Paying::lasts))]
 
-ghost use Rattle.std.specs.Prelude.{◌≡◌, ℕ, length, take, IsTrue, IfOk, IfErr, [], ◌++◌, OnOk};
+ghost use Rattle.std.specs.Prelude.{◌≡◌, ◌+◌, ℕ, length, take, IsTrue, IfOk, IfErr, [], ◌++◌, OnOk};
 ghost use Rattle.perf_base.specs.Cow.{cow_items, is_borrowed};
 ghost use Rattle.perf_base.specs.Errors.{kind_of};
 ghost use Rattle.perf_base.specs.Layout.{rest};
+ghost use Rattle.perf_base.specs.Reads.{one_if_any};
 ghost use Rattle.perf_event_data.specs.Buffer.{NeedsNoMemory, refusal, Stays};
-ghost use Rattle.perf_event_data.specs.Meaning.{buffer_of, config_of, meaning};
+ghost use Rattle.perf_event_data.specs.Meaning.{buffer_of, config_of, reads_of, meaning};
 ghost use Rattle.perf_event_data.specs.Reading.{ReadsOne, KeepsBuffer, KeepsFaults, KeepsCost, KeepsPlace};
 ghost use Rattle.perf_event_data.specs.Taking.{Takes, FailsInRest, CanFail, AppendsSome};
 
@@ -145,6 +146,7 @@ impl<'p, B: ParseBuf<'p>, E: Endian> Parser<B, E> {
         ensures config { config_of self.new ≡ config_of self.old }
         ensures whole { IsTrue (B.source (buffer_of self.old)).whole → IsTrue (B.source (buffer_of self.old)).told → IfOk result (λ c. IsTrue (is_borrowed c)) }
         ensures whole_memory { IsTrue (B.source (buffer_of self.old)).whole → IsTrue (B.source (buffer_of self.old)).told → NeedsNoMemory result }
+        ensures counted { IfOk result (λ c. reads_of self.new ≡ reads_of self.old + one_if_any (length (cow_items c))) }
         ensures answer { IsTrue (B.source (buffer_of self.old)).told → ReadsOne rest cow_items (meaning B.source E.order self.old) result (meaning B.source E.order self.new) }
         ensures keeps { KeepsBuffer (meaning B.source E.order self.old) (refusal result) (meaning B.source E.order self.new) }
         ensures faults { KeepsFaults (meaning B.source E.order self.old) (refusal result) }
