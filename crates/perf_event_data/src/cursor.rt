@@ -228,7 +228,7 @@ fn copy<'p, B: ParseBuf<'p>>(
     ensures ok { IsTrue (B.source buf.old).told → IfOk result (λ v. Takes (B.source buf.old) len (B.source buf.new) × (v.items ≡ take len (B.source buf.old).left)) }
     ensures err { IsTrue (B.source buf.old).told → IfErr result (λ e. FailsToKeep (B.source buf.old) len (kind_of e) (B.source buf.new)) }
 {
-    let room = if hinted { len } else { len.min(UNHINTED_ROOM) };
+    let room = first_room(hinted, len);
     let mut bytes = match Vec::with_capacity(alloc, room) {
         Ok(bytes) => bytes,
         Err(_) => return Err(ParseError::out_of_memory()),
