@@ -1,0 +1,2 @@
+pub mod Contained
+pub mod Examples

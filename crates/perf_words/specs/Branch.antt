@@ -1,0 +1,34 @@
+-- A branch that the processor recorded, `struct perf_branch_entry` of perf_event.h: where it came from, where it went, and
+-- a word of bit fields. Bits from 24 on have no field here.
+use Rattle.std.specs.Prelude.{ℕ, Bool}
+use Rattle.perf_words.specs.Bits.{bit_field, has_bit}
+
+-- a branch by its three words
+pub record Branch : Type 0 where
+  pub from : ℕ
+  pub to : ℕ
+  pub word : ℕ
+
+-- it was predicted wrongly
+abbrev pub mispred_of : ℕ → Bool
+mispred_of word = has_bit word 0
+
+-- it was predicted rightly
+abbrev pub predicted_of : ℕ → Bool
+predicted_of word = has_bit word 1
+
+-- it happened in a memory transaction
+abbrev pub in_tx_of : ℕ → Bool
+in_tx_of word = has_bit word 2
+
+-- it was the abort of a memory transaction
+abbrev pub abort_of : ℕ → Bool
+abort_of word = has_bit word 3
+
+-- cycles since the branch before
+abbrev pub cycles_of : ℕ → ℕ
+cycles_of word = bit_field word 4 16
+
+-- what kind of branch it was
+abbrev pub type_of : ℕ → ℕ
+type_of word = bit_field word 20 4

@@ -1,0 +1,563 @@
+//! Where sampled data came from, and what a memory transaction did.
+
+ghost use Rattle.std.specs.Prelude.{◌≡◌, ⊤, ℕ};
+ghost use Rattle.perf_words.specs.Bits.{bit_field};
+ghost use Rattle.perf_words.specs.Sets.{mem_op_table, mem_level_table, mem_lock_table, mem_dtlb_table, mem_snoop_x_table, mem_blk_table, mem_snoop_table, txn_table};
+ghost use Rattle.perf_words.specs.DataSource.{mem_op_of, mem_lvl_of, mem_snoop_of, mem_lock_of, mem_dtlb_of, mem_lvl_num_of, mem_remote_of, mem_blk_of, mem_hops_of, snoop_of};
+ghost use Rattle.perf_words.specs.SetBits.{mem_op_bits, mem_level_bits, mem_lock_bits, mem_dtlb_bits, mem_blk_bits, mem_snoop_bits, txn_bits};
+
+use crate::field::bit_field;
+use crate::macros::flag_table;
+use crate::named::MemLevelNum;
+use bitflags::{Flag, Flags};
+use std::fmt;
+use std::marker::Model;
+
+/// Where data that a memory instruction accessed came from, `union perf_mem_data_src`. Every word is a data source: bits
+/// and numbers without a name are kept.
+#[derive(Copy, Clone, Default)]
+pub struct DataSource {
+    word: u64,
+}
+
+impl Model for DataSource {
+    ghost Value = { ℕ };
+
+    ghost view = { λ s. s.word };
+
+    ghost inverse = { λ n. record { word = n } };
+}
+
+impl DataSource {
+    /// The data source of this word.
+    #[inline]
+    pub const fn from_word(word: u64) -> DataSource
+        ensures { result ≡ word }
+    {
+        DataSource { word }
+    }
+
+    /// The whole word.
+    #[inline]
+    pub const fn bits(&self) -> u64
+        ensures { result ≡ self.now }
+    {
+        self.word
+    }
+
+    /// What the instruction does: bits 0 to 4.
+    #[inline]
+    pub fn mem_op(&self) -> MemOp
+        ensures { mem_op_bits result ≡ mem_op_of self.now }
+    {
+        MemOp(bit_field(self.word, 0, 5))
+    }
+
+    /// Where in the memory hierarchy the access ended: bits 5 to 18.
+    #[inline]
+    pub fn mem_lvl(&self) -> MemLevel
+        ensures { mem_level_bits result ≡ mem_lvl_of self.now }
+    {
+        MemLevel(bit_field(self.word, 5, 14))
+    }
+
+    /// What was found in other caches: bits 19 to 23 and 38 to 39, which stay at these places.
+    #[inline]
+    pub fn mem_snoop(&self) -> MemSnoop
+        ensures { mem_snoop_bits result ≡ mem_snoop_of self.now }
+    {
+        MemSnoop::new(bit_field(self.word, 19, 5), bit_field(self.word, 38, 2))
+    }
+
+    /// Whether the access held a lock: bits 24 and 25.
+    #[inline]
+    pub fn mem_lock(&self) -> MemLock
+        ensures { mem_lock_bits result ≡ mem_lock_of self.now }
+    {
+        MemLock(bit_field(self.word, 24, 2))
+    }
+
+    /// How the address was translated: bits 26 to 32.
+    #[inline]
+    pub fn mem_dtlb(&self) -> MemDtlb
+        ensures { mem_dtlb_bits result ≡ mem_dtlb_of self.now }
+    {
+        MemDtlb(bit_field(self.word, 26, 7))
+    }
+
+    /// The number of the memory level: bits 33 to 36.
+    #[inline]
+    pub fn mem_lvl_num(&self) -> MemLevelNum
+        ensures { result ≡ mem_lvl_num_of self.now }
+    {
+        MemLevelNum::new(bit_field(self.word, 33, 4) as u8)
+    }
+
+    /// Whether the access went to another node: bit 37.
+    #[inline]
+    pub fn mem_remote(&self) -> bool
+        ensures { result ≡ mem_remote_of self.now }
+    {
+        bit_field(self.word, 37, 1) == 1
+    }
+
+    /// Why the access was blocked: bits 40 to 42.
+    #[inline]
+    pub fn mem_blk(&self) -> MemBlk
+        ensures { mem_blk_bits result ≡ mem_blk_of self.now }
+    {
+        MemBlk(bit_field(self.word, 40, 3))
+    }
+
+    /// How many hops away the data was: bits 43 to 45.
+    #[inline]
+    pub fn mem_hops(&self) -> u8
+        ensures { result ≡ mem_hops_of self.now }
+    {
+        bit_field(self.word, 43, 3) as u8
+    }
+}
+
+impl fmt::Debug for DataSource {
+    fn fmt<W: fmt::Write>(&self, f: &mut fmt::Formatter<W>) -> fmt::Result {
+        f.debug_struct("DataSource")
+            .field("mem_op", &self.mem_op())
+            .field("mem_lvl", &self.mem_lvl())
+            .field("mem_snoop", &self.mem_snoop())
+            .field("mem_lock", &self.mem_lock())
+            .field("mem_dtlb", &self.mem_dtlb())
+            .field("mem_lvl_num", &self.mem_lvl_num())
+            .field("mem_remote", &self.mem_remote())
+            .field("mem_blk", &self.mem_blk())
+            .field("mem_hops", &self.mem_hops())
+            .finish()
+    }
+}
+
+/// What a memory instruction does: `mem_op` of a data source, `PERF_MEM_OP_*`.
+#[derive(Copy, Clone, Debug, PartialEq, Eq, Hash, Default)]
+pub struct MemOp(u64);
+
+impl MemOp {
+    /// Not known, `PERF_MEM_OP_NA`.
+    pub const NA: MemOp = MemOp(1);
+
+    /// It loads, `PERF_MEM_OP_LOAD`.
+    pub const LOAD: MemOp = MemOp(2);
+
+    /// It stores, `PERF_MEM_OP_STORE`.
+    pub const STORE: MemOp = MemOp(4);
+
+    /// It fetches beforehand, `PERF_MEM_OP_PFETCH`.
+    pub const PFETCH: MemOp = MemOp(8);
+
+    /// It is code that is executed, `PERF_MEM_OP_EXEC`.
+    pub const EXEC: MemOp = MemOp(16);
+
+    const FLAGS: &'static [Flag<MemOp>] = flag_table!(MemOp: NA, LOAD, STORE, PFETCH, EXEC);
+}
+
+impl Flags for MemOp {
+    type Bits = u64;
+
+    ghost exact = { ⊤ };
+
+    ghost table = { mem_op_table };
+
+    ghost set_of = { λ set. set.0 };
+
+    fn flags<'a>() -> &'a [Flag<MemOp>] {
+        MemOp::FLAGS
+    }
+
+    #[inline]
+    fn bits(&self) -> u64 {
+        self.0
+    }
+
+    #[inline]
+    fn from_bits_retain(bits: u64) -> MemOp {
+        MemOp(bits)
+    }
+}
+
+/// Where in the memory hierarchy an access ended: `mem_lvl` of a data source, `PERF_MEM_LVL_*`.
+#[derive(Copy, Clone, Debug, PartialEq, Eq, Hash, Default)]
+pub struct MemLevel(u64);
+
+impl MemLevel {
+    /// Not known, `PERF_MEM_LVL_NA`.
+    pub const NA: MemLevel = MemLevel(1);
+
+    /// It was a hit, `PERF_MEM_LVL_HIT`.
+    pub const HIT: MemLevel = MemLevel(2);
+
+    /// It was a miss, `PERF_MEM_LVL_MISS`.
+    pub const MISS: MemLevel = MemLevel(4);
+
+    /// The first cache level, `PERF_MEM_LVL_L1`.
+    pub const L1: MemLevel = MemLevel(8);
+
+    /// The line fill buffer, `PERF_MEM_LVL_LFB`.
+    pub const LFB: MemLevel = MemLevel(0x10);
+
+    /// The second cache level, `PERF_MEM_LVL_L2`.
+    pub const L2: MemLevel = MemLevel(0x20);
+
+    /// The third cache level, `PERF_MEM_LVL_L3`.
+    pub const L3: MemLevel = MemLevel(0x40);
+
+    /// Local memory, `PERF_MEM_LVL_LOC_RAM`.
+    pub const LOC_RAM: MemLevel = MemLevel(0x80);
+
+    /// Remote memory, one hop away, `PERF_MEM_LVL_REM_RAM1`.
+    pub const REM_RAM1: MemLevel = MemLevel(0x100);
+
+    /// Remote memory, two hops away, `PERF_MEM_LVL_REM_RAM2`.
+    pub const REM_RAM2: MemLevel = MemLevel(0x200);
+
+    /// A remote cache, one hop away, `PERF_MEM_LVL_REM_CCE1`.
+    pub const REM_CCE1: MemLevel = MemLevel(0x400);
+
+    /// A remote cache, two hops away, `PERF_MEM_LVL_REM_CCE2`.
+    pub const REM_CCE2: MemLevel = MemLevel(0x800);
+
+    /// Memory of a device, `PERF_MEM_LVL_IO`.
+    pub const IO: MemLevel = MemLevel(0x1000);
+
+    /// Memory that is not cached, `PERF_MEM_LVL_UNC`.
+    pub const UNC: MemLevel = MemLevel(0x2000);
+
+    const FLAGS: &'static [Flag<MemLevel>] =
+        flag_table!(MemLevel: NA, HIT, MISS, L1, LFB, L2, L3, LOC_RAM, REM_RAM1, REM_RAM2, REM_CCE1, REM_CCE2, IO, UNC);
+}
+
+impl Flags for MemLevel {
+    type Bits = u64;
+
+    ghost exact = { ⊤ };
+
+    ghost table = { mem_level_table };
+
+    ghost set_of = { λ set. set.0 };
+
+    fn flags<'a>() -> &'a [Flag<MemLevel>] {
+        MemLevel::FLAGS
+    }
+
+    #[inline]
+    fn bits(&self) -> u64 {
+        self.0
+    }
+
+    #[inline]
+    fn from_bits_retain(bits: u64) -> MemLevel {
+        MemLevel(bits)
+    }
+}
+
+/// Whether an access held a lock: `mem_lock` of a data source, `PERF_MEM_LOCK_*`.
+#[derive(Copy, Clone, Debug, PartialEq, Eq, Hash, Default)]
+pub struct MemLock(u64);
+
+impl MemLock {
+    /// Not known, `PERF_MEM_LOCK_NA`.
+    pub const NA: MemLock = MemLock(1);
+
+    /// It was locked, `PERF_MEM_LOCK_LOCKED`.
+    pub const LOCKED: MemLock = MemLock(2);
+
+    const FLAGS: &'static [Flag<MemLock>] = flag_table!(MemLock: NA, LOCKED);
+}
+
+impl Flags for MemLock {
+    type Bits = u64;
+
+    ghost exact = { ⊤ };
+
+    ghost table = { mem_lock_table };
+
+    ghost set_of = { λ set. set.0 };
+
+    fn flags<'a>() -> &'a [Flag<MemLock>] {
+        MemLock::FLAGS
+    }
+
+    #[inline]
+    fn bits(&self) -> u64 {
+        self.0
+    }
+
+    #[inline]
+    fn from_bits_retain(bits: u64) -> MemLock {
+        MemLock(bits)
+    }
+}
+
+/// How the address was translated: `mem_dtlb` of a data source, `PERF_MEM_TLB_*`.
+#[derive(Copy, Clone, Debug, PartialEq, Eq, Hash, Default)]
+pub struct MemDtlb(u64);
+
+impl MemDtlb {
+    /// Not known, `PERF_MEM_TLB_NA`.
+    pub const NA: MemDtlb = MemDtlb(1);
+
+    /// It was a hit, `PERF_MEM_TLB_HIT`.
+    pub const HIT: MemDtlb = MemDtlb(2);
+
+    /// It was a miss, `PERF_MEM_TLB_MISS`.
+    pub const MISS: MemDtlb = MemDtlb(4);
+
+    /// The first level, `PERF_MEM_TLB_L1`.
+    pub const L1: MemDtlb = MemDtlb(8);
+
+    /// The second level, `PERF_MEM_TLB_L2`.
+    pub const L2: MemDtlb = MemDtlb(16);
+
+    /// The hardware's walker, `PERF_MEM_TLB_WK`.
+    pub const WK: MemDtlb = MemDtlb(32);
+
+    /// The operating system's fault handler, `PERF_MEM_TLB_OS`.
+    pub const OS: MemDtlb = MemDtlb(64);
+
+    const FLAGS: &'static [Flag<MemDtlb>] = flag_table!(MemDtlb: NA, HIT, MISS, L1, L2, WK, OS);
+}
+
+impl Flags for MemDtlb {
+    type Bits = u64;
+
+    ghost exact = { ⊤ };
+
+    ghost table = { mem_dtlb_table };
+
+    ghost set_of = { λ set. set.0 };
+
+    fn flags<'a>() -> &'a [Flag<MemDtlb>] {
+        MemDtlb::FLAGS
+    }
+
+    #[inline]
+    fn bits(&self) -> u64 {
+        self.0
+    }
+
+    #[inline]
+    fn from_bits_retain(bits: u64) -> MemDtlb {
+        MemDtlb(bits)
+    }
+}
+
+/// More of the snoop: `mem_snoopx` of a data source, at its own place, `PERF_MEM_SNOOPX_*`.
+#[derive(Copy, Clone, Debug, PartialEq, Eq, Hash, Default)]
+pub struct MemSnoopX(u64);
+
+impl MemSnoopX {
+    /// The line was forwarded, `PERF_MEM_SNOOPX_FWD`.
+    pub const FWD: MemSnoopX = MemSnoopX(1);
+
+    /// It came from a peer, `PERF_MEM_SNOOPX_PEER`.
+    pub const PEER: MemSnoopX = MemSnoopX(2);
+
+    const FLAGS: &'static [Flag<MemSnoopX>] = flag_table!(MemSnoopX: FWD, PEER);
+}
+
+impl Flags for MemSnoopX {
+    type Bits = u64;
+
+    ghost exact = { ⊤ };
+
+    ghost table = { mem_snoop_x_table };
+
+    ghost set_of = { λ set. set.0 };
+
+    fn flags<'a>() -> &'a [Flag<MemSnoopX>] {
+        MemSnoopX::FLAGS
+    }
+
+    #[inline]
+    fn bits(&self) -> u64 {
+        self.0
+    }
+
+    #[inline]
+    fn from_bits_retain(bits: u64) -> MemSnoopX {
+        MemSnoopX(bits)
+    }
+}
+
+/// Why an access was blocked: `mem_blk` of a data source, `PERF_MEM_BLK_*`.
+#[derive(Copy, Clone, Debug, PartialEq, Eq, Hash, Default)]
+pub struct MemBlk(u64);
+
+impl MemBlk {
+    /// Not known, `PERF_MEM_BLK_NA`.
+    pub const NA: MemBlk = MemBlk(1);
+
+    /// Data could not be forwarded, `PERF_MEM_BLK_DATA`.
+    pub const DATA: MemBlk = MemBlk(2);
+
+    /// The address conflicted, `PERF_MEM_BLK_ADDR`.
+    pub const ADDR: MemBlk = MemBlk(4);
+
+    const FLAGS: &'static [Flag<MemBlk>] = flag_table!(MemBlk: NA, DATA, ADDR);
+}
+
+impl Flags for MemBlk {
+    type Bits = u64;
+
+    ghost exact = { ⊤ };
+
+    ghost table = { mem_blk_table };
+
+    ghost set_of = { λ set. set.0 };
+
+    fn flags<'a>() -> &'a [Flag<MemBlk>] {
+        MemBlk::FLAGS
+    }
+
+    #[inline]
+    fn bits(&self) -> u64 {
+        self.0
+    }
+
+    #[inline]
+    fn from_bits_retain(bits: u64) -> MemBlk {
+        MemBlk(bits)
+    }
+}
+
+/// What was found in other caches: both snoop fields of a data source, at the places that they have there,
+/// `PERF_MEM_SNOOP_*` and `PERF_MEM_SNOOPX_*`.
+#[derive(Copy, Clone, Debug, PartialEq, Eq, Hash, Default)]
+pub struct MemSnoop(u64);
+
+impl MemSnoop {
+    /// Not known, `PERF_MEM_SNOOP_NA`.
+    pub const NA: MemSnoop = MemSnoop(1 << 19);
+
+    /// There was no snoop, `PERF_MEM_SNOOP_NONE`.
+    pub const NONE: MemSnoop = MemSnoop(2 << 19);
+
+    /// The snoop was a hit, `PERF_MEM_SNOOP_HIT`.
+    pub const HIT: MemSnoop = MemSnoop(4 << 19);
+
+    /// The snoop was a miss, `PERF_MEM_SNOOP_MISS`.
+    pub const MISS: MemSnoop = MemSnoop(8 << 19);
+
+    /// It hit a modified line, `PERF_MEM_SNOOP_HITM`.
+    pub const HITM: MemSnoop = MemSnoop(16 << 19);
+
+    /// The line was forwarded, `PERF_MEM_SNOOPX_FWD`.
+    pub const FWD: MemSnoop = MemSnoop(1 << 38);
+
+    /// It came from a peer, `PERF_MEM_SNOOPX_PEER`.
+    pub const PEER: MemSnoop = MemSnoop(2 << 38);
+
+    const FLAGS: &'static [Flag<MemSnoop>] =
+        flag_table!(MemSnoop: NA, NONE, HIT, MISS, HITM, FWD, PEER);
+}
+
+impl Flags for MemSnoop {
+    type Bits = u64;
+
+    ghost exact = { ⊤ };
+
+    ghost table = { mem_snoop_table };
+
+    ghost set_of = { λ set. set.0 };
+
+    fn flags<'a>() -> &'a [Flag<MemSnoop>] {
+        MemSnoop::FLAGS
+    }
+
+    #[inline]
+    fn bits(&self) -> u64 {
+        self.0
+    }
+
+    #[inline]
+    fn from_bits_retain(bits: u64) -> MemSnoop {
+        MemSnoop(bits)
+    }
+}
+
+impl MemSnoop {
+    /// Both snoop fields, each put at the place that it has in a data source: the five bits of `mem_snoop` from bit 19
+    /// on, and the two of `mem_snoopx` from bit 38 on. Higher bits of either are left out.
+    #[inline]
+    pub const fn new(mem_snoop: u64, mem_snoopx: u64) -> MemSnoop
+        ensures { mem_snoop_bits result ≡ snoop_of mem_snoop mem_snoopx }
+    {
+        MemSnoop((mem_snoop % 32) * (1 << 19) + (mem_snoopx % 4) * (1 << 38))
+    }
+}
+
+/// What a memory transaction did, and why it was aborted, `PERF_TXN_*`.
+#[derive(Copy, Clone, Debug, PartialEq, Eq, Hash, Default)]
+pub struct Txn(u64);
+
+impl Txn {
+    /// It came from lock elision, `PERF_TXN_ELISION`.
+    pub const ELISION: Txn = Txn(1);
+
+    /// It came from a plain transaction, `PERF_TXN_TRANSACTION`.
+    pub const TRANSACTION: Txn = Txn(2);
+
+    /// The abort was caused by the sampled instruction, `PERF_TXN_SYNC`.
+    pub const SYNC: Txn = Txn(4);
+
+    /// The abort was not caused by it, `PERF_TXN_ASYNC`.
+    pub const ASYNC: Txn = Txn(8);
+
+    /// The transaction may be tried again, `PERF_TXN_RETRY`.
+    pub const RETRY: Txn = Txn(16);
+
+    /// Another thread touched the same memory, `PERF_TXN_CONFLICT`.
+    pub const CONFLICT: Txn = Txn(32);
+
+    /// Too much was written, `PERF_TXN_CAPACITY_WRITE`.
+    pub const CAPACITY_WRITE: Txn = Txn(64);
+
+    /// Too much was read, `PERF_TXN_CAPACITY_READ`.
+    pub const CAPACITY_READ: Txn = Txn(128);
+
+    /// Where the abort code stands, `PERF_TXN_ABORT_MASK`.
+    pub const ABORT_MASK: Txn = Txn(0xffff_ffff << 32);
+
+    const FLAGS: &'static [Flag<Txn>] =
+        flag_table!(Txn: ELISION, TRANSACTION, SYNC, ASYNC, RETRY, CONFLICT, CAPACITY_WRITE, CAPACITY_READ, ABORT_MASK);
+}
+
+impl Flags for Txn {
+    type Bits = u64;
+
+    ghost exact = { ⊤ };
+
+    ghost table = { txn_table };
+
+    ghost set_of = { λ set. set.0 };
+
+    fn flags<'a>() -> &'a [Flag<Txn>] {
+        Txn::FLAGS
+    }
+
+    #[inline]
+    fn bits(&self) -> u64 {
+        self.0
+    }
+
+    #[inline]
+    fn from_bits_retain(bits: u64) -> Txn {
+        Txn(bits)
+    }
+}
+
+impl Txn {
+    /// The code that the program gave for its abort, which stands in bits 32 to 63.
+    #[inline]
+    pub fn abort(&self) -> u32
+        ensures { result ≡ bit_field (txn_bits self.now) 32 32 }
+    {
+        bit_field(self.0, 32, 32) as u32
+    }
+}

@@ -1,0 +1,22 @@
+//! The words of `perf_event_open(2)`: sets of flags, numbers with names, and words that hold bit fields. Nothing here
+//! takes memory, and bits and numbers that have no name are kept.
+#![tactic(auto)]
+
+pub mod branch;
+pub mod data_source;
+mod field;
+pub mod flags;
+pub mod laws;
+mod macros;
+pub mod named;
+#[cfg(test)]
+mod tests;
+
+pub use branch::BranchEntry;
+pub use data_source::{
+    DataSource, MemBlk, MemDtlb, MemLevel, MemLock, MemOp, MemSnoop, MemSnoopX, Txn,
+};
+pub use flags::{AuxFlags, KSymbolFlags, ReadFormat, SampleFlags};
+pub use named::{
+    AuxPmuFormatType, BpfEventType, BranchType, KSymbolType, MemLevelNum, SampleRegsAbi,
+};
