@@ -1,6 +1,7 @@
 -- The words in which the parts of a structure are written down, one line a field, as in the manual page.
 use Rattle.std.specs.Prelude.{ℕ, Bool, List, Option}
-use Rattle.perf_base.specs.Layout.{w1, w2, w4, w8, number, optional, run, words, padding, rest, Parts, done, part, check}
+use Rattle.perf_base.specs.Layout.{w1, w2, w4, w8, number, optional, run, words, padding, rest, Parts, done, part, check, mapped}
+use Rattle.perf_base.specs.Zeros.{trimmed}
 use Rattle.perf_base.specs.declared.error.ErrorKind.{ErrorKind}
 
 abbrev pub u8 : Parts ℕ
@@ -34,6 +35,10 @@ ignored n = part (padding n) done
 -- all bytes that are left
 abbrev pub all_left : Parts (List ℕ)
 all_left = part rest done
+
+-- a name: all bytes that are left, without the zero bytes at their end
+abbrev pub name : Parts (List ℕ)
+name = mapped trimmed all_left
 
 -- a check, which refuses with its kind where it is false
 abbrev pub require : Bool → ErrorKind → Parts (Unit {0})

@@ -4,6 +4,7 @@ pub mod Table
 pub mod Run
 pub mod Splice
 pub mod Reads
+pub mod Zeros
 pub mod FieldWords
 pub mod Header
 pub mod Configuration
