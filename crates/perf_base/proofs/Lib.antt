@@ -4,3 +4,4 @@ pub mod Tables
 pub mod Fields
 pub mod ReadBound
 pub mod Cuts
+pub mod Worked

@@ -1,6 +1,7 @@
 -- The attribute of an event, `struct perf_event_attr` of perf_event.h: each kernel that made it larger put its fields
 -- behind those that were there.
-use Rattle.std.specs.Prelude.{ℕ, ◌-◌, Bool, ◌==◌, ◌||◌, nat_lt, nat_le, Option, Some, None}
+use Rattle.std.specs.Prelude.{ℕ, ◌-◌, Bool, ◌==◌, ◌||◌, nat_lt, nat_le, Option}
+use Rattle.std.specs.Option.{unwrap_or}
 use Rattle.std.specs.Int.{w32, cast_signed}
 use Rattle.perf_base.specs.Layout.{Parts, done, ◌>>=◌, ◌>>◌}
 use Rattle.perf_base.specs.FieldWords.{u32, u64, u16_if, u32_if, u64_if, ignored_if, bytes, require}
@@ -15,8 +16,7 @@ is_attribute_size n =
 
 -- a field that the size does not reach is 0
 abbrev pub or_zero : Option ℕ → ℕ
-or_zero None = 0
-or_zero (Some n) = n
+or_zero number = unwrap_or number 0
 
 -- bytes that only a newer kernel has a meaning for, all of which must be zero
 abbrev pub zero_tail : ℕ → Parts (Unit {0})
