@@ -10,3 +10,5 @@ pub mod Ending
 pub mod Listing
 mod Worked
 mod Covering
+pub mod ZeroTails
+pub mod Attributes

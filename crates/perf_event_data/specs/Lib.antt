@@ -8,3 +8,4 @@ pub mod Frames
 pub mod Answers
 pub mod Pieces
 pub mod Runs
+pub mod AttributeGroups

@@ -132,8 +132,8 @@ fn skip_some<'p, B: ParseBuf<'p>>(buf: &mut B, len: usize) -> ParseResult<usize>
     Ok(count)
 }
 
-// Takes `len` bytes and keeps none of them.
-fn skip<'p, B: ParseBuf<'p>>(buf: &mut B, len: usize) -> ParseResult<()>
+/// Takes `len` bytes and keeps none of them.
+pub fn skip<'p, B: ParseBuf<'p>>(buf: &mut B, len: usize) -> ParseResult<()>
     ensures stays { Stays (B.source buf.old) (refusal result) (B.source buf.new) }
     ensures can_fail { CanFail (B.source buf.old) (refusal result) }
     ensures memory { NeedsNoMemory result }

@@ -4,10 +4,12 @@
 //! [`read_records`] answers every frame of a stream, a refused one by its error.
 #![tactic(auto)]
 
+mod attribute;
 mod cursor;
 mod fill;
 mod frames;
 mod numbers;
+mod optional;
 pub mod parse;
 mod parsebuf;
 mod parser;
@@ -15,6 +17,7 @@ mod pieces;
 mod records;
 mod rest;
 mod runs;
+mod zeros;
 
 pub use crate::pieces::PieceBuf;
 pub use crate::runs::{Run, RunEnd, read_records};
