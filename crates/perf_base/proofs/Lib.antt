@@ -5,3 +5,4 @@ pub mod Fields
 pub mod ReadBound
 pub mod Cuts
 pub mod Worked
+pub mod AttributeSizes

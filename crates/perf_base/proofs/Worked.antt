@@ -3,7 +3,7 @@ use Rattle.std.proofs.Common.{◌≡◌, ℕ, zero, suc, ◌+◌, ◌-◌, ◌*�
 use Rattle.perf_base.specs.Order.{little}
 use Rattle.perf_base.specs.Layout.{layout, ending, mapped}
 use Rattle.perf_base.specs.Attribute.{attribute}
-use Rattle.perf_base.specs.Configuration.{Configuration, unpacked, configured_by, kept_read_format}
+use Rattle.perf_base.specs.Configuration.{unpacked, kept_read_format}
 use Rattle.perf_base.specs.Zeros.{trimmed}
 use Rattle.perf_base.specs.declared.error.ErrorKind.TheVariants.{Eof, InvalidRecord, UnsupportedData}
 

@@ -1,5 +1,5 @@
 -- The four groups of an attribute's fields, one behind another, are its layout.
-use Rattle.std.proofs.Common.{◌≡◌, ℕ, ◌-◌, List, refl, ◌∙◌, sym}
+use Rattle.std.proofs.Common.{◌≡◌, ℕ, ◌-◌, List, drop, refl, ◌∙◌, sym, ap}
 use Rattle.perf_base.specs.Attribute.{attribute, zero_tail}
 use Rattle.perf_base.specs.Layout.{Parts, done, ◌>>=◌}
 use Rattle.perf_base.specs.Order.{Order}
@@ -7,6 +7,8 @@ use Rattle.perf_base.specs.Run.{ran, stopped, by_places}
 use Rattle.perf_base.specs.declared.error.ErrorKind.{ErrorKind}
 use Rattle.perf_base.specs.declared.sys.perf_event_attr.{perf_event_attr}
 use Rattle.perf_base.proofs.Algebra.{then_ok}
+use Rattle.perf_base.proofs.AttributeSizes.{ends}
+use Rattle.perf_base.proofs.Tables.{run_layout}
 use Rattle.perf_base.proofs.Bridge.{places_run}
 use Rattle.perf_base.proofs.Fields.{then_stopped}
 use Rattle.perf_event_data.specs.AttributeGroups.{front, first_fields, middle_fields, late_fields, assembled}
@@ -68,3 +70,9 @@ module _ (o : Order) (bytes a0 : List ℕ) (f : Front) (p0 : by_places o front b
 
 pub stops_in_front : (o : Order) (bytes left : List ℕ) (e : ErrorKind) → by_places o front bytes ≡ stopped e left → by_places o attribute bytes ≡ stopped e left
 stops_in_front o bytes left e h = stop o front behind_front bytes left e h
+
+-- an attribute takes as many bytes as its size says
+pub takes_its_size : (o : Order) (bytes left : List ℕ) (a : perf_event_attr) → by_places o attribute bytes ≡ ran a left → left ≡ drop a.size bytes
+takes_its_size o bytes left a h =
+    let read = run_layout o attribute bytes a left (sym (places_run o attribute bytes) ∙ h) in
+    sym read.1 ∙ ap (λ n. drop n bytes) (ends o bytes a read.0)

@@ -1,7 +1,7 @@
 //! How the attribute of an event is parsed. Its fields are read in four groups, one behind another.
 #![tactic(auto, using(crate::proofs::Paying::chain))]
 
-ghost use Rattle.std.specs.Prelude.{◌≡◌, IsTrue, if◌then◌else◌};
+ghost use Rattle.std.specs.Prelude.{◌≡◌, drop, IsTrue, IfOk, if◌then◌else◌};
 ghost use Rattle.perf_base.specs.Attribute.{attribute, is_attribute_size};
 ghost use Rattle.perf_base.specs.Errors.{kind_of};
 ghost use Rattle.perf_event_data.specs.AttributeGroups.{front, first_fields, middle_fields, late_fields, assembled};
@@ -215,11 +215,12 @@ fn assemble(
 }
 
 impl Layout for perf_event_attr {
-    ghost parses = { λ old result new. Reads (λ _. attribute) (λ a. a) old result new × NeedsNoMemory result };
+    ghost parses = { λ old result new. Reads (λ _. attribute) (λ a. a) old result new × NeedsNoMemory result
+        × IfOk result (λ a. new.source.left ≡ drop a.size old.source.left) };
 }
 
 /// The nine sizes that the kernel gave its attributes are read, and larger ones whose bytes behind the known fields are
-/// zero; no memory is taken. Another size is `InvalidRecord`, with eight bytes taken; other bytes behind the known
+/// zero. An attribute takes as many bytes as its size says, and no memory. Another size is `InvalidRecord`, with eight bytes taken; other bytes behind the known
 /// fields are `UnsupportedData`, with the whole attribute taken.
 impl<'p, B: ParseBuf<'p>> Parse<'p, B> for perf_event_attr {
     fn parse<E: Endian>(parser: &mut Parser<B, E>) -> ParseResult<Self> {
