@@ -13,9 +13,9 @@ use Rattle.perf_base.specs.declared.error.ParseError.{ParseError}
 use Rattle.perf_records.specs.Records.{RecordValue, record_value}
 use Rattle.perf_records.specs.declared.record.Record.{Record}
 use Rattle.perf_event_data.specs.Answers.{Says, FailsToCut, body_length}
-use Rattle.perf_event_data.specs.Buffer.{Source}
+use Rattle.perf_buffers.specs.Buffer.{Source}
 use Rattle.perf_event_data.specs.Reading.{Gives, last_of}
-use Rattle.perf_event_data.specs.Taking.{consumed, MovesWithin, Takes}
+use Rattle.perf_buffers.specs.Taking.{consumed, MovesWithin, Takes}
 use Rattle.perf_event_data.proofs.Paying.{last_moved}
 use Rattle.perf_event_data.proofs.Saying.{layout_ok, layout_err}
 
