@@ -1,13 +1,11 @@
 -- Reads one after the other.
-use Rattle.std.proofs.Common.{rules, ◌≡◌, ℕ, ◌+◌, ◌-◌, ◌≤◌, List, length, take, drop, arith, sym, ◌∙◌, ap, ◌++◌, length-drop, []}
+use Rattle.std.proofs.Common.{rules, ◌≡◌, ℕ, ◌+◌, ◌-◌, ◌≤◌, List, length, take, drop, arith, sym, ◌∙◌, ap, ◌++◌, length-drop, [], refl}
 use Rattle.std.proofs.lemmas.List.{append_assoc, drop-drop, take_at, drop_at, take-append-le, length-take-le, take_all}
 use Rattle.std.proofs.Math.Seq.{take-add}
 use borrow.Rule.Slice.PartMut.{put_mid, post_of}
 use Rattle.std.proofs.lemmas.Slice.{overwrites}
 use Rattle.perf_buffers.specs.Buffer.{Source}
-use Rattle.perf_buffers.specs.Taking.{Takes, Moves, consumed, FailsInRest}
-use Rattle.perf_base.specs.declared.error.ErrorKind.{ErrorKind}
-use Rattle.perf_base.specs.declared.error.ErrorKind.TheVariants.{Eof, InvalidRecord, UnsupportedConfig, UnsupportedData, External, OutOfMemory}
+use Rattle.perf_buffers.specs.Taking.{Takes, Moves, consumed}
 
 pub takes_more : (a b c : Source) (n k : ℕ) → Takes a n b → Takes b k c → Takes a (n + k) c
 takes_more a b c n k p q =
@@ -31,15 +29,16 @@ moves_more a b c p q =
     let e : consumed a b + consumed b c ≡ consumed a c = omega arith in
     (omega arith, q.1 ∙ ap (λ xs. drop (consumed b c) xs) p.1 ∙ drop-drop (consumed b c) (consumed a b) a.left ∙ ap (λ n. drop n a.left) e)
 
-pub fails_later : (a b c : Source) (e : ErrorKind) → Moves a b → FailsInRest b e c → FailsInRest a e c
-fails_later a b c Eof p q = q
-fails_later a b c InvalidRecord p q = q
-fails_later a b c UnsupportedConfig p q = q
-fails_later a b c UnsupportedData p q = q
-fails_later a b c External p q = moves_more a b c p q
-fails_later a b c OutOfMemory p q = moves_more a b c p q
-
 pub took_all : (n : ℕ) (first xs left : List ℕ) → first ≡ take n xs → left ≡ drop n xs → left ≡ [] → first ≡ xs
 took_all n first xs left p q r =
     let short : length (drop n xs) ≡ 0 = ap length (sym q ∙ r) in
     p ∙ take_all n xs (omega (arith, length-drop n xs))
+
+pub append_all : (start now out left rest : List ℕ) (a : ℕ) → now ≡ start ++ take a left → rest ≡ drop a left → rest ≡ [] → out ≡ now → out ≡ start ++ left
+append_all start now out left rest a p q r s = s ∙ p ∙ ap (λ xs. start ++ xs) (took_all a (take a left) left rest refl q r)
+
+pub takes_moves : (a b : Source) (n : ℕ) → Takes a n b → Moves a b
+takes_moves a b n p =
+    let left : length b.left ≡ length a.left - n = ap length p.1 ∙ length-drop n a.left in
+    let taken : consumed a b ≡ n = omega arith in
+    (omega arith, p.1 ∙ sym (ap (λ k. drop k a.left) taken))

@@ -1,6 +1,5 @@
 -- What a cursor over one frame holds.
-use Rattle.std.specs.Prelude.{ℕ, Bool, true, false, List, drop, None, ◌≡◌}
-use Rattle.perf_buffers.specs.Buffer.{Source}
+use Rattle.std.specs.Prelude.{◌≡◌, ℕ, Bool, true, false, List, drop}
 use Rattle.perf_buffers.specs.declared.cursor.ParseBufCursor.{ParseBufCursor}
 use Rattle.perf_buffers.specs.declared.cursor.Held.{Held}
 use Rattle.perf_buffers.specs.declared.cursor.Held.TheVariants.{Lent, Own}
@@ -28,7 +27,3 @@ cursor_lent c = is_lent c.held
 
 abbrev pub IsAtStart : ParseBufCursor → Type 0
 IsAtStart c = is_at_start c.held
-
--- A cursor tells its bytes and cannot fault. It is whole where its bytes are borrowed.
-abbrev pub cursor_source : ParseBufCursor → Source
-cursor_source c = record { left = cursor_left c; told = true; whole = cursor_lent c; can_fault = false; faults = None }

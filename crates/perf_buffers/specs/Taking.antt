@@ -1,5 +1,5 @@
 -- What a read takes from a buffer that tells its bytes.
-use Rattle.std.specs.Prelude.{Option, ◌≡◌, ℕ, ◌+◌, ◌-◌, ◌<◌, ◌≤◌, Bool, true, false, IsTrue, List, [], ◌++◌, length, take, drop, Some, None}
+use Rattle.std.specs.Prelude.{Option, ◌≡◌, ℕ, ◌+◌, ◌-◌, ◌<◌, ◌≤◌, Bool, true, false, IsTrue, List, [], length, take, drop, Some, None}
 use Rattle.perf_buffers.specs.Buffer.{Source}
 use Rattle.perf_base.specs.declared.error.ErrorKind.{ErrorKind}
 use Rattle.perf_base.specs.declared.error.ErrorKind.TheVariants.{Eof, InvalidRecord, UnsupportedConfig, UnsupportedData, External, OutOfMemory}
@@ -61,8 +61,3 @@ CanFail old (Some OutOfMemory) = Unit {0}
 abbrev pub TakesAtOnce : Source → ℕ → Bool → List ℕ → Source → Type 0
 TakesAtOnce old n true out new = Takes old n new × (out ≡ take n old.left)
 TakesAtOnce old n false out new = new.left ≡ old.left
-
--- a chunk was appended, or nothing was left
-abbrev pub AppendsSome : Source → List ℕ → Bool → Source → List ℕ → Type 0
-AppendsSome old xs true new ys = Moves old new × (ys ++ new.left ≡ xs ++ old.left)
-AppendsSome old xs false new ys = (old.left ≡ []) × (new.left ≡ []) × (ys ≡ xs)

@@ -1,13 +1,13 @@
 //! The bytes of one frame.
 
-ghost use Rattle.std.specs.Prelude.{◌≡◌, ◌≢◌, ℕ, ◌+◌, ◌<◌, ◌≤◌, true, false, None, Some, length, take, drop, IsTrue, IsOk, OnOk, IfOk, IfErr, ◌++◌, MatchOption, IfNone, vec_len, vec_capacity};
+ghost use Rattle.std.specs.Prelude.{◌≡◌, ◌≢◌, ◌<◌, ◌≤◌, true, false, None, Some, length, take, IsTrue, IsOk, OnOk, IfOk, IfErr, MatchOption, IfNone};
 ghost use Rattle.perf_base.specs.Errors.{kind_of};
-ghost use Rattle.perf_buffers.specs.Buffer.{NeedsNoMemory, Source, Stays, refusal};
+ghost use Rattle.perf_buffers.specs.Buffer.{NeedsNoMemory, Stays, refusal};
 ghost use Rattle.perf_buffers.specs.Taking.{Takes, FailsToTake, FailsToKeep, CanFail};
 ghost use Rattle.perf_buffers.specs.Room.{falls_short, is_made_beforehand, makes_all_room, room_made};
 
+use crate::fill::append;
 use crate::parsebuf::{ParseBuf, ParseBufChunk};
-use perf_base::cow::CowSlice;
 use perf_base::error::{ErrorKind, ParseError, ParseResult};
 use std::alloc::Global;
 
@@ -147,49 +147,6 @@ fn skip<'p, B: ParseBuf<'p>>(buf: &mut B, len: usize) -> ParseResult<()>
     Ok(())
 }
 
-// Appends what one chunk has, at most `len` bytes.
-fn append_some<'p, B: ParseBuf<'p>>(
-    buf: &mut B,
-    out: &mut Vec<u8>,
-    len: usize,
-) -> ParseResult<usize>
-    requires { 0 < len }
-    ensures stays { Stays (B.source buf.old) (refusal result) (B.source buf.new) }
-    ensures can_fail { CanFail (B.source buf.old) (refusal result) }
-    ensures room { vec_len out.old + len ≤ vec_capacity out.old → NeedsNoMemory result }
-    ensures capacity { vec_capacity out.old ≤ vec_capacity out.new }
-    ensures count { IfOk result (λ n. (0 < n) × (n ≤ len) × (vec_len out.new ≡ vec_len out.old + n)) }
-    ensures ok { IsTrue (B.source buf.old).told → IfOk result (λ n. Takes (B.source buf.old) n (B.source buf.new) × (out.new.items ≡ out.old.items ++ take n (B.source buf.old).left)) }
-    ensures err { IsTrue (B.source buf.old).told → IfErr result (λ e. FailsToKeep (B.source buf.old) len (kind_of e) (B.source buf.new)) }
-{
-    let chunk = buf.chunk()?;
-    let bytes = chunk.as_bytes();
-    let count = bytes.len().min(len);
-    if out.extend_from_slice(&bytes[..count]).is_err() {
-        return Err(ParseError::out_of_memory());
-    }
-    buf.advance(count);
-    Ok(count)
-}
-
-// Appends the next `len` bytes.
-fn append<'p, B: ParseBuf<'p>>(buf: &mut B, out: &mut Vec<u8>, len: usize) -> ParseResult<()>
-    ensures stays { Stays (B.source buf.old) (refusal result) (B.source buf.new) }
-    ensures can_fail { CanFail (B.source buf.old) (refusal result) }
-    ensures room { vec_len out.old + len ≤ vec_capacity out.old → NeedsNoMemory result }
-    ensures ok { IsTrue (B.source buf.old).told → OnOk result (Takes (B.source buf.old) len (B.source buf.new) × (out.new.items ≡ out.old.items ++ take len (B.source buf.old).left)) }
-    ensures err { IsTrue (B.source buf.old).told → IfErr result (λ e. FailsToKeep (B.source buf.old) len (kind_of e) (B.source buf.new)) }
-{
-    let mut at = 0;
-    while at < len {
-        at += match append_some(buf, out, len - at) {
-            Ok(count) => count,
-            Err(error) => return Err(error),
-        };
-    }
-    Ok(())
-}
-
 // The refusal where fewer than `len` bytes are left, all of which are taken.
 #[cold]
 #[inline(never)]
@@ -251,7 +208,7 @@ fn says_too_few(hint: Option<usize>, len: usize) -> bool
 }
 
 impl<'p> ParseBufCursor<'p> {
-    ghost use Rattle.perf_buffers.specs.Cursor.{cursor_left, cursor_lent, IsAtStart, cursor_source};
+    ghost use Rattle.perf_buffers.specs.Cursor.{cursor_left, cursor_lent, IsAtStart};
 
     /// Cuts the next `len` bytes off a buffer.
     ///

@@ -1,12 +1,12 @@
-//! Bytes for a number, from one chunk or from several.
+//! Bytes that are copied, from one chunk or from several: those of a number, and those that are appended to others.
 
-ghost use Rattle.std.specs.Prelude.{◌≡◌, ℕ, ◌<◌, ◌≤◌, length, take, OnOk, IfOk, IfErr, IsTrue};
+ghost use Rattle.std.specs.Prelude.{◌≡◌, ◌+◌, ◌<◌, ◌≤◌, [], ◌++◌, length, take, OnOk, IfOk, IfErr, IsTrue, vec_len, vec_capacity};
 ghost use Rattle.perf_base.specs.Errors.{kind_of};
-ghost use Rattle.perf_buffers.specs.Taking.{Takes, TakesAtOnce, FailsToTake, CanFail};
+ghost use Rattle.perf_buffers.specs.Taking.{Takes, TakesAtOnce, FailsToTake, FailsToKeep, CanFail};
 ghost use Rattle.perf_buffers.specs.Buffer.{NeedsNoMemory, Stays, refusal};
 
 use crate::parsebuf::ParseBuf;
-use perf_base::error::ParseResult;
+use perf_base::error::{ErrorKind, ParseError, ParseResult};
 
 // Fills `out` where one chunk has all its bytes, and else takes nothing.
 #[inline]
@@ -60,6 +60,55 @@ fn fill<'p, B: ParseBuf<'p>>(buf: &mut B, out: &mut [u8]) -> ParseResult<()>
     let mut at = 0;
     while at < out.len() {
         at += take_some(buf, &mut out[at..])?;
+    }
+    Ok(())
+}
+
+// Appends what one chunk has, at most `len` bytes.
+fn append_some<'p, B: ParseBuf<'p>>(
+    buf: &mut B,
+    out: &mut Vec<u8>,
+    len: usize,
+) -> ParseResult<usize>
+    requires { 0 < len }
+    ensures stays { Stays (B.source buf.old) (refusal result) (B.source buf.new) }
+    ensures can_fail { CanFail (B.source buf.old) (refusal result) }
+    ensures room { vec_len out.old + len ≤ vec_capacity out.old → NeedsNoMemory result }
+    ensures capacity { vec_capacity out.old ≤ vec_capacity out.new }
+    ensures count { IfOk result (λ n. (0 < n) × (n ≤ len) × (vec_len out.new ≡ vec_len out.old + n)) }
+    ensures ok { IsTrue (B.source buf.old).told → IfOk result (λ n. Takes (B.source buf.old) n (B.source buf.new) × (out.new.items ≡ out.old.items ++ take n (B.source buf.old).left)) }
+    ensures end { IsTrue (B.source buf.old).told → IfErr result (λ e. kind_of e ≡ ErrorKind.Eof → ((B.source buf.old).left ≡ []) × (out.new.items ≡ out.old.items)) }
+    ensures err { IsTrue (B.source buf.old).told → IfErr result (λ e. FailsToKeep (B.source buf.old) len (kind_of e) (B.source buf.new)) }
+{
+    let chunk = buf.chunk()?;
+    let bytes = chunk.as_bytes();
+    let count = bytes.len().min(len);
+    if out.extend_from_slice(&bytes[..count]).is_err() {
+        return Err(ParseError::out_of_memory());
+    }
+    buf.advance(count);
+    Ok(count)
+}
+
+// Appends the next `len` bytes, or all that is left where there are fewer.
+pub(crate) fn append<'p, B: ParseBuf<'p>>(
+    buf: &mut B,
+    out: &mut Vec<u8>,
+    len: usize,
+) -> ParseResult<()>
+    ensures stays { Stays (B.source buf.old) (refusal result) (B.source buf.new) }
+    ensures can_fail { CanFail (B.source buf.old) (refusal result) }
+    ensures room { vec_len out.old + len ≤ vec_capacity out.old → NeedsNoMemory result }
+    ensures ok { IsTrue (B.source buf.old).told → OnOk result (Takes (B.source buf.old) len (B.source buf.new) × (out.new.items ≡ out.old.items ++ take len (B.source buf.old).left)) }
+    ensures end { IsTrue (B.source buf.old).told → IfErr result (λ e. kind_of e ≡ ErrorKind.Eof → out.new.items ≡ out.old.items ++ (B.source buf.old).left) }
+    ensures err { IsTrue (B.source buf.old).told → IfErr result (λ e. FailsToKeep (B.source buf.old) len (kind_of e) (B.source buf.new)) }
+{
+    let mut at = 0;
+    while at < len {
+        at += match append_some(buf, out, len - at) {
+            Ok(count) => count,
+            Err(error) => return Err(error),
+        };
     }
     Ok(())
 }

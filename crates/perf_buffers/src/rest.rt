@@ -4,8 +4,9 @@ ghost use Rattle.std.specs.Prelude.{◌≡◌, length, take, IsTrue, IfOk, IfErr
 ghost use Rattle.perf_base.specs.Cow.{cow_items, is_borrowed};
 ghost use Rattle.perf_base.specs.Errors.{kind_of};
 ghost use Rattle.perf_buffers.specs.Buffer.{NeedsNoMemory, refusal, Stays};
-ghost use Rattle.perf_buffers.specs.Taking.{Takes, FailsInRest, CanFail, AppendsSome};
+ghost use Rattle.perf_buffers.specs.Taking.{Takes, FailsInRest, CanFail};
 
+use crate::fill::append;
 use crate::parsebuf::{ParseBuf, ParseBufChunk};
 use perf_base::cow::CowSlice;
 use perf_base::error::{ErrorKind, ParseError, ParseResult};
@@ -46,27 +47,6 @@ fn is_at_end<'p, B: ParseBuf<'p>>(buf: &mut B) -> ParseResult<bool>
     }
 }
 
-// Appends one chunk, and says whether there was one.
-fn append_chunk<'p, B: ParseBuf<'p>>(buf: &mut B, out: &mut Vec<u8>) -> ParseResult<bool>
-    ensures stays { Stays (B.source buf.old) (refusal result) (B.source buf.new) }
-    ensures can_fail { CanFail (B.source buf.old) (refusal result) }
-    ensures ok { IsTrue (B.source buf.old).told → IfOk result (λ more. AppendsSome (B.source buf.old) out.old.items more (B.source buf.new) out.new.items) }
-    ensures err { IsTrue (B.source buf.old).told → IfErr result (λ e. FailsInRest (B.source buf.old) (kind_of e) (B.source buf.new)) }
-{
-    let chunk = match buf.chunk() {
-        Ok(chunk) => chunk,
-        Err(error) if error.kind() == ErrorKind::Eof => return Ok(false),
-        Err(error) => return Err(error),
-    };
-    let bytes = chunk.as_bytes();
-    let count = bytes.len();
-    if out.extend_from_slice(bytes).is_err() {
-        return Err(ParseError::out_of_memory());
-    }
-    buf.advance(count);
-    Ok(true)
-}
-
 // Appends all that is left. A buffer that never ends is refused for want of memory.
 fn append_rest<'p, B: ParseBuf<'p>>(buf: &mut B, out: &mut Vec<u8>) -> ParseResult<()>
     ensures stays { Stays (B.source buf.old) (refusal result) (B.source buf.new) }
@@ -74,14 +54,11 @@ fn append_rest<'p, B: ParseBuf<'p>>(buf: &mut B, out: &mut Vec<u8>) -> ParseResu
     ensures ok { IsTrue (B.source buf.old).told → OnOk result ((out.new.items ≡ out.old.items ++ (B.source buf.old).left) × ((B.source buf.new).left ≡ [])) }
     ensures err { IsTrue (B.source buf.old).told → IfErr result (λ e. FailsInRest (B.source buf.old) (kind_of e) (B.source buf.new)) }
 {
-    for _ in 0..u64::MAX {
-        match append_chunk(buf, out) {
-            Ok(true) => {}
-            Ok(false) => return Ok(()),
-            Err(error) => return Err(error),
-        }
+    match append(buf, out, usize::MAX) {
+        Ok(()) => Err(ParseError::out_of_memory()),
+        Err(error) if error.kind() == ErrorKind::Eof => Ok(()),
+        Err(error) => Err(error),
     }
-    Err(ParseError::out_of_memory())
 }
 
 // The bytes of `first`, and all that is left behind them.

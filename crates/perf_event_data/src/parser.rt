@@ -1,7 +1,7 @@
 //! A buffer and how to read it.
 
-ghost use Rattle.std.specs.Prelude.{◌≡◌, ◌+◌, ℕ, IfOk, IfErr, IsTrue};
-ghost use Rattle.perf_base.specs.Configured.{configuration_of, endian_of};
+ghost use Rattle.std.specs.Prelude.{◌≡◌};
+ghost use Rattle.perf_base.specs.Configured.{endian_of};
 ghost use Rattle.perf_event_data.specs.Meaning.{buffer_of, config_of, reads_of};
 
 use perf_base::config::ParseConfig;

@@ -2,7 +2,7 @@ use Rattle.std.proofs.Common.{◌≡◌, ◌-◌, ◌+◌, ◌≤◌, take, None
 use Rattle.std.specs.Prelude.{IsTrue, vec_capacity}
 use Rattle.perf_buffers.specs.Buffer.{Stays}
 use Rattle.perf_buffers.specs.Taking.{Takes}
-use Rattle.perf_buffers.proofs.cursor.append.Given as goal
+use Rattle.perf_buffers.proofs.fill.append.Given as goal
 
 abbrev pub invariant-loop-at : goal.invariant-loop-at
 invariant-loop-at g l =
