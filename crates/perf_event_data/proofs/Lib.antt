@@ -1,6 +1,3 @@
-pub mod Taking
-pub mod Options
-pub mod Hints
 pub mod Paying
 pub mod Steps
 pub mod Saying

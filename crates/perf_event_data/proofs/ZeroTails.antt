@@ -10,9 +10,9 @@ use Rattle.std.proofs.Math.Seq.{take-add}
 use Rattle.std.specs.Prelude.{IsTrue, ◌==◌, ◌&&◌}
 use Rattle.perf_base.specs.declared.error.ErrorKind.{ErrorKind}
 use Rattle.perf_base.specs.declared.error.ErrorKind.TheVariants.{Eof, InvalidRecord, UnsupportedConfig, UnsupportedData, External, OutOfMemory}
-use Rattle.perf_event_data.specs.Buffer.{Source}
+use Rattle.perf_buffers.specs.Buffer.{Source}
 use Rattle.perf_event_data.specs.Reading.{of_layout}
-use Rattle.perf_event_data.specs.Taking.{FailsToTake}
+use Rattle.perf_buffers.specs.Taking.{FailsToTake}
 use Rattle.perf_base.proofs.Bridge.{places_run, run_yes, run_no, taken, not_taken}
 
 -- what follows the bytes
@@ -39,8 +39,3 @@ zeros_fail o n old new UnsupportedConfig p h = absurd p
 zeros_fail o n old new UnsupportedData p h = absurd p
 zeros_fail o n old new External p h = cc
 zeros_fail o n old new OutOfMemory p h = absurd p
-
--- some bytes, and then others
-pub zero_on : (a n : ℕ) (left rest : List ℕ) (was more now : Bool) → rest ≡ drop a left → was ≡ all_zero (take a left) → more ≡ all_zero (take n rest) → now ≡ (was && more) → now ≡ all_zero (take (a + n) left)
-zero_on a n left rest was more now behind p q r =
-    r ∙ rw (p, q, behind) refl ∙ sym (list_all-append (λ byte. byte == 0) (take a left) (take n (drop a left))) ∙ ap all_zero (sym (take-add a n left))

@@ -5,12 +5,12 @@ ghost use Rattle.std.specs.Prelude.{◌≡◌, drop, IsTrue, IfOk, if◌then◌e
 ghost use Rattle.perf_base.specs.Attribute.{attribute, is_attribute_size};
 ghost use Rattle.perf_base.specs.Errors.{kind_of};
 ghost use Rattle.perf_event_data.specs.AttributeGroups.{front, first_fields, middle_fields, late_fields, assembled};
-ghost use Rattle.perf_event_data.specs.Buffer.{NeedsNoMemory, refusal};
+ghost use Rattle.perf_buffers.specs.Buffer.{NeedsNoMemory, refusal};
 ghost use Rattle.perf_event_data.specs.Meaning.{buffer_of, config_of, meaning};
 ghost use Rattle.perf_event_data.specs.Reading.{Reads, KeepsBuffer, KeepsFaults, KeepsCost, KeepsPlace};
 
 use crate::parse::{Layout, Parse};
-use crate::parsebuf::ParseBuf;
+use perf_buffers::parsebuf::ParseBuf;
 use crate::parser::Parser;
 use perf_base::endian::Endian;
 use perf_base::error::{ErrorKind, ParseError, ParseResult};

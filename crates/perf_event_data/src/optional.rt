@@ -2,12 +2,12 @@
 
 ghost use Rattle.std.specs.Prelude.{◌≡◌, IsTrue};
 ghost use Rattle.perf_base.specs.Layout.{optional, padding, w2, w4, w8};
-ghost use Rattle.perf_event_data.specs.Buffer.{NeedsNoMemory, refusal};
+ghost use Rattle.perf_buffers.specs.Buffer.{NeedsNoMemory, refusal};
 ghost use Rattle.perf_event_data.specs.Meaning.{buffer_of, config_of, meaning};
 ghost use Rattle.perf_event_data.specs.Reading.{ReadsOne, KeepsBuffer, KeepsFaults, KeepsCost, KeepsPlace};
 
-use crate::cursor::skip;
-use crate::parsebuf::ParseBuf;
+use perf_buffers::cursor::skip;
+use perf_buffers::parsebuf::ParseBuf;
 use crate::parser::Parser;
 use perf_base::endian::Endian;
 use perf_base::error::ParseResult;
