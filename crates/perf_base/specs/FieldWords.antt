@@ -1,5 +1,5 @@
 -- The words in which the parts of a structure are written down, one line a field, as in the manual page.
-use Rattle.std.specs.Prelude.{ℕ, Bool, List, Option}
+use Rattle.std.specs.Prelude.{ℕ, Bool, List, Option, if◌then◌else◌}
 use Rattle.perf_base.specs.Layout.{w1, w2, w4, w8, number, optional, run, words, padding, rest, Parts, done, part, check, mapped}
 use Rattle.perf_base.specs.Zeros.{trimmed}
 use Rattle.perf_base.specs.declared.error.ErrorKind.{ErrorKind}
@@ -20,6 +20,9 @@ u64 = part (number w8) done
 abbrev pub u64_if : Bool → Parts (Option ℕ)
 u64_if present = part (optional present w8) done
 
+abbrev pub u32_if : Bool → Parts (Option ℕ)
+u32_if present = part (optional present w4) done
+
 -- n bytes
 abbrev pub bytes : ℕ → Parts (List ℕ)
 bytes n = part (run n) done
@@ -31,6 +34,10 @@ numbers n = part (words n) done
 -- n bytes that say nothing
 abbrev pub ignored : ℕ → Parts (Unit {0})
 ignored n = part (padding n) done
+
+-- n bytes that say nothing and are there, or not
+abbrev pub ignored_if : Bool → ℕ → Parts (Unit {0})
+ignored_if present n = ignored (if present then n else 0)
 
 -- all bytes that are left
 abbrev pub all_left : Parts (List ℕ)
