@@ -17,6 +17,8 @@ pub mod mmap2;
 pub mod namespaces;
 pub mod sample_id;
 pub mod switch_cpu_wide;
+#[cfg(test)]
+mod tests;
 mod text;
 pub mod text_poke;
 pub mod throttle;

@@ -10,17 +10,22 @@ use perf_base::cow::CowSlice;
 use perf_base::error::{ErrorKind, ParseResult};
 use std::alloc::Global;
 
-// Where each namespace stands in the list, `NET_NS_INDEX` and the like of perf_event.h.
+// Where the network namespace stands in the list, `NET_NS_INDEX` of perf_event.h.
 const NETWORK: usize = 0;
 
+// `UTS_NS_INDEX`
 const UTS: usize = 1;
 
+// `IPC_NS_INDEX`
 const IPC: usize = 2;
 
+// `PID_NS_INDEX`
 const PID: usize = 3;
 
+// `USER_NS_INDEX`
 const USER: usize = 4;
 
+// `CGROUP_NS_INDEX`. The one of time, at 5, has no call.
 const CGROUP: usize = 6;
 
 /// The namespaces that a task is in (`PERF_RECORD_NAMESPACES`), when it was made or changed one of them.
