@@ -1,1 +1,3 @@
+mod Poked
+mod SampleIdLength
 mod Worked

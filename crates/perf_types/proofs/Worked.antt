@@ -1,12 +1,29 @@
 -- Layouts of bodies, computed: a wrong order, width or padding of a field is refused here.
-use Rattle.std.proofs.Common.{◌≡◌, ℕ, List, [], ◌∷◌, ◌++◌, Ok, Err, refl}
+use Rattle.std.proofs.Common.{◌≡◌, ℕ, true, false, List, [], ◌∷◌, ◌++◌, Some, None, Ok, Err, refl}
+use Rattle.perf_base.specs.Configuration.{Configuration, plain}
 use Rattle.perf_base.specs.Order.{little, big}
 use Rattle.perf_base.specs.Layout.{layout}
 use Rattle.perf_base.specs.Reads.{layout_reads, layout_consumed}
-use Rattle.perf_base.specs.declared.error.ErrorKind.TheVariants.{Eof}
+use Rattle.perf_base.specs.declared.error.ErrorKind.TheVariants.{Eof, InvalidRecord}
+use Rattle.perf_types.specs.Aux.{aux}
+use Rattle.perf_types.specs.AuxOutputHwId.{aux_output_hw_id}
+use Rattle.perf_types.specs.BpfEvent.{bpf_event}
+use Rattle.perf_types.specs.CGroup.{cgroup}
+use Rattle.perf_types.specs.Comm.{comm}
 use Rattle.perf_types.specs.Exit.{exit}
+use Rattle.perf_types.specs.ITraceStart.{itrace_start}
+use Rattle.perf_types.specs.KSymbol.{ksymbol}
 use Rattle.perf_types.specs.Lost.{lost}
 use Rattle.perf_types.specs.LostSamples.{lost_samples}
+use Rattle.perf_types.specs.Mmap.{mmap}
+use Rattle.perf_types.specs.Mmap2.{mmap2}
+use Rattle.perf_types.specs.MmapDetail.{inode_is, build_id_is}
+use Rattle.perf_types.specs.Namespaces.{namespaces}
+use Rattle.perf_types.specs.SampleId.{sample_id, sample_id_length, no_sample_id}
+use Rattle.perf_types.specs.SwitchCpuWide.{switch_cpu_wide}
+use Rattle.perf_types.specs.TextPoke.{text_poke}
+use Rattle.perf_types.specs.Throttle.{throttle}
+use Rattle.perf_types.specs.declared.switch_cpu_wide.SwitchCpuWide.TheVariants.{In, Out}
 
 abbrev lost_body : List ℕ
 lost_body = 0x10 ∷ 0 ∷ 0x99 ∷ 0 ∷ 0 ∷ 0 ∷ 0 ∷ 0 ∷ 0 ∷ 0xAF ∷ 0 ∷ 0 ∷ 0 ∷ 0x7B ∷ 0 ∷ 0 ∷ []
@@ -37,3 +54,197 @@ exit_of_16_bytes = refl
 
 lost_samples_in_big : layout big lost_samples (0 ∷ 0 ∷ 0 ∷ 0 ∷ 0 ∷ 0 ∷ 0 ∷ 5 ∷ []) ≡ Ok (record { lost = 5 })
 lost_samples_in_big = refl
+
+-- ---- numbers below 2 ^ 16 as bytes, the lowest first
+
+abbrev four : (low high : ℕ) → List ℕ
+four low high = low ∷ high ∷ 0 ∷ 0 ∷ []
+
+abbrev eight : (low high : ℕ) → List ℕ
+eight low high = low ∷ high ∷ 0 ∷ 0 ∷ 0 ∷ 0 ∷ 0 ∷ 0 ∷ []
+
+-- ---- plain numbers
+
+throttle_of_24_bytes : layout little throttle (0x10 ∷ 0x20 ∷ 0x30 ∷ 0x40 ∷ 0x50 ∷ 0x60 ∷ 0x70 ∷ 0x80 ∷ 0x90 ∷ 0xA0 ∷ 0xB0 ∷ 0xC0 ∷ 0xD0 ∷ 0xE0 ∷ 0xF0 ∷ 0 ∷ 0xEF ∷ 0xBE ∷ 0xAD ∷ 0xDE ∷ 0xFE ∷ 0xCA ∷ 0xEF ∷ 0xBE ∷ []) ≡
+    Ok (record { time = 0x8070605040302010; id = 0x00F0E0D0C0B0A090; stream_id = 0xBEEFCAFEDEADBEEF })
+throttle_of_24_bytes = refl
+
+throttle_of_16_bytes : layout little throttle lost_body ≡ Err Eof
+throttle_of_16_bytes = refl
+
+itrace_start_of_8_bytes : layout little itrace_start (four 1 0 ++ four 2 0) ≡ Ok (record { pid = 1; tid = 2 })
+itrace_start_of_8_bytes = refl
+
+itrace_start_of_7_bytes : layout little itrace_start (four 1 0 ++ 2 ∷ 0 ∷ 0 ∷ []) ≡ Err Eof
+itrace_start_of_7_bytes = refl
+
+aux_with_a_flag_that_has_no_name : layout little aux (eight 0 16 ++ eight 64 0 ++ eight 0x81 0) ≡ Ok (record { aux_offset = 4096; aux_size = 64; flags = 0x81 })
+aux_with_a_flag_that_has_no_name = refl
+
+aux_without_flags_is_cut : layout little aux lost_body ≡ Err Eof
+aux_without_flags_is_cut = refl
+
+aux_output_hw_id_of_8_bytes : layout little aux_output_hw_id (eight 0x34 0x12) ≡ Ok (record { hw_id = 0x1234 })
+aux_output_hw_id_of_8_bytes = refl
+
+aux_output_hw_id_of_no_bytes : layout little aux_output_hw_id [] ≡ Err Eof
+aux_output_hw_id_of_no_bytes = refl
+
+bpf_event_of_16_bytes : layout little bpf_event (1 ∷ 0 ∷ 0 ∷ 0 ∷ four 7 0 ++ 1 ∷ 2 ∷ 3 ∷ 4 ∷ 5 ∷ 6 ∷ 7 ∷ 8 ∷ []) ≡
+    Ok (record { ty = 1; flags = 0; id = 7; tag = 1 ∷ 2 ∷ 3 ∷ 4 ∷ 5 ∷ 6 ∷ 7 ∷ 8 ∷ [] })
+bpf_event_of_16_bytes = refl
+
+bpf_event_with_half_a_tag : layout little bpf_event (1 ∷ 0 ∷ 0 ∷ 0 ∷ four 7 0 ++ 1 ∷ 2 ∷ 3 ∷ 4 ∷ []) ≡ Err Eof
+bpf_event_with_half_a_tag = refl
+
+-- ---- which way a switch went
+
+abbrev under_misc : ℕ → Configuration
+under_misc misc = record { read_format = 0; sample_type = 0; sample_id_all = false; branch_hw_index = false; misc = misc; regs_user = 0; regs_intr = 0 }
+
+switched_out : layout little (switch_cpu_wide (under_misc 0x2000)) (four 1 0 ++ four 2 0) ≡ Ok (Out 1 2)
+switched_out = refl
+
+switched_in : layout little (switch_cpu_wide plain) (four 1 0 ++ four 2 0) ≡ Ok (In 1 2)
+switched_in = refl
+
+-- only bit 13 counts
+switched_in_under_other_bits : layout little (switch_cpu_wide (under_misc 0xDFFF)) (four 1 0 ++ four 2 0) ≡ Ok (In 1 2)
+switched_in_under_other_bits = refl
+
+-- ---- names
+
+comm_without_its_zero_bytes : layout little comm (0x10 ∷ 0x10 ∷ 0 ∷ 0 ∷ 0 ∷ 5 ∷ 0 ∷ 0 ∷ 0x74 ∷ 0x65 ∷ 0x73 ∷ 0x74 ∷ 0 ∷ 0 ∷ 0 ∷ 0 ∷ []) ≡
+    Ok (record { pid = 0x1010; tid = 0x500; comm = 0x74 ∷ 0x65 ∷ 0x73 ∷ 0x74 ∷ [] })
+comm_without_its_zero_bytes = refl
+
+comm_without_a_name : layout little comm (four 1 0 ++ four 2 0) ≡ Ok (record { pid = 1; tid = 2; comm = [] })
+comm_without_a_name = refl
+
+comm_of_six_bytes : layout little comm (four 1 0 ++ 2 ∷ 0 ∷ []) ≡ Err Eof
+comm_of_six_bytes = refl
+
+-- a zero byte inside stays
+cgroup_with_a_zero_byte_inside : layout little cgroup (eight 7 0 ++ 0x2F ∷ 0 ∷ 0x61 ∷ 0 ∷ []) ≡ Ok (record { id = 7; path = 0x2F ∷ 0 ∷ 0x61 ∷ [] })
+cgroup_with_a_zero_byte_inside = refl
+
+cgroup_of_four_bytes : layout little cgroup (four 7 0) ≡ Err Eof
+cgroup_of_four_bytes = refl
+
+ksymbol_of_24_bytes : layout little ksymbol (eight 0 16 ++ four 64 0 ++ 1 ∷ 0 ∷ 1 ∷ 0 ∷ 0x62 ∷ 0x70 ∷ 0x66 ∷ 0 ∷ 0 ∷ 0 ∷ 0 ∷ 0 ∷ []) ≡
+    Ok (record { addr = 4096; len = 64; ksym_type = 1; flags = 1; name = 0x62 ∷ 0x70 ∷ 0x66 ∷ [] })
+ksymbol_of_24_bytes = refl
+
+ksymbol_without_flags : layout little ksymbol (eight 0 16 ++ four 64 0 ++ 1 ∷ 0 ∷ []) ≡ Err Eof
+ksymbol_without_flags = refl
+
+-- ---- mappings
+
+mmap_of_40_bytes : layout little mmap (0x0A ∷ 0x64 ∷ 0 ∷ 0 ∷ 0x0B ∷ 0x64 ∷ 0 ∷ 0 ∷ 0 ∷ 0xA0 ∷ 0x76 ∷ 0x81 ∷ 0xBD ∷ 0x7F ∷ 0 ∷ 0 ∷ eight 0 16 ++ 0 ∷ 0xA0 ∷ 0x76 ∷ 0x81 ∷ 0xBD ∷ 0x7F ∷ 0 ∷ 0 ∷ 0x2F ∷ 0x2F ∷ 0x61 ∷ 0x6E ∷ 0x6F ∷ 0x6E ∷ 0 ∷ 0 ∷ []) ≡
+    Ok (record { pid = 25610; tid = 25611; addr = 0x7FBD8176A000; len = 4096; pgoff = 0x7FBD8176A000; filename = 0x2F ∷ 0x2F ∷ 0x61 ∷ 0x6E ∷ 0x6F ∷ 0x6E ∷ [] })
+mmap_of_40_bytes = refl
+
+mmap_of_another_process : layout little mmap (0x16 ∷ 0x4C ∷ 1 ∷ 0 ∷ 0x17 ∷ 0x4C ∷ 1 ∷ 0 ∷ 0 ∷ 0xA0 ∷ 0x48 ∷ 0x96 ∷ 0x4F ∷ 0x7F ∷ 0 ∷ 0 ∷ eight 0 16 ++ 0 ∷ 0xA0 ∷ 0x48 ∷ 0x96 ∷ 0x4F ∷ 0x7F ∷ 0 ∷ 0 ∷ 0x2F ∷ 0x2F ∷ 0x61 ∷ 0x6E ∷ 0x6F ∷ 0x6E ∷ 0 ∷ 0 ∷ []) ≡
+    Ok (record { pid = 85014; tid = 85015; addr = 139979800485888; len = 4096; pgoff = 139979800485888; filename = 0x2F ∷ 0x2F ∷ 0x61 ∷ 0x6E ∷ 0x6F ∷ 0x6E ∷ [] })
+mmap_of_another_process = refl
+
+mmap_of_16_bytes : layout little mmap lost_body ≡ Err Eof
+mmap_of_16_bytes = refl
+
+-- the fields in front of a detail, and those behind it
+abbrev in_front : List ℕ
+in_front = four 1 0 ++ four 2 0 ++ eight 0 16 ++ eight 0 32 ++ eight 0 0
+
+abbrev behind : List ℕ
+behind = four 5 0 ++ four 2 0 ++ 0x61 ∷ 0x62 ∷ 0 ∷ 0 ∷ 0 ∷ 0 ∷ 0 ∷ 0 ∷ []
+
+-- twenty bytes, 1 to 20
+abbrev twenty : List ℕ
+twenty = 1 ∷ 2 ∷ 3 ∷ 4 ∷ 5 ∷ 6 ∷ 7 ∷ 8 ∷ 9 ∷ 10 ∷ 11 ∷ 12 ∷ 13 ∷ 14 ∷ 15 ∷ 16 ∷ 17 ∷ 18 ∷ 19 ∷ 20 ∷ []
+
+mmap2_with_an_inode : layout little (mmap2 plain) (in_front ++ four 8 0 ++ four 1 0 ++ eight 99 0 ++ eight 3 0 ++ behind) ≡
+    Ok (record { pid = 1; tid = 2; addr = 4096; len = 8192; pgoff = 0; detail = inode_is 8 1 99 3; prot = 5; flags = 2; filename = 0x61 ∷ 0x62 ∷ [] })
+mmap2_with_an_inode = refl
+
+mmap2_with_a_build_id : layout little (mmap2 (under_misc 0x4000)) (in_front ++ 20 ∷ 0 ∷ 0 ∷ 0 ∷ twenty ++ behind) ≡
+    Ok (record { pid = 1; tid = 2; addr = 4096; len = 8192; pgoff = 0; detail = build_id_is twenty; prot = 5; flags = 2; filename = 0x61 ∷ 0x62 ∷ [] })
+mmap2_with_a_build_id = refl
+
+-- the three bytes behind the length say nothing, and those behind the build id neither
+mmap2_with_a_build_id_of_two_bytes : layout little (mmap2 (under_misc 0x4000)) (in_front ++ 2 ∷ 7 ∷ 8 ∷ 9 ∷ twenty ++ behind) ≡
+    Ok (record { pid = 1; tid = 2; addr = 4096; len = 8192; pgoff = 0; detail = build_id_is (1 ∷ 2 ∷ []); prot = 5; flags = 2; filename = 0x61 ∷ 0x62 ∷ [] })
+mmap2_with_a_build_id_of_two_bytes = refl
+
+-- a length of 21 is refused once all 24 bytes are there, also where nothing is behind them
+mmap2_with_a_build_id_too_long : layout little (mmap2 (under_misc 0x4000)) (in_front ++ 21 ∷ 0 ∷ 0 ∷ 0 ∷ twenty) ≡ Err InvalidRecord
+mmap2_with_a_build_id_too_long = refl
+
+mmap2_with_three_bytes_of_a_build_id : layout little (mmap2 (under_misc 0x4000)) (in_front ++ 21 ∷ 0 ∷ 0 ∷ []) ≡ Err Eof
+mmap2_with_three_bytes_of_a_build_id = refl
+
+-- ---- lists
+
+namespaces_of_two : layout little namespaces (four 1 0 ++ four 2 0 ++ eight 2 0 ++ eight 3 0 ++ eight 4 0 ++ eight 5 0 ++ eight 6 0) ≡
+    Ok (record { pid = 1; tid = 2; namespaces = record { dev = 3; inode = 4 } ∷ record { dev = 5; inode = 6 } ∷ [] })
+namespaces_of_two = refl
+
+namespaces_of_none : layout little namespaces (four 1 0 ++ four 2 0 ++ eight 0 0) ≡ Ok (record { pid = 1; tid = 2; namespaces = [] })
+namespaces_of_none = refl
+
+namespaces_of_one_and_a_half : layout little namespaces (four 1 0 ++ four 2 0 ++ eight 2 0 ++ eight 3 0 ++ eight 4 0 ++ eight 5 0) ≡ Err Eof
+namespaces_of_one_and_a_half = refl
+
+-- ---- code that was changed
+
+text_poke_of_five_bytes : layout little text_poke (eight 16 0 ++ 3 ∷ 0 ∷ 2 ∷ 0 ∷ 0xA1 ∷ 0xA2 ∷ 0xA3 ∷ 0xB1 ∷ 0xB2 ∷ 0 ∷ 0 ∷ 0 ∷ 0 ∷ 0 ∷ 0 ∷ 0 ∷ []) ≡
+    Ok (record { addr = 16; old_bytes = 0xA1 ∷ 0xA2 ∷ 0xA3 ∷ []; new_bytes = 0xB1 ∷ 0xB2 ∷ [] })
+text_poke_of_five_bytes = refl
+
+text_poke_of_one_byte : layout little text_poke (eight 16 0 ++ 0 ∷ 0 ∷ 1 ∷ 0 ∷ 0xAA ∷ 0 ∷ 0 ∷ 0 ∷ []) ≡ Ok (record { addr = 16; old_bytes = []; new_bytes = 0xAA ∷ [] })
+text_poke_of_one_byte = refl
+
+text_poke_of_one_and_one : layout little text_poke (eight 16 0 ++ 1 ∷ 0 ∷ 1 ∷ 0 ∷ 0xAA ∷ 0xBB ∷ 0 ∷ 0 ∷ []) ≡ Ok (record { addr = 16; old_bytes = 0xAA ∷ []; new_bytes = 0xBB ∷ [] })
+text_poke_of_one_and_one = refl
+
+-- the bytes behind both strings have to be there
+text_poke_with_three_bytes : layout little text_poke (eight 16 0 ++ 1 ∷ 0 ∷ 1 ∷ 0 ∷ 0xAA ∷ 0xBB ∷ 0 ∷ []) ≡ Err Eof
+text_poke_with_three_bytes = refl
+
+-- ---- the sample id
+
+abbrev with_ids : ℕ → Configuration
+with_ids sample_type = record { read_format = 0; sample_type = sample_type; sample_id_all = true; branch_hw_index = false; misc = 0; regs_user = 0; regs_intr = 0 }
+
+sample_id_of_task_and_time : layout little (sample_id (with_ids 6)) (four 3 0 ++ four 4 0 ++ eight 5 0) ≡
+    Ok (record { pid = Some 3; tid = Some 4; time = Some 5; id = None; stream_id = None; cpu = None })
+sample_id_of_task_and_time = refl
+
+-- of two ids the first counts
+sample_id_with_two_ids : layout little (sample_id (with_ids 0x10040)) (eight 7 0 ++ eight 9 0) ≡
+    Ok (record { pid = None; tid = None; time = None; id = Some 7; stream_id = None; cpu = None })
+sample_id_with_two_ids = refl
+
+sample_id_with_an_identifier : layout little (sample_id (with_ids 0x10000)) (eight 9 0) ≡
+    Ok (record { pid = None; tid = None; time = None; id = Some 9; stream_id = None; cpu = None })
+sample_id_with_an_identifier = refl
+
+-- all six flags, among others that have no field here
+sample_id_of_all_fields : layout little (sample_id (with_ids 0x1FFFFFF)) (four 1 0 ++ four 2 0 ++ eight 3 0 ++ eight 4 0 ++ eight 5 0 ++ four 6 0 ++ four 99 0 ++ eight 7 0) ≡
+    Ok (record { pid = Some 1; tid = Some 2; time = Some 3; id = Some 4; stream_id = Some 5; cpu = Some 6 })
+sample_id_of_all_fields = refl
+
+-- the four bytes behind the processor have to be there
+sample_id_with_half_a_cpu : layout little (sample_id (with_ids 0x80)) (four 6 0) ≡ Err Eof
+sample_id_with_half_a_cpu = refl
+
+sample_id_without_sample_id_all : layout little (sample_id plain) (four 3 0) ≡ Ok no_sample_id
+sample_id_without_sample_id_all = refl
+
+sample_id_of_48_bytes : sample_id_length (with_ids 0x1FFFFFF) ≡ 48
+sample_id_of_48_bytes = refl
+
+sample_id_of_16_bytes : sample_id_length (with_ids 6) ≡ 16
+sample_id_of_16_bytes = refl
+
+sample_id_of_no_bytes : sample_id_length plain ≡ 0
+sample_id_of_no_bytes = refl

@@ -1,6 +1,24 @@
 //! The records that the kernel writes, as plain values.
 #![tactic(auto)]
 
+pub mod aux_output_hw_id;
+pub mod aux_record;
+pub mod bpf_event;
+pub mod cgroup;
+pub mod comm;
 pub mod exit;
+pub mod itrace_start;
+pub mod ksymbol;
+pub mod laws;
 pub mod lost;
 pub mod lost_samples;
+pub mod mmap;
+pub mod mmap2;
+pub mod namespaces;
+pub mod sample_id;
+pub mod switch_cpu_wide;
+#[cfg(test)]
+mod tests;
+mod text;
+pub mod text_poke;
+pub mod throttle;

@@ -1,0 +1,33 @@
+-- PERF_RECORD_KSYMBOL: a place and a length in the kernel's memory, what stands there, flags and a name.
+use Rattle.std.specs.Prelude.{ℕ, List, IsTrue}
+use Rattle.perf_base.specs.Cow.{cow_items, is_borrowed}
+use Rattle.perf_base.specs.Layout.{Parts, done, ◌>>=◌}
+use Rattle.perf_base.specs.FieldWords.{u16, u32, u64, name}
+use Rattle.perf_words.specs.SetBits.{ksymbol_flags_bits}
+use Rattle.perf_types.specs.declared.ksymbol.KSymbol.{KSymbol}
+
+-- a KSYMBOL record in plain numbers and bytes
+pub record KSymbolValue : Type 0 where
+  pub addr : ℕ
+  pub len : ℕ
+  pub ksym_type : ℕ
+  -- the bits of the set of flags, those without a name too
+  pub flags : ℕ
+  pub name : List ℕ
+
+-- the value of a record of the code, wherever its bytes lie
+abbrev pub ksymbol_value : KSymbol → KSymbolValue
+ksymbol_value r = record { addr = r.addr; len = r.len; ksym_type = r.ksym_type; flags = ksymbol_flags_bits r.flags; name = cow_items r.name }
+
+-- no byte of it was copied
+abbrev pub IsBorrowedKSymbol : KSymbol → Type 0
+IsBorrowedKSymbol r = IsTrue (is_borrowed r.name)
+
+abbrev pub ksymbol : Parts KSymbolValue
+ksymbol = do
+  addr ← u64
+  len ← u32
+  ksym_type ← u16
+  flags ← u16
+  symbol ← name
+  done (record { addr = addr; len = len; ksym_type = ksym_type; flags = flags; name = symbol })

@@ -1,0 +1,33 @@
+-- PERF_RECORD_MMAP: a process, its thread, where it mapped what, and the path of the file.
+use Rattle.std.specs.Prelude.{ℕ, List, IsTrue}
+use Rattle.perf_base.specs.Cow.{cow_items, is_borrowed}
+use Rattle.perf_base.specs.Layout.{Parts, done, ◌>>=◌}
+use Rattle.perf_base.specs.FieldWords.{u32, u64, name}
+use Rattle.perf_types.specs.declared.mmap.Mmap.{Mmap}
+
+-- an MMAP record in plain numbers and bytes
+pub record MmapValue : Type 0 where
+  pub pid : ℕ
+  pub tid : ℕ
+  pub addr : ℕ
+  pub len : ℕ
+  pub pgoff : ℕ
+  pub filename : List ℕ
+
+-- the value of a record of the code, wherever its bytes lie
+abbrev pub mmap_value : Mmap → MmapValue
+mmap_value r = record { pid = r.pid; tid = r.tid; addr = r.addr; len = r.len; pgoff = r.pgoff; filename = cow_items r.filename }
+
+-- no byte of it was copied
+abbrev pub IsBorrowedMmap : Mmap → Type 0
+IsBorrowedMmap r = IsTrue (is_borrowed r.filename)
+
+abbrev pub mmap : Parts MmapValue
+mmap = do
+  pid ← u32
+  tid ← u32
+  addr ← u64
+  len ← u64
+  pgoff ← u64
+  filename ← name
+  done (record { pid = pid; tid = tid; addr = addr; len = len; pgoff = pgoff; filename = filename })

@@ -1,0 +1,46 @@
+-- PERF_RECORD_MMAP2: as PERF_RECORD_MMAP, and which file was mapped, how its memory may be used, and how it was mapped.
+use Rattle.std.specs.Prelude.{ℕ, List, IsTrue}
+use Rattle.perf_base.specs.Configuration.{Configuration}
+use Rattle.perf_base.specs.Cow.{cow_items, is_borrowed}
+use Rattle.perf_base.specs.Layout.{Parts, done, ◌>>=◌}
+use Rattle.perf_base.specs.FieldWords.{u32, u64, name}
+use Rattle.perf_types.specs.Mmap.{MmapValue}
+use Rattle.perf_types.specs.MmapDetail.{DetailValue, detail_value, mmap_detail}
+use Rattle.perf_types.specs.declared.mmap2.Mmap2.{Mmap2}
+
+-- an MMAP2 record in plain numbers and bytes
+pub record Mmap2Value : Type 0 where
+  pub pid : ℕ
+  pub tid : ℕ
+  pub addr : ℕ
+  pub len : ℕ
+  pub pgoff : ℕ
+  pub detail : DetailValue
+  pub prot : ℕ
+  pub flags : ℕ
+  pub filename : List ℕ
+
+-- the value of a record of the code, wherever its bytes lie
+abbrev pub mmap2_value : Mmap2 → Mmap2Value
+mmap2_value r = record { pid = r.pid; tid = r.tid; addr = r.addr; len = r.len; pgoff = r.pgoff; detail = detail_value r.detail; prot = r.prot; flags = r.flags; filename = cow_items r.filename }
+
+-- what an MMAP record says of the same mapping
+abbrev pub mapping_of : Mmap2Value → MmapValue
+mapping_of r = record { pid = r.pid; tid = r.tid; addr = r.addr; len = r.len; pgoff = r.pgoff; filename = r.filename }
+
+-- no byte of its path was copied
+abbrev pub IsBorrowedMmap2 : Mmap2 → Type 0
+IsBorrowedMmap2 r = IsTrue (is_borrowed r.filename)
+
+abbrev pub mmap2 : Configuration → Parts Mmap2Value
+mmap2 c = do
+  pid ← u32
+  tid ← u32
+  addr ← u64
+  len ← u64
+  pgoff ← u64
+  detail ← mmap_detail c
+  prot ← u32
+  flags ← u32
+  filename ← name
+  done (record { pid = pid; tid = tid; addr = addr; len = len; pgoff = pgoff; detail = detail; prot = prot; flags = flags; filename = filename })

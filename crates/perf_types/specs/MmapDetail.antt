@@ -1,0 +1,69 @@
+-- The 24 bytes of PERF_RECORD_MMAP2 that say which file was mapped: an inode, or a build id.
+use Rattle.std.specs.Prelude.{ℕ, Bool, true, List, take, Option, Some, None, nat_le, if◌then◌else◌}
+use Rattle.perf_base.specs.Configuration.{Configuration}
+use Rattle.perf_words.specs.Bits.{has_bit}
+use Rattle.perf_base.specs.Layout.{Parts, done, ◌>>=◌, ◌>>◌}
+use Rattle.perf_base.specs.FieldWords.{u8, u32, u64, bytes, ignored, require}
+use Rattle.perf_base.specs.declared.error.ErrorKind.TheVariants.{InvalidRecord}
+use Rattle.perf_types.specs.declared.mmap2.MmapDetail.{MmapDetail}
+use Rattle.perf_types.specs.declared.mmap2.MmapDetail.TheVariants as detail
+
+-- a detail in plain numbers and bytes
+pub data DetailValue : Type 0 where
+  inode_is : (maj min ino ino_generation : ℕ) → DetailValue
+  build_id_is : List ℕ → DetailValue
+
+-- the value of a detail of the code: of a build id the bytes that count
+abbrev pub detail_value : MmapDetail → DetailValue
+detail_value (detail.Default maj min ino ino_generation) = inode_is maj min ino ino_generation
+detail_value (detail.BuildId build_id len) = build_id_is (take len build_id)
+
+-- The length of a build id is at most twenty.
+abbrev pub has_fitting_id : MmapDetail → Bool
+has_fitting_id (detail.Default maj min ino ino_generation) = true
+has_fitting_id (detail.BuildId build_id len) = nat_le len 20
+
+-- ---- what a detail has, or lacks
+
+abbrev pub maj_of : DetailValue → Option ℕ
+maj_of (inode_is maj min ino ino_generation) = Some maj
+maj_of (build_id_is id) = None
+
+abbrev pub min_of : DetailValue → Option ℕ
+min_of (inode_is maj min ino ino_generation) = Some min
+min_of (build_id_is id) = None
+
+abbrev pub ino_of : DetailValue → Option ℕ
+ino_of (inode_is maj min ino ino_generation) = Some ino
+ino_of (build_id_is id) = None
+
+abbrev pub ino_generation_of : DetailValue → Option ℕ
+ino_generation_of (inode_is maj min ino ino_generation) = Some ino_generation
+ino_generation_of (build_id_is id) = None
+
+abbrev pub build_id_of : DetailValue → Option (List ℕ)
+build_id_of (inode_is maj min ino ino_generation) = None
+build_id_of (build_id_is id) = Some id
+
+-- ---- tables
+
+abbrev pub inode : Parts DetailValue
+inode = do
+  maj ← u32
+  min ← u32
+  ino ← u64
+  ino_generation ← u64
+  done (inode_is maj min ino ino_generation)
+
+-- Twenty bytes, of which the first `len` are the build id. A length above twenty is found once all bytes are there.
+abbrev pub build_id : Parts DetailValue
+build_id = do
+  len ← u8
+  ignored 3
+  id ← bytes 20
+  require (nat_le len 20) InvalidRecord
+  done (build_id_is (take len id))
+
+-- Which of both it is: bit 14 of misc, PERF_RECORD_MISC_MMAP_BUILD_ID.
+abbrev pub mmap_detail : Configuration → Parts DetailValue
+mmap_detail c = if has_bit c.misc 14 then build_id else inode

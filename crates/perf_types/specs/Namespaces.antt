@@ -1,0 +1,59 @@
+-- PERF_RECORD_NAMESPACES: a process, its thread, and a counted list of namespaces.
+use Rattle.std.specs.Prelude.{ℕ, ◌*◌, List, [], ◌∷◌}
+use Rattle.perf_base.specs.Cow.{cow_items}
+use Rattle.perf_base.specs.Layout.{Parts, done, ◌>>=◌}
+use Rattle.perf_base.specs.FieldWords.{u32, u64, numbers}
+use Rattle.perf_types.specs.declared.namespaces.NamespaceEntry.{NamespaceEntry}
+use Rattle.perf_types.specs.declared.namespaces.Namespaces.{Namespaces}
+
+-- a NAMESPACES record in plain numbers and a list
+pub record NamespacesValue : Type 0 where
+  pub pid : ℕ
+  pub tid : ℕ
+  pub namespaces : List NamespaceEntry
+
+-- the value of a record of the code, wherever its list lies
+abbrev pub namespaces_value : Namespaces → NamespacesValue
+namespaces_value r = record { pid = r.pid; tid = r.tid; namespaces = cow_items r.namespaces }
+
+-- ---- where each namespace stands in the list: NET_NS_INDEX and the like of perf_event.h
+
+abbrev pub network_index : ℕ
+network_index = 0
+
+abbrev pub uts_index : ℕ
+uts_index = 1
+
+abbrev pub ipc_index : ℕ
+ipc_index = 2
+
+abbrev pub pid_index : ℕ
+pid_index = 3
+
+abbrev pub user_index : ℕ
+user_index = 4
+
+abbrev pub cgroup_index : ℕ
+cgroup_index = 6
+
+-- ---- tables
+
+-- a namespace: a device and an inode
+abbrev pub namespace_entry : Parts NamespaceEntry
+namespace_entry = do
+  dev ← u64
+  inode ← u64
+  done (record { dev = dev; inode = inode })
+
+-- numbers, two and two
+abbrev pub entries_of : List ℕ → List NamespaceEntry
+entries_of (dev ∷ inode ∷ words) = record { dev = dev; inode = inode } ∷ entries_of words
+entries_of _ = []
+
+abbrev pub namespaces : Parts NamespacesValue
+namespaces = do
+  pid ← u32
+  tid ← u32
+  count ← u64
+  words ← numbers (2 * count)
+  done (record { pid = pid; tid = tid; namespaces = entries_of words })

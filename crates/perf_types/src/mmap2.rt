@@ -1,0 +1,248 @@
+//! MMAP2.
+
+ghost use Rattle.std.specs.Prelude.{IsTrue};
+ghost use Rattle.perf_types.specs.MmapDetail.{has_fitting_id};
+
+use crate::mmap::Mmap;
+use crate::text::text;
+use perf_base::cow::CowSlice;
+use perf_base::error::{ErrorKind, ParseResult};
+use std::alloc::Global;
+
+/// A process mapped a file into its memory, so that it can run code of it (`PERF_RECORD_MMAP2`): as [`Mmap`], and which
+/// file it was.
+#[derive(Debug, Drop)]
+pub struct Mmap2<'a> {
+    /// The process.
+    pub pid: u32,
+    /// Its thread.
+    pub tid: u32,
+    /// Where the mapping begins in the process's memory.
+    pub addr: u64,
+    /// How many bytes it has.
+    pub len: u64,
+    /// Where it begins in the file, in bytes.
+    pub pgoff: u64,
+    /// How the memory may be used, `PROT_*` of mmap(2).
+    pub prot: u32,
+    /// How it was mapped, `MAP_*` of mmap(2).
+    pub flags: u32,
+    /// The file's path, without the zero bytes behind it. Where there is no file it is a word of the kernel's for what
+    /// is mapped, such as `//anon` or `[vdso]`.
+    pub filename: CowSlice<'a, u8>,
+    detail: MmapDetail,
+    ghost fitting: { IsTrue (has_fitting_id detail) },
+}
+
+/// Which file was mapped: one by its inode, or a program by its build id. Bit 14 of the header's `misc`,
+/// `PERF_RECORD_MISC_MMAP_BUILD_ID`, says which of both a record has.
+#[derive(Clone, Debug, Drop)]
+pub enum MmapDetail {
+    /// The file's inode.
+    Default {
+        /// The major number of the device that holds the file.
+        maj: u32,
+        /// The minor number of that device.
+        min: u32,
+        /// The number of the inode.
+        ino: u64,
+        /// The generation of the inode, which tells files apart that had its number one after another.
+        ino_generation: u64,
+    },
+    /// The program's build id: the first `len` bytes of `build_id`.
+    BuildId {
+        /// The build id, and behind it bytes that say nothing.
+        build_id: [u8; 20],
+        /// How many bytes the build id has, 20 at most.
+        len: u8,
+    },
+}
+
+impl<'a> Mmap2<'a> {
+    ghost use Rattle.std.specs.Prelude.{◌≡◌, IsOk, IfOk, IfErr, option_map};
+    ghost use Rattle.perf_base.specs.Cow.{cow_items, is_borrowed};
+    ghost use Rattle.perf_base.specs.Errors.{kind_of};
+    ghost use Rattle.perf_types.specs.Text.{text_of};
+    ghost use Rattle.perf_types.specs.Mmap.{mmap_value};
+    ghost use Rattle.perf_types.specs.MmapDetail.{detail_value, maj_of, min_of, ino_of, ino_generation_of, build_id_of};
+    ghost use Rattle.perf_types.specs.Mmap2.{mmap2_value, mapping_of};
+
+    /// The record of these fields.
+    pub fn from_parts(
+        pid: u32,
+        tid: u32,
+        addr: u64,
+        len: u64,
+        pgoff: u64,
+        prot: u32,
+        flags: u32,
+        filename: CowSlice<'a, u8>,
+        detail: MmapDetail,
+    ) -> Mmap2<'a>
+        requires { IsTrue (has_fitting_id detail) }
+        ensures value { mmap2_value result ≡ record { pid = pid; tid = tid; addr = addr; len = len; pgoff = pgoff; detail = detail_value detail; prot = prot; flags = flags; filename = cow_items filename.entry } }
+        ensures form { is_borrowed result.filename ≡ is_borrowed filename.entry }
+    {
+        Mmap2 {
+            pid,
+            tid,
+            addr,
+            len,
+            pgoff,
+            prot,
+            flags,
+            filename,
+            detail,
+        }
+    }
+
+    /// The path as text, or `None` where it is not UTF-8.
+    pub fn filename_os(&self) -> Option<&str>
+        ensures { option_map (λ text. text.now) result ≡ text_of (cow_items self.now.filename) }
+    {
+        text(self.filename.as_slice())
+    }
+
+    /// The major number of the device that holds the file, where the record names an inode.
+    pub fn maj(&self) -> Option<u32>
+        ensures { result ≡ maj_of (mmap2_value self.now).detail }
+    {
+        match &self.detail {
+            MmapDetail::Default { maj, .. } => Some(*maj),
+            MmapDetail::BuildId { .. } => None,
+        }
+    }
+
+    /// The minor number of that device, where the record names an inode.
+    pub fn min(&self) -> Option<u32>
+        ensures { result ≡ min_of (mmap2_value self.now).detail }
+    {
+        match &self.detail {
+            MmapDetail::Default { min, .. } => Some(*min),
+            MmapDetail::BuildId { .. } => None,
+        }
+    }
+
+    /// The number of the inode, where the record names one.
+    pub fn ino(&self) -> Option<u64>
+        ensures { result ≡ ino_of (mmap2_value self.now).detail }
+    {
+        match &self.detail {
+            MmapDetail::Default { ino, .. } => Some(*ino),
+            MmapDetail::BuildId { .. } => None,
+        }
+    }
+
+    /// The generation of the inode, where the record names one.
+    pub fn ino_generation(&self) -> Option<u64>
+        ensures { result ≡ ino_generation_of (mmap2_value self.now).detail }
+    {
+        match &self.detail {
+            MmapDetail::Default { ino_generation, .. } => Some(*ino_generation),
+            MmapDetail::BuildId { .. } => None,
+        }
+    }
+
+    /// The build id of the program, where the record has one: the first bytes of its twenty, as many as it says.
+    pub fn build_id(&self) -> Option<&[u8]>
+        ensures { option_map (λ id. id.now) result ≡ build_id_of (mmap2_value self.now).detail }
+    {
+        match &self.detail {
+            MmapDetail::Default { .. } => None,
+            MmapDetail::BuildId { build_id, len } => Some(&build_id[..usize::from(*len)]),
+        }
+    }
+
+    /// What an MMAP record says of the same mapping. It takes no memory where the path is borrowed.
+    pub fn to_mmap(&self, alloc: Global) -> ParseResult<Mmap<'a>>
+        ensures same { IfOk result (λ map. mmap_value map ≡ mapping_of (mmap2_value self.now)) }
+        ensures form { IfOk result (λ map. is_borrowed map.filename ≡ is_borrowed self.now.filename) }
+        ensures refused { IfErr result (λ e. kind_of e ≡ ErrorKind.OutOfMemory) }
+        ensures no_memory { IsTrue (is_borrowed self.now.filename) → IsOk result }
+    {
+        Ok(Mmap {
+            pid: self.pid,
+            tid: self.tid,
+            addr: self.addr,
+            len: self.len,
+            pgoff: self.pgoff,
+            filename: self.filename.clone(alloc)?,
+        })
+    }
+
+    /// What an MMAP record says of the same mapping. It takes no memory.
+    pub fn into_mmap(self) -> Mmap<'a>
+        ensures same { mmap_value result ≡ mapping_of (mmap2_value self.entry) }
+        ensures form { is_borrowed result.filename ≡ is_borrowed self.entry.filename }
+    {
+        Mmap {
+            pid: self.pid,
+            tid: self.tid,
+            addr: self.addr,
+            len: self.len,
+            pgoff: self.pgoff,
+            filename: self.filename,
+        }
+    }
+
+    /// The same record. It takes no memory where the path is borrowed.
+    pub fn clone(&self, alloc: Global) -> ParseResult<Mmap2<'a>>
+        ensures same { IfOk result (λ copy. mmap2_value copy ≡ mmap2_value self.now) }
+        ensures form { IfOk result (λ copy. is_borrowed copy.filename ≡ is_borrowed self.now.filename) }
+        ensures refused { IfErr result (λ e. kind_of e ≡ ErrorKind.OutOfMemory) }
+        ensures no_memory { IsTrue (is_borrowed self.now.filename) → IsOk result }
+    {
+        let filename = self.filename.clone(alloc)?;
+        Ok(Mmap2 {
+            pid: self.pid,
+            tid: self.tid,
+            addr: self.addr,
+            len: self.len,
+            pgoff: self.pgoff,
+            prot: self.prot,
+            flags: self.flags,
+            filename,
+            detail: self.detail.copied(),
+        })
+    }
+}
+
+impl MmapDetail {
+    ghost use Rattle.std.specs.Prelude.{◌≡◌};
+
+    // The same detail. Unlike `clone` it cannot be refused.
+    fn copied(&self) -> MmapDetail
+        ensures { result ≡ self.now }
+    {
+        match self {
+            MmapDetail::Default {
+                maj,
+                min,
+                ino,
+                ino_generation,
+            } => MmapDetail::Default {
+                maj: *maj,
+                min: *min,
+                ino: *ino,
+                ino_generation: *ino_generation,
+            },
+            MmapDetail::BuildId { build_id, len } => MmapDetail::BuildId {
+                build_id: *build_id,
+                len: *len,
+            },
+        }
+    }
+}
+
+impl<'a> From<Mmap2<'a>> for Mmap<'a> {
+    ghost use Rattle.std.specs.Prelude.{◌≡◌};
+    ghost use Rattle.perf_base.specs.Cow.{is_borrowed};
+    ghost use Rattle.perf_types.specs.Mmap.{mmap_value};
+    ghost use Rattle.perf_types.specs.Mmap2.{mmap2_value, mapping_of};
+
+    ghost from_gives = { λ longer shorter. (mmap_value shorter ≡ mapping_of (mmap2_value longer)) × (is_borrowed shorter.filename ≡ is_borrowed longer.filename) };
+
+    fn from(longer: Mmap2<'a>) -> Mmap<'a> {
+        longer.into_mmap()
+    }
+}
