@@ -1,3 +1,4 @@
+pub mod Flags
 mod Poked
-mod SampleIdLength
+pub mod SampleIdLength
 mod Worked
