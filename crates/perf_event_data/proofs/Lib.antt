@@ -9,3 +9,4 @@ mod Worked
 mod Covering
 pub mod ZeroTails
 pub mod Attributes
+pub mod Names

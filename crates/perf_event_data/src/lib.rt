@@ -5,6 +5,7 @@
 #![tactic(auto)]
 
 mod attribute;
+mod bytes;
 mod frames;
 mod numbers;
 mod optional;
