@@ -64,6 +64,12 @@ is_external (Some OutOfMemory) = false
 abbrev pub KeepsBuffer : Meaning → Option ErrorKind → Meaning → Type 0
 KeepsBuffer old e new = Stays old.source e new.source
 
+-- Form: a buffer stays whole and goes on telling its bytes, and one that cannot fault never can again.
+abbrev pub KeepsForm : Meaning → Meaning → Type 0
+KeepsForm old new =
+    (new.source.whole ≡ old.source.whole) × (IsTrue new.source.can_fault → IsTrue old.source.can_fault)
+    × (IsTrue old.source.told → IsTrue new.source.told)
+
 -- Faults: one comes only from a buffer that can fault.
 abbrev pub KeepsFaults : Meaning → Option ErrorKind → Type 0
 KeepsFaults old e = is_external e ≡ true → IsTrue old.source.can_fault
