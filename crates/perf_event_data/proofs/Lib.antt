@@ -10,3 +10,4 @@ mod Covering
 pub mod ZeroTails
 pub mod Attributes
 pub mod Names
+pub mod Repeating

@@ -4,3 +4,4 @@ pub mod Frames
 pub mod Answers
 pub mod Runs
 pub mod AttributeGroups
+pub mod Repeats

@@ -7,6 +7,7 @@
 mod attribute;
 mod bytes;
 mod frames;
+mod lists;
 mod numbers;
 mod optional;
 pub mod parse;
