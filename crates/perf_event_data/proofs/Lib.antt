@@ -11,3 +11,4 @@ pub mod ZeroTails
 pub mod Attributes
 pub mod Names
 pub mod Repeating
+pub mod SampleIds

@@ -5,3 +5,4 @@ pub mod Answers
 pub mod Runs
 pub mod AttributeGroups
 pub mod Repeats
+pub mod SampleIdFields

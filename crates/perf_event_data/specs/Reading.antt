@@ -1,5 +1,5 @@
 -- What a call of a parser answers and leaves, and four things that every call keeps.
-use Rattle.std.specs.Prelude.{Option, Result, ◌≡◌, ℕ, ◌+◌, ◌-◌, ◌≤◌, Bool, true, false, IsTrue, List, length, drop, Ok, Err, Some, None}
+use Rattle.std.specs.Prelude.{Option, Result, ◌≡◌, ℕ, ◌+◌, ◌-◌, ◌<◌, ◌≤◌, Bool, true, false, IsTrue, List, length, drop, Ok, Err, Some, None}
 use Rattle.perf_base.specs.Configuration.{Configuration}
 use Rattle.perf_base.specs.Layout.{Width, Shape, number, Answer, Parts}
 use Rattle.perf_base.specs.Run.{Ran, ran, stopped, one, by_places}
@@ -38,6 +38,11 @@ ReadsOne shape view old result new = Gives view (one old.order shape old.source.
 -- the same of a number, for which no memory is taken
 abbrev pub ReadsNumber : Width → Meaning → Result ℕ ParseError → Meaning → Type 0
 ReadsNumber w old result new = ReadsOne (number w) (λ n. n) old result new × NeedsNoMemory result
+
+-- n bytes were taken; or fewer were left, where it was refused with a kind of the layout
+abbrev pub TakesOrLacks : {X : Type 0} → ℕ → Meaning → Result X ParseError → Meaning → Type 0
+TakesOrLacks n old (Ok x) new = new.source.left ≡ drop n old.source.left
+TakesOrLacks n old (Err e) new = IsTrue (of_layout (kind_of e)) → length old.source.left < n
 
 -- ---- what is kept
 

@@ -15,6 +15,7 @@ mod parser;
 mod records;
 mod rest;
 mod runs;
+mod sample_ids;
 mod zeros;
 
 pub use crate::runs::{Run, RunEnd, read_records};
