@@ -12,3 +12,4 @@ pub mod Attributes
 pub mod Names
 pub mod Repeating
 pub mod SampleIds
+pub mod Splitting

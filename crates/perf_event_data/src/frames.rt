@@ -1,12 +1,14 @@
 //! Frames: a header, and the bytes that belong to it.
 #![tactic(auto, using(crate::proofs::Paying::chain))]
 
-ghost use Rattle.std.specs.Prelude.{◌≡◌, ◌≤◌, ◌+◌, false, take, length, IsTrue, IfOk, IfErr};
+ghost use Rattle.std.specs.Prelude.{◌≡◌, ◌≤◌, ◌<◌, ◌+◌, false, take, length, IsTrue, IfOk, IfErr};
 ghost use Rattle.perf_base.specs.Configured.{configuration_of, endian_of};
 ghost use Rattle.perf_base.specs.Errors.{kind_of};
-ghost use Rattle.perf_base.specs.Layout.{layout};
+ghost use Rattle.perf_base.specs.Layout.{layout, value};
+ghost use Rattle.perf_base.specs.Configuration.{under_misc};
+ghost use Rattle.perf_records.specs.Metadata.{carries_sample_id, id_of_type, id_length};
 ghost use Rattle.perf_records.specs.Records.{record_value, body, IsBorrowed};
-ghost use Rattle.perf_event_data.specs.Answers.{body_length, FailsToCut, Says, SaysBehind, ParsesRecord};
+ghost use Rattle.perf_event_data.specs.Answers.{body_length, answered_parts, parts_of, FailsToCut, Says, SaysBehind, SplitsBehind, SplitsFrame, ParsesRecord};
 ghost use Rattle.perf_buffers.specs.Buffer.{NeedsNoMemory, refusal, Stays};
 ghost use Rattle.perf_buffers.specs.Cursor.{cursor_left, cursor_lent};
 ghost use Rattle.perf_event_data.specs.Meaning.{buffer_of, config_of, reads_of, meaning};
@@ -15,19 +17,22 @@ ghost use Rattle.perf_buffers.specs.Taking.{Takes, CanFail, MovesWithin};
 
 use crate::parse::{FrameLayout, Layout, Parse, ParseRecord};
 use crate::parser::Parser;
+use perf_base::config::ParseConfig;
 use perf_base::endian::Endian;
 use perf_base::error::{ErrorKind, ParseError, ParseResult};
 use perf_base::reads::Reads;
 use perf_base::sys::{
     PERF_RECORD_EXIT, PERF_RECORD_FORK, PERF_RECORD_LOST, PERF_RECORD_LOST_SAMPLES,
-    perf_event_header,
+    PERF_RECORD_SAMPLE, perf_event_header,
 };
 use perf_buffers::cursor::ParseBufCursor;
 use perf_buffers::parsebuf::ParseBuf;
+use perf_records::metadata::RecordMetadata;
 use perf_records::record::Record;
 use perf_types::exit::Exit;
 use perf_types::lost::Lost;
 use perf_types::lost_samples::LostSamples;
+use perf_types::sample_id::SampleId;
 
 // The refusal of a header whose size does not count the header.
 #[cold]
@@ -109,7 +114,115 @@ fn parse_body<'p, B: ParseBuf<'p>, E: Endian>(
     }
 }
 
+// The refusal of a frame that is too short for its sample id.
+#[cold]
+#[inline(never)]
+fn no_room_for_id() -> ParseError
+    ensures { kind_of result ≡ ErrorKind.InvalidRecord }
+{
+    ParseError::custom(
+        ErrorKind::InvalidRecord,
+        "config has sample_id_all bit set but record does not have enough data to store the sample_id",
+    )
+}
+
+// Whether records of a type end with a sample id: the kernel's own do, but SAMPLE.
+#[inline]
+fn carries_sample_id(ty: u32) -> bool
+    ensures { result ≡ carries_sample_id ty }
+{
+    ty < 64 && ty != PERF_RECORD_SAMPLE
+}
+
+// How many bytes of a frame are its sample id.
+#[inline]
+fn id_len<E>(config: &ParseConfig<E>, ty: u32) -> usize
+    ensures { result ≡ id_length (configuration_of config.now) ty }
+{
+    if carries_sample_id(ty) {
+        SampleId::estimate_len(config)
+    } else {
+        0
+    }
+}
+
+// The sample id whose bytes these are. So many bytes are never refused.
+#[inline]
+fn read_id<'x, E: Endian>(parser: &mut Parser<&'x [u8], E>, ty: u32) -> SampleId
+    requires { length (buffer_of parser.old).now ≡ id_length (configuration_of (config_of parser.old)) ty }
+    ensures config { config_of parser.new ≡ config_of parser.old }
+    ensures id { result ≡ value (E.order (endian_of (config_of parser.old))) (buffer_of parser.old).now 0 (id_of_type (configuration_of (config_of parser.old)) ty) }
+    ensures reads { reads_of parser.new ≤ reads_of parser.old + length (buffer_of parser.old).now }
+{
+    if carries_sample_id(ty) {
+        match parser.parse::<SampleId>() {
+            Ok(id) => id,
+            Err(_) => SampleId::default(),
+        }
+    } else {
+        SampleId::default()
+    }
+}
+
 impl<'p, E: Endian> Parser<ParseBufCursor<'p>, E> {
+    // The bytes of a frame without its sample id, the metadata, and how many reads that took.
+    #[inline]
+    fn take_id(
+        self,
+        header: perf_event_header,
+    ) -> ParseResult<(Parser<ParseBufCursor<'p>, E>, RecordMetadata, Reads)>
+        requires { reads_of self ≡ 0 }
+        ensures parts { IfOk result (λ r. (id_length (configuration_of (config_of self.entry)) header.type_ ≤ length (cursor_left (buffer_of self.entry)))
+            × (answered_parts (r.0, r.1) ≡ parts_of (configuration_of (config_of self.entry)) (E.order (endian_of (config_of self.entry))) header (cursor_left (buffer_of self.entry)))) }
+        ensures inner { IfOk result (λ r. (config_of r.0 ≡ config_of self.entry) × (reads_of r.0 ≡ 0) × (cursor_lent (buffer_of r.0) ≡ cursor_lent (buffer_of self.entry))) }
+        ensures reads { IfOk result (λ r. r.2 ≤ id_length (configuration_of (config_of self.entry)) header.type_) }
+        ensures refused { IfErr result (λ e. (kind_of e ≡ ErrorKind.InvalidRecord) × (length (cursor_left (buffer_of self.entry)) < id_length (configuration_of (config_of self.entry)) header.type_)) }
+    {
+        let Parser {
+            mut buf,
+            config,
+            reads,
+            alloc,
+        } = self;
+        let len = id_len(&config, header.type_);
+        if buf.len() < len {
+            return Err(no_room_for_id());
+        }
+        let mut tail = Parser {
+            buf: buf.last(len),
+            config,
+            reads,
+            alloc,
+        };
+        let id = read_id(&mut tail, header.type_);
+        let Parser { config, reads, .. } = tail;
+        buf.drop_last(len);
+        let metadata = RecordMetadata::from_parts(header.type_, header.misc, id);
+        Ok((Parser::new(alloc, buf, config), metadata, reads))
+    }
+
+    // The same parser, for the body of a frame with that `misc`.
+    #[inline]
+    fn under_misc(self, misc: u16) -> Parser<ParseBufCursor<'p>, E>
+        ensures config { configuration_of (config_of result) ≡ under_misc misc (configuration_of (config_of self.entry)) }
+        ensures endian { endian_of (config_of result) ≡ endian_of (config_of self.entry) }
+        ensures buf { buffer_of result ≡ buffer_of self.entry }
+        ensures reads { reads_of result ≡ reads_of self.entry }
+    {
+        let Parser {
+            buf,
+            config,
+            reads,
+            alloc,
+        } = self;
+        Parser {
+            buf,
+            config: config.with_misc(misc),
+            reads,
+            alloc,
+        }
+    }
+
     // The record that the bytes of a frame are, and how many reads it took. Bytes behind the record do not matter.
     #[inline]
     fn finish(self, ty: u32) -> (ParseResult<Record<'p>>, Reads)
@@ -146,6 +259,66 @@ impl<'p, E: Endian> Parser<ParseBufCursor<'p>, E> {
     }
 }
 
+impl<'p, B: ParseBuf<'p>, E: Endian> Parser<B, E> {
+    /// The metadata of the next record, and a parser of the bytes between its header and its sample id.
+    ///
+    /// That parser has the same configuration, in which `misc` stays what it was. A record that has no room for its
+    /// sample id is `InvalidRecord`, and exactly its frame is taken.
+    #[inline]
+    pub fn parse_metadata(&mut self) -> ParseResult<(Parser<ParseBufCursor<'p>, E>, RecordMetadata)>
+        ensures config { config_of self.new ≡ config_of self.old }
+        ensures answer { IsTrue (B.source (buffer_of self.old)).told → SplitsFrame (configuration_of (config_of self.old)) (E.order (endian_of (config_of self.old))) (B.source (buffer_of self.old)).left result (B.source (buffer_of self.new)).left }
+        ensures inner { IfOk result (λ r. (configuration_of (config_of r.0) ≡ configuration_of (config_of self.old)) × (E.order (endian_of (config_of r.0)) ≡ E.order (endian_of (config_of self.old))) × (reads_of r.0 ≡ 0)) }
+        ensures whole { IsTrue (B.source (buffer_of self.old)).whole → IfOk result (λ r. IsTrue (cursor_lent (buffer_of r.0))) }
+        ensures whole_memory { IsTrue (B.source (buffer_of self.old)).whole → E.may_refuse (endian_of (config_of self.old)) ≡ false → NeedsNoMemory result }
+        ensures keeps { KeepsBuffer (meaning B.source E.order self.old) (refusal result) (meaning B.source E.order self.new) }
+        ensures faults { KeepsFaults (meaning B.source E.order self.old) (refusal result) }
+        ensures cost { KeepsCost (meaning B.source E.order self.old) (refusal result) (meaning B.source E.order self.new) }
+        ensures place { KeepsPlace (meaning B.source E.order self.old) (meaning B.source E.order self.new) }
+    {
+        let header = match self.parse::<perf_event_header>() {
+            Ok(header) => header,
+            Err(error) => return Err(error),
+        };
+        match self.parse_metadata_with_header(header) {
+            Ok(parts) => Ok(parts),
+            Err(error) => Err(error),
+        }
+    }
+
+    /// The same as [`Parser::parse_metadata`], of a record whose header was read before. After a fault, and where memory
+    /// for the frame was refused, a beginning of it is taken.
+    #[inline]
+    pub fn parse_metadata_with_header(
+        &mut self,
+        header: perf_event_header,
+    ) -> ParseResult<(Parser<ParseBufCursor<'p>, E>, RecordMetadata)>
+        ensures config { config_of self.new ≡ config_of self.old }
+        ensures answer { IsTrue (B.source (buffer_of self.old)).told → SplitsBehind (configuration_of (config_of self.old)) (E.order (endian_of (config_of self.old))) header (B.source (buffer_of self.old)).left result (B.source (buffer_of self.new)).left }
+        ensures within { IsTrue (B.source (buffer_of self.old)).told → MovesWithin (B.source (buffer_of self.old)) (body_length header) (B.source (buffer_of self.new)) }
+        ensures id_reads { IfOk result (λ r. reads_of self.new ≤ reads_of self.old + id_length (configuration_of (config_of self.old)) header.type_) }
+        ensures inner { IfOk result (λ r. (configuration_of (config_of r.0) ≡ configuration_of (config_of self.old)) × (E.order (endian_of (config_of r.0)) ≡ E.order (endian_of (config_of self.old))) × (reads_of r.0 ≡ 0)) }
+        ensures whole { IsTrue (B.source (buffer_of self.old)).whole → IfOk result (λ r. IsTrue (cursor_lent (buffer_of r.0))) }
+        ensures whole_memory { IsTrue (B.source (buffer_of self.old)).whole → E.may_refuse (endian_of (config_of self.old)) ≡ false → NeedsNoMemory result }
+        ensures keeps { KeepsBuffer (meaning B.source E.order self.old) (refusal result) (meaning B.source E.order self.new) }
+        ensures faults { KeepsFaults (meaning B.source E.order self.old) (refusal result) }
+        ensures cost { KeepsCost (meaning B.source E.order self.old) (refusal result) (meaning B.source E.order self.new) }
+        ensures place { KeepsPlace (meaning B.source E.order self.old) (meaning B.source E.order self.new) }
+    {
+        let inner = match self.cut_frame(header) {
+            Ok(inner) => inner,
+            Err(error) => return Err(error),
+        };
+        match inner.take_id(header) {
+            Ok((inner, metadata, reads)) => {
+                self.reads.add(reads);
+                Ok((inner, metadata))
+            }
+            Err(error) => Err(error),
+        }
+    }
+}
+
 impl FrameLayout for Record<'_> {
     ghost says_behind = { SaysBehind };
 }
@@ -166,11 +339,11 @@ impl<'p, B: ParseBuf<'p>> ParseRecord<'p, B> for Record<'p> {
         ensures cost { KeepsCost (meaning B.source E.order parser.old) (refusal result) (meaning B.source E.order parser.new) }
         ensures place { KeepsPlace (meaning B.source E.order parser.old) (meaning B.source E.order parser.new) }
     {
-        let inner = match parser.cut_frame(header) {
-            Ok(inner) => inner,
+        let (inner, metadata) = match parser.parse_metadata_with_header(header) {
+            Ok(parts) => parts,
             Err(error) => return Err(error),
         };
-        let (record, reads) = inner.finish(header.type_);
+        let (record, reads) = inner.under_misc(metadata.misc()).finish(metadata.ty());
         parser.reads.add(reads);
         record
     }
