@@ -4,3 +4,5 @@ pub mod Tables
 pub mod Fields
 pub mod ReadBound
 pub mod Cuts
+pub mod Worked
+pub mod AttributeSizes

@@ -1,5 +1,7 @@
 -- How records are to be read: what an attribute of perf_event_open(2) says of it, packed into one word and two masks.
-use Rattle.std.specs.Prelude.{ℕ, ◌/◌, ◌%◌, ◌^◌, Bool, nat_eq}
+use Rattle.std.specs.Prelude.{ℕ, ◌+◌, ◌/◌, ◌%◌, ◌^◌, Bool, nat_lt, if◌then◌else◌}
+use Rattle.perf_words.specs.Bits.{has_bit}
+use Rattle.perf_base.specs.declared.sys.perf_event_attr.{perf_event_attr}
 
 -- what a configuration says
 pub record Configuration : Type 0 where
@@ -14,10 +16,6 @@ pub record Configuration : Type 0 where
   -- which registers a sample has, of the user's and at the interrupt
   pub regs_user : ℕ
   pub regs_intr : ℕ
-
--- one bit of a word
-abbrev pub has_bit : ℕ → ℕ → Bool
-has_bit word k = nat_eq (word / 2 ^ k % 2) 1
 
 -- The packed word: bits 0 to 5 hold the read format, 6 to 45 the sample type, 46 sample_id_all, 47 branch_hw_index and
 -- 48 to 63 misc.
@@ -35,3 +33,62 @@ unpacked word regs_user regs_intr = record {
 -- the configuration of an event that has no flags
 abbrev pub plain : Configuration
 plain = unpacked 0 0 0
+
+-- What is kept of a read format: its lowest six bits, of which bit 5 is also set where it has any bit above them.
+abbrev pub kept_read_format : ℕ → ℕ
+kept_read_format r = if nat_lt r (2 ^ 6) then r else 2 ^ 5 + r % 2 ^ 5
+
+-- what is kept of a sample type: its lowest 40 bits
+abbrev pub kept_sample_type : ℕ → ℕ
+kept_sample_type t = t % 2 ^ 40
+
+-- What an attribute says: bit 18 of its flags is sample_id_all, and bit 17 of its branch sample type says that branch
+-- stacks have the hardware's index.
+abbrev pub configured_by : perf_event_attr → Configuration
+configured_by a = record {
+  read_format = kept_read_format a.read_format;
+  sample_type = kept_sample_type a.sample_type;
+  sample_id_all = has_bit a.flags 18;
+  branch_hw_index = has_bit a.branch_sample_type 17;
+  misc = 0;
+  regs_user = a.sample_regs_user;
+  regs_intr = a.sample_regs_intr;
+}
+
+-- ---- the same configuration with one thing changed
+
+-- another frame's misc
+abbrev pub under_misc : ℕ → Configuration → Configuration
+under_misc misc c = record {
+  read_format = c.read_format;
+  sample_type = c.sample_type;
+  sample_id_all = c.sample_id_all;
+  branch_hw_index = c.branch_hw_index;
+  misc = misc;
+  regs_user = c.regs_user;
+  regs_intr = c.regs_intr;
+}
+
+-- another sample type
+abbrev pub under_sample_type : ℕ → Configuration → Configuration
+under_sample_type sample_type c = record {
+  read_format = c.read_format;
+  sample_type = kept_sample_type sample_type;
+  sample_id_all = c.sample_id_all;
+  branch_hw_index = c.branch_hw_index;
+  misc = c.misc;
+  regs_user = c.regs_user;
+  regs_intr = c.regs_intr;
+}
+
+-- another read format
+abbrev pub under_read_format : ℕ → Configuration → Configuration
+under_read_format read_format c = record {
+  read_format = kept_read_format read_format;
+  sample_type = c.sample_type;
+  sample_id_all = c.sample_id_all;
+  branch_hw_index = c.branch_hw_index;
+  misc = c.misc;
+  regs_user = c.regs_user;
+  regs_intr = c.regs_intr;
+}

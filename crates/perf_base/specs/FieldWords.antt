@@ -23,6 +23,9 @@ u64_if present = part (optional present w8) done
 abbrev pub u32_if : Bool → Parts (Option ℕ)
 u32_if present = part (optional present w4) done
 
+abbrev pub u16_if : Bool → Parts (Option ℕ)
+u16_if present = part (optional present w2) done
+
 -- n bytes
 abbrev pub bytes : ℕ → Parts (List ℕ)
 bytes n = part (run n) done
@@ -35,7 +38,7 @@ numbers n = part (words n) done
 abbrev pub ignored : ℕ → Parts (Unit {0})
 ignored n = part (padding n) done
 
--- n bytes that say nothing and are there, or not
+-- the same, where they are there
 abbrev pub ignored_if : Bool → ℕ → Parts (Unit {0})
 ignored_if present n = ignored (if present then n else 0)
 

@@ -7,6 +7,7 @@ pub mod Reads
 pub mod Zeros
 pub mod FieldWords
 pub mod Header
+pub mod Attribute
 pub mod Configuration
 pub mod Configured
 pub mod Dynamic

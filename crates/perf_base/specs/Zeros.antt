@@ -1,10 +1,10 @@
 -- Zero bytes: those that fill up a name, and those behind an attribute that say nothing.
-use Rattle.std.specs.Prelude.{ℕ, Bool, true, List, [], ◌∷◌, ◌==◌, ◌&&◌, if◌then◌else◌}
+use Rattle.std.specs.Prelude.{ℕ, Bool, List, [], ◌∷◌, ◌==◌, if◌then◌else◌}
+use Rattle.std.specs.List.{list_all}
 
 -- every byte is zero
 abbrev pub all_zero : List ℕ → Bool
-all_zero [] = true
-all_zero (byte ∷ bytes) = byte == 0 && all_zero bytes
+all_zero bytes = list_all (λ byte. byte == 0) bytes
 
 -- Bytes without the zero bytes at their end; one further in front stays.
 abbrev pub trimmed : List ℕ → List ℕ

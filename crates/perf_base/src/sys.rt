@@ -1,5 +1,8 @@
 //! Structures and constants of the kernel's `perf_event.h`, under their own names.
 
+ghost use Rattle.std.specs.Prelude.{◌≡◌};
+ghost use Rattle.perf_words.specs.Bits.{has_bit};
+
 /// The first eight bytes of every record, `struct perf_event_header`.
 #[derive(Copy, Clone, Debug, Default)]
 pub struct perf_event_header {
@@ -11,11 +14,110 @@ pub struct perf_event_header {
     pub size: u16,
 }
 
+/// What an event counts or samples, and how: `struct perf_event_attr`, as it was passed to `perf_event_open(2)`.
+///
+/// Where the kernel has a union, one of its names stands for all of them. A field that the attribute's size does not
+/// reach is 0.
+#[derive(Copy, Clone, Debug, Default)]
+pub struct perf_event_attr {
+    /// The kind of event, `PERF_TYPE_*`.
+    pub type_: u32,
+    /// How many bytes this attribute has.
+    pub size: u32,
+    /// Which event of that kind.
+    pub config: u64,
+    /// After how many events a sample is taken; or `sample_freq`, how many samples a second there should be.
+    pub sample_period: u64,
+    /// Which fields a sample has, `PERF_SAMPLE_*`.
+    pub sample_type: u64,
+    /// What a read of a counter gives, `PERF_FORMAT_*`.
+    pub read_format: u64,
+    /// Single bits, from `disabled` on, counted from the lowest.
+    pub flags: u64,
+    /// After how many events the reader is woken; or `wakeup_watermark`, after how many bytes.
+    pub wakeup_events: u32,
+    /// The kind of a breakpoint.
+    pub bp_type: u32,
+    /// More of which event; or the address of a breakpoint, `bp_addr`, and others.
+    pub config1: u64,
+    /// More of which event; or the length of a breakpoint, `bp_len`, and others.
+    pub config2: u64,
+    /// Which branches a branch stack has, `PERF_SAMPLE_BRANCH_*`.
+    pub branch_sample_type: u64,
+    /// Which of the user's registers a sample has, a bit each.
+    pub sample_regs_user: u64,
+    /// How many bytes of the user's stack a sample has.
+    pub sample_stack_user: u32,
+    /// Which clock timestamps are of, as `clock_gettime(2)` numbers them.
+    pub clockid: i32,
+    /// Which registers at the interrupt a sample has, a bit each.
+    pub sample_regs_intr: u64,
+    /// After how many bytes of AUX data the reader is woken.
+    pub aux_watermark: u32,
+    /// How many frames a call chain has at most.
+    pub sample_max_stack: u16,
+    /// How many bytes of AUX data a sample has.
+    pub aux_sample_size: u32,
+    /// What a signal that the event sends carries.
+    pub sig_data: u64,
+    /// Still more of which event.
+    pub config3: u64,
+}
+
+impl perf_event_attr {
+    /// Whether every record but SAMPLE ends with a sample id: bit 18 of `flags`.
+    #[inline]
+    pub fn sample_id_all(&self) -> bool
+        ensures { result ≡ has_bit self.now.flags 18 }
+    {
+        (self.flags >> 18) % 2 == 1
+    }
+}
+
+/// A file was mapped that can be run.
+pub const PERF_RECORD_MMAP: u32 = 1;
 /// Events were lost: `id` and how many.
 pub const PERF_RECORD_LOST: u32 = 2;
+/// A task changed its name.
+pub const PERF_RECORD_COMM: u32 = 3;
 /// A task ended.
 pub const PERF_RECORD_EXIT: u32 = 4;
+/// The kernel began to hold samples back, as there were too many.
+pub const PERF_RECORD_THROTTLE: u32 = 5;
+/// It takes samples again.
+pub const PERF_RECORD_UNTHROTTLE: u32 = 6;
 /// A task was made by `fork(2)` or `clone(2)`.
 pub const PERF_RECORD_FORK: u32 = 7;
+/// The value of a counter.
+pub const PERF_RECORD_READ: u32 = 8;
+/// A sample.
+pub const PERF_RECORD_SAMPLE: u32 = 9;
+/// A file was mapped: [`PERF_RECORD_MMAP`] and which file it is.
+pub const PERF_RECORD_MMAP2: u32 = 10;
+/// There is new data in the AUX buffer.
+pub const PERF_RECORD_AUX: u32 = 11;
+/// Which task an instruction trace is of.
+pub const PERF_RECORD_ITRACE_START: u32 = 12;
 /// Samples were lost.
 pub const PERF_RECORD_LOST_SAMPLES: u32 = 13;
+/// A task came onto its CPU or left it.
+pub const PERF_RECORD_SWITCH: u32 = 14;
+/// Which task another one gave its CPU to, or got it from.
+pub const PERF_RECORD_SWITCH_CPU_WIDE: u32 = 15;
+/// The namespaces of a task.
+pub const PERF_RECORD_NAMESPACES: u32 = 16;
+/// A symbol of the kernel came or went.
+pub const PERF_RECORD_KSYMBOL: u32 = 17;
+/// A BPF program was loaded or unloaded.
+pub const PERF_RECORD_BPF_EVENT: u32 = 18;
+/// A control group: its id and path.
+pub const PERF_RECORD_CGROUP: u32 = 19;
+/// The kernel changed its own instructions.
+pub const PERF_RECORD_TEXT_POKE: u32 = 20;
+/// The hardware's id of an event whose data is in the AUX buffer.
+pub const PERF_RECORD_AUX_OUTPUT_HW_ID: u32 = 21;
+
+/// In `misc` of SWITCH and SWITCH_CPU_WIDE: the task left the CPU.
+pub const PERF_RECORD_MISC_SWITCH_OUT: u16 = 1 << 13;
+/// In `misc` of MMAP2: the file is named by its build id and not by its inode.
+pub const PERF_RECORD_MISC_MMAP_BUILD_ID: u16 = 1 << 14;

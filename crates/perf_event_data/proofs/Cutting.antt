@@ -13,9 +13,10 @@ use Rattle.perf_base.specs.declared.error.ParseError.{ParseError}
 use Rattle.perf_records.specs.Records.{RecordValue, record_value}
 use Rattle.perf_records.specs.declared.record.Record.{Record}
 use Rattle.perf_event_data.specs.Answers.{Says, FailsToCut, body_length}
-use Rattle.perf_event_data.specs.Buffer.{Source}
+use Rattle.perf_buffers.specs.Buffer.{Source}
 use Rattle.perf_event_data.specs.Reading.{Gives, last_of}
-use Rattle.perf_event_data.specs.Taking.{consumed, MovesWithin, Takes}
+use Rattle.perf_buffers.specs.Taking.{consumed, MovesWithin, Takes}
+use Rattle.perf_buffers.proofs.Taking.{takes_moves}
 use Rattle.perf_event_data.proofs.Paying.{last_moved}
 use Rattle.perf_event_data.proofs.Saying.{layout_ok, layout_err}
 
@@ -39,8 +40,7 @@ within_all old new n short e =
 pub within_taken : (old new : Source) (n : ℕ) → Takes old n new → MovesWithin old n new
 within_taken old new n p =
     let left : length new.left ≡ length old.left - n = ap length p.1 ∙ length-drop n old.left in
-    let all : consumed old new ≡ n = omega arith in
-    (omega arith, (omega arith, p.1 ∙ sym (ap (λ k. drop k old.left) all)))
+    (omega arith, takes_moves old new n p)
 
 -- a refused cut takes no more than the body
 pub cut_within : (old new : Source) (h : perf_event_header) (e : ErrorKind) → FailsToCut old h e new → MovesWithin old (body_length h) new

@@ -7,17 +7,18 @@ use Rattle.perf_base.specs.Errors.{kind_of}
 use Rattle.perf_base.specs.declared.error.ErrorKind.{ErrorKind}
 use Rattle.perf_base.specs.declared.error.ErrorKind.TheVariants.{Eof, InvalidRecord, UnsupportedConfig, UnsupportedData, External, OutOfMemory}
 use Rattle.perf_base.specs.declared.error.ParseError.{ParseError}
-use Rattle.perf_event_data.specs.Buffer.{Source}
+use Rattle.perf_buffers.specs.Buffer.{Source}
 use Rattle.perf_event_data.specs.Frames.{frame_length}
 use Rattle.perf_event_data.specs.Reading.{of_layout}
 use Rattle.perf_event_data.specs.Runs.{LeavesWithin, EndsAtHeader}
-use Rattle.perf_event_data.specs.Taking.{MovesWithin, Takes, FailsToTake}
+use Rattle.perf_buffers.specs.Taking.{MovesWithin, Takes, FailsToTake}
 use Rattle.perf_event_data.specs.declared.runs.RunEnd.{RunEnd}
 use Rattle.perf_event_data.specs.declared.runs.RunEnd.TheVariants.{Done, CutHeader, Fault}
 use Rattle.perf_base.specs.declared.sys.perf_event_header.{perf_event_header}
 use Rattle.perf_event_data.specs.Answers.{body_length}
 use Rattle.perf_event_data.proofs.Headers.{frame_body}
-use Rattle.perf_event_data.proofs.Paying.{moves_more, last_moved, last_all}
+use Rattle.perf_buffers.proofs.Taking.{moves_more}
+use Rattle.perf_event_data.proofs.Paying.{last_moved, last_all}
 use Rattle.perf_event_data.proofs.Cutting.{within_taken}
 
 pub no_bytes : (xs : List ℕ) → length xs < 1 → xs ≡ []

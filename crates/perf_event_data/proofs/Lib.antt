@@ -1,6 +1,3 @@
-pub mod Taking
-pub mod Options
-pub mod Hints
 pub mod Paying
 pub mod Steps
 pub mod Saying
@@ -10,3 +7,5 @@ pub mod Ending
 pub mod Listing
 mod Worked
 mod Covering
+pub mod ZeroTails
+pub mod Attributes

@@ -11,7 +11,7 @@ use Rattle.perf_base.specs.declared.error.ErrorKind.{ErrorKind}
 use Rattle.perf_base.specs.declared.error.ParseError.{ParseError}
 use Rattle.perf_records.specs.Records.{RecordValue, IsBorrowed}
 use Rattle.perf_records.specs.declared.record.Record.{Record}
-use Rattle.perf_event_data.specs.Buffer.{refusal}
+use Rattle.perf_buffers.specs.Buffer.{refusal}
 use Rattle.perf_event_data.specs.Frames.{frame_length, first_frames, frames, behind_frames, cut_header, end_with, stream_end}
 use Rattle.perf_event_data.specs.Answers.{answer_of_frame, answers, said, SaysBehind}
 use Rattle.perf_event_data.specs.Reading.{one_if_refused}

@@ -1,10 +1,8 @@
 -- Calls one after the other.
-use Rattle.std.proofs.Common.{◌≡◌, ℕ, ◌+◌, ◌-◌, ◌≤◌, List, length, take, drop, arith, sym, ◌∙◌, ap, length-drop, []}
-use Rattle.std.proofs.lemmas.List.{drop-drop, take_all, drop_all}
-use Rattle.perf_base.specs.declared.error.ErrorKind.{ErrorKind}
-use Rattle.perf_base.specs.declared.error.ErrorKind.TheVariants.{Eof, InvalidRecord, UnsupportedConfig, UnsupportedData, External, OutOfMemory}
-use Rattle.perf_event_data.specs.Buffer.{Source}
-use Rattle.perf_event_data.specs.Taking.{Moves, consumed, Takes, FailsInRest}
+use Rattle.std.proofs.Common.{◌≡◌, ℕ, ◌+◌, ◌-◌, ◌≤◌, List, [], length, drop, arith, sym, ◌∙◌, ap, length-drop}
+use Rattle.std.proofs.lemmas.List.{drop-drop, drop_all}
+use Rattle.perf_buffers.specs.Buffer.{Source}
+use Rattle.perf_buffers.specs.Taking.{Moves, Takes}
 use Rattle.perf_base.proofs.Bridge.{places_run}
 use Rattle.perf_base.proofs.Fields.{places_table}
 use Rattle.perf_event_data.specs.Reading.{last_of}
@@ -35,24 +33,6 @@ pub ruleset lasts = (last_last, last_all, last_drop, last_none, last_moved)
 
 -- what calls one behind another need
 pub ruleset chain = (last_last, last_all, places_run, places_table)
-
-pub moves_more : (a b c : Source) → Moves a b → Moves b c → Moves a c
-moves_more a b c p q =
-    let e : consumed a b + consumed b c ≡ consumed a c = omega arith in
-    (omega arith, q.1 ∙ ap (λ xs. drop (consumed b c) xs) p.1 ∙ drop-drop (consumed b c) (consumed a b) a.left ∙ ap (λ n. drop n a.left) e)
-
-pub fails_later : (a b c : Source) (e : ErrorKind) → Moves a b → FailsInRest b e c → FailsInRest a e c
-fails_later a b c Eof p q = q
-fails_later a b c InvalidRecord p q = q
-fails_later a b c UnsupportedConfig p q = q
-fails_later a b c UnsupportedData p q = q
-fails_later a b c External p q = moves_more a b c p q
-fails_later a b c OutOfMemory p q = moves_more a b c p q
-
-pub took_all : (n : ℕ) (first xs left : List ℕ) → first ≡ take n xs → left ≡ drop n xs → left ≡ [] → first ≡ xs
-took_all n first xs left p q r =
-    let short : length (drop n xs) ≡ 0 = ap length (sym q ∙ r) in
-    p ∙ take_all n xs (omega (arith, length-drop n xs))
 
 -- some bytes were taken
 pub place_after : (a b : Source) (n : ℕ) → Takes a n b → (length b.left ≤ length a.left) × (b.left ≡ last_of (length b.left) a.left)

@@ -12,8 +12,8 @@ use Rattle.perf_base.specs.declared.error.ParseError.{ParseError}
 use Rattle.perf_records.specs.Records.{RecordValue, record_value, body}
 use Rattle.perf_records.specs.declared.record.Record.{Record}
 use Rattle.perf_event_data.specs.Frames.{frame_length, frames}
-use Rattle.perf_event_data.specs.Buffer.{Source}
-use Rattle.perf_event_data.specs.Taking.{MovesWithin}
+use Rattle.perf_buffers.specs.Buffer.{Source}
+use Rattle.perf_buffers.specs.Taking.{MovesWithin}
 use Rattle.perf_event_data.specs.Meaning.{Meaning}
 use Rattle.perf_event_data.specs.Reading.{of_layout}
 

@@ -1,10 +1,6 @@
-pub mod Buffer
-pub mod Taking
 pub mod Meaning
 pub mod Reading
-pub mod Cursor
-pub mod Room
 pub mod Frames
 pub mod Answers
-pub mod Pieces
 pub mod Runs
+pub mod AttributeGroups

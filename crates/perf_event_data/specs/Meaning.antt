@@ -3,7 +3,7 @@ use Rattle.std.specs.Prelude.{ℕ}
 use Rattle.perf_base.specs.Order.{Order}
 use Rattle.perf_base.specs.Configuration.{Configuration}
 use Rattle.perf_base.specs.Configured.{configuration_of, endian_of}
-use Rattle.perf_event_data.specs.Buffer.{Source}
+use Rattle.perf_buffers.specs.Buffer.{Source}
 use Rattle.perf_base.specs.declared.config.ParseConfig.{ParseConfig}
 use Rattle.perf_event_data.specs.declared.parser.Parser.{Parser}
 

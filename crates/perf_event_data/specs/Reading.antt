@@ -7,7 +7,7 @@ use Rattle.perf_base.specs.Errors.{kind_of}
 use Rattle.perf_base.specs.declared.error.ErrorKind.{ErrorKind}
 use Rattle.perf_base.specs.declared.error.ErrorKind.TheVariants.{Eof, InvalidRecord, UnsupportedConfig, UnsupportedData, External, OutOfMemory}
 use Rattle.perf_base.specs.declared.error.ParseError.{ParseError}
-use Rattle.perf_event_data.specs.Buffer.{NeedsNoMemory, Stays}
+use Rattle.perf_buffers.specs.Buffer.{NeedsNoMemory, Stays}
 use Rattle.perf_event_data.specs.Meaning.{Meaning}
 
 -- ---- what is answered

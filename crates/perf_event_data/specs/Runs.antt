@@ -11,7 +11,7 @@ use Rattle.perf_records.specs.Records.{RecordValue, IsBorrowed}
 use Rattle.perf_records.specs.declared.record.Record.{Record}
 use Rattle.perf_event_data.specs.Frames.{frame_length, frames, behind_frames, stream_end, done, cut_header}
 use Rattle.perf_event_data.specs.Answers.{said, answer_of_frame}
-use Rattle.perf_event_data.specs.Buffer.{Source}
+use Rattle.perf_buffers.specs.Buffer.{Source}
 use Rattle.perf_event_data.specs.Reading.{of_layout, last_of}
 use Rattle.perf_event_data.specs.declared.runs.Run.{Run}
 use Rattle.perf_event_data.specs.declared.runs.RunEnd.{RunEnd}

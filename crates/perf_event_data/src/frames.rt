@@ -7,15 +7,13 @@ ghost use Rattle.perf_base.specs.Errors.{kind_of};
 ghost use Rattle.perf_base.specs.Layout.{layout};
 ghost use Rattle.perf_records.specs.Records.{record_value, body, IsBorrowed};
 ghost use Rattle.perf_event_data.specs.Answers.{body_length, FailsToCut, Says, SaysBehind, ParsesRecord};
-ghost use Rattle.perf_event_data.specs.Buffer.{NeedsNoMemory, refusal, Stays};
-ghost use Rattle.perf_event_data.specs.Cursor.{cursor_left, cursor_lent};
+ghost use Rattle.perf_buffers.specs.Buffer.{NeedsNoMemory, refusal, Stays};
+ghost use Rattle.perf_buffers.specs.Cursor.{cursor_left, cursor_lent};
 ghost use Rattle.perf_event_data.specs.Meaning.{buffer_of, config_of, reads_of, meaning};
 ghost use Rattle.perf_event_data.specs.Reading.{Reads as ReadsLayout, KeepsBuffer, KeepsFaults, KeepsCost, KeepsPlace, is_external, one_if_refused};
-ghost use Rattle.perf_event_data.specs.Taking.{Takes, CanFail, MovesWithin};
+ghost use Rattle.perf_buffers.specs.Taking.{Takes, CanFail, MovesWithin};
 
-use crate::cursor::ParseBufCursor;
 use crate::parse::{FrameLayout, Layout, Parse, ParseRecord};
-use crate::parsebuf::ParseBuf;
 use crate::parser::Parser;
 use perf_base::endian::Endian;
 use perf_base::error::{ErrorKind, ParseError, ParseResult};
@@ -24,6 +22,8 @@ use perf_base::sys::{
     PERF_RECORD_EXIT, PERF_RECORD_FORK, PERF_RECORD_LOST, PERF_RECORD_LOST_SAMPLES,
     perf_event_header,
 };
+use perf_buffers::cursor::ParseBufCursor;
+use perf_buffers::parsebuf::ParseBuf;
 use perf_records::record::Record;
 use perf_types::exit::Exit;
 use perf_types::lost::Lost;

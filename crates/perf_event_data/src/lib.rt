@@ -4,22 +4,21 @@
 //! [`read_records`] answers every frame of a stream, a refused one by its error.
 #![tactic(auto)]
 
-mod cursor;
-mod fill;
+mod attribute;
 mod frames;
 mod numbers;
+mod optional;
 pub mod parse;
-mod parsebuf;
 mod parser;
-mod pieces;
 mod records;
 mod rest;
 mod runs;
+mod zeros;
 
-pub use crate::pieces::PieceBuf;
 pub use crate::runs::{Run, RunEnd, read_records};
 pub use perf_base::cow::CowSlice;
 pub use perf_base::{endian, sys};
+pub use perf_buffers::pieces::PieceBuf;
 pub use perf_records::record::Record;
 pub use perf_types::exit::{Exit, Fork};
 pub use perf_types::lost::Lost;

@@ -3,15 +3,15 @@
 
 ghost use Rattle.std.specs.Prelude.{◌≡◌, ◌+◌, IsTrue};
 ghost use Rattle.perf_base.specs.Layout.{number, w1, w2, w4, w8};
-ghost use Rattle.perf_event_data.specs.Buffer.{NeedsNoMemory, refusal};
+ghost use Rattle.perf_buffers.specs.Buffer.{NeedsNoMemory, refusal};
 ghost use Rattle.perf_event_data.specs.Meaning.{buffer_of, config_of, reads_of, meaning};
 ghost use Rattle.perf_event_data.specs.Reading.{ReadsOne, KeepsBuffer, KeepsFaults, KeepsCost, KeepsPlace};
 
-use crate::fill::take_array;
-use crate::parsebuf::ParseBuf;
 use crate::parser::Parser;
 use perf_base::endian::Endian;
 use perf_base::error::ParseResult;
+use perf_buffers::fill::take_array;
+use perf_buffers::parsebuf::ParseBuf;
 
 impl<'p, B: ParseBuf<'p>, E: Endian> Parser<B, E> {
     /// The next byte.

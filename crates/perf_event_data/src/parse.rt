@@ -7,19 +7,19 @@ ghost use Rattle.perf_base.specs.Layout.{w1, w2, w4, w8};
 ghost use Rattle.perf_base.specs.Order.{Order};
 ghost use Rattle.perf_base.specs.declared.error.ParseError.{ParseError as Refusal};
 ghost use Rattle.perf_event_data.specs.Answers.{body_length};
-ghost use Rattle.perf_event_data.specs.Buffer.{refusal};
+ghost use Rattle.perf_buffers.specs.Buffer.{refusal};
 ghost use Rattle.perf_event_data.specs.Meaning.{Meaning, buffer_of, config_of, meaning};
 ghost use Rattle.perf_event_data.specs.Reading.{ReadsNumber, KeepsBuffer, KeepsFaults, KeepsCost, KeepsPlace};
-ghost use Rattle.perf_event_data.specs.Taking.{MovesWithin};
+ghost use Rattle.perf_buffers.specs.Taking.{MovesWithin};
 ghost use Rattle.perf_base.specs.declared.sys.perf_event_header.{perf_event_header};
 
-pub use crate::cursor::ParseBufCursor;
-pub use crate::parsebuf::{ParseBuf, ParseBufChunk};
 pub use crate::parser::Parser;
 pub use perf_base::config::ParseConfig;
 use perf_base::endian::Endian;
 pub use perf_base::error::{ErrorKind, ParseError, ParseResult};
 use perf_base::sys::perf_event_header;
+pub use perf_buffers::cursor::ParseBufCursor;
+pub use perf_buffers::parsebuf::{ParseBuf, ParseBufChunk};
 
 /// What the parse of a type means.
 pub trait Layout: Sized {

@@ -1,13 +1,13 @@
 //! A buffer and how to read it.
 
-ghost use Rattle.std.specs.Prelude.{◌≡◌, ◌+◌, ℕ, IfOk, IfErr, IsTrue};
-ghost use Rattle.perf_base.specs.Configured.{configuration_of, endian_of};
+ghost use Rattle.std.specs.Prelude.{◌≡◌};
+ghost use Rattle.perf_base.specs.Configured.{endian_of};
 ghost use Rattle.perf_event_data.specs.Meaning.{buffer_of, config_of, reads_of};
 
-use crate::parsebuf::ParseBuf;
 use perf_base::config::ParseConfig;
 use perf_base::endian::Endian;
 use perf_base::reads::Reads;
+use perf_buffers::parsebuf::ParseBuf;
 use std::alloc::Global;
 
 /// Reads values out of a buffer, under a configuration.

@@ -2,18 +2,18 @@
 #![tactic(auto, using(crate::proofs::Paying::chain))]
 
 ghost use Rattle.perf_base.specs.Header.{header};
-ghost use Rattle.perf_event_data.specs.Buffer.{NeedsNoMemory};
+ghost use Rattle.perf_buffers.specs.Buffer.{NeedsNoMemory};
 ghost use Rattle.perf_event_data.specs.Reading.{Reads};
 ghost use Rattle.perf_types.specs.Exit.{exit};
 ghost use Rattle.perf_types.specs.Lost.{lost};
 ghost use Rattle.perf_types.specs.LostSamples.{lost_samples};
 
 use crate::parse::{Layout, Parse};
-use crate::parsebuf::ParseBuf;
 use crate::parser::Parser;
 use perf_base::endian::Endian;
 use perf_base::error::ParseResult;
 use perf_base::sys::perf_event_header;
+use perf_buffers::parsebuf::ParseBuf;
 use perf_types::exit::Exit;
 use perf_types::lost::Lost;
 use perf_types::lost_samples::LostSamples;

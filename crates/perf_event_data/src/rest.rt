@@ -1,147 +1,24 @@
-//! All that is left in a buffer.
-#![tactic(auto, using(crate::proofs::Paying::lasts))]
+//! All that is left in a parser's buffer.
+#![tactic(auto, using(crate::proofs::Paying::lasts, crate::proofs::Steps::rest_there))]
 
-ghost use Rattle.std.specs.Prelude.{◌≡◌, ◌+◌, ℕ, length, take, IsTrue, IfOk, IfErr, [], ◌++◌, OnOk};
+ghost use Rattle.std.specs.Prelude.{◌≡◌, ◌+◌, length, IsTrue, IfOk};
 ghost use Rattle.perf_base.specs.Cow.{cow_items, is_borrowed};
-ghost use Rattle.perf_base.specs.Errors.{kind_of};
 ghost use Rattle.perf_base.specs.Layout.{rest};
 ghost use Rattle.perf_base.specs.Reads.{one_if_any};
-ghost use Rattle.perf_event_data.specs.Buffer.{NeedsNoMemory, refusal, Stays};
+ghost use Rattle.perf_buffers.specs.Buffer.{NeedsNoMemory, refusal};
 ghost use Rattle.perf_event_data.specs.Meaning.{buffer_of, config_of, reads_of, meaning};
 ghost use Rattle.perf_event_data.specs.Reading.{ReadsOne, KeepsBuffer, KeepsFaults, KeepsCost, KeepsPlace};
-ghost use Rattle.perf_event_data.specs.Taking.{Takes, FailsInRest, CanFail, AppendsSome};
 
-use crate::parsebuf::{ParseBuf, ParseBufChunk};
 use crate::parser::Parser;
 use perf_base::cow::CowSlice;
 use perf_base::endian::Endian;
-use perf_base::error::{ErrorKind, ParseError, ParseResult};
-use std::alloc::Global;
-
-// The first chunk, where it lasts; else nothing.
-#[inline]
-fn lend_first<'p, B: ParseBuf<'p>>(buf: &mut B) -> ParseResult<&'p [u8]>
-    ensures stays { Stays (B.source buf.old) (refusal result) (B.source buf.new) }
-    ensures can_fail { CanFail (B.source buf.old) (refusal result) }
-    ensures whole { IsTrue (B.source buf.old).whole → IsTrue (B.source buf.old).told → IfOk result (λ s. s.now ≡ (B.source buf.old).left) }
-    ensures memory { NeedsNoMemory result }
-    ensures ok { IsTrue (B.source buf.old).told → IfOk result (λ s. Takes (B.source buf.old) (length s.now) (B.source buf.new) × (s.now ≡ take (length s.now) (B.source buf.old).left)) }
-    ensures err { IsTrue (B.source buf.old).told → IfErr result (λ e. FailsInRest (B.source buf.old) (kind_of e) (B.source buf.new)) }
-{
-    let bytes = match buf.chunk() {
-        Ok(ParseBufChunk::External(bytes)) => bytes,
-        Ok(ParseBufChunk::Temporary(_)) => return Ok(&[]),
-        Err(error) if error.kind() == ErrorKind::Eof => return Ok(&[]),
-        Err(error) => return Err(error),
-    };
-    buf.advance(bytes.len());
-    Ok(bytes)
-}
-
-// Whether nothing is left.
-fn is_at_end<'p, B: ParseBuf<'p>>(buf: &mut B) -> ParseResult<bool>
-    ensures stays { Stays (B.source buf.old) (refusal result) (B.source buf.new) }
-    ensures can_fail { CanFail (B.source buf.old) (refusal result) }
-    ensures kept { IsTrue (B.source buf.old).told → (B.source buf.new).left ≡ (B.source buf.old).left }
-    ensures ok { IsTrue (B.source buf.old).told → IfOk result (λ end. IsTrue end → (B.source buf.old).left ≡ []) }
-    ensures err { IsTrue (B.source buf.old).told → IfErr result (λ e. FailsInRest (B.source buf.old) (kind_of e) (B.source buf.new)) }
-{
-    match buf.chunk() {
-        Ok(_) => Ok(false),
-        Err(error) if error.kind() == ErrorKind::Eof => Ok(true),
-        Err(error) => Err(error),
-    }
-}
-
-// Appends one chunk, and says whether there was one.
-fn append_chunk<'p, B: ParseBuf<'p>>(buf: &mut B, out: &mut Vec<u8>) -> ParseResult<bool>
-    ensures stays { Stays (B.source buf.old) (refusal result) (B.source buf.new) }
-    ensures can_fail { CanFail (B.source buf.old) (refusal result) }
-    ensures ok { IsTrue (B.source buf.old).told → IfOk result (λ more. AppendsSome (B.source buf.old) out.old.items more (B.source buf.new) out.new.items) }
-    ensures err { IsTrue (B.source buf.old).told → IfErr result (λ e. FailsInRest (B.source buf.old) (kind_of e) (B.source buf.new)) }
-{
-    let chunk = match buf.chunk() {
-        Ok(chunk) => chunk,
-        Err(error) if error.kind() == ErrorKind::Eof => return Ok(false),
-        Err(error) => return Err(error),
-    };
-    let bytes = chunk.as_bytes();
-    let count = bytes.len();
-    if out.extend_from_slice(bytes).is_err() {
-        return Err(ParseError::out_of_memory());
-    }
-    buf.advance(count);
-    Ok(true)
-}
-
-// Appends all that is left. A buffer that never ends is refused for want of memory.
-fn append_rest<'p, B: ParseBuf<'p>>(buf: &mut B, out: &mut Vec<u8>) -> ParseResult<()>
-    ensures stays { Stays (B.source buf.old) (refusal result) (B.source buf.new) }
-    ensures can_fail { CanFail (B.source buf.old) (refusal result) }
-    ensures ok { IsTrue (B.source buf.old).told → OnOk result ((out.new.items ≡ out.old.items ++ (B.source buf.old).left) × ((B.source buf.new).left ≡ [])) }
-    ensures err { IsTrue (B.source buf.old).told → IfErr result (λ e. FailsInRest (B.source buf.old) (kind_of e) (B.source buf.new)) }
-{
-    for _ in 0..u64::MAX {
-        match append_chunk(buf, out) {
-            Ok(true) => {}
-            Ok(false) => return Ok(()),
-            Err(error) => return Err(error),
-        }
-    }
-    Err(ParseError::out_of_memory())
-}
-
-// The bytes of `first`, and all that is left behind them.
-#[cold]
-#[inline(never)]
-fn copy_rest<'p, B: ParseBuf<'p>>(alloc: Global, buf: &mut B, first: &[u8]) -> ParseResult<Vec<u8>>
-    ensures stays { Stays (B.source buf.old) (refusal result) (B.source buf.new) }
-    ensures can_fail { CanFail (B.source buf.old) (refusal result) }
-    ensures ok { IsTrue (B.source buf.old).told → IfOk result (λ v. (v.items ≡ first.now ++ (B.source buf.old).left) × ((B.source buf.new).left ≡ [])) }
-    ensures err { IsTrue (B.source buf.old).told → IfErr result (λ e. FailsInRest (B.source buf.old) (kind_of e) (B.source buf.new)) }
-{
-    let mut bytes = Vec::new(alloc);
-    if bytes.extend_from_slice(first).is_err() {
-        return Err(ParseError::out_of_memory());
-    }
-    match append_rest(buf, &mut bytes) {
-        Ok(()) => Ok(bytes),
-        Err(error) => Err(error),
-    }
-}
-
-// All that is left.
-#[inline]
-fn take_rest<'p, B: ParseBuf<'p>>(alloc: Global, buf: &mut B) -> ParseResult<CowSlice<'p, u8>>
-    ensures stays { Stays (B.source buf.old) (refusal result) (B.source buf.new) }
-    ensures can_fail { CanFail (B.source buf.old) (refusal result) }
-    ensures whole { IsTrue (B.source buf.old).whole → IsTrue (B.source buf.old).told → IfOk result (λ c. IsTrue (is_borrowed c)) }
-    ensures whole_memory { IsTrue (B.source buf.old).whole → IsTrue (B.source buf.old).told → NeedsNoMemory result }
-    ensures ok { IsTrue (B.source buf.old).told → IfOk result (λ c. (cow_items c ≡ (B.source buf.old).left) × ((B.source buf.new).left ≡ [])) }
-    ensures err { IsTrue (B.source buf.old).told → IfErr result (λ e. FailsInRest (B.source buf.old) (kind_of e) (B.source buf.new)) }
-{
-    let first = match lend_first(buf) {
-        Ok(first) => first,
-        Err(error) => return Err(error),
-    };
-    if let Some(0) = buf.remaining_hint() {
-        return Ok(CowSlice::Borrowed(first));
-    }
-    match is_at_end(buf) {
-        Ok(true) => return Ok(CowSlice::Borrowed(first)),
-        Ok(false) => {}
-        Err(error) => return Err(error),
-    }
-    match copy_rest(alloc, buf, first) {
-        Ok(bytes) => Ok(CowSlice::Owned(bytes)),
-        Err(error) => Err(error),
-    }
-}
+use perf_base::error::ParseResult;
+use perf_buffers::parsebuf::ParseBuf;
+use perf_buffers::rest::take_rest;
 
 impl<'p, B: ParseBuf<'p>, E: Endian> Parser<B, E> {
     /// All bytes that are left, borrowed where the buffer is a slice. There may be none.
     #[inline]
-    #[tactic(auto, using(crate::proofs::Paying::lasts, crate::proofs::Steps::rest_there))]
     pub fn parse_rest(&mut self) -> ParseResult<CowSlice<'p, u8>>
         ensures config { config_of self.new ≡ config_of self.old }
         ensures whole { IsTrue (B.source (buffer_of self.old)).whole → IsTrue (B.source (buffer_of self.old)).told → IfOk result (λ c. IsTrue (is_borrowed c)) }

@@ -1,6 +1,6 @@
 //! Runs over a stream of records.
 
-ghost use Rattle.std.specs.Prelude.{◌≡◌, ℕ, ◌+◌, ◌≤◌, ◌∷◌, length, take, drop, Err, IsTrue, IfOk, IfErr, OnOk, OnErr};
+ghost use Rattle.std.specs.Prelude.{◌≡◌, ◌+◌, ◌≤◌, ◌∷◌, length, take, drop, Err, IsTrue, IfOk, IfErr, OnOk, OnErr};
 ghost use Rattle.perf_base.specs.Configured.{configuration_of, endian_of};
 ghost use Rattle.perf_base.specs.Errors.{kind_of};
 ghost use Rattle.perf_base.specs.Header.{header_of};
@@ -9,13 +9,13 @@ ghost use Rattle.perf_event_data.specs.Reading.{KeepsBuffer, KeepsFaults, of_lay
 ghost use Rattle.perf_event_data.specs.Answers.{answers};
 ghost use Rattle.perf_event_data.specs.Runs.{listed, listed_count, refused_count, AllBorrowed, end_refusal, EndsWith, EndsAtHeader, IsListed, ListsNext, ended_by, one_if_ended};
 
-use crate::fill::take_array;
 use crate::parse::ParseRecord;
-use crate::parsebuf::ParseBuf;
 use crate::parser::Parser;
 use perf_base::endian::Endian;
 use perf_base::error::{ErrorKind, ParseError, ParseResult};
 use perf_base::sys::perf_event_header;
+use perf_buffers::fill::take_array;
+use perf_buffers::parsebuf::ParseBuf;
 use perf_records::record::Record;
 
 /// The frames that a run met, each with its header and its answer, and how the run ended.

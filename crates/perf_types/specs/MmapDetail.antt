@@ -1,6 +1,7 @@
 -- The 24 bytes of PERF_RECORD_MMAP2 that say which file was mapped: an inode, or a build id.
 use Rattle.std.specs.Prelude.{ℕ, Bool, true, List, take, Option, Some, None, nat_le, if◌then◌else◌}
-use Rattle.perf_base.specs.Configuration.{Configuration, has_bit}
+use Rattle.perf_base.specs.Configuration.{Configuration}
+use Rattle.perf_words.specs.Bits.{has_bit}
 use Rattle.perf_base.specs.Layout.{Parts, done, ◌>>=◌, ◌>>◌}
 use Rattle.perf_base.specs.FieldWords.{u8, u32, u64, bytes, ignored, require}
 use Rattle.perf_base.specs.declared.error.ErrorKind.TheVariants.{InvalidRecord}

@@ -1,7 +1,8 @@
 -- The sample id, `struct sample_id` of perf_event_open(2): fields that the kernel writes at the end of records where
 -- `sample_id_all` is set. Each flag of the sample type has eight bytes.
 use Rattle.std.specs.Prelude.{ℕ, ◌+◌, ◌*◌, Bool, Option, Some, None, if◌then◌else◌}
-use Rattle.perf_base.specs.Configuration.{Configuration, has_bit}
+use Rattle.perf_base.specs.Configuration.{Configuration}
+use Rattle.perf_words.specs.Bits.{has_bit}
 use Rattle.perf_base.specs.Layout.{Parts, done, ◌>>=◌, ◌>>◌}
 use Rattle.perf_base.specs.FieldWords.{u32_if, u64_if, ignored_if}
 

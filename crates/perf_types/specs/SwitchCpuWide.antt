@@ -1,6 +1,7 @@
 -- PERF_RECORD_SWITCH_CPU_WIDE: the other task's process and thread. The header's misc says which way the switch went.
 use Rattle.std.specs.Prelude.{ℕ, if◌then◌else◌}
-use Rattle.perf_base.specs.Configuration.{Configuration, has_bit}
+use Rattle.perf_base.specs.Configuration.{Configuration}
+use Rattle.perf_words.specs.Bits.{has_bit}
 use Rattle.perf_base.specs.Layout.{Parts, done, ◌>>=◌}
 use Rattle.perf_base.specs.FieldWords.{u32}
 use Rattle.perf_types.specs.declared.switch_cpu_wide.SwitchCpuWide.{SwitchCpuWide}

@@ -7,7 +7,7 @@ use Rattle.perf_base.specs.declared.error.ParseError.{ParseError}
 use Rattle.perf_records.specs.Records.{IsBorrowed}
 use Rattle.perf_records.specs.declared.record.Record.{Record}
 use Rattle.perf_event_data.specs.Answers.{SaysBehind}
-use Rattle.perf_event_data.specs.Buffer.{refusal}
+use Rattle.perf_buffers.specs.Buffer.{refusal}
 use Rattle.perf_event_data.specs.Meaning.{Meaning, meaning}
 use Rattle.perf_event_data.specs.Reading.{of_layout, KeepsCost}
 use Rattle.std.specs.Prelude.{IsTrue}

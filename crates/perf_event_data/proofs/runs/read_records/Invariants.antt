@@ -1,6 +1,6 @@
 use Rattle.std.proofs.Common.{◌≡◌, ◌+◌, ◌≤◌, length, None}
 use Rattle.std.specs.Prelude.{IsTrue}
-use Rattle.perf_event_data.specs.Buffer.{Stays}
+use Rattle.perf_buffers.specs.Buffer.{Stays}
 use Rattle.perf_event_data.specs.Meaning.{Meaning, meaning}
 use Rattle.perf_event_data.specs.Runs.{AllBorrowed, refused_count}
 use Rattle.perf_event_data.proofs.Listing.{IsSoFar}

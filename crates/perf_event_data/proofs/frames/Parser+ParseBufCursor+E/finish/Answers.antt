@@ -3,7 +3,7 @@ use Rattle.perf_base.specs.Configured.{configuration_of, endian_of}
 use Rattle.perf_base.specs.Layout.{layout}
 use Rattle.perf_records.specs.Records.{body}
 use Rattle.perf_event_data.specs.Answers.{Says}
-use Rattle.perf_event_data.specs.Cursor.{cursor_left}
+use Rattle.perf_buffers.specs.Cursor.{cursor_left}
 use Rattle.perf_event_data.proofs.Cutting.{says}
 use Rattle.perf_event_data.proofs.frames.Parser+ParseBufCursor+E.finish.Goals as goal
 

@@ -1,0 +1,115 @@
+-- A buffer: the bytes that are left in it, and what its calls show, refuse and take. Nothing above speaks of chunks.
+use Rattle.std.specs.Prelude.{Option, Result, ◌≡◌, ℕ, ◌+◌, ◌<◌, Bool, true, false, IsTrue, List, [], length, drop, Ok, Err, Some, None, IfOk, IfErr, IsOkAnd, ◌≢◌}
+use Rattle.std.specs.Io.{StartsWith}
+use Rattle.perf_base.specs.Errors.{kind_of}
+use Rattle.perf_base.specs.declared.error.ErrorKind.{ErrorKind}
+use Rattle.perf_base.specs.declared.error.ErrorKind.TheVariants.{Eof, InvalidRecord, UnsupportedConfig, UnsupportedData, External, OutOfMemory}
+use Rattle.perf_base.specs.declared.error.ParseError.{ParseError}
+use Rattle.perf_buffers.specs.declared.parsebuf.ParseBufChunk.{ParseBufChunk}
+use Rattle.perf_buffers.specs.declared.parsebuf.ParseBufChunk.TheVariants as chunk
+
+-- What a buffer holds.
+pub record Source : Type 0 where
+  -- the bytes that are left
+  pub left : List ℕ
+  -- it tells them: else `left` says nothing
+  pub told : Bool
+  -- each chunk lasts as long as the input, and is all that is left
+  pub whole : Bool
+  -- it may refuse a chunk by a fault
+  pub can_fault : Bool
+  -- how many faults it has answered, where it counts them
+  pub faults : Option ℕ
+
+-- ---- what `chunk` shows
+
+-- the bytes of a chunk
+abbrev pub chunk_bytes : ParseBufChunk → List ℕ
+chunk_bytes (chunk.Temporary bytes) = bytes.now
+chunk_bytes (chunk.External bytes) = bytes.now
+
+-- it lasts as long as the input
+abbrev pub lasts : ParseBufChunk → Bool
+lasts (chunk.Temporary bytes) = false
+lasts (chunk.External bytes) = true
+
+-- A chunk is a non-empty beginning of what is left. Of a whole buffer it lasts, and is all of it.
+abbrev pub Shows : Source → ParseBufChunk → Type 0
+Shows old c =
+    (0 < length (chunk_bytes c)) × (IsTrue old.told → StartsWith old.left (chunk_bytes c))
+    × (IsTrue old.whole → (chunk_bytes c ≡ old.left) × IsTrue (lasts c) × IsTrue old.told)
+
+-- Bytes that are ready are shown once more, until `advance` takes them.
+abbrev pub ShowsReady : List ℕ → Result ParseBufChunk ParseError → Type 0
+ShowsReady ready r = 0 < length ready → IsOkAnd r (λ c. chunk_bytes c ≡ ready)
+
+-- ---- why it refuses
+
+-- the end comes only where nothing is left, a fault only where there can be one, and nothing else
+abbrev pub Refuses : Source → ErrorKind → Type 0
+Refuses old Eof = IsTrue old.told → old.left ≡ []
+Refuses old External = IsTrue old.can_fault
+Refuses old InvalidRecord = ⊥
+Refuses old UnsupportedConfig = ⊥
+Refuses old UnsupportedData = ⊥
+Refuses old OutOfMemory = ⊥
+
+-- the kind with which a call was refused, if it was
+abbrev pub refusal : {A : Type 0} → Result A ParseError → Option ErrorKind
+refusal (Ok x) = None
+refusal (Err e) = Some (kind_of e)
+
+-- a call that takes no memory, so that none can be refused
+abbrev pub NeedsNoMemory : {A : Type 0} → Result A ParseError → Type 0
+NeedsNoMemory r = IfErr r (λ e. kind_of e ≢ OutOfMemory)
+
+-- ---- what it leaves
+
+-- one fault more, where they are counted
+abbrev pub one_more : Option ℕ → Option ℕ
+one_more None = None
+one_more (Some n) = Some (n + 1)
+
+-- the count of faults after a call, which rises with a fault and with nothing else
+abbrev pub faults_after : Option ℕ → Option ErrorKind → Option ℕ
+faults_after n None = n
+faults_after n (Some Eof) = n
+faults_after n (Some InvalidRecord) = n
+faults_after n (Some UnsupportedConfig) = n
+faults_after n (Some UnsupportedData) = n
+faults_after n (Some External) = one_more n
+faults_after n (Some OutOfMemory) = n
+
+-- What any call keeps: a buffer stays whole and goes on telling its bytes, one that cannot fault never can again, and
+-- faults are counted.
+abbrev pub Stays : Source → Option ErrorKind → Source → Type 0
+Stays old e new =
+    (new.whole ≡ old.whole) × (IsTrue new.can_fault → IsTrue old.can_fault)
+    × (new.faults ≡ faults_after old.faults e) × (IsTrue old.told → IsTrue new.told)
+
+-- `chunk` takes nothing, and what it showed is ready.
+abbrev pub KeepsChunk : Source → Result ParseBufChunk ParseError → Source → List ℕ → Type 0
+KeepsChunk old r new ready = Stays old (refusal r) new × (IsTrue old.told → new.left ≡ old.left) × IfOk r (λ c. ready ≡ chunk_bytes c)
+
+-- `advance` takes n bytes.
+abbrev pub Advances : Source → ℕ → Source → Type 0
+Advances old n new = Stays old None new × (IsTrue old.told → new.left ≡ drop n old.left)
+
+-- ---- the bytes of a reader, where it tells them
+
+abbrev pub known : Option (List ℕ) → List ℕ
+known None = []
+known (Some xs) = xs
+
+abbrev pub is_known : Option (List ℕ) → Bool
+is_known None = false
+is_known (Some xs) = true
+
+-- why one with these bytes refuses: the end comes only where nothing is left
+abbrev pub RefusesReader : Option (List ℕ) → ErrorKind → Type 0
+RefusesReader old Eof = IsTrue (is_known old) → known old ≡ []
+RefusesReader old External = Unit {0}
+RefusesReader old InvalidRecord = ⊥
+RefusesReader old UnsupportedConfig = ⊥
+RefusesReader old UnsupportedData = ⊥
+RefusesReader old OutOfMemory = ⊥

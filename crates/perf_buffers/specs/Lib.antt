@@ -1,0 +1,5 @@
+pub mod Buffer
+pub mod Taking
+pub mod Cursor
+pub mod Room
+pub mod Pieces

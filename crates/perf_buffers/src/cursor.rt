@@ -1,0 +1,263 @@
+//! The bytes of one frame.
+
+ghost use Rattle.std.specs.Prelude.{◌≡◌, ◌≢◌, ◌<◌, ◌≤◌, true, false, None, Some, length, take, IsTrue, IsOk, OnOk, IfOk, IfErr, MatchOption, IfNone};
+ghost use Rattle.perf_base.specs.Errors.{kind_of};
+ghost use Rattle.perf_buffers.specs.Buffer.{NeedsNoMemory, Stays, refusal};
+ghost use Rattle.perf_buffers.specs.Taking.{Takes, FailsToTake, FailsToKeep, CanFail};
+ghost use Rattle.perf_buffers.specs.Room.{falls_short, is_made_beforehand, makes_all_room, room_made};
+
+use crate::fill::append;
+use crate::parsebuf::{ParseBuf, ParseBufChunk};
+use perf_base::error::{ErrorKind, ParseError, ParseResult};
+use std::alloc::Global;
+
+// Room that is made for bytes of which the buffer does not say whether it has them.
+const UNHINTED_ROOM: usize = 16384;
+
+#[derive(Debug, Drop)]
+enum Held<'p> {
+    Lent(&'p [u8]),
+    // The bytes, and how many of them were taken.
+    Own(Vec<u8>, usize),
+}
+
+/// The bytes of one frame: borrowed from the input, or its own.
+#[derive(Debug, Drop)]
+pub struct ParseBufCursor<'p> {
+    held: Held<'p>,
+}
+
+impl<'p> ParseBufCursor<'p> {
+    ghost use Rattle.perf_buffers.specs.Cursor.{cursor_left, cursor_lent, held_left, is_lent};
+
+    #[inline]
+    fn rest(&self) -> &[u8]
+        ensures { result.now ≡ held_left self.now.held }
+    {
+        match &self.held {
+            Held::Lent(bytes) => bytes,
+            Held::Own(bytes, place) => {
+                if *place < bytes.len() {
+                    &bytes[*place..]
+                } else {
+                    &[]
+                }
+            }
+        }
+    }
+
+    /// What is left, where the bytes are borrowed.
+    #[inline]
+    pub fn as_slice(&self) -> Option<&'p [u8]>
+        ensures { MatchOption result (cursor_lent self.now ≡ false)
+            (λ s. IsTrue (cursor_lent self.now) × (s.now ≡ cursor_left self.now)) }
+    {
+        match &self.held {
+            Held::Lent(bytes) => Some(*bytes),
+            Held::Own(_, _) => None,
+        }
+    }
+}
+
+impl<'p> ParseBuf<'p> for ParseBufCursor<'p> {
+    ghost use Rattle.perf_buffers.specs.Cursor.{held_left, is_lent};
+
+    ghost source = { λ c. record { left = held_left c.held; told = true; whole = is_lent c.held; can_fault = false; faults = None } };
+
+    ghost ready = { λ c. held_left c.held };
+
+    ghost hint = { λ c. Some (length (held_left c.held)) };
+
+    #[inline]
+    fn chunk(&mut self) -> ParseResult<ParseBufChunk<'_, 'p>> {
+        if self.rest().is_empty() {
+            return Err(ParseError::eof());
+        }
+        if let Some(bytes) = self.as_slice() {
+            return Ok(ParseBufChunk::External(bytes));
+        }
+        Ok(ParseBufChunk::Temporary(self.rest()))
+    }
+
+    #[inline]
+    fn advance(&mut self, count: usize) {
+        match &mut self.held {
+            Held::Lent(bytes) => *bytes = &bytes[count..],
+            Held::Own(_, place) => *place += count,
+        }
+    }
+
+    #[inline]
+    fn remaining_hint(&self) -> Option<usize> {
+        Some(self.rest().len())
+    }
+}
+
+// The next `len` bytes, where the first chunk lasts and has them all.
+#[inline]
+fn lend<'p, B: ParseBuf<'p>>(buf: &mut B, len: usize) -> ParseResult<Option<&'p [u8]>>
+    requires { 0 < len }
+    ensures stays { Stays (B.source buf.old) (refusal result) (B.source buf.new) }
+    ensures can_fail { CanFail (B.source buf.old) (refusal result) }
+    ensures whole { IsTrue (B.source buf.old).whole → IfOk result (λ o. IfNone o (IsTrue (B.source buf.old).told × (length (B.source buf.old).left < len))) }
+    ensures memory { NeedsNoMemory result }
+    ensures ok { IsTrue (B.source buf.old).told → IfOk result (λ o. MatchOption o ((B.source buf.new).left ≡ (B.source buf.old).left)
+        (λ s. Takes (B.source buf.old) len (B.source buf.new) × (s.now ≡ take len (B.source buf.old).left))) }
+    ensures err { IsTrue (B.source buf.old).told → IfErr result (λ e. FailsToTake (B.source buf.old) len (kind_of e) (B.source buf.new)) }
+{
+    let bytes = match buf.chunk()? {
+        ParseBufChunk::External(bytes) => bytes,
+        ParseBufChunk::Temporary(_) => return Ok(None),
+    };
+    if bytes.len() < len {
+        return Ok(None);
+    }
+    buf.advance(len);
+    Ok(Some(&bytes[..len]))
+}
+
+// Takes what one chunk has, at most `len` bytes, and keeps none of it.
+fn skip_some<'p, B: ParseBuf<'p>>(buf: &mut B, len: usize) -> ParseResult<usize>
+    requires { 0 < len }
+    ensures stays { Stays (B.source buf.old) (refusal result) (B.source buf.new) }
+    ensures can_fail { CanFail (B.source buf.old) (refusal result) }
+    ensures memory { NeedsNoMemory result }
+    ensures count { IfOk result (λ n. (0 < n) × (n ≤ len)) }
+    ensures ok { IsTrue (B.source buf.old).told → IfOk result (λ n. Takes (B.source buf.old) n (B.source buf.new)) }
+    ensures err { IsTrue (B.source buf.old).told → IfErr result (λ e. FailsToTake (B.source buf.old) len (kind_of e) (B.source buf.new)) }
+{
+    let chunk = buf.chunk()?;
+    let count = chunk.as_bytes().len().min(len);
+    buf.advance(count);
+    Ok(count)
+}
+
+/// Takes `len` bytes and keeps none of them.
+pub fn skip<'p, B: ParseBuf<'p>>(buf: &mut B, len: usize) -> ParseResult<()>
+    ensures stays { Stays (B.source buf.old) (refusal result) (B.source buf.new) }
+    ensures can_fail { CanFail (B.source buf.old) (refusal result) }
+    ensures memory { NeedsNoMemory result }
+    ensures ok { IsTrue (B.source buf.old).told → OnOk result (Takes (B.source buf.old) len (B.source buf.new)) }
+    ensures err { IsTrue (B.source buf.old).told → IfErr result (λ e. FailsToTake (B.source buf.old) len (kind_of e) (B.source buf.new)) }
+{
+    let mut at = 0;
+    while at < len {
+        at += skip_some(buf, len - at)?;
+    }
+    Ok(())
+}
+
+// The refusal where fewer than `len` bytes are left, all of which are taken.
+#[cold]
+#[inline(never)]
+fn shortage<'p, B: ParseBuf<'p>>(buf: &mut B, len: usize) -> ParseError
+    requires { IsTrue (B.source buf.old).told → length (B.source buf.old).left < len }
+    ensures stays { Stays (B.source buf.old) (Some (kind_of result)) (B.source buf.new) }
+    ensures can_fail { CanFail (B.source buf.old) (Some (kind_of result)) }
+    ensures no_memory { kind_of result ≢ ErrorKind.OutOfMemory }
+    ensures err { IsTrue (B.source buf.old).told → FailsToKeep (B.source buf.old) len (kind_of result) (B.source buf.new) }
+{
+    match skip(buf, len) {
+        Ok(()) => ParseError::eof(),
+        Err(error) => error,
+    }
+}
+
+// How much room is made before the first byte is taken.
+#[inline]
+fn first_room(hinted: bool, len: usize) -> usize
+    ensures { result ≡ room_made hinted len }
+{
+    if hinted { len } else { len.min(UNHINTED_ROOM) }
+}
+
+// The next `len` bytes, copied.
+fn copy<'p, B: ParseBuf<'p>>(
+    alloc: Global,
+    buf: &mut B,
+    len: usize,
+    hinted: bool,
+) -> ParseResult<Vec<u8>>
+    ensures stays { Stays (B.source buf.old) (refusal result) (B.source buf.new) }
+    ensures can_fail { CanFail (B.source buf.old) (refusal result) }
+    ensures beforehand { IsTrue (B.source buf.old).told → makes_all_room hinted len ≡ true →
+        IfErr result (λ e. kind_of e ≡ ErrorKind.OutOfMemory → (B.source buf.new).left ≡ (B.source buf.old).left) }
+    ensures ok { IsTrue (B.source buf.old).told → IfOk result (λ v. Takes (B.source buf.old) len (B.source buf.new) × (v.items ≡ take len (B.source buf.old).left)) }
+    ensures err { IsTrue (B.source buf.old).told → IfErr result (λ e. FailsToKeep (B.source buf.old) len (kind_of e) (B.source buf.new)) }
+{
+    let room = first_room(hinted, len);
+    let mut bytes = match Vec::with_capacity(alloc, room) {
+        Ok(bytes) => bytes,
+        Err(_) => return Err(ParseError::out_of_memory()),
+    };
+    match append(buf, &mut bytes, len) {
+        Ok(()) => Ok(bytes),
+        Err(error) => Err(error),
+    }
+}
+
+// Whether the buffer says that it has fewer than `len` bytes.
+#[inline]
+fn says_too_few(hint: Option<usize>, len: usize) -> bool
+    ensures { result ≡ falls_short hint len }
+{
+    match hint {
+        Some(left) => left < len,
+        None => false,
+    }
+}
+
+impl<'p> ParseBufCursor<'p> {
+    ghost use Rattle.perf_buffers.specs.Cursor.{cursor_left, cursor_lent, IsAtStart};
+
+    /// Cuts the next `len` bytes off a buffer.
+    ///
+    /// They are borrowed where one chunk has them all and lasts. Otherwise they are copied: where the buffer says that
+    /// it has them, or does not say and `len` is at most 16,384, all room is made first, so that refused memory takes
+    /// nothing. Too few bytes are `Eof`, for which no room is made where the buffer says so, and all of them are taken.
+    #[inline]
+    pub fn new<B: ParseBuf<'p>>(
+        alloc: Global,
+        buf: &mut B,
+        len: usize,
+    ) -> ParseResult<ParseBufCursor<'p>>
+        ensures stays { Stays (B.source buf.old) (refusal result) (B.source buf.new) }
+        ensures can_fail { CanFail (B.source buf.old) (refusal result) }
+
+        // A whole buffer lends its bytes, and nothing is always there: neither takes memory.
+        ensures whole { IsTrue (B.source buf.old).whole → IfOk result (λ c. IsTrue (cursor_lent c)) }
+        ensures whole_memory { IsTrue (B.source buf.old).whole → NeedsNoMemory result }
+        ensures nothing { len ≡ 0 → IsOk result × (B.source buf.new ≡ B.source buf.old) }
+
+        // No room is made where the buffer says that it has too few, and else all room first, where that is little.
+        ensures short { falls_short (B.hint buf.old) len ≡ true → NeedsNoMemory result }
+        ensures beforehand { IsTrue (B.source buf.old).told → is_made_beforehand (B.hint buf.old) len ≡ true →
+            IfErr result (λ e. kind_of e ≡ ErrorKind.OutOfMemory → (B.source buf.new).left ≡ (B.source buf.old).left) }
+
+        ensures ok { IsTrue (B.source buf.old).told → IfOk result (λ c. Takes (B.source buf.old) len (B.source buf.new) × (cursor_left c ≡ take len (B.source buf.old).left)) }
+        ensures start { IfOk result (λ c. IsAtStart c) }
+        ensures err { IsTrue (B.source buf.old).told → IfErr result (λ e. FailsToKeep (B.source buf.old) len (kind_of e) (B.source buf.new)) }
+    {
+        if len == 0 {
+            return Ok(ParseBufCursor {
+                held: Held::Lent(&[]),
+            });
+        }
+        let hint = buf.remaining_hint();
+        if says_too_few(hint, len) {
+            return Err(shortage(buf, len));
+        }
+        match lend(buf, len) {
+            Ok(Some(bytes)) => Ok(ParseBufCursor {
+                held: Held::Lent(bytes),
+            }),
+            Ok(None) => match copy(alloc, buf, len, hint.is_some()) {
+                Ok(bytes) => Ok(ParseBufCursor {
+                    held: Held::Own(bytes, 0),
+                }),
+                Err(error) => Err(error),
+            },
+            Err(error) => Err(error),
+        }
+    }
+}

@@ -1,0 +1,131 @@
+//! Bytes that are copied, from one chunk or from several: those of a number, and those that are appended to others.
+
+ghost use Rattle.std.specs.Prelude.{◌≡◌, ◌+◌, ◌<◌, ◌≤◌, [], ◌++◌, length, take, OnOk, IfOk, IfErr, IsTrue, vec_len, vec_capacity};
+ghost use Rattle.perf_base.specs.Errors.{kind_of};
+ghost use Rattle.perf_buffers.specs.Taking.{Takes, TakesAtOnce, FailsToTake, FailsToKeep, CanFail};
+ghost use Rattle.perf_buffers.specs.Buffer.{NeedsNoMemory, Stays, refusal};
+
+use crate::parsebuf::ParseBuf;
+use perf_base::error::{ErrorKind, ParseError, ParseResult};
+
+// Fills `out` where one chunk has all its bytes, and else takes nothing.
+#[inline]
+fn fill_at_once<'p, B: ParseBuf<'p>>(buf: &mut B, out: &mut [u8]) -> ParseResult<bool>
+    requires { 0 < length out.old }
+    ensures stays { Stays (B.source buf.old) (refusal result) (B.source buf.new) }
+    ensures can_fail { CanFail (B.source buf.old) (refusal result) }
+    ensures memory { NeedsNoMemory result }
+    ensures ok { IsTrue (B.source buf.old).told → IfOk result (λ all. TakesAtOnce (B.source buf.old) (length out.old) all out.new (B.source buf.new)) }
+    ensures err { IsTrue (B.source buf.old).told → IfErr result (λ e. FailsToTake (B.source buf.old) (length out.old) (kind_of e) (B.source buf.new)) }
+{
+    let chunk = buf.chunk()?;
+    let bytes = chunk.as_bytes();
+    let count = out.len();
+    if bytes.len() < count {
+        return Ok(false);
+    }
+    out.copy_from_slice(&bytes[..count]);
+    buf.advance(count);
+    Ok(true)
+}
+
+// Takes what one chunk has, at most as much as there is room for.
+fn take_some<'p, B: ParseBuf<'p>>(buf: &mut B, out: &mut [u8]) -> ParseResult<usize>
+    requires { 0 < length out.old }
+    ensures count { IfOk result (λ n. (0 < n) × (n ≤ length out.old)) }
+    ensures stays { Stays (B.source buf.old) (refusal result) (B.source buf.new) }
+    ensures can_fail { CanFail (B.source buf.old) (refusal result) }
+    ensures memory { NeedsNoMemory result }
+    ensures ok { IsTrue (B.source buf.old).told → IfOk result (λ n. Takes (B.source buf.old) n (B.source buf.new) × (take n out.new ≡ take n (B.source buf.old).left)) }
+    ensures err { IsTrue (B.source buf.old).told → IfErr result (λ e. FailsToTake (B.source buf.old) (length out.old) (kind_of e) (B.source buf.new)) }
+{
+    let chunk = buf.chunk()?;
+    let bytes = chunk.as_bytes();
+    let count = bytes.len().min(out.len());
+    out[..count].copy_from_slice(&bytes[..count]);
+    buf.advance(count);
+    Ok(count)
+}
+
+// Fills `out` from as many chunks as it takes.
+#[cold]
+#[inline(never)]
+fn fill<'p, B: ParseBuf<'p>>(buf: &mut B, out: &mut [u8]) -> ParseResult<()>
+    ensures stays { Stays (B.source buf.old) (refusal result) (B.source buf.new) }
+    ensures can_fail { CanFail (B.source buf.old) (refusal result) }
+    ensures memory { NeedsNoMemory result }
+    ensures ok { IsTrue (B.source buf.old).told → OnOk result (Takes (B.source buf.old) (length out.old) (B.source buf.new) × (out.new ≡ take (length out.old) (B.source buf.old).left)) }
+    ensures err { IsTrue (B.source buf.old).told → IfErr result (λ e. FailsToTake (B.source buf.old) (length out.old) (kind_of e) (B.source buf.new)) }
+{
+    let mut at = 0;
+    while at < out.len() {
+        at += take_some(buf, &mut out[at..])?;
+    }
+    Ok(())
+}
+
+// Appends what one chunk has, at most `len` bytes.
+fn append_some<'p, B: ParseBuf<'p>>(
+    buf: &mut B,
+    out: &mut Vec<u8>,
+    len: usize,
+) -> ParseResult<usize>
+    requires { 0 < len }
+    ensures stays { Stays (B.source buf.old) (refusal result) (B.source buf.new) }
+    ensures can_fail { CanFail (B.source buf.old) (refusal result) }
+    ensures room { vec_len out.old + len ≤ vec_capacity out.old → NeedsNoMemory result }
+    ensures capacity { vec_capacity out.old ≤ vec_capacity out.new }
+    ensures count { IfOk result (λ n. (0 < n) × (n ≤ len) × (vec_len out.new ≡ vec_len out.old + n)) }
+    ensures ok { IsTrue (B.source buf.old).told → IfOk result (λ n. Takes (B.source buf.old) n (B.source buf.new) × (out.new.items ≡ out.old.items ++ take n (B.source buf.old).left)) }
+    ensures end { IsTrue (B.source buf.old).told → IfErr result (λ e. kind_of e ≡ ErrorKind.Eof → ((B.source buf.old).left ≡ []) × (out.new.items ≡ out.old.items)) }
+    ensures err { IsTrue (B.source buf.old).told → IfErr result (λ e. FailsToKeep (B.source buf.old) len (kind_of e) (B.source buf.new)) }
+{
+    let chunk = buf.chunk()?;
+    let bytes = chunk.as_bytes();
+    let count = bytes.len().min(len);
+    if out.extend_from_slice(&bytes[..count]).is_err() {
+        return Err(ParseError::out_of_memory());
+    }
+    buf.advance(count);
+    Ok(count)
+}
+
+// Appends the next `len` bytes, or all that is left where there are fewer.
+pub(crate) fn append<'p, B: ParseBuf<'p>>(
+    buf: &mut B,
+    out: &mut Vec<u8>,
+    len: usize,
+) -> ParseResult<()>
+    ensures stays { Stays (B.source buf.old) (refusal result) (B.source buf.new) }
+    ensures can_fail { CanFail (B.source buf.old) (refusal result) }
+    ensures room { vec_len out.old + len ≤ vec_capacity out.old → NeedsNoMemory result }
+    ensures ok { IsTrue (B.source buf.old).told → OnOk result (Takes (B.source buf.old) len (B.source buf.new) × (out.new.items ≡ out.old.items ++ take len (B.source buf.old).left)) }
+    ensures end { IsTrue (B.source buf.old).told → IfErr result (λ e. kind_of e ≡ ErrorKind.Eof → out.new.items ≡ out.old.items ++ (B.source buf.old).left) }
+    ensures err { IsTrue (B.source buf.old).told → IfErr result (λ e. FailsToKeep (B.source buf.old) len (kind_of e) (B.source buf.new)) }
+{
+    let mut at = 0;
+    while at < len {
+        at += match append_some(buf, out, len - at) {
+            Ok(count) => count,
+            Err(error) => return Err(error),
+        };
+    }
+    Ok(())
+}
+
+/// The next `N` bytes, of which there is at least one.
+#[inline]
+pub fn take_array<'p, B: ParseBuf<'p>, const N: usize>(buf: &mut B) -> ParseResult<[u8; N]>
+    requires { 0 < N }
+    ensures stays { Stays (B.source buf.old) (refusal result) (B.source buf.new) }
+    ensures can_fail { CanFail (B.source buf.old) (refusal result) }
+    ensures memory { NeedsNoMemory result }
+    ensures ok { IsTrue (B.source buf.old).told → IfOk result (λ bytes. Takes (B.source buf.old) N (B.source buf.new) × (bytes ≡ take N (B.source buf.old).left)) }
+    ensures err { IsTrue (B.source buf.old).told → IfErr result (λ e. FailsToTake (B.source buf.old) N (kind_of e) (B.source buf.new)) }
+{
+    let mut bytes = [0u8; N];
+    if !fill_at_once(buf, &mut bytes)? {
+        fill(buf, &mut bytes)?;
+    }
+    Ok(bytes)
+}

@@ -1,0 +1,9 @@
+//! Buffers: where the bytes of a parser come from, and how bytes are taken from them.
+#![tactic(auto)]
+
+pub mod cursor;
+pub mod fill;
+pub mod parsebuf;
+pub mod pieces;
+pub mod rest;
+pub mod zeros;

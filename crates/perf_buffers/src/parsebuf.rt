@@ -1,0 +1,157 @@
+//! Buffers: where the bytes come from.
+
+ghost use Rattle.std.specs.Prelude.{◌≡◌, ℕ, ◌≤◌, true, false, None, Some, IsTrue, List, length, Option, IfOk, IfErr, IfSome, ◌<◌, OnOk, IsOk, IsSome};
+ghost use Rattle.std.specs.Borrow.{sem};
+ghost use Rattle.std.specs.Io.BufRead.{Rests};
+ghost use Rattle.perf_base.specs.Errors.{kind_of};
+ghost use Rattle.perf_buffers.specs.Buffer.{Source, Shows, ShowsReady, Refuses, KeepsChunk, Advances, chunk_bytes, known, is_known, RefusesReader};
+ghost use Rattle.std.specs.Io.Buffered.{reader_remaining, reader_buffer};
+
+use perf_base::error::{ErrorKind, ParseError, ParseResult};
+use std::io::{self, BufRead, BufReader, Read};
+
+/// The bytes that a buffer shows next.
+#[derive(Copy, Clone, Debug)]
+pub enum ParseBufChunk<'tmp, 'p> {
+    /// Bytes that the buffer holds itself. They last until it advances.
+    Temporary(&'tmp [u8]),
+    /// Bytes of the input, which outlast the buffer.
+    External(&'p [u8]),
+}
+
+impl<'tmp, 'p> ParseBufChunk<'tmp, 'p> {
+    /// The bytes, however long they last.
+    #[inline]
+    pub fn as_bytes(&self) -> &[u8]
+        ensures { result.now ≡ chunk_bytes self.now }
+    {
+        match self {
+            ParseBufChunk::Temporary(bytes) => bytes,
+            ParseBufChunk::External(bytes) => bytes,
+        }
+    }
+}
+
+/// Bytes for a parser, handed out in chunks.
+pub trait ParseBuf<'p> {
+    ghost source: { Self → Source };
+
+    // the bytes that the next chunk shows again, as `chunk` showed them before; none where it may still read more
+    ghost ready: { Self → List ℕ };
+
+    // what `remaining_hint` answers
+    ghost hint: { Self → Option ℕ };
+
+    /// A non-empty beginning of what is left, and the same until [`ParseBuf::advance`] takes of it. The refusal is
+    /// `Eof` only where nothing is left, and otherwise `External`, which takes nothing.
+    fn chunk(&mut self) -> ParseResult<ParseBufChunk<'_, 'p>>
+        ensures shows { IfOk result (λ c. Shows (source self.old) c) }
+        ensures same { ShowsReady (ready self.old) result }
+        ensures refuses { IfErr result (λ e. Refuses (source self.old) (kind_of e)) }
+        ensures* after_borrow { sem 𝓛 (Rests Self.row self.entry (λ new.
+            KeepsChunk (source self.old) result (source new) (ready new))) };
+
+    /// Takes bytes that [`ParseBuf::chunk`] showed.
+    fn advance(&mut self, count: usize)
+        requires { count ≤ length (ready self.old) }
+        ensures { Advances (source self.old) count (source self.new) };
+
+    /// How many bytes are left, where the buffer knows it. One that is whole does.
+    fn remaining_hint(&self) -> Option<usize>
+        ensures is { result ≡ hint self.now }
+        ensures whole { IsTrue (source self.now).whole → IsSome result }
+        ensures exact { IfSome result (λ n. IsTrue (source self.now).told → n ≡ length (source self.now).left) };
+}
+
+/// A slice is whole and cannot fault.
+impl<'p> ParseBuf<'p> for &'p [u8] {
+    ghost source = { λ s. record { left = s.now; told = true; whole = true; can_fault = false; faults = None } };
+
+    ghost ready = { λ s. s.now };
+
+    ghost hint = { λ s. Some (length s.now) };
+
+    #[inline]
+    fn chunk(&mut self) -> ParseResult<ParseBufChunk<'_, 'p>> {
+        if self.is_empty() {
+            return Err(ParseError::eof());
+        }
+        Ok(ParseBufChunk::External(*self))
+    }
+
+    #[inline]
+    fn advance(&mut self, count: usize) {
+        *self = &self[count..];
+    }
+
+    #[inline]
+    fn remaining_hint(&self) -> Option<usize> {
+        Some(self.len())
+    }
+}
+
+// The fault that an error of a reader is, whatever the reader calls it.
+#[cold]
+#[inline(never)]
+fn fault_of(error: io::Error) -> ParseError
+    ensures { kind_of result ≡ ErrorKind.External }
+{
+    ParseError::new(anyhow::Error::from(error))
+}
+
+// Reads ahead. Nothing that was read before is left to take.
+#[inline(never)]
+fn read_more<R: Read>(reader: &mut BufReader<R>) -> ParseResult<()>
+    ensures some { OnOk result (0 < length (reader_buffer reader.new)) }
+    ensures kept { IsTrue (is_known (reader_remaining R.remaining reader.old)) → reader_remaining R.remaining reader.new ≡ reader_remaining R.remaining reader.old }
+    ensures refuses { IfErr result (λ e. RefusesReader (reader_remaining R.remaining reader.old) (kind_of e)) }
+{
+    if let Err(error) = reader.fill_buf() {
+        return Err(fault_of(error));
+    }
+    if reader.buffer().is_empty() {
+        return Err(ParseError::eof());
+    }
+    Ok(())
+}
+
+// Reads ahead where nothing is read and not yet taken.
+#[inline]
+fn read_ahead<R: Read>(reader: &mut BufReader<R>) -> ParseResult<()>
+    ensures ready { 0 < length (reader_buffer reader.old) → OnOk result (reader_buffer reader.new ≡ reader_buffer reader.old) × IsOk result }
+    ensures some { OnOk result (0 < length (reader_buffer reader.new)) }
+    ensures kept { IsTrue (is_known (reader_remaining R.remaining reader.old)) → reader_remaining R.remaining reader.new ≡ reader_remaining R.remaining reader.old }
+    ensures refuses { IfErr result (λ e. RefusesReader (reader_remaining R.remaining reader.old) (kind_of e)) }
+{
+    if !reader.buffer().is_empty() {
+        return Ok(());
+    }
+    read_more(reader)
+}
+
+/// Every fault of the reader is `External`, also where the reader calls it an interruption or an early end.
+impl<'p, R: Read> ParseBuf<'p> for BufReader<R> {
+    ghost source = { λ s. record { left = known (reader_remaining R.remaining s); told = is_known (reader_remaining R.remaining s); whole = false; can_fault = true; faults = None } };
+
+    ghost ready = { λ s. reader_buffer s };
+
+    ghost hint = { λ _. None };
+
+    #[inline]
+    fn chunk(&mut self) -> ParseResult<ParseBufChunk<'_, 'p>> {
+        match read_ahead(self) {
+            Ok(()) => Ok(ParseBufChunk::Temporary(self.buffer())),
+            Err(error) => Err(error),
+        }
+    }
+
+    #[inline]
+    fn advance(&mut self, count: usize) {
+        self.consume(count)
+    }
+
+    #[inline]
+    fn remaining_hint(&self) -> Option<usize> {
+        None
+    }
+}
