@@ -1,3 +1,4 @@
+mod Entries
 mod Poked
 mod SampleIdLength
 mod Worked
