@@ -6,3 +6,4 @@ pub mod ReadBound
 pub mod Cuts
 pub mod Worked
 pub mod AttributeSizes
+pub mod Standing

@@ -38,7 +38,7 @@ numbers n = part (words n) done
 abbrev pub ignored : ℕ → Parts (Unit {0})
 ignored n = part (padding n) done
 
--- the same, where they are there
+-- n bytes that say nothing and are there, or not
 abbrev pub ignored_if : Bool → ℕ → Parts (Unit {0})
 ignored_if present n = ignored (if present then n else 0)
 

@@ -1,4 +1,5 @@
 mod Entries
+pub mod Flags
 mod Poked
-mod SampleIdLength
+pub mod SampleIdLength
 mod Worked

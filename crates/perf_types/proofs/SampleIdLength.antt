@@ -1,9 +1,15 @@
 -- A sample id takes as many bytes as `sample_id_length` says, whatever they are.
-use Rattle.std.proofs.Common.{◌≡◌, ℕ, ◌*◌, Bool, true, false, List, if◌then◌else◌, refl, arith}
+use Rattle.std.proofs.Common.{◌≡◌, ℕ, ◌*◌, ◌≤◌, ◌<◌, Bool, true, false, List, length, drop, if◌then◌else◌, refl, sym, ◌∙◌, ap, arith, inl, inr}
+use Rattle.std.proofs.lemmas.Bool.{cases_lt}
 use Rattle.perf_base.specs.Configuration.{Configuration}
-use Rattle.perf_base.specs.Layout.{optional, w4, w8, size, done, ending}
+use Rattle.perf_base.specs.Layout.{optional, w4, w8, size, done, ending, value}
 use Rattle.perf_base.specs.Order.{Order}
-use Rattle.perf_types.specs.SampleId.{one_if, sample_id_flags, sample_id_fields, no_sample_id, sample_id, sample_id_length}
+use Rattle.perf_base.specs.Run.{ran, stopped, by_places}
+use Rattle.perf_base.specs.declared.error.ErrorKind.{ErrorKind}
+use Rattle.perf_base.proofs.Bridge.{places_run}
+use Rattle.perf_base.proofs.Standing.{Unchecked, unchecked_run}
+use Rattle.perf_base.proofs.Tables.{run_layout}
+use Rattle.perf_types.specs.SampleId.{SampleIdValue, one_if, sample_id_flags, sample_id_fields, no_sample_id, sample_id, sample_id_length}
 
 four_if : (flag : Bool) (left : ℕ) → size (optional flag w4) left ≡ 4 * one_if flag
 four_if true left = refl
@@ -26,3 +32,25 @@ under false o body t = refl
 
 pub ending-sample_id : (c : Configuration) (o : Order) (body : List ℕ) → ending o body 0 (sample_id c) ≡ sample_id_length c
 ending-sample_id c o body = under c.sample_id_all o body c.sample_type
+
+-- there is no check among its fields
+free : (all : Bool) (t : ℕ) → Unchecked (if all then sample_id_fields t else done no_sample_id)
+free true t = λ pid tid time id stream_id cpu nothing identifier. tt
+free false t = tt
+
+-- It stands wherever that many bytes are left, and takes exactly them.
+pub sample_id_there : (c : Configuration) (o : Order) (bytes : List ℕ) → sample_id_length c ≤ length bytes →
+    by_places o (sample_id c) bytes ≡ ran (value o bytes 0 (sample_id c)) (drop (sample_id_length c) bytes)
+sample_id_there c o bytes fits =
+    let whole : ending o bytes 0 (sample_id c) ≡ sample_id_length c = ending-sample_id c o bytes in
+    unchecked_run o (sample_id c) bytes (free c.sample_id_all c.sample_type) (omega arith) ∙ ap (λ (n : ℕ). ran (value o bytes 0 (sample_id c)) (drop n bytes)) whole
+
+pub sample_id_takes : (c : Configuration) (o : Order) (bytes left : List ℕ) (v : SampleIdValue) → by_places o (sample_id c) bytes ≡ ran v left → left ≡ drop (sample_id_length c) bytes
+sample_id_takes c o bytes left v h =
+    sym (run_layout o (sample_id c) bytes v left (sym (places_run o (sample_id c) bytes) ∙ h)).1 ∙ ap (λ n. drop n bytes) (ending-sample_id c o bytes)
+
+pub sample_id_lacks : (c : Configuration) (o : Order) (bytes left : List ℕ) (e : ErrorKind) → by_places o (sample_id c) bytes ≡ stopped e left → length bytes < sample_id_length c
+sample_id_lacks c o bytes left e h = elim (cases_lt (length bytes) (sample_id_length c)) [
+  | inl short ↦ short
+  | inr fits ↦ absurd (cc (sample_id_there c o bytes fits))
+]

@@ -1,12 +1,16 @@
 //! The sample id, which stands at the end of records.
 
-ghost use Rattle.std.specs.Prelude.{◌≡◌};
-ghost use Rattle.perf_types.specs.SampleId.{SampleIdValue, no_sample_id};
+ghost use Rattle.std.specs.Prelude.{◌≡◌, ◌*◌};
+ghost use Rattle.perf_types.specs.SampleId.{SampleIdValue, no_sample_id, sample_id_length, one_if};
+ghost use Rattle.perf_base.specs.Configured.{configuration_of};
 
+use bitflags::Flags;
+use perf_base::config::ParseConfig;
+use perf_words::SampleFlags;
 use std::marker::Model;
 
 /// Which task and which event a record belongs to (`struct sample_id`): what `sample_id_all` has the kernel write at the
-/// end of each record but MMAP and SAMPLE. A field is there where the sample type has its flag.
+/// end of each record but SAMPLE. A field is there where the sample type has its flag.
 #[derive(Copy, Clone, Debug)]
 pub struct SampleId {
     pid: Option<u32>,
@@ -41,6 +45,13 @@ impl Default for SampleId {
     }
 }
 
+#[inline]
+fn eight_if(flag: bool) -> usize
+    ensures { result ≡ 8 * one_if flag }
+{
+    if flag { 8 } else { 0 }
+}
+
 impl SampleId {
     /// The sample id of these fields.
     #[inline]
@@ -62,6 +73,25 @@ impl SampleId {
             stream_id,
             cpu,
         }
+    }
+
+    /// How many bytes the sample id of a record has under a configuration: eight for each flag of the sample type that
+    /// it has, and none without `sample_id_all`.
+    #[inline]
+    #[tactic(auto, using(crate::proofs::Flags::sample_flags))]
+    pub fn estimate_len<E>(config: &ParseConfig<E>) -> usize
+        ensures { result ≡ sample_id_length (configuration_of config.now) }
+    {
+        if !config.sample_id_all() {
+            return 0;
+        }
+        let flags = config.sample_type();
+        eight_if(flags.contains(SampleFlags::TID))
+            + eight_if(flags.contains(SampleFlags::TIME))
+            + eight_if(flags.contains(SampleFlags::ID))
+            + eight_if(flags.contains(SampleFlags::STREAM_ID))
+            + eight_if(flags.contains(SampleFlags::CPU))
+            + eight_if(flags.contains(SampleFlags::IDENTIFIER))
     }
 
     /// The process in which it happened, where the sample type has `PERF_SAMPLE_TID`.

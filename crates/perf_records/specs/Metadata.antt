@@ -1,0 +1,24 @@
+-- What is known of every record beside what it says itself: `struct perf_event_header` in front of it, and the sample id
+-- behind it, as perf_event.h lays out records under `sample_id_all`.
+use Rattle.std.specs.Prelude.{ℕ, Bool, ◌==◌, ◌&&◌, not, nat_lt, if◌then◌else◌}
+use Rattle.perf_base.specs.Configuration.{Configuration}
+use Rattle.perf_base.specs.Layout.{Parts, done}
+use Rattle.perf_base.specs.declared.sys.TheConstants.{PERF_RECORD_SAMPLE}
+use Rattle.perf_types.specs.SampleId.{SampleIdValue, no_sample_id, sample_id, sample_id_length}
+
+pub record MetadataValue : Type 0 where
+  pub ty : ℕ
+  pub misc : ℕ
+  pub sample_id : SampleIdValue
+
+-- The types whose records end with a sample id: the kernel's own, below 64, but SAMPLE, which has its fields in front.
+abbrev pub carries_sample_id : ℕ → Bool
+carries_sample_id ty = nat_lt ty 64 && not (ty == PERF_RECORD_SAMPLE)
+
+-- the sample id of a record of a type
+abbrev pub id_of_type : Configuration → ℕ → Parts SampleIdValue
+id_of_type c ty = if carries_sample_id ty then sample_id c else done no_sample_id
+
+-- how many bytes it has
+abbrev pub id_length : Configuration → ℕ → ℕ
+id_length c ty = if carries_sample_id ty then sample_id_length c else 0
