@@ -1,6 +1,6 @@
 //! The bytes of one frame.
 
-ghost use Rattle.std.specs.Prelude.{◌≡◌, ◌≢◌, ◌<◌, ◌≤◌, true, false, None, Some, length, take, IsTrue, IsOk, OnOk, IfOk, IfErr, MatchOption, IfNone};
+ghost use Rattle.std.specs.Prelude.{◌≡◌, ◌≢◌, ◌<◌, ◌≤◌, true, false, None, Some, length, take, IsTrue, IsOk, OnOk, IfOk, IfErr, MatchOption, IfNone, ◌-◌, ◌↔◌, drop, []};
 ghost use Rattle.perf_base.specs.Errors.{kind_of};
 ghost use Rattle.perf_buffers.specs.Buffer.{NeedsNoMemory, Stays, refusal};
 ghost use Rattle.perf_buffers.specs.Taking.{Takes, FailsToTake, FailsToKeep, CanFail};
@@ -8,6 +8,7 @@ ghost use Rattle.perf_buffers.specs.Room.{falls_short, is_made_beforehand, makes
 
 use crate::fill::append;
 use crate::parsebuf::{ParseBuf, ParseBufChunk};
+use perf_base::cow::CowSlice;
 use perf_base::error::{ErrorKind, ParseError, ParseResult};
 use std::alloc::Global;
 
@@ -28,7 +29,8 @@ pub struct ParseBufCursor<'p> {
 }
 
 impl<'p> ParseBufCursor<'p> {
-    ghost use Rattle.perf_buffers.specs.Cursor.{cursor_left, cursor_lent, held_left, is_lent};
+    ghost use Rattle.perf_base.specs.Cow.{cow_items, is_borrowed};
+    ghost use Rattle.perf_buffers.specs.Cursor.{cursor_left, cursor_lent, held_left, is_at_start, is_lent};
 
     #[inline]
     fn rest(&self) -> &[u8]
@@ -43,6 +45,58 @@ impl<'p> ParseBufCursor<'p> {
                     &[]
                 }
             }
+        }
+    }
+
+    /// How many bytes are left.
+    #[inline]
+    pub fn len(&self) -> usize
+        ensures { result ≡ length (held_left self.now.held) }
+    {
+        self.rest().len()
+    }
+
+    /// Whether no bytes are left.
+    #[inline]
+    pub fn is_empty(&self) -> bool
+        ensures { IsTrue result ↔ (held_left self.now.held ≡ []) }
+    {
+        self.rest().is_empty()
+    }
+
+    /// The last `count` bytes of what is left.
+    #[inline]
+    pub fn last(&self, count: usize) -> &[u8]
+        requires { count ≤ length (held_left self.now.held) }
+        ensures { result.now ≡ drop (length (held_left self.now.held) - count) (held_left self.now.held) }
+    {
+        let bytes = self.rest();
+        &bytes[bytes.len() - count..]
+    }
+
+    /// Drops the last `count` bytes of what is left.
+    #[inline]
+    pub fn drop_last(&mut self, count: usize)
+        requires { count ≤ length (held_left self.old.held) }
+        ensures left { held_left self.new.held ≡ take (length (held_left self.old.held) - count) (held_left self.old.held) }
+        ensures form { is_lent self.new.held ≡ is_lent self.old.held }
+    {
+        match &mut self.held {
+            Held::Lent(bytes) => *bytes = &bytes[..bytes.len() - count],
+            Held::Own(bytes, _) => bytes.truncate(bytes.len() - count),
+        }
+    }
+
+    /// The bytes, of which none was taken yet.
+    #[inline]
+    pub fn into_bytes(self) -> CowSlice<'p, u8>
+        requires { is_at_start self.held }
+        ensures items { cow_items result ≡ held_left self.entry.held }
+        ensures form { is_borrowed result ≡ is_lent self.entry.held }
+    {
+        match self.held {
+            Held::Lent(bytes) => CowSlice::Borrowed(bytes),
+            Held::Own(bytes, _) => CowSlice::Owned(bytes),
         }
     }
 

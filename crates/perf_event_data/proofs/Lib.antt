@@ -9,3 +9,6 @@ mod Worked
 mod Covering
 pub mod ZeroTails
 pub mod Attributes
+pub mod Names
+pub mod Repeating
+pub mod SampleIds

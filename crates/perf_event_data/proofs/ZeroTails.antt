@@ -1,13 +1,11 @@
 -- A run of bytes that has to be zero, from what the buffer gave.
-use Rattle.std.proofs.Common.{◌≡◌, ℕ, ◌≤◌, ◌<◌, List, [], length, take, drop, refl, sym, ap, ◌∙◌, ◌+◌, Bool, true, false, arith}
+use Rattle.std.proofs.Common.{◌≡◌, ℕ, ◌≤◌, ◌<◌, List, [], length, take, drop, refl, sym, ap, ◌∙◌, true, false, arith}
 use Rattle.perf_base.specs.Attribute.{zero_tail}
 use Rattle.perf_base.specs.Layout.{Parts, run, check, done}
 use Rattle.perf_base.specs.Order.{Order}
 use Rattle.perf_base.specs.Run.{ran, stopped, by_places}
 use Rattle.perf_base.specs.Zeros.{all_zero}
-use Rattle.std.proofs.lemmas.List.Folds.{list_all-append}
-use Rattle.std.proofs.Math.Seq.{take-add}
-use Rattle.std.specs.Prelude.{IsTrue, ◌==◌, ◌&&◌}
+use Rattle.std.specs.Prelude.{IsTrue}
 use Rattle.perf_base.specs.declared.error.ErrorKind.{ErrorKind}
 use Rattle.perf_base.specs.declared.error.ErrorKind.TheVariants.{Eof, InvalidRecord, UnsupportedConfig, UnsupportedData, External, OutOfMemory}
 use Rattle.perf_buffers.specs.Buffer.{Source}

@@ -4,3 +4,5 @@ pub mod Frames
 pub mod Answers
 pub mod Runs
 pub mod AttributeGroups
+pub mod Repeats
+pub mod SampleIdFields

@@ -1,5 +1,5 @@
 -- What a call of a parser answers and leaves, and four things that every call keeps.
-use Rattle.std.specs.Prelude.{Option, Result, ◌≡◌, ℕ, ◌+◌, ◌-◌, ◌≤◌, Bool, true, false, IsTrue, List, length, drop, Ok, Err, Some, None}
+use Rattle.std.specs.Prelude.{Option, Result, ◌≡◌, ℕ, ◌+◌, ◌-◌, ◌<◌, ◌≤◌, Bool, true, false, IsTrue, List, length, drop, Ok, Err, Some, None}
 use Rattle.perf_base.specs.Configuration.{Configuration}
 use Rattle.perf_base.specs.Layout.{Width, Shape, number, Answer, Parts}
 use Rattle.perf_base.specs.Run.{Ran, ran, stopped, one, by_places}
@@ -39,6 +39,11 @@ ReadsOne shape view old result new = Gives view (one old.order shape old.source.
 abbrev pub ReadsNumber : Width → Meaning → Result ℕ ParseError → Meaning → Type 0
 ReadsNumber w old result new = ReadsOne (number w) (λ n. n) old result new × NeedsNoMemory result
 
+-- n bytes were taken; or fewer were left, where it was refused with a kind of the layout
+abbrev pub TakesOrLacks : {X : Type 0} → ℕ → Meaning → Result X ParseError → Meaning → Type 0
+TakesOrLacks n old (Ok x) new = new.source.left ≡ drop n old.source.left
+TakesOrLacks n old (Err e) new = IsTrue (of_layout (kind_of e)) → length old.source.left < n
+
 -- ---- what is kept
 
 -- the last n of a list; it is opened only where a proof asks for it
@@ -63,6 +68,12 @@ is_external (Some OutOfMemory) = false
 -- The buffer: it stays what it is, and its faults are counted.
 abbrev pub KeepsBuffer : Meaning → Option ErrorKind → Meaning → Type 0
 KeepsBuffer old e new = Stays old.source e new.source
+
+-- Form: a buffer stays whole and goes on telling its bytes, and one that cannot fault never can again.
+abbrev pub KeepsForm : Meaning → Meaning → Type 0
+KeepsForm old new =
+    (new.source.whole ≡ old.source.whole) × (IsTrue new.source.can_fault → IsTrue old.source.can_fault)
+    × (IsTrue old.source.told → IsTrue new.source.told)
 
 -- Faults: one comes only from a buffer that can fault.
 abbrev pub KeepsFaults : Meaning → Option ErrorKind → Type 0

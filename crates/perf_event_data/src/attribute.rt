@@ -10,11 +10,11 @@ ghost use Rattle.perf_event_data.specs.Meaning.{buffer_of, config_of, meaning};
 ghost use Rattle.perf_event_data.specs.Reading.{Reads, KeepsBuffer, KeepsFaults, KeepsCost, KeepsPlace};
 
 use crate::parse::{Layout, Parse};
-use perf_buffers::parsebuf::ParseBuf;
 use crate::parser::Parser;
 use perf_base::endian::Endian;
 use perf_base::error::{ErrorKind, ParseError, ParseResult};
 use perf_base::sys::perf_event_attr;
+use perf_buffers::parsebuf::ParseBuf;
 
 // The largest attribute whose fields are known, `PERF_ATTR_SIZE_VER8`.
 const KNOWN_SIZE: u32 = 136;

@@ -5,7 +5,9 @@
 #![tactic(auto)]
 
 mod attribute;
+mod bytes;
 mod frames;
+mod lists;
 mod numbers;
 mod optional;
 pub mod parse;
@@ -13,6 +15,7 @@ mod parser;
 mod records;
 mod rest;
 mod runs;
+mod sample_ids;
 mod zeros;
 
 pub use crate::runs::{Run, RunEnd, read_records};

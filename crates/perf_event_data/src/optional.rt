@@ -6,11 +6,11 @@ ghost use Rattle.perf_buffers.specs.Buffer.{NeedsNoMemory, refusal};
 ghost use Rattle.perf_event_data.specs.Meaning.{buffer_of, config_of, meaning};
 ghost use Rattle.perf_event_data.specs.Reading.{ReadsOne, KeepsBuffer, KeepsFaults, KeepsCost, KeepsPlace};
 
-use perf_buffers::cursor::skip;
-use perf_buffers::parsebuf::ParseBuf;
 use crate::parser::Parser;
 use perf_base::endian::Endian;
 use perf_base::error::ParseResult;
+use perf_buffers::cursor::skip;
+use perf_buffers::parsebuf::ParseBuf;
 
 impl<'p, B: ParseBuf<'p>, E: Endian> Parser<B, E> {
     // A number of two bytes that is there, or not.

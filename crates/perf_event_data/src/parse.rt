@@ -1,15 +1,16 @@
 //! Parsing: what can be parsed, and the parser that does it.
 
-ghost use Rattle.std.specs.Prelude.{◌≡◌, ℕ, List, IsTrue, Result};
+ghost use Rattle.std.specs.Prelude.{◌≡◌, ℕ, List, IsTrue, Option, Result};
 ghost use Rattle.perf_base.specs.Configuration.{Configuration};
 ghost use Rattle.perf_base.specs.Configured.{configuration_of, endian_of};
 ghost use Rattle.perf_base.specs.Layout.{w1, w2, w4, w8};
 ghost use Rattle.perf_base.specs.Order.{Order};
+ghost use Rattle.perf_base.specs.declared.error.ErrorKind.{ErrorKind};
 ghost use Rattle.perf_base.specs.declared.error.ParseError.{ParseError as Refusal};
 ghost use Rattle.perf_event_data.specs.Answers.{body_length};
 ghost use Rattle.perf_buffers.specs.Buffer.{refusal};
 ghost use Rattle.perf_event_data.specs.Meaning.{Meaning, buffer_of, config_of, meaning};
-ghost use Rattle.perf_event_data.specs.Reading.{ReadsNumber, KeepsBuffer, KeepsFaults, KeepsCost, KeepsPlace};
+ghost use Rattle.perf_event_data.specs.Reading.{ReadsNumber, KeepsForm, KeepsBuffer, KeepsFaults, KeepsCost, KeepsPlace};
 ghost use Rattle.perf_buffers.specs.Taking.{MovesWithin};
 ghost use Rattle.perf_base.specs.declared.sys.perf_event_header.{perf_event_header};
 
@@ -25,6 +26,15 @@ pub use perf_buffers::parsebuf::{ParseBuf, ParseBufChunk};
 pub trait Layout: Sized {
     // What a call answers, from what the parser meant before, and what the parser means after it.
     ghost parses: { Meaning → Result Self Refusal → Meaning → Type 0 };
+
+    // How it counts faults, where one can come from, and how many elementary reads it makes. What this library parses
+    // counts each fault that it answers and no other, answers one only over a buffer that can fault, and makes at most as
+    // many reads as it takes bytes, and one more where it is refused. Another type may state its own.
+    ghost counts: { Meaning → Option ErrorKind → Meaning → Type 0 } = { KeepsBuffer };
+
+    ghost faults: { Meaning → Option ErrorKind → Type 0 } = { KeepsFaults };
+
+    ghost costs: { Meaning → Option ErrorKind → Meaning → Type 0 } = { KeepsCost };
 }
 
 /// A type that can be parsed out of a buffer.
@@ -33,9 +43,10 @@ pub trait Parse<'p, B: ParseBuf<'p>>: Layout {
     fn parse<E: Endian>(parser: &mut Parser<B, E>) -> ParseResult<Self>
         ensures config { config_of parser.new ≡ config_of parser.old }
         ensures answer { IsTrue (B.source (buffer_of parser.old)).told → Self.parses (meaning B.source E.order parser.old) result (meaning B.source E.order parser.new) }
-        ensures keeps { KeepsBuffer (meaning B.source E.order parser.old) (refusal result) (meaning B.source E.order parser.new) }
-        ensures faults { KeepsFaults (meaning B.source E.order parser.old) (refusal result) }
-        ensures cost { KeepsCost (meaning B.source E.order parser.old) (refusal result) (meaning B.source E.order parser.new) }
+        ensures lasts { KeepsForm (meaning B.source E.order parser.old) (meaning B.source E.order parser.new) }
+        ensures keeps { Self.counts (meaning B.source E.order parser.old) (refusal result) (meaning B.source E.order parser.new) }
+        ensures faults { Self.faults (meaning B.source E.order parser.old) (refusal result) }
+        ensures cost { Self.costs (meaning B.source E.order parser.old) (refusal result) (meaning B.source E.order parser.new) }
         ensures place { KeepsPlace (meaning B.source E.order parser.old) (meaning B.source E.order parser.new) };
 }
 
@@ -45,9 +56,10 @@ impl<'p, B: ParseBuf<'p>, E: Endian> Parser<B, E> {
     pub fn parse<P: Parse<'p, B>>(&mut self) -> ParseResult<P>
         ensures config { config_of self.new ≡ config_of self.old }
         ensures answer { IsTrue (B.source (buffer_of self.old)).told → P.parses (meaning B.source E.order self.old) result (meaning B.source E.order self.new) }
-        ensures keeps { KeepsBuffer (meaning B.source E.order self.old) (refusal result) (meaning B.source E.order self.new) }
-        ensures faults { KeepsFaults (meaning B.source E.order self.old) (refusal result) }
-        ensures cost { KeepsCost (meaning B.source E.order self.old) (refusal result) (meaning B.source E.order self.new) }
+        ensures lasts { KeepsForm (meaning B.source E.order self.old) (meaning B.source E.order self.new) }
+        ensures keeps { P.counts (meaning B.source E.order self.old) (refusal result) (meaning B.source E.order self.new) }
+        ensures faults { P.faults (meaning B.source E.order self.old) (refusal result) }
+        ensures cost { P.costs (meaning B.source E.order self.old) (refusal result) (meaning B.source E.order self.new) }
         ensures place { KeepsPlace (meaning B.source E.order self.old) (meaning B.source E.order self.new) }
     {
         P::parse(self)
