@@ -1,3 +1,4 @@
+mod Entries
 pub mod Flags
 mod Poked
 pub mod SampleIdLength

@@ -194,6 +194,10 @@ namespaces_of_none = refl
 namespaces_of_one_and_a_half : layout little namespaces (four 1 0 ++ four 2 0 ++ eight 2 0 ++ eight 3 0 ++ eight 4 0 ++ eight 5 0) ≡ Err Eof
 namespaces_of_one_and_a_half = refl
 
+-- a count that no bytes can have
+namespaces_of_too_many : layout little namespaces (four 1 0 ++ four 2 0 ++ 0 ∷ 0 ∷ 0 ∷ 0 ∷ 0 ∷ 0 ∷ 0 ∷ 0x80 ∷ []) ≡ Err Eof
+namespaces_of_too_many = refl
+
 -- ---- code that was changed
 
 text_poke_of_five_bytes : layout little text_poke (eight 16 0 ++ 3 ∷ 0 ∷ 2 ∷ 0 ∷ 0xA1 ∷ 0xA2 ∷ 0xA3 ∷ 0xB1 ∷ 0xB2 ∷ 0 ∷ 0 ∷ 0 ∷ 0 ∷ 0 ∷ 0 ∷ 0 ∷ []) ≡
