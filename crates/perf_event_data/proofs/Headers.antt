@@ -16,7 +16,8 @@ use Rattle.perf_base.specs.declared.error.ErrorKind.TheVariants.{Eof}
 use Rattle.perf_base.specs.declared.error.ParseError.{ParseError}
 use Rattle.perf_records.specs.declared.record.Record.{Record}
 use Rattle.perf_event_data.specs.Frames.{frame_length}
-use Rattle.perf_event_data.specs.Answers.{body_length, answer_behind, answer_of_frame, SaysBehind, SaysFrame}
+use Rattle.perf_event_data.specs.Answers.{body_length, split_behind, record_in, answer_behind, of_frame, answer_of_frame, Tells, SaysBehind, SaysFrame}
+use Rattle.perf_records.specs.Records.{record_value}
 
 -- ---- the header by places
 -- what follows the type, and what follows misc
@@ -85,9 +86,9 @@ header_take o n bytes =
     ap (λ k. take 2 (drop 6 (take k bytes))) (omega arith) ∙ ap (take 2) (drop-take 6 (2 + n) bytes) ∙ take-take 2 (2 + n) (drop 6 bytes) (omega arith) in
     rw (a, b, d) refl
 
-behind_take : (c : Configuration) (o : Order) (h : perf_event_header) (bytes : List ℕ) → answer_behind c o h (take (body_length h) bytes) ≡ answer_behind c o h bytes
-behind_take c o h bytes = elim (cases_lt (length bytes) (body_length h)) [
-  | inl short ↦ ap (answer_behind c o h) (take_all (body_length h) bytes (omega arith))
+split_take : (c : Configuration) (o : Order) (h : perf_event_header) (bytes : List ℕ) → split_behind c o h (take (body_length h) bytes) ≡ split_behind c o h bytes
+split_take c o h bytes = elim (cases_lt (length bytes) (body_length h)) [
+  | inl short ↦ ap (split_behind c o h) (take_all (body_length h) bytes (omega arith))
   | inr fits ↦
       let all : length (take (body_length h) bytes) ≡ body_length h = length-take-le (body_length h) bytes fits in
       let a : nat_lt (length (take (body_length h) bytes)) (body_length h) ≡ false = le-ltb (length (take (body_length h) bytes)) (body_length h) (omega arith) in
@@ -96,9 +97,15 @@ behind_take c o h bytes = elim (cases_lt (length bytes) (body_length h)) [
       rw (a, b, t) refl
 ]
 
+behind_take : (c : Configuration) (o : Order) (h : perf_event_header) (bytes : List ℕ) → answer_behind c o h (take (body_length h) bytes) ≡ answer_behind c o h bytes
+behind_take c o h bytes = ap (record_in c o h) (split_take c o h bytes)
+
 -- what stands behind a header that is whole
+pub frame_whole : {V : Type 0} (says : perf_event_header → List ℕ → Result V ErrorKind) (o : Order) (bytes : List ℕ) → 8 ≤ length bytes → of_frame says o bytes ≡ says (header_of o bytes) (drop 8 bytes)
+frame_whole says o bytes fits = let a : nat_lt (length bytes) 8 ≡ false = le-ltb (length bytes) 8 fits in rw a refl
+
 pub answer_whole : (c : Configuration) (o : Order) (bytes : List ℕ) → 8 ≤ length bytes → answer_of_frame c o bytes ≡ answer_behind c o (header_of o bytes) (drop 8 bytes)
-answer_whole c o bytes fits = let a : nat_lt (length bytes) 8 ≡ false = le-ltb (length bytes) 8 fits in rw a refl
+answer_whole c o bytes fits = frame_whole (answer_behind c o) o bytes fits
 
 -- the frame's length, in the words of its body
 pub frame_body : (h : perf_event_header) → max 8 h.size ≡ 8 + body_length h
@@ -130,20 +137,27 @@ pub frame_behind : (o : Order) (bytes mid new : List ℕ) (h : perf_event_header
 frame_behind o bytes mid new h e m n =
     n ∙ ap (drop (body_length h)) m ∙ drop-drop (body_length h) 8 bytes ∙ ap (λ k. drop k bytes) (sym (ap (λ (q : perf_event_header). max 8 q.size) (sym e) ∙ frame_body h))
 
-pub says_frame : (c : Configuration) (o : Order) (bytes mid new : List ℕ) (h : perf_event_header) (r : Result Record ParseError) → 8 ≤ length bytes → h ≡ header_of o bytes → mid ≡ drop 8 bytes →
-    SaysBehind c o h mid r new → SaysFrame c o bytes r new
-says_frame c o bytes mid new h (Ok r) fits e m p = (
-  answer_whole c o bytes fits ∙ ap (λ k. answer_behind c o k (drop 8 bytes)) (sym e) ∙ ap (answer_behind c o h) (sym m) ∙ p.0,
+pub tells_frame : {X V : Type 0} (view : X → V) (says : perf_event_header → List ℕ → Result V ErrorKind) (o : Order) (bytes mid new : List ℕ) (h : perf_event_header) (r : Result X ParseError) →
+    8 ≤ length bytes → h ≡ header_of o bytes → mid ≡ drop 8 bytes → Tells view (says h mid) (body_length h) mid r new → Tells view (of_frame says o bytes) (frame_length o bytes) bytes r new
+tells_frame view says o bytes mid new h (Ok x) fits e m p = (
+  frame_whole says o bytes fits ∙ ap (λ k. says k (drop 8 bytes)) (sym e) ∙ ap (says h) (sym m) ∙ p.0,
   frame_behind o bytes mid new h e m p.1,
 )
-says_frame c o bytes mid new h (Err x) fits e m p = λ kind. let q = p kind in (
-  answer_whole c o bytes fits ∙ ap (λ k. answer_behind c o k (drop 8 bytes)) (sym e) ∙ ap (answer_behind c o h) (sym m) ∙ q.0,
+tells_frame view says o bytes mid new h (Err x) fits e m p = λ kind. let q = p kind in (
+  frame_whole says o bytes fits ∙ ap (λ k. says k (drop 8 bytes)) (sym e) ∙ ap (says h) (sym m) ∙ q.0,
   frame_behind o bytes mid new h e m q.1,
 )
 
+pub says_frame : (c : Configuration) (o : Order) (bytes mid new : List ℕ) (h : perf_event_header) (r : Result Record ParseError) → 8 ≤ length bytes → h ≡ header_of o bytes → mid ≡ drop 8 bytes →
+    SaysBehind c o h mid r new → SaysFrame c o bytes r new
+says_frame c o bytes mid new h r fits e m p = tells_frame record_value (answer_behind c o) o bytes mid new h r fits e m p
+
 -- a header that is lacking
-pub says_no_header : (c : Configuration) (o : Order) (bytes new : List ℕ) → length bytes < 8 → new ≡ [] → (answer_of_frame c o bytes ≡ Err Eof) × (new ≡ drop (frame_length o bytes) bytes)
-says_no_header c o bytes new short e =
+pub tells_no_header : {V : Type 0} (says : perf_event_header → List ℕ → Result V ErrorKind) (o : Order) (bytes new : List ℕ) → length bytes < 8 → new ≡ [] → (of_frame says o bytes ≡ Err Eof) × (new ≡ drop (frame_length o bytes) bytes)
+tells_no_header says o bytes new short e =
     let a : nat_lt (length bytes) 8 ≡ true = lt-ltb (length bytes) 8 short in
     let whole : frame_length o bytes ≡ 8 + body_length (header_of o bytes) = frame_body (header_of o bytes) in
     (rw a refl, e ∙ sym (drop_all (frame_length o bytes) bytes (omega arith)))
+
+pub says_no_header : (c : Configuration) (o : Order) (bytes new : List ℕ) → length bytes < 8 → new ≡ [] → (answer_of_frame c o bytes ≡ Err Eof) × (new ≡ drop (frame_length o bytes) bytes)
+says_no_header c o bytes new short e = tells_no_header (answer_behind c o) o bytes new short e

@@ -270,7 +270,7 @@ impl<'p, B: ParseBuf<'p>, E: Endian> Parser<B, E> {
         ensures answer { IsTrue (B.source (buffer_of self.old)).told → SplitsFrame (configuration_of (config_of self.old)) (E.order (endian_of (config_of self.old))) (B.source (buffer_of self.old)).left result (B.source (buffer_of self.new)).left }
         ensures inner { IfOk result (λ r. (configuration_of (config_of r.0) ≡ configuration_of (config_of self.old)) × (E.order (endian_of (config_of r.0)) ≡ E.order (endian_of (config_of self.old))) × (reads_of r.0 ≡ 0)) }
         ensures whole { IsTrue (B.source (buffer_of self.old)).whole → IfOk result (λ r. IsTrue (cursor_lent (buffer_of r.0))) }
-        ensures whole_memory { IsTrue (B.source (buffer_of self.old)).whole → E.may_refuse (endian_of (config_of self.old)) ≡ false → NeedsNoMemory result }
+        ensures whole_memory { IsTrue (B.source (buffer_of self.old)).whole → IsTrue (B.source (buffer_of self.old)).told → E.may_refuse (endian_of (config_of self.old)) ≡ false → NeedsNoMemory result }
         ensures keeps { KeepsBuffer (meaning B.source E.order self.old) (refusal result) (meaning B.source E.order self.new) }
         ensures faults { KeepsFaults (meaning B.source E.order self.old) (refusal result) }
         ensures cost { KeepsCost (meaning B.source E.order self.old) (refusal result) (meaning B.source E.order self.new) }

@@ -1,18 +1,51 @@
-use Rattle.perf_base.specs.Errors.{kind_of}
-use Rattle.perf_event_data.specs.Answers.{body_length}
-use Rattle.perf_event_data.proofs.Cutting.{within_taken, cut_within, place_within}
+use Rattle.std.proofs.Common.{◌≡◌, ℕ, ◌+◌, ◌-◌, ◌≤◌, List, length, length-drop, arith, ◌∙◌, ap}
+use Rattle.perf_base.specs.Configuration.{Configuration, under_misc}
+use Rattle.perf_base.specs.Configured.{configuration_of, endian_of}
+use Rattle.perf_base.specs.Order.{Order}
+use Rattle.perf_buffers.specs.Cursor.{cursor_left}
+use Rattle.perf_event_data.specs.Answers.{body_length, FrameParts, answered_parts}
+use Rattle.perf_records.specs.Metadata.{id_length}
+use Rattle.perf_event_data.proofs.Splitting.{fell, body_len, says_under, says_record}
 use Rattle.perf_event_data.proofs.frames.RecordParseRecord.parse_with_header.Goals as goal
 
-pub returns-in-Err-clause-place : goal.returns-in-Err-clause-place
-returns-in-Err-clause-place g c = λ told.
-    place_within (g.B.ParseBuf.source c.args.parser.now.buf) (g.B.ParseBuf.source c.cut_frame.new.self.buf) (body_length c.args.header)
-    (cut_within (g.B.ParseBuf.source c.args.parser.now.buf) (g.B.ParseBuf.source c.cut_frame.new.self.buf) c.args.header (kind_of c.in-Err.error) (c.in-Err.ensures.err told))
+pub returns-clause-answer : goal.returns-clause-answer
+returns-clause-answer g c = λ told.
+    let settings : Configuration = configuration_of c.args.parser.now.config in
+    let o : Order = g.E.Endian.order (endian_of c.args.parser.now.config) in
+    let h = c.args.header in
+    let old : List ℕ = (g.B.ParseBuf.source c.args.parser.now.buf).left in
+    let new : List ℕ = (g.B.ParseBuf.source c.parse_metadata_with_header.new.self.buf).left in
+    let split = c.in-Ok.ensures.answer told in
+    let inner = c.in-Ok.ensures.inner in
+    let parts : FrameParts = answered_parts {E = g.row.E.Denot} c.in-Ok.parts in
+    let is = fell settings o h old parts split.0 in
+    let misc : c.misc.result ≡ h.misc = c.misc.ensures ∙ ap (λ (p : FrameParts). p.metadata.misc) is.are in
+    let ty : c.ty.result ≡ h.type_ = c.ty.ensures ∙ ap (λ (p : FrameParts). p.metadata.ty) is.are in
+    let under = c.under_misc.result in
+    let order : g.E.Endian.order (endian_of under.config) ≡ o = ap g.E.Endian.order c.under_misc.ensures.endian ∙ inner.1 in
+    let config : configuration_of under.config ≡ under_misc h.misc settings =
+    c.under_misc.ensures.config ∙ ap (under_misc c.misc.result) inner.0 ∙ ap (λ m. under_misc m settings) misc in
+    says_record settings o h old new parts c.finish-record.result.0 split.0 split.1
+    (says_under (g.E.Endian.order (endian_of under.config)) o (configuration_of under.config) (under_misc h.misc settings) c.ty.result h.type_ (cursor_left under.buf) parts.body
+    c.finish-record.result.0 order config ty (ap cursor_left c.under_misc.ensures.buf) c.finish-record.ensures.answer)
 
-pub returns-clause-within : goal.returns-clause-within
-returns-clause-within g c = λ told.
-    within_taken (g.B.ParseBuf.source c.args.parser.now.buf) (g.B.ParseBuf.source c.cut_frame.new.self.buf) (body_length c.args.header) (c.in-Ok.ensures.ok told).1
-
-pub returns-clause-place : goal.returns-clause-place
-returns-clause-place g c = λ told.
-    place_within (g.B.ParseBuf.source c.args.parser.now.buf) (g.B.ParseBuf.source c.cut_frame.new.self.buf) (body_length c.args.header)
-    (within_taken (g.B.ParseBuf.source c.args.parser.now.buf) (g.B.ParseBuf.source c.cut_frame.new.self.buf) (body_length c.args.header) (c.in-Ok.ensures.ok told).1)
+pub returns-clause-cost : goal.returns-clause-cost
+returns-clause-cost g c = λ told.
+    let settings : Configuration = configuration_of c.args.parser.now.config in
+    let o : Order = g.E.Endian.order (endian_of c.args.parser.now.config) in
+    let h = c.args.header in
+    let old : List ℕ = (g.B.ParseBuf.source c.args.parser.now.buf).left in
+    let new : List ℕ = (g.B.ParseBuf.source c.parse_metadata_with_header.new.self.buf).left in
+    let split = c.in-Ok.ensures.answer told in
+    let parts : FrameParts = answered_parts {E = g.row.E.Denot} c.in-Ok.parts in
+    let is = fell settings o h old parts split.0 in
+    let body : length parts.body + id_length settings h.type_ ≡ body_length h = body_len settings o h old parts is in
+    let fits : body_length h ≤ length old = is.fits in
+    let left : length new ≡ length old - body_length h = ap length split.1 ∙ length-drop (body_length h) old in
+    let none : c.under_misc.result.reads ≡ 0 = c.under_misc.ensures.reads ∙ c.in-Ok.ensures.inner.2 in
+    let same : length (cursor_left c.under_misc.result.buf) ≡ length parts.body = ap (λ b. length (cursor_left b)) c.under_misc.ensures.buf in
+    let reads = c.finish-record.ensures.cost in
+    let id_reads = c.in-Ok.ensures.id_reads in
+    let before = c.in-Ok.ensures.cost told in
+    let added = c.add.ensures in
+    (omega arith, omega arith)
