@@ -1,38 +1,136 @@
 //! Any record.
 
 use perf_base::cow::CowSlice;
+use perf_types::aux_output_hw_id::AuxOutputHwId;
+use perf_types::aux_record::Aux;
+use perf_types::bpf_event::BpfEvent;
+use perf_types::cgroup::CGroup;
+use perf_types::comm::Comm;
 use perf_types::exit::{Exit, Fork};
+use perf_types::itrace_start::ITraceStart;
+use perf_types::ksymbol::KSymbol;
 use perf_types::lost::Lost;
 use perf_types::lost_samples::LostSamples;
+use perf_types::mmap::Mmap;
+use perf_types::mmap2::Mmap2;
+use perf_types::namespaces::Namespaces;
+use perf_types::switch_cpu_wide::SwitchCpuWide;
+use perf_types::text_poke::TextPoke;
+use perf_types::throttle::Throttle;
 
 /// A record of any type, as perf_event_open(2) names them.
 #[derive(Debug, Drop)]
 pub enum Record<'a> {
+    /// A file was mapped that can be run.
+    Mmap(Mmap<'a>),
     /// Events were lost.
     Lost(Lost),
+    /// A task changed its name.
+    Comm(Comm<'a>),
     /// A task ended.
     Exit(Exit),
+    /// The kernel began to hold samples back.
+    Throttle(Throttle),
+    /// It takes samples again.
+    Unthrottle(Throttle),
     /// A task was made.
     Fork(Fork),
+    /// A file was mapped, with which file it is.
+    Mmap2(Mmap2<'a>),
+    /// There is new data in the AUX buffer.
+    Aux(Aux),
+    /// An instruction trace began.
+    ITraceStart(ITraceStart),
     /// Samples were lost.
     LostSamples(LostSamples),
+    /// A task came onto its CPU or left it.
+    Switch,
+    /// Which task another one gave its CPU to, or got it from.
+    SwitchCpuWide(SwitchCpuWide),
+    /// The namespaces of a task.
+    Namespaces(Namespaces<'a>),
+    /// A symbol of the kernel came or went.
+    KSymbol(KSymbol<'a>),
+    /// A BPF program was loaded or unloaded.
+    BpfEvent(BpfEvent),
+    /// A control group: its id and path.
+    CGroup(CGroup<'a>),
+    /// The kernel changed its own instructions.
+    TextPoke(TextPoke<'a>),
+    /// The hardware's id of an event whose data is in the AUX buffer.
+    AuxOutputHwId(AuxOutputHwId),
     /// A record of a type that this library does not read.
     Unknown {
         /// The type that its header says.
         ty: u32,
-        /// The bytes behind its header.
+        /// The bytes between its header and its sample id.
         bytes: CowSlice<'a, u8>,
     },
+}
+
+impl<'a> From<Mmap<'a>> for Record<'a> {
+    ghost use Rattle.std.specs.Prelude.{◌≡◌};
+    ghost use Rattle.perf_records.specs.declared.record.Record.TheVariants as record_of;
+
+    ghost from_gives = { λ held r. r ≡ record_of.Mmap held };
+
+    fn from(held: Mmap<'a>) -> Self {
+        Record::Mmap(held)
+    }
 }
 
 impl From<Lost> for Record<'_> {
     ghost use Rattle.std.specs.Prelude.{◌≡◌};
     ghost use Rattle.perf_records.specs.declared.record.Record.TheVariants as record_of;
 
-    ghost from_gives = { λ lost r. r ≡ record_of.Lost lost };
+    ghost from_gives = { λ held r. r ≡ record_of.Lost held };
 
-    fn from(lost: Lost) -> Self {
-        Record::Lost(lost)
+    fn from(held: Lost) -> Self {
+        Record::Lost(held)
+    }
+}
+
+impl<'a> From<Comm<'a>> for Record<'a> {
+    ghost use Rattle.std.specs.Prelude.{◌≡◌};
+    ghost use Rattle.perf_records.specs.declared.record.Record.TheVariants as record_of;
+
+    ghost from_gives = { λ held r. r ≡ record_of.Comm held };
+
+    fn from(held: Comm<'a>) -> Self {
+        Record::Comm(held)
+    }
+}
+
+impl<'a> From<Mmap2<'a>> for Record<'a> {
+    ghost use Rattle.std.specs.Prelude.{◌≡◌};
+    ghost use Rattle.perf_records.specs.declared.record.Record.TheVariants as record_of;
+
+    ghost from_gives = { λ held r. r ≡ record_of.Mmap2 held };
+
+    fn from(held: Mmap2<'a>) -> Self {
+        Record::Mmap2(held)
+    }
+}
+
+impl From<Aux> for Record<'_> {
+    ghost use Rattle.std.specs.Prelude.{◌≡◌};
+    ghost use Rattle.perf_records.specs.declared.record.Record.TheVariants as record_of;
+
+    ghost from_gives = { λ held r. r ≡ record_of.Aux held };
+
+    fn from(held: Aux) -> Self {
+        Record::Aux(held)
+    }
+}
+
+impl From<ITraceStart> for Record<'_> {
+    ghost use Rattle.std.specs.Prelude.{◌≡◌};
+    ghost use Rattle.perf_records.specs.declared.record.Record.TheVariants as record_of;
+
+    ghost from_gives = { λ held r. r ≡ record_of.ITraceStart held };
+
+    fn from(held: ITraceStart) -> Self {
+        Record::ITraceStart(held)
     }
 }
 
@@ -40,9 +138,86 @@ impl From<LostSamples> for Record<'_> {
     ghost use Rattle.std.specs.Prelude.{◌≡◌};
     ghost use Rattle.perf_records.specs.declared.record.Record.TheVariants as record_of;
 
-    ghost from_gives = { λ lost r. r ≡ record_of.LostSamples lost };
+    ghost from_gives = { λ held r. r ≡ record_of.LostSamples held };
 
-    fn from(lost: LostSamples) -> Self {
-        Record::LostSamples(lost)
+    fn from(held: LostSamples) -> Self {
+        Record::LostSamples(held)
+    }
+}
+
+impl From<SwitchCpuWide> for Record<'_> {
+    ghost use Rattle.std.specs.Prelude.{◌≡◌};
+    ghost use Rattle.perf_records.specs.declared.record.Record.TheVariants as record_of;
+
+    ghost from_gives = { λ held r. r ≡ record_of.SwitchCpuWide held };
+
+    fn from(held: SwitchCpuWide) -> Self {
+        Record::SwitchCpuWide(held)
+    }
+}
+
+impl<'a> From<Namespaces<'a>> for Record<'a> {
+    ghost use Rattle.std.specs.Prelude.{◌≡◌};
+    ghost use Rattle.perf_records.specs.declared.record.Record.TheVariants as record_of;
+
+    ghost from_gives = { λ held r. r ≡ record_of.Namespaces held };
+
+    fn from(held: Namespaces<'a>) -> Self {
+        Record::Namespaces(held)
+    }
+}
+
+impl<'a> From<KSymbol<'a>> for Record<'a> {
+    ghost use Rattle.std.specs.Prelude.{◌≡◌};
+    ghost use Rattle.perf_records.specs.declared.record.Record.TheVariants as record_of;
+
+    ghost from_gives = { λ held r. r ≡ record_of.KSymbol held };
+
+    fn from(held: KSymbol<'a>) -> Self {
+        Record::KSymbol(held)
+    }
+}
+
+impl From<BpfEvent> for Record<'_> {
+    ghost use Rattle.std.specs.Prelude.{◌≡◌};
+    ghost use Rattle.perf_records.specs.declared.record.Record.TheVariants as record_of;
+
+    ghost from_gives = { λ held r. r ≡ record_of.BpfEvent held };
+
+    fn from(held: BpfEvent) -> Self {
+        Record::BpfEvent(held)
+    }
+}
+
+impl<'a> From<CGroup<'a>> for Record<'a> {
+    ghost use Rattle.std.specs.Prelude.{◌≡◌};
+    ghost use Rattle.perf_records.specs.declared.record.Record.TheVariants as record_of;
+
+    ghost from_gives = { λ held r. r ≡ record_of.CGroup held };
+
+    fn from(held: CGroup<'a>) -> Self {
+        Record::CGroup(held)
+    }
+}
+
+impl<'a> From<TextPoke<'a>> for Record<'a> {
+    ghost use Rattle.std.specs.Prelude.{◌≡◌};
+    ghost use Rattle.perf_records.specs.declared.record.Record.TheVariants as record_of;
+
+    ghost from_gives = { λ held r. r ≡ record_of.TextPoke held };
+
+    fn from(held: TextPoke<'a>) -> Self {
+        Record::TextPoke(held)
+    }
+}
+
+impl From<AuxOutputHwId> for Record<'_> {
+    ghost use Rattle.std.specs.Prelude.{◌≡◌};
+    ghost use Rattle.perf_records.specs.declared.record.Record.TheVariants as record_of;
+
+    ghost from_gives = { λ held r. r ≡ record_of.AuxOutputHwId held };
+
+    fn from(held: AuxOutputHwId) -> Self {
+        Record::AuxOutputHwId(held)
     }
 }
