@@ -151,10 +151,10 @@ by_answer o bytes (Ok a) e = rw (e, behind_attribute) refl
 by_answer o bytes (Err kind) e = rw (e, behind_attribute) refl
 
 -- where the attribute is read, the frames behind it are the stream
-read_attribute : (o : Order) (bytes left : List ℕ) (a : perf_event_attr) → by_places o attribute bytes ≡ ran a left → left ≡ drop a.size bytes → behind_attribute o bytes ≡ framed (configured_by a) left
+pub read_attribute : (o : Order) (bytes left : List ℕ) (a : perf_event_attr) → by_places o attribute bytes ≡ ran a left → left ≡ drop a.size bytes → behind_attribute o bytes ≡ framed (configured_by a) left
 read_attribute o bytes left a read is = by_answer o bytes (Ok a) (sym (places_layout o attribute bytes) ∙ ap answer read) ∙ ap (λ xs. framed (configured_by a) xs) (sym is)
 
-refused_attribute : (o : Order) (bytes left : List ℕ) (kind : ErrorKind) → by_places o attribute bytes ≡ stopped kind left → behind_attribute o bytes ≡ without_frames kind
+pub refused_attribute : (o : Order) (bytes left : List ℕ) (kind : ErrorKind) → by_places o attribute bytes ≡ stopped kind left → behind_attribute o bytes ≡ without_frames kind
 refused_attribute o bytes left kind read = by_answer o bytes (Err kind) (sym (places_layout o attribute bytes) ∙ ap answer read)
 
 -- behind start stands what a run over this stream makes
@@ -168,15 +168,14 @@ MadeRefused start kind outcome now = (now ≡ start ++ attr_line kind) × (outco
 abbrev MadeFault : List ℕ → ErrorKind → Outcome → List ℕ → Type 0
 MadeFault start kind outcome now = (now ≡ start ++ end_line (codes "fault " ++ kind_name kind)) × (outcome ≡ Faulted)
 
-as_refused : (o : Order) (limit : ℕ) (bytes left start : List ℕ) (kind : ErrorKind) (outcome : Outcome) (now : List ℕ) → by_places o attribute bytes ≡ stopped kind left → MadeRefused start kind outcome now → MadeOf o limit (behind_attribute o bytes) start outcome now
-as_refused o limit bytes left start kind outcome now read h = (
+as_refused : (o : Order) (limit : ℕ) (stream : Stream) (start : List ℕ) (kind : ErrorKind) (outcome : Outcome) (now : List ℕ) → stream ≡ without_frames kind → MadeRefused start kind outcome now → MadeOf o limit stream start outcome now
+as_refused o limit stream start kind outcome now refused h = (
   attr_line kind,
   h.0,
-  subst (λ x. Says o limit (behind_attribute o bytes) x (attr_line kind)) (sym h.1)
-      (subst (λ stream. Says o limit stream BadAttr (attr_line kind)) (sym (refused_attribute o bytes left kind read)) (refl, refl)),
+  subst (λ x. Says o limit stream x (attr_line kind)) (sym h.1) (subst (λ x. Says o limit x BadAttr (attr_line kind)) (sym refused) (refl, refl)),
 )
 
-pub as_faulted : (o : Order) (limit : ℕ) (stream : Stream) (start : List ℕ) (kind : ErrorKind) (outcome : Outcome) (now : List ℕ) → EndsEarly kind → MadeFault start kind outcome now → MadeOf o limit stream start outcome now
+as_faulted : (o : Order) (limit : ℕ) (stream : Stream) (start : List ℕ) (kind : ErrorKind) (outcome : Outcome) (now : List ℕ) → EndsEarly kind → MadeFault start kind outcome now → MadeOf o limit stream start outcome now
 as_faulted o limit stream start kind outcome now early h =
     let last : List ℕ = end_line (codes "fault " ++ kind_name kind) in
     (last, h.0, subst (λ x. Says o limit stream x last) (sym h.1) (fault_alone o limit stream kind early last refl))
@@ -186,22 +185,23 @@ layout_or_not true = inl refl
 layout_or_not false = inr (λ h. grind (arith, h))
 
 -- the attribute could not be read
-pub made_refused : {E : Type 0} (o : Order) (limit : ℕ) (bytes left start : List ℕ) (kind : ErrorKind) → (IsTrue (of_layout kind) → by_places o attribute bytes ≡ stopped kind left) → (r : Result Outcome E) (now : List ℕ) → (IsTrue (of_layout kind) → IfOk r (λ outcome. MadeRefused start kind outcome now)) → ((IsTrue (of_layout kind) → ⊥) → IfOk r (λ outcome. MadeFault start kind outcome now)) → IfOk r (λ outcome. MadeOf o limit (behind_attribute o bytes) start outcome now)
-made_refused o limit bytes left start kind read r now refused fault =
+pub made_refused : {E : Type 0} (o : Order) (limit : ℕ) (stream : Stream) (start : List ℕ) (kind : ErrorKind) → (IsTrue (of_layout kind) → stream ≡ without_frames kind) → (r : Result Outcome E) (now : List ℕ) → (IsTrue (of_layout kind) → IfOk r (λ outcome. MadeRefused start kind outcome now)) → ((IsTrue (of_layout kind) → ⊥) → IfOk r (λ outcome. MadeFault start kind outcome now)) → IfOk r (λ outcome. MadeOf o limit stream start outcome now)
+made_refused o limit stream start kind read r now refused fault =
     elim (layout_or_not (of_layout kind)) [
-      | inl known ↦ if_ok_map r (λ outcome. MadeRefused start kind outcome now) (λ outcome. MadeOf o limit (behind_attribute o bytes) start outcome now)
-          (λ outcome h. as_refused o limit bytes left start kind outcome now (read known) h) (refused known)
-      | inr other ↦ if_ok_map r (λ outcome. MadeFault start kind outcome now) (λ outcome. MadeOf o limit (behind_attribute o bytes) start outcome now)
-          (λ outcome h. as_faulted o limit (behind_attribute o bytes) start kind outcome now (ends_early kind other) h) (fault other)
+      | inl known ↦ if_ok_map r (λ outcome. MadeRefused start kind outcome now) (λ outcome. MadeOf o limit stream start outcome now)
+          (λ outcome h. as_refused o limit stream start kind outcome now (read known) h) (refused known)
+      | inr other ↦ if_ok_map r (λ outcome. MadeFault start kind outcome now) (λ outcome. MadeOf o limit stream start outcome now)
+          (λ outcome h. as_faulted o limit stream start kind outcome now (ends_early kind other) h) (fault other)
     ]
 
 pub not_of_layout : (kind : ErrorKind) → kind ≡ OutOfMemory → IsTrue (of_layout kind) → ⊥
 not_of_layout kind e h = grind (arith, e, h)
 
+pub framed_as : (c d : Configuration) → c ≡ d → (xs ys : List ℕ) → xs ≡ ys → framed c xs ≡ framed d ys
+framed_as c d e xs ys h = ap (λ x. framed x xs) e ∙ ap (λ zs. framed d zs) h
+
 -- the attribute was read, and then the frames behind it
-pub made_behind : {E : Type 0} (o o2 : Order) (limit : ℕ) (bytes left rest start : List ℕ) (c : Configuration) (a : perf_event_attr) → o2 ≡ o → c ≡ configured_by a → rest ≡ left → by_places o attribute bytes ≡ ran a left → left ≡ drop a.size bytes → (r : Result Outcome E) (now : List ℕ) → IfOk r (λ outcome. MadeOf o2 limit (framed c rest) start outcome now) → IfOk r (λ outcome. MadeOf o limit (behind_attribute o bytes) start outcome now)
-made_behind o o2 limit bytes left rest start c a orders configured same read is r now made =
-    let stream : framed c rest ≡ behind_attribute o bytes =
-    ap (λ x. framed x rest) configured ∙ ap (λ xs. framed (configured_by a) xs) same ∙ sym (read_attribute o bytes left a read is) in
-    subst (λ s. IfOk r (λ outcome. MadeOf o limit s start outcome now)) stream
+pub made_behind : {E : Type 0} (o o2 : Order) (limit : ℕ) (stream : Stream) (rest start : List ℕ) (c : Configuration) → o2 ≡ o → stream ≡ framed c rest → (r : Result Outcome E) (now : List ℕ) → IfOk r (λ outcome. MadeOf o2 limit (framed c rest) start outcome now) → IfOk r (λ outcome. MadeOf o limit stream start outcome now)
+made_behind o o2 limit stream rest start c orders read r now made =
+    subst (λ s. IfOk r (λ outcome. MadeOf o limit s start outcome now)) (sym read)
     (subst (λ x. IfOk r (λ outcome. MadeOf x limit (framed c rest) start outcome now)) orders made)

@@ -1,11 +1,12 @@
 //! The engine: what a reader gives in, its text out.
 
-ghost use Rattle.std.specs.Prelude.{◌≡◌, ◌<◌, ◌++◌, List, ℕ, IsTrue, IfOk, IfSome, is_err, codes, string_bytes, if◌then◌else◌};
+ghost use Rattle.std.specs.Prelude.{◌≡◌, ◌<◌, ◌++◌, List, ℕ, IsTrue, IfOk, IfErr, IfSome, is_err, codes, string_bytes, if◌then◌else◌};
 ghost use Rattle.std.specs.List.{list_any};
 ghost use Rattle.perf_base.specs.Configured.{configuration_of, endian_of};
+ghost use Rattle.perf_base.specs.Errors.{kind_of};
 ghost use Rattle.perf_event_data.specs.Meaning.{buffer_of, config_of};
 ghost use Rattle.perf_event_data.specs.Reading.{of_layout};
-ghost use Rattle.perfrec.specs.Text.{framed, stream_of, behind_attribute, attr_line, end_line, kind_name};
+ghost use Rattle.perfrec.specs.Text.{framed, without_frames, stream_of, behind_attribute, attr_line, end_line, kind_name};
 ghost use Rattle.perfrec.specs.Outcomes.{Says, Writes};
 
 use crate::line::{push_attr_refused, push_end, push_fault, push_lines};
@@ -82,7 +83,7 @@ fn text_of<R: Read + Drop, E: Endian>(
 // Appends the text of what a parser reads, the attribute first.
 fn push_run_with_attr<'p, B: ParseBuf<'p> + Drop, E: Endian>(
     text: &mut String,
-    mut parser: Parser<B, E>,
+    parser: Parser<B, E>,
     limit: usize,
 ) -> Result<Outcome, AllocError>
     ensures { IsTrue (B.source (buffer_of parser)).told → IfOk result (λ outcome. (written : List ℕ)
@@ -90,17 +91,34 @@ fn push_run_with_attr<'p, B: ParseBuf<'p> + Drop, E: Endian>(
         × Says (E.order (endian_of (config_of parser))) limit
         (behind_attribute (E.order (endian_of (config_of parser))) (B.source (buffer_of parser)).left) outcome written) }
 {
+    match parse_attr(parser) {
+        Ok(mut behind) => push_run(text, &mut behind, limit),
+        Err(error) => push_refusal(text, error.kind()),
+    }
+}
+
+// Reads the attribute: the parser of what comes behind it, under its configuration and the same order.
+fn parse_attr<'p, B: ParseBuf<'p> + Drop, E: Endian>(
+    mut parser: Parser<B, E>,
+) -> ParseResult<Parser<B, E>>
+    ensures told { IsTrue (B.source (buffer_of parser)).told → IfOk result (λ behind. IsTrue (B.source (buffer_of behind)).told) }
+    ensures order { IfOk result (λ behind. E.order (endian_of (config_of behind)) ≡ E.order (endian_of (config_of parser))) }
+    ensures read { IsTrue (B.source (buffer_of parser)).told → IfOk result (λ behind.
+        behind_attribute (E.order (endian_of (config_of parser))) (B.source (buffer_of parser)).left
+        ≡ framed (configuration_of (config_of behind)) (B.source (buffer_of behind)).left) }
+    ensures refused { IsTrue (B.source (buffer_of parser)).told → IfErr result (λ e. IsTrue (of_layout (kind_of e))
+        → behind_attribute (E.order (endian_of (config_of parser))) (B.source (buffer_of parser)).left ≡ without_frames (kind_of e)) }
+{
     let attr = match parser.parse::<perf_event_attr>() {
         Ok(attr) => attr,
-        Err(error) => return push_refusal(text, error.kind()),
+        Err(error) => return Err(error),
     };
     let order = match parser.endian().duplicate() {
         Ok(order) => order,
-        Err(error) => return push_refusal(text, error.kind()),
+        Err(error) => return Err(error),
     };
     let config = ParseConfig::<Native>::from(attr).with_endian(order);
-    let mut parser = parser.reconfigure(config);
-    push_run(text, &mut parser, limit)
+    Ok(parser.reconfigure(config))
 }
 
 // Appends the only line of a run whose attribute could not be read.
