@@ -53,4 +53,19 @@ impl<'p, B: ParseBuf<'p>, E: Endian> Parser<B, E> {
     {
         self.config.endian()
     }
+
+    /// A parser of the same buffer under another configuration. What is left in the buffer stays left.
+    #[inline]
+    pub fn reconfigure<E2: Endian>(self, config: ParseConfig<E2>) -> Parser<B, E2>
+        ensures buf { buffer_of result ≡ buffer_of self }
+        ensures config { config_of result ≡ config }
+        ensures reads { reads_of result ≡ reads_of self }
+    {
+        Parser {
+            buf: self.buf,
+            config,
+            reads: self.reads,
+            alloc: self.alloc,
+        }
+    }
 }

@@ -1,12 +1,17 @@
 -- How a run ends, and what it has then made.
-use Rattle.std.proofs.Common.{◌≡◌, ℕ, ◌<◌, ◌≤◌, Bool, true, false, List, [], ◌++◌, length, take, refl, sym, ap, ◌∙◌, arith, subst, append_assoc, inl, inr}
-use Rattle.std.specs.Prelude.{Option, Some, None, IfSome, Result, Ok, Err, IfOk, is_err, ◌||◌, ◌&&◌, not, IsTrue, codes, if◌then◌else◌}
+use Rattle.std.proofs.Common.{◌≡◌, ℕ, ◌<◌, ◌≤◌, Bool, true, false, List, [], ◌++◌, length, take, drop, refl, sym, ap, ◌∙◌, arith, subst, append_assoc, inl, inr}
+use Rattle.std.specs.Prelude.{Option, Some, None, IfSome, Result, Ok, Err, IfOk, is_err, ◌||◌, ◌&&◌, not, IsTrue, codes, if◌then◌else◌, ◌⊎◌}
 use Rattle.std.specs.List.{list_any}
 use Rattle.std.specs.Io.{StartsWith}
 use Rattle.std.proofs.lemmas.Bool.Decides.{nat_tests}
 use Rattle.std.proofs.lemmas.List.{length-take, take_all, take_min, take-take}
 use Rattle.perf_base.specs.Order.{Order}
-use Rattle.perf_base.specs.Configuration.{Configuration}
+use Rattle.perf_base.specs.Configuration.{Configuration, configured_by}
+use Rattle.perf_base.specs.Attribute.{attribute}
+use Rattle.perf_base.specs.Layout.{layout}
+use Rattle.perf_base.specs.Run.{ran, stopped, answer, by_places}
+use Rattle.perf_base.specs.declared.sys.perf_event_attr.{perf_event_attr}
+use Rattle.perf_base.proofs.Tables.{places_layout}
 use Rattle.perf_base.specs.declared.error.ErrorKind.{ErrorKind}
 use Rattle.perf_base.specs.declared.error.ErrorKind.TheVariants.{Eof, InvalidRecord, UnsupportedConfig, UnsupportedData, External, OutOfMemory}
 use Rattle.perf_event_data.specs.Frames.{StreamEnd, done, cut_header, stream_end}
@@ -14,13 +19,13 @@ use Rattle.perf_event_data.specs.Answers.{answers}
 use Rattle.perf_event_data.specs.Reading.{of_layout}
 use Rattle.perfrec.specs.declared.outcome.Outcome.{Outcome}
 use Rattle.perfrec.specs.declared.outcome.Outcome.TheVariants.{Clean, Refused, BadAttr, Faulted, Stopped}
-use Rattle.perfrec.specs.Text.{lines_from, end_line, printed, is_at_limit, text, end_name, kind_name}
+use Rattle.perfrec.specs.Text.{lines_from, end_line, printed, is_at_limit, text, end_name, kind_name, Stream, framed, without_frames, behind_attribute, stream_text, attr_line}
 use Rattle.perfrec.specs.Outcomes.{is_cut, prints_refusal, ends_cut, EndsEarly, Says}
 use Rattle.perfrec.proofs.Progress.{Listed}
 
 -- behind start stands what a run with this outcome makes
 abbrev pub Made : Configuration → Order → ℕ → List ℕ → List ℕ → Outcome → List ℕ → Type 0
-Made c o limit bytes start outcome now = (written : List ℕ) × (now ≡ start ++ written) × Says c o limit bytes outcome written
+Made c o limit bytes start outcome now = (written : List ℕ) × (now ≡ start ++ written) × Says o limit (framed c bytes) outcome written
 
 pub if_ok_map : {A E : Type 0} (r : Result A E) (P Q : A → Type 0) → ((x : A) → P x → Q x) → IfOk r P → IfOk r Q
 if_ok_map (Ok x) P Q f h = f x h
@@ -44,7 +49,7 @@ or_true false = refl
 
 -- ---- without a fault
 
-says_as : (c : Configuration) (o : Order) (limit : ℕ) (bytes : List ℕ) (b : Bool) → (prints_refusal c o limit bytes || ends_cut c o limit bytes) ≡ b → Says c o limit bytes (if b then Refused else Clean) (text c o limit bytes)
+says_as : (c : Configuration) (o : Order) (limit : ℕ) (bytes : List ℕ) (b : Bool) → (prints_refusal c o limit bytes || ends_cut c o limit bytes) ≡ b → Says o limit (framed c bytes) (if b then Refused else Clean) (text c o limit bytes)
 says_as c o limit bytes true e = (refl, ap (λ b. if b then Refused else Clean) e)
 says_as c o limit bytes false e = (refl, ap (λ b. if b then Refused else Clean) e)
 
@@ -59,7 +64,7 @@ whole c o limit bytes start n made refused before all how ends cut cuts now grow
       text c o limit bytes,
       grown ∙ ap (λ xs. xs ++ end_line how) (before.made_is ∙ ap (λ pairs. start ++ lines_from 0 pairs) all)
           ∙ append_assoc start lines (end_line how) ∙ ap (λ xs. start ++ xs) (sym same),
-      subst (λ x. Says c o limit bytes x (text c o limit bytes)) (sym is) (says_as c o limit bytes (refused || cut) test),
+      subst (λ x. Says o limit (framed c bytes) x (text c o limit bytes)) (sym is) (says_as c o limit bytes (refused || cut) test),
     )
 
 -- the limit was reached
@@ -117,15 +122,86 @@ starts_with_taken : (xs : List ℕ) (n : ℕ) → StartsWith xs (take n xs)
 starts_with_taken xs n = ap (λ k. take k xs) (length-take n xs) ∙ take_min n xs
 
 -- a beginning of what an outcome says is what a run says that was stopped
-pub says_beginning : (c : Configuration) (o : Order) (limit : ℕ) (bytes : List ℕ) (outcome : Outcome) (written : List ℕ) (n : ℕ) → Says c o limit bytes outcome written → Says c o limit bytes Stopped (take n written)
-says_beginning c o limit bytes Clean written n h = (written, inl h.0, starts_with_taken written n)
-says_beginning c o limit bytes Refused written n h = (written, inl h.0, starts_with_taken written n)
-says_beginning c o limit bytes BadAttr written n h = absurd h
-says_beginning c o limit bytes Faulted written n h = (written, inr h, starts_with_taken written n)
-says_beginning c o limit bytes Stopped written n h =
+pub says_beginning : (o : Order) (limit : ℕ) (stream : Stream) (outcome : Outcome) (written : List ℕ) (n : ℕ) → Says o limit stream outcome written → Says o limit stream Stopped (take n written)
+says_beginning o limit stream Clean written n h = (written, inl h.0, starts_with_taken written n)
+says_beginning o limit stream Refused written n h = (written, inl h.0, starts_with_taken written n)
+says_beginning o limit stream BadAttr written n h = (written, inl h.0, starts_with_taken written n)
+says_beginning o limit stream Faulted written n h = (written, inr h, starts_with_taken written n)
+says_beginning o limit stream Stopped written n h =
     let short : length (take n written) ≤ length written = omega (arith, length-take n written) in
     (h.0, h.1, sym (take-take (length (take n written)) (length written) h.0 short) ∙ ap (λ xs. take (length (take n written)) xs) h.2 ∙ starts_with_taken written n)
 
 -- nothing at all is a beginning
-pub says_nothing : (c : Configuration) (o : Order) (limit : ℕ) (bytes : List ℕ) → Says c o limit bytes Stopped []
-says_nothing c o limit bytes = (text c o limit bytes, inl refl, refl)
+pub says_nothing : (o : Order) (limit : ℕ) (stream : Stream) → Says o limit stream Stopped []
+says_nothing o limit stream = (stream_text o limit stream, inl refl, refl)
+
+-- ---- an attribute
+
+-- the line of a fault alone, whatever the stream
+pub fault_alone : (o : Order) (limit : ℕ) (stream : Stream) (kind : ErrorKind) → EndsEarly kind → (now : List ℕ) → now ≡ end_line (codes "fault " ++ kind_name kind) → Says o limit stream Faulted now
+fault_alone o limit stream kind early now is = (0, kind, inr refl, early, is)
+
+abbrev stream_by : Result perf_event_attr ErrorKind → List ℕ → Stream
+stream_by (Ok a) bytes = framed (configured_by a) (drop a.size bytes)
+stream_by (Err kind) bytes = without_frames kind
+
+by_answer : (o : Order) (bytes : List ℕ) (r : Result perf_event_attr ErrorKind) → layout o attribute bytes ≡ r → behind_attribute o bytes ≡ stream_by r bytes
+unfolding behind_attribute
+by_answer o bytes (Ok a) e = rw (e, behind_attribute) refl
+by_answer o bytes (Err kind) e = rw (e, behind_attribute) refl
+
+-- where the attribute is read, the frames behind it are the stream
+pub read_attribute : (o : Order) (bytes left : List ℕ) (a : perf_event_attr) → by_places o attribute bytes ≡ ran a left → left ≡ drop a.size bytes → behind_attribute o bytes ≡ framed (configured_by a) left
+read_attribute o bytes left a read is = by_answer o bytes (Ok a) (sym (places_layout o attribute bytes) ∙ ap answer read) ∙ ap (λ xs. framed (configured_by a) xs) (sym is)
+
+pub refused_attribute : (o : Order) (bytes left : List ℕ) (kind : ErrorKind) → by_places o attribute bytes ≡ stopped kind left → behind_attribute o bytes ≡ without_frames kind
+refused_attribute o bytes left kind read = by_answer o bytes (Err kind) (sym (places_layout o attribute bytes) ∙ ap answer read)
+
+-- behind start stands what a run over this stream makes
+abbrev pub MadeOf : Order → ℕ → Stream → List ℕ → Outcome → List ℕ → Type 0
+MadeOf o limit stream start outcome now = (written : List ℕ) × (now ≡ start ++ written) × Says o limit stream outcome written
+
+-- what is made where the attribute could not be read
+abbrev MadeRefused : List ℕ → ErrorKind → Outcome → List ℕ → Type 0
+MadeRefused start kind outcome now = (now ≡ start ++ attr_line kind) × (outcome ≡ BadAttr)
+
+abbrev MadeFault : List ℕ → ErrorKind → Outcome → List ℕ → Type 0
+MadeFault start kind outcome now = (now ≡ start ++ end_line (codes "fault " ++ kind_name kind)) × (outcome ≡ Faulted)
+
+as_refused : (o : Order) (limit : ℕ) (stream : Stream) (start : List ℕ) (kind : ErrorKind) (outcome : Outcome) (now : List ℕ) → stream ≡ without_frames kind → MadeRefused start kind outcome now → MadeOf o limit stream start outcome now
+as_refused o limit stream start kind outcome now refused h = (
+  attr_line kind,
+  h.0,
+  subst (λ x. Says o limit stream x (attr_line kind)) (sym h.1) (subst (λ x. Says o limit x BadAttr (attr_line kind)) (sym refused) (refl, refl)),
+)
+
+as_faulted : (o : Order) (limit : ℕ) (stream : Stream) (start : List ℕ) (kind : ErrorKind) (outcome : Outcome) (now : List ℕ) → EndsEarly kind → MadeFault start kind outcome now → MadeOf o limit stream start outcome now
+as_faulted o limit stream start kind outcome now early h =
+    let last : List ℕ = end_line (codes "fault " ++ kind_name kind) in
+    (last, h.0, subst (λ x. Says o limit stream x last) (sym h.1) (fault_alone o limit stream kind early last refl))
+
+layout_or_not : (b : Bool) → IsTrue b ⊎ (IsTrue b → ⊥)
+layout_or_not true = inl refl
+layout_or_not false = inr (λ h. grind (arith, h))
+
+-- the attribute could not be read
+pub made_refused : {E : Type 0} (o : Order) (limit : ℕ) (stream : Stream) (start : List ℕ) (kind : ErrorKind) → (IsTrue (of_layout kind) → stream ≡ without_frames kind) → (r : Result Outcome E) (now : List ℕ) → (IsTrue (of_layout kind) → IfOk r (λ outcome. MadeRefused start kind outcome now)) → ((IsTrue (of_layout kind) → ⊥) → IfOk r (λ outcome. MadeFault start kind outcome now)) → IfOk r (λ outcome. MadeOf o limit stream start outcome now)
+made_refused o limit stream start kind read r now refused fault =
+    elim (layout_or_not (of_layout kind)) [
+      | inl known ↦ if_ok_map r (λ outcome. MadeRefused start kind outcome now) (λ outcome. MadeOf o limit stream start outcome now)
+          (λ outcome h. as_refused o limit stream start kind outcome now (read known) h) (refused known)
+      | inr other ↦ if_ok_map r (λ outcome. MadeFault start kind outcome now) (λ outcome. MadeOf o limit stream start outcome now)
+          (λ outcome h. as_faulted o limit stream start kind outcome now (ends_early kind other) h) (fault other)
+    ]
+
+pub not_of_layout : (kind : ErrorKind) → kind ≡ OutOfMemory → IsTrue (of_layout kind) → ⊥
+not_of_layout kind e h = grind (arith, e, h)
+
+pub framed_as : (c d : Configuration) → c ≡ d → (xs ys : List ℕ) → xs ≡ ys → framed c xs ≡ framed d ys
+framed_as c d e xs ys h = ap (λ x. framed x xs) e ∙ ap (λ zs. framed d zs) h
+
+-- the attribute was read, and then the frames behind it
+pub made_behind : {E : Type 0} (o o2 : Order) (limit : ℕ) (stream : Stream) (rest start : List ℕ) (c : Configuration) → o2 ≡ o → stream ≡ framed c rest → (r : Result Outcome E) (now : List ℕ) → IfOk r (λ outcome. MadeOf o2 limit (framed c rest) start outcome now) → IfOk r (λ outcome. MadeOf o limit stream start outcome now)
+made_behind o o2 limit stream rest start c orders read r now made =
+    subst (λ s. IfOk r (λ outcome. MadeOf o limit s start outcome now)) (sym read)
+    (subst (λ x. IfOk r (λ outcome. MadeOf x limit (framed c rest) start outcome now)) orders made)

@@ -1,8 +1,10 @@
 -- The text that the program writes: a line for each frame, and a last one that says how reading ended.
-use Rattle.std.specs.Prelude.{ℕ, ◌+◌, ◌-◌, ◌/◌, ◌%◌, Bool, List, [], ◌∷◌, ◌++◌, length, take, nat_lt, nat_le, codes, decimal, Result, Ok, Err, if◌then◌else◌}
+use Rattle.std.specs.Prelude.{ℕ, ◌+◌, ◌-◌, ◌/◌, ◌%◌, Bool, true, false, List, [], ◌∷◌, ◌++◌, length, take, drop, nat_lt, nat_le, codes, decimal, Result, Ok, Err, if◌then◌else◌}
 use Rattle.std.specs.List.{flat_map, enumerate_from}
 use Rattle.perf_base.specs.Order.{Order}
-use Rattle.perf_base.specs.Configuration.{Configuration}
+use Rattle.perf_base.specs.Configuration.{Configuration, plain, configured_by}
+use Rattle.perf_base.specs.Attribute.{attribute}
+use Rattle.perf_base.specs.Layout.{layout}
 use Rattle.perf_base.specs.declared.sys.perf_event_header.{perf_event_header}
 use Rattle.perf_base.specs.declared.error.ErrorKind.{ErrorKind}
 use Rattle.perf_base.specs.declared.error.ErrorKind.TheVariants.{Eof, InvalidRecord, UnsupportedConfig, UnsupportedData, External, OutOfMemory}
@@ -116,3 +118,34 @@ abbrev pub text : Configuration → Order → ℕ → List ℕ → List ℕ
 text c o limit bytes =
     lines_from 0 (printed c o limit bytes)
     ++ end_line (if is_at_limit c o limit bytes then codes "limit" else end_name (stream_end o bytes))
+
+-- ---- a stream that may begin with an attribute
+
+-- What a stream is read as: frames under a configuration, or none, as its attribute is refused.
+pub data Stream : Type 0 where
+  framed : Configuration → List ℕ → Stream
+  without_frames : ErrorKind → Stream
+
+-- A stream whose attribute comes first: where that is not refused, its configuration holds for the bytes behind it, which
+-- begin where its size says. It is opened only where a proof asks for it.
+unfoldable pub behind_attribute : Order → List ℕ → Stream
+behind_attribute o bytes = elim (layout o attribute bytes) [ Ok a ↦ framed (configured_by a) (drop a.size bytes) | Err kind ↦ without_frames kind ]
+
+-- Without an attribute the plain configuration holds for all bytes.
+abbrev pub stream_of : (with_attr : Bool) → Order → List ℕ → Stream
+stream_of false o bytes = framed plain bytes
+stream_of true o bytes = behind_attribute o bytes
+
+-- the line of a refused attribute
+abbrev pub attr_line : ErrorKind → List ℕ
+attr_line kind = ended (codes "attr refused " ++ kind_name kind)
+
+-- the answers to the frames of a stream
+abbrev pub stream_answers : Order → Stream → List (perf_event_header × Result RecordValue ErrorKind)
+stream_answers o (framed c bytes) = answers c o bytes
+stream_answers o (without_frames kind) = []
+
+-- The text of a stream: that of its frames, or the line that says why its attribute is refused.
+abbrev pub stream_text : Order → ℕ → Stream → List ℕ
+stream_text o limit (framed c bytes) = text c o limit bytes
+stream_text o limit (without_frames kind) = attr_line kind

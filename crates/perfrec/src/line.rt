@@ -6,7 +6,7 @@ ghost use Rattle.perf_base.specs.Errors.{kind_of};
 ghost use Rattle.perf_records.specs.Records.{record_value};
 ghost use Rattle.perf_event_data.specs.Answers.{said};
 ghost use Rattle.perf_event_data.specs.Runs.{pairs_said};
-ghost use Rattle.perfrec.specs.Text.{hex_digit, hex, spaced, lost_words, exit_fields, lost_samples_words, unknown_words, record_words, kind_name, answer_words, line, lines_from, end_line};
+ghost use Rattle.perfrec.specs.Text.{hex_digit, hex, spaced, lost_words, exit_fields, lost_samples_words, unknown_words, record_words, kind_name, answer_words, line, ended, lines_from, end_line, attr_line};
 
 use perf_event_data::parse::{ErrorKind, ParseResult};
 use perf_event_data::sys::perf_event_header;
@@ -59,7 +59,21 @@ pub fn push_end(text: &mut String, how: &str) -> Result<(), AllocError>
 pub fn push_fault(text: &mut String, kind: ErrorKind) -> Result<(), AllocError>
     ensures { OnOk result (string_bytes text.new ≡ string_bytes text.old ++ end_line (codes "fault " ++ kind_name kind)) }
 {
-    text.push_str("end fault ")?;
+    push_kind(text, "end fault ", kind)
+}
+
+/// Appends the line of a refused attribute.
+pub fn push_attr_refused(text: &mut String, kind: ErrorKind) -> Result<(), AllocError>
+    ensures { OnOk result (string_bytes text.new ≡ string_bytes text.old ++ attr_line kind) }
+{
+    push_kind(text, "attr refused ", kind)
+}
+
+// Appends a line that a kind ends.
+fn push_kind(text: &mut String, before: &str, kind: ErrorKind) -> Result<(), AllocError>
+    ensures { OnOk result (string_bytes text.new ≡ string_bytes text.old ++ ended (before.now ++ kind_name kind)) }
+{
+    text.push_str(before)?;
     text.push_str(kind_name(kind))?;
     text.push_str("\n")
 }

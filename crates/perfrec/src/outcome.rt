@@ -10,7 +10,7 @@ pub enum Outcome {
     Clean,
     /// A record was refused, or the input ended inside a header.
     Refused,
-    /// There is no attribute at the front of the input that could be read.
+    /// The attribute at the front of the input was refused, and the only line says so.
     BadAttr,
     /// The reader failed or memory was refused, and the last line says so.
     Faulted,

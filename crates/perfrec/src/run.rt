@@ -1,19 +1,20 @@
 //! The engine: what a reader gives in, its text out.
 
-ghost use Rattle.std.specs.Prelude.{◌≡◌, ◌<◌, ◌++◌, true, false, List, ℕ, IsTrue, IfOk, IfSome, is_err, string_bytes, if◌then◌else◌};
+ghost use Rattle.std.specs.Prelude.{◌≡◌, ◌<◌, ◌++◌, List, ℕ, IsTrue, IfOk, IfErr, IfSome, is_err, codes, string_bytes, if◌then◌else◌};
 ghost use Rattle.std.specs.List.{list_any};
-ghost use Rattle.std.specs.Io.KnownBytes.{Keeps};
-ghost use Rattle.perf_base.specs.Configuration.{plain};
 ghost use Rattle.perf_base.specs.Configured.{configuration_of, endian_of};
-ghost use Rattle.perfrec.specs.Text.{end_line};
+ghost use Rattle.perf_base.specs.Errors.{kind_of};
+ghost use Rattle.perf_event_data.specs.Meaning.{buffer_of, config_of};
+ghost use Rattle.perf_event_data.specs.Reading.{of_layout};
+ghost use Rattle.perfrec.specs.Text.{framed, without_frames, stream_of, behind_attribute, attr_line, end_line, kind_name};
 ghost use Rattle.perfrec.specs.Outcomes.{Says, Writes};
 
-use crate::line::{push_end, push_fault, push_lines};
+use crate::line::{push_attr_refused, push_end, push_fault, push_lines};
 use crate::outcome::Outcome;
 use crate::output::write_whole;
 use perf_event_data::endian::{Endian, Native};
 use perf_event_data::parse::{ErrorKind, ParseBuf, ParseConfig, ParseResult, Parser};
-use perf_event_data::sys::perf_event_header;
+use perf_event_data::sys::{perf_event_attr, perf_event_header};
 use perf_event_data::{Record, RunEnd, read_records};
 use std::alloc::{AllocError, Global};
 use std::io::{BufReader, Read, Write};
@@ -24,7 +25,8 @@ const BATCH: usize = 256;
 /// Reads records in pieces of at most `piece` bytes, at most `limit` of them, and writes a line for each and a last one
 /// that says how reading ended. Nothing is written before all is read, and only the text is held meanwhile.
 ///
-/// No attribute is read yet: with `with_attr` nothing is read or written, and the outcome is `BadAttr`.
+/// With `with_attr` an attribute comes first. Its configuration holds for the records behind it; where it is refused, the
+/// only line says so, and the outcome is `BadAttr`.
 pub fn run<R: Read + Drop, W: Write, E: Endian>(
     alloc: Global,
     reader: R,
@@ -35,16 +37,12 @@ pub fn run<R: Read + Drop, W: Write, E: Endian>(
     piece: usize,
 ) -> Outcome
     requires { 0 < piece }
-    ensures attr { IsTrue with_attr → (result ≡ Outcome.BadAttr) × Keeps (W.contents writer.old) (W.contents writer.new) }
 
     // Where the reader tells its bytes, what is written is their text, as far as the outcome says.
-    ensures text { with_attr ≡ false → IfSome (R.remaining reader) (λ bytes.
-        Writes plain (E.order order) limit bytes result (W.contents writer.old) (W.contents writer.new)) }
+    ensures { IfSome (R.remaining reader) (λ bytes.
+        Writes (E.order order) limit (stream_of with_attr (E.order order) bytes) result (W.contents writer.old) (W.contents writer.new)) }
 {
-    if with_attr {
-        return Outcome::BadAttr;
-    }
-    let Ok((text, outcome)) = text_of(alloc, reader, order, limit, piece) else {
+    let Ok((text, outcome)) = text_of(alloc, reader, order, limit, with_attr, piece) else {
         return Outcome::Stopped;
     };
     if write_whole(writer, text.as_bytes()) {
@@ -60,11 +58,12 @@ fn text_of<R: Read + Drop, E: Endian>(
     reader: R,
     order: E,
     limit: usize,
+    with_attr: bool,
     piece: usize,
 ) -> Result<(String, Outcome), AllocError>
     requires { 0 < piece }
     ensures { IfSome (R.remaining reader) (λ bytes. IfOk result (λ made.
-        Says plain (E.order order) limit bytes made.1 (string_bytes made.0))) }
+        Says (E.order order) limit (stream_of with_attr (E.order order) bytes) made.1 (string_bytes made.0))) }
 {
     let mut text = String::new(alloc);
     let Ok(buffer) = BufReader::with_capacity(alloc, piece, reader) else {
@@ -73,8 +72,75 @@ fn text_of<R: Read + Drop, E: Endian>(
     };
     let config = ParseConfig::<Native>::default().with_endian(order);
     let mut parser = Parser::new(alloc, buffer, config);
+    if with_attr {
+        let outcome = push_run_with_attr(&mut text, parser, limit)?;
+        return Ok((text, outcome));
+    }
     let outcome = push_run(&mut text, &mut parser, limit)?;
     Ok((text, outcome))
+}
+
+// Appends the text of what a parser reads, the attribute first.
+fn push_run_with_attr<'p, B: ParseBuf<'p> + Drop, E: Endian>(
+    text: &mut String,
+    parser: Parser<B, E>,
+    limit: usize,
+) -> Result<Outcome, AllocError>
+    ensures { IsTrue (B.source (buffer_of parser)).told → IfOk result (λ outcome. (written : List ℕ)
+        × (string_bytes text.new ≡ string_bytes text.old ++ written)
+        × Says (E.order (endian_of (config_of parser))) limit
+        (behind_attribute (E.order (endian_of (config_of parser))) (B.source (buffer_of parser)).left) outcome written) }
+{
+    match parse_attr(parser) {
+        Ok(mut behind) => push_run(text, &mut behind, limit),
+        Err(error) => push_refusal(text, error.kind()),
+    }
+}
+
+// Reads the attribute: the parser of what comes behind it, under its configuration and the same order.
+fn parse_attr<'p, B: ParseBuf<'p> + Drop, E: Endian>(
+    mut parser: Parser<B, E>,
+) -> ParseResult<Parser<B, E>>
+    ensures told { IsTrue (B.source (buffer_of parser)).told → IfOk result (λ behind. IsTrue (B.source (buffer_of behind)).told) }
+    ensures order { IfOk result (λ behind. E.order (endian_of (config_of behind)) ≡ E.order (endian_of (config_of parser))) }
+    ensures read { IsTrue (B.source (buffer_of parser)).told → IfOk result (λ behind.
+        behind_attribute (E.order (endian_of (config_of parser))) (B.source (buffer_of parser)).left
+        ≡ framed (configuration_of (config_of behind)) (B.source (buffer_of behind)).left) }
+    ensures refused { IsTrue (B.source (buffer_of parser)).told → IfErr result (λ e. IsTrue (of_layout (kind_of e))
+        → behind_attribute (E.order (endian_of (config_of parser))) (B.source (buffer_of parser)).left ≡ without_frames (kind_of e)) }
+{
+    let attr = match parser.parse::<perf_event_attr>() {
+        Ok(attr) => attr,
+        Err(error) => return Err(error),
+    };
+    let order = match parser.endian().duplicate() {
+        Ok(order) => order,
+        Err(error) => return Err(error),
+    };
+    let config = ParseConfig::<Native>::from(attr).with_endian(order);
+    Ok(parser.reconfigure(config))
+}
+
+// Appends the only line of a run whose attribute could not be read.
+fn push_refusal(text: &mut String, kind: ErrorKind) -> Result<Outcome, AllocError>
+    ensures refused { IsTrue (of_layout kind) → IfOk result (λ outcome.
+        (string_bytes text.new ≡ string_bytes text.old ++ attr_line kind) × (outcome ≡ Outcome.BadAttr)) }
+    ensures fault { (IsTrue (of_layout kind) → ⊥) → IfOk result (λ outcome.
+        (string_bytes text.new ≡ string_bytes text.old ++ end_line (codes "fault " ++ kind_name kind)) × (outcome ≡ Outcome.Faulted)) }
+{
+    match kind {
+        ErrorKind::External | ErrorKind::OutOfMemory => {
+            push_fault(text, kind)?;
+            Ok(Outcome::Faulted)
+        }
+        ErrorKind::Eof
+        | ErrorKind::InvalidRecord
+        | ErrorKind::UnsupportedConfig
+        | ErrorKind::UnsupportedData => {
+            push_attr_refused(text, kind)?;
+            Ok(Outcome::BadAttr)
+        }
+    }
 }
 
 // Appends the text of what a parser reads, batch by batch.
@@ -85,8 +151,8 @@ fn push_run<'p, B: ParseBuf<'p>, E: Endian>(
 ) -> Result<Outcome, AllocError>
     ensures { IsTrue (B.source parser.old.buf).told → IfOk result (λ outcome. (written : List ℕ)
         × (string_bytes text.new ≡ string_bytes text.old ++ written)
-        × Says (configuration_of parser.old.config) (E.order (endian_of parser.old.config)) limit
-        (B.source parser.old.buf).left outcome written) }
+        × Says (E.order (endian_of parser.old.config)) limit
+        (framed (configuration_of parser.old.config) (B.source parser.old.buf).left) outcome written) }
 {
     let mut count = 0;
     let mut refused = false;

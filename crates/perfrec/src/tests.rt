@@ -19,11 +19,12 @@ use std::process::Abort;
 // Five lost samples, the lowest byte first.
 const FIVE_LOST: [u8; 16] = [13, 0, 0, 0, 0, 0, 16, 0, 5, 0, 0, 0, 0, 0, 0, 0];
 
-// The text and the outcome of an input that is read in pieces.
+// The text and the outcome of an input that is read in pieces, with an attribute in front or without.
 fn check_pieces<E: Endian>(
     rt: &(impl AllocGlobal + Abort),
     order: E,
     limit: usize,
+    with_attr: bool,
     input: &[u8],
     text: &str,
     outcome: Outcome,
@@ -32,12 +33,34 @@ fn check_pieces<E: Endian>(
     requires { 0 < piece }
 {
     let mut written = Vec::new(rt.alloc());
-    let ended = run(rt.alloc(), input, &mut written, order, limit, false, piece);
+    let ended = run(
+        rt.alloc(),
+        input,
+        &mut written,
+        order,
+        limit,
+        with_attr,
+        piece,
+    );
     assert_eq!(rt; written.as_slice(), text.as_bytes(), "in pieces of {piece}");
     assert_eq!(rt; ended, outcome, "in pieces of {piece}");
 }
 
 // The same in pieces of one byte, of seven and of more than there are.
+fn check_all<E: Endian + Copy>(
+    rt: &(impl AllocGlobal + Abort),
+    order: E,
+    limit: usize,
+    with_attr: bool,
+    input: &[u8],
+    text: &str,
+    outcome: Outcome,
+) {
+    check_pieces(rt, order, limit, with_attr, input, text, outcome, 1);
+    check_pieces(rt, order, limit, with_attr, input, text, outcome, 7);
+    check_pieces(rt, order, limit, with_attr, input, text, outcome, 8192);
+}
+
 fn check<E: Endian + Copy>(
     rt: &(impl AllocGlobal + Abort),
     order: E,
@@ -46,9 +69,18 @@ fn check<E: Endian + Copy>(
     text: &str,
     outcome: Outcome,
 ) {
-    check_pieces(rt, order, limit, input, text, outcome, 1);
-    check_pieces(rt, order, limit, input, text, outcome, 7);
-    check_pieces(rt, order, limit, input, text, outcome, 8192);
+    check_all(rt, order, limit, false, input, text, outcome);
+}
+
+// The same with an attribute in front, the lowest byte first.
+fn check_attr(
+    rt: &(impl AllocGlobal + Abort),
+    limit: usize,
+    input: &[u8],
+    text: &str,
+    outcome: Outcome,
+) {
+    check_all(rt, Little, limit, true, input, text, outcome);
 }
 
 // A frame and then five lost samples.
@@ -240,7 +272,13 @@ impl Read for Failing<'_> {
 }
 
 // The text of bytes and then a fault.
-fn check_fault(rt: &(impl AllocGlobal + Abort), bytes: &[u8], kind: io::ErrorKind, text: &str) {
+fn check_fault(
+    rt: &(impl AllocGlobal + Abort),
+    with_attr: bool,
+    bytes: &[u8],
+    kind: io::ErrorKind,
+    text: &str,
+) {
     let mut written = Vec::new(rt.alloc());
     let ended = run(
         rt.alloc(),
@@ -248,7 +286,7 @@ fn check_fault(rt: &(impl AllocGlobal + Abort), bytes: &[u8], kind: io::ErrorKin
         &mut written,
         Little,
         10,
-        false,
+        with_attr,
         8192,
     );
     assert_eq!(rt; written.as_slice(), text.as_bytes());
@@ -257,16 +295,28 @@ fn check_fault(rt: &(impl AllocGlobal + Abort), bytes: &[u8], kind: io::ErrorKin
 
 #[test]
 fn a_fault_of_the_reader_ends_the_text(rt: HostRuntime) {
+    let line = "end fault External\n";
     let cut = [1, 0, 0, 0, 0, 0, 48, 0, 0x16, 0x4c, 1, 0];
-    check_fault(
-        &rt,
-        &cut,
-        io::ErrorKind::UnexpectedEof,
-        "end fault External\n",
-    );
-    check_fault(&rt, &[], io::ErrorKind::Interrupted, "end fault External\n");
+    check_fault(&rt, false, &cut, io::ErrorKind::UnexpectedEof, line);
+    check_fault(&rt, false, &[], io::ErrorKind::Interrupted, line);
     let text = "0 13 0 16 LostSamples lost=5\nend fault External\n";
-    check_fault(&rt, &FIVE_LOST, io::ErrorKind::Other, text);
+    check_fault(&rt, false, &FIVE_LOST, io::ErrorKind::Other, text);
+}
+
+#[test]
+fn a_fault_inside_the_attribute_is_no_refusal(rt: HostRuntime) -> Result<(), AllocError> {
+    let line = "end fault External\n";
+    for kind in [io::ErrorKind::UnexpectedEof, io::ErrorKind::Other] {
+        for count in [0, 7, 71, 72] {
+            let cut = attr_bytes(rt.alloc(), 72, count, 0, 0)?;
+            check_fault(&rt, true, &cut, kind, line);
+        }
+    }
+    let mut input = plain_attr(rt.alloc(), 72)?;
+    input.extend_from_slice(&FIVE_LOST)?;
+    let text = "0 13 0 16 LostSamples lost=5\nend fault External\n";
+    check_fault(&rt, true, &input, io::ErrorKind::Other, text);
+    Ok(())
 }
 
 // Keeps what it is given, a few bytes at a time, up to a number of calls; then it fails or takes nothing.
@@ -319,13 +369,96 @@ fn a_writer_that_fails_stops_the_run(rt: HostRuntime) {
     }
 }
 
+// The first bytes of an attribute that says nothing but its size, but for one byte.
+fn attr_bytes(
+    alloc: Global,
+    size: u8,
+    count: usize,
+    place: usize,
+    value: u8,
+) -> Result<Vec<u8>, AllocError> {
+    let mut bytes = Vec::new(alloc);
+    for at in 0..count {
+        let byte = if at == 4 { size } else { 0 };
+        bytes.push(if at == place { value } else { byte })?;
+    }
+    Ok(bytes)
+}
+
+// The whole of an attribute that says nothing but its size.
+fn plain_attr(alloc: Global, size: u8) -> Result<Vec<u8>, AllocError> {
+    attr_bytes(alloc, size, size as usize, 0, 0)
+}
+
 #[test]
-fn an_attribute_is_not_read_yet(rt: HostRuntime) {
-    let mut written = Vec::new(rt.alloc());
-    let input: &[u8] = &FIVE_LOST;
-    let ended = run(rt.alloc(), input, &mut written, Little, 10, true, 8192);
-    assert_eq!(rt; ended, Outcome::BadAttr);
-    assert!(rt; written.is_empty());
+fn records_stand_behind_the_size_of_the_attribute(rt: HostRuntime) -> Result<(), AllocError> {
+    let text = "0 13 0 16 LostSamples lost=5\nend done\n";
+    for size in [64, 72, 136, 137] {
+        let mut input = plain_attr(rt.alloc(), size)?;
+        check_attr(&rt, 10, &input, "end done\n", Outcome::Clean);
+        check_attr(&rt, 0, &input, "end limit\n", Outcome::Clean);
+        input.extend_from_slice(&FIVE_LOST)?;
+        check_attr(&rt, 10, &input, text, Outcome::Clean);
+        check_attr(&rt, 0, &input, "end limit\n", Outcome::Clean);
+    }
+    Ok(())
+}
+
+#[test]
+fn a_refused_attribute_is_the_only_line(rt: HostRuntime) -> Result<(), AllocError> {
+    let line = "attr refused InvalidRecord\n";
+    let mut input = plain_attr(rt.alloc(), 100)?;
+    check_attr(&rt, 10, &input, line, Outcome::BadAttr);
+    input.extend_from_slice(&FIVE_LOST)?;
+    check_attr(&rt, 10, &input, line, Outcome::BadAttr);
+    check_attr(&rt, 0, &input, line, Outcome::BadAttr);
+    let mut input = attr_bytes(rt.alloc(), 137, 137, 136, 1)?;
+    input.extend_from_slice(&FIVE_LOST)?;
+    check_attr(
+        &rt,
+        10,
+        &input,
+        "attr refused UnsupportedData\n",
+        Outcome::BadAttr,
+    );
+    Ok(())
+}
+
+#[test]
+fn an_attribute_that_is_cut_off_is_refused(rt: HostRuntime) -> Result<(), AllocError> {
+    let line = "attr refused Eof\n";
+    check_attr(&rt, 10, &[], line, Outcome::BadAttr);
+    check_attr(&rt, 0, &[], line, Outcome::BadAttr);
+    for count in [7, 8, 64, 71] {
+        let input = attr_bytes(rt.alloc(), 72, count, 0, 0)?;
+        check_attr(&rt, 10, &input, line, Outcome::BadAttr);
+    }
+    Ok(())
+}
+
+#[test]
+fn a_field_of_the_attribute_is_no_record(rt: HostRuntime) -> Result<(), AllocError> {
+    let mut input = attr_bytes(rt.alloc(), 72, 72, 64, 7)?;
+    check_attr(&rt, 10, &input, "end done\n", Outcome::Clean);
+    input.extend_from_slice(&FIVE_LOST)?;
+    let text = "0 13 0 16 LostSamples lost=5\nend done\n";
+    check_attr(&rt, 10, &input, text, Outcome::Clean);
+    Ok(())
+}
+
+#[test]
+fn an_attribute_has_the_order_of_the_records(rt: HostRuntime) -> Result<(), AllocError> {
+    let mut input = Vec::from_slice(rt.alloc(), &[0, 0, 0, 0, 0, 0, 0, 64])?;
+    for _ in 8..64 {
+        input.push(0)?;
+    }
+    input.extend_from_slice(&[0, 0, 0, 13, 0, 0, 0, 16, 0, 0, 0, 0, 0, 0, 0, 5])?;
+    let text = "0 13 0 16 LostSamples lost=5\nend done\n";
+    check_all(&rt, Big, 10, true, &input, text, Outcome::Clean);
+    // The other way round it is a size of 2^30, for which bytes are lacking.
+    let line = "attr refused Eof\n";
+    check_attr(&rt, 10, &input, line, Outcome::BadAttr);
+    Ok(())
 }
 
 #[test]
@@ -400,6 +533,11 @@ fn an_order_and_a_limit_are_a_command(rt: HostRuntime) -> Result<(), AllocError>
             with_attr: false,
         };
         assert_eq!(rt; asked(&rt, &[name, digits])?, Some(wanted));
+        let wanted = Command {
+            with_attr: true,
+            ..wanted
+        };
+        assert_eq!(rt; asked(&rt, &[name, digits, "attr"])?, Some(wanted));
     }
     Ok(())
 }
@@ -423,8 +561,17 @@ fn other_words_are_no_command(rt: HostRuntime) -> Result<(), AllocError> {
     }
     assert_eq!(rt; asked(&rt, &[])?, None);
     assert_eq!(rt; asked(&rt, &["little"])?, None);
-    assert_eq!(rt; asked(&rt, &["little", "3", "attr"])?, None);
+    assert_eq!(rt; asked(&rt, &["attr"])?, None);
+    assert_eq!(rt; asked(&rt, &["little", "attr"])?, None);
+    assert_eq!(rt; asked(&rt, &["little", "attr", "3"])?, None);
+    assert_eq!(rt; asked(&rt, &["attr", "little", "3"])?, None);
+    for third in ["", "Attr", "attr ", "attrs", "att", "3"] {
+        assert_eq!(rt; asked(&rt, &["little", "3", third])?, None);
+    }
     assert_eq!(rt; asked(&rt, &["little", "3", "attr", "attr"])?, None);
+    assert_eq!(rt; asked(&rt, &["little", "3", "attr", ""])?, None);
+    assert_eq!(rt; asked(&rt, &["big", "x", "attr"])?, None);
+    assert_eq!(rt; asked(&rt, &["attr", "3", "attr"])?, None);
     Ok(())
 }
 

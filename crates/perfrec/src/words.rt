@@ -3,22 +3,31 @@
 ghost use Rattle.std.specs.Prelude.{◌≡◌, map, string_bytes};
 ghost use Rattle.std.specs.Char.{is_ascii_digit};
 ghost use Rattle.std.specs.List.{list_all};
-ghost use Rattle.perfrec.specs.Words.{order_named, limit_named, command_of};
+ghost use Rattle.perfrec.specs.Words.{order_named, limit_named, asked, command_of};
 
 use crate::command::{Command, OrderName};
 
-/// What the words behind the program's name ask for: an order's name and a limit, in digits alone. Other words ask for
-/// nothing, `attr` among them, as no attribute is read yet.
+/// What the words behind the program's name ask for: an order's name, a limit in digits alone, and then `attr`, where the
+/// input begins with an attribute. Other words ask for nothing.
 pub fn command(words: &[String]) -> Option<Command>
     ensures { result ≡ command_of (map string_bytes words.now) }
 {
-    let [order, limit] = words else {
-        return None;
-    };
+    match words {
+        [order, limit] => asked(order.as_str(), limit.as_str(), false),
+        [order, limit, third] if third.as_str() == "attr" => {
+            asked(order.as_str(), limit.as_str(), true)
+        }
+        _ => None,
+    }
+}
+
+fn asked(order: &str, limit: &str, with_attr: bool) -> Option<Command>
+    ensures { result ≡ asked with_attr order.now limit.now }
+{
     Some(Command {
-        order: order_named(order.as_str())?,
-        limit: limit_named(limit.as_str())?,
-        with_attr: false,
+        order: order_named(order)?,
+        limit: limit_named(limit)?,
+        with_attr,
     })
 }
 

@@ -1,28 +1,28 @@
 use Rattle.std.proofs.Common.{ℕ, List, [], take, string_bytes, subst}
 use Rattle.std.specs.Io.KnownBytes.{Appends}
-use Rattle.perf_base.specs.Configuration.{plain}
 use Rattle.perfrec.specs.declared.outcome.Outcome.TheVariants.{Stopped}
 use Rattle.perfrec.specs.Outcomes.{Says, Writes}
+use Rattle.perfrec.specs.Text.{stream_of}
 use Rattle.perfrec.proofs.Known.{appends_nothing}
 use Rattle.perfrec.proofs.Endings.{if_some_all, if_some_map, says_nothing, says_beginning}
 use Rattle.perfrec.proofs.run.run.Goals as goal
 
-pub returns-in_default-clause-text : goal.returns-in_default-clause-text
-returns-in_default-clause-text g c = λ no_attr.
+pub returns-in_default : goal.returns-in_default
+returns-in_default g c =
     let order = g.E.Endian.order c.args.order in
     let old = g.W.Write.contents c.args.writer.now in
-    if_some_all (g.R.Read.remaining c.args.reader) (λ bytes. Writes plain order c.args.limit bytes Stopped old old)
-    (λ bytes. ([], appends_nothing old, says_nothing plain order c.args.limit bytes))
+    if_some_all (g.R.Read.remaining c.args.reader) (λ bytes. Writes order c.args.limit (stream_of c.args.with_attr order bytes) Stopped old old)
+    (λ bytes. ([], appends_nothing old, says_nothing order c.args.limit (stream_of c.args.with_attr order bytes)))
 
-pub returns-clause-text : goal.returns-clause-text
-returns-clause-text g c = λ no_attr.
+pub returns : goal.returns
+returns g c =
     let order = g.E.Endian.order c.args.order in
     let old = g.W.Write.contents c.args.writer.now in
     let new = g.W.Write.contents c.write_whole.new.writer in
     let text : List ℕ = string_bytes c.in-Ok.text in
     let part = subst (λ bytes. (n : ℕ) × Appends old new (take n bytes)) c.as_bytes.ensures.value c.write_whole.ensures.part in
     if_some_map (g.R.Read.remaining c.args.reader)
-    (λ bytes. Says plain order c.args.limit bytes c.in-Ok.outcome text)
-    (λ bytes. Writes plain order c.args.limit bytes Stopped old new)
-    (λ bytes says. (take part.0 text, part.1, says_beginning plain order c.args.limit bytes c.in-Ok.outcome text part.0 says))
+    (λ bytes. Says order c.args.limit (stream_of c.args.with_attr order bytes) c.in-Ok.outcome text)
+    (λ bytes. Writes order c.args.limit (stream_of c.args.with_attr order bytes) Stopped old new)
+    (λ bytes says. (take part.0 text, part.1, says_beginning order c.args.limit (stream_of c.args.with_attr order bytes) c.in-Ok.outcome text part.0 says))
     c.in-Ok.ensures
