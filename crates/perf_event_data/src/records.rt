@@ -75,7 +75,7 @@ impl<'p, B: ParseBuf<'p>> Parse<'p, B> for Lost {
     #[inline]
     fn parse<E: Endian>(parser: &mut Parser<B, E>) -> ParseResult<Self> {
         Ok(Lost {
-            id: parser.parse()?,
+            id: parser.parse_u64()?,
             lost: parser.parse()?,
         })
     }
@@ -117,8 +117,8 @@ impl<'p, B: ParseBuf<'p>> Parse<'p, B> for ITraceStart {
     #[inline]
     fn parse<E: Endian>(parser: &mut Parser<B, E>) -> ParseResult<Self> {
         Ok(ITraceStart {
-            pid: parser.parse()?,
-            tid: parser.parse()?,
+            pid: parser.parse_u32()?,
+            tid: parser.parse_u32()?,
         })
     }
 }
