@@ -13,3 +13,5 @@ pub mod Trimming
 pub mod Repeating
 pub mod SampleIds
 pub mod Splitting
+pub mod InRow
+pub mod Entries

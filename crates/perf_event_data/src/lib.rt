@@ -10,6 +10,7 @@ mod frames;
 mod lists;
 mod mmap2;
 mod names;
+mod namespaces;
 mod numbers;
 mod optional;
 pub mod parse;
