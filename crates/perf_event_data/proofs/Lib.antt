@@ -15,3 +15,4 @@ pub mod SampleIds
 pub mod Splitting
 pub mod InRow
 pub mod Entries
+pub mod Bodies
