@@ -92,27 +92,49 @@ fn a_name_loses_the_zero_bytes_at_its_end(rt: HostRuntime) -> Result<(), Fail> {
     check_through::<NoName>(&rt, rt.alloc(), b"")
 }
 
-// What a closure parses: always, where a condition holds, and where it does not.
+// What a closure parses of a frame's body: always, where a condition holds, and where it does not.
 struct Closures;
 
 impl<'p, B: ParseBuf<'p>> Check<'p, B> for Closures {
     fn check<E: Endian>(rt: &impl Abort, parser: &mut Parser<B, E>) -> Result<(), Fail> {
-        let (low, high) = parser.parse_with(|parser| {
+        let (mut inner, _) = parser.parse_metadata()?;
+        let (low, high) = inner.parse_with(|parser| {
             let low = parser.parse_u8()?;
             let high = parser.parse_u16()?;
             Ok((low, high))
         })?;
         assert_eq!(rt; (low, high), (1, 0x0302));
-        let none = parser.parse_if_with(false, |parser| parser.parse_u16())?;
+        let none = inner.parse_if_with(false, |parser| parser.parse_u16())?;
         assert_eq!(rt; none, None);
-        let some = parser.parse_if_with(true, |parser| parser.parse_u16())?;
+        let some = inner.parse_if_with(true, |parser| parser.parse_u16())?;
         assert_eq!(rt; some, Some(0x0504));
-        let refused = parser.parse_if_with(true, |parser| parser.parse_u8());
+        let refused = inner.parse_if_with(true, |parser| parser.parse_u8());
         assert!(rt; matches!(refused.map_err(|error| error.kind()), Err(ErrorKind::Eof)));
-        let none = parser.parse_if_with(false, |parser| parser.parse_u8())?;
+        let none = inner.parse_if_with(false, |parser| parser.parse_u8())?;
         assert_eq!(rt; none, None);
         Ok(())
     }
+}
+
+#[test]
+fn a_closure_parses_what_it_is_asked_to(rt: HostRuntime) -> Result<(), Fail> {
+    let bytes = b"\x44\0\0\0\0\0\x0D\0\x01\x02\x03\x04\x05";
+    check_through::<Closures>(&rt, rt.alloc(), bytes)?;
+    let bytes: &[u8] = b"\x01\x02\x03";
+    let mut parser = Parser::new(rt.alloc(), bytes, ParseConfig::<Little>::default());
+    assert_eq!(rt; parser.parse_with(|parser| parser.parse_u8())?, 1);
+    assert_eq!(rt;
+        parser.parse_if_with(false, |parser| parser.parse_u8())?,
+        None
+    );
+    let reader = BufReader::with_capacity(rt.alloc(), 1, bytes)?;
+    let mut parser = Parser::new(rt.alloc(), reader, ParseConfig::<Little>::default());
+    assert_eq!(rt; parser.parse_with(|parser| parser.parse_u16())?, 0x0201);
+    assert_eq!(rt;
+        parser.parse_if_with(true, |parser| parser.parse_u8())?,
+        Some(3)
+    );
+    Ok(())
 }
 
 // Values of a type, where a condition holds, and where it does not.
@@ -132,7 +154,6 @@ impl<'p, B: ParseBuf<'p>> Check<'p, B> for Conditions {
 
 #[test]
 fn conditions_decide_whether_anything_is_read(rt: HostRuntime) -> Result<(), Fail> {
-    check_through::<Closures>(&rt, rt.alloc(), b"\x01\x02\x03\x04\x05")?;
     check_through::<Conditions>(&rt, rt.alloc(), b"\x01\x02\x03\x04\x05")
 }
 
