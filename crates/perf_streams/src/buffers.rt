@@ -102,26 +102,40 @@ fn check_over<'p, B: ParseBuf<'p> + Drop, C: Check<'p, B>>(
     rt: &impl Abort,
     alloc: Global,
     buf: B,
+    config: &ParseConfig<Little>,
 ) -> Result<(), Fail> {
-    let mut parser = Parser::new(alloc, buf, ParseConfig::<Little>::default());
+    let mut parser = Parser::new(alloc, buf, config.duplicate()?);
     C::check(rt, &mut parser)
 }
 
-/// Runs a test over these bytes through a slice, buffered readers and pieces, the lowest byte first.
-pub fn check_through<'p, C>(rt: &impl Abort, alloc: Global, bytes: &'p [u8]) -> Result<(), Fail>
+/// Runs a test over these bytes through a slice, buffered readers and pieces, under a configuration.
+pub fn check_under<'p, C>(
+    rt: &impl Abort,
+    alloc: Global,
+    bytes: &'p [u8],
+    config: &ParseConfig<Little>,
+) -> Result<(), Fail>
 where
     C: Check<'p, &'p [u8]> + Check<'p, BufReader<&'p [u8]>> + Check<'p, PieceBuf<'p>>,
 {
-    check_over::<&'p [u8], C>(rt, alloc, bytes)?;
+    check_over::<&'p [u8], C>(rt, alloc, bytes, config)?;
     for capacity in [1, 7, 8192] {
         let reader = BufReader::with_capacity(alloc, capacity, bytes)?;
-        check_over::<BufReader<&'p [u8]>, C>(rt, alloc, reader)?;
+        check_over::<BufReader<&'p [u8]>, C>(rt, alloc, reader, config)?;
     }
     for most in [1, 3, 64] {
         for lasting in [true, false] {
             let pieces = PieceBuf::new(bytes, most, lasting);
-            check_over::<PieceBuf<'p>, C>(rt, alloc, pieces)?;
+            check_over::<PieceBuf<'p>, C>(rt, alloc, pieces, config)?;
         }
     }
     Ok(())
+}
+
+/// The same under the default configuration, the lowest byte first.
+pub fn check_through<'p, C>(rt: &impl Abort, alloc: Global, bytes: &'p [u8]) -> Result<(), Fail>
+where
+    C: Check<'p, &'p [u8]> + Check<'p, BufReader<&'p [u8]>> + Check<'p, PieceBuf<'p>>,
+{
+    check_under::<C>(rt, alloc, bytes, &ParseConfig::default())
 }
