@@ -8,9 +8,11 @@
 #![tactic(auto)]
 
 mod command;
+mod fields;
 mod line;
 mod outcome;
 mod output;
+mod records;
 mod run;
 #[cfg(test)]
 mod tests;
