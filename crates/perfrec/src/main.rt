@@ -12,6 +12,8 @@ mod fields;
 mod line;
 mod outcome;
 mod output;
+#[cfg(test)]
+mod record_tests;
 mod records;
 mod run;
 #[cfg(test)]
