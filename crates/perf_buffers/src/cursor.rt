@@ -1,6 +1,6 @@
 //! The bytes of one frame.
 
-ghost use Rattle.std.specs.Prelude.{◌≡◌, ◌≢◌, ◌<◌, ◌≤◌, true, false, None, Some, length, take, IsTrue, IsOk, OnOk, IfOk, IfErr, MatchOption, IfNone, ◌-◌, ◌↔◌, drop, []};
+ghost use Rattle.std.specs.Prelude.{IfSome, ◌≡◌, ◌≢◌, ◌<◌, ◌≤◌, true, false, None, Some, length, take, IsTrue, IsOk, OnOk, IfOk, IfErr, MatchOption, IfNone, ◌-◌, ◌↔◌, drop, []};
 ghost use Rattle.perf_base.specs.Errors.{kind_of};
 ghost use Rattle.perf_buffers.specs.Buffer.{NeedsNoMemory, Stays, refusal};
 ghost use Rattle.perf_buffers.specs.Taking.{Takes, FailsToTake, FailsToKeep, CanFail};
@@ -155,6 +155,7 @@ fn lend<'p, B: ParseBuf<'p>>(buf: &mut B, len: usize) -> ParseResult<Option<&'p 
     ensures can_fail { CanFail (B.source buf.old) (refusal result) }
     ensures whole { IsTrue (B.source buf.old).whole → IfOk result (λ o. IfNone o (IsTrue (B.source buf.old).told × (length (B.source buf.old).left < len))) }
     ensures memory { NeedsNoMemory result }
+    ensures count { IfOk result (λ o. IfSome o (λ s. length s.now ≡ len)) }
     ensures ok { IsTrue (B.source buf.old).told → IfOk result (λ o. MatchOption o ((B.source buf.new).left ≡ (B.source buf.old).left)
         (λ s. Takes (B.source buf.old) len (B.source buf.new) × (s.now ≡ take len (B.source buf.old).left))) }
     ensures err { IsTrue (B.source buf.old).told → IfErr result (λ e. FailsToTake (B.source buf.old) len (kind_of e) (B.source buf.new)) }
@@ -236,6 +237,7 @@ fn copy<'p, B: ParseBuf<'p>>(
     ensures can_fail { CanFail (B.source buf.old) (refusal result) }
     ensures beforehand { IsTrue (B.source buf.old).told → makes_all_room hinted len ≡ true →
         IfErr result (λ e. kind_of e ≡ ErrorKind.OutOfMemory → (B.source buf.new).left ≡ (B.source buf.old).left) }
+    ensures count { IfOk result (λ v. length v.items ≡ len) }
     ensures ok { IsTrue (B.source buf.old).told → IfOk result (λ v. Takes (B.source buf.old) len (B.source buf.new) × (v.items ≡ take len (B.source buf.old).left)) }
     ensures err { IsTrue (B.source buf.old).told → IfErr result (λ e. FailsToKeep (B.source buf.old) len (kind_of e) (B.source buf.new)) }
 {
@@ -290,6 +292,7 @@ impl<'p> ParseBufCursor<'p> {
 
         ensures ok { IsTrue (B.source buf.old).told → IfOk result (λ c. Takes (B.source buf.old) len (B.source buf.new) × (cursor_left c ≡ take len (B.source buf.old).left)) }
         ensures start { IfOk result (λ c. IsAtStart c) }
+        ensures count { IfOk result (λ c. length (cursor_left c) ≡ len) }
         ensures err { IsTrue (B.source buf.old).told → IfErr result (λ e. FailsToKeep (B.source buf.old) len (kind_of e) (B.source buf.new)) }
     {
         if len == 0 {

@@ -99,6 +99,7 @@ pub(crate) fn append<'p, B: ParseBuf<'p>>(
     ensures stays { Stays (B.source buf.old) (refusal result) (B.source buf.new) }
     ensures can_fail { CanFail (B.source buf.old) (refusal result) }
     ensures room { vec_len out.old + len ≤ vec_capacity out.old → NeedsNoMemory result }
+    ensures count { OnOk result (vec_len out.new ≡ vec_len out.old + len) }
     ensures ok { IsTrue (B.source buf.old).told → OnOk result (Takes (B.source buf.old) len (B.source buf.new) × (out.new.items ≡ out.old.items ++ take len (B.source buf.old).left)) }
     ensures end { IsTrue (B.source buf.old).told → IfErr result (λ e. kind_of e ≡ ErrorKind.Eof → out.new.items ≡ out.old.items ++ (B.source buf.old).left) }
     ensures err { IsTrue (B.source buf.old).told → IfErr result (λ e. FailsToKeep (B.source buf.old) len (kind_of e) (B.source buf.new)) }

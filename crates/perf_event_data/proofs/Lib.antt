@@ -9,7 +9,10 @@ mod Worked
 mod Covering
 pub mod ZeroTails
 pub mod Attributes
-pub mod Names
+pub mod Trimming
 pub mod Repeating
 pub mod SampleIds
 pub mod Splitting
+pub mod InRow
+pub mod Entries
+pub mod Bodies

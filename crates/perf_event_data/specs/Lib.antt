@@ -6,3 +6,4 @@ pub mod Runs
 pub mod AttributeGroups
 pub mod Repeats
 pub mod SampleIdFields
+pub mod EntryNumbers

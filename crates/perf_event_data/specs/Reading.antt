@@ -1,5 +1,5 @@
 -- What a call of a parser answers and leaves, and four things that every call keeps.
-use Rattle.std.specs.Prelude.{Option, Result, ◌≡◌, ℕ, ◌+◌, ◌-◌, ◌<◌, ◌≤◌, Bool, true, false, IsTrue, List, length, drop, Ok, Err, Some, None}
+use Rattle.std.specs.Prelude.{Option, Result, ◌≡◌, ℕ, ◌+◌, ◌-◌, ◌<◌, ◌≤◌, Bool, true, false, IsTrue, List, length, drop, Ok, Err, Some, None, IfOk}
 use Rattle.perf_base.specs.Configuration.{Configuration}
 use Rattle.perf_base.specs.Layout.{Width, Shape, number, Answer, Parts}
 use Rattle.perf_base.specs.Run.{Ran, ran, stopped, one, by_places}
@@ -30,6 +30,14 @@ Gives view r (Err e) left = IsTrue (of_layout (kind_of e)) → r ≡ stopped (ki
 -- What the parse of a type means: the layout of its parts, under the configuration, in the bytes that were left.
 abbrev pub Reads : {X A : Type 0} → (Configuration → Parts A) → (X → A) → Meaning → Result X ParseError → Meaning → Type 0
 Reads parts view old result new = Gives view (by_places old.order (parts old.settings) old.source.left) result new.source.left
+
+-- the same, for which no memory is taken
+abbrev pub ReadsPlain : {X A : Type 0} → (Configuration → Parts A) → (X → A) → Meaning → Result X ParseError → Meaning → Type 0
+ReadsPlain parts view old result new = Reads parts view old result new × NeedsNoMemory result
+
+-- the same, of which no byte is copied out of a whole buffer, so that no memory is taken there
+abbrev pub ReadsLent : {X A : Type 0} → (Configuration → Parts A) → (X → A) → (X → Type 0) → Meaning → Result X ParseError → Meaning → Type 0
+ReadsLent parts view borrowed old result new = Reads parts view old result new × (IsTrue old.source.whole → IfOk result borrowed × NeedsNoMemory result)
 
 -- the same of a single part
 abbrev pub ReadsOne : {X : Type 0} → (shape : Shape) → (X → Answer shape) → Meaning → Result X ParseError → Meaning → Type 0

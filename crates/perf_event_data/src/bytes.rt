@@ -51,6 +51,7 @@ impl<'p, B: ParseBuf<'p>, E: Endian> Parser<B, E> {
         ensures beforehand { IsTrue (B.source (buffer_of self.old)).told → is_made_beforehand (B.hint (buffer_of self.old)) len ≡ true →
             IfErr result (λ e. kind_of e ≡ ErrorKind.OutOfMemory → (B.source (buffer_of self.new)).left ≡ (B.source (buffer_of self.old)).left) }
         ensures counted { reads_of self.new ≡ reads_of self.old + one_if_any len }
+        ensures length { IfOk result (λ c. length (cow_items c) ≡ len) }
         ensures answer { IsTrue (B.source (buffer_of self.old)).told → ReadsOne (run len) cow_items (meaning B.source E.order self.old) result (meaning B.source E.order self.new) }
         ensures keeps { KeepsBuffer (meaning B.source E.order self.old) (refusal result) (meaning B.source E.order self.new) }
         ensures faults { KeepsFaults (meaning B.source E.order self.old) (refusal result) }

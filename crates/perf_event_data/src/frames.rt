@@ -7,7 +7,7 @@ ghost use Rattle.perf_base.specs.Errors.{kind_of};
 ghost use Rattle.perf_base.specs.Layout.{layout, value};
 ghost use Rattle.perf_base.specs.Configuration.{under_misc};
 ghost use Rattle.perf_records.specs.Metadata.{carries_sample_id, id_of_type, id_length};
-ghost use Rattle.perf_records.specs.Records.{record_value, body, IsBorrowed};
+ghost use Rattle.perf_records.specs.Records.{record_value, body, holds_a_list, IsBorrowed};
 ghost use Rattle.perf_event_data.specs.Answers.{body_length, answered_parts, parts_of, FailsToCut, Says, SaysBehind, SplitsBehind, SplitsFrame, ParsesRecord};
 ghost use Rattle.perf_buffers.specs.Buffer.{NeedsNoMemory, refusal, Stays};
 ghost use Rattle.perf_buffers.specs.Cursor.{cursor_left, cursor_lent};
@@ -22,17 +22,34 @@ use perf_base::endian::Endian;
 use perf_base::error::{ErrorKind, ParseError, ParseResult};
 use perf_base::reads::Reads;
 use perf_base::sys::{
-    PERF_RECORD_EXIT, PERF_RECORD_FORK, PERF_RECORD_LOST, PERF_RECORD_LOST_SAMPLES,
-    PERF_RECORD_SAMPLE, perf_event_header,
+    PERF_RECORD_AUX, PERF_RECORD_AUX_OUTPUT_HW_ID, PERF_RECORD_BPF_EVENT, PERF_RECORD_CGROUP,
+    PERF_RECORD_COMM, PERF_RECORD_EXIT, PERF_RECORD_FORK, PERF_RECORD_ITRACE_START,
+    PERF_RECORD_KSYMBOL, PERF_RECORD_LOST, PERF_RECORD_LOST_SAMPLES, PERF_RECORD_MMAP,
+    PERF_RECORD_MMAP2, PERF_RECORD_NAMESPACES, PERF_RECORD_SAMPLE, PERF_RECORD_SWITCH,
+    PERF_RECORD_SWITCH_CPU_WIDE, PERF_RECORD_TEXT_POKE, PERF_RECORD_THROTTLE,
+    PERF_RECORD_UNTHROTTLE, perf_event_header,
 };
 use perf_buffers::cursor::ParseBufCursor;
 use perf_buffers::parsebuf::ParseBuf;
 use perf_records::metadata::RecordMetadata;
 use perf_records::record::Record;
+use perf_types::aux_output_hw_id::AuxOutputHwId;
+use perf_types::aux_record::Aux;
+use perf_types::bpf_event::BpfEvent;
+use perf_types::cgroup::CGroup;
+use perf_types::comm::Comm;
 use perf_types::exit::Exit;
+use perf_types::itrace_start::ITraceStart;
+use perf_types::ksymbol::KSymbol;
 use perf_types::lost::Lost;
 use perf_types::lost_samples::LostSamples;
+use perf_types::mmap::Mmap;
+use perf_types::mmap2::Mmap2;
+use perf_types::namespaces::Namespaces;
 use perf_types::sample_id::SampleId;
+use perf_types::switch_cpu_wide::SwitchCpuWide;
+use perf_types::text_poke::TextPoke;
+use perf_types::throttle::Throttle;
 
 // The refusal of a header whose size does not count the header.
 #[cold]
@@ -75,7 +92,17 @@ impl<'p, B: ParseBuf<'p>, E: Endian> Parser<B, E> {
     }
 }
 
-// The record of a type, out of the bytes behind its header.
+// Parses a record of a type, as the variant that holds it.
+macro_rules! parsed {
+    ($parser:ident, $type:ty => $variant:ident) => {
+        match $parser.parse::<$type>() {
+            Ok(held) => Ok(Record::$variant(held)),
+            Err(error) => Err(error),
+        }
+    };
+}
+
+// The record of a type, out of the bytes of its body.
 #[inline]
 fn parse_body<'p, B: ParseBuf<'p>, E: Endian>(
     parser: &mut Parser<B, E>,
@@ -84,29 +111,32 @@ fn parse_body<'p, B: ParseBuf<'p>, E: Endian>(
     ensures config { config_of parser.new ≡ config_of parser.old }
     ensures answer { IsTrue (B.source (buffer_of parser.old)).told → ReadsLayout (λ c. body c ty) record_value (meaning B.source E.order parser.old) result (meaning B.source E.order parser.new) }
     ensures borrowed { IsTrue (B.source (buffer_of parser.old)).whole → IsTrue (B.source (buffer_of parser.old)).told → IfOk result (λ r. IsBorrowed r) }
-    ensures whole_memory { IsTrue (B.source (buffer_of parser.old)).whole → IsTrue (B.source (buffer_of parser.old)).told → NeedsNoMemory result }
+    ensures whole_memory { IsTrue (B.source (buffer_of parser.old)).whole → IsTrue (B.source (buffer_of parser.old)).told → holds_a_list ty ≡ false → NeedsNoMemory result }
     ensures keeps { KeepsBuffer (meaning B.source E.order parser.old) (refusal result) (meaning B.source E.order parser.new) }
     ensures faults { KeepsFaults (meaning B.source E.order parser.old) (refusal result) }
     ensures cost { KeepsCost (meaning B.source E.order parser.old) (refusal result) (meaning B.source E.order parser.new) }
     ensures place { KeepsPlace (meaning B.source E.order parser.old) (meaning B.source E.order parser.new) }
 {
     match ty {
-        PERF_RECORD_LOST => match parser.parse::<Lost>() {
-            Ok(lost) => Ok(Record::Lost(lost)),
-            Err(error) => Err(error),
-        },
-        PERF_RECORD_EXIT => match parser.parse::<Exit>() {
-            Ok(exit) => Ok(Record::Exit(exit)),
-            Err(error) => Err(error),
-        },
-        PERF_RECORD_FORK => match parser.parse::<Exit>() {
-            Ok(fork) => Ok(Record::Fork(fork)),
-            Err(error) => Err(error),
-        },
-        PERF_RECORD_LOST_SAMPLES => match parser.parse::<LostSamples>() {
-            Ok(lost) => Ok(Record::LostSamples(lost)),
-            Err(error) => Err(error),
-        },
+        PERF_RECORD_MMAP => parsed!(parser, Mmap<'p> => Mmap),
+        PERF_RECORD_LOST => parsed!(parser, Lost => Lost),
+        PERF_RECORD_COMM => parsed!(parser, Comm<'p> => Comm),
+        PERF_RECORD_EXIT => parsed!(parser, Exit => Exit),
+        PERF_RECORD_THROTTLE => parsed!(parser, Throttle => Throttle),
+        PERF_RECORD_UNTHROTTLE => parsed!(parser, Throttle => Unthrottle),
+        PERF_RECORD_FORK => parsed!(parser, Exit => Fork),
+        PERF_RECORD_MMAP2 => parsed!(parser, Mmap2<'p> => Mmap2),
+        PERF_RECORD_AUX => parsed!(parser, Aux => Aux),
+        PERF_RECORD_ITRACE_START => parsed!(parser, ITraceStart => ITraceStart),
+        PERF_RECORD_LOST_SAMPLES => parsed!(parser, LostSamples => LostSamples),
+        PERF_RECORD_SWITCH => Ok(Record::Switch),
+        PERF_RECORD_SWITCH_CPU_WIDE => parsed!(parser, SwitchCpuWide => SwitchCpuWide),
+        PERF_RECORD_NAMESPACES => parsed!(parser, Namespaces<'p> => Namespaces),
+        PERF_RECORD_KSYMBOL => parsed!(parser, KSymbol<'p> => KSymbol),
+        PERF_RECORD_BPF_EVENT => parsed!(parser, BpfEvent => BpfEvent),
+        PERF_RECORD_CGROUP => parsed!(parser, CGroup<'p> => CGroup),
+        PERF_RECORD_TEXT_POKE => parsed!(parser, TextPoke<'p> => TextPoke),
+        PERF_RECORD_AUX_OUTPUT_HW_ID => parsed!(parser, AuxOutputHwId => AuxOutputHwId),
         _ => match parser.parse_rest() {
             Ok(bytes) => Ok(Record::Unknown { ty, bytes }),
             Err(error) => Err(error),
@@ -228,7 +258,7 @@ impl<'p, E: Endian> Parser<ParseBufCursor<'p>, E> {
     fn finish(self, ty: u32) -> (ParseResult<Record<'p>>, Reads)
         ensures answer { Says (layout (E.order (endian_of (config_of self.entry))) (body (configuration_of (config_of self.entry)) ty) (cursor_left (buffer_of self.entry))) result.0 }
         ensures borrowed { IsTrue (cursor_lent (buffer_of self.entry)) → IfOk result.0 (λ r. IsBorrowed r) }
-        ensures whole_memory { IsTrue (cursor_lent (buffer_of self.entry)) → NeedsNoMemory result.0 }
+        ensures whole_memory { IsTrue (cursor_lent (buffer_of self.entry)) → holds_a_list ty ≡ false → NeedsNoMemory result.0 }
         ensures faults { is_external (refusal result.0) ≡ false }
         ensures cost { result.1 ≤ (reads_of self.entry) + length (cursor_left (buffer_of self.entry)) + one_if_refused (refusal result.0) }
     {
@@ -333,17 +363,17 @@ impl<'p, B: ParseBuf<'p>> ParseRecord<'p, B> for Record<'p> {
         ensures answer { IsTrue (B.source (buffer_of parser.old)).told → SaysBehind (configuration_of (config_of parser.old)) (E.order (endian_of (config_of parser.old))) header (B.source (buffer_of parser.old)).left result (B.source (buffer_of parser.new)).left }
         ensures within { IsTrue (B.source (buffer_of parser.old)).told → MovesWithin (B.source (buffer_of parser.old)) (body_length header) (B.source (buffer_of parser.new)) }
         ensures borrowed { IsTrue (B.source (buffer_of parser.old)).whole → IfOk result (λ r. IsBorrowed r) }
-        ensures whole_memory { IsTrue (B.source (buffer_of parser.old)).whole → E.may_refuse (endian_of (config_of parser.old)) ≡ false → NeedsNoMemory result }
+        ensures whole_memory { IsTrue (B.source (buffer_of parser.old)).whole → E.may_refuse (endian_of (config_of parser.old)) ≡ false → holds_a_list header.type_ ≡ false → NeedsNoMemory result }
         ensures keeps { KeepsBuffer (meaning B.source E.order parser.old) (refusal result) (meaning B.source E.order parser.new) }
         ensures faults { KeepsFaults (meaning B.source E.order parser.old) (refusal result) }
         ensures cost { KeepsCost (meaning B.source E.order parser.old) (refusal result) (meaning B.source E.order parser.new) }
         ensures place { KeepsPlace (meaning B.source E.order parser.old) (meaning B.source E.order parser.new) }
     {
-        let (inner, metadata) = match parser.parse_metadata_with_header(header) {
+        let (inner, _) = match parser.parse_metadata_with_header(header) {
             Ok(parts) => parts,
             Err(error) => return Err(error),
         };
-        let (record, reads) = inner.under_misc(metadata.misc()).finish(metadata.ty());
+        let (record, reads) = inner.under_misc(header.misc).finish(header.type_);
         parser.reads.add(reads);
         record
     }

@@ -8,10 +8,14 @@ mod attribute;
 mod bytes;
 mod frames;
 mod lists;
+mod mmap2;
+mod names;
+mod namespaces;
 mod numbers;
 mod optional;
 pub mod parse;
 mod parser;
+mod pokes;
 mod records;
 mod rest;
 mod runs;
@@ -22,7 +26,27 @@ pub use crate::runs::{Run, RunEnd, read_records};
 pub use perf_base::cow::CowSlice;
 pub use perf_base::{endian, sys};
 pub use perf_buffers::pieces::PieceBuf;
+pub use perf_records::metadata::RecordMetadata;
 pub use perf_records::record::Record;
+pub use perf_types::aux_output_hw_id::AuxOutputHwId;
+pub use perf_types::aux_record::Aux;
+pub use perf_types::bpf_event::BpfEvent;
+pub use perf_types::cgroup::CGroup;
+pub use perf_types::comm::Comm;
 pub use perf_types::exit::{Exit, Fork};
+pub use perf_types::itrace_start::ITraceStart;
+pub use perf_types::ksymbol::KSymbol;
 pub use perf_types::lost::Lost;
 pub use perf_types::lost_samples::LostSamples;
+pub use perf_types::mmap::Mmap;
+pub use perf_types::mmap2::{Mmap2, MmapDetail};
+pub use perf_types::namespaces::{NamespaceEntry, Namespaces};
+pub use perf_types::sample_id::SampleId;
+pub use perf_types::switch_cpu_wide::SwitchCpuWide;
+pub use perf_types::text_poke::TextPoke;
+pub use perf_types::throttle::Throttle;
+pub use perf_words::{
+    AuxFlags, AuxPmuFormatType, BpfEventType, BranchEntry, BranchType, DataSource, KSymbolFlags,
+    KSymbolType, MemBlk, MemDtlb, MemLevel, MemLevelNum, MemLock, MemOp, MemSnoop, MemSnoopX,
+    ReadFormat, SampleFlags, SampleRegsAbi, Txn,
+};

@@ -1,4 +1,4 @@
-use Rattle.std.proofs.Common.{◌≡◌, ℕ, ◌+◌, ◌-◌, ◌≤◌, List, length, length-drop, arith, ◌∙◌, ap}
+use Rattle.std.proofs.Common.{◌≡◌, ℕ, ◌+◌, ◌-◌, ◌≤◌, List, length, length-drop, arith, refl, ◌∙◌, ap}
 use Rattle.perf_base.specs.Configuration.{Configuration, under_misc}
 use Rattle.perf_base.specs.Configured.{configuration_of, endian_of}
 use Rattle.perf_base.specs.Order.{Order}
@@ -18,16 +18,13 @@ returns-clause-answer g c = λ told.
     let split = c.in-Ok.ensures.answer told in
     let inner = c.in-Ok.ensures.inner in
     let parts : FrameParts = answered_parts {E = g.row.E.Denot} c.in-Ok.parts in
-    let is = fell settings o h old parts split.0 in
-    let misc : c.misc.result ≡ h.misc = c.misc.ensures ∙ ap (λ (p : FrameParts). p.metadata.misc) is.are in
-    let ty : c.ty.result ≡ h.type_ = c.ty.ensures ∙ ap (λ (p : FrameParts). p.metadata.ty) is.are in
     let under = c.under_misc.result in
     let order : g.E.Endian.order (endian_of under.config) ≡ o = ap g.E.Endian.order c.under_misc.ensures.endian ∙ inner.1 in
     let config : configuration_of under.config ≡ under_misc h.misc settings =
-    c.under_misc.ensures.config ∙ ap (under_misc c.misc.result) inner.0 ∙ ap (λ m. under_misc m settings) misc in
+    c.under_misc.ensures.config ∙ ap (under_misc h.misc) inner.0 in
     says_record settings o h old new parts c.finish-record.result.0 split.0 split.1
-    (says_under (g.E.Endian.order (endian_of under.config)) o (configuration_of under.config) (under_misc h.misc settings) c.ty.result h.type_ (cursor_left under.buf) parts.body
-    c.finish-record.result.0 order config ty (ap cursor_left c.under_misc.ensures.buf) c.finish-record.ensures.answer)
+    (says_under (g.E.Endian.order (endian_of under.config)) o (configuration_of under.config) (under_misc h.misc settings) h.type_ h.type_ (cursor_left under.buf) parts.body
+    c.finish-record.result.0 order config refl (ap cursor_left c.under_misc.ensures.buf) c.finish-record.ensures.answer)
 
 pub returns-clause-cost : goal.returns-clause-cost
 returns-clause-cost g c = λ told.
