@@ -4,25 +4,18 @@ ghost use Rattle.std.specs.Prelude.{IsTrue};
 ghost use Rattle.perf_types.specs.MmapDetail.{has_fitting_id};
 
 use crate::line::line_of;
+use crate::outcome::Outcome;
+use crate::tests::check;
 use bitflags::Flags;
+use perf_event_data::endian::Little;
 use perf_event_data::parse::ParseResult;
 use perf_event_data::sys::perf_event_header;
-use perf_event_data::{CowSlice, Record};
-use perf_types::aux_output_hw_id::AuxOutputHwId;
-use perf_types::aux_record::Aux;
-use perf_types::bpf_event::BpfEvent;
-use perf_types::cgroup::CGroup;
-use perf_types::comm::Comm;
-use perf_types::itrace_start::ITraceStart;
-use perf_types::ksymbol::KSymbol;
-use perf_types::mmap::Mmap;
-use perf_types::mmap2::{Mmap2, MmapDetail};
-use perf_types::namespaces::{NamespaceEntry, Namespaces};
-use perf_types::switch_cpu_wide::SwitchCpuWide;
-use perf_types::text_poke::TextPoke;
-use perf_types::throttle::Throttle;
-use perf_words::flags::{AuxFlags, KSymbolFlags};
-use perf_words::named::{BpfEventType, KSymbolType};
+use perf_event_data::{
+    Aux, AuxFlags, AuxOutputHwId, BpfEvent, BpfEventType, CGroup, Comm, CowSlice, ITraceStart,
+    KSymbol, KSymbolFlags, KSymbolType, Mmap, Mmap2, MmapDetail, NamespaceEntry, Namespaces,
+    Record, SwitchCpuWide, TextPoke, Throttle,
+};
+use std::alloc::AllocError;
 use std::process::Abort;
 
 // The text of a record, behind the number of its frame and the numbers of its header.
@@ -207,4 +200,79 @@ fn what_came_into_the_kernel_or_changed_there(rt: HostRuntime) -> ParseResult<()
     };
     let text = "TextPoke addr=16 old_bytes= new_bytes=aa";
     check_line(&rt, Record::TextPoke(poke), text)
+}
+
+// A frame and then a line of it alone, read in pieces of all lengths.
+fn check_frame(
+    rt: &(impl AllocGlobal + Abort),
+    frame: &[u8],
+    line: &str,
+) -> Result<(), AllocError> {
+    let text = format!(in rt.alloc(); "0 {line}\nend done\n")?;
+    check(rt, Little, 10, frame, &text, Outcome::Clean);
+    Ok(())
+}
+
+#[test]
+fn a_bit_of_misc_says_what_a_mapping_has(rt: HostRuntime) -> Result<(), AllocError> {
+    let inode = [
+        10, 0, 0, 0, 0, 0, 80, 0, 1, 0, 0, 0, 2, 0, 0, 0, 0, 16, 0, 0, 0, 0, 0, 0, 0, 32, 0, 0, 0,
+        0, 0, 0, 0, 0, 0, 0, 0, 0, 0, 0, 8, 0, 0, 0, 1, 0, 0, 0, 99, 0, 0, 0, 0, 0, 0, 0, 3, 0, 0,
+        0, 0, 0, 0, 0, 5, 0, 0, 0, 2, 0, 0, 0, 97, 98, 0, 0, 0, 0, 0, 0,
+    ];
+    let line =
+        "10 0 80 Mmap2 pid=1 tid=2 addr=4096 len=8192 pgoff=0 maj=8 min=1 ino=99 ino_generation=3 \
+        prot=5 flags=2 filename=6162";
+    check_frame(&rt, &inode, line)?;
+    let build_id = [
+        10, 0, 0, 0, 0, 64, 80, 0, 1, 0, 0, 0, 2, 0, 0, 0, 0, 16, 0, 0, 0, 0, 0, 0, 0, 32, 0, 0, 0,
+        0, 0, 0, 0, 0, 0, 0, 0, 0, 0, 0, 20, 0, 0, 0, 1, 2, 3, 4, 5, 6, 7, 8, 9, 10, 11, 12, 13,
+        14, 15, 16, 17, 18, 19, 20, 5, 0, 0, 0, 2, 0, 0, 0, 97, 98, 0, 0, 0, 0, 0, 0,
+    ];
+    let line = "10 16384 80 Mmap2 pid=1 tid=2 addr=4096 len=8192 pgoff=0 \
+        build_id=0102030405060708090a0b0c0d0e0f1011121314 prot=5 flags=2 filename=6162";
+    check_frame(&rt, &build_id, line)
+}
+
+#[test]
+fn a_bit_of_misc_says_which_way_a_switch_went(rt: HostRuntime) -> Result<(), AllocError> {
+    let out = [15, 0, 0, 0, 0, 0x20, 16, 0, 1, 0, 0, 0, 2, 0, 0, 0];
+    check_frame(&rt, &out, "15 8192 16 SwitchCpuWide pid=1 tid=2 out=1")?;
+    let back = [15, 0, 0, 0, 0, 0, 16, 0, 1, 0, 0, 0, 2, 0, 0, 0];
+    check_frame(&rt, &back, "15 0 16 SwitchCpuWide pid=1 tid=2 out=0")?;
+    check_frame(&rt, &[0x0e, 0, 0, 0, 0, 0, 8, 0], "14 0 8 Switch")
+}
+
+#[test]
+fn a_frame_of_two_namespaces(rt: HostRuntime) -> Result<(), AllocError> {
+    let frame = [
+        16, 0, 0, 0, 0, 0, 56, 0, 1, 0, 0, 0, 2, 0, 0, 0, 2, 0, 0, 0, 0, 0, 0, 0, 3, 0, 0, 0, 0, 0,
+        0, 0, 4, 0, 0, 0, 0, 0, 0, 0, 5, 0, 0, 0, 0, 0, 0, 0, 6, 0, 0, 0, 0, 0, 0, 0,
+    ];
+    check_frame(
+        &rt,
+        &frame,
+        "16 0 56 Namespaces pid=1 tid=2 namespaces=3:4,5:6",
+    )
+}
+
+#[test]
+fn frames_about_the_kernels_memory(rt: HostRuntime) -> Result<(), AllocError> {
+    let poke = [
+        20, 0, 0, 0, 0, 0, 32, 0, 16, 0, 0, 0, 0, 0, 0, 0, 3, 0, 2, 0, 0xa1, 0xa2, 0xa3, 0xb1,
+        0xb2, 0, 0, 0, 0, 0, 0, 0,
+    ];
+    let line = "20 0 32 TextPoke addr=16 old_bytes=a1a2a3 new_bytes=b1b2";
+    check_frame(&rt, &poke, line)?;
+    let symbol = [
+        17, 0, 0, 0, 0, 0, 32, 0, 0, 16, 0, 0, 0, 0, 0, 0, 64, 0, 0, 0, 1, 0, 1, 0, 98, 112, 102,
+        0, 0, 0, 0, 0,
+    ];
+    let line = "17 0 32 KSymbol addr=4096 len=64 ksym_type=1 flags=1 name=627066";
+    check_frame(&rt, &symbol, line)?;
+    let event = [
+        18, 0, 0, 0, 0, 0, 24, 0, 1, 0, 0, 0, 7, 0, 0, 0, 1, 2, 3, 4, 5, 6, 7, 8,
+    ];
+    let line = "18 0 24 BpfEvent ty=1 flags=0 id=7 tag=0102030405060708";
+    check_frame(&rt, &event, line)
 }

@@ -15,23 +15,10 @@ ghost use Rattle.perfrec.specs.Text.{spaced, listed, namespace_item, mmap_words,
 
 use crate::fields::{push_fields, push_hex, push_number, push_present};
 use bitflags::Flags;
-use perf_event_data::Record;
-use perf_types::aux_output_hw_id::AuxOutputHwId;
-use perf_types::aux_record::Aux;
-use perf_types::bpf_event::BpfEvent;
-use perf_types::cgroup::CGroup;
-use perf_types::comm::Comm;
-use perf_types::exit::Exit;
-use perf_types::itrace_start::ITraceStart;
-use perf_types::ksymbol::KSymbol;
-use perf_types::lost::Lost;
-use perf_types::lost_samples::LostSamples;
-use perf_types::mmap::Mmap;
-use perf_types::mmap2::Mmap2;
-use perf_types::namespaces::{NamespaceEntry, Namespaces};
-use perf_types::switch_cpu_wide::SwitchCpuWide;
-use perf_types::text_poke::TextPoke;
-use perf_types::throttle::Throttle;
+use perf_event_data::{
+    Aux, AuxOutputHwId, BpfEvent, CGroup, Comm, Exit, ITraceStart, KSymbol, Lost, LostSamples,
+    Mmap, Mmap2, NamespaceEntry, Namespaces, Record, SwitchCpuWide, TextPoke, Throttle,
+};
 use std::alloc::AllocError;
 
 pub(crate) fn push_record(text: &mut String, found: &Record) -> Result<(), AllocError>
