@@ -8,9 +8,13 @@
 #![tactic(auto)]
 
 mod command;
+mod fields;
 mod line;
 mod outcome;
 mod output;
+#[cfg(test)]
+mod record_tests;
+mod records;
 mod run;
 #[cfg(test)]
 mod tests;
