@@ -6,10 +6,14 @@
 //! reading or writing failed or memory was refused.
 #![tactic(auto)]
 
+#[cfg(test)]
+mod answers_first;
 mod command;
 mod line;
 mod outcome;
 mod output;
+#[cfg(test)]
+mod replay;
 mod run;
 #[cfg(test)]
 mod tests;
