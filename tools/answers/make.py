@@ -384,12 +384,12 @@ def compare(program):
 
 
 def source(folder, name, about, blocks):
-    """A module with the list. One long text would be too deep for the prover, so each case has its own."""
+    """A module with the list: for the prover's sake a text for each case, and a function that keeps them to itself."""
     lines = ["//! %s Made by tools/answers/make.py; not to be edited." % about, ""]
     for case_name, block in blocks:
         lines += ['const %s: &str = r"' % case_name.upper(), block + '";', ""]
-    lines += ["/// The cases, one behind another.", "pub const CASES: [&str; %d] = [" % len(blocks)]
-    lines += ["    %s," % case_name.upper() for case_name, _ in blocks] + ["];"]
+    lines += ["/// The cases, one behind another.", "pub fn cases() -> [&'static str; %d] {" % len(blocks), "    ["]
+    lines += ["        %s," % case_name.upper() for case_name, _ in blocks] + ["    ]", "}"]
     with open(os.path.join(folder, name), "w") as it:
         it.write("\n".join(lines) + "\n")
 

@@ -286,13 +286,15 @@ aacba4b46aa6b933e95370480000000d40000010a10b3811a78f98b6000000400002000800000000
 ";
 
 /// The cases, one behind another.
-pub const CASES: [&str; 8] = [
-    FIRST_DONE_LITTLE,
-    FIRST_CUT_LITTLE,
-    FIRST_UNFINISHED_LITTLE,
-    FIRST_LIMIT_LITTLE,
-    FIRST_DONE_BIG,
-    FIRST_CUT_BIG,
-    FIRST_UNFINISHED_BIG,
-    FIRST_LIMIT_BIG,
-];
+pub fn cases() -> [&'static str; 8] {
+    [
+        FIRST_DONE_LITTLE,
+        FIRST_CUT_LITTLE,
+        FIRST_UNFINISHED_LITTLE,
+        FIRST_LIMIT_LITTLE,
+        FIRST_DONE_BIG,
+        FIRST_CUT_BIG,
+        FIRST_UNFINISHED_BIG,
+        FIRST_LIMIT_BIG,
+    ]
+}

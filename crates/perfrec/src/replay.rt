@@ -122,5 +122,5 @@ fn replay_all(rt: &(impl AllocGlobal + Abort), blocks: &[&str]) -> Result<(), Fa
 fn streams_without_an_attribute_are_answered_as_by_the_original(
     rt: HostRuntime,
 ) -> Result<(), Fail> {
-    replay_all(&rt, &answers_first::CASES)
+    replay_all(&rt, &answers_first::cases())
 }
