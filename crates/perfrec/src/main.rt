@@ -7,6 +7,10 @@
 //! where reading or writing failed or memory was refused.
 #![tactic(auto)]
 
+#[cfg(test)]
+mod answers;
+#[cfg(test)]
+mod answers_first;
 mod command;
 mod fields;
 mod line;
@@ -15,6 +19,8 @@ mod output;
 #[cfg(test)]
 mod record_tests;
 mod records;
+#[cfg(test)]
+mod replay;
 mod run;
 #[cfg(test)]
 mod tests;
