@@ -3,7 +3,7 @@
 use crate::buffers::{Check, check_under};
 use perf_event_data::endian::{Endian, Little};
 use perf_event_data::parse::{ErrorKind, ParseBuf, ParseConfig, Parser};
-use perf_event_data::sys::perf_event_attr;
+use perf_event_data::sys::{perf_event_attr, perf_event_header};
 use perf_event_data::{Lost, LostSamples, Record, RunEnd, read_records};
 use perf_types::sample_id::SampleId;
 use std::process::Abort;
@@ -195,6 +195,24 @@ impl<'p, B: ParseBuf<'p>> Check<'p, B> for OfLost {
     }
 }
 
+// The same of a frame whose header was read before.
+struct ByHeader;
+
+impl<'p, B: ParseBuf<'p>> Check<'p, B> for ByHeader {
+    fn check<E: Endian>(rt: &impl Abort, parser: &mut Parser<B, E>) -> Result<(), Fail> {
+        let header = parser.parse::<perf_event_header>()?;
+        assert_eq!(rt; (header.type_, header.misc, header.size), (2, 0, 40));
+        let (mut inner, metadata) = parser.parse_metadata_with_header(header)?;
+        assert_eq!(rt; (metadata.ty(), metadata.misc()), (2, 0));
+        assert_eq!(rt; metadata.sample_id().time(), Some(5));
+        let lost = inner.parse::<Lost>()?;
+        assert_eq!(rt; (lost.id, lost.lost), (1, 2));
+        let rest = parser.parse_rest()?;
+        assert!(rt; rest.is_empty());
+        Ok(())
+    }
+}
+
 // A run of one record, LOST.
 struct RunOfLost;
 
@@ -215,6 +233,7 @@ fn the_sample_id_of_a_frame_stands_behind_its_body(rt: HostRuntime) -> Result<()
     let bytes = b"\x02\0\0\0\0\0\x28\0\x01\0\0\0\0\0\0\0\x02\0\0\0\0\0\0\0\
         \x03\0\0\0\x04\0\0\0\x05\0\0\0\0\0\0\0";
     check_under::<OfLost>(&rt, rt.alloc(), bytes, &with_ids(TID | TIME))?;
+    check_under::<ByHeader>(&rt, rt.alloc(), bytes, &with_ids(TID | TIME))?;
     check_under::<RunOfLost>(&rt, rt.alloc(), bytes, &with_ids(TID | TIME))
 }
 
