@@ -1,0 +1,174 @@
+//! The line of a record.
+
+ghost use Rattle.std.specs.Prelude.{◌≡◌, ◌++◌, option_map, string_bytes, Some, IfOk, OnOk, codes};
+ghost use Rattle.std.specs.List.{flat_map};
+ghost use Rattle.std.specs.Str.Lossy.{utf8_lossy};
+ghost use Rattle.perf_types.specs.Comm.{comm_value};
+ghost use Rattle.perf_types.specs.Mmap.{mmap_value};
+ghost use Rattle.perf_types.specs.Mmap2.{mmap2_value};
+ghost use Rattle.perf_types.specs.Namespaces.{namespaces_value};
+ghost use Rattle.perf_records.specs.Records.{record_value};
+ghost use Rattle.perf_tasks.specs.Lines.{hex, letter, place, protection, hex_byte, file, namespace, comm_line, mmap_line, mmap2_line, task_line, namespaces_line, line_of};
+
+use perf_event_data::{Comm, Exit, Mmap, Mmap2, NamespaceEntry, Namespaces, Record};
+use std::alloc::{AllocError, Global};
+use std::fmt;
+use std::fmt::Write;
+
+// `PROT_READ` of mmap(2)
+const READ: u32 = 1;
+
+// `PROT_WRITE`
+const WRITE: u32 = 2;
+
+// `PROT_EXEC`
+const EXECUTE: u32 = 4;
+
+// `MAP_SHARED`
+const SHARED: u32 = 1;
+
+// A number that is printed in hexadecimal.
+#[derive(Clone, Copy)]
+struct Hex(u64);
+
+impl fmt::Display for Hex {
+    ghost output = { λ number. Some (hex number.0) };
+
+    fn fmt<W: fmt::Write>(&self, f: &mut fmt::Formatter<W>) -> fmt::Result {
+        write!(f, "0x{:x}", self.0)
+    }
+}
+
+/// The line of a record that tells of a task, without the line feed behind it. Other records have none.
+pub fn line_of(alloc: Global, record: &Record) -> Result<Option<String>, AllocError>
+    ensures { IfOk result (λ line. option_map string_bytes line ≡ line_of (record_value «record».now)) }
+{
+    let line = match record {
+        Record::Comm(comm) => comm_line(alloc, comm)?,
+        Record::Mmap(map) => mmap_line(alloc, map)?,
+        Record::Mmap2(map) => mmap2_line(alloc, map)?,
+        Record::Fork(fork) => task_line(alloc, "fork", fork)?,
+        Record::Exit(exit) => task_line(alloc, "exit", exit)?,
+        Record::Namespaces(namespaces) => namespaces_line(alloc, namespaces)?,
+        _ => return Ok(None),
+    };
+    Ok(Some(line))
+}
+
+fn comm_line(alloc: Global, comm: &Comm) -> Result<String, AllocError>
+    ensures { IfOk result (λ line. string_bytes line ≡ comm_line (comm_value comm.now)) }
+{
+    let name = name(alloc, comm.comm.as_slice())?;
+    format!(in alloc; "comm {} {} {name}", comm.pid, comm.tid)
+}
+
+fn mmap_line(alloc: Global, map: &Mmap) -> Result<String, AllocError>
+    ensures { IfOk result (λ line. string_bytes line ≡ mmap_line (mmap_value map.now)) }
+{
+    let place = place(alloc, map.addr, map.len, map.pgoff)?;
+    let name = name(alloc, map.filename.as_slice())?;
+    format!(in alloc; "mmap {} {} {place} {name}", map.pid, map.tid)
+}
+
+fn mmap2_line(alloc: Global, map: &Mmap2) -> Result<String, AllocError>
+    ensures { IfOk result (λ line. string_bytes line ≡ mmap2_line (mmap2_value map.now)) }
+{
+    let place = place(alloc, map.addr, map.len, map.pgoff)?;
+    let file = file(alloc, map)?;
+    let protection = protection(alloc, map.prot, map.flags)?;
+    let name = name(alloc, map.filename.as_slice())?;
+    format!(in alloc; "mmap2 {} {} {place} {file} {protection} {name}", map.pid, map.tid)
+}
+
+// A name as text, with U+FFFD for what is not UTF-8.
+fn name(alloc: Global, bytes: &[u8]) -> Result<String, AllocError>
+    ensures { IfOk result (λ text. string_bytes text ≡ utf8_lossy bytes.now) }
+{
+    String::from_utf8_lossy(alloc, bytes)
+}
+
+// Where a mapping lies in memory, its length, and where it begins in the file.
+fn place(alloc: Global, addr: u64, len: u64, pgoff: u64) -> Result<String, AllocError>
+    ensures { IfOk result (λ text. string_bytes text ≡ place addr len pgoff) }
+{
+    format!(in alloc; "{} {} {}", Hex(addr), Hex(len), Hex(pgoff))
+}
+
+// Which file was mapped: its device, inode and generation, or the digits of its build id.
+#[tactic(auto, using(crate::proofs::Inode::is_inode))]
+fn file(alloc: Global, map: &Mmap2) -> Result<String, AllocError>
+    ensures { IfOk result (λ text. string_bytes text ≡ file (mmap2_value map.now).detail) }
+{
+    if let (Some(maj), Some(min), Some(ino), Some(generation)) =
+        (map.maj(), map.min(), map.ino(), map.ino_generation())
+    {
+        let device = format!(in alloc; "{}:{}", Hex(u64::from(maj)), Hex(u64::from(min)))?;
+        return format!(in alloc; "{device} {ino} {generation}");
+    }
+    digits(alloc, map.build_id().unwrap_or_default())
+}
+
+// Bytes in hexadecimal, two digits each.
+fn digits(alloc: Global, bytes: &[u8]) -> Result<String, AllocError>
+    ensures { IfOk result (λ text. string_bytes text ≡ flat_map hex_byte bytes.now) }
+{
+    let mut digits = String::new(alloc);
+    for byte in bytes {
+        write!(digits, "{:x}{:x}", *byte / 16, *byte % 16)?;
+    }
+    Ok(digits)
+}
+
+// How mapped memory may be used: readable, writable, executable, and shared or private.
+fn protection(alloc: Global, prot: u32, flags: u32) -> Result<String, AllocError>
+    ensures { IfOk result (λ text. string_bytes text ≡ protection prot flags) }
+{
+    let read = letter(prot, READ, "r", "-");
+    let write = letter(prot, WRITE, "w", "-");
+    let execute = letter(prot, EXECUTE, "x", "-");
+    let shared = letter(flags, SHARED, "s", "p");
+    format!(in alloc; "{read}{write}{execute}{shared}")
+}
+
+// A letter where a bit is set in a word, and where it is not.
+fn letter(word: u32, bit: u32, set: &'static str, unset: &'static str) -> &'static str
+    ensures { result.now ≡ letter word bit set.now unset.now }
+{
+    if word & bit == 0 { unset } else { set }
+}
+
+// A task that was made or that ended, and the one that made it or its parent.
+fn task_line(alloc: Global, what: &str, task: &Exit) -> Result<String, AllocError>
+    ensures { IfOk result (λ line. string_bytes line ≡ task_line what.now task.now) }
+{
+    format!(in alloc; "{what} {} {} {} {}", task.pid, task.tid, task.ppid, task.ptid)
+}
+
+fn namespaces_line(alloc: Global, namespaces: &Namespaces) -> Result<String, AllocError>
+    ensures { IfOk result (λ line. string_bytes line ≡ namespaces_line (namespaces_value namespaces.now)) }
+{
+    let mut line = format!(in alloc; "namespaces {} {} ", namespaces.pid, namespaces.tid)?;
+    if let Some((first, others)) = namespaces.namespaces.as_slice().split_first() {
+        push_namespace(&mut line, first)?;
+        push_others(&mut line, others)?;
+    }
+    Ok(line)
+}
+
+// Appends the namespaces behind the first.
+fn push_others(line: &mut String, others: &[NamespaceEntry]) -> Result<(), AllocError>
+    ensures { OnOk result (string_bytes line.new ≡ string_bytes line.old ++ flat_map (λ entry. codes "," ++ namespace entry) others.now) }
+{
+    for entry in others {
+        line.push_str(",")?;
+        push_namespace(line, entry)?;
+    }
+    Ok(())
+}
+
+// Appends a namespace: the device and the inode of its file.
+fn push_namespace(line: &mut String, entry: &NamespaceEntry) -> Result<(), AllocError>
+    ensures { OnOk result (string_bytes line.new ≡ string_bytes line.old ++ namespace entry.now) }
+{
+    write!(line, "{}:{}", entry.dev, Hex(entry.inode))
+}
