@@ -23,8 +23,8 @@ const IDENTIFIER: u64 = 1 << 16;
 
 const ALL_SIX: u64 = TID | TIME | ID | CPU | STREAM_ID | IDENTIFIER;
 
-// The configuration of an event that has `sample_id_all` and these fields in its samples.
-fn with_ids(sample_type: u64) -> ParseConfig<Little> {
+/// The configuration of an event that has `sample_id_all` and these fields in its samples.
+pub fn with_ids(sample_type: u64) -> ParseConfig<Little> {
     ParseConfig::from(perf_event_attr {
         sample_type,
         flags: 1 << 18,

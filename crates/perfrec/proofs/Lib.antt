@@ -3,3 +3,4 @@ pub mod Batches
 pub mod Known
 pub mod Progress
 pub mod Endings
+pub mod Spaced

@@ -1,5 +1,5 @@
 -- The text that the program writes: a line for each frame, and a last one that says how reading ended.
-use Rattle.std.specs.Prelude.{ℕ, ◌+◌, ◌-◌, ◌/◌, ◌%◌, Bool, true, false, List, [], ◌∷◌, ◌++◌, length, take, drop, nat_lt, nat_le, codes, decimal, Result, Ok, Err, if◌then◌else◌}
+use Rattle.std.specs.Prelude.{ℕ, ◌+◌, ◌-◌, ◌/◌, ◌%◌, Bool, true, false, List, [], ◌∷◌, ◌++◌, length, take, drop, nat_lt, nat_le, codes, decimal, Option, Some, None, Result, Ok, Err, if◌then◌else◌}
 use Rattle.std.specs.List.{flat_map, enumerate_from}
 use Rattle.perf_base.specs.Order.{Order}
 use Rattle.perf_base.specs.Configuration.{Configuration, plain, configured_by}
@@ -11,7 +11,24 @@ use Rattle.perf_base.specs.declared.error.ErrorKind.TheVariants.{Eof, InvalidRec
 use Rattle.perf_types.specs.declared.exit.Exit.{Exit}
 use Rattle.perf_types.specs.declared.lost.Lost.{Lost}
 use Rattle.perf_types.specs.declared.lost_samples.LostSamples.{LostSamples}
-use Rattle.perf_records.specs.Records.{RecordValue, lost_is, exit_is, fork_is, lost_samples_is, unknown_is}
+use Rattle.perf_types.specs.declared.throttle.Throttle.{Throttle}
+use Rattle.perf_types.specs.declared.itrace_start.ITraceStart.{ITraceStart}
+use Rattle.perf_types.specs.declared.switch_cpu_wide.SwitchCpuWide.{SwitchCpuWide}
+use Rattle.perf_types.specs.declared.switch_cpu_wide.SwitchCpuWide.TheVariants as switch
+use Rattle.perf_types.specs.declared.namespaces.NamespaceEntry.{NamespaceEntry}
+use Rattle.perf_types.specs.declared.aux_output_hw_id.AuxOutputHwId.{AuxOutputHwId}
+use Rattle.perf_types.specs.Mmap.{MmapValue}
+use Rattle.perf_types.specs.Comm.{CommValue}
+use Rattle.perf_types.specs.MmapDetail.{DetailValue, inode_is, build_id_is}
+use Rattle.perf_types.specs.Mmap2.{Mmap2Value}
+use Rattle.perf_types.specs.Aux.{AuxValue}
+use Rattle.perf_types.specs.SwitchCpuWide.{other_pid, other_tid}
+use Rattle.perf_types.specs.Namespaces.{NamespacesValue}
+use Rattle.perf_types.specs.KSymbol.{KSymbolValue}
+use Rattle.perf_types.specs.BpfEvent.{BpfEventValue}
+use Rattle.perf_types.specs.CGroup.{CGroupValue}
+use Rattle.perf_types.specs.TextPoke.{TextPokeValue}
+use Rattle.perf_records.specs.Records.{RecordValue, mmap_is, lost_is, comm_is, exit_is, throttle_is, unthrottle_is, fork_is, mmap2_is, aux_is, itrace_start_is, lost_samples_is, switch_is, switch_cpu_wide_is, namespaces_is, ksymbol_is, bpf_event_is, cgroup_is, text_poke_is, aux_output_hw_id_is, unknown_is}
 use Rattle.perf_event_data.specs.Frames.{StreamEnd, done, cut_header, stream_end}
 use Rattle.perf_event_data.specs.Answers.{answers}
 
@@ -37,14 +54,35 @@ field name has = name ++ (codes "=" ++ has)
 abbrev pub number : List ℕ → ℕ → List ℕ
 number name n = field name (decimal n)
 
+-- a number that may be absent, as it is written, or nothing
+abbrev pub present : (ℕ → List ℕ) → Option ℕ → List ℕ
+present written (Some n) = written n
+present written None = []
+
+-- items with commas in between
+abbrev pub listed : {X : Type 0} → (X → List ℕ) → List X → List ℕ
+listed item [] = []
+listed item (x ∷ xs) = item x ++ flat_map (λ other. codes "," ++ item other) xs
+
 -- each word with a space in front
 abbrev pub spaced : List (List ℕ) → List ℕ
 spaced words = flat_map (λ word. codes " " ++ word) words
 
 -- ---- records
 
+abbrev pub mmap_words : MmapValue → List (List ℕ)
+mmap_words r =
+    codes "Mmap" ∷ number (codes "pid") r.pid ∷ number (codes "tid") r.tid
+    ∷ number (codes "addr") r.addr ∷ number (codes "len") r.len ∷ number (codes "pgoff") r.pgoff
+    ∷ field (codes "filename") (hex r.filename) ∷ []
+
 abbrev pub lost_words : Lost → List (List ℕ)
 lost_words r = codes "Lost" ∷ number (codes "id") r.id ∷ number (codes "lost") r.lost ∷ []
+
+abbrev pub comm_words : CommValue → List (List ℕ)
+comm_words r =
+    codes "Comm" ∷ number (codes "pid") r.pid ∷ number (codes "tid") r.tid
+    ∷ field (codes "comm") (hex r.comm) ∷ []
 
 -- the fields of an EXIT or a FORK
 abbrev pub exit_fields : Exit → List (List ℕ)
@@ -52,8 +90,78 @@ exit_fields r =
     number (codes "pid") r.pid ∷ number (codes "ppid") r.ppid
     ∷ number (codes "tid") r.tid ∷ number (codes "ptid") r.ptid ∷ number (codes "time") r.time ∷ []
 
+-- the fields of a THROTTLE or an UNTHROTTLE
+abbrev pub throttle_fields : Throttle → List (List ℕ)
+throttle_fields r =
+    number (codes "time") r.time ∷ number (codes "id") r.id ∷ number (codes "stream_id") r.stream_id ∷ []
+
+-- which file an MMAP2 has: the numbers of its inode, or its build id
+abbrev pub detail_words : DetailValue → List (List ℕ)
+detail_words (inode_is maj min ino ino_generation) =
+    number (codes "maj") maj ∷ number (codes "min") min
+    ∷ number (codes "ino") ino ∷ number (codes "ino_generation") ino_generation ∷ []
+detail_words (build_id_is id) = field (codes "build_id") (hex id) ∷ []
+
+abbrev pub mmap2_words : Mmap2Value → List (List ℕ)
+mmap2_words r =
+    codes "Mmap2" ∷ number (codes "pid") r.pid ∷ number (codes "tid") r.tid
+    ∷ number (codes "addr") r.addr ∷ number (codes "len") r.len ∷ number (codes "pgoff") r.pgoff
+    ∷ (detail_words r.detail
+    ++ (number (codes "prot") r.prot ∷ number (codes "flags") r.flags ∷ field (codes "filename") (hex r.filename) ∷ []))
+
+abbrev pub aux_words : AuxValue → List (List ℕ)
+aux_words r =
+    codes "Aux" ∷ number (codes "aux_offset") r.aux_offset ∷ number (codes "aux_size") r.aux_size
+    ∷ number (codes "flags") r.flags ∷ []
+
+abbrev pub itrace_start_words : ITraceStart → List (List ℕ)
+itrace_start_words r =
+    codes "ITraceStart" ∷ number (codes "pid") r.pid ∷ number (codes "tid") r.tid ∷ []
+
 abbrev pub lost_samples_words : LostSamples → List (List ℕ)
 lost_samples_words r = codes "LostSamples" ∷ number (codes "lost") r.lost ∷ []
+
+-- which way a switch went: 1 for away from the task
+abbrev pub out_of : SwitchCpuWide → ℕ
+out_of (switch.In pid tid) = 0
+out_of (switch.Out pid tid) = 1
+
+abbrev pub switch_cpu_wide_words : SwitchCpuWide → List (List ℕ)
+switch_cpu_wide_words r =
+    codes "SwitchCpuWide" ∷ number (codes "pid") (other_pid r) ∷ number (codes "tid") (other_tid r)
+    ∷ number (codes "out") (out_of r) ∷ []
+
+-- a namespace: its device, a colon and its inode
+abbrev pub namespace_item : NamespaceEntry → List ℕ
+namespace_item e = decimal e.dev ++ (codes ":" ++ decimal e.inode)
+
+abbrev pub namespaces_words : NamespacesValue → List (List ℕ)
+namespaces_words r =
+    codes "Namespaces" ∷ number (codes "pid") r.pid ∷ number (codes "tid") r.tid
+    ∷ field (codes "namespaces") (listed namespace_item r.namespaces) ∷ []
+
+abbrev pub ksymbol_words : KSymbolValue → List (List ℕ)
+ksymbol_words r =
+    codes "KSymbol" ∷ number (codes "addr") r.addr ∷ number (codes "len") r.len
+    ∷ number (codes "ksym_type") r.ksym_type ∷ number (codes "flags") r.flags ∷ field (codes "name") (hex r.name) ∷ []
+
+abbrev pub bpf_event_words : BpfEventValue → List (List ℕ)
+bpf_event_words r =
+    codes "BpfEvent" ∷ number (codes "ty") r.ty ∷ number (codes "flags") r.flags
+    ∷ number (codes "id") r.id ∷ field (codes "tag") (hex r.tag) ∷ []
+
+abbrev pub cgroup_words : CGroupValue → List (List ℕ)
+cgroup_words r =
+    codes "CGroup" ∷ number (codes "id") r.id ∷ field (codes "path") (hex r.path) ∷ []
+
+abbrev pub text_poke_words : TextPokeValue → List (List ℕ)
+text_poke_words r =
+    codes "TextPoke" ∷ number (codes "addr") r.addr ∷ field (codes "old_bytes") (hex r.old_bytes)
+    ∷ field (codes "new_bytes") (hex r.new_bytes) ∷ []
+
+abbrev pub aux_output_hw_id_words : AuxOutputHwId → List (List ℕ)
+aux_output_hw_id_words r =
+    codes "AuxOutputHwId" ∷ number (codes "hw_id") r.hw_id ∷ []
 
 -- a record that is not read further
 abbrev pub unknown_words : List ℕ → List (List ℕ)
@@ -61,10 +169,25 @@ unknown_words bytes = codes "Unknown" ∷ field (codes "data") (hex bytes) ∷ [
 
 -- the name of a record, and its fields
 abbrev pub record_words : RecordValue → List (List ℕ)
+record_words (mmap_is r) = mmap_words r
 record_words (lost_is r) = lost_words r
+record_words (comm_is r) = comm_words r
 record_words (exit_is r) = codes "Exit" ∷ exit_fields r
+record_words (throttle_is r) = codes "Throttle" ∷ throttle_fields r
+record_words (unthrottle_is r) = codes "Unthrottle" ∷ throttle_fields r
 record_words (fork_is r) = codes "Fork" ∷ exit_fields r
+record_words (mmap2_is r) = mmap2_words r
+record_words (aux_is r) = aux_words r
+record_words (itrace_start_is r) = itrace_start_words r
 record_words (lost_samples_is r) = lost_samples_words r
+record_words switch_is = codes "Switch" ∷ []
+record_words (switch_cpu_wide_is r) = switch_cpu_wide_words r
+record_words (namespaces_is r) = namespaces_words r
+record_words (ksymbol_is r) = ksymbol_words r
+record_words (bpf_event_is r) = bpf_event_words r
+record_words (cgroup_is r) = cgroup_words r
+record_words (text_poke_is r) = text_poke_words r
+record_words (aux_output_hw_id_is r) = aux_output_hw_id_words r
 record_words (unknown_is ty bytes) = unknown_words bytes
 
 -- ---- lines

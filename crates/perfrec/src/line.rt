@@ -1,16 +1,16 @@
 //! Lines of the text.
 
-ghost use Rattle.std.specs.Prelude.{◌≡◌, ◌+◌, ◌<◌, ◌^◌, ◌++◌, codes, decimal, length, string_bytes, OnOk, IfOk, IfErr};
-ghost use Rattle.std.specs.List.{flat_map};
+ghost use Rattle.std.specs.Prelude.{◌≡◌, ◌+◌, ◌<◌, ◌^◌, ◌++◌, codes, length, string_bytes, OnOk, IfOk, IfErr};
 ghost use Rattle.perf_base.specs.Errors.{kind_of};
-ghost use Rattle.perf_records.specs.Records.{record_value};
 ghost use Rattle.perf_event_data.specs.Answers.{said};
 ghost use Rattle.perf_event_data.specs.Runs.{pairs_said};
-ghost use Rattle.perfrec.specs.Text.{hex_digit, hex, spaced, lost_words, exit_fields, lost_samples_words, unknown_words, record_words, kind_name, answer_words, line, ended, lines_from, end_line, attr_line};
+ghost use Rattle.perfrec.specs.Text.{spaced, kind_name, answer_words, line, ended, lines_from, end_line, attr_line};
 
+use crate::fields::push_number;
+use crate::records::push_record;
+use perf_event_data::Record;
 use perf_event_data::parse::{ErrorKind, ParseResult};
 use perf_event_data::sys::perf_event_header;
-use perf_event_data::{Exit, Lost, LostSamples, Record};
 use std::alloc::{AllocError, Global};
 
 /// The line of one frame, without the line feed that ends it: its number, what its header says, and its answer.
@@ -115,94 +115,5 @@ fn kind_name(kind: ErrorKind) -> &'static str
         ErrorKind::UnsupportedData => "UnsupportedData",
         ErrorKind::External => "External",
         ErrorKind::OutOfMemory => "OutOfMemory",
-    }
-}
-
-fn push_record(text: &mut String, found: &Record) -> Result<(), AllocError>
-    ensures { OnOk result (string_bytes text.new ≡ string_bytes text.old ++ spaced (record_words (record_value found.now))) }
-{
-    match found {
-        Record::Lost(lost) => push_lost(text, lost),
-        Record::Exit(exit) => push_exit(text, " Exit", exit),
-        Record::Fork(fork) => push_exit(text, " Fork", fork),
-        Record::LostSamples(lost) => push_lost_samples(text, lost),
-        Record::Unknown { ty: _, bytes } => push_unknown(text, bytes.as_slice()),
-    }
-}
-
-fn push_lost(text: &mut String, lost: &Lost) -> Result<(), AllocError>
-    ensures { OnOk result (string_bytes text.new ≡ string_bytes text.old ++ spaced (lost_words lost.now)) }
-{
-    push_fields(text, " Lost", &[(" id=", lost.id), (" lost=", lost.lost)])
-}
-
-// The name has a space in front, as an exit and a fork have the same fields.
-fn push_exit(text: &mut String, name: &str, exit: &Exit) -> Result<(), AllocError>
-    ensures { OnOk result (string_bytes text.new ≡ string_bytes text.old ++ (name.now ++ spaced (exit_fields exit.now))) }
-{
-    let fields = [
-        (" pid=", u64::from(exit.pid)),
-        (" ppid=", u64::from(exit.ppid)),
-        (" tid=", u64::from(exit.tid)),
-        (" ptid=", u64::from(exit.ptid)),
-        (" time=", exit.time),
-    ];
-    push_fields(text, name, &fields)
-}
-
-fn push_lost_samples(text: &mut String, lost: &LostSamples) -> Result<(), AllocError>
-    ensures { OnOk result (string_bytes text.new ≡ string_bytes text.old ++ spaced (lost_samples_words lost.now)) }
-{
-    push_fields(text, " LostSamples", &[(" lost=", lost.lost)])
-}
-
-fn push_unknown(text: &mut String, bytes: &[u8]) -> Result<(), AllocError>
-    ensures { OnOk result (string_bytes text.new ≡ string_bytes text.old ++ spaced (unknown_words bytes.now)) }
-{
-    push_hex(text, " Unknown data=", bytes)
-}
-
-// Appends a name, and numbers behind what stands in front of each.
-fn push_fields(text: &mut String, name: &str, fields: &[(&str, u64)]) -> Result<(), AllocError>
-    ensures { OnOk result (string_bytes text.new
-        ≡ string_bytes text.old ++ (name.now ++ flat_map (λ field. field.0.now ++ decimal field.1) fields.now)) }
-{
-    text.push_str(name)?;
-    for (before, number) in fields {
-        push_number(text, before, *number)?;
-    }
-    Ok(())
-}
-
-// Appends a number behind what stands in front of it.
-fn push_number(text: &mut String, before: &str, number: u64) -> Result<(), AllocError>
-    ensures { OnOk result (string_bytes text.new ≡ string_bytes text.old ++ (before.now ++ decimal number)) }
-{
-    let mut buffer = itoa::Buffer::new();
-    text.push_str(before)?;
-    text.push_str(buffer.format(number))
-}
-
-// Appends the digits of bytes behind what stands in front of them.
-fn push_hex(text: &mut String, before: &str, bytes: &[u8]) -> Result<(), AllocError>
-    ensures { OnOk result (string_bytes text.new ≡ string_bytes text.old ++ (before.now ++ hex bytes.now)) }
-{
-    text.push_str(before)?;
-    for byte in bytes {
-        text.push(hex_digit(*byte / 16))?;
-        text.push(hex_digit(*byte % 16))?;
-    }
-    Ok(())
-}
-
-fn hex_digit(number: u8) -> char
-    requires { number < 16 }
-    ensures value { result ≡ hex_digit number }
-    ensures ascii { result < 128 }
-{
-    if number < 10 {
-        char::from(b'0' + number)
-    } else {
-        char::from(b'a' + (number - 10))
     }
 }

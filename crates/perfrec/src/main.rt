@@ -7,10 +7,20 @@
 //! where reading or writing failed or memory was refused.
 #![tactic(auto)]
 
+#[cfg(test)]
+mod answers;
+#[cfg(test)]
+mod answers_first;
 mod command;
+mod fields;
 mod line;
 mod outcome;
 mod output;
+#[cfg(test)]
+mod record_tests;
+mod records;
+#[cfg(test)]
+mod replay;
 mod run;
 #[cfg(test)]
 mod tests;

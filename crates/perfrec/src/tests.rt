@@ -61,7 +61,7 @@ fn check_all<E: Endian + Copy>(
     check_pieces(rt, order, limit, with_attr, input, text, outcome, 8192);
 }
 
-fn check<E: Endian + Copy>(
+pub(crate) fn check<E: Endian + Copy>(
     rt: &(impl AllocGlobal + Abort),
     order: E,
     limit: usize,

@@ -1,0 +1,458 @@
+#!/usr/bin/env python3
+"""Makes the list of answers that crates/perfrec replays: see README.md beside this file.
+
+    make.py --streams            lists the cases and counts their frames; runs nothing
+    make.py --page PROGRAM WORD.. compares what PROGRAM prints with page.py, also for what the list leaves out
+    make.py PROGRAM WORD..       writes the list
+
+PROGRAM is the original under a program that prints perfrec's lines. It takes perfrec's words (order, limit, and `attr`
+where the stream begins with an attribute), and in front of them the WORDs, which ask it to hide what README.md calls
+the original's own. The same input always makes the same list.
+"""
+
+import collections
+import math
+import os
+import struct
+import subprocess
+import sys
+
+sys.dont_write_bytecode = True
+import page  # noqa: E402
+
+HERE = os.path.dirname(os.path.abspath(__file__))
+SOURCES = os.path.join(HERE, "..", "..", "crates", "perfrec", "src")
+LIMIT = 1000
+
+# The sizes of an attribute, one behind another.
+SIZES = [64, 72, 80, 96, 104, 112, 120, 128, 136, 137, 144, 160]
+
+# Types whose answers a later list will hold.
+LATER = {8, 9}
+
+TID, TIME, ID, CPU, STREAM_ID, IDENTIFIER = 1 << 1, 1 << 2, 1 << 6, 1 << 7, 1 << 9, 1 << 16
+ALL_SIX = TID | TIME | ID | CPU | STREAM_ID | IDENTIFIER
+NOT_OF_AN_ID = (1 << 24) - 1 & ~ALL_SIX
+
+
+class Draw:
+    """Numbers that look random and are the same in each run: a linear congruential generator."""
+
+    def __init__(self, seed):
+        self.state = seed
+
+    def below(self, bound):
+        self.state = (self.state * 6364136223846793005 + 1442695040888963407) % 2**64
+        return (self.state >> 33) % bound
+
+    def one_of(self, things):
+        return things[self.below(len(things))]
+
+    def number(self, bits):
+        """A number of so many bits: small, at an end, or any."""
+        kind = self.below(8)
+        if kind < 3:
+            return self.below(1000)
+        if kind == 3:
+            return self.one_of([0, 1, 2**bits - 1, 2 ** (bits - 1)])
+        return (self.below(2**31) * 2**33 + self.below(2**31) * 2**11 + self.below(2**11)) % 2**bits
+
+    def bytes(self, count):
+        return bytes(self.below(256) for _ in range(count))
+
+
+Config = collections.namedtuple("Config", "sample_type all_ids read_format")
+PLAIN = Config(0, False, 0)
+
+
+def id_length(config):
+    return 8 * bin(config.sample_type & ALL_SIX).count("1") if config.all_ids else 0
+
+
+def agreed(config, type_):
+    """Whether the list has this type under this configuration; README.md says why others are left out."""
+    if type_ in LATER:
+        return False
+    return id_length(config) == 0 or (type_ != 1 and type_ < 64)
+
+
+class Bodies:
+    """Bodies in one byte order, by shapes: each is a type, a misc and the body's bytes."""
+
+    def __init__(self, order, draw):
+        self.mark, self.draw = "<" if order == "little" else ">", draw
+
+    def pack(self, form, *numbers):
+        return struct.pack(self.mark + form, *numbers)
+
+    def some(self, form):
+        """Numbers of the widths in the form."""
+        bits = {"H": 16, "I": 32, "Q": 64}
+        return self.pack(form, *(self.draw.number(bits[letter]) for letter in form))
+
+    FIXED = {2: "QQ", 4: "IIIIQ", 5: "QQQ", 6: "QQQ", 7: "IIIIQ", 11: "QQQ"}
+    FIXED |= {12: "II", 13: "Q", 14: "", 15: "II", 21: "Q"}
+    BEFORE_NAME = {1: "IIQQQ", 3: "II", 17: "QIHH", 19: "Q"}
+
+    def whole(self, type_):
+        """A well-formed body of a type of fixed length."""
+        if type_ == 18:
+            return self.some("HHI") + self.draw.bytes(8)
+        return self.some(self.FIXED[type_])
+
+    def names(self):
+        return [
+            b"a",
+            b"kworker\0",
+            b"sleep\0\0\0",
+            b"/usr/lib/libc.so.6\0\0\0\0\0\0",
+            b"in\0side\0\0",
+            b"\0\0lead",
+            b"\0",
+            b"\0" * 8,
+            b"",
+            b"\xff\xfe\x80\0",
+            b"caf\xe9 \xc3\xa9\0\0",
+            b"//anon\0\0",
+            self.draw.bytes(5) + b"\0" * self.draw.below(4),
+        ]
+
+    def shapes(self):
+        """All shapes, as pairs of a type and a function from nothing to (misc, body)."""
+        draw, found = self.draw, []
+
+        def add(type_, make):
+            found.append((type_, make))
+
+        def misc():
+            return draw.one_of([0, 0, 1, 2, 0x2000, 0x4000, 0x6000, 0xDFFF, 0xFFFF])
+
+        def shorter(body):
+            return body[: -1 - draw.below(max(1, len(body)))]
+
+        # Bodies of fixed length: whole, with bytes left over, cut short by one and by more, and none.
+        for type_ in [2, 4, 5, 6, 7, 11, 12, 13, 14, 18, 21]:
+            add(type_, lambda type_=type_: (misc(), self.whole(type_)))
+            add(type_, lambda type_=type_: (misc(), self.whole(type_) + draw.bytes(1 + draw.below(16))))
+            add(type_, lambda type_=type_: (misc(), self.whole(type_)[:-1]))
+            add(type_, lambda type_=type_: (misc(), shorter(self.whole(type_))))
+            add(type_, lambda type_=type_: (misc(), self.whole(type_)))
+            add(type_, lambda type_=type_: (0, b""))
+        for bits in [0, 0x2000, 0x4000, 0x6000, 0xDFFF, 0xFFFF, 0x1000, 0x2001]:
+            add(15, lambda bits=bits: (bits, self.whole(15) + draw.bytes(draw.below(2) * draw.below(9))))
+        add(15, lambda: (0x2000, self.whole(15)[:-1]))
+        add(15, lambda: (0x2000, b""))
+
+        # Names of all forms, and what stands in front of them cut short.
+        for type_ in [1, 3, 17, 19]:
+            for at in range(len(self.names())):
+                add(type_, lambda type_=type_, at=at: (misc(), self.some(self.BEFORE_NAME[type_]) + self.names()[at]))
+            add(type_, lambda type_=type_: (misc(), self.some(self.BEFORE_NAME[type_])[:-1]))
+            add(type_, lambda type_=type_: (misc(), self.some(self.BEFORE_NAME[type_])[: draw.below(8)]))
+
+        # MMAP2 in both forms of its detail.
+        def mapped(bits, detail, name):
+            return bits, self.some("IIQQQ") + detail + self.some("II") + name
+
+        for at in range(len(self.names())):
+            add(10, lambda at=at: mapped(draw.one_of([0, 2, 0x2000, 0xBFFF]), self.some("IIQQ"), self.names()[at]))
+        for length in [0, 1, 19, 20, 21, 255]:
+            detail = lambda length=length: bytes([length]) + draw.bytes(23)
+            bits = lambda: draw.one_of([0x4000, 0x4002, 0xFFFF])
+            add(10, lambda detail=detail, bits=bits: mapped(bits(), detail(), draw.one_of(self.names())))
+            add(10, lambda detail=detail: (0x4000, self.some("IIQQQ") + detail()))
+            add(10, lambda detail=detail: (0x4000, self.some("IIQQQ") + detail()[: 3 + draw.below(21)]))
+        add(10, lambda: (0, self.some("IIQQQ") + self.some("IIQQ")[: draw.below(24)]))
+        add(10, lambda: (0, self.some("IIQQQ")[: draw.below(32)]))
+        add(10, lambda: (0, mapped(0, self.some("IIQQ"), b"")[1][:-1]))
+        add(10, lambda: (0x4000, mapped(0, bytes([20]) + draw.bytes(23), b"")[1][: -1 - draw.below(8)]))
+
+        # NAMESPACES: counts that fit, that leave bytes over, and that no body can hold.
+        def spaces(count, entries, cut=0, over=0):
+            body = self.some("II") + self.pack("Q", count) + self.some("QQ" * entries)
+            return misc(), body[: len(body) - cut] + draw.bytes(over)
+
+        for count in [0, 1, 2, 7]:
+            add(16, lambda count=count: spaces(count, count))
+            add(16, lambda count=count: spaces(count, count, over=1 + draw.below(20)))
+            add(16, lambda count=count: spaces(count, count, cut=1 + draw.below(8)))
+            add(16, lambda count=count: spaces(count + 1, count))
+        for count in [2**16, 2**31, 2**32, 2**32 + 1, 2**59, 2**60, 2**60 + 1, 2**61, 2**63, 2**64 - 1]:
+            add(16, lambda count=count: spaces(count, draw.below(3), over=draw.below(2) * draw.below(16)))
+        add(16, lambda: (0, self.some("IIQ")[: 8 + draw.below(8)]))
+        add(16, lambda: (0, self.some("II")[: draw.below(8)]))
+
+        # TEXT_POKE: lengths that need padding or none, that the run lacks, and that no frame can hold.
+        def poked(old, new, change):
+            length = old + new
+            while length % 8 != 4:
+                length += 1
+            run = draw.bytes(min(length, 40) + change) if length < 100 else draw.bytes(draw.below(24))
+            return misc(), self.some("Q") + self.pack("HH", old, new) + run
+
+        for old in [0, 1, 4, 5, 0xFFFF]:
+            for new in [0, 1, 4, 5, 0xFFFF]:
+                add(20, lambda old=old, new=new: poked(old, new, 0))
+        for old, new in [(0, 0), (3, 1), (2, 3), (0, 4), (12, 0), (6, 7)]:
+            add(20, lambda old=old, new=new: poked(old, new, -1))
+            add(20, lambda old=old, new=new: poked(old, new, 1 + draw.below(12)))
+        add(20, lambda: (0, self.some("QHH")[: draw.below(12)]))
+        add(20, lambda: (0, self.some("Q") + self.pack("HH", 0, 0)))
+
+        # Types without a name.
+        for type_ in NAMELESS:
+            add(type_, lambda type_=type_: (misc(), b""))
+            add(type_, lambda type_=type_: (misc(), draw.bytes(1 + draw.below(24))))
+            add(type_, lambda type_=type_: (misc(), draw.bytes(8) + bytes(draw.below(9))))
+
+        # READ and SAMPLE, for the later list: eight bytes for each number that the format can ask for.
+        for count in range(7):
+            add(8, lambda count=count: (misc(), self.some("II" + "Q" * count)))
+            add(9, lambda count=count: (misc(), self.some("Q" * 2 * count)))
+        return found
+
+
+class Frames:
+    """Frames under one configuration."""
+
+    def __init__(self, order, draw, config):
+        self.bodies, self.draw, self.config = Bodies(order, draw), draw, config
+
+    def frame(self, type_, misc, behind, size=None):
+        size = 8 + len(behind) if size is None else size
+        return self.bodies.pack("IHH", type_, misc, size) + behind
+
+    def with_id(self, type_, misc, body):
+        return self.frame(type_, misc, body + self.draw.bytes(id_length(self.config)))
+
+    def size_below_eight(self, type_):
+        return self.frame(type_, 0, b"", self.draw.one_of([0, 7, 7, self.draw.below(8)]))
+
+    def without_room(self, type_):
+        """A frame with too few bytes for the sample id."""
+        length = self.draw.one_of([0, id_length(self.config) - 1, self.draw.below(8)])
+        return self.frame(type_, 0, self.draw.bytes(length))
+
+
+def attribute(order, draw, size, config, tail=0):
+    """An attribute of the size: what the configuration asks for, and numbers without meaning for it elsewhere."""
+    mark = "<" if order == "little" else ">"
+    flags = draw.number(63) & ~(1 << 18) | (1 << 18 if config.all_ids else 0)
+    head = struct.pack(mark + "IIQQQQQIIQ", draw.below(6), size, draw.number(64), draw.number(64), config.sample_type,
+                       config.read_format, flags, draw.number(32), draw.number(32), draw.number(64))
+    rest = draw.bytes(max(0, min(size, 136) - 64))
+    return (head + rest + bytes(max(0, size - 137)) + bytes([tail] if size > 136 else []))[: max(size, 8)]
+
+
+# The configurations, by name.
+CONFIGS = [
+    ("nothing", Config(0, False, 0)),
+    ("flags_without_ids", Config(ALL_SIX, False, 0x0C)),
+    ("ids_of_no_bytes", Config(0, True, 0)),
+    ("other_flags_alone", Config(NOT_OF_AN_ID, True, 4)),
+    ("tid", Config(TID, True, 0)),
+    ("time", Config(TIME, True, 0)),
+    ("id", Config(ID, True, 0)),
+    ("stream_id", Config(STREAM_ID, True, 1)),
+    ("cpu", Config(CPU, True, 0)),
+    ("identifier", Config(IDENTIFIER, True, 0)),
+    ("tid_and_time", Config(TID | TIME, True, 0x1F)),
+    ("id_beside_identifier", Config(ID | IDENTIFIER, True, 0)),
+    ("time_and_cpu", Config(TIME | CPU, True, 0)),
+    ("all_but_identifier", Config(ALL_SIX & ~IDENTIFIER, True, 0x08)),
+    ("all_six", Config(ALL_SIX, True, 0)),
+    ("all_six_among_others", Config(ALL_SIX | NOT_OF_AN_ID, True, 0x17)),
+    ("bits_above", Config(TID | 1 << 24 | 1 << 39 | 1 << 40 | 1 << 63, True, 0x41)),
+]
+
+# The types that have no name, and those that the program could read before it read attributes.
+NAMELESS = [0, 22, 63, 64, 68, 2**32 - 1]
+FIRST = [2, 4, 7, 13] + NAMELESS
+
+Case = collections.namedtuple("Case", "name order limit config attr stream")
+
+
+class Turns:
+    """Shapes in turn, so that each comes up under many configurations."""
+
+    def __init__(self, at):
+        self.at = at
+
+    def take(self, shapes, types):
+        # The step has no divisor with the number of shapes, so all come before one comes again.
+        assert math.gcd(41, len(shapes)) == 1
+        while True:
+            shape = shapes[self.at * 41 % len(shapes)]
+            self.at += 1
+            if shape[0] in types:
+                return shape
+
+
+def ending(draw, frames, which):
+    """What stands behind the last whole frame: nothing, one to seven bytes, or an unfinished frame."""
+    if which == 0:
+        return b""
+    if which == 1:
+        return draw.bytes(1 + draw.below(7))
+    return frames.frame(draw.one_of([2, 4, 13, 22]), 0, draw.bytes(draw.below(24)), 40 + draw.below(60))
+
+
+def filled(case_name, order, config, types, turns, count, which, everything):
+    draw = Draw(sum(case_name.encode()) * 2**20 + len(case_name) * 2**10 + (order == "big"))
+    frames, stream = Frames(order, draw, config), b""
+    shapes = frames.bodies.shapes()
+    known = [type_ for type_ in types if everything or agreed(config, type_)]
+    for at in range(count):
+        if at % 9 == 4:
+            stream += frames.size_below_eight(draw.one_of(known))
+        elif at % 9 == 7 and id_length(config):
+            stream += frames.without_room(draw.one_of(known))
+        else:
+            type_, make = turns.take(shapes, known)
+            misc, body = make()
+            stream += frames.with_id(type_, misc, body)
+    return draw, stream + ending(draw, frames, which)
+
+
+def cases(everything=False):
+    found = []
+    for order in ["little", "big"]:
+        turns = Turns(0 if order == "little" else 7)
+        for at, (name, limit) in enumerate([("done", LIMIT), ("cut", LIMIT), ("unfinished", LIMIT), ("limit", 12)]):
+            _, stream = filled("first_" + name, order, PLAIN, FIRST, turns, 24, at % 3, everything)
+            found.append(Case("first_%s_%s" % (name, order), order, limit, PLAIN, False, stream))
+        turns = Turns(0 if order == "little" else 100)
+        for at, (name, config) in enumerate(CONFIGS):
+            for again in [0, 1] if at < 4 else [0]:
+                size = SIZES[(2 * at + again + (order == "big")) % len(SIZES)]
+                types, which = list(range(1, 22)) + NAMELESS, (at + again) % 3
+                draw, stream = filled(name + "_" * again, order, config, types, turns, 28, which, everything)
+                full = "%s%s_%s" % (name, "_again" * again, order)
+                found.append(Case(full, order, LIMIT, config, True, attribute(order, draw, size, config) + stream))
+    return found
+
+
+def attributes():
+    """Attributes that are refused, and some at the edge that aren't, each with one frame behind it."""
+    found = []
+    for order in ["little", "big"]:
+        draw = Draw(7 if order == "little" else 11)
+        frame = Frames(order, draw, PLAIN).frame(13, 0, b"\5" * 8)
+        for size in SIZES + [0, 7, 8, 63, 65, 100, 132, 135]:
+            whole = attribute(order, draw, size, PLAIN)
+            found.append(Case("size_%d_%s" % (size, order), order, LIMIT, PLAIN, True, whole + frame))
+        cuts = [(64, 0), (64, 3), (64, 7), (64, 8), (64, 63), (72, 71), (136, 64), (137, 136), (2**32 - 1, 200)]
+        for size, left in cuts:
+            whole = attribute(order, draw, min(size, 300), PLAIN)
+            whole = whole[:4] + struct.pack("<I" if order == "little" else ">I", size) + whole[8:]
+            found.append(Case("size_%d_cut_to_%d_%s" % (size, left, order), order, LIMIT, PLAIN, True, whole[:left]))
+        for size in [137, 144]:
+            whole = attribute(order, draw, size, PLAIN, tail=1)
+            found.append(Case("tail_of_%d_%s" % (size, order), order, LIMIT, PLAIN, True, whole + frame))
+    return found
+
+
+def words_of(case):
+    return [case.order, str(case.limit)] + ["attr"] * case.attr
+
+
+def said(program, case):
+    ran = subprocess.run(program + words_of(case), input=case.stream, stdout=subprocess.PIPE)
+    return ran.stdout.decode("ascii"), ran.returncode
+
+
+def compare(program):
+    """Prints each line on which the program and the page differ, also where the list leaves the frame out."""
+    differ = collections.Counter()
+    for case in cases(everything=True) + attributes():
+        by_program, by_page = said(program, case), page.text(case.stream, *words_of(case))
+        if by_program == by_page:
+            continue
+        for one, other in zip(by_program[0].splitlines(), by_page[0].splitlines()):
+            if one != other:
+                type_ = one.split()[1]
+                group = type_ if int(type_) < 64 else "64 or more"
+                why = "type %s under ids of %d bytes" % (group, id_length(case.config))
+                if one.split()[1:4] != other.split()[1:4] or agreed(case.config, int(type_)):
+                    why = "NOT EXPECTED"
+                differ[why] += 1
+                print("%s: %s\n    the program  %s\n    the page     %s" % (case.name, why, one, other))
+        if len(by_program[0].splitlines()) != len(by_page[0].splitlines()) or by_program[1] != by_page[1]:
+            print("%s: NOT EXPECTED: another number of lines or another status" % case.name)
+    for why, count in sorted(differ.items()):
+        print("%5d  %s" % (count, why))
+
+
+def source(folder, name, about, blocks):
+    """A module with the list: for the prover's sake a text for each case, and a function that keeps them to itself."""
+    lines = ["//! %s Made by tools/answers/make.py; not to be edited." % about, ""]
+    for case_name, block in blocks:
+        lines += ['const %s: &str = r"' % case_name.upper(), block + '";', ""]
+    lines += ["/// The cases, one behind another.", "pub fn cases() -> [&'static str; %d] {" % len(blocks), "    ["]
+    lines += ["        %s," % case_name.upper() for case_name, _ in blocks] + ["    ]", "}"]
+    with open(os.path.join(folder, name), "w") as it:
+        it.write("\n".join(lines) + "\n")
+
+
+def block_of(case, text, status, alone):
+    """A case's text. A line is marked by ~ where the original alone, that is nothing hidden, says something else."""
+    lines = ["case %s %s" % (case.name, " ".join(words_of(case)))]
+    digits = case.stream.hex()
+    lines += [digits[at : at + 112] for at in range(0, len(digits), 112)]
+    told = alone.splitlines()
+    lines += [("> " if line in told else "~ ") + line for line in text.splitlines()]
+    return "\n".join(lines + ["= %d" % status, ""])
+
+
+class Tally:
+    """How many frames of each type have each answer, and how many runs each last line."""
+
+    def __init__(self):
+        self.frames, self.ends = collections.Counter(), collections.Counter()
+
+    def add(self, text):
+        for line in text.splitlines():
+            words = line.split()
+            if words[0].isdigit():
+                self.frames[int(words[1]), words[5] if words[4] == "refused" else words[4]] += 1
+            else:
+                self.ends[line] += 1
+
+    def __str__(self):
+        refusals = ["Eof", "InvalidRecord"]
+        rows = ["| Type | Accepted | `Eof` | `InvalidRecord` |", "|---|---|---|---|"]
+        for type_ in sorted({type_ for type_, _ in self.frames}):
+            name = {kind for at, kind in self.frames if at == type_} - set(refusals)
+            cells = [type_, *sorted(name)], *([self.frames[type_, kind]] for kind in sorted(name) + refusals)
+            rows.append("".join("| %s " % " ".join(map(str, cell)) for cell in cells) + "|")
+        rows += ["", ", ".join("%s %d" % pair for pair in sorted(self.ends.items()))]
+        return "\n".join(rows + ["%d frames" % sum(self.frames.values())])
+
+
+def main(words):
+    if words and words[0] == "--page":
+        return compare(words[1:])
+    listed, tally, first, later, marked = cases() + attributes(), Tally(), [], [], 0
+    for case in listed:
+        text, status = page.text(case.stream, *words_of(case))
+        if words != ["--streams"]:
+            by_program = said(words, case)
+            if by_program != (text, status):
+                sys.exit("%s: the program and docs/FORMATS.md differ; --page shows where" % case.name)
+            text, status = by_program
+        alone = said(words[:1], case)[0] if words != ["--streams"] else text
+        tally.add(text)
+        block = block_of(case, text, status, alone)
+        marked += block.count("\n~ ")
+        (later if case.attr else first).append((case.name, block))
+    if words != ["--streams"]:
+        about = "Answers for streams without an attribute, of the types that were read first."
+        source(SOURCES, "answers_first.rt", about, first)
+        source(SOURCES, "answers.rt", "Answers for streams that begin with an attribute.", later)
+    print("%s, %d cases; at %d lines the original alone says something else" % (tally, len(listed), marked))
+
+
+if __name__ == "__main__":
+    if len(sys.argv) < 2:
+        sys.exit(__doc__)
+    main(sys.argv[1:])
