@@ -1,7 +1,7 @@
 -- The lines that the program prints, without the line feeds behind them.
 use Rattle.std.specs.Prelude.{ℕ, false, List, [], ◌∷◌, ◌++◌, ◌/◌, ◌%◌, ◌==◌, if◌then◌else◌, Option, Some, None, codes, decimal, bit_and}
 use Rattle.std.specs.Fmt.{digits}
-use Rattle.std.specs.List.{flat_map, join_by}
+use Rattle.std.specs.List.{flat_map, join_by, join_with_byte}
 use Rattle.std.specs.Str.Lossy.{utf8_lossy}
 use Rattle.perf_types.specs.declared.exit.Exit.{Exit}
 use Rattle.perf_types.specs.declared.namespaces.NamespaceEntry.{NamespaceEntry}
@@ -14,9 +14,9 @@ use Rattle.perf_records.specs.Records.{RecordValue, comm_is, mmap_is, mmap2_is, 
 
 -- ---- words
 
--- words with a space between each two
+-- words with a space, 32, between each two
 abbrev pub spaced : List (List ℕ) → List ℕ
-spaced = join_by (λ word. word) (codes " ")
+spaced words = join_with_byte 32 words
 
 -- a number in hexadecimal
 abbrev pub hex : ℕ → List ℕ
@@ -42,32 +42,42 @@ protection prot flags =
 abbrev pub hex_byte : ℕ → List ℕ
 hex_byte byte = digits 16 false (byte / 16) ++ digits 16 false (byte % 16)
 
--- which file was mapped: its device, inode and generation, or the digits of its build id
+-- a file by its device, its inode and its generation
+abbrev pub inode : (maj min ino generation : ℕ) → List ℕ
+inode maj min ino generation = spaced ((hex maj ++ (codes ":" ++ hex min)) ∷ decimal ino ∷ decimal generation ∷ [])
+
+-- which file was mapped: its inode, or the digits of its build id
 abbrev pub file : DetailValue → List ℕ
-file (inode_is maj min ino ino_generation) = spaced ((hex maj ++ (codes ":" ++ hex min)) ∷ decimal ino ∷ decimal ino_generation ∷ [])
+file (inode_is maj min ino generation) = inode maj min ino generation
 file (build_id_is id) = flat_map hex_byte id
-
--- ---- lines
-
-abbrev pub comm_line : CommValue → List ℕ
-comm_line r = spaced (codes "comm" ∷ decimal r.pid ∷ decimal r.tid ∷ utf8_lossy r.comm ∷ [])
-
-abbrev pub mmap_line : MmapValue → List ℕ
-mmap_line r = spaced (codes "mmap" ∷ decimal r.pid ∷ decimal r.tid ∷ place r.addr r.len r.pgoff ∷ utf8_lossy r.filename ∷ [])
-
-abbrev pub mmap2_line : Mmap2Value → List ℕ
-mmap2_line r = spaced (codes "mmap2" ∷ decimal r.pid ∷ decimal r.tid ∷ place r.addr r.len r.pgoff ∷ file r.detail ∷ protection r.prot r.flags ∷ utf8_lossy r.filename ∷ [])
-
--- a task that was made or that ended, and the one that made it or its parent
-abbrev pub task_line : List ℕ → Exit → List ℕ
-task_line what r = spaced (what ∷ decimal r.pid ∷ decimal r.tid ∷ decimal r.ppid ∷ decimal r.ptid ∷ [])
 
 -- a namespace: the device and the inode of its file
 abbrev pub namespace : NamespaceEntry → List ℕ
 namespace entry = decimal entry.dev ++ (codes ":" ++ hex entry.inode)
 
+-- ---- lines
+
+-- what it tells of, which task, and what it says
+abbrev pub line : (what : List ℕ) (pid tid : ℕ) (says : List ℕ) → List ℕ
+line what pid tid says = spaced (what ∷ decimal pid ∷ decimal tid ∷ says ∷ [])
+
+abbrev pub comm_line : CommValue → List ℕ
+comm_line r = line (codes "comm") r.pid r.tid (utf8_lossy r.comm)
+
+abbrev pub mmap_line : MmapValue → List ℕ
+mmap_line r = line (codes "mmap") r.pid r.tid (spaced (place r.addr r.len r.pgoff ∷ utf8_lossy r.filename ∷ []))
+
+abbrev pub mmap2_line : Mmap2Value → List ℕ
+mmap2_line r =
+    line (codes "mmap2") r.pid r.tid
+    (spaced (place r.addr r.len r.pgoff ∷ file r.detail ∷ protection r.prot r.flags ∷ utf8_lossy r.filename ∷ []))
+
+-- a task that was made or that ended, and the one that made it or its parent
+abbrev pub task_line : List ℕ → Exit → List ℕ
+task_line what r = line what r.pid r.tid (spaced (decimal r.ppid ∷ decimal r.ptid ∷ []))
+
 abbrev pub namespaces_line : NamespacesValue → List ℕ
-namespaces_line r = spaced (codes "namespaces" ∷ decimal r.pid ∷ decimal r.tid ∷ join_by namespace (codes ",") r.namespaces ∷ [])
+namespaces_line r = line (codes "namespaces") r.pid r.tid (join_by namespace (codes ",") r.namespaces)
 
 -- the line of a record that tells of a task
 abbrev pub line_of : RecordValue → Option (List ℕ)

@@ -1,14 +1,14 @@
 //! The line of a record.
 
 ghost use Rattle.std.specs.Prelude.{◌≡◌, ◌++◌, option_map, string_bytes, Some, IfOk, OnOk, codes};
-ghost use Rattle.std.specs.List.{flat_map};
+ghost use Rattle.std.specs.List.{flat_map, join_by};
 ghost use Rattle.std.specs.Str.Lossy.{utf8_lossy};
 ghost use Rattle.perf_types.specs.Comm.{comm_value};
 ghost use Rattle.perf_types.specs.Mmap.{mmap_value};
 ghost use Rattle.perf_types.specs.Mmap2.{mmap2_value};
 ghost use Rattle.perf_types.specs.Namespaces.{namespaces_value};
 ghost use Rattle.perf_records.specs.Records.{record_value};
-ghost use Rattle.perf_tasks.specs.Lines.{hex, letter, place, protection, hex_byte, file, namespace, comm_line, mmap_line, mmap2_line, task_line, namespaces_line, line_of};
+ghost use Rattle.perf_tasks.specs.Lines.{hex, letter, place, protection, hex_byte, inode, file, namespace, line, comm_line, mmap_line, mmap2_line, task_line, namespaces_line, line_of};
 
 use perf_event_data::{Comm, Exit, Mmap, Mmap2, NamespaceEntry, Namespaces, Record};
 use std::alloc::{AllocError, Global};
@@ -56,28 +56,58 @@ pub fn line_of(alloc: Global, record: &Record) -> Result<Option<String>, AllocEr
 }
 
 fn comm_line(alloc: Global, comm: &Comm) -> Result<String, AllocError>
-    ensures { IfOk result (λ line. string_bytes line ≡ comm_line (comm_value comm.now)) }
+    ensures { IfOk result (λ text. string_bytes text ≡ comm_line (comm_value comm.now)) }
 {
     let name = name(alloc, comm.comm.as_slice())?;
-    format!(in alloc; "comm {} {} {name}", comm.pid, comm.tid)
+    line(alloc, "comm", comm.pid, comm.tid, name.as_str())
 }
 
 fn mmap_line(alloc: Global, map: &Mmap) -> Result<String, AllocError>
-    ensures { IfOk result (λ line. string_bytes line ≡ mmap_line (mmap_value map.now)) }
+    ensures { IfOk result (λ text. string_bytes text ≡ mmap_line (mmap_value map.now)) }
 {
     let place = place(alloc, map.addr, map.len, map.pgoff)?;
     let name = name(alloc, map.filename.as_slice())?;
-    format!(in alloc; "mmap {} {} {place} {name}", map.pid, map.tid)
+    let says = format!(in alloc; "{place} {name}")?;
+    line(alloc, "mmap", map.pid, map.tid, says.as_str())
 }
 
 fn mmap2_line(alloc: Global, map: &Mmap2) -> Result<String, AllocError>
-    ensures { IfOk result (λ line. string_bytes line ≡ mmap2_line (mmap2_value map.now)) }
+    ensures { IfOk result (λ text. string_bytes text ≡ mmap2_line (mmap2_value map.now)) }
 {
     let place = place(alloc, map.addr, map.len, map.pgoff)?;
     let file = file(alloc, map)?;
     let protection = protection(alloc, map.prot, map.flags)?;
     let name = name(alloc, map.filename.as_slice())?;
-    format!(in alloc; "mmap2 {} {} {place} {file} {protection} {name}", map.pid, map.tid)
+    let says = format!(in alloc; "{place} {file} {protection} {name}")?;
+    line(alloc, "mmap2", map.pid, map.tid, says.as_str())
+}
+
+// A task that was made or that ended, and the one that made it or its parent.
+fn task_line(alloc: Global, what: &str, task: &Exit) -> Result<String, AllocError>
+    ensures { IfOk result (λ text. string_bytes text ≡ task_line what.now task.now) }
+{
+    let says = format!(in alloc; "{} {}", task.ppid, task.ptid)?;
+    line(alloc, what, task.pid, task.tid, says.as_str())
+}
+
+fn namespaces_line(alloc: Global, namespaces: &Namespaces) -> Result<String, AllocError>
+    ensures { IfOk result (λ text. string_bytes text ≡ namespaces_line (namespaces_value namespaces.now)) }
+{
+    let says = listed(alloc, namespaces.namespaces.as_slice())?;
+    line(
+        alloc,
+        "namespaces",
+        namespaces.pid,
+        namespaces.tid,
+        says.as_str(),
+    )
+}
+
+// What a line tells of, which task, and what it says.
+fn line(alloc: Global, what: &str, pid: u32, tid: u32, says: &str) -> Result<String, AllocError>
+    ensures { IfOk result (λ text. string_bytes text ≡ line what.now pid tid says.now) }
+{
+    format!(in alloc; "{what} {pid} {tid} {says}")
 }
 
 // A name as text, with U+FFFD for what is not UTF-8.
@@ -94,18 +124,27 @@ fn place(alloc: Global, addr: u64, len: u64, pgoff: u64) -> Result<String, Alloc
     format!(in alloc; "{} {} {}", Hex(addr), Hex(len), Hex(pgoff))
 }
 
-// Which file was mapped: its device, inode and generation, or the digits of its build id.
-#[tactic(auto, using(crate::proofs::Inode::is_inode))]
+// Which file was mapped: its inode, or the digits of its build id.
 fn file(alloc: Global, map: &Mmap2) -> Result<String, AllocError>
     ensures { IfOk result (λ text. string_bytes text ≡ file (mmap2_value map.now).detail) }
 {
-    if let (Some(maj), Some(min), Some(ino), Some(generation)) =
-        (map.maj(), map.min(), map.ino(), map.ino_generation())
-    {
-        let device = format!(in alloc; "{}:{}", Hex(u64::from(maj)), Hex(u64::from(min)))?;
-        return format!(in alloc; "{device} {ino} {generation}");
+    if let (Some(maj), Some(min), Some(ino), Some(generation)) = (
+        map.maj(),
+        map.min(),
+        map.ino(),
+        map.ino_generation(),
+    ) {
+        return inode(alloc, maj, min, ino, generation);
     }
     digits(alloc, map.build_id().unwrap_or_default())
+}
+
+// A file by its device, its inode and its generation.
+fn inode(alloc: Global, maj: u32, min: u32, ino: u64, generation: u64) -> Result<String, AllocError>
+    ensures { IfOk result (λ text. string_bytes text ≡ inode maj min ino generation) }
+{
+    let device = format!(in alloc; "{}:{}", Hex(u64::from(maj)), Hex(u64::from(min)))?;
+    format!(in alloc; "{device} {ino} {generation}")
 }
 
 // Bytes in hexadecimal, two digits each.
@@ -137,38 +176,32 @@ fn letter(word: u32, bit: u32, set: &'static str, unset: &'static str) -> &'stat
     if word & bit == 0 { unset } else { set }
 }
 
-// A task that was made or that ended, and the one that made it or its parent.
-fn task_line(alloc: Global, what: &str, task: &Exit) -> Result<String, AllocError>
-    ensures { IfOk result (λ line. string_bytes line ≡ task_line what.now task.now) }
+// Namespaces with a comma between each two.
+fn listed(alloc: Global, namespaces: &[NamespaceEntry]) -> Result<String, AllocError>
+    ensures { IfOk result (λ text. string_bytes text ≡ join_by namespace (codes ",") namespaces.now) }
 {
-    format!(in alloc; "{what} {} {} {} {}", task.pid, task.tid, task.ppid, task.ptid)
-}
-
-fn namespaces_line(alloc: Global, namespaces: &Namespaces) -> Result<String, AllocError>
-    ensures { IfOk result (λ line. string_bytes line ≡ namespaces_line (namespaces_value namespaces.now)) }
-{
-    let mut line = format!(in alloc; "namespaces {} {} ", namespaces.pid, namespaces.tid)?;
-    if let Some((first, others)) = namespaces.namespaces.as_slice().split_first() {
-        push_namespace(&mut line, first)?;
-        push_others(&mut line, others)?;
+    let mut text = String::new(alloc);
+    if let Some((first, others)) = namespaces.split_first() {
+        push_namespace(&mut text, first)?;
+        push_others(&mut text, others)?;
     }
-    Ok(line)
+    Ok(text)
 }
 
 // Appends the namespaces behind the first.
-fn push_others(line: &mut String, others: &[NamespaceEntry]) -> Result<(), AllocError>
-    ensures { OnOk result (string_bytes line.new ≡ string_bytes line.old ++ flat_map (λ entry. codes "," ++ namespace entry) others.now) }
+fn push_others(text: &mut String, others: &[NamespaceEntry]) -> Result<(), AllocError>
+    ensures { OnOk result (string_bytes text.new ≡ string_bytes text.old ++ flat_map (λ entry. codes "," ++ namespace entry) others.now) }
 {
     for entry in others {
-        line.push_str(",")?;
-        push_namespace(line, entry)?;
+        text.push_str(",")?;
+        push_namespace(text, entry)?;
     }
     Ok(())
 }
 
 // Appends a namespace: the device and the inode of its file.
-fn push_namespace(line: &mut String, entry: &NamespaceEntry) -> Result<(), AllocError>
-    ensures { OnOk result (string_bytes line.new ≡ string_bytes line.old ++ namespace entry.now) }
+fn push_namespace(text: &mut String, entry: &NamespaceEntry) -> Result<(), AllocError>
+    ensures { OnOk result (string_bytes text.new ≡ string_bytes text.old ++ namespace entry.now) }
 {
-    write!(line, "{}:{}", entry.dev, Hex(entry.inode))
+    write!(text, "{}:{}", entry.dev, Hex(entry.inode))
 }
