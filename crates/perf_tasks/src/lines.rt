@@ -40,10 +40,10 @@ impl fmt::Display for Hex {
 }
 
 /// The line of a record that tells of a task, without the line feed behind it. Other records have none.
-pub fn line_of(alloc: Global, record: &Record) -> Result<Option<String>, AllocError>
-    ensures { IfOk result (λ line. option_map string_bytes line ≡ line_of (record_value «record».now)) }
+pub fn line_of(alloc: Global, found: &Record) -> Result<Option<String>, AllocError>
+    ensures { IfOk result (λ line. option_map string_bytes line ≡ line_of (record_value found.now)) }
 {
-    let line = match record {
+    let line = match found {
         Record::Comm(comm) => comm_line(alloc, comm)?,
         Record::Mmap(map) => mmap_line(alloc, map)?,
         Record::Mmap2(map) => mmap2_line(alloc, map)?,

@@ -5,7 +5,12 @@
 //! the exit status is 1, as where the attribute is refused, the input cannot be read, or it ends inside a header.
 #![tactic(auto)]
 
+ghost use Rattle.std.specs.Prelude.{◌≡◌, is_ok};
+ghost use Rattle.std.specs.List.{list_all};
+
 mod lines;
+#[cfg(test)]
+mod tests;
 
 use anyhow::{Result, bail};
 use perf_event_data::endian::Little;
@@ -35,10 +40,11 @@ fn print_records<'p, B: ParseBuf<'p>>(
     rt: &HostRuntime,
     parser: &mut Parser<B, Little>,
 ) -> Result<bool> {
-    let mut is_clean = true;
+    let mut clean = true;
     for _ in 0..u64::MAX {
         let run = read_records(parser, BATCH);
-        is_clean &= print_frames(rt, &run.frames)?;
+        print_frames(rt, &run.frames)?;
+        clean &= is_clean(&run.frames);
         match run.end {
             RunEnd::Limit => {}
             RunEnd::Done => break,
@@ -46,15 +52,14 @@ fn print_records<'p, B: ParseBuf<'p>>(
             RunEnd::Fault(error) => return Err(error.into()),
         }
     }
-    Ok(is_clean)
+    Ok(clean)
 }
 
-// Prints a line for each record that tells of a task, and why others were refused. Says whether none was.
+// Prints a line for each record that tells of a task, and why others were refused.
 fn print_frames(
     rt: &HostRuntime,
     frames: &[(perf_event_header, ParseResult<Record>)],
-) -> Result<bool> {
-    let mut is_clean = true;
+) -> Result<()> {
     for (_, answer) in frames {
         match answer {
             Ok(record) => {
@@ -62,11 +67,15 @@ fn print_frames(
                     println!(rt; "{line}")?;
                 }
             }
-            Err(error) => {
-                is_clean = false;
-                eprintln!(rt; "{error}")?;
-            }
+            Err(error) => eprintln!(rt; "{error}")?,
         }
     }
-    Ok(is_clean)
+    Ok(())
+}
+
+// Whether no record was refused.
+fn is_clean(frames: &[(perf_event_header, ParseResult<Record>)]) -> bool
+    ensures { result ≡ list_all (λ pair. is_ok pair.1) frames.now }
+{
+    frames.iter().all(|frame| frame.1.is_ok())
 }
