@@ -144,7 +144,7 @@ fn run_over<'p>(alloc: Global, bytes: &'p [u8]) -> Run<'p> {
 #[test]
 fn the_misc_says_which_of_both_names_a_file(rt: HostRuntime) {
     let run = run_over(rt.alloc(), BY_BUILD_ID);
-    let (_, Ok(Record::Mmap2(map))) = &run.frames[0] else {
+    let Some((_, Ok(Record::Mmap2(map)))) = run.frames.first() else {
         panic!(rt; "not MMAP2");
     };
     assert!(rt; map.build_id().is_some_and(|id| id.len() == 20));
@@ -152,7 +152,7 @@ fn the_misc_says_which_of_both_names_a_file(rt: HostRuntime) {
     assert_eq!(rt; (map.ino(), map.ino_generation()), (None, None));
     assert!(rt; matches!(map.filename, CowSlice::Borrowed(b"ab")));
     let run = run_over(rt.alloc(), BY_INODE);
-    let (_, Ok(Record::Mmap2(map))) = &run.frames[0] else {
+    let Some((_, Ok(Record::Mmap2(map)))) = run.frames.first() else {
         panic!(rt; "not MMAP2");
     };
     assert!(rt; map.build_id().is_none());

@@ -30,18 +30,14 @@ fn the_old_bytes_stand_before_the_new(rt: HostRuntime) -> Result<(), Fail> {
 
 #[test]
 fn the_bytes_behind_the_lengths_end_at_eight(rt: HostRuntime) -> Result<(), Fail> {
-    let next = b"\x0D\0\0\0\0\0\x10\0\x05\0\0\0\0\0\0\0";
-    for (frame, want) in [
-        (LONGER, "20 0 31 Eof; 13 0 16 LostSamples 5; done"),
-        (BOTH, "20 0 23 Eof; 13 0 16 LostSamples 5; done"),
-    ] {
-        let mut bytes = frame.to_vec(rt.alloc())?;
-        bytes[6] -= 1;
-        bytes.truncate(frame.len() - 1);
-        bytes.extend_from_slice(next)?;
-        check_everywhere(&rt, rt.alloc(), bytes.as_slice(), Little, &[10], want)?;
-    }
-    Ok(())
+    let longer = b"\x14\0\0\0\0\0\x1F\0\x10\0\0\0\0\0\0\0\
+        \x03\0\x02\0\xA1\xA2\xA3\xB1\xB2\0\0\0\0\0\0\x0D\0\0\0\0\0\x10\0\x05\0\0\0\0\0\0\0";
+    let want = "20 0 31 Eof; 13 0 16 LostSamples 5; done";
+    check_everywhere(&rt, rt.alloc(), longer, Little, &[10], want)?;
+    let both = b"\x14\0\0\0\0\0\x17\0\x10\0\0\0\0\0\0\0\x01\0\x01\0\xAA\xBB\0\
+        \x0D\0\0\0\0\0\x10\0\x05\0\0\0\0\0\0\0";
+    let want = "20 0 23 Eof; 13 0 16 LostSamples 5; done";
+    check_everywhere(&rt, rt.alloc(), both, Little, &[10], want)
 }
 
 #[test]
@@ -68,7 +64,7 @@ fn changed_bytes_are_borrowed_over_a_slice(rt: HostRuntime) {
     for bytes in [NEW_ALONE, BOTH, LONGER] {
         let mut parser = Parser::new(rt.alloc(), bytes, ParseConfig::<Little>::default());
         let run = read_records(&mut parser, 10);
-        let (_, Ok(Record::TextPoke(poke))) = &run.frames[0] else {
+        let Some((_, Ok(Record::TextPoke(poke)))) = run.frames.first() else {
             panic!(rt; "not TEXT_POKE");
         };
         assert!(rt; matches!(poke.old_bytes, CowSlice::Borrowed(_)));
