@@ -273,3 +273,15 @@ fn an_array_is_its_bytes_as_they_stand(rt: HostRuntime) -> Result<(), Fail> {
     check_through::<Arrays>(&rt, rt.alloc(), b"\x04\x03\x02\x01")?;
     check_through::<ShortArray>(&rt, rt.alloc(), b"\x04\x03\x02")
 }
+
+#[test]
+fn a_second_parser_of_a_slice_reads_on_alone(rt: HostRuntime) -> Result<(), Fail> {
+    let bytes: &[u8] = &[1, 2, 3];
+    let mut parser = Parser::new(rt.alloc(), bytes, ParseConfig::<Little>::default());
+    assert_eq!(rt; parser.parse_u8()?, 1);
+    let mut second = parser.clone()?;
+    assert_eq!(rt; second.parse_u16()?, 0x0302);
+    assert_eq!(rt; parser.parse_u8()?, 2);
+    assert!(rt; second.parse_rest()?.is_empty());
+    Ok(())
+}
