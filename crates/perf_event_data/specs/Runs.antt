@@ -33,7 +33,7 @@ abbrev pub refused_count : List (perf_event_header × Result Record ParseError) 
 refused_count [] = 0
 refused_count (pair ∷ pairs) = elim (pair.1) [ Ok r ↦ refused_count pairs | Err e ↦ 1 + refused_count pairs ]
 
--- no byte of a record was copied
+-- no byte string of a record was copied
 abbrev pub is_borrowed_answer : Result Record ParseError → Type 0
 is_borrowed_answer (Ok r) = IsBorrowed r
 is_borrowed_answer (Err e) = Unit {0}

@@ -1,11 +1,13 @@
 //! A buffer and how to read it.
 
-ghost use Rattle.std.specs.Prelude.{◌≡◌};
-ghost use Rattle.perf_base.specs.Configured.{endian_of};
+ghost use Rattle.std.specs.Prelude.{◌≡◌, IfOk, IfErr, IsTrue};
+ghost use Rattle.perf_base.specs.Configured.{configuration_of, endian_of};
+ghost use Rattle.perf_base.specs.Errors.{kind_of};
 ghost use Rattle.perf_event_data.specs.Meaning.{buffer_of, config_of, reads_of};
 
 use perf_base::config::ParseConfig;
 use perf_base::endian::Endian;
+use perf_base::error::{ErrorKind, ParseResult};
 use perf_base::reads::Reads;
 use perf_buffers::parsebuf::ParseBuf;
 use std::alloc::Global;
@@ -66,6 +68,23 @@ impl<'p, B: ParseBuf<'p>, E: Endian> Parser<B, E> {
             config,
             reads: self.reads,
             alloc: self.alloc,
+        }
+    }
+}
+
+impl<'p, E: Endian> Parser<&'p [u8], E> {
+    /// A second parser of the same bytes, under the same configuration. It has made no reads yet. It is refused where the
+    /// order's `duplicate` is.
+    pub fn clone(&self) -> ParseResult<Parser<&'p [u8], E>>
+        ensures buf { IfOk result (λ p. buffer_of p ≡ buffer_of self.now) }
+        ensures same { IfOk result (λ p. configuration_of (config_of p) ≡ configuration_of (config_of self.now)) }
+        ensures order { IfOk result (λ p. E.order (endian_of (config_of p)) ≡ E.order (endian_of (config_of self.now))) }
+        ensures reads { IfOk result (λ p. reads_of p ≡ 0) }
+        ensures refused { IfErr result (λ e. (kind_of e ≡ ErrorKind.OutOfMemory) × IsTrue (E.may_refuse (endian_of (config_of self.now)))) }
+    {
+        match self.config.duplicate() {
+            Ok(config) => Ok(Parser::new(self.alloc, self.buf, config)),
+            Err(error) => Err(error),
         }
     }
 }

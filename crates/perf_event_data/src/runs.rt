@@ -169,7 +169,7 @@ pub fn read_records<'p, B: ParseBuf<'p>, E: Endian>(
         ((reads_of parser.new) + length (B.source (buffer_of parser.new)).left
         ≤ (reads_of parser.old) + length (B.source (buffer_of parser.old)).left + refused_count result.frames.items + 1) }
 
-    // Over a slice no byte is copied.
+    // Over a slice no byte string is copied.
     ensures borrowed { IsTrue (B.source (buffer_of parser.old)).whole → AllBorrowed result.frames.items }
 {
     let mut frames = Vec::new(parser.alloc);

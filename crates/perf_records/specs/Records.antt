@@ -78,7 +78,7 @@ record_value (record_of.TextPoke r) = text_poke_is (text_poke_value r)
 record_value (record_of.AuxOutputHwId r) = aux_output_hw_id_is r
 record_value (record_of.Unknown ty bytes) = unknown_is ty (cow_items bytes)
 
--- no byte of it was copied
+-- no byte string of it was copied
 abbrev pub IsBorrowed : Record → Type 0
 IsBorrowed (record_of.Mmap r) = IsBorrowedMmap r
 IsBorrowed (record_of.Lost r) = Unit {0}

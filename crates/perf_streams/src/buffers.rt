@@ -1,27 +1,112 @@
 //! One stream through every buffer, told as text.
 
+use bitflags::Flags;
 use perf_event_data::endian::{Endian, Little, Native};
 use perf_event_data::parse::{ParseBuf, ParseConfig, Parser};
-use perf_event_data::{PieceBuf, Record, Run, RunEnd, read_records};
+use perf_event_data::{Mmap2, PieceBuf, Record, Run, RunEnd, SwitchCpuWide, read_records};
 use std::alloc::{AllocError, Global};
 use std::io::BufReader;
 use std::process::Abort;
 use std::test::Fail;
 
+// A name as text, in the tests always UTF-8.
+fn name_of(bytes: &[u8]) -> &str {
+    match std::str::from_utf8(bytes) {
+        Ok(name) => name,
+        Err(_) => "(not UTF-8)",
+    }
+}
+
+fn tell_mmap2(text: &mut String, r: &Mmap2<'_>) -> Result<(), AllocError> {
+    write!(
+        text,
+        "Mmap2 {} {} {} {} {} ",
+        r.pid, r.tid, r.addr, r.len, r.pgoff
+    )?;
+    match r.build_id() {
+        Some(id) => write!(text, "{id:?} ")?,
+        None => {}
+    }
+    for number in [r.maj(), r.min()] {
+        if let Some(number) = number {
+            write!(text, "{number} ")?;
+        }
+    }
+    for number in [r.ino(), r.ino_generation()] {
+        if let Some(number) = number {
+            write!(text, "{number} ")?;
+        }
+    }
+    let filename = name_of(r.filename.as_slice());
+    write!(text, "{} {} {filename}", r.prot, r.flags)
+}
+
 fn tell_record(text: &mut String, record: &Record<'_>) -> Result<(), AllocError> {
     match record {
+        Record::Mmap(r) => {
+            let filename = name_of(r.filename.as_slice());
+            write!(
+                text,
+                "Mmap {} {} {} {} {} {filename}",
+                r.pid, r.tid, r.addr, r.len, r.pgoff
+            )
+        }
         Record::Lost(r) => write!(text, "Lost {} {}", r.id, r.lost),
+        Record::Comm(r) => {
+            let comm = name_of(r.comm.as_slice());
+            write!(text, "Comm {} {} {comm}", r.pid, r.tid)
+        }
         Record::Exit(r) => write!(
             text,
             "Exit {} {} {} {} {}",
             r.pid, r.ppid, r.tid, r.ptid, r.time
         ),
+        Record::Throttle(r) => write!(text, "Throttle {} {} {}", r.time, r.id, r.stream_id),
+        Record::Unthrottle(r) => write!(text, "Unthrottle {} {} {}", r.time, r.id, r.stream_id),
         Record::Fork(r) => write!(
             text,
             "Fork {} {} {} {} {}",
             r.pid, r.ppid, r.tid, r.ptid, r.time
         ),
+        Record::Mmap2(r) => tell_mmap2(text, r),
+        Record::Aux(r) => {
+            let flags = r.flags.bits();
+            write!(text, "Aux {} {} {flags}", r.aux_offset, r.aux_size)
+        }
+        Record::ITraceStart(r) => write!(text, "ITraceStart {} {}", r.pid, r.tid),
         Record::LostSamples(r) => write!(text, "LostSamples {}", r.lost),
+        Record::Switch => text.push_str("Switch"),
+        Record::SwitchCpuWide(r) => match r {
+            SwitchCpuWide::In { pid, tid } => write!(text, "In {pid} {tid}"),
+            SwitchCpuWide::Out { pid, tid } => write!(text, "Out {pid} {tid}"),
+        },
+        Record::Namespaces(r) => {
+            write!(text, "Namespaces {} {}", r.pid, r.tid)?;
+            for entry in r.namespaces.as_slice().iter() {
+                write!(text, " {}:{}", entry.dev, entry.inode)?;
+            }
+            Ok(())
+        }
+        Record::KSymbol(r) => {
+            let ty = r.ksym_type.get();
+            let flags = r.flags.bits();
+            let name = name_of(r.name.as_slice());
+            write!(text, "KSymbol {} {} {ty} {flags} {name}", r.addr, r.len)
+        }
+        Record::BpfEvent(r) => {
+            let ty = r.ty.get();
+            write!(text, "BpfEvent {ty} {} {} {:?}", r.flags, r.id, r.tag)
+        }
+        Record::CGroup(r) => {
+            let path = name_of(r.path.as_slice());
+            write!(text, "CGroup {} {path}", r.id)
+        }
+        Record::TextPoke(r) => {
+            let old_bytes = r.old_bytes.as_slice();
+            let new_bytes = r.new_bytes.as_slice();
+            write!(text, "TextPoke {} {old_bytes:?} {new_bytes:?}", r.addr)
+        }
+        Record::AuxOutputHwId(r) => write!(text, "AuxOutputHwId {}", r.hw_id),
         Record::Unknown { ty, bytes } => {
             let bytes = bytes.as_slice();
             write!(text, "Unknown {ty} {bytes:?}")
@@ -102,26 +187,40 @@ fn check_over<'p, B: ParseBuf<'p> + Drop, C: Check<'p, B>>(
     rt: &impl Abort,
     alloc: Global,
     buf: B,
+    config: &ParseConfig<Little>,
 ) -> Result<(), Fail> {
-    let mut parser = Parser::new(alloc, buf, ParseConfig::<Little>::default());
+    let mut parser = Parser::new(alloc, buf, config.duplicate()?);
     C::check(rt, &mut parser)
 }
 
-/// Runs a test over these bytes through a slice, buffered readers and pieces, the lowest byte first.
-pub fn check_through<'p, C>(rt: &impl Abort, alloc: Global, bytes: &'p [u8]) -> Result<(), Fail>
+/// Runs a test over these bytes through a slice, buffered readers and pieces, under a configuration.
+pub fn check_under<'p, C>(
+    rt: &impl Abort,
+    alloc: Global,
+    bytes: &'p [u8],
+    config: &ParseConfig<Little>,
+) -> Result<(), Fail>
 where
     C: Check<'p, &'p [u8]> + Check<'p, BufReader<&'p [u8]>> + Check<'p, PieceBuf<'p>>,
 {
-    check_over::<&'p [u8], C>(rt, alloc, bytes)?;
+    check_over::<&'p [u8], C>(rt, alloc, bytes, config)?;
     for capacity in [1, 7, 8192] {
         let reader = BufReader::with_capacity(alloc, capacity, bytes)?;
-        check_over::<BufReader<&'p [u8]>, C>(rt, alloc, reader)?;
+        check_over::<BufReader<&'p [u8]>, C>(rt, alloc, reader, config)?;
     }
     for most in [1, 3, 64] {
         for lasting in [true, false] {
             let pieces = PieceBuf::new(bytes, most, lasting);
-            check_over::<PieceBuf<'p>, C>(rt, alloc, pieces)?;
+            check_over::<PieceBuf<'p>, C>(rt, alloc, pieces, config)?;
         }
     }
     Ok(())
+}
+
+/// The same under the default configuration, the lowest byte first.
+pub fn check_through<'p, C>(rt: &impl Abort, alloc: Global, bytes: &'p [u8]) -> Result<(), Fail>
+where
+    C: Check<'p, &'p [u8]> + Check<'p, BufReader<&'p [u8]>> + Check<'p, PieceBuf<'p>>,
+{
+    check_under::<C>(rt, alloc, bytes, &ParseConfig::default())
 }

@@ -7,13 +7,29 @@ mod attributes;
 #[cfg(test)]
 mod buffers;
 #[cfg(test)]
+mod configurations;
+#[cfg(test)]
 mod cursors;
 #[cfg(test)]
 mod errors;
 #[cfg(test)]
 mod faults;
 #[cfg(test)]
+mod mappings;
+#[cfg(test)]
+mod metadata;
+#[cfg(test)]
+mod names;
+#[cfg(test)]
 mod orders;
+#[cfg(test)]
+mod own_types;
+#[cfg(test)]
+mod parser_calls;
+#[cfg(test)]
+mod pokes;
+#[cfg(test)]
+mod side_band;
 #[cfg(test)]
 mod streams;
 #[cfg(test)]

@@ -51,10 +51,10 @@ fn other_types_are_unknown(rt: HostRuntime) -> Result<(), Fail> {
 
 #[test]
 fn unknown_bytes_are_borrowed_over_a_slice(rt: HostRuntime) {
-    let bytes: &[u8] = b"\0\0\0\0\0\0\x08\0\x16\0\0\0\0\0\x0A\0\x01\x02";
+    let bytes: &[u8] = b"\0\0\0\0\0\0\x08\0\x16\0\0\0\0\0\x08\0\x16\0\0\0\0\0\x0A\0\x01\x02";
     let mut parser = Parser::new(rt.alloc(), bytes, ParseConfig::<Little>::default());
     let run = read_records(&mut parser, 10);
-    assert_eq!(rt; run.frames.len(), 2);
+    assert_eq!(rt; run.frames.len(), 3);
     for (_, answer) in run.frames.iter() {
         assert!(rt;
             matches!(

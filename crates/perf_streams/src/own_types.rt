@@ -1,0 +1,133 @@
+//! Types of a user's own.
+
+ghost use Rattle.std.specs.Prelude.{◌≡◌, ◌+◌, None, ⊤};
+
+use crate::buffers::{Check, check_through};
+use perf_event_data::endian::Endian;
+use perf_event_data::parse::{Layout, Parse, ParseBuf, ParseResult, Parser};
+use std::process::Abort;
+use std::test::Fail;
+
+#[derive(Drop)]
+struct Task {
+    pid: u32,
+    tid: u32,
+}
+
+// It costs two reads, whatever it says.
+impl Layout for Task {
+    ghost parses = { λ old result new. ⊤ };
+
+    ghost counts = { λ old e new. ⊤ };
+
+    ghost faults = { λ old e. ⊤ };
+
+    ghost costs = { λ old e new. e ≡ None → new.reads ≡ old.reads + 2 };
+}
+
+impl<'p, B: ParseBuf<'p>> Parse<'p, B> for Task {
+    #[tactic(auto, using(perf_event_data::proofs::Paying::chain))]
+    fn parse<E: Endian>(parser: &mut Parser<B, E>) -> ParseResult<Self> {
+        let pid = parser.parse_u32()?;
+        let tid = parser.parse_u32()?;
+        Ok(Task { pid, tid })
+    }
+}
+
+#[derive(Drop)]
+struct OwnSample {
+    ip: u64,
+    task: Task,
+    list: Vec<u64>,
+    cgroup: u64,
+}
+
+// Nothing is said of it.
+impl Layout for OwnSample {
+    ghost parses = { λ old result new. ⊤ };
+
+    ghost counts = { λ old e new. ⊤ };
+
+    ghost faults = { λ old e. ⊤ };
+
+    ghost costs = { λ old e new. ⊤ };
+}
+
+impl<'p, B: ParseBuf<'p>> Parse<'p, B> for OwnSample {
+    #[tactic(auto, using(perf_event_data::proofs::Paying::chain))]
+    fn parse<E: Endian>(parser: &mut Parser<B, E>) -> ParseResult<Self> {
+        let ip = parser.parse()?;
+        let task = parser.parse()?;
+        let count = parser.parse::<u64>()?;
+        let list = parser.parse_repeated(count as usize)?;
+        let cgroup = parser.parse()?;
+        Ok(OwnSample {
+            ip,
+            task,
+            list,
+            cgroup,
+        })
+    }
+}
+
+fn check_sample(rt: &impl Abort, sample: &OwnSample) {
+    assert_eq!(rt; sample.ip, 0x3C2B_1A99_4833_1210);
+    assert_eq!(rt; (sample.task.pid, sample.task.tid), (2, 3));
+    assert_eq!(rt;
+        sample.list.as_slice(),
+        [0xF001, 0xF002, 0xF003, 0xF004].as_slice()
+    );
+    assert_eq!(rt; sample.cgroup, 0xC940_6500_0065_40C9);
+}
+
+// A frame whose body is parsed as a type of one's own.
+struct ByType;
+
+impl<'p, B: ParseBuf<'p>> Check<'p, B> for ByType {
+    fn check<E: Endian>(rt: &impl Abort, parser: &mut Parser<B, E>) -> Result<(), Fail> {
+        let (mut inner, metadata) = parser.parse_metadata()?;
+        assert_eq!(rt; (metadata.ty(), metadata.misc()), (9, 0));
+        let id = metadata.sample_id();
+        assert_eq!(rt; (id.pid(), id.tid(), id.time()), (None, None, None));
+        assert_eq!(rt; (id.id(), id.stream_id(), id.cpu()), (None, None, None));
+        let sample = inner.parse::<OwnSample>()?;
+        check_sample(rt, &sample);
+        let rest = inner.parse_rest()?;
+        assert!(rt; rest.is_empty());
+        Ok(())
+    }
+}
+
+// The same by a closure.
+struct ByClosure;
+
+impl<'p, B: ParseBuf<'p>> Check<'p, B> for ByClosure {
+    fn check<E: Endian>(rt: &impl Abort, parser: &mut Parser<B, E>) -> Result<(), Fail> {
+        let (mut inner, metadata) = parser.parse_metadata()?;
+        assert_eq!(rt; (metadata.ty(), metadata.misc()), (9, 0));
+        let sample = inner.parse_with(|parser| {
+            let ip = parser.parse_u64()?;
+            let task = parser.parse::<Task>()?;
+            let count = parser.parse_u64()?;
+            let list = parser.parse_repeated::<u64>(count as usize)?;
+            let cgroup = parser.parse_u64()?;
+            Ok(OwnSample {
+                ip,
+                task,
+                list,
+                cgroup,
+            })
+        })?;
+        check_sample(rt, &sample);
+        Ok(())
+    }
+}
+
+#[test]
+fn a_type_of_ones_own_is_parsed_out_of_a_frame(rt: HostRuntime) -> Result<(), Fail> {
+    let bytes = b"\x09\0\0\0\0\0\x48\0\x10\x12\x33\x48\x99\x1A\x2B\x3C\x02\0\0\0\x03\0\0\0\
+        \x04\0\0\0\0\0\0\0\x01\xF0\0\0\0\0\0\0\x02\xF0\0\0\0\0\0\0\x03\xF0\0\0\0\0\0\0\
+        \x04\xF0\0\0\0\0\0\0\xC9\x40\x65\0\0\x65\x40\xC9";
+    check_through::<ByType>(&rt, rt.alloc(), bytes)?;
+    check_through::<ByClosure>(&rt, rt.alloc(), bytes)
+}

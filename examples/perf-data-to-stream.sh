@@ -1,0 +1,122 @@
+#!/bin/sh
+# Turns a file that `perf record` wrote into a stream for `perfrec little LIMIT attr`.
+#
+#     perf-data-to-stream.sh perf.data > recording.stream
+#
+# The stream is an attribute (`struct perf_event_attr`, as long as its own field `size` says) and behind it the whole
+# data section of the file, which is records one behind another. They stay in the order of the file: perf copies one
+# processor's ring buffer after another's, so that times can go back. Beside the kernel's records (types 1 to 21) the
+# section holds some that perf numbers for itself from 64 on, as FINISHED_ROUND (68). They stay in too.
+#
+# A file has an attribute for each event that was recorded. The first is taken. The others must agree with it in all
+# that the reading of records rests on: size, sample_type, read_format, sample_id_all, branch_sample_type,
+# sample_regs_user and sample_regs_intr. One event makes one attribute: `perf record -e cpu-clock`.
+#
+# Refused, with a message and the status 1, and with nothing written: what isn't a file of perf, a big-endian or pipe
+# mode file, one that perf did not close, one that is cut, attributes that differ, and files whose data section isn't
+# plain records: compressed (`perf record -z`), one file a thread (`--threads`), or with AUX data, which lies behind
+# its record. Other words get a usage line and the status 2.
+#
+# It needs `od`, `tr`, `wc`, `tail`, and a `head` that knows `-c`.
+#
+# The head of the file, all in little endian (`struct perf_file_header` of the kernel's tools/perf/util/header.h):
+#
+#     at  0  8 bytes  PERFILE2
+#     at  8  u64      the length of this head; 16 in pipe mode
+#     at 16  u64      the length of an entry of the next section: an attribute and 16 bytes (where its ids are)
+#     at 24  u64 u64  the section of the attributes: where, and how long
+#     at 40  u64 u64  the data section
+#     at 56  u64 u64  unused
+#     at 72  32 bytes a bit for each feature section: 18 AUXTRACE, 24 DIR_FORMAT, 27 COMPRESSED
+
+set -eu
+LC_ALL=C
+export LC_ALL
+
+if [ $# -ne 1 ]; then
+    echo "usage: perf-data-to-stream.sh PERF.DATA > STREAM" >&2
+    exit 2
+fi
+file=$1
+
+refuse() {
+    echo "perf-data-to-stream.sh: $file: $1" >&2
+    exit 1
+}
+
+# hex AT LEN: the bytes from AT on, two digits each, without spaces.
+hex() {
+    od -An -v -tx1 -j "$1" -N "$2" < "$file" | tr -d ' \n'
+}
+
+# number AT LEN: sets `number` to the little-endian number there. One of 2^63 or more comes out negative.
+number() {
+    number=0
+    shift_by=0
+    for byte in $(od -An -v -tu1 -j "$1" -N "$2" < "$file"); do
+        number=$((number + (byte << shift_by)))
+        shift_by=$((shift_by + 8))
+    done
+}
+
+# section AT: sets `at` and `len` to the section whose place and length are the two numbers at AT.
+section() {
+    number "$1" 8
+    at=$number
+    number $(($1 + 8)) 8
+    len=$number
+    if [ "$at" -lt 0 ] || [ "$len" -lt 0 ] || [ "$at" -gt "$total" ] || [ "$len" -gt $((total - at)) ]; then
+        refuse "cut: a section goes beyond its end"
+    fi
+}
+
+# agreed AT: what the reading of records takes from the attribute at AT, whose size is `size`.
+agreed() {
+    hex $(($1 + 4)) 4
+    hex $(($1 + 24)) 16
+    number $(($1 + 42)) 1
+    echo " $((number & 4))"
+    if [ "$size" -ge 80 ]; then hex $(($1 + 72)) 8; fi
+    if [ "$size" -ge 96 ]; then hex $(($1 + 80)) 8; fi
+    if [ "$size" -ge 104 ]; then hex $(($1 + 96)) 8; fi
+}
+
+[ -f "$file" ] && [ -r "$file" ] || refuse "no file that can be read"
+total=$(($(wc -c < "$file")))
+[ "$total" -ge 16 ] || refuse "not a file of perf: too short"
+case $(hex 0 8) in
+    50455246494c4532) ;;
+    32454c4946524550) refuse "big endian" ;;
+    *) refuse "not a file of perf: it doesn't begin with PERFILE2" ;;
+esac
+number 8 8
+[ "$number" -ne 16 ] || refuse "in pipe mode: record with -o FILE"
+[ "$number" -eq 104 ] && [ "$total" -ge 104 ] || refuse "not a file of perf: its head isn't 104 bytes long"
+
+number 74 1
+[ $((number & 4)) -eq 0 ] || refuse "has AUX data"
+number 75 1
+[ $((number & 1)) -eq 0 ] || refuse "has its records in one file a thread"
+[ $((number & 8)) -eq 0 ] || refuse "compressed: record without -z"
+
+number 16 8
+entry=$number
+section 24
+[ "$entry" -ge 80 ] && [ "$len" -gt 0 ] && [ $((len % entry)) -eq 0 ] || refuse "its attributes have no lawful size"
+first=$at
+end=$((at + len))
+number $((first + 4)) 4
+size=$number
+[ "$size" -ge 64 ] && [ "$size" -le $((entry - 16)) ] || refuse "its first attribute has no lawful size"
+wanted=$(agreed "$first")
+at=$((first + entry))
+while [ "$at" -lt "$end" ]; do
+    [ "$(agreed "$at")" = "$wanted" ] || refuse "its attributes differ: record one event only"
+    at=$((at + entry))
+done
+
+section 40
+[ "$len" -gt 0 ] || refuse "has no records: perf did not close it, or recorded nothing"
+
+head -c $((first + size)) < "$file" | tail -c "$size"
+head -c $((at + len)) < "$file" | tail -c "$len"
