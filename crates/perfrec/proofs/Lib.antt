@@ -4,3 +4,4 @@ pub mod Known
 pub mod Progress
 pub mod Endings
 pub mod Spaced
+mod Digits

@@ -1,10 +1,16 @@
 //! Fields of a line.
 
-ghost use Rattle.std.specs.Prelude.{◌≡◌, ◌+◌, ◌<◌, ◌++◌, decimal, string_bytes, OnOk};
+ghost use Rattle.std.specs.Prelude.{◌≡◌, ◌*◌, ◌<◌, ◌≤◌, ◌++◌, length, take, decimal, string_bytes, OnOk};
 ghost use Rattle.std.specs.List.{flat_map};
-ghost use Rattle.perfrec.specs.Text.{hex_digit, hex, spaced, present};
+ghost use Rattle.perfrec.specs.Text.{hex_digit, hex, present};
 
 use std::alloc::AllocError;
+
+// How many bytes become digits at a time.
+const PIECE: usize = 64;
+
+// How many digits those have.
+const PIECE_DIGITS: usize = 2 * PIECE;
 
 // Appends a name, and numbers behind what stands in front of each.
 pub(crate) fn push_fields(
@@ -50,21 +56,43 @@ pub(crate) fn push_hex(text: &mut String, before: &str, bytes: &[u8]) -> Result<
     ensures { OnOk result (string_bytes text.new ≡ string_bytes text.old ++ (before.now ++ hex bytes.now)) }
 {
     text.push_str(before)?;
-    for byte in bytes {
-        text.push(hex_digit(*byte / 16))?;
-        text.push(hex_digit(*byte % 16))?;
+    for piece in bytes.chunks(PIECE) {
+        push_digits(text, piece)?;
     }
     Ok(())
 }
 
-fn hex_digit(number: u8) -> char
+// Appends the digits of at most as many bytes as a piece has.
+fn push_digits(text: &mut String, bytes: &[u8]) -> Result<(), AllocError>
+    requires { length bytes.now ≤ PIECE }
+    ensures { OnOk result (string_bytes text.new ≡ string_bytes text.old ++ hex bytes.now) }
+{
+    let mut digits = [0; PIECE_DIGITS];
+    write_digits(&mut digits, bytes);
+    let Ok(written) = str::from_utf8(&digits[..2 * bytes.len()]) else {
+        unreachable!();
+    };
+    text.push_str(written)
+}
+
+// Writes two digits for each byte.
+fn write_digits(digits: &mut [u8; PIECE_DIGITS], bytes: &[u8])
+    requires { length bytes.now ≤ PIECE }
+    ensures { take (2 * length bytes.now) digits.new ≡ hex bytes.now }
+{
+    for (i, byte) in bytes.iter().enumerate() {
+        digits[2 * i] = hex_digit(*byte / 16);
+        digits[2 * i + 1] = hex_digit(*byte % 16);
+    }
+}
+
+fn hex_digit(number: u8) -> u8
     requires { number < 16 }
-    ensures value { result ≡ hex_digit number }
-    ensures ascii { result < 128 }
+    ensures { result ≡ hex_digit number }
 {
     if number < 10 {
-        char::from(b'0' + number)
+        b'0' + number
     } else {
-        char::from(b'a' + (number - 10))
+        b'a' + (number - 10)
     }
 }
