@@ -1,0 +1,70 @@
+//! Counts the records that Linux wrote for performance events.
+//!
+//! `perf_count little|big|native [attr]` reads records from standard input, in the byte order that is named, and prints one
+//! line of three numbers: how many frames there are, how many of them were refused, and a checksum of the others. With
+//! `attr` the input begins with an attribute, which says how the records behind it are read. The whole input is read into
+//! memory first, and no record is printed, so its time is that of reading records.
+//!
+//! The checksum is the sum, modulo 2^64, of the type and the size in the header of each frame that was not refused, and of
+//! what its record has: of MMAP and MMAP2 `pid`, `tid`, `addr`, `len`, `pgoff` and the length of the file's name; of COMM
+//! `pid`, `tid` and the length of the name; of EXIT and FORK `pid`, `ppid`, `tid`, `ptid` and `time`; of LOST `id` and
+//! `lost`; of LOST_SAMPLES `lost`. Other records add nothing of their own, nor do READ and SAMPLE, which are read as records
+//! of unknown type.
+//!
+//! The exit status is 0 where no frame was refused and the input ended behind one, and else 1. Why the attribute was
+//! refused, or what kept the input from being read to its end, goes to standard error.
+#![tactic(auto)]
+
+mod command;
+mod counts;
+mod streams;
+mod sums;
+#[cfg(test)]
+mod tests;
+mod words;
+
+use crate::command::{Command, OrderName};
+use crate::counts::Counts;
+use crate::streams::count_stream;
+use anyhow::{Result, bail};
+use perf_event_data::RunEnd;
+use perf_event_data::endian::{Big, Little, Native};
+use perf_event_data::parse::ParseResult;
+use std::alloc::Global;
+use std::env;
+use std::io::Read;
+use std::process::ExitCode;
+
+// What is said where the words ask for nothing.
+const USAGE: &str = "usage: perf_count little|big|native [attr]";
+
+fn main(rt: HostRuntime) -> Result<ExitCode> {
+    let words: Vec<String> = env::args(&rt)?.skip(1).collect(rt.alloc())?;
+    let Some(command) = words::command(&words) else {
+        bail!("{USAGE}");
+    };
+    let mut input = Vec::new(rt.alloc());
+    rt.stdin().read_to_end(&mut input)?;
+    let (counts, end) = obey(rt.alloc(), &input, command)?;
+    let Counts {
+        records,
+        refused,
+        checksum,
+    } = counts;
+    println!(rt; "{records} {refused} {checksum}")?;
+    match end {
+        RunEnd::Limit | RunEnd::Done if refused == 0 => Ok(ExitCode::SUCCESS),
+        RunEnd::Limit | RunEnd::Done => Ok(ExitCode::FAILURE),
+        RunEnd::CutHeader => bail!("the input ends inside a header"),
+        RunEnd::Fault(error) => Err(error.into()),
+    }
+}
+
+// Counts an input in the order that is named.
+fn obey(alloc: Global, input: &[u8], command: Command) -> ParseResult<(Counts, RunEnd)> {
+    match command.order {
+        OrderName::Little => count_stream(alloc, input, Little, command.with_attr),
+        OrderName::Big => count_stream(alloc, input, Big, command.with_attr),
+        OrderName::Native => count_stream(alloc, input, Native, command.with_attr),
+    }
+}

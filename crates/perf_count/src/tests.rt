@@ -1,0 +1,45 @@
+//! Counts that are worked out by hand.
+
+use crate::counts::Counts;
+use crate::streams::count_stream;
+use perf_event_data::RunEnd;
+use perf_event_data::endian::{Big, Endian, Little};
+use std::process::Abort;
+
+// The counts of a stream without an attribute, which is to end behind a frame.
+fn check<E: Endian>(rt: &(impl AllocGlobal + Abort), order: E, input: &[u8], want: Counts) {
+    let counted = count_stream(rt.alloc(), input, order, false);
+    assert!(rt; matches!(counted, Ok((counts, RunEnd::Done)) if counts == want));
+}
+
+// The largest number and 3 make 2, modulo 2^64; the type is 2 and the size 24. So the checksum is 2 + 2 + 24.
+#[test]
+fn a_checksum_begins_again_at_zero(rt: HostRuntime) {
+    let input: &[u8] = &[
+        2, 0, 0, 0, 0, 0, 24, 0, 255, 255, 255, 255, 255, 255, 255, 255, 3, 0, 0, 0, 0, 0, 0, 0,
+    ];
+    let want = Counts {
+        records: 1,
+        refused: 0,
+        checksum: 28,
+    };
+    check(&rt, Little, input, want);
+}
+
+// A LOST of 8 bytes has no room for its fields and is refused. A COMM (3 and 24) of process 5, thread 6 and the name `sh`
+// adds 3 + 24 + 5 + 6 + 2 = 40, an EXIT (4 and 32) of 1, 2, 3, 4 at 100 adds 4 + 32 + 10 + 100 = 146, and four bytes of
+// the unknown type 71 add 71 + 12 = 83. Together they are 269.
+#[test]
+fn a_refused_frame_adds_nothing(rt: HostRuntime) {
+    let input: &[u8] = &[
+        0, 0, 0, 2, 0, 0, 0, 8, 0, 0, 0, 3, 0, 0, 0, 24, 0, 0, 0, 5, 0, 0, 0, 6, b's', b'h', 0, 0,
+        0, 0, 0, 0, 0, 0, 0, 4, 0, 0, 0, 32, 0, 0, 0, 1, 0, 0, 0, 2, 0, 0, 0, 3, 0, 0, 0, 4, 0, 0,
+        0, 0, 0, 0, 0, 100, 0, 0, 0, 71, 0, 0, 0, 12, 1, 2, 3, 4,
+    ];
+    let want = Counts {
+        records: 4,
+        refused: 1,
+        checksum: 269,
+    };
+    check(&rt, Big, input, want);
+}
