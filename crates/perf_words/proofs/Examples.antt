@@ -4,7 +4,8 @@ use Rattle.perf_words.specs.DataSource.{mem_op_of, mem_lvl_of, mem_snoop_of, mem
 use Rattle.perf_words.specs.Branch.{mispred_of, predicted_of, in_tx_of, abort_of, cycles_of, type_of}
 use Rattle.perf_words.specs.Sets.{element_len}
 
--- A load that hit the first cache level: no snoop, a forwarded line, level number 1, three hops.
+-- A load that hit the first cache level: no snoop, a forwarded line, level number 1, from another
+-- socket (PERF_MEM_HOPS_2).
 record LoadIsRead : Type 0 where
   operation : mem_op_of 0x184200100142 ≡ 2
   level : mem_lvl_of 0x184200100142 ≡ 0xa

@@ -38,6 +38,6 @@ mem_remote_of word = has_bit word 37
 abbrev pub mem_blk_of : ℕ → ℕ
 mem_blk_of word = bit_field word 40 3
 
--- how many hops away the data was
+-- how far the data came: 0 says nothing, and n is PERF_MEM_HOPS_(n - 1)
 abbrev pub mem_hops_of : ℕ → ℕ
 mem_hops_of word = bit_field word 43 3

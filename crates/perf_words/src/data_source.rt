@@ -4,7 +4,8 @@ ghost use Rattle.std.specs.Prelude.{◌≡◌, ⊤, ℕ};
 ghost use Rattle.perf_words.specs.Bits.{bit_field};
 ghost use Rattle.perf_words.specs.Sets.{mem_op_table, mem_level_table, mem_lock_table, mem_dtlb_table, mem_snoop_x_table, mem_blk_table, mem_snoop_table, txn_table};
 ghost use Rattle.perf_words.specs.DataSource.{mem_op_of, mem_lvl_of, mem_snoop_of, mem_lock_of, mem_dtlb_of, mem_lvl_num_of, mem_remote_of, mem_blk_of, mem_hops_of, snoop_of};
-ghost use Rattle.perf_words.specs.SetBits.{mem_op_bits, mem_level_bits, mem_lock_bits, mem_dtlb_bits, mem_blk_bits, mem_snoop_bits, txn_bits};
+ghost use Rattle.perf_words.specs.SetBits.{mem_op_bits, mem_level_bits, mem_lock_bits, mem_dtlb_bits};
+ghost use Rattle.perf_words.specs.SetBits.{mem_snoop_x_bits, mem_blk_bits, mem_snoop_bits, txn_bits};
 
 use crate::field::bit_field;
 use crate::macros::flag_table;
@@ -15,7 +16,7 @@ use std::marker::Model;
 
 /// Where data that a memory instruction accessed came from, `union perf_mem_data_src`. Every word is a data source: bits
 /// and numbers without a name are kept.
-#[derive(Copy, Clone, Default)]
+#[derive(Copy, Clone)]
 pub struct DataSource {
     word: u64,
 }
@@ -26,6 +27,15 @@ impl Model for DataSource {
     ghost view = { λ s. s.word };
 
     ghost inverse = { λ n. record { word = n } };
+}
+
+/// The word 0, which says nothing.
+impl Default for DataSource {
+    ghost is_default = { λ source. source ≡ 0 };
+
+    fn default() -> DataSource {
+        DataSource { word: 0 }
+    }
 }
 
 impl DataSource {
@@ -109,7 +119,9 @@ impl DataSource {
         MemBlk(bit_field(self.word, 40, 3))
     }
 
-    /// How many hops away the data was: bits 43 to 45.
+    /// How far the data came: bits 43 to 45. 0 says nothing, 1 (`PERF_MEM_HOPS_0`) another core of
+    /// the same node, 2 (`PERF_MEM_HOPS_1`) another node of the same socket, 3
+    /// (`PERF_MEM_HOPS_2`) another socket of the same board, 4 (`PERF_MEM_HOPS_3`) another board.
     #[inline]
     pub fn mem_hops(&self) -> u8
         ensures { result ≡ mem_hops_of self.now }
@@ -135,7 +147,7 @@ impl fmt::Debug for DataSource {
 }
 
 /// What a memory instruction does: `mem_op` of a data source, `PERF_MEM_OP_*`.
-#[derive(Copy, Clone, Debug, PartialEq, Eq, Hash, Default)]
+#[derive(Copy, Clone, Debug, PartialEq, Eq, Hash)]
 pub struct MemOp(u64);
 
 impl MemOp {
@@ -155,6 +167,15 @@ impl MemOp {
     pub const EXEC: MemOp = MemOp(16);
 
     const FLAGS: &'static [Flag<MemOp>] = flag_table!(MemOp: NA, LOAD, STORE, PFETCH, EXEC);
+}
+
+/// No flag is set.
+impl Default for MemOp {
+    ghost is_default = { λ set. mem_op_bits set ≡ 0 };
+
+    fn default() -> MemOp {
+        MemOp(0)
+    }
 }
 
 impl Flags for MemOp {
@@ -182,7 +203,7 @@ impl Flags for MemOp {
 }
 
 /// Where in the memory hierarchy an access ended: `mem_lvl` of a data source, `PERF_MEM_LVL_*`.
-#[derive(Copy, Clone, Debug, PartialEq, Eq, Hash, Default)]
+#[derive(Copy, Clone, Debug, PartialEq, Eq, Hash)]
 pub struct MemLevel(u64);
 
 impl MemLevel {
@@ -232,6 +253,15 @@ impl MemLevel {
         flag_table!(MemLevel: NA, HIT, MISS, L1, LFB, L2, L3, LOC_RAM, REM_RAM1, REM_RAM2, REM_CCE1, REM_CCE2, IO, UNC);
 }
 
+/// No flag is set.
+impl Default for MemLevel {
+    ghost is_default = { λ set. mem_level_bits set ≡ 0 };
+
+    fn default() -> MemLevel {
+        MemLevel(0)
+    }
+}
+
 impl Flags for MemLevel {
     type Bits = u64;
 
@@ -257,7 +287,7 @@ impl Flags for MemLevel {
 }
 
 /// Whether an access held a lock: `mem_lock` of a data source, `PERF_MEM_LOCK_*`.
-#[derive(Copy, Clone, Debug, PartialEq, Eq, Hash, Default)]
+#[derive(Copy, Clone, Debug, PartialEq, Eq, Hash)]
 pub struct MemLock(u64);
 
 impl MemLock {
@@ -268,6 +298,15 @@ impl MemLock {
     pub const LOCKED: MemLock = MemLock(2);
 
     const FLAGS: &'static [Flag<MemLock>] = flag_table!(MemLock: NA, LOCKED);
+}
+
+/// No flag is set.
+impl Default for MemLock {
+    ghost is_default = { λ set. mem_lock_bits set ≡ 0 };
+
+    fn default() -> MemLock {
+        MemLock(0)
+    }
 }
 
 impl Flags for MemLock {
@@ -295,7 +334,7 @@ impl Flags for MemLock {
 }
 
 /// How the address was translated: `mem_dtlb` of a data source, `PERF_MEM_TLB_*`.
-#[derive(Copy, Clone, Debug, PartialEq, Eq, Hash, Default)]
+#[derive(Copy, Clone, Debug, PartialEq, Eq, Hash)]
 pub struct MemDtlb(u64);
 
 impl MemDtlb {
@@ -323,6 +362,15 @@ impl MemDtlb {
     const FLAGS: &'static [Flag<MemDtlb>] = flag_table!(MemDtlb: NA, HIT, MISS, L1, L2, WK, OS);
 }
 
+/// No flag is set.
+impl Default for MemDtlb {
+    ghost is_default = { λ set. mem_dtlb_bits set ≡ 0 };
+
+    fn default() -> MemDtlb {
+        MemDtlb(0)
+    }
+}
+
 impl Flags for MemDtlb {
     type Bits = u64;
 
@@ -348,7 +396,7 @@ impl Flags for MemDtlb {
 }
 
 /// More of the snoop: `mem_snoopx` of a data source, at its own place, `PERF_MEM_SNOOPX_*`.
-#[derive(Copy, Clone, Debug, PartialEq, Eq, Hash, Default)]
+#[derive(Copy, Clone, Debug, PartialEq, Eq, Hash)]
 pub struct MemSnoopX(u64);
 
 impl MemSnoopX {
@@ -359,6 +407,15 @@ impl MemSnoopX {
     pub const PEER: MemSnoopX = MemSnoopX(2);
 
     const FLAGS: &'static [Flag<MemSnoopX>] = flag_table!(MemSnoopX: FWD, PEER);
+}
+
+/// No flag is set.
+impl Default for MemSnoopX {
+    ghost is_default = { λ set. mem_snoop_x_bits set ≡ 0 };
+
+    fn default() -> MemSnoopX {
+        MemSnoopX(0)
+    }
 }
 
 impl Flags for MemSnoopX {
@@ -386,7 +443,7 @@ impl Flags for MemSnoopX {
 }
 
 /// Why an access was blocked: `mem_blk` of a data source, `PERF_MEM_BLK_*`.
-#[derive(Copy, Clone, Debug, PartialEq, Eq, Hash, Default)]
+#[derive(Copy, Clone, Debug, PartialEq, Eq, Hash)]
 pub struct MemBlk(u64);
 
 impl MemBlk {
@@ -400,6 +457,15 @@ impl MemBlk {
     pub const ADDR: MemBlk = MemBlk(4);
 
     const FLAGS: &'static [Flag<MemBlk>] = flag_table!(MemBlk: NA, DATA, ADDR);
+}
+
+/// No flag is set.
+impl Default for MemBlk {
+    ghost is_default = { λ set. mem_blk_bits set ≡ 0 };
+
+    fn default() -> MemBlk {
+        MemBlk(0)
+    }
 }
 
 impl Flags for MemBlk {
@@ -428,7 +494,7 @@ impl Flags for MemBlk {
 
 /// What was found in other caches: both snoop fields of a data source, at the places that they have there,
 /// `PERF_MEM_SNOOP_*` and `PERF_MEM_SNOOPX_*`.
-#[derive(Copy, Clone, Debug, PartialEq, Eq, Hash, Default)]
+#[derive(Copy, Clone, Debug, PartialEq, Eq, Hash)]
 pub struct MemSnoop(u64);
 
 impl MemSnoop {
@@ -455,6 +521,15 @@ impl MemSnoop {
 
     const FLAGS: &'static [Flag<MemSnoop>] =
         flag_table!(MemSnoop: NA, NONE, HIT, MISS, HITM, FWD, PEER);
+}
+
+/// No flag is set.
+impl Default for MemSnoop {
+    ghost is_default = { λ set. mem_snoop_bits set ≡ 0 };
+
+    fn default() -> MemSnoop {
+        MemSnoop(0)
+    }
 }
 
 impl Flags for MemSnoop {
@@ -493,7 +568,7 @@ impl MemSnoop {
 }
 
 /// What a memory transaction did, and why it was aborted, `PERF_TXN_*`.
-#[derive(Copy, Clone, Debug, PartialEq, Eq, Hash, Default)]
+#[derive(Copy, Clone, Debug, PartialEq, Eq, Hash)]
 pub struct Txn(u64);
 
 impl Txn {
@@ -526,6 +601,15 @@ impl Txn {
 
     const FLAGS: &'static [Flag<Txn>] =
         flag_table!(Txn: ELISION, TRANSACTION, SYNC, ASYNC, RETRY, CONFLICT, CAPACITY_WRITE, CAPACITY_READ, ABORT_MASK);
+}
+
+/// No flag is set.
+impl Default for Txn {
+    ghost is_default = { λ set. txn_bits set ≡ 0 };
+
+    fn default() -> Txn {
+        Txn(0)
+    }
 }
 
 impl Flags for Txn {

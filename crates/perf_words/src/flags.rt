@@ -3,7 +3,7 @@
 ghost use Rattle.std.specs.Prelude.{◌≡◌, ⊤};
 ghost use Rattle.perf_words.specs.Bits.{bit_field};
 ghost use Rattle.perf_words.specs.Sets.{sample_flags_table, read_format_table, aux_flags_table, ksymbol_flags_table, element_len};
-ghost use Rattle.perf_words.specs.SetBits.{read_format_bits, aux_flags_bits};
+ghost use Rattle.perf_words.specs.SetBits.{sample_flags_bits, read_format_bits, aux_flags_bits};
 
 use crate::field::bit_field;
 use crate::macros::flag_table;
@@ -11,7 +11,7 @@ use crate::named::AuxPmuFormatType;
 use bitflags::{Flag, Flags};
 
 /// Which fields a sample has: the bits of `sample_type`, `PERF_SAMPLE_*`.
-#[derive(Copy, Clone, Debug, PartialEq, Eq, Hash, Default)]
+#[derive(Copy, Clone, Debug, PartialEq, Eq, Hash)]
 pub struct SampleFlags(u64);
 
 impl SampleFlags {
@@ -94,6 +94,15 @@ impl SampleFlags {
         flag_table!(SampleFlags: IP, TID, TIME, ADDR, READ, CALLCHAIN, ID, CPU, PERIOD, STREAM_ID, RAW, BRANCH_STACK, REGS_USER, STACK_USER, WEIGHT, DATA_SRC, IDENTIFIER, TRANSACTION, REGS_INTR, PHYS_ADDR, AUX, CGROUP, DATA_PAGE_SIZE, CODE_PAGE_SIZE, WEIGHT_STRUCT);
 }
 
+/// No flag is set.
+impl Default for SampleFlags {
+    ghost is_default = { λ set. sample_flags_bits set ≡ 0 };
+
+    fn default() -> SampleFlags {
+        SampleFlags(0)
+    }
+}
+
 impl Flags for SampleFlags {
     type Bits = u64;
 
@@ -119,7 +128,7 @@ impl Flags for SampleFlags {
 }
 
 /// What a read of a counter gives beside its value: the bits of `read_format`, `PERF_FORMAT_*`.
-#[derive(Copy, Clone, Debug, PartialEq, Eq, Hash, Default)]
+#[derive(Copy, Clone, Debug, PartialEq, Eq, Hash)]
 pub struct ReadFormat(u64);
 
 impl ReadFormat {
@@ -140,6 +149,15 @@ impl ReadFormat {
 
     const FLAGS: &'static [Flag<ReadFormat>] =
         flag_table!(ReadFormat: TOTAL_TIME_ENABLED, TOTAL_TIME_RUNNING, ID, GROUP, LOST);
+}
+
+/// No flag is set.
+impl Default for ReadFormat {
+    ghost is_default = { λ set. read_format_bits set ≡ 0 };
+
+    fn default() -> ReadFormat {
+        ReadFormat(0)
+    }
 }
 
 impl Flags for ReadFormat {
