@@ -1,6 +1,6 @@
 -- The attribute of an event, `struct perf_event_attr` of perf_event.h: each kernel that made it larger put its fields
 -- behind those that were there.
-use Rattle.std.specs.Prelude.{ℕ, ◌-◌, Bool, ◌==◌, ◌||◌, nat_lt, nat_le, Option}
+use Rattle.std.specs.Prelude.{ℕ, pos, ◌-◌, Bool, ◌==◌, ◌||◌, nat_lt, nat_le, Option}
 use Rattle.std.specs.Option.{unwrap_or}
 use Rattle.std.specs.Int.{w32, cast_signed}
 use Rattle.perf_base.specs.Layout.{Parts, done, ◌>>=◌, ◌>>◌}
@@ -24,6 +24,33 @@ zero_tail n = do
   tail ← bytes n
   require (all_zero tail) UnsupportedData
 
+-- an attribute whose fields are all 0
+abbrev pub zero_attribute : perf_event_attr
+zero_attribute = record {
+  type_ = 0;
+  size = 0;
+  config = 0;
+  sample_period = 0;
+  sample_type = 0;
+  read_format = 0;
+  flags = 0;
+  wakeup_events = 0;
+  bp_type = 0;
+  config1 = 0;
+  config2 = 0;
+  branch_sample_type = 0;
+  sample_regs_user = 0;
+  sample_stack_user = 0;
+  clockid = pos 0;
+  sample_regs_intr = 0;
+  aux_watermark = 0;
+  sample_max_stack = 0;
+  aux_sample_size = 0;
+  sig_data = 0;
+  config3 = 0;
+}
+
+-- the fields in their order, each where the size reaches it
 abbrev pub attribute : Parts perf_event_attr
 attribute = do
   type_ ← u32

@@ -2,8 +2,10 @@
 use Rattle.perf_base.specs.Configuration.{Configuration, unpacked}
 use Rattle.perf_base.specs.declared.config.ParseConfig.{ParseConfig}
 
+-- what it says, unpacked from its word and its masks
 abbrev pub configuration_of : {E : Type 0} → ParseConfig E → Configuration
 configuration_of c = unpacked c.word c.regs_user c.regs_intr
 
+-- its byte order
 abbrev pub endian_of : {E : Type 0} → ParseConfig E → E
 endian_of c = c.endian

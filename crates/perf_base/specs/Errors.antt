@@ -13,14 +13,17 @@ use Rattle.perf_base.specs.declared.error.Detail.{Detail}
 use Rattle.perf_base.specs.declared.error.Detail.TheVariants.{Nothing, Message, Cause}
 use Rattle.perf_base.specs.declared.error.ParseError.{ParseError}
 
+-- the kind of an error
 abbrev pub kind_of : ParseError → ErrorKind
 kind_of e = e.kind
 
+-- the message, where a detail is one
 abbrev pub detail_message : Detail → Option (List ℕ)
 detail_message Nothing = None
 detail_message (Message text) = Some (inline_text text)
 detail_message (Cause cause) = None
 
+-- the outside error, where a detail is one
 abbrev pub detail_cause : Detail → Option Error
 detail_cause Nothing = None
 detail_cause (Message text) = None
@@ -59,6 +62,7 @@ detail_text (Cause cause) = codes ": " ++ error_message cause
 abbrev pub error_text : ParseError → List ℕ
 error_text e = kind_text e.kind ++ detail_text e.detail
 
+-- whether a kind of std says that the input ended
 abbrev pub is_eof : IoKind → Bool
 is_eof UnexpectedEof = true
 is_eof _ = false

@@ -4,25 +4,31 @@ use Rattle.perf_base.specs.Layout.{w1, w2, w4, w8, number, optional, run, words,
 use Rattle.perf_base.specs.Zeros.{trimmed}
 use Rattle.perf_base.specs.declared.error.ErrorKind.{ErrorKind}
 
+-- a number of one byte
 abbrev pub u8 : Parts ℕ
 u8 = part (number w1) done
 
+-- a number of two bytes
 abbrev pub u16 : Parts ℕ
 u16 = part (number w2) done
 
+-- a number of four bytes
 abbrev pub u32 : Parts ℕ
 u32 = part (number w4) done
 
+-- a number of eight bytes
 abbrev pub u64 : Parts ℕ
 u64 = part (number w8) done
 
--- a number that is there, or not
+-- a number of eight bytes that is there, or not
 abbrev pub u64_if : Bool → Parts (Option ℕ)
 u64_if present = part (optional present w8) done
 
+-- one of four bytes that is there, or not
 abbrev pub u32_if : Bool → Parts (Option ℕ)
 u32_if present = part (optional present w4) done
 
+-- one of two bytes that is there, or not
 abbrev pub u16_if : Bool → Parts (Option ℕ)
 u16_if present = part (optional present w2) done
 

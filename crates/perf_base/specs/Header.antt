@@ -16,3 +16,7 @@ header = do
 -- the header that stands at the front of bytes, of which there are at least eight
 abbrev pub header_of : Order → List ℕ → perf_event_header
 header_of o bytes = value o bytes 0 header
+
+-- one whose fields are all 0
+abbrev pub zero_header : perf_event_header
+zero_header = record { type_ = 0; misc = 0; size = 0 }

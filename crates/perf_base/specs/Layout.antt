@@ -12,6 +12,7 @@ use Rattle.perf_base.specs.declared.error.ErrorKind.TheVariants.{Eof}
 pub data Width : Type 0 where
   w1 w2 w4 w8 : Width
 
+-- how many bytes that is
 abbrev pub bytes_in : Width → ℕ
 bytes_in w1 = 1
 bytes_in w2 = 2
@@ -83,14 +84,15 @@ pub data Parts (A : Type 0) : Type 0 where
   part : (shape : Shape) → (Answer shape → Parts A) → Parts A
   check : Bool → ErrorKind → Parts A → Parts A
 
--- parts, and then those that follow from their value
 infixl 10 ◌>>=◌
+-- parts, and then those that follow from their value
 abbrev pub ◌>>=◌ : {A B : Type 0} → Parts A → (A → Parts B) → Parts B
 (done v) >>= f = f v
 (part shape k) >>= f = part shape (λ a. k a >>= f)
 (check t e p) >>= f = check t e (p >>= f)
 
 infixl 10 ◌>>◌
+-- parts, and then others, whatever the value of the first
 abbrev pub ◌>>◌ : {A B : Type 0} → Parts A → Parts B → Parts B
 p >> q = p >>= λ _. q
 

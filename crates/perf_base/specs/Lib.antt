@@ -4,6 +4,7 @@ pub mod Table
 pub mod Run
 pub mod Splice
 pub mod Reads
+pub mod Took
 pub mod Zeros
 pub mod FieldWords
 pub mod Header
@@ -12,5 +13,8 @@ pub mod Configuration
 pub mod Configured
 pub mod Dynamic
 pub mod Errors
+pub mod Refusals
 pub mod Cow
 pub mod ReadCount
+pub mod Copies
+pub mod Alike

@@ -2,6 +2,7 @@
 use Rattle.std.specs.Prelude.{ℕ, ◌+◌}
 use Rattle.perf_base.specs.declared.reads.Steps.{Steps, Many, Sum'}
 
+-- how many reads a count stands for
 abbrev pub steps_of : Steps → ℕ
 steps_of (Many n) = n
 steps_of (Sum' p s q t) = steps_of s + steps_of t

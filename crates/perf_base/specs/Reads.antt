@@ -4,6 +4,7 @@ use Rattle.perf_base.specs.Order.{Order}
 use Rattle.perf_base.specs.Layout.{Shape, number, optional, run, words, padding, rest, answer_of, size, Parts, done, part, check, Spot, takes, holds, spots}
 use Rattle.perf_base.specs.declared.error.ErrorKind.{ErrorKind}
 
+-- one, but none for nothing
 abbrev pub one_if_any : ℕ → ℕ
 one_if_any zero = 0
 one_if_any (suc n) = 1
@@ -34,14 +35,16 @@ consumed len at [] = at
 consumed len at (takes s n shape ∷ xs) = elim (nat_le (s + n) len) [ true ↦ consumed len (s + n) xs | false ↦ len ]
 consumed len at (holds s t e ∷ xs) = elim t [ true ↦ consumed len s xs | false ↦ s ]
 
+-- one where there was a refusal
 abbrev pub one_if_fault : Option ErrorKind → ℕ
 one_if_fault None = 0
 one_if_fault (Some e) = 1
 
--- the reads of a layout, and the bytes that it consumes
+-- how many reads a layout takes
 abbrev pub layout_reads : {A : Type 0} → Order → Parts A → List ℕ → ℕ
 layout_reads o p body = reads (length body) (spots o body 0 p)
 
+-- how many bytes a layout consumes
 abbrev pub layout_consumed : {A : Type 0} → Order → Parts A → List ℕ → ℕ
 layout_consumed o p body = consumed (length body) 0 (spots o body 0 p)
 

@@ -26,6 +26,7 @@ one o shape bytes =
     let n = size shape (length bytes) in
     elim (nat_le n (length bytes)) [ true ↦ ran (answer_of o shape (take n bytes)) (drop n bytes) | false ↦ stopped Eof [] ]
 
+-- the parts one behind another, over the bytes that are left
 abbrev pub run_parts : {A : Type 0} → Order → Parts A → List ℕ → Ran A
 run_parts o (done v) bytes = ran v bytes
 run_parts o (part shape k) bytes = elim (one o shape bytes) [ ran v left ↦ run_parts o (k v) left | stopped e left ↦ stopped e left ]

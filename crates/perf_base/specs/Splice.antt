@@ -18,6 +18,7 @@ Closed (done v) = Unit {0}
 Closed (part shape k) = IsBounded shape × ((a : Answer shape) → Closed (k a))
 Closed (check t e p) = Closed p
 
+-- a field is closed where it is there
 abbrev pub IsClosed : {A : Type 0} → Option (Parts A) → Type 0
 IsClosed None = Unit {0}
 IsClosed (Some p) = Closed p

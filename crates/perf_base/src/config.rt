@@ -126,6 +126,15 @@ impl<E> ParseConfig<E> {
         }
     }
 
+    /// Puts another `misc` in the place of this.
+    #[inline]
+    pub fn set_misc(&mut self, misc: u16)
+        ensures changed { configuration_of self.new ≡ under_misc misc (configuration_of self.old) }
+        ensures endian { endian_of self.new ≡ endian_of self.old }
+    {
+        self.word = self.word % (1 << MISC_AT) + (u64::from(misc) << MISC_AT);
+    }
+
     /// The same configuration with another sample type, of which the lowest 40 bits are kept.
     pub fn with_sample_type(self, sample_type: SampleFlags) -> ParseConfig<E>
         ensures changed { configuration_of result ≡ under_sample_type (sample_flags_bits sample_type) (configuration_of self) }
@@ -174,6 +183,20 @@ impl<E: Drop> ParseConfig<E> {
 }
 
 impl<E: Endian> ParseConfig<E> {
+    /// A configuration that reads alike and is lent the order.
+    #[inline]
+    pub fn lent(&self) -> ParseConfig<&E>
+        ensures same { configuration_of result ≡ configuration_of self.now }
+        ensures order { (endian_of result).now ≡ endian_of self.now }
+    {
+        ParseConfig {
+            word: self.word,
+            regs_user: self.regs_user,
+            regs_intr: self.regs_intr,
+            endian: &self.endian,
+        }
+    }
+
     /// A second configuration that reads alike. It is refused where the order's `duplicate` is.
     #[inline]
     pub fn duplicate(&self) -> ParseResult<ParseConfig<E>>

@@ -1,7 +1,8 @@
 //! A list that is borrowed from the input where it can be, and owned where it cannot.
 
 ghost use Rattle.std.specs.Prelude.{◌≡◌, ◌≤◌, length, take, drop, IsTrue, ◌↔◌, [], IsOk, IfOk, IfErr};
-ghost use Rattle.perf_base.specs.Cow.{cow_items, is_borrowed};
+ghost use Rattle.perf_base.specs.Cow.{cow_items, is_borrowed, cow_form};
+ghost use Rattle.perf_base.specs.Copies.{IsClone, IsOwnedCopy};
 ghost use Rattle.perf_base.specs.Errors.{kind_of};
 
 use crate::error::{ErrorKind, ParseResult};
@@ -94,10 +95,7 @@ impl<'a, T: Copy> CowSlice<'a, T> {
 
     /// The same items: borrowed where they are, and then no memory is taken, else in memory of their own.
     pub fn clone(&self, alloc: Global) -> ParseResult<CowSlice<'a, T>>
-        ensures items { IfOk result (λ copy. cow_items copy ≡ cow_items self.now) }
-        ensures form { IfOk result (λ copy. is_borrowed copy ≡ is_borrowed self.now) }
-        ensures refused { IfErr result (λ e. kind_of e ≡ ErrorKind.OutOfMemory) }
-        ensures no_memory { IsTrue (is_borrowed self.now) → IsOk result }
+        ensures { IsClone cow_items cow_form self.now result }
     {
         match self {
             CowSlice::Borrowed(items) => Ok(CowSlice::Borrowed(items)),
@@ -105,6 +103,18 @@ impl<'a, T: Copy> CowSlice<'a, T> {
                 let copy = Vec::from_slice(alloc, items.as_slice())?;
                 Ok(CowSlice::Owned(copy))
             }
+        }
+    }
+
+    /// The same items in memory of their own, so that they last as long as one likes. It takes no
+    /// memory where they are owned already. Where it is refused, `OutOfMemory`, the items are given
+    /// up.
+    pub fn into_owned<'b>(self, alloc: Global) -> ParseResult<CowSlice<'b, T>>
+        ensures { IsOwnedCopy cow_items cow_form self.entry result }
+    {
+        match self {
+            CowSlice::Borrowed(items) => Ok(CowSlice::Owned(Vec::from_slice(alloc, items)?)),
+            CowSlice::Owned(items) => Ok(CowSlice::Owned(items)),
         }
     }
 }

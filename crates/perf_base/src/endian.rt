@@ -148,6 +148,37 @@ impl Endian for Big {
     }
 }
 
+/// An order that is lent, and converts alike.
+impl<E: Endian> Endian for &E {
+    ghost order = { λ e. E.order e.now };
+
+    ghost may_refuse = { λ _. false };
+
+    #[inline]
+    fn convert_u16(&self, bytes: [u8; 2]) -> u16 {
+        (**self).convert_u16(bytes)
+    }
+
+    #[inline]
+    fn convert_u32(&self, bytes: [u8; 4]) -> u32 {
+        (**self).convert_u32(bytes)
+    }
+
+    #[inline]
+    fn convert_u64(&self, bytes: [u8; 8]) -> u64 {
+        (**self).convert_u64(bytes)
+    }
+
+    fn is_native(&self) -> bool {
+        (**self).is_native()
+    }
+
+    #[inline]
+    fn duplicate(&self) -> ParseResult<Self> {
+        Ok(*self)
+    }
+}
+
 /// One of the two orders, chosen when the program runs.
 #[derive(Copy, Clone, Debug, PartialEq, Eq, Hash)]
 pub enum Dynamic {

@@ -65,7 +65,7 @@ pub struct ParseError {
 impl ParseError {
     #[cold]
     #[inline(never)]
-    fn plain(kind: ErrorKind) -> ParseError
+    pub(crate) fn plain(kind: ErrorKind) -> ParseError
         ensures { IsMadeOf result kind None None }
     {
         ParseError {

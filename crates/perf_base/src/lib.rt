@@ -6,5 +6,7 @@ pub mod config;
 pub mod cow;
 pub mod endian;
 pub mod error;
+pub mod laws;
 pub mod reads;
+pub mod refusal;
 pub mod sys;

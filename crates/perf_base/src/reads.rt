@@ -2,6 +2,7 @@
 
 ghost use Rattle.std.specs.Prelude.{◌≡◌, ℕ, ◌+◌};
 ghost use Rattle.perf_base.specs.ReadCount.{steps_of};
+ghost use Rattle.perf_base.specs.Reads.{one_if_any};
 
 use std::marker::Model;
 use std::mem;
@@ -44,6 +45,16 @@ impl Reads {
         self.add(Reads {
             made: Snapshot::of(&Steps::Many(1)),
         });
+    }
+
+    /// Counts one read where there is a byte to read.
+    #[inline]
+    pub fn tick_if_any(&mut self, count: usize)
+        ensures { self.new ≡ self.old + one_if_any count }
+    {
+        if 0 < count {
+            self.tick();
+        }
     }
 
     /// Counts the reads of another count.

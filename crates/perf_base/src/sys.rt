@@ -2,9 +2,11 @@
 
 ghost use Rattle.std.specs.Prelude.{◌≡◌};
 ghost use Rattle.perf_words.specs.Bits.{has_bit};
+ghost use Rattle.perf_base.specs.Header.{zero_header};
+ghost use Rattle.perf_base.specs.Attribute.{zero_attribute};
 
 /// The first eight bytes of every record, `struct perf_event_header`.
-#[derive(Copy, Clone, Debug, Default)]
+#[derive(Copy, Clone, Debug)]
 pub struct perf_event_header {
     /// What the record is: one of the `PERF_RECORD_*` numbers.
     pub type_: u32,
@@ -14,11 +16,24 @@ pub struct perf_event_header {
     pub size: u16,
 }
 
+/// Each field is 0.
+impl Default for perf_event_header {
+    ghost is_default = { λ header. header ≡ zero_header };
+
+    fn default() -> perf_event_header {
+        perf_event_header {
+            type_: 0,
+            misc: 0,
+            size: 0,
+        }
+    }
+}
+
 /// What an event counts or samples, and how: `struct perf_event_attr`, as it was passed to `perf_event_open(2)`.
 ///
 /// Where the kernel has a union, one of its names stands for all of them. A field that the attribute's size does not
 /// reach is 0.
-#[derive(Copy, Clone, Debug, Default)]
+#[derive(Copy, Clone, Debug)]
 pub struct perf_event_attr {
     /// The kind of event, `PERF_TYPE_*`.
     pub type_: u32,
@@ -64,6 +79,37 @@ pub struct perf_event_attr {
     pub config3: u64,
 }
 
+/// Each field is 0.
+impl Default for perf_event_attr {
+    ghost is_default = { λ attr. attr ≡ zero_attribute };
+
+    fn default() -> perf_event_attr {
+        perf_event_attr {
+            type_: 0,
+            size: 0,
+            config: 0,
+            sample_period: 0,
+            sample_type: 0,
+            read_format: 0,
+            flags: 0,
+            wakeup_events: 0,
+            bp_type: 0,
+            config1: 0,
+            config2: 0,
+            branch_sample_type: 0,
+            sample_regs_user: 0,
+            sample_stack_user: 0,
+            clockid: 0,
+            sample_regs_intr: 0,
+            aux_watermark: 0,
+            sample_max_stack: 0,
+            aux_sample_size: 0,
+            sig_data: 0,
+            config3: 0,
+        }
+    }
+}
+
 impl perf_event_attr {
     /// Whether every record but SAMPLE ends with a sample id: bit 18 of `flags`.
     #[inline]
@@ -74,7 +120,7 @@ impl perf_event_attr {
     }
 }
 
-/// A file was mapped that can be run.
+/// A file was mapped: one that can be run, or under `mmap_data` any.
 pub const PERF_RECORD_MMAP: u32 = 1;
 /// Events were lost: `id` and how many.
 pub const PERF_RECORD_LOST: u32 = 2;

@@ -1,0 +1,43 @@
+//! Laws of equality and hashing: two orders, or two kinds of refusal, are equal exactly where they
+//! are the same one, and hash as its number does, whatever the hash function.
+
+ghost use Rattle.std.specs.Hash as fed;
+ghost use Rattle.perf_words.specs.Alike.{IsByNumber, number_hash};
+ghost use Rattle.perf_base.specs.Alike.{order_number, kind_number};
+
+use crate::endian::Dynamic;
+use crate::error::ErrorKind;
+use perf_words::laws::Compared;
+use std::hash::BuildHasher;
+
+/// How two values of [`Dynamic`] compare and hash: by which order it is.
+pub fn dynamic_by_number<S: BuildHasher>(hashing: &S, first: Dynamic, second: Dynamic) -> Compared
+    ensures { IsByNumber
+        (number_hash S.Hasher.finish S.Hasher.write (S.build_hasher hashing.now) fed.u64)
+        (order_number first) (order_number second)
+        result.equal result.first_hash result.second_hash }
+{
+    Compared {
+        equal: first == second,
+        first_hash: hashing.hash_one(first),
+        second_hash: hashing.hash_one(second),
+    }
+}
+
+/// How two values of [`ErrorKind`] compare and hash: by which kind it is.
+pub fn error_kind_by_number<S: BuildHasher>(
+    hashing: &S,
+    first: ErrorKind,
+    second: ErrorKind,
+) -> Compared
+    ensures { IsByNumber
+        (number_hash S.Hasher.finish S.Hasher.write (S.build_hasher hashing.now) fed.u64)
+        (kind_number first) (kind_number second)
+        result.equal result.first_hash result.second_hash }
+{
+    Compared {
+        equal: first == second,
+        first_hash: hashing.hash_one(first),
+        second_hash: hashing.hash_one(second),
+    }
+}

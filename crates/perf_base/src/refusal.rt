@@ -1,0 +1,161 @@
+//! Why the calls inside this library refuse: a value of two bytes, which becomes an error where it is answered.
+
+ghost use Rattle.std.specs.Prelude.{◌≡◌, option_map};
+ghost use Rattle.perf_base.specs.Errors.{kind_of};
+ghost use Rattle.perf_base.specs.Refusals.{refusal_kind, refusal_text, IsAnswerOf};
+
+use crate::error::{ErrorKind, ParseError};
+
+/// What a call inside this library answers: a value, or the reason why there is none.
+pub type ReadResult<T> = Result<T, Refusal>;
+
+/// Why this library refuses. It takes two bytes, and becomes a [`ParseError`] where it is answered.
+#[derive(Copy, Clone, Debug, PartialEq, Eq)]
+pub enum Refusal {
+    /// There are not enough bytes.
+    Eof,
+    /// A header's size does not count the header.
+    SmallHeader,
+    /// A frame is too short for its sample id.
+    NoRoomForId,
+    /// No attribute has that size.
+    AttributeSize,
+    /// An attribute has fields that are not known.
+    AttributeTail,
+    /// A build id says that it is longer than its bytes.
+    BuildIdLength,
+    /// A user's stack says that more of it was used than the record has.
+    UsedStack,
+    /// A single counter was to be read where the format is that of a group.
+    SingleRead,
+    /// A group was to be read where the format is that of a single counter.
+    GroupRead,
+    /// The format of a counter's read has flags that are not known.
+    ReadFormat,
+    /// A group says that it has more numbers than can be counted.
+    GroupLength,
+    /// Memory was refused.
+    OutOfMemory,
+    /// An error of that kind, which was not made here and is kept beside.
+    Kept(ErrorKind),
+}
+
+impl Refusal {
+    /// The kind of the error that it becomes.
+    #[inline]
+    pub fn kind(self) -> ErrorKind
+        ensures { result ≡ refusal_kind self }
+    {
+        match self {
+            Refusal::Eof => ErrorKind::Eof,
+            Refusal::SmallHeader
+            | Refusal::NoRoomForId
+            | Refusal::AttributeSize
+            | Refusal::BuildIdLength
+            | Refusal::UsedStack
+            | Refusal::GroupLength => ErrorKind::InvalidRecord,
+            Refusal::SingleRead | Refusal::GroupRead | Refusal::ReadFormat => {
+                ErrorKind::UnsupportedConfig
+            }
+            Refusal::AttributeTail => ErrorKind::UnsupportedData,
+            Refusal::OutOfMemory => ErrorKind::OutOfMemory,
+            Refusal::Kept(kind) => kind,
+        }
+    }
+
+    // The message of the error that it becomes, if it has one.
+    fn message(self) -> Option<&'static str>
+        ensures { option_map (λ text. text.now) result ≡ refusal_text self }
+    {
+        match self {
+            Refusal::SmallHeader => Some("header size was too small to be valid"),
+            Refusal::NoRoomForId => Some(
+                "config has sample_id_all bit set but record does not have enough data to store the sample_id",
+            ),
+            Refusal::AttributeSize => Some("not a valid size for a perf_event_attr struct"),
+            Refusal::AttributeTail => Some(
+                "serialized perf_event_attr contains fields not supported by this version of perf-event-data",
+            ),
+            Refusal::BuildIdLength => Some("build_id had invalid length"),
+            Refusal::UsedStack => Some("stack dyn_size was greater than the record size"),
+            Refusal::SingleRead => Some(
+                "attempted to parse a SingleRead with a config that has GROUP set in read_format",
+            ),
+            Refusal::GroupRead => Some(
+                "attempted to parse a GroupRead with a config that does not have GROUP set in read_format",
+            ),
+            Refusal::ReadFormat => Some("read_format contains unsupported flags"),
+            Refusal::GroupLength => {
+                Some("number of elements in group read was too large for data type")
+            }
+            Refusal::Eof | Refusal::OutOfMemory | Refusal::Kept(_) => None,
+        }
+    }
+
+    // The error of its kind and its message.
+    fn error(self) -> ParseError
+        ensures { IsAnswerOf result self }
+    {
+        match self.message() {
+            Some(message) => ParseError::custom(self.kind(), message),
+            None => ParseError::plain(self.kind()),
+        }
+    }
+}
+
+/// The error of a buffer or of a caller's own type, until it is answered.
+#[derive(Drop)]
+pub struct Kept {
+    error: Option<ParseError>,
+}
+
+impl Kept {
+    /// No error.
+    #[inline]
+    pub fn none() -> Kept {
+        Kept { error: None }
+    }
+
+    /// Keeps an error, in the place of an earlier one.
+    #[cold]
+    #[inline(never)]
+    pub fn keep(&mut self, error: ParseError) -> Refusal
+        ensures { refusal_kind result ≡ kind_of error }
+    {
+        let kind = error.kind();
+        self.error = Some(error);
+        Refusal::Kept(kind)
+    }
+
+    // The error that is kept, where it is of that kind.
+    fn take(&mut self, kind: ErrorKind) -> ParseError
+        ensures { kind_of result ≡ kind }
+    {
+        match self.error.take() {
+            Some(error) if error.kind() == kind => error,
+            _ => ParseError::plain(kind),
+        }
+    }
+
+    /// The error that a refusal becomes.
+    #[cold]
+    #[inline(never)]
+    pub fn answer(&mut self, refusal: Refusal) -> ParseError
+        ensures { IsAnswerOf result refusal }
+    {
+        match refusal {
+            Refusal::Kept(kind) => self.take(kind),
+            _ => refusal.error(),
+        }
+    }
+}
+
+#[cfg(test)]
+mod tests {
+    use super::Refusal;
+
+    #[test]
+    fn takes_two_bytes(rt: HostRuntime) {
+        assert_eq!(rt; std::mem::size_of::<Refusal>(), 2);
+    }
+}
