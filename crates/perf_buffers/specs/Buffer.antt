@@ -97,10 +97,12 @@ Advances old n new = Stays old None new × (IsTrue old.told → new.left ≡ dro
 
 -- ---- the bytes of a reader, where it tells them
 
+-- the bytes that a reader tells, or none
 abbrev pub known : Option (List ℕ) → List ℕ
 known None = []
 known (Some xs) = xs
 
+-- whether it tells them
 abbrev pub is_known : Option (List ℕ) → Bool
 is_known None = false
 is_known (Some xs) = true

@@ -19,11 +19,14 @@ abbrev pub is_lent : Held → Bool
 is_lent (Lent bytes) = true
 is_lent (Own bytes place) = false
 
+-- the bytes that are left in a cursor
 abbrev pub cursor_left : ParseBufCursor → List ℕ
 cursor_left c = held_left c.held
 
+-- whether its bytes are borrowed
 abbrev pub cursor_lent : ParseBufCursor → Bool
 cursor_lent c = is_lent c.held
 
+-- nothing was taken from it yet
 abbrev pub IsAtStart : ParseBufCursor → Type 0
 IsAtStart c = is_at_start c.held

@@ -1,5 +1,6 @@
 -- What a `PieceBuf` was made of.
-use Rattle.std.specs.Prelude.{ℕ, Bool, List}
+use Rattle.std.specs.Prelude.{ℕ, Bool, true, false, List, take, None}
+use Rattle.perf_buffers.specs.Buffer.{Source}
 use Rattle.perf_buffers.specs.declared.pieces.PieceBuf.{PieceBuf}
 
 -- the bytes that are left
@@ -13,3 +14,17 @@ piece_most b = b.most
 -- whether its pieces last
 abbrev pub piece_lasting : PieceBuf → Bool
 piece_lasting b = b.lasting
+
+-- what it holds: bytes that it tells, which come in pieces and never by a fault
+abbrev pub piece_source : PieceBuf → Source
+piece_source b = record {
+  left = b.bytes.now;
+  told = true;
+  whole = false;
+  can_fault = false;
+  faults = None;
+}
+
+-- the next piece
+abbrev pub piece_ready : PieceBuf → List ℕ
+piece_ready b = take b.most b.bytes.now

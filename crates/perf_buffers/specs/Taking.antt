@@ -61,3 +61,12 @@ CanFail old (Some OutOfMemory) = Unit {0}
 abbrev pub TakesAtOnce : Source → ℕ → Bool → List ℕ → Source → Type 0
 TakesAtOnce old n true out new = Takes old n new × (out ≡ take n old.left)
 TakesAtOnce old n false out new = new.left ≡ old.left
+
+-- What a refused copy of n bytes behind a place took: all, where that is too little; nothing, where memory was refused.
+abbrev pub FailsBehind : ErrorKind → ℕ → List ℕ → (old new : ℕ) → Type 0
+FailsBehind Eof n bytes old new = (length (drop old bytes) < n) × (drop new bytes ≡ [])
+FailsBehind External n bytes old new = ⊥
+FailsBehind InvalidRecord n bytes old new = ⊥
+FailsBehind UnsupportedConfig n bytes old new = ⊥
+FailsBehind UnsupportedData n bytes old new = ⊥
+FailsBehind OutOfMemory n bytes old new = new ≡ old

@@ -7,6 +7,7 @@ ghost use Rattle.perf_buffers.specs.Taking.{Takes, FailsToTake, FailsToKeep, Can
 ghost use Rattle.perf_buffers.specs.Room.{falls_short, is_made_beforehand, makes_all_room, room_made};
 
 use crate::fill::append;
+use crate::frame_input::behind;
 use crate::parsebuf::{ParseBuf, ParseBufChunk};
 use perf_base::cow::CowSlice;
 use perf_base::error::{ErrorKind, ParseError, ParseResult};
@@ -16,7 +17,7 @@ use std::alloc::Global;
 const UNHINTED_ROOM: usize = 16384;
 
 #[derive(Debug, Drop)]
-enum Held<'p> {
+pub(crate) enum Held<'p> {
     Lent(&'p [u8]),
     // The bytes, and how many of them were taken.
     Own(Vec<u8>, usize),
@@ -25,12 +26,24 @@ enum Held<'p> {
 /// The bytes of one frame: borrowed from the input, or its own.
 #[derive(Debug, Drop)]
 pub struct ParseBufCursor<'p> {
-    held: Held<'p>,
+    pub(crate) held: Held<'p>,
 }
 
 impl<'p> ParseBufCursor<'p> {
     ghost use Rattle.perf_base.specs.Cow.{cow_items, is_borrowed};
-    ghost use Rattle.perf_buffers.specs.Cursor.{cursor_left, cursor_lent, held_left, is_at_start, is_lent};
+    ghost use Rattle.perf_buffers.specs.Cursor.{cursor_left, cursor_lent, held_left, is_at_start, is_lent, IsAtStart};
+
+    // Bytes that are lent.
+    #[inline]
+    pub(crate) fn lent(bytes: &'p [u8]) -> ParseBufCursor<'p>
+        ensures left { cursor_left result ≡ bytes.now }
+        ensures form { cursor_lent result ≡ true }
+        ensures start { IsAtStart result }
+    {
+        ParseBufCursor {
+            held: Held::Lent(bytes),
+        }
+    }
 
     #[inline]
     fn rest(&self) -> &[u8]
@@ -38,13 +51,7 @@ impl<'p> ParseBufCursor<'p> {
     {
         match &self.held {
             Held::Lent(bytes) => bytes,
-            Held::Own(bytes, place) => {
-                if *place < bytes.len() {
-                    &bytes[*place..]
-                } else {
-                    &[]
-                }
-            }
+            Held::Own(bytes, place) => behind(bytes, *place),
         }
     }
 
@@ -283,7 +290,8 @@ impl<'p> ParseBufCursor<'p> {
         // A whole buffer lends its bytes, and nothing is always there: neither takes memory.
         ensures whole { IsTrue (B.source buf.old).whole → IfOk result (λ c. IsTrue (cursor_lent c)) }
         ensures whole_memory { IsTrue (B.source buf.old).whole → NeedsNoMemory result }
-        ensures nothing { len ≡ 0 → IsOk result × (B.source buf.new ≡ B.source buf.old) }
+        ensures nothing { len ≡ 0 → IfOk result (λ c. IsTrue (cursor_lent c)) × IsOk result
+            × (B.source buf.new ≡ B.source buf.old) }
 
         // No room is made where the buffer says that it has too few, and else all room first, where that is little.
         ensures short { falls_short (B.hint buf.old) len ≡ true → NeedsNoMemory result }

@@ -50,7 +50,7 @@ fn take_some<'p, B: ParseBuf<'p>>(buf: &mut B, out: &mut [u8]) -> ParseResult<us
 // Fills `out` from as many chunks as it takes.
 #[cold]
 #[inline(never)]
-fn fill<'p, B: ParseBuf<'p>>(buf: &mut B, out: &mut [u8]) -> ParseResult<()>
+fn fill_on<'p, B: ParseBuf<'p>>(buf: &mut B, out: &mut [u8]) -> ParseResult<()>
     ensures stays { Stays (B.source buf.old) (refusal result) (B.source buf.new) }
     ensures can_fail { CanFail (B.source buf.old) (refusal result) }
     ensures memory { NeedsNoMemory result }
@@ -114,6 +114,22 @@ pub(crate) fn append<'p, B: ParseBuf<'p>>(
     Ok(())
 }
 
+/// Fills `out`, which has room for at least one byte.
+#[inline]
+pub fn fill<'p, B: ParseBuf<'p>>(buf: &mut B, out: &mut [u8]) -> ParseResult<()>
+    requires { 0 < length out.old }
+    ensures stays { Stays (B.source buf.old) (refusal result) (B.source buf.new) }
+    ensures can_fail { CanFail (B.source buf.old) (refusal result) }
+    ensures memory { NeedsNoMemory result }
+    ensures ok { IsTrue (B.source buf.old).told → OnOk result (Takes (B.source buf.old) (length out.old) (B.source buf.new) × (out.new ≡ take (length out.old) (B.source buf.old).left)) }
+    ensures err { IsTrue (B.source buf.old).told → IfErr result (λ e. FailsToTake (B.source buf.old) (length out.old) (kind_of e) (B.source buf.new)) }
+{
+    if fill_at_once(buf, out)? {
+        return Ok(());
+    }
+    fill_on(buf, out)
+}
+
 /// The next `N` bytes, of which there is at least one.
 #[inline]
 pub fn take_array<'p, B: ParseBuf<'p>, const N: usize>(buf: &mut B) -> ParseResult<[u8; N]>
@@ -125,8 +141,6 @@ pub fn take_array<'p, B: ParseBuf<'p>, const N: usize>(buf: &mut B) -> ParseResu
     ensures err { IsTrue (B.source buf.old).told → IfErr result (λ e. FailsToTake (B.source buf.old) N (kind_of e) (B.source buf.new)) }
 {
     let mut bytes = [0u8; N];
-    if !fill_at_once(buf, &mut bytes)? {
-        fill(buf, &mut bytes)?;
-    }
+    fill(buf, &mut bytes)?;
     Ok(bytes)
 }

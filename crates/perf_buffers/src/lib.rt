@@ -3,6 +3,9 @@
 
 pub mod cursor;
 pub mod fill;
+mod frame_input;
+pub mod input;
+pub mod outer;
 pub mod parsebuf;
 pub mod pieces;
 pub mod rest;

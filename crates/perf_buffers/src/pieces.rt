@@ -49,13 +49,32 @@ impl<'p> PieceBuf<'p> {
 }
 
 impl<'p> ParseBuf<'p> for PieceBuf<'p> {
-    ghost source = { λ s. record { left = s.bytes.now; told = true; whole = false; can_fault = false; faults = None } };
+    ghost use Rattle.std.specs.Prelude.{IfOk, IfErr, []};
+    ghost use Rattle.std.specs.Borrow.{sem};
+    ghost use Rattle.std.specs.Io.BufRead.{Rests};
+    ghost use Rattle.perf_base.specs.Errors.{kind_of};
+    ghost use Rattle.perf_buffers.specs.Buffer.{Shows, ShowsReady, Refuses, KeepsChunk, lasts};
+    ghost use Rattle.perf_buffers.specs.Pieces.{piece_lasting, piece_source, piece_ready};
+    ghost use Rattle.perf_buffers.specs.contracts.pieces.PieceBuf.{the_row};
+    ghost use mir.Syntax.{named};
 
-    ghost ready = { λ s. take s.most s.bytes.now };
+    ghost source = { piece_source };
+
+    ghost ready = { piece_ready };
 
     ghost hint = { λ s. Some (length s.bytes.now) };
 
-    fn chunk(&mut self) -> ParseResult<ParseBufChunk<'_, 'p>> {
+    /// The next piece. It lasts as long as the slice where pieces do, and else until the buffer
+    /// advances.
+    fn chunk(&mut self) -> ParseResult<ParseBufChunk<'_, 'p>>
+        ensures shows { IfOk result (λ c. Shows (piece_source self.old) c) }
+        ensures same { ShowsReady (piece_ready self.old) result }
+        ensures refuses { IfErr result (λ e. Refuses (piece_source self.old) (kind_of e)) }
+        ensures lasting { IfOk result (λ c. lasts c ≡ piece_lasting self.old) }
+        ensures* after_borrow { sem 𝓛 (Rests (the_row (record { mir = named 1; lft = [] }))
+            self.entry (λ new.
+            KeepsChunk (piece_source self.old) result (piece_source new) (piece_ready new))) }
+    {
         if self.bytes.is_empty() {
             return Err(ParseError::eof());
         }

@@ -9,7 +9,7 @@ ghost use Rattle.perf_buffers.specs.Taking.{Takes, FailsToTake, CanFail};
 use crate::parsebuf::ParseBuf;
 use perf_base::error::ParseResult;
 
-fn is_zero(bytes: &[u8]) -> bool
+pub(crate) fn is_zero(bytes: &[u8]) -> bool
     ensures { result ≡ all_zero bytes.now }
 {
     bytes.iter().all(|byte| *byte == 0)

@@ -1,0 +1,156 @@
+//! The bytes of a frame as an input.
+
+ghost use Rattle.std.specs.Prelude.{◌≡◌, ◌<◌, ◌≤◌, [], length, take, drop, true, false, Some, None};
+ghost use Rattle.std.specs.Prelude.{IfOk, IfErr};
+ghost use Rattle.perf_base.specs.Refusals.{refusal_kind, kinds, TakesNoMemory};
+ghost use Rattle.perf_base.specs.declared.error.ErrorKind.TheVariants.{Eof, OutOfMemory};
+ghost use Rattle.perf_buffers.specs.Cursor.{held_left, is_lent};
+ghost use Rattle.perf_buffers.specs.Taking.{FailsBehind};
+
+use crate::cursor::{Held, ParseBufCursor};
+use crate::input::Input;
+use crate::zeros::is_zero;
+use perf_base::cow::CowSlice;
+use perf_base::refusal::{ReadResult, Refusal};
+use std::alloc::Global;
+use std::mem;
+
+// The bytes behind a place.
+#[inline]
+pub(crate) fn behind(bytes: &[u8], place: usize) -> &[u8]
+    ensures { result.now ≡ drop place bytes.now }
+{
+    if place < bytes.len() {
+        &bytes[place..]
+    } else {
+        &[]
+    }
+}
+
+// The next `len` bytes behind a place. All of them are taken where there are fewer.
+#[inline]
+fn take_behind<'a>(bytes: &'a [u8], place: &mut usize, len: usize) -> ReadResult<&'a [u8]>
+    ensures ok { IfOk result (λ next. (len ≤ length (drop place.old bytes.now))
+        × (next.now ≡ take len (drop place.old bytes.now))
+        × (drop place.new bytes.now ≡ drop len (drop place.old bytes.now))) }
+    ensures err { IfErr result (λ e. (refusal_kind e ≡ Eof)
+        × (length (drop place.old bytes.now) < len) × (drop place.new bytes.now ≡ [])) }
+{
+    let left = behind(bytes, *place);
+    if left.len() < len {
+        *place = bytes.len();
+        return Err(Refusal::Eof);
+    }
+    *place += len;
+    Ok(&left[..len])
+}
+
+// The same, copied. Where memory is refused, none is taken.
+fn copy_behind(alloc: Global, bytes: &[u8], place: &mut usize, len: usize) -> ReadResult<Vec<u8>>
+    ensures short { length (drop place.old bytes.now) < len → TakesNoMemory (kinds result) }
+    ensures ok { IfOk result (λ next. (len ≤ length (drop place.old bytes.now))
+        × (next.items ≡ take len (drop place.old bytes.now))
+        × (drop place.new bytes.now ≡ drop len (drop place.old bytes.now))) }
+    ensures err { IfErr result (λ e. FailsBehind (refusal_kind e) len bytes.now place.old place.new) }
+{
+    let from = *place;
+    let next = take_behind(bytes, place, len)?;
+    match next.to_vec(alloc) {
+        Ok(copy) => Ok(copy),
+        Err(_) => {
+            *place = from;
+            Err(Refusal::OutOfMemory)
+        }
+    }
+}
+
+// All bytes behind a place. Where none was taken yet, they are not copied.
+fn take_all(alloc: Global, bytes: &mut Vec<u8>, place: &mut usize) -> ReadResult<Vec<u8>>
+    ensures ok { IfOk result (λ rest. (rest.items ≡ drop place.old bytes.old.items)
+        × (drop place.new bytes.new.items ≡ [])) }
+    ensures err { IfErr result (λ e. (refusal_kind e ≡ OutOfMemory)
+        × (drop place.new bytes.new.items ≡ drop place.old bytes.old.items)) }
+{
+    if *place == 0 {
+        return Ok(mem::replace(bytes, Vec::new(alloc)));
+    }
+    match behind(bytes, *place).to_vec(alloc) {
+        Ok(rest) => {
+            *place = bytes.len();
+            Ok(rest)
+        }
+        Err(_) => Err(Refusal::OutOfMemory),
+    }
+}
+
+impl<'p> Input<'p> for ParseBufCursor<'p> {
+    ghost source = { λ c. record { left = held_left c.held; told = true; whole = is_lent c.held; can_fault = false; faults = None } };
+
+    ghost hint = { λ c. Some (length (held_left c.held)) };
+
+    #[inline]
+    fn fill(&mut self, out: &mut [u8]) -> ReadResult<()> {
+        match &mut self.held {
+            Held::Lent(bytes) => bytes.fill(out),
+            Held::Own(bytes, place) => {
+                let next = take_behind(bytes, place, out.len())?;
+                out.copy_from_slice(next);
+                Ok(())
+            }
+        }
+    }
+
+    #[inline]
+    fn skip(&mut self, len: usize) -> ReadResult<()> {
+        match &mut self.held {
+            Held::Lent(bytes) => bytes.skip(len),
+            Held::Own(bytes, place) => {
+                take_behind(bytes, place, len)?;
+                Ok(())
+            }
+        }
+    }
+
+    #[inline]
+    fn take_zeros(&mut self, len: usize) -> ReadResult<bool> {
+        match &mut self.held {
+            Held::Lent(bytes) => bytes.take_zeros(len),
+            Held::Own(bytes, place) => {
+                let next = take_behind(bytes, place, len)?;
+                Ok(is_zero(next))
+            }
+        }
+    }
+
+    #[inline]
+    fn take_rest(&mut self, alloc: Global) -> ReadResult<CowSlice<'p, u8>> {
+        match &mut self.held {
+            Held::Lent(bytes) => bytes.take_rest(alloc),
+            Held::Own(bytes, place) => match take_all(alloc, bytes, place) {
+                Ok(rest) => Ok(CowSlice::Owned(rest)),
+                Err(refusal) => Err(refusal),
+            },
+        }
+    }
+
+    #[inline]
+    fn cut(&mut self, alloc: Global, len: usize) -> ReadResult<ParseBufCursor<'p>> {
+        if len == 0 {
+            return Ok(ParseBufCursor::lent(&[]));
+        }
+        match &mut self.held {
+            Held::Lent(bytes) => bytes.cut(alloc, len),
+            Held::Own(bytes, place) => match copy_behind(alloc, bytes, place, len) {
+                Ok(copy) => Ok(ParseBufCursor {
+                    held: Held::Own(copy, 0),
+                }),
+                Err(refusal) => Err(refusal),
+            },
+        }
+    }
+
+    #[inline]
+    fn remaining_hint(&self) -> Option<usize> {
+        Some(self.len())
+    }
+}

@@ -1,0 +1,185 @@
+//! What the calls inside this library take bytes from.
+//!
+//! An input is asked for what is wanted, and refuses by a [`Refusal`] of two bytes. A slice and the bytes of a frame are
+//! inputs as they are; any other buffer is one as an [`Outer`](crate::outer::Outer).
+
+ghost use Rattle.std.specs.Prelude.{◌≡◌, ℕ, ◌<◌, ◌≤◌, [], length, take, drop, true, false, Some, None, Option};
+ghost use Rattle.std.specs.Prelude.{IsTrue, IsOk, OnOk, IfOk, IfErr, IfSome};
+ghost use Rattle.perf_base.specs.Cow.{cow_items, is_borrowed};
+ghost use Rattle.perf_base.specs.Refusals.{refusal_kind, kinds, refused, TakesNoMemory};
+ghost use Rattle.perf_base.specs.Zeros.{all_zero};
+ghost use Rattle.perf_base.specs.declared.error.ErrorKind.{ErrorKind as Kind};
+ghost use Rattle.perf_base.specs.declared.error.ErrorKind.TheVariants.{Eof, OutOfMemory};
+ghost use Rattle.perf_buffers.specs.Buffer.{Source, Stays};
+ghost use Rattle.perf_buffers.specs.Cursor.{cursor_left, cursor_lent, IsAtStart};
+ghost use Rattle.perf_buffers.specs.Room.{falls_short, is_made_beforehand};
+ghost use Rattle.perf_buffers.specs.Taking.{Takes, FailsToTake, FailsToKeep, FailsInRest, CanFail};
+
+use crate::cursor::ParseBufCursor;
+use crate::zeros::is_zero;
+use perf_base::cow::CowSlice;
+use perf_base::refusal::{ReadResult, Refusal};
+use std::alloc::Global;
+
+/// Bytes that are taken as they are wanted.
+pub trait Input<'p> {
+    ghost source: { Self → Source };
+
+    // how many bytes are left, where it knows it
+    ghost hint: { Self → Option ℕ };
+
+    /// Takes as many bytes as `out` has, of which there is at least one, into it.
+    fn fill(&mut self, out: &mut [u8]) -> ReadResult<()>
+        requires { 0 < length out.old }
+        ensures stays { Stays (source self.old) (refused (kinds result)) (source self.new) }
+        ensures can_fail { CanFail (source self.old) (refused (kinds result)) }
+        ensures memory { TakesNoMemory (kinds result) }
+        ensures ok { IsTrue (source self.old).told → OnOk result (
+            Takes (source self.old) (length out.old) (source self.new)
+            × (out.new ≡ take (length out.old) (source self.old).left)) }
+        ensures err { IsTrue (source self.old).told → IfErr result (λ e.
+            FailsToTake (source self.old) (length out.old) (refusal_kind e) (source self.new)) };
+
+    /// Takes `len` bytes, of which there is at least one, and keeps none of them.
+    fn skip(&mut self, len: usize) -> ReadResult<()>
+        requires { 0 < len }
+        ensures stays { Stays (source self.old) (refused (kinds result)) (source self.new) }
+        ensures can_fail { CanFail (source self.old) (refused (kinds result)) }
+        ensures memory { TakesNoMemory (kinds result) }
+        ensures ok { IsTrue (source self.old).told →
+            OnOk result (Takes (source self.old) len (source self.new)) }
+        ensures err { IsTrue (source self.old).told → IfErr result (λ e.
+            FailsToTake (source self.old) len (refusal_kind e) (source self.new)) };
+
+    /// The same: whether all of them are zero.
+    fn take_zeros(&mut self, len: usize) -> ReadResult<bool>
+        requires { 0 < len }
+        ensures stays { Stays (source self.old) (refused (kinds result)) (source self.new) }
+        ensures can_fail { CanFail (source self.old) (refused (kinds result)) }
+        ensures memory { TakesNoMemory (kinds result) }
+        ensures ok { IsTrue (source self.old).told → IfOk result (λ zero.
+            Takes (source self.old) len (source self.new)
+            × (zero ≡ all_zero (take len (source self.old).left))) }
+        ensures err { IsTrue (source self.old).told → IfErr result (λ e.
+            FailsToTake (source self.old) len (refusal_kind e) (source self.new)) };
+
+    /// All that is left, borrowed where it is whole.
+    fn take_rest(&mut self, alloc: Global) -> ReadResult<CowSlice<'p, u8>>
+        ensures stays { Stays (source self.old) (refused (kinds result)) (source self.new) }
+        ensures can_fail { CanFail (source self.old) (refused (kinds result)) }
+        ensures whole { IsTrue (source self.old).whole → IsTrue (source self.old).told →
+            IfOk result (λ c. IsTrue (is_borrowed c)) }
+        ensures whole_memory { IsTrue (source self.old).whole → IsTrue (source self.old).told →
+            TakesNoMemory (kinds result) }
+        ensures ok { IsTrue (source self.old).told → IfOk result (λ c.
+            (cow_items c ≡ (source self.old).left) × ((source self.new).left ≡ [])) }
+        ensures err { IsTrue (source self.old).told → IfErr result (λ e.
+            FailsInRest (source self.old) (refusal_kind e) (source self.new)) };
+
+    /// Cuts off the next `len` bytes. They are borrowed where one chunk has them all and lasts, and else copied, into
+    /// room that is made by the rules of [`ParseBufCursor::new`].
+    fn cut(&mut self, alloc: Global, len: usize) -> ReadResult<ParseBufCursor<'p>>
+        ensures stays { Stays (source self.old) (refused (kinds result)) (source self.new) }
+        ensures can_fail { CanFail (source self.old) (refused (kinds result)) }
+        ensures whole { IsTrue (source self.old).whole →
+            IfOk result (λ c. IsTrue (cursor_lent c)) }
+        ensures whole_memory { IsTrue (source self.old).whole → TakesNoMemory (kinds result) }
+        ensures nothing { len ≡ 0 → IfOk result (λ c. IsTrue (cursor_lent c)) × IsOk result
+            × (source self.new ≡ source self.old) }
+        ensures short { falls_short (hint self.old) len ≡ true → TakesNoMemory (kinds result) }
+        ensures beforehand { IsTrue (source self.old).told →
+            is_made_beforehand (hint self.old) len ≡ true → IfErr result (λ e.
+            refusal_kind e ≡ OutOfMemory → (source self.new).left ≡ (source self.old).left) }
+        ensures ok { IsTrue (source self.old).told → IfOk result (λ c.
+            Takes (source self.old) len (source self.new)
+            × (cursor_left c ≡ take len (source self.old).left)) }
+        ensures start { IfOk result (λ c. IsAtStart c) }
+        ensures count { IfOk result (λ c. length (cursor_left c) ≡ len) }
+        ensures err { IsTrue (source self.old).told → IfErr result (λ e.
+            FailsToKeep (source self.old) len (refusal_kind e) (source self.new)) };
+
+    /// How many bytes are left, where it is known.
+    fn remaining_hint(&self) -> Option<usize>
+        ensures is { result ≡ hint self.now }
+        ensures exact { IfSome result (λ n.
+            IsTrue (source self.now).told → n ≡ length (source self.now).left) };
+}
+
+/// The next `N` bytes, of which there is at least one.
+#[inline]
+pub fn take_array<'p, I: Input<'p>, const N: usize>(input: &mut I) -> ReadResult<[u8; N]>
+    requires { 0 < N }
+    ensures stays { Stays (I.source input.old) (refused (kinds result)) (I.source input.new) }
+    ensures can_fail { CanFail (I.source input.old) (refused (kinds result)) }
+    ensures memory { TakesNoMemory (kinds result) }
+    ensures ok { IsTrue (I.source input.old).told → IfOk result (λ bytes.
+        Takes (I.source input.old) N (I.source input.new)
+        × (bytes ≡ take N (I.source input.old).left)) }
+    ensures err { IsTrue (I.source input.old).told → IfErr result (λ e.
+        FailsToTake (I.source input.old) N (refusal_kind e) (I.source input.new)) }
+{
+    let mut bytes = [0u8; N];
+    input.fill(&mut bytes)?;
+    Ok(bytes)
+}
+
+// The next `len` bytes of a slice. All of it is taken where it has fewer.
+#[inline]
+pub(crate) fn take_front<'p>(bytes: &mut &'p [u8], len: usize) -> ReadResult<&'p [u8]>
+    ensures ok { IfOk result (λ front. (len ≤ length bytes.old.now)
+        × (front.now ≡ take len bytes.old.now) × (bytes.new.now ≡ drop len bytes.old.now)) }
+    ensures err { IfErr result (λ e. (refusal_kind e ≡ Eof)
+        × (length bytes.old.now < len) × (bytes.new.now ≡ [])) }
+{
+    let all = *bytes;
+    if all.len() < len {
+        *bytes = &[];
+        return Err(Refusal::Eof);
+    }
+    *bytes = &all[len..];
+    Ok(&all[..len])
+}
+
+/// A slice is whole and cannot fault.
+impl<'p> Input<'p> for &'p [u8] {
+    ghost source = { λ s. record { left = s.now; told = true; whole = true; can_fault = false; faults = None } };
+
+    ghost hint = { λ s. Some (length s.now) };
+
+    #[inline]
+    fn fill(&mut self, out: &mut [u8]) -> ReadResult<()> {
+        let front = take_front(self, out.len())?;
+        out.copy_from_slice(front);
+        Ok(())
+    }
+
+    #[inline]
+    fn skip(&mut self, len: usize) -> ReadResult<()> {
+        take_front(self, len)?;
+        Ok(())
+    }
+
+    #[inline]
+    fn take_zeros(&mut self, len: usize) -> ReadResult<bool> {
+        let front = take_front(self, len)?;
+        Ok(is_zero(front))
+    }
+
+    #[inline]
+    fn take_rest(&mut self, _alloc: Global) -> ReadResult<CowSlice<'p, u8>> {
+        let rest = *self;
+        *self = &[];
+        Ok(CowSlice::Borrowed(rest))
+    }
+
+    #[inline]
+    fn cut(&mut self, _alloc: Global, len: usize) -> ReadResult<ParseBufCursor<'p>> {
+        let front = take_front(self, len)?;
+        Ok(ParseBufCursor::lent(front))
+    }
+
+    #[inline]
+    fn remaining_hint(&self) -> Option<usize> {
+        Some(self.len())
+    }
+}
