@@ -1,0 +1,88 @@
+-- Parts one behind another, and calls that read them so.
+use Rattle.std.proofs.Common.{◌≡◌, ℕ, List, true, false, refl, sym, ◌∙◌, ap, subst}
+use Rattle.std.specs.Prelude.{Result, Ok, Err}
+use Rattle.perf_base.specs.Configuration.{Configuration}
+use Rattle.perf_base.specs.Configured.{configuration_of, endian_of}
+use Rattle.perf_base.specs.Layout.{Answer, Parts, done, part, check, ◌>>=◌}
+use Rattle.perf_base.specs.Order.{Order}
+use Rattle.perf_base.specs.Took.{Took, took, quit, one_took, take_parts, took_by_places}
+use Rattle.perf_base.specs.declared.error.ErrorKind.{ErrorKind}
+use Rattle.perf_base.proofs.Took.{places_took, then_take}
+use Rattle.perf_buffers.specs.Buffer.{Source}
+use Rattle.perf_reader.specs.Calls.{Call}
+use Rattle.perf_reader.specs.Meaning.{Meaning, meaning}
+use Rattle.perf_reader.specs.Reading.{Gives, Reads}
+use Rattle.perf_reader.specs.declared.reader.Reader.{Reader}
+
+-- what follows, where both do the same
+pub then_same : {A B : Type 0} (f g : A → List ℕ → ℕ → Took B) → ((v : A) (left : List ℕ) (m : ℕ) → f v left m ≡ g v left m) → (r : Took A) → then_take f r ≡ then_take g r
+then_same f g same (took v left m) = same v left m
+then_same f g same (quit e left m) = refl
+
+take_behind : {A B : Type 0} (o : Order) (p : Parts A) (f : A → Parts B) (bytes : List ℕ) (n : ℕ) →
+    take_parts o (p >>= f) bytes n ≡ then_take (λ v left m. take_parts o (f v) left m) (take_parts o p bytes n)
+take_behind o (done v) f bytes n = refl
+take_behind o (check true e p) f bytes n = take_behind o p f bytes n
+take_behind o (check false e p) f bytes n = refl
+take_behind {A} {B} o (part shape k) f bytes n = go (λ v left m. take_behind o (k v) f left m) (one_took o shape bytes n)
+  where
+    go : ((v : Answer shape) (left : List ℕ) (m : ℕ) → take_parts o (k v >>= f) left m ≡ then_take (λ v left m. take_parts o (f v) left m) (take_parts o (k v) left m)) → (r : Took (Answer shape)) →
+        ◌≡◌ {A = Took B} (elim r [ took v left m ↦ take_parts o (k v >>= f) left m | quit e left m ↦ quit e left m ])
+        (then_take (λ v left m. take_parts o (f v) left m) (elim r as (λ r. Took A) [ took v left m ↦ take_parts o (k v) left m | quit e left m ↦ quit e left m ]))
+    go again (took v left m) = again v left m
+    go again (quit e left m) = refl
+
+-- parts, and then those that follow from their value
+pub places_behind : {A B : Type 0} (o : Order) (p : Parts A) (f : A → Parts B) (bytes : List ℕ) (n : ℕ) →
+    took_by_places o (p >>= f) bytes n ≡ then_take (λ v left m. took_by_places o (f v) left m) (took_by_places o p bytes n)
+places_behind o p f bytes n =
+    places_took o (p >>= f) bytes n
+    ∙ take_behind o p f bytes n
+    ∙ then_same (λ v left m. take_parts o (f v) left m) (λ v left m. took_by_places o (f v) left m) (λ v left m. sym (places_took o (f v) left m)) (take_parts o p bytes n)
+    ∙ ap (then_take (λ v left m. took_by_places o (f v) left m)) (sym (places_took o p bytes n))
+
+-- ---- calls
+module _ {I E : Type 0} {source : I → Source} {order : E → Order} where
+  -- a call that was answered, and one of the parts that follow from its value
+  pub call_behind : {X Y A B : Type 0} {view : X → A} {show : Y → B} {a b c : Reader I E} {x : X} {seen : Result Y ErrorKind} (p : Configuration → Parts A) (f : Configuration → A → Parts B) →
+      Call source order (Reads p view) a (Ok x) b → Call source order (Reads (λ s. f s (view x)) show) b seen c → Call source order (Reads (λ s. p s >>= f s) show) a seen c
+  call_behind {X} {Y} {A} {B} {view} {show} {a} {b} {c} {x} {seen} p f first next =
+      let old : Meaning = meaning source order a in
+      let mid : Meaning = meaning source order b in
+      let new : Meaning = meaning source order c in record {
+        config = next.config ∙ first.config;
+        whole = next.whole ∙ first.whole;
+        told = λ t. next.told (first.told t);
+        answer = λ t.
+            let same : took_by_places mid.order (f mid.settings (view x)) mid.source.left mid.reads ≡ took_by_places old.order (p old.settings >>= f old.settings) old.source.left old.reads =
+            ap (λ k. took_by_places (order (endian_of k)) (f (configuration_of k) (view x)) mid.source.left mid.reads) first.config
+            ∙ sym (places_behind old.order (p old.settings) (f old.settings) old.source.left old.reads
+            ∙ ap (then_take (λ v left m. took_by_places old.order (f old.settings v) left m)) (first.answer t)) in
+            subst (λ r. Gives show r seen new) same (next.answer (first.told t));
+        keeps = λ start k. next.keeps start (first.keeps start k);
+      }
+
+  -- a call that was refused
+  pub call_stops : {X Y A B : Type 0} {view : X → A} {show : Y → B} {a b : Reader I E} {e : ErrorKind} (p : Configuration → Parts A) (f : Configuration → A → Parts B) →
+      Call source order (Reads p view) a (Err e) b → Call source order (Reads (λ s. p s >>= f s) show) a (Err e) b
+  call_stops {X} {Y} {A} {B} {view} {show} {a} {b} {e} p f first =
+      let old : Meaning = meaning source order a in record {
+        config = first.config;
+        whole = first.whole;
+        told = first.told;
+        answer = λ t kind.
+            places_behind old.order (p old.settings) (f old.settings) old.source.left old.reads
+            ∙ ap (then_take (λ v left m. took_by_places old.order (f old.settings v) left m)) (first.answer t kind);
+        keeps = first.keeps;
+      }
+
+  -- nothing is read, for a value
+  pub call_none : {Y B : Type 0} {show : Y → B} {a : Reader I E} {y : Y} → Call source order (Reads (λ _. done (show y)) show) a (Ok y) a
+  call_none {Y} {B} {show} {a} {y} =
+      let old : Meaning = meaning source order a in record {
+        config = refl;
+        whole = refl;
+        told = λ t. t;
+        answer = λ t. places_took old.order (done (show y)) old.source.left old.reads;
+        keeps = λ start k. k;
+      }

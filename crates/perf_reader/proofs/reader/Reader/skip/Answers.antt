@@ -1,0 +1,33 @@
+use Rattle.std.proofs.Common.{None, Some, refl, ◌<◌, arith}
+use Rattle.std.proofs.lemmas.Bool.Decides.{nat_tests}
+use Rattle.perf_base.specs.Refusals.{refusal_kind}
+use Rattle.perf_reader.specs.Meaning.{Meaning, meaning}
+use Rattle.perf_reader.proofs.Paying.{array_keeps}
+use Rattle.perf_reader.proofs.Steps.{padding_there, padding_short}
+use Rattle.perf_reader.proofs.reader.Reader.skip.Goals as goal
+
+pub returns-in-Ok-clause-call : goal.returns-in-Ok-clause-call
+returns-in-Ok-clause-call g c =
+    let old : Meaning = meaning g.I.Input.source g.E.Endian.order c.args.self.now in
+    let new : Meaning = record { settings = old.settings; order = old.order; source = g.I.Input.source c.skip.new.self; reads = c.tick.new.self } in
+    let some : 0 < c.args.len = grind (arith, nat_tests) in
+    let e = c.in-Ok.ensures in record {
+      config = refl;
+      whole = e.stays.0;
+      told = e.stays.3;
+      answer = λ told. padding_there old.order c.args.len old.source new.source old.reads new.reads some (e.ok told) c.tick.ensures;
+      keeps = λ start p. array_keeps start old new c.args.len None p some c.tick.ensures e.stays e.can_fail (λ told. e.ok told);
+    }
+
+pub returns-in-Err-clause-call : goal.returns-in-Err-clause-call
+returns-in-Err-clause-call g c =
+    let old : Meaning = meaning g.I.Input.source g.E.Endian.order c.args.self.now in
+    let new : Meaning = record { settings = old.settings; order = old.order; source = g.I.Input.source c.skip.new.self; reads = c.tick.new.self } in
+    let some : 0 < c.args.len = grind (arith, nat_tests) in
+    let e = c.in-Err.ensures in record {
+      config = refl;
+      whole = e.stays.0;
+      told = e.stays.3;
+      answer = λ told kind. padding_short old.order c.args.len old.source new.source (refusal_kind c.in-Err.refusal) old.reads new.reads (e.err told) c.tick.ensures kind;
+      keeps = λ start p. array_keeps start old new c.args.len (Some (refusal_kind c.in-Err.refusal)) p some c.tick.ensures e.stays e.can_fail (λ told. e.err told);
+    }

@@ -1,0 +1,24 @@
+-- A call of a reader, in one clause: what it answers, and what every call keeps.
+use Rattle.std.specs.Prelude.{Result, ◌≡◌, IsTrue, None}
+use Rattle.perf_base.specs.Order.{Order}
+use Rattle.perf_base.specs.Refusals.{refused}
+use Rattle.perf_base.specs.declared.error.ErrorKind.{ErrorKind}
+use Rattle.perf_buffers.specs.Buffer.{Source}
+use Rattle.perf_reader.specs.Meaning.{Meaning, input_of, config_of, meaning}
+use Rattle.perf_reader.specs.Reading.{Says, Keeps}
+use Rattle.perf_reader.specs.declared.reader.Reader.{Reader}
+
+module _ {I E X : Type 0} (source : I → Source) (order : E → Order) (says : Says X) where
+  -- one call: the reader before it, its answer, and the reader behind it
+  pub record Call (old : Reader I E) (seen : Result X ErrorKind) (new : Reader I E) : Type 0 where
+    -- the configuration stays
+    pub config : config_of new ≡ config_of old
+    -- a buffer stays whole, and goes on telling its bytes
+    pub whole : (source (input_of new)).whole ≡ (source (input_of old)).whole
+    pub told : IsTrue (source (input_of old)).told → IsTrue (source (input_of new)).told
+    -- the answer, where the buffer tells its bytes
+    pub answer : IsTrue (source (input_of old)).told →
+        says (meaning source order old) seen (meaning source order new)
+    -- what was kept since any moment before is kept
+    pub keeps : (start : Meaning) → Keeps start None (meaning source order old) →
+        Keeps start (refused seen) (meaning source order new)

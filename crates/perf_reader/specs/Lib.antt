@@ -1,0 +1,6 @@
+pub mod Meaning
+pub mod Reading
+pub mod Calls
+pub mod Room
+pub mod Words
+pub mod AttributeGroups

@@ -1,0 +1,90 @@
+-- What a call of a reader answers and leaves, and what every call keeps. A refusal is seen by its kind.
+use Rattle.std.specs.Prelude.{Option, Result, Ok, Err, Some, None, Bool, true, false, IsTrue, IfOk}
+use Rattle.std.specs.Prelude.{◌≡◌, ℕ, ◌+◌, ◌-◌, ◌≤◌, List, length, drop}
+use Rattle.perf_base.specs.Configuration.{Configuration}
+use Rattle.perf_base.specs.Layout.{Width, Shape, number, Answer, Parts}
+use Rattle.perf_base.specs.Refusals.{TakesNoMemory}
+use Rattle.perf_base.specs.Took.{Took, took, quit, one_took, took_by_places}
+use Rattle.perf_base.specs.declared.error.ErrorKind.{ErrorKind}
+use Rattle.perf_base.specs.declared.error.ErrorKind.TheVariants.{Eof, InvalidRecord, UnsupportedConfig, UnsupportedData, External, OutOfMemory}
+use Rattle.perf_buffers.specs.Buffer.{Stays}
+use Rattle.perf_reader.specs.Meaning.{Meaning}
+
+-- ---- what is answered
+
+-- what a relation says of a call: the meaning before, the answer, and the meaning behind it
+abbrev pub Says : Type 0 → Type 1
+Says X = Meaning → Result X ErrorKind → Meaning → Type 0
+
+-- a kind that a layout can have: neither a fault nor want of memory
+abbrev pub of_layout : ErrorKind → Bool
+of_layout Eof = true
+of_layout InvalidRecord = true
+of_layout UnsupportedConfig = true
+of_layout UnsupportedData = true
+of_layout External = false
+of_layout OutOfMemory = false
+
+-- An answer is what a run made, seen through `view`; what is left and how many reads were made is what the run says. Of a
+-- fault and of want of memory this says nothing.
+abbrev pub Gives : {X A : Type 0} → (X → A) → Took A → Result X ErrorKind → Meaning → Type 0
+Gives view r (Ok x) new = r ≡ took (view x) new.source.left new.reads
+Gives view r (Err e) new = IsTrue (of_layout e) → r ≡ quit e new.source.left new.reads
+
+-- The layout of its parts, under the configuration, in the bytes that were left.
+abbrev pub Reads : {X A : Type 0} → (Configuration → Parts A) → (X → A) → Says X
+Reads parts view old seen new =
+    Gives view (took_by_places old.order (parts old.settings) old.source.left old.reads) seen new
+
+-- the same, for which no memory is taken
+abbrev pub ReadsPlain : {X A : Type 0} → (Configuration → Parts A) → (X → A) → Says X
+ReadsPlain parts view old seen new = Reads parts view old seen new × TakesNoMemory seen
+
+-- the same, of which no byte is copied out of a whole buffer, so that no memory is taken there
+abbrev pub ReadsLent : {X A : Type 0} → (Configuration → Parts A) → (X → A) → (X → Type 0) → Says X
+ReadsLent parts view borrowed old seen new =
+    Reads parts view old seen new
+    × (IsTrue old.source.whole → IfOk seen borrowed × TakesNoMemory seen)
+
+-- the same of a single part
+abbrev pub ReadsOne : {X : Type 0} → (shape : Shape) → (X → Answer shape) → Says X
+ReadsOne shape view old seen new =
+    Gives view (one_took old.order shape old.source.left old.reads) seen new
+
+-- the same of a number, for which no memory is taken
+abbrev pub ReadsNumber : Width → Says ℕ
+ReadsNumber w old seen new = ReadsOne (number w) (λ n. n) old seen new × TakesNoMemory seen
+
+-- ---- what is kept
+
+-- the last n of a list; it is opened only where a proof asks for it
+unfoldable pub last_of : ℕ → List ℕ → List ℕ
+last_of n xs = drop (length xs - n) xs
+
+-- one where it was refused
+abbrev pub one_if_refused : Option ErrorKind → ℕ
+one_if_refused None = 0
+one_if_refused (Some e) = 1
+
+-- it is a buffer's fault
+abbrev pub is_external : Option ErrorKind → Bool
+is_external None = false
+is_external (Some Eof) = false
+is_external (Some InvalidRecord) = false
+is_external (Some UnsupportedConfig) = false
+is_external (Some UnsupportedData) = false
+is_external (Some External) = true
+is_external (Some OutOfMemory) = false
+
+-- What lies between two moments of a reader, the second of them behind a call that was refused with that kind, if it was.
+pub record Keeps (start : Meaning) (e : Option ErrorKind) (new : Meaning) : Type 0 where
+  -- the buffer stays what it is, and its faults are counted
+  pub buffer : Stays start.source e new.source
+  -- a fault comes only from a buffer that can fault
+  pub fault : is_external e ≡ true → IsTrue start.source.can_fault
+  -- at most as many reads as bytes taken, and one more where it was refused
+  pub cost : IsTrue start.source.told → (start.reads ≤ new.reads)
+      × (new.reads + length new.source.left ≤ start.reads + length start.source.left + one_if_refused e)
+  -- what is left is an end of what was left
+  pub place : IsTrue start.source.told → (length new.source.left ≤ length start.source.left)
+      × (new.source.left ≡ last_of (length new.source.left) start.source.left)

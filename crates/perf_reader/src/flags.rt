@@ -1,0 +1,58 @@
+//! How words with names, and sets of flags, are read.
+#![tactic(auto, using(crate::proofs::Paying::chain))]
+
+ghost use Rattle.perf_base.specs.FieldWords.{u16, u64};
+ghost use Rattle.perf_reader.specs.Words.{ReadsPlain};
+ghost use Rattle.perf_words.specs.SetBits.{aux_flags_bits, ksymbol_flags_bits};
+
+use crate::read::{Meant, ReadFrom};
+use crate::reader::Reader;
+use bitflags::Flags;
+use perf_base::endian::Endian;
+use perf_base::refusal::ReadResult;
+use perf_buffers::input::Input;
+use perf_words::{AuxFlags, BpfEventType, KSymbolFlags, KSymbolType};
+
+impl Meant for AuxFlags {
+    ghost says = { ReadsPlain (λ _. u64) aux_flags_bits };
+}
+
+impl<'p, I: Input<'p>> ReadFrom<'p, I> for AuxFlags {
+    #[inline]
+    fn read<E: Endian>(reader: &mut Reader<I, E>) -> ReadResult<Self> {
+        Ok(AuxFlags::from_bits_retain(reader.read_u64()?))
+    }
+}
+
+impl Meant for BpfEventType {
+    ghost says = { ReadsPlain (λ _. u16) (λ number. number) };
+}
+
+impl<'p, I: Input<'p>> ReadFrom<'p, I> for BpfEventType {
+    #[inline]
+    fn read<E: Endian>(reader: &mut Reader<I, E>) -> ReadResult<Self> {
+        Ok(BpfEventType::new(reader.read_u16()?))
+    }
+}
+
+impl Meant for KSymbolType {
+    ghost says = { ReadsPlain (λ _. u16) (λ number. number) };
+}
+
+impl<'p, I: Input<'p>> ReadFrom<'p, I> for KSymbolType {
+    #[inline]
+    fn read<E: Endian>(reader: &mut Reader<I, E>) -> ReadResult<Self> {
+        Ok(KSymbolType::new(reader.read_u16()?))
+    }
+}
+
+impl Meant for KSymbolFlags {
+    ghost says = { ReadsPlain (λ _. u16) ksymbol_flags_bits };
+}
+
+impl<'p, I: Input<'p>> ReadFrom<'p, I> for KSymbolFlags {
+    #[inline]
+    fn read<E: Endian>(reader: &mut Reader<I, E>) -> ReadResult<Self> {
+        Ok(KSymbolFlags::from_bits_retain(reader.read_u16()?))
+    }
+}

@@ -1,0 +1,17 @@
+//! Elementary reads out of an input, each of which is counted, and what a type's reading means.
+#![tactic(auto)]
+
+mod attribute;
+mod bytes;
+mod flags;
+mod frame;
+mod header;
+mod names;
+mod numbers;
+mod optional;
+mod outer;
+pub mod read;
+pub mod reader;
+mod rest;
+mod room;
+mod zeros;

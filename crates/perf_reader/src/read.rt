@@ -1,0 +1,107 @@
+//! What the types of this library mean, and how they are read.
+
+ghost use Rattle.perf_reader.specs.Words.{Call, Says, ReadsNumber, ReadsOne, TakesNoMemory};
+ghost use Rattle.perf_reader.specs.Words.{kinds, run, w1, w2, w4, w8};
+
+use crate::reader::Reader;
+use perf_base::endian::Endian;
+use perf_base::refusal::ReadResult;
+use perf_buffers::input::Input;
+
+/// A type whose reading means something.
+pub trait Meant: Sized {
+    // what a call answers, from what the reader meant before, and what it means behind it
+    ghost says: { Says Self };
+}
+
+/// A type of this library, which is read out of an input.
+pub trait ReadFrom<'p, I: Input<'p>>: Meant {
+    /// Reads one value.
+    fn read<E: Endian>(reader: &mut Reader<I, E>) -> ReadResult<Self>
+        ensures call { Call I.source E.order Self.says reader.old (kinds result) reader.new };
+}
+
+impl<'p, I: Input<'p>, E: Endian> Reader<I, E> {
+    /// Reads one value of a type.
+    #[inline]
+    pub fn read<T: ReadFrom<'p, I>>(&mut self) -> ReadResult<T>
+        ensures call { Call I.source E.order T.says self.old (kinds result) self.new }
+    {
+        T::read(self)
+    }
+}
+
+impl Meant for u8 {
+    ghost says = { ReadsNumber w1 };
+}
+
+impl<'p, I: Input<'p>> ReadFrom<'p, I> for u8 {
+    #[inline]
+    fn read<E: Endian>(reader: &mut Reader<I, E>) -> ReadResult<Self> {
+        match reader.read_u8() {
+            Ok(number) => Ok(number),
+            Err(refusal) => Err(refusal),
+        }
+    }
+}
+
+impl Meant for u16 {
+    ghost says = { ReadsNumber w2 };
+}
+
+impl<'p, I: Input<'p>> ReadFrom<'p, I> for u16 {
+    #[inline]
+    fn read<E: Endian>(reader: &mut Reader<I, E>) -> ReadResult<Self> {
+        match reader.read_u16() {
+            Ok(number) => Ok(number),
+            Err(refusal) => Err(refusal),
+        }
+    }
+}
+
+impl Meant for u32 {
+    ghost says = { ReadsNumber w4 };
+}
+
+impl<'p, I: Input<'p>> ReadFrom<'p, I> for u32 {
+    #[inline]
+    fn read<E: Endian>(reader: &mut Reader<I, E>) -> ReadResult<Self> {
+        match reader.read_u32() {
+            Ok(number) => Ok(number),
+            Err(refusal) => Err(refusal),
+        }
+    }
+}
+
+impl Meant for u64 {
+    ghost says = { ReadsNumber w8 };
+}
+
+impl<'p, I: Input<'p>> ReadFrom<'p, I> for u64 {
+    #[inline]
+    fn read<E: Endian>(reader: &mut Reader<I, E>) -> ReadResult<Self> {
+        match reader.read_u64() {
+            Ok(number) => Ok(number),
+            Err(refusal) => Err(refusal),
+        }
+    }
+}
+
+impl<const N: usize> Meant for [u8; N] {
+    ghost says = { λ old seen new.
+        ReadsOne (run N) (λ bytes. bytes) old seen new × TakesNoMemory seen };
+}
+
+impl<'p, I: Input<'p>, const N: usize> ReadFrom<'p, I> for [u8; N] {
+    #[inline]
+    #[tactic(auto, using(crate::proofs::Steps::run_none))]
+    fn read<E: Endian>(reader: &mut Reader<I, E>) -> ReadResult<Self> {
+        if N == 0 {
+            return Ok([0; N]);
+        }
+        match reader.read_array::<N>() {
+            Ok(bytes) => Ok(bytes),
+            Err(refusal) => Err(refusal),
+        }
+    }
+}
