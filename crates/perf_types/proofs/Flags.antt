@@ -1,4 +1,4 @@
--- The flags of a sample type, as sets of them answer.
+-- The flags of a sample type and of a read format, as sets of them answer.
 use Rattle.std.proofs.Common.{◌≡◌, ℕ, ◌==◌}
 use Rattle.std.specs.Int.RustNames.{bit_and}
 use Rattle.perf_words.specs.Bits.{has_bit}
@@ -23,3 +23,17 @@ pub contains_identifier : (word : ℕ) → (bit_and word 65536 == 65536) ≡ has
 contains_identifier word = contains_bit word 16
 
 pub ruleset sample_flags = (contains_tid, contains_time, contains_id, contains_cpu, contains_stream_id, contains_identifier)
+
+pub contains_time_enabled : (word : ℕ) → (bit_and word 1 == 1) ≡ has_bit word 0
+contains_time_enabled word = contains_bit word 0
+
+pub contains_time_running : (word : ℕ) → (bit_and word 2 == 2) ≡ has_bit word 1
+contains_time_running word = contains_bit word 1
+
+pub contains_counter_id : (word : ℕ) → (bit_and word 4 == 4) ≡ has_bit word 2
+contains_counter_id word = contains_bit word 2
+
+pub contains_counter_lost : (word : ℕ) → (bit_and word 16 == 16) ≡ has_bit word 4
+contains_counter_lost word = contains_bit word 4
+
+pub ruleset read_flags = (contains_time_enabled, contains_time_running, contains_counter_id, contains_counter_lost)

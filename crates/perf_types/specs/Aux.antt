@@ -16,6 +16,7 @@ pub record AuxValue : Type 0 where
 abbrev pub aux_value : Aux → AuxValue
 aux_value r = record { aux_offset = r.aux_offset; aux_size = r.aux_size; flags = aux_flags_bits r.flags }
 
+-- the body: three numbers
 abbrev pub aux : Parts AuxValue
 aux = do
   aux_offset ← u64

@@ -3,6 +3,7 @@ use Rattle.perf_base.specs.Layout.{Parts, done, ◌>>=◌}
 use Rattle.perf_base.specs.FieldWords.{u64}
 use Rattle.perf_types.specs.declared.aux_output_hw_id.AuxOutputHwId.{AuxOutputHwId}
 
+-- the body: one number
 abbrev pub aux_output_hw_id : Parts AuxOutputHwId
 aux_output_hw_id = do
   hw_id ← u64

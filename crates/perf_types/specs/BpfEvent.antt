@@ -15,6 +15,7 @@ pub record BpfEventValue : Type 0 where
 abbrev pub bpf_event_value : BpfEvent → BpfEventValue
 bpf_event_value r = record { ty = r.ty; flags = r.flags; id = r.id; tag = r.tag }
 
+-- the body: numbers and a tag of eight bytes
 abbrev pub bpf_event : Parts BpfEventValue
 bpf_event = do
   ty ← u16

@@ -1,6 +1,6 @@
 -- PERF_RECORD_CGROUP: a group's number and its path.
-use Rattle.std.specs.Prelude.{ℕ, List, IsTrue}
-use Rattle.perf_base.specs.Cow.{cow_items, is_borrowed}
+use Rattle.std.specs.Prelude.{ℕ, List, IsTrue, Bool}
+use Rattle.perf_base.specs.Cow.{cow_items, is_borrowed, cow_form}
 use Rattle.perf_base.specs.Layout.{Parts, done, ◌>>=◌}
 use Rattle.perf_base.specs.FieldWords.{u64, name}
 use Rattle.perf_types.specs.declared.cgroup.CGroup.{CGroup}
@@ -14,10 +14,15 @@ pub record CGroupValue : Type 0 where
 abbrev pub cgroup_value : CGroup → CGroupValue
 cgroup_value r = record { id = r.id; path = cow_items r.path }
 
+-- whether its path is borrowed
+abbrev pub cgroup_form : CGroup → List Bool
+cgroup_form r = cow_form r.path
+
 -- no byte of it was copied
 abbrev pub IsBorrowedCGroup : CGroup → Type 0
 IsBorrowedCGroup r = IsTrue (is_borrowed r.path)
 
+-- the body: a number, and the path behind it
 abbrev pub cgroup : Parts CGroupValue
 cgroup = do
   id ← u64

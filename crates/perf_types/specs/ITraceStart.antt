@@ -3,6 +3,7 @@ use Rattle.perf_base.specs.Layout.{Parts, done, ◌>>=◌}
 use Rattle.perf_base.specs.FieldWords.{u32}
 use Rattle.perf_types.specs.declared.itrace_start.ITraceStart.{ITraceStart}
 
+-- the body: two numbers
 abbrev pub itrace_start : Parts ITraceStart
 itrace_start = do
   pid ← u32

@@ -1,6 +1,6 @@
 -- PERF_RECORD_KSYMBOL: a place and a length in the kernel's memory, what stands there, flags and a name.
-use Rattle.std.specs.Prelude.{ℕ, List, IsTrue}
-use Rattle.perf_base.specs.Cow.{cow_items, is_borrowed}
+use Rattle.std.specs.Prelude.{ℕ, List, IsTrue, Bool}
+use Rattle.perf_base.specs.Cow.{cow_items, is_borrowed, cow_form}
 use Rattle.perf_base.specs.Layout.{Parts, done, ◌>>=◌}
 use Rattle.perf_base.specs.FieldWords.{u16, u32, u64, name}
 use Rattle.perf_words.specs.SetBits.{ksymbol_flags_bits}
@@ -19,10 +19,15 @@ pub record KSymbolValue : Type 0 where
 abbrev pub ksymbol_value : KSymbol → KSymbolValue
 ksymbol_value r = record { addr = r.addr; len = r.len; ksym_type = r.ksym_type; flags = ksymbol_flags_bits r.flags; name = cow_items r.name }
 
+-- whether its name is borrowed
+abbrev pub ksymbol_form : KSymbol → List Bool
+ksymbol_form r = cow_form r.name
+
 -- no byte of it was copied
 abbrev pub IsBorrowedKSymbol : KSymbol → Type 0
 IsBorrowedKSymbol r = IsTrue (is_borrowed r.name)
 
+-- the body: numbers, and the name behind them
 abbrev pub ksymbol : Parts KSymbolValue
 ksymbol = do
   addr ← u64

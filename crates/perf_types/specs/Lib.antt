@@ -4,7 +4,10 @@ pub mod AuxOutputHwId
 pub mod BpfEvent
 pub mod CGroup
 pub mod Comm
+pub mod EntryCalls
 pub mod Exit
+pub mod GroupEntry
+pub mod GroupIter
 pub mod ITraceStart
 pub mod KSymbol
 pub mod Lost
@@ -13,7 +16,12 @@ pub mod Mmap
 pub mod Mmap2
 pub mod MmapDetail
 pub mod Namespaces
+pub mod Read
+pub mod ReadFormat
+pub mod ReadGroup
+pub mod ReadValue
 pub mod SampleId
+pub mod SampleIdFields
 pub mod SwitchCpuWide
 pub mod Text
 pub mod TextPoke

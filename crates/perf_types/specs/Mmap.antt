@@ -1,6 +1,6 @@
 -- PERF_RECORD_MMAP: a process, its thread, where it mapped what, and the path of the file.
-use Rattle.std.specs.Prelude.{ℕ, List, IsTrue}
-use Rattle.perf_base.specs.Cow.{cow_items, is_borrowed}
+use Rattle.std.specs.Prelude.{ℕ, List, IsTrue, Bool}
+use Rattle.perf_base.specs.Cow.{cow_items, is_borrowed, cow_form}
 use Rattle.perf_base.specs.Layout.{Parts, done, ◌>>=◌}
 use Rattle.perf_base.specs.FieldWords.{u32, u64, name}
 use Rattle.perf_types.specs.declared.mmap.Mmap.{Mmap}
@@ -18,10 +18,15 @@ pub record MmapValue : Type 0 where
 abbrev pub mmap_value : Mmap → MmapValue
 mmap_value r = record { pid = r.pid; tid = r.tid; addr = r.addr; len = r.len; pgoff = r.pgoff; filename = cow_items r.filename }
 
+-- whether its path is borrowed
+abbrev pub mmap_form : Mmap → List Bool
+mmap_form r = cow_form r.filename
+
 -- no byte of it was copied
 abbrev pub IsBorrowedMmap : Mmap → Type 0
 IsBorrowedMmap r = IsTrue (is_borrowed r.filename)
 
+-- the body: numbers, and the path behind them
 abbrev pub mmap : Parts MmapValue
 mmap = do
   pid ← u32

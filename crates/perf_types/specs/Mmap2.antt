@@ -1,7 +1,7 @@
 -- PERF_RECORD_MMAP2: as PERF_RECORD_MMAP, and which file was mapped, how its memory may be used, and how it was mapped.
-use Rattle.std.specs.Prelude.{ℕ, List, IsTrue}
+use Rattle.std.specs.Prelude.{ℕ, List, IsTrue, Bool}
 use Rattle.perf_base.specs.Configuration.{Configuration}
-use Rattle.perf_base.specs.Cow.{cow_items, is_borrowed}
+use Rattle.perf_base.specs.Cow.{cow_items, is_borrowed, cow_form}
 use Rattle.perf_base.specs.Layout.{Parts, done, ◌>>=◌}
 use Rattle.perf_base.specs.FieldWords.{u32, u64, name}
 use Rattle.perf_types.specs.Mmap.{MmapValue}
@@ -28,10 +28,15 @@ mmap2_value r = record { pid = r.pid; tid = r.tid; addr = r.addr; len = r.len; p
 abbrev pub mapping_of : Mmap2Value → MmapValue
 mapping_of r = record { pid = r.pid; tid = r.tid; addr = r.addr; len = r.len; pgoff = r.pgoff; filename = r.filename }
 
+-- whether its path is borrowed
+abbrev pub mmap2_form : Mmap2 → List Bool
+mmap2_form r = cow_form r.filename
+
 -- no byte of its path was copied
 abbrev pub IsBorrowedMmap2 : Mmap2 → Type 0
 IsBorrowedMmap2 r = IsTrue (is_borrowed r.filename)
 
+-- the body: numbers with the detail between them, and the path behind them
 abbrev pub mmap2 : Configuration → Parts Mmap2Value
 mmap2 c = do
   pid ← u32

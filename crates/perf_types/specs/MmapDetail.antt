@@ -25,28 +25,34 @@ has_fitting_id (detail.BuildId build_id len) = nat_le len 20
 
 -- ---- what a detail has, or lacks
 
+-- the major number of the device, of an inode
 abbrev pub maj_of : DetailValue → Option ℕ
 maj_of (inode_is maj min ino ino_generation) = Some maj
 maj_of (build_id_is id) = None
 
+-- the minor number of the device, of an inode
 abbrev pub min_of : DetailValue → Option ℕ
 min_of (inode_is maj min ino ino_generation) = Some min
 min_of (build_id_is id) = None
 
+-- the number of an inode
 abbrev pub ino_of : DetailValue → Option ℕ
 ino_of (inode_is maj min ino ino_generation) = Some ino
 ino_of (build_id_is id) = None
 
+-- the generation of an inode
 abbrev pub ino_generation_of : DetailValue → Option ℕ
 ino_generation_of (inode_is maj min ino ino_generation) = Some ino_generation
 ino_generation_of (build_id_is id) = None
 
+-- the bytes of a build id
 abbrev pub build_id_of : DetailValue → Option (List ℕ)
 build_id_of (inode_is maj min ino ino_generation) = None
 build_id_of (build_id_is id) = Some id
 
 -- ---- tables
 
+-- the device, the number and the generation of an inode
 abbrev pub inode : Parts DetailValue
 inode = do
   maj ← u32

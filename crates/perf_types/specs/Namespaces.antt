@@ -1,6 +1,6 @@
 -- PERF_RECORD_NAMESPACES: a process, its thread, and a counted list of namespaces.
-use Rattle.std.specs.Prelude.{ℕ, ◌*◌, List, [], ◌∷◌}
-use Rattle.perf_base.specs.Cow.{cow_items}
+use Rattle.std.specs.Prelude.{ℕ, ◌*◌, Bool, List, [], ◌∷◌}
+use Rattle.perf_base.specs.Cow.{cow_items, cow_form}
 use Rattle.perf_base.specs.Layout.{Parts, done, ◌>>=◌}
 use Rattle.perf_base.specs.FieldWords.{u32, u64, numbers}
 use Rattle.perf_types.specs.declared.namespaces.NamespaceEntry.{NamespaceEntry}
@@ -16,23 +16,33 @@ pub record NamespacesValue : Type 0 where
 abbrev pub namespaces_value : Namespaces → NamespacesValue
 namespaces_value r = record { pid = r.pid; tid = r.tid; namespaces = cow_items r.namespaces }
 
+-- whether its list is borrowed
+abbrev pub namespaces_form : Namespaces → List Bool
+namespaces_form r = cow_form r.namespaces
+
 -- ---- where each namespace stands in the list: NET_NS_INDEX and the like of perf_event.h
 
+-- NET_NS_INDEX
 abbrev pub network_index : ℕ
 network_index = 0
 
+-- UTS_NS_INDEX
 abbrev pub uts_index : ℕ
 uts_index = 1
 
+-- IPC_NS_INDEX
 abbrev pub ipc_index : ℕ
 ipc_index = 2
 
+-- PID_NS_INDEX
 abbrev pub pid_index : ℕ
 pid_index = 3
 
+-- USER_NS_INDEX
 abbrev pub user_index : ℕ
 user_index = 4
 
+-- CGROUP_NS_INDEX; at 5 stands MNT_NS_INDEX
 abbrev pub cgroup_index : ℕ
 cgroup_index = 6
 
@@ -50,6 +60,11 @@ abbrev pub entries_of : List ℕ → List NamespaceEntry
 entries_of (dev ∷ inode ∷ words) = record { dev = dev; inode = inode } ∷ entries_of words
 entries_of _ = []
 
+-- the numbers of an entry
+abbrev pub entry_numbers : NamespaceEntry → List ℕ
+entry_numbers e = e.dev ∷ e.inode ∷ []
+
+-- the body: the task, a count, and as many namespaces
 abbrev pub namespaces : Parts NamespacesValue
 namespaces = do
   pid ← u32

@@ -21,21 +21,27 @@ no_sample_id = record { pid = None; tid = None; time = None; id = None; stream_i
 
 -- ---- the flags of the sample type that count, PERF_SAMPLE_*
 
+-- PERF_SAMPLE_TID
 abbrev pub has_tid : ℕ → Bool
 has_tid sample_type = has_bit sample_type 1
 
+-- PERF_SAMPLE_TIME
 abbrev pub has_time : ℕ → Bool
 has_time sample_type = has_bit sample_type 2
 
+-- PERF_SAMPLE_ID
 abbrev pub has_id : ℕ → Bool
 has_id sample_type = has_bit sample_type 6
 
+-- PERF_SAMPLE_CPU
 abbrev pub has_cpu : ℕ → Bool
 has_cpu sample_type = has_bit sample_type 7
 
+-- PERF_SAMPLE_STREAM_ID
 abbrev pub has_stream_id : ℕ → Bool
 has_stream_id sample_type = has_bit sample_type 9
 
+-- PERF_SAMPLE_IDENTIFIER
 abbrev pub has_identifier : ℕ → Bool
 has_identifier sample_type = has_bit sample_type 16
 
@@ -59,11 +65,13 @@ sample_id_fields sample_type = do
   identifier ← u64_if (has_identifier sample_type)
   done (record { pid = pid; tid = tid; time = time; id = first_of id identifier; stream_id = stream_id; cpu = cpu })
 
+-- what it is under a configuration: without `sample_id_all` there is none
 abbrev pub sample_id : Configuration → Parts SampleIdValue
 sample_id c = if c.sample_id_all then sample_id_fields c.sample_type else done no_sample_id
 
 -- ---- its length
 
+-- one for a flag that is set
 abbrev pub one_if : Bool → ℕ
 one_if flag = if flag then 1 else 0
 

@@ -1,6 +1,6 @@
 -- PERF_RECORD_TEXT_POKE: a place in the kernel's code, the bytes that stood there, and those that stand there now.
-use Rattle.std.specs.Prelude.{ℕ, ◌+◌, ◌-◌, ◌%◌, List, take, drop, IsTrue}
-use Rattle.perf_base.specs.Cow.{cow_items, is_borrowed}
+use Rattle.std.specs.Prelude.{ℕ, ◌+◌, ◌-◌, ◌%◌, List, take, drop, IsTrue, Bool, ◌++◌}
+use Rattle.perf_base.specs.Cow.{cow_items, is_borrowed, cow_form}
 use Rattle.perf_base.specs.Layout.{Parts, done, ◌>>=◌}
 use Rattle.perf_base.specs.FieldWords.{u16, u64, bytes}
 use Rattle.perf_types.specs.declared.text_poke.TextPoke.{TextPoke}
@@ -14,6 +14,10 @@ pub record TextPokeValue : Type 0 where
 -- the value of a record of the code, wherever its bytes lie
 abbrev pub text_poke_value : TextPoke → TextPokeValue
 text_poke_value r = record { addr = r.addr; old_bytes = cow_items r.old_bytes; new_bytes = cow_items r.new_bytes }
+
+-- which of its byte strings are borrowed
+abbrev pub text_poke_form : TextPoke → List Bool
+text_poke_form r = cow_form r.old_bytes ++ cow_form r.new_bytes
 
 -- no byte of it was copied
 abbrev pub IsBorrowedTextPoke : TextPoke → Type 0

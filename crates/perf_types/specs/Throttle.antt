@@ -3,6 +3,7 @@ use Rattle.perf_base.specs.Layout.{Parts, done, ◌>>=◌}
 use Rattle.perf_base.specs.FieldWords.{u64}
 use Rattle.perf_types.specs.declared.throttle.Throttle.{Throttle}
 
+-- the body: three numbers
 abbrev pub throttle : Parts Throttle
 throttle = do
   time ← u64

@@ -1,8 +1,31 @@
 //! AUX_OUTPUT_HW_ID.
+#![tactic(auto, using(perf_reader::proofs::Paying::chain))]
+
+ghost use Rattle.perf_reader.specs.Words.{ReadsPlain};
+ghost use Rattle.perf_types.specs.AuxOutputHwId.{aux_output_hw_id};
+
+use perf_base::endian::Endian;
+use perf_base::refusal::ReadResult;
+use perf_buffers::input::Input;
+use perf_reader::read::{Meant, ReadFrom};
+use perf_reader::reader::Reader;
 
 /// The hardware's own number of an event whose output goes into the AUX buffer (`PERF_RECORD_AUX_OUTPUT_HW_ID`).
 #[derive(Copy, Clone, Debug)]
 pub struct AuxOutputHwId {
     /// That number, as a trace in the AUX buffer names the event.
     pub hw_id: u64,
+}
+
+impl Meant for AuxOutputHwId {
+    ghost says = { ReadsPlain (λ _. aux_output_hw_id) (λ r. r) };
+}
+
+impl<'p, I: Input<'p>> ReadFrom<'p, I> for AuxOutputHwId {
+    #[inline]
+    fn read<E: Endian>(reader: &mut Reader<I, E>) -> ReadResult<Self> {
+        Ok(AuxOutputHwId {
+            hw_id: reader.read_u64()?,
+        })
+    }
 }

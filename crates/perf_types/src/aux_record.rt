@@ -1,5 +1,14 @@
 //! AUX.
+#![tactic(auto, using(perf_reader::proofs::Paying::chain))]
 
+ghost use Rattle.perf_reader.specs.Words.{ReadsPlain};
+ghost use Rattle.perf_types.specs.Aux.{aux, aux_value};
+
+use perf_base::endian::Endian;
+use perf_base::refusal::ReadResult;
+use perf_buffers::input::Input;
+use perf_reader::read::{Meant, ReadFrom};
+use perf_reader::reader::Reader;
 use perf_words::flags::AuxFlags;
 
 /// There is new data in the AUX buffer (`PERF_RECORD_AUX`).
@@ -11,4 +20,19 @@ pub struct Aux {
     pub aux_size: u64,
     /// What happened to the data, `PERF_AUX_FLAG_*`.
     pub flags: AuxFlags,
+}
+
+impl Meant for Aux {
+    ghost says = { ReadsPlain (λ _. aux) aux_value };
+}
+
+impl<'p, I: Input<'p>> ReadFrom<'p, I> for Aux {
+    #[inline]
+    fn read<E: Endian>(reader: &mut Reader<I, E>) -> ReadResult<Self> {
+        Ok(Aux {
+            aux_offset: reader.read_u64()?,
+            aux_size: reader.read_u64()?,
+            flags: reader.read()?,
+        })
+    }
 }

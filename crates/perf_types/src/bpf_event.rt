@@ -1,5 +1,14 @@
 //! BPF_EVENT.
+#![tactic(auto, using(perf_reader::proofs::Paying::chain))]
 
+ghost use Rattle.perf_reader.specs.Words.{ReadsPlain};
+ghost use Rattle.perf_types.specs.BpfEvent.{bpf_event, bpf_event_value};
+
+use perf_base::endian::Endian;
+use perf_base::refusal::ReadResult;
+use perf_buffers::input::Input;
+use perf_reader::read::{Meant, ReadFrom};
+use perf_reader::reader::Reader;
 use perf_words::named::BpfEventType;
 
 /// A BPF program was loaded or unloaded (`PERF_RECORD_BPF_EVENT`).
@@ -13,4 +22,20 @@ pub struct BpfEvent {
     pub id: u32,
     /// The program's tag: eight bytes of a hash of its instructions.
     pub tag: [u8; 8],
+}
+
+impl Meant for BpfEvent {
+    ghost says = { ReadsPlain (λ _. bpf_event) bpf_event_value };
+}
+
+impl<'p, I: Input<'p>> ReadFrom<'p, I> for BpfEvent {
+    #[inline]
+    fn read<E: Endian>(reader: &mut Reader<I, E>) -> ReadResult<Self> {
+        Ok(BpfEvent {
+            ty: reader.read()?,
+            flags: reader.read_u16()?,
+            id: reader.read_u32()?,
+            tag: reader.read_array::<8>()?,
+        })
+    }
 }

@@ -1,14 +1,21 @@
 //! CGROUP.
+#![tactic(auto, using(perf_reader::proofs::Paying::chain))]
 
-ghost use Rattle.std.specs.Prelude.{◌≡◌, IsTrue, IsOk, IfOk, IfErr, option_map};
-ghost use Rattle.perf_base.specs.Cow.{cow_items, is_borrowed};
-ghost use Rattle.perf_base.specs.Errors.{kind_of};
+ghost use Rattle.std.specs.Prelude.{◌≡◌, option_map};
+ghost use Rattle.perf_base.specs.Cow.{cow_items};
+ghost use Rattle.perf_reader.specs.Words.{ReadsLent};
 ghost use Rattle.perf_types.specs.Text.{text_of};
-ghost use Rattle.perf_types.specs.CGroup.{cgroup_value};
+ghost use Rattle.perf_types.specs.CGroup.{cgroup, cgroup_value, IsBorrowedCGroup, cgroup_form};
+ghost use Rattle.perf_base.specs.Copies.{IsClone, IsOwnedCopy};
 
 use crate::text::text;
 use perf_base::cow::CowSlice;
-use perf_base::error::{ErrorKind, ParseResult};
+use perf_base::endian::Endian;
+use perf_base::error::ParseResult;
+use perf_base::refusal::ReadResult;
+use perf_buffers::input::Input;
+use perf_reader::read::{Meant, ReadFrom};
+use perf_reader::reader::Reader;
 use std::alloc::Global;
 
 /// A control group was made (`PERF_RECORD_CGROUP`).
@@ -30,14 +37,38 @@ impl<'a> CGroup<'a> {
 
     /// The same record. It takes no memory where the path is borrowed.
     pub fn clone(&self, alloc: Global) -> ParseResult<CGroup<'a>>
-        ensures same { IfOk result (λ copy. cgroup_value copy ≡ cgroup_value self.now) }
-        ensures form { IfOk result (λ copy. is_borrowed copy.path ≡ is_borrowed self.now.path) }
-        ensures refused { IfErr result (λ e. kind_of e ≡ ErrorKind.OutOfMemory) }
-        ensures no_memory { IsTrue (is_borrowed self.now.path) → IsOk result }
+        ensures { IsClone cgroup_value cgroup_form self.now result }
     {
         Ok(CGroup {
             id: self.id,
             path: self.path.clone(alloc)?,
+        })
+    }
+
+    /// The same record with its path in memory of its own, so that it lasts as long as one likes.
+    /// It takes no memory where it owns the path already. Where it is refused, `OutOfMemory`, the
+    /// record is given up.
+    pub fn into_owned<'b>(self, alloc: Global) -> ParseResult<CGroup<'b>>
+        ensures { IsOwnedCopy cgroup_value cgroup_form self.entry result }
+    {
+        let CGroup { id, path } = self;
+        Ok(CGroup {
+            id,
+            path: path.into_owned(alloc)?,
+        })
+    }
+}
+
+impl Meant for CGroup<'_> {
+    ghost says = { ReadsLent (λ _. cgroup) cgroup_value IsBorrowedCGroup };
+}
+
+impl<'p, I: Input<'p>> ReadFrom<'p, I> for CGroup<'p> {
+    #[inline]
+    fn read<E: Endian>(reader: &mut Reader<I, E>) -> ReadResult<Self> {
+        Ok(CGroup {
+            id: reader.read_u64()?,
+            path: reader.read_rest_trim_nul()?,
         })
     }
 }

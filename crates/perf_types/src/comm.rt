@@ -1,14 +1,21 @@
 //! COMM.
+#![tactic(auto, using(perf_reader::proofs::Paying::chain))]
 
-ghost use Rattle.std.specs.Prelude.{◌≡◌, IsTrue, IsOk, IfOk, IfErr, option_map};
-ghost use Rattle.perf_base.specs.Cow.{cow_items, is_borrowed};
-ghost use Rattle.perf_base.specs.Errors.{kind_of};
+ghost use Rattle.std.specs.Prelude.{◌≡◌, option_map};
+ghost use Rattle.perf_base.specs.Cow.{cow_items};
+ghost use Rattle.perf_reader.specs.Words.{ReadsLent};
 ghost use Rattle.perf_types.specs.Text.{text_of};
-ghost use Rattle.perf_types.specs.Comm.{comm_value};
+ghost use Rattle.perf_types.specs.Comm.{comm, comm_value, IsBorrowedComm, comm_form};
+ghost use Rattle.perf_base.specs.Copies.{IsClone, IsOwnedCopy};
 
 use crate::text::text;
 use perf_base::cow::CowSlice;
-use perf_base::error::{ErrorKind, ParseResult};
+use perf_base::endian::Endian;
+use perf_base::error::ParseResult;
+use perf_base::refusal::ReadResult;
+use perf_buffers::input::Input;
+use perf_reader::read::{Meant, ReadFrom};
+use perf_reader::reader::Reader;
 use std::alloc::Global;
 
 /// A task was given a name (`PERF_RECORD_COMM`), as by `execve(2)` or `prctl(2)`.
@@ -32,15 +39,41 @@ impl<'a> Comm<'a> {
 
     /// The same record. It takes no memory where the name is borrowed.
     pub fn clone(&self, alloc: Global) -> ParseResult<Comm<'a>>
-        ensures same { IfOk result (λ copy. comm_value copy ≡ comm_value self.now) }
-        ensures form { IfOk result (λ copy. is_borrowed copy.comm ≡ is_borrowed self.now.comm) }
-        ensures refused { IfErr result (λ e. kind_of e ≡ ErrorKind.OutOfMemory) }
-        ensures no_memory { IsTrue (is_borrowed self.now.comm) → IsOk result }
+        ensures { IsClone comm_value comm_form self.now result }
     {
         Ok(Comm {
             pid: self.pid,
             tid: self.tid,
             comm: self.comm.clone(alloc)?,
+        })
+    }
+
+    /// The same record with its name in memory of its own, so that it lasts as long as one likes.
+    /// It takes no memory where it owns the name already. Where it is refused, `OutOfMemory`, the
+    /// record is given up.
+    pub fn into_owned<'b>(self, alloc: Global) -> ParseResult<Comm<'b>>
+        ensures { IsOwnedCopy comm_value comm_form self.entry result }
+    {
+        let Comm { pid, tid, comm } = self;
+        Ok(Comm {
+            pid,
+            tid,
+            comm: comm.into_owned(alloc)?,
+        })
+    }
+}
+
+impl Meant for Comm<'_> {
+    ghost says = { ReadsLent (λ _. comm) comm_value IsBorrowedComm };
+}
+
+impl<'p, I: Input<'p>> ReadFrom<'p, I> for Comm<'p> {
+    #[inline]
+    fn read<E: Endian>(reader: &mut Reader<I, E>) -> ReadResult<Self> {
+        Ok(Comm {
+            pid: reader.read_u32()?,
+            tid: reader.read_u32()?,
+            comm: reader.read_rest_trim_nul()?,
         })
     }
 }

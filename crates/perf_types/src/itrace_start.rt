@@ -1,4 +1,14 @@
 //! ITRACE_START.
+#![tactic(auto, using(perf_reader::proofs::Paying::chain))]
+
+ghost use Rattle.perf_reader.specs.Words.{ReadsPlain};
+ghost use Rattle.perf_types.specs.ITraceStart.{itrace_start};
+
+use perf_base::endian::Endian;
+use perf_base::refusal::ReadResult;
+use perf_buffers::input::Input;
+use perf_reader::read::{Meant, ReadFrom};
+use perf_reader::reader::Reader;
 
 /// A trace of instructions began (`PERF_RECORD_ITRACE_START`).
 #[derive(Clone, Debug, Drop)]
@@ -7,4 +17,18 @@ pub struct ITraceStart {
     pub pid: u32,
     /// Its thread.
     pub tid: u32,
+}
+
+impl Meant for ITraceStart {
+    ghost says = { ReadsPlain (λ _. itrace_start) (λ r. r) };
+}
+
+impl<'p, I: Input<'p>> ReadFrom<'p, I> for ITraceStart {
+    #[inline]
+    fn read<E: Endian>(reader: &mut Reader<I, E>) -> ReadResult<Self> {
+        Ok(ITraceStart {
+            pid: reader.read_u32()?,
+            tid: reader.read_u32()?,
+        })
+    }
 }

@@ -1,12 +1,17 @@
 //! KSYMBOL.
+#![tactic(auto, using(perf_reader::proofs::Paying::chain))]
 
-ghost use Rattle.std.specs.Prelude.{◌≡◌, IsTrue, IsOk, IfOk, IfErr};
-ghost use Rattle.perf_base.specs.Cow.{is_borrowed};
-ghost use Rattle.perf_base.specs.Errors.{kind_of};
-ghost use Rattle.perf_types.specs.KSymbol.{ksymbol_value};
+ghost use Rattle.perf_reader.specs.Words.{ReadsLent};
+ghost use Rattle.perf_types.specs.KSymbol.{ksymbol, ksymbol_value, IsBorrowedKSymbol, ksymbol_form};
+ghost use Rattle.perf_base.specs.Copies.{IsClone, IsOwnedCopy};
 
 use perf_base::cow::CowSlice;
-use perf_base::error::{ErrorKind, ParseResult};
+use perf_base::endian::Endian;
+use perf_base::error::ParseResult;
+use perf_base::refusal::ReadResult;
+use perf_buffers::input::Input;
+use perf_reader::read::{Meant, ReadFrom};
+use perf_reader::reader::Reader;
 use perf_words::flags::KSymbolFlags;
 use perf_words::named::KSymbolType;
 use std::alloc::Global;
@@ -29,10 +34,7 @@ pub struct KSymbol<'a> {
 impl<'a> KSymbol<'a> {
     /// The same record. It takes no memory where the name is borrowed.
     pub fn clone(&self, alloc: Global) -> ParseResult<KSymbol<'a>>
-        ensures same { IfOk result (λ copy. ksymbol_value copy ≡ ksymbol_value self.now) }
-        ensures form { IfOk result (λ copy. is_borrowed copy.name ≡ is_borrowed self.now.name) }
-        ensures refused { IfErr result (λ e. kind_of e ≡ ErrorKind.OutOfMemory) }
-        ensures no_memory { IsTrue (is_borrowed self.now.name) → IsOk result }
+        ensures { IsClone ksymbol_value ksymbol_form self.now result }
     {
         Ok(KSymbol {
             addr: self.addr,
@@ -40,6 +42,45 @@ impl<'a> KSymbol<'a> {
             ksym_type: self.ksym_type,
             flags: self.flags,
             name: self.name.clone(alloc)?,
+        })
+    }
+
+    /// The same record with its name in memory of its own, so that it lasts as long as one likes.
+    /// It takes no memory where it owns the name already. Where it is refused, `OutOfMemory`, the
+    /// record is given up.
+    pub fn into_owned<'b>(self, alloc: Global) -> ParseResult<KSymbol<'b>>
+        ensures { IsOwnedCopy ksymbol_value ksymbol_form self.entry result }
+    {
+        let KSymbol {
+            addr,
+            len,
+            ksym_type,
+            flags,
+            name,
+        } = self;
+        Ok(KSymbol {
+            addr,
+            len,
+            ksym_type,
+            flags,
+            name: name.into_owned(alloc)?,
+        })
+    }
+}
+
+impl Meant for KSymbol<'_> {
+    ghost says = { ReadsLent (λ _. ksymbol) ksymbol_value IsBorrowedKSymbol };
+}
+
+impl<'p, I: Input<'p>> ReadFrom<'p, I> for KSymbol<'p> {
+    #[inline]
+    fn read<E: Endian>(reader: &mut Reader<I, E>) -> ReadResult<Self> {
+        Ok(KSymbol {
+            addr: reader.read_u64()?,
+            len: reader.read_u32()?,
+            ksym_type: reader.read()?,
+            flags: reader.read()?,
+            name: reader.read_rest_trim_nul()?,
         })
     }
 }

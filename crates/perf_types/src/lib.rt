@@ -7,6 +7,11 @@ pub mod bpf_event;
 pub mod cgroup;
 pub mod comm;
 pub mod exit;
+pub mod group_entry;
+pub mod group_iter;
+pub mod group_laws;
+#[cfg(test)]
+mod group_tests;
 pub mod itrace_start;
 pub mod ksymbol;
 pub mod laws;
@@ -15,6 +20,9 @@ pub mod lost_samples;
 pub mod mmap;
 pub mod mmap2;
 pub mod namespaces;
+pub mod read;
+pub mod read_group;
+pub mod read_value;
 pub mod sample_id;
 pub mod switch_cpu_wide;
 #[cfg(test)]

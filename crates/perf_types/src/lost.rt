@@ -1,4 +1,14 @@
 //! LOST.
+#![tactic(auto, using(perf_reader::proofs::Paying::chain))]
+
+ghost use Rattle.perf_reader.specs.Words.{ReadsPlain};
+ghost use Rattle.perf_types.specs.Lost.{lost};
+
+use perf_base::endian::Endian;
+use perf_base::refusal::ReadResult;
+use perf_buffers::input::Input;
+use perf_reader::read::{Meant, ReadFrom};
+use perf_reader::reader::Reader;
 
 /// Events were lost, as the ring buffer had no room (`PERF_RECORD_LOST`).
 #[derive(Copy, Clone, Debug)]
@@ -7,4 +17,18 @@ pub struct Lost {
     pub id: u64,
     /// How many were lost.
     pub lost: u64,
+}
+
+impl Meant for Lost {
+    ghost says = { ReadsPlain (λ _. lost) (λ r. r) };
+}
+
+impl<'p, I: Input<'p>> ReadFrom<'p, I> for Lost {
+    #[inline]
+    fn read<E: Endian>(reader: &mut Reader<I, E>) -> ReadResult<Self> {
+        Ok(Lost {
+            id: reader.read_u64()?,
+            lost: reader.read_u64()?,
+        })
+    }
 }

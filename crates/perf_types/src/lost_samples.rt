@@ -1,8 +1,31 @@
 //! LOST_SAMPLES.
+#![tactic(auto, using(perf_reader::proofs::Paying::chain))]
+
+ghost use Rattle.perf_reader.specs.Words.{ReadsPlain};
+ghost use Rattle.perf_types.specs.LostSamples.{lost_samples};
+
+use perf_base::endian::Endian;
+use perf_base::refusal::ReadResult;
+use perf_buffers::input::Input;
+use perf_reader::read::{Meant, ReadFrom};
+use perf_reader::reader::Reader;
 
 /// Samples of the hardware were lost (`PERF_RECORD_LOST_SAMPLES`).
 #[derive(Clone, Debug, Drop)]
 pub struct LostSamples {
     /// How many may have been lost.
     pub lost: u64,
+}
+
+impl Meant for LostSamples {
+    ghost says = { ReadsPlain (λ _. lost_samples) (λ r. r) };
+}
+
+impl<'p, I: Input<'p>> ReadFrom<'p, I> for LostSamples {
+    #[inline]
+    fn read<E: Endian>(reader: &mut Reader<I, E>) -> ReadResult<Self> {
+        Ok(LostSamples {
+            lost: reader.read_u64()?,
+        })
+    }
 }

@@ -1,17 +1,25 @@
 //! MMAP.
+#![tactic(auto, using(perf_reader::proofs::Paying::chain))]
 
-ghost use Rattle.std.specs.Prelude.{◌≡◌, IsTrue, IsOk, IfOk, IfErr, option_map};
-ghost use Rattle.perf_base.specs.Cow.{cow_items, is_borrowed};
-ghost use Rattle.perf_base.specs.Errors.{kind_of};
+ghost use Rattle.std.specs.Prelude.{◌≡◌, option_map};
+ghost use Rattle.perf_base.specs.Cow.{cow_items};
+ghost use Rattle.perf_reader.specs.Words.{ReadsLent};
 ghost use Rattle.perf_types.specs.Text.{text_of};
-ghost use Rattle.perf_types.specs.Mmap.{mmap_value};
+ghost use Rattle.perf_types.specs.Mmap.{mmap, mmap_value, IsBorrowedMmap, mmap_form};
+ghost use Rattle.perf_base.specs.Copies.{IsClone, IsOwnedCopy};
 
 use crate::text::text;
 use perf_base::cow::CowSlice;
-use perf_base::error::{ErrorKind, ParseResult};
+use perf_base::endian::Endian;
+use perf_base::error::ParseResult;
+use perf_base::refusal::ReadResult;
+use perf_buffers::input::Input;
+use perf_reader::read::{Meant, ReadFrom};
+use perf_reader::reader::Reader;
 use std::alloc::Global;
 
-/// A process mapped a file into its memory, so that it can run code of it (`PERF_RECORD_MMAP`).
+/// A process mapped something into its memory (`PERF_RECORD_MMAP`): what it can run, and where the
+/// attribute has `mmap_data` what it cannot run too.
 #[derive(Debug, Drop)]
 pub struct Mmap<'a> {
     /// The process.
@@ -39,10 +47,7 @@ impl<'a> Mmap<'a> {
 
     /// The same record. It takes no memory where the path is borrowed.
     pub fn clone(&self, alloc: Global) -> ParseResult<Mmap<'a>>
-        ensures same { IfOk result (λ copy. mmap_value copy ≡ mmap_value self.now) }
-        ensures form { IfOk result (λ copy. is_borrowed copy.filename ≡ is_borrowed self.now.filename) }
-        ensures refused { IfErr result (λ e. kind_of e ≡ ErrorKind.OutOfMemory) }
-        ensures no_memory { IsTrue (is_borrowed self.now.filename) → IsOk result }
+        ensures { IsClone mmap_value mmap_form self.now result }
     {
         Ok(Mmap {
             pid: self.pid,
@@ -51,6 +56,48 @@ impl<'a> Mmap<'a> {
             len: self.len,
             pgoff: self.pgoff,
             filename: self.filename.clone(alloc)?,
+        })
+    }
+
+    /// The same record with its path in memory of its own, so that it lasts as long as one likes.
+    /// It takes no memory where it owns the path already. Where it is refused, `OutOfMemory`, the
+    /// record is given up.
+    pub fn into_owned<'b>(self, alloc: Global) -> ParseResult<Mmap<'b>>
+        ensures { IsOwnedCopy mmap_value mmap_form self.entry result }
+    {
+        let Mmap {
+            pid,
+            tid,
+            addr,
+            len,
+            pgoff,
+            filename,
+        } = self;
+        Ok(Mmap {
+            pid,
+            tid,
+            addr,
+            len,
+            pgoff,
+            filename: filename.into_owned(alloc)?,
+        })
+    }
+}
+
+impl Meant for Mmap<'_> {
+    ghost says = { ReadsLent (λ _. mmap) mmap_value IsBorrowedMmap };
+}
+
+impl<'p, I: Input<'p>> ReadFrom<'p, I> for Mmap<'p> {
+    #[inline]
+    fn read<E: Endian>(reader: &mut Reader<I, E>) -> ReadResult<Self> {
+        Ok(Mmap {
+            pid: reader.read_u32()?,
+            tid: reader.read_u32()?,
+            addr: reader.read_u64()?,
+            len: reader.read_u64()?,
+            pgoff: reader.read_u64()?,
+            filename: reader.read_rest_trim_nul()?,
         })
     }
 }

@@ -1,16 +1,26 @@
 //! MMAP2.
+#![tactic(auto, using(perf_reader::proofs::Paying::chain))]
 
-ghost use Rattle.std.specs.Prelude.{IsTrue};
+ghost use Rattle.std.specs.Prelude.{◌≡◌, IsTrue, IfOk};
+ghost use Rattle.perf_reader.specs.Words.{Call, Reads, ReadsPlain, ReadsLent, TakesNoMemory};
+ghost use Rattle.perf_reader.specs.Words.{kinds};
+ghost use Rattle.perf_types.specs.MmapDetail.{inode, build_id, mmap_detail, detail_value};
 ghost use Rattle.perf_types.specs.MmapDetail.{has_fitting_id};
+ghost use Rattle.perf_words.specs.Bits.{has_bit};
 
 use crate::mmap::Mmap;
 use crate::text::text;
 use perf_base::cow::CowSlice;
-use perf_base::error::{ErrorKind, ParseResult};
+use perf_base::endian::Endian;
+use perf_base::error::ParseResult;
+use perf_base::refusal::{ReadResult, Refusal};
+use perf_buffers::input::Input;
+use perf_reader::read::{Meant, ReadFrom};
+use perf_reader::reader::Reader;
 use std::alloc::Global;
 
-/// A process mapped a file into its memory, so that it can run code of it (`PERF_RECORD_MMAP2`): as [`Mmap`], and which
-/// file it was.
+/// A process mapped something into its memory (`PERF_RECORD_MMAP2`): as [`Mmap`], and which file it
+/// was.
 #[derive(Debug, Drop)]
 pub struct Mmap2<'a> {
     /// The process.
@@ -59,13 +69,13 @@ pub enum MmapDetail {
 }
 
 impl<'a> Mmap2<'a> {
-    ghost use Rattle.std.specs.Prelude.{◌≡◌, IsOk, IfOk, IfErr, option_map};
+    ghost use Rattle.std.specs.Prelude.{◌≡◌, IfOk, option_map};
     ghost use Rattle.perf_base.specs.Cow.{cow_items, is_borrowed};
-    ghost use Rattle.perf_base.specs.Errors.{kind_of};
+    ghost use Rattle.perf_base.specs.Copies.{KeepsForm, IsClone, IsOwnedCopy};
     ghost use Rattle.perf_types.specs.Text.{text_of};
-    ghost use Rattle.perf_types.specs.Mmap.{mmap_value};
+    ghost use Rattle.perf_types.specs.Mmap.{mmap_value, mmap_form};
     ghost use Rattle.perf_types.specs.MmapDetail.{detail_value, maj_of, min_of, ino_of, ino_generation_of, build_id_of};
-    ghost use Rattle.perf_types.specs.Mmap2.{mmap2_value, mapping_of};
+    ghost use Rattle.perf_types.specs.Mmap2.{mmap2_value, mmap2_form, mapping_of};
 
     /// The record of these fields.
     pub fn from_parts(
@@ -155,10 +165,8 @@ impl<'a> Mmap2<'a> {
 
     /// What an MMAP record says of the same mapping. It takes no memory where the path is borrowed.
     pub fn to_mmap(&self, alloc: Global) -> ParseResult<Mmap<'a>>
-        ensures same { IfOk result (λ map. mmap_value map ≡ mapping_of (mmap2_value self.now)) }
-        ensures form { IfOk result (λ map. is_borrowed map.filename ≡ is_borrowed self.now.filename) }
-        ensures refused { IfErr result (λ e. kind_of e ≡ ErrorKind.OutOfMemory) }
-        ensures no_memory { IsTrue (is_borrowed self.now.filename) → IsOk result }
+        ensures { KeepsForm mmap_value mmap_form (mapping_of (mmap2_value self.now))
+            (mmap2_form self.now) result }
     {
         Ok(Mmap {
             pid: self.pid,
@@ -185,12 +193,11 @@ impl<'a> Mmap2<'a> {
         }
     }
 
-    /// The same record. It takes no memory where the path is borrowed.
+    /// The same record, the bytes behind a build id too. It takes no memory where the path is
+    /// borrowed.
     pub fn clone(&self, alloc: Global) -> ParseResult<Mmap2<'a>>
-        ensures same { IfOk result (λ copy. mmap2_value copy ≡ mmap2_value self.now) }
-        ensures form { IfOk result (λ copy. is_borrowed copy.filename ≡ is_borrowed self.now.filename) }
-        ensures refused { IfErr result (λ e. kind_of e ≡ ErrorKind.OutOfMemory) }
-        ensures no_memory { IsTrue (is_borrowed self.now.filename) → IsOk result }
+        ensures copy { IsClone mmap2_value mmap2_form self.now result }
+        ensures detail { IfOk result (λ copy. copy.detail ≡ self.now.detail) }
     {
         let filename = self.filename.clone(alloc)?;
         Ok(Mmap2 {
@@ -203,6 +210,27 @@ impl<'a> Mmap2<'a> {
             flags: self.flags,
             filename,
             detail: self.detail.copied(),
+        })
+    }
+
+    /// The same record with its path in memory of its own, so that it lasts as long as one likes.
+    /// It takes no memory where it owns the path already. Where it is refused, `OutOfMemory`, the
+    /// record is given up.
+    pub fn into_owned<'b>(self, alloc: Global) -> ParseResult<Mmap2<'b>>
+        ensures copy { IsOwnedCopy mmap2_value mmap2_form self.entry result }
+        ensures detail { IfOk result (λ copy. copy.detail ≡ self.entry.detail) }
+    {
+        let filename = self.filename.into_owned(alloc)?;
+        Ok(Mmap2 {
+            pid: self.pid,
+            tid: self.tid,
+            addr: self.addr,
+            len: self.len,
+            pgoff: self.pgoff,
+            prot: self.prot,
+            flags: self.flags,
+            filename,
+            detail: self.detail,
         })
     }
 }
@@ -244,5 +272,100 @@ impl<'a> From<Mmap2<'a>> for Mmap<'a> {
 
     fn from(longer: Mmap2<'a>) -> Mmap<'a> {
         longer.into_mmap()
+    }
+}
+
+// How long a build id can be.
+const BUILD_ID_MOST: u8 = 20;
+
+// Whether the record whose `misc` this is names its file by a build id.
+#[inline]
+fn has_build_id(misc: u16) -> bool
+    ensures { result ≡ has_bit misc 14 }
+{
+    (misc >> 14) % 2 == 1
+}
+
+#[inline]
+fn read_inode<'p, I: Input<'p>, E: Endian>(reader: &mut Reader<I, E>) -> ReadResult<MmapDetail>
+    ensures memory { TakesNoMemory (kinds result) }
+    ensures fitting { IfOk result (λ d. IsTrue (has_fitting_id d)) }
+    ensures call { Call I.source E.order (Reads (λ _. inode) detail_value)
+        reader.old (kinds result) reader.new }
+{
+    Ok(MmapDetail::Default {
+        maj: reader.read_u32()?,
+        min: reader.read_u32()?,
+        ino: reader.read_u64()?,
+        ino_generation: reader.read_u64()?,
+    })
+}
+
+#[inline]
+fn read_build_id<'p, I: Input<'p>, E: Endian>(reader: &mut Reader<I, E>) -> ReadResult<MmapDetail>
+    ensures memory { TakesNoMemory (kinds result) }
+    ensures fitting { IfOk result (λ d. IsTrue (has_fitting_id d)) }
+    ensures call { Call I.source E.order (Reads (λ _. build_id) detail_value)
+        reader.old (kinds result) reader.new }
+{
+    let len = reader.read_u8()?;
+    reader.skip(3)?;
+    let build_id = reader.read_array::<20>()?;
+    if len > BUILD_ID_MOST {
+        return Err(Refusal::BuildIdLength);
+    }
+    Ok(MmapDetail::BuildId { build_id, len })
+}
+
+#[inline]
+fn read_detail<'p, I: Input<'p>, E: Endian>(reader: &mut Reader<I, E>) -> ReadResult<MmapDetail>
+    ensures memory { TakesNoMemory (kinds result) }
+    ensures fitting { IfOk result (λ d. IsTrue (has_fitting_id d)) }
+    ensures call { Call I.source E.order (Reads mmap_detail detail_value)
+        reader.old (kinds result) reader.new }
+{
+    if has_build_id(reader.config().misc()) {
+        match read_build_id(reader) {
+            Ok(detail) => Ok(detail),
+            Err(refusal) => Err(refusal),
+        }
+    } else {
+        match read_inode(reader) {
+            Ok(detail) => Ok(detail),
+            Err(refusal) => Err(refusal),
+        }
+    }
+}
+
+impl Meant for MmapDetail {
+    ghost says = { ReadsPlain mmap_detail detail_value };
+}
+
+impl<'p, I: Input<'p>> ReadFrom<'p, I> for MmapDetail {
+    #[inline]
+    fn read<E: Endian>(reader: &mut Reader<I, E>) -> ReadResult<Self> {
+        read_detail(reader)
+    }
+}
+
+impl Meant for Mmap2<'_> {
+    ghost use Rattle.perf_types.specs.Mmap2.{mmap2, mmap2_value, IsBorrowedMmap2};
+
+    ghost says = { ReadsLent mmap2 mmap2_value IsBorrowedMmap2 };
+}
+
+impl<'p, I: Input<'p>> ReadFrom<'p, I> for Mmap2<'p> {
+    #[inline]
+    fn read<E: Endian>(reader: &mut Reader<I, E>) -> ReadResult<Self> {
+        let pid = reader.read_u32()?;
+        let tid = reader.read_u32()?;
+        let addr = reader.read_u64()?;
+        let len = reader.read_u64()?;
+        let pgoff = reader.read_u64()?;
+        let detail = read_detail(reader)?;
+        let prot = reader.read_u32()?;
+        let flags = reader.read_u32()?;
+        let filename = reader.read_rest_trim_nul()?;
+        Ok(Mmap2::from_parts(pid, tid, addr, len, pgoff, prot, flags, filename, detail))
     }
 }

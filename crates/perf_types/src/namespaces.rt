@@ -1,13 +1,23 @@
-//! NAMESPACES.
+//! NAMESPACES. No claimed count makes room for entries.
+#![tactic(auto, using(perf_reader::proofs::Paying::chain))]
 
-ghost use Rattle.std.specs.Prelude.{◌≡◌, IsTrue, IsOk, IfOk, IfErr, slice_get};
+ghost use Rattle.std.specs.List.{flat_map};
+ghost use Rattle.std.specs.Prelude.{◌≡◌, ◌*◌, slice_get};
 ghost use Rattle.std.specs.Option.{option_copied};
-ghost use Rattle.perf_base.specs.Cow.{cow_items, is_borrowed};
-ghost use Rattle.perf_base.specs.Errors.{kind_of};
-ghost use Rattle.perf_types.specs.Namespaces.{namespaces_value, network_index, uts_index, ipc_index, pid_index, user_index, cgroup_index};
+ghost use Rattle.perf_base.specs.Cow.{cow_items};
+ghost use Rattle.perf_reader.specs.Words.{Call, Reads, ReadsOne, ReadsPlain, kinds, words};
+ghost use Rattle.perf_types.specs.Namespaces.{namespace_entry, entry_numbers, namespaces, namespaces_value, namespaces_form};
+ghost use Rattle.perf_base.specs.Copies.{IsClone};
+ghost use Rattle.perf_types.specs.Namespaces.{network_index, uts_index, ipc_index};
+ghost use Rattle.perf_types.specs.Namespaces.{pid_index, user_index, cgroup_index};
 
 use perf_base::cow::CowSlice;
-use perf_base::error::{ErrorKind, ParseResult};
+use perf_base::endian::Endian;
+use perf_base::error::ParseResult;
+use perf_base::refusal::{ReadResult, Refusal};
+use perf_buffers::input::Input;
+use perf_reader::read::{Meant, ReadFrom};
+use perf_reader::reader::Reader;
 use std::alloc::Global;
 
 // Where the network namespace stands in the list, `NET_NS_INDEX` of perf_event.h.
@@ -25,7 +35,7 @@ const PID: usize = 3;
 // `USER_NS_INDEX`
 const USER: usize = 4;
 
-// `CGROUP_NS_INDEX`. The one of time, at 5, has no call.
+// `CGROUP_NS_INDEX`. The one of mounts, `MNT_NS_INDEX` at 5, has no call.
 const CGROUP: usize = 6;
 
 /// The namespaces that a task is in (`PERF_RECORD_NAMESPACES`), when it was made or changed one of them.
@@ -93,15 +103,75 @@ impl<'a> Namespaces<'a> {
 
     /// The same record. It takes no memory where the list is borrowed.
     pub fn clone(&self, alloc: Global) -> ParseResult<Namespaces<'a>>
-        ensures same { IfOk result (λ copy. namespaces_value copy ≡ namespaces_value self.now) }
-        ensures form { IfOk result (λ copy. is_borrowed copy.namespaces ≡ is_borrowed self.now.namespaces) }
-        ensures refused { IfErr result (λ e. kind_of e ≡ ErrorKind.OutOfMemory) }
-        ensures no_memory { IsTrue (is_borrowed self.now.namespaces) → IsOk result }
+        ensures { IsClone namespaces_value namespaces_form self.now result }
     {
         Ok(Namespaces {
             pid: self.pid,
             tid: self.tid,
             namespaces: self.namespaces.clone(alloc)?,
+        })
+    }
+}
+
+impl Meant for NamespaceEntry {
+    ghost says = { ReadsPlain (λ _. namespace_entry) (λ e. e) };
+}
+
+impl<'p, I: Input<'p>> ReadFrom<'p, I> for NamespaceEntry {
+    #[inline]
+    fn read<E: Endian>(reader: &mut Reader<I, E>) -> ReadResult<Self> {
+        Ok(NamespaceEntry {
+            dev: reader.read_u64()?,
+            inode: reader.read_u64()?,
+        })
+    }
+}
+
+// So many entries, each of which is two numbers.
+fn read_entries<'p, I: Input<'p>, E: Endian>(
+    reader: &mut Reader<I, E>,
+    count: usize,
+) -> ReadResult<Vec<NamespaceEntry>>
+    ensures call { Call I.source E.order
+        (ReadsOne (words (2 * count)) (λ v. flat_map entry_numbers v.items))
+        reader.old (kinds result) reader.new }
+{
+    let mut entries = match Vec::with_capacity(reader.alloc(), reader.room_for(count)) {
+        Ok(entries) => entries,
+        Err(_) => return Err(Refusal::OutOfMemory),
+    };
+    for _ in 0..count {
+        let dev = match reader.read_u64() {
+            Ok(dev) => dev,
+            Err(refusal) => return Err(refusal),
+        };
+        let inode = match reader.read_u64() {
+            Ok(inode) => inode,
+            Err(refusal) => return Err(refusal),
+        };
+        if entries.push(NamespaceEntry { dev, inode }).is_err() {
+            return Err(Refusal::OutOfMemory);
+        }
+    }
+    Ok(entries)
+}
+
+impl Meant for Namespaces<'_> {
+    ghost says = { Reads (λ _. namespaces) namespaces_value };
+}
+
+impl<'p, I: Input<'p>> ReadFrom<'p, I> for Namespaces<'p> {
+    #[inline]
+    #[tactic(auto, using(crate::proofs::Entries::entries_flat, perf_reader::proofs::Paying::chain))]
+    fn read<E: Endian>(reader: &mut Reader<I, E>) -> ReadResult<Self> {
+        let pid = reader.read_u32()?;
+        let tid = reader.read_u32()?;
+        let count = reader.read_u64()?;
+        let entries = read_entries(reader, count as usize)?;
+        Ok(Namespaces {
+            pid,
+            tid,
+            namespaces: CowSlice::Owned(entries),
         })
     }
 }

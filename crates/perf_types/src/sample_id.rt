@@ -1,16 +1,29 @@
 //! The sample id, which stands at the end of records.
+#![tactic(auto, using(perf_reader::proofs::Paying::chain))]
 
-ghost use Rattle.std.specs.Prelude.{◌≡◌, ◌*◌};
-ghost use Rattle.perf_types.specs.SampleId.{SampleIdValue, no_sample_id, sample_id_length, one_if};
+ghost use Rattle.std.specs.Prelude.{◌≡◌, ◌*◌, if◌then◌else◌};
 ghost use Rattle.perf_base.specs.Configured.{configuration_of};
+ghost use Rattle.perf_reader.specs.Words.{Call, ReadsPlain, kinds};
+ghost use Rattle.perf_types.specs.SampleId.{SampleIdValue, no_sample_id, sample_id};
+ghost use Rattle.perf_types.specs.SampleId.{sample_id_length, one_if};
+ghost use Rattle.perf_types.specs.SampleId.{has_tid, has_time, has_id, has_stream_id};
+ghost use Rattle.perf_types.specs.SampleId.{has_cpu, has_identifier};
+ghost use Rattle.perf_types.specs.SampleIdFields.{fields_of, TakesOrLacks};
+ghost use Rattle.perf_words.specs.SetBits.{sample_flags_bits};
 
 use bitflags::Flags;
 use perf_base::config::ParseConfig;
+use perf_base::endian::Endian;
+use perf_base::refusal::ReadResult;
+use perf_buffers::input::Input;
+use perf_reader::read::{Meant, ReadFrom};
+use perf_reader::reader::Reader;
 use perf_words::SampleFlags;
 use std::marker::Model;
 
-/// Which task and which event a record belongs to (`struct sample_id`): what `sample_id_all` has the kernel write at the
-/// end of each record but SAMPLE. A field is there where the sample type has its flag.
+/// Which task and which event a record belongs to (`struct sample_id`): what `sample_id_all` has
+/// the kernel write at the end of each of its records, whose types are below 64, but SAMPLE. A
+/// field is there where the sample type has its flag.
 #[derive(Copy, Clone, Debug)]
 pub struct SampleId {
     pid: Option<u32>,
@@ -141,5 +154,86 @@ impl SampleId {
         ensures { result ≡ self.now.cpu }
     {
         self.cpu
+    }
+}
+
+// Which fields a sample id has.
+#[derive(Copy, Clone)]
+struct Present {
+    tid: bool,
+    time: bool,
+    id: bool,
+    stream_id: bool,
+    cpu: bool,
+    identifier: bool,
+}
+
+#[inline]
+#[tactic(auto, using(crate::proofs::Flags::sample_flags))]
+fn fields_of_type(flags: SampleFlags) -> Present
+    ensures tid { result.tid ≡ has_tid (sample_flags_bits flags) }
+    ensures time { result.time ≡ has_time (sample_flags_bits flags) }
+    ensures id { result.id ≡ has_id (sample_flags_bits flags) }
+    ensures stream_id { result.stream_id ≡ has_stream_id (sample_flags_bits flags) }
+    ensures cpu { result.cpu ≡ has_cpu (sample_flags_bits flags) }
+    ensures identifier { result.identifier ≡ has_identifier (sample_flags_bits flags) }
+{
+    Present {
+        tid: flags.contains(SampleFlags::TID),
+        time: flags.contains(SampleFlags::TIME),
+        id: flags.contains(SampleFlags::ID),
+        stream_id: flags.contains(SampleFlags::STREAM_ID),
+        cpu: flags.contains(SampleFlags::CPU),
+        identifier: flags.contains(SampleFlags::IDENTIFIER),
+    }
+}
+
+#[inline]
+fn four_if(flag: bool) -> usize
+    ensures { result ≡ (if flag then 4 else 0) }
+{
+    if flag { 4 } else { 0 }
+}
+
+#[inline]
+fn read_fields<'p, I: Input<'p>, E: Endian>(
+    reader: &mut Reader<I, E>,
+    has: Present,
+) -> ReadResult<SampleId>
+    ensures call { Call I.source E.order (ReadsPlain (λ _. fields_of has) (λ s. s))
+        reader.old (kinds result) reader.new }
+{
+    let pid = reader.read_u32_if(has.tid)?;
+    let tid = reader.read_u32_if(has.tid)?;
+    let time = reader.read_u64_if(has.time)?;
+    let id = reader.read_u64_if(has.id)?;
+    let stream_id = reader.read_u64_if(has.stream_id)?;
+    let cpu = reader.read_u32_if(has.cpu)?;
+    reader.skip(four_if(has.cpu))?;
+    let identifier = reader.read_u64_if(has.identifier)?;
+    Ok(SampleId::from_parts(pid, tid, time, id.or(identifier), stream_id, cpu))
+}
+
+impl Meant for SampleId {
+    ghost says = { λ old seen new. ReadsPlain sample_id (λ s. s) old seen new
+        × TakesOrLacks (sample_id_length old.settings) old seen new };
+}
+
+/// The sample id of a record, where its bytes begin. It is there wherever
+/// [`SampleId::estimate_len`] bytes are left, and takes exactly these. Without `sample_id_all` it
+/// is empty and takes none.
+impl<'p, I: Input<'p>> ReadFrom<'p, I> for SampleId {
+    #[inline]
+    fn read<E: Endian>(reader: &mut Reader<I, E>) -> ReadResult<Self> {
+        let config = reader.config();
+        if config.sample_id_all() {
+            let has = fields_of_type(config.sample_type());
+            match read_fields(reader, has) {
+                Ok(id) => Ok(id),
+                Err(refusal) => Err(refusal),
+            }
+        } else {
+            Ok(SampleId::default())
+        }
     }
 }

@@ -1,7 +1,16 @@
 //! SWITCH_CPU_WIDE.
+#![tactic(auto, using(perf_reader::proofs::Paying::chain))]
 
 ghost use Rattle.std.specs.Prelude.{◌≡◌};
-ghost use Rattle.perf_types.specs.SwitchCpuWide.{other_pid, other_tid};
+ghost use Rattle.perf_reader.specs.Words.{ReadsPlain};
+ghost use Rattle.perf_types.specs.SwitchCpuWide.{other_pid, other_tid, switch_cpu_wide};
+ghost use Rattle.perf_words.specs.Bits.{has_bit};
+
+use perf_base::endian::Endian;
+use perf_base::refusal::ReadResult;
+use perf_buffers::input::Input;
+use perf_reader::read::{Meant, ReadFrom};
+use perf_reader::reader::Reader;
 
 /// The processor went from one task to another (`PERF_RECORD_SWITCH_CPU_WIDE`), as an event of the whole processor sees
 /// it. Which way it went is bit 13 of the header's `misc`, `PERF_RECORD_MISC_SWITCH_OUT`.
@@ -41,6 +50,32 @@ impl SwitchCpuWide {
     {
         match *self {
             SwitchCpuWide::In { tid, .. } | SwitchCpuWide::Out { tid, .. } => tid,
+        }
+    }
+}
+
+// Whether the record whose `misc` this is says that a task left its CPU.
+#[inline]
+fn is_switch_out(misc: u16) -> bool
+    ensures { result ≡ has_bit misc 13 }
+{
+    (misc >> 13) % 2 == 1
+}
+
+impl Meant for SwitchCpuWide {
+    ghost says = { ReadsPlain switch_cpu_wide (λ r. r) };
+}
+
+impl<'p, I: Input<'p>> ReadFrom<'p, I> for SwitchCpuWide {
+    #[inline]
+    fn read<E: Endian>(reader: &mut Reader<I, E>) -> ReadResult<Self> {
+        let out = is_switch_out(reader.config().misc());
+        let pid = reader.read_u32()?;
+        let tid = reader.read_u32()?;
+        if out {
+            Ok(SwitchCpuWide::Out { pid, tid })
+        } else {
+            Ok(SwitchCpuWide::In { pid, tid })
         }
     }
 }

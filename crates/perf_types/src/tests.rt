@@ -14,6 +14,10 @@ use crate::switch_cpu_wide::SwitchCpuWide;
 use crate::text_poke::TextPoke;
 use crate::throttle::Throttle;
 use perf_base::cow::CowSlice;
+use perf_base::endian::Dynamic;
+use perf_base::error::ErrorKind;
+use perf_base::laws::{dynamic_by_number, error_kind_by_number};
+use perf_base::sys::{perf_event_attr, perf_event_header};
 use perf_words::flags::{AuxFlags, KSymbolFlags};
 use perf_words::named::{BpfEventType, KSymbolType};
 use std::hash::{BuildHasherDefault, FoldHasher};
@@ -72,6 +76,137 @@ fn names_as_text(rt: HostRuntime) -> Result<(), Fail> {
         name: CowSlice::Borrowed(b"bpf"),
     };
     assert_eq!(rt; symbol.clone(alloc)?.name.as_slice(), b"bpf".as_slice());
+    Ok(())
+}
+
+#[test]
+fn owned_items(rt: HostRuntime) -> Result<(), Fail> {
+    let alloc = rt.alloc();
+    let owned = CowSlice::Borrowed(&[3u64, 2, 1]).into_owned(alloc)?;
+    assert!(rt; matches!(&owned, CowSlice::Owned(_)));
+    assert_eq!(rt; owned.as_slice(), [3u64, 2, 1].as_slice());
+    let again = owned.clone(alloc)?.into_owned(alloc)?;
+    assert!(rt; matches!(&again, CowSlice::Owned(_)));
+    assert_eq!(rt; again.as_slice(), [3u64, 2, 1].as_slice());
+    let copy = CowSlice::Borrowed(&[3u64, 2, 1]).clone(alloc)?;
+    assert!(rt; matches!(&copy, CowSlice::Borrowed(_)));
+    assert_eq!(rt; copy.as_slice(), [3u64, 2, 1].as_slice());
+    Ok(())
+}
+
+#[test]
+fn owned_records_outlive_their_bytes(rt: HostRuntime) -> Result<(), Fail> {
+    let alloc = rt.alloc();
+    let (comm, group, symbol) = {
+        let bytes = Vec::from_slice(alloc, b"//anon")?;
+        let name = bytes.as_slice();
+        let comm = Comm {
+            pid: 0x1010,
+            tid: 0x500,
+            comm: CowSlice::Borrowed(name),
+        };
+        let group = CGroup {
+            id: 7,
+            path: CowSlice::Borrowed(name),
+        };
+        let symbol = KSymbol {
+            addr: 4096,
+            len: 64,
+            ksym_type: KSymbolType::BPF,
+            flags: KSymbolFlags::UNREGISTER,
+            name: CowSlice::Borrowed(name),
+        };
+        (
+            comm.into_owned(alloc)?,
+            group.into_owned(alloc)?,
+            symbol.into_owned(alloc)?,
+        )
+    };
+    let comm = comm.clone(alloc)?.into_owned(alloc)?;
+    assert_eq!(rt; comm.pid, 0x1010);
+    assert_eq!(rt; comm.tid, 0x500);
+    assert_eq!(rt; comm.comm_os(), Some("//anon"));
+    let group = group.clone(alloc)?.into_owned(alloc)?;
+    assert_eq!(rt; group.id, 7);
+    assert_eq!(rt; group.path_os(), Some("//anon"));
+    let symbol = symbol.clone(alloc)?.into_owned(alloc)?;
+    assert_eq!(rt; symbol.addr, 4096);
+    assert_eq!(rt; symbol.len, 64);
+    assert!(rt; symbol.ksym_type == KSymbolType::BPF);
+    assert!(rt; symbol.flags == KSymbolFlags::UNREGISTER);
+    assert_eq!(rt; symbol.name.as_slice(), b"//anon".as_slice());
+    Ok(())
+}
+
+#[test]
+fn owned_mappings_outlive_their_bytes(rt: HostRuntime) -> Result<(), Fail> {
+    let alloc = rt.alloc();
+    let (short, long) = {
+        let bytes = Vec::from_slice(alloc, b"//anon")?;
+        let short = Mmap {
+            pid: 1,
+            tid: 2,
+            addr: 4096,
+            len: 8192,
+            pgoff: 512,
+            filename: CowSlice::Borrowed(bytes.as_slice()),
+        };
+        let detail = MmapDetail::BuildId {
+            build_id: TWENTY,
+            len: 2,
+        };
+        let filename = CowSlice::Borrowed(bytes.as_slice());
+        let long = Mmap2::from_parts(1, 2, 4096, 8192, 512, 5, 6, filename, detail);
+        (short.into_owned(alloc)?, long.into_owned(alloc)?)
+    };
+    let short = short.clone(alloc)?.into_owned(alloc)?;
+    assert_eq!(rt; short.pid, 1);
+    assert_eq!(rt; short.tid, 2);
+    assert_eq!(rt; short.addr, 4096);
+    assert_eq!(rt; short.len, 8192);
+    assert_eq!(rt; short.pgoff, 512);
+    assert_eq!(rt; short.filename_os(), Some("//anon"));
+    let long = long.clone(alloc)?.into_owned(alloc)?;
+    assert_eq!(rt; long.pgoff, 512);
+    assert_eq!(rt; long.prot, 5);
+    assert_eq!(rt; long.flags, 6);
+    assert_eq!(rt; long.build_id(), Some(&[1u8, 2][..]));
+    assert_eq!(rt; long.filename_os(), Some("//anon"));
+    Ok(())
+}
+
+#[test]
+fn owned_code_outlives_its_bytes(rt: HostRuntime) -> Result<(), Fail> {
+    let alloc = rt.alloc();
+    let poke = {
+        let bytes = Vec::from_slice(alloc, &[0xaa, 0xbb, 0xcc])?;
+        let poke = TextPoke {
+            addr: 16,
+            old_bytes: CowSlice::Borrowed(&bytes[..1]),
+            new_bytes: CowSlice::Borrowed(&bytes[1..]),
+        };
+        poke.to_owned(alloc)?
+    };
+    let poke = poke.clone(alloc)?.to_owned(alloc)?;
+    assert_eq!(rt; poke.addr, 16);
+    assert_eq!(rt; poke.old_bytes.as_slice(), [0xaau8].as_slice());
+    assert_eq!(rt; poke.new_bytes.as_slice(), [0xbbu8, 0xcc].as_slice());
+    Ok(())
+}
+
+#[test]
+fn owned_namespaces_are_cloned(rt: HostRuntime) -> Result<(), Fail> {
+    let alloc = rt.alloc();
+    let entries = [NamespaceEntry { dev: 3, inode: 4 }];
+    let record = Namespaces {
+        pid: 1,
+        tid: 2,
+        namespaces: CowSlice::Borrowed(&entries).into_owned(alloc)?,
+    };
+    let copy = record.clone(alloc)?;
+    assert_eq!(rt; copy.pid, 1);
+    assert_eq!(rt; copy.tid, 2);
+    assert_eq!(rt; copy.namespaces.as_slice(), entries.as_slice());
     Ok(())
 }
 
@@ -146,6 +281,34 @@ fn namespaces_by_their_places(rt: HostRuntime) -> Result<(), Fail> {
     assert!(rt; same.equal);
     assert_eq!(rt; same.first_hash, same.second_hash);
     Ok(())
+}
+
+#[test]
+fn orders_and_kinds_compare(rt: HostRuntime) {
+    let hashing = BuildHasherDefault::<FoldHasher>::new();
+    let orders = dynamic_by_number(&hashing, Dynamic::Big, Dynamic::Little);
+    assert!(rt; !orders.equal);
+    assert_ne!(rt; orders.first_hash, orders.second_hash);
+    assert!(rt; dynamic_by_number(&hashing, Dynamic::Big, Dynamic::Big).equal);
+    let kinds = error_kind_by_number(&hashing, ErrorKind::Eof, ErrorKind::External);
+    assert!(rt; !kinds.equal);
+    assert_ne!(rt; kinds.first_hash, kinds.second_hash);
+    let same = error_kind_by_number(&hashing, ErrorKind::OutOfMemory, ErrorKind::OutOfMemory);
+    assert!(rt; same.equal);
+    assert_eq!(rt; same.first_hash, same.second_hash);
+}
+
+#[test]
+fn defaults_are_zero(rt: HostRuntime) {
+    let header = perf_event_header::default();
+    assert_eq!(rt; header.type_, 0);
+    assert_eq!(rt; header.misc, 0);
+    assert_eq!(rt; header.size, 0);
+    let attr = perf_event_attr::default();
+    assert_eq!(rt; attr.size, 0);
+    assert_eq!(rt; attr.sample_type, 0);
+    assert_eq!(rt; attr.clockid, 0);
+    assert_eq!(rt; attr.config3, 0);
 }
 
 #[test]

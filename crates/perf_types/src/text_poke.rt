@@ -1,12 +1,18 @@
 //! TEXT_POKE.
+#![tactic(auto, using(perf_reader::proofs::Paying::chain))]
 
-ghost use Rattle.std.specs.Prelude.{◌≡◌, IsTrue, IsOk, IfOk, IfErr};
-ghost use Rattle.perf_base.specs.Cow.{is_borrowed};
-ghost use Rattle.perf_base.specs.Errors.{kind_of};
-ghost use Rattle.perf_types.specs.TextPoke.{text_poke_value};
+ghost use Rattle.std.specs.Prelude.{◌≡◌, ◌<◌, ◌≤◌, ◌^◌};
+ghost use Rattle.perf_reader.specs.Words.{ReadsLent};
+ghost use Rattle.perf_types.specs.TextPoke.{text_poke, text_poke_value, poked_len, IsBorrowedTextPoke, text_poke_form};
+ghost use Rattle.perf_base.specs.Copies.{IsClone, IsOwnedCopy};
 
 use perf_base::cow::CowSlice;
-use perf_base::error::{ErrorKind, ParseResult};
+use perf_base::endian::Endian;
+use perf_base::error::ParseResult;
+use perf_base::refusal::{ReadResult, Refusal};
+use perf_buffers::input::Input;
+use perf_reader::read::{Meant, ReadFrom};
+use perf_reader::reader::Reader;
 use std::alloc::Global;
 
 /// The kernel changed its own code (`PERF_RECORD_TEXT_POKE`).
@@ -21,15 +27,9 @@ pub struct TextPoke<'a> {
 }
 
 impl<'a> TextPoke<'a> {
-    ghost use Rattle.perf_types.specs.TextPoke.{IsBorrowedTextPoke};
-
     /// The same record. It takes no memory where both byte strings are borrowed.
     pub fn clone(&self, alloc: Global) -> ParseResult<TextPoke<'a>>
-        ensures same { IfOk result (λ copy. text_poke_value copy ≡ text_poke_value self.now) }
-        ensures old_form { IfOk result (λ copy. is_borrowed copy.old_bytes ≡ is_borrowed self.now.old_bytes) }
-        ensures new_form { IfOk result (λ copy. is_borrowed copy.new_bytes ≡ is_borrowed self.now.new_bytes) }
-        ensures refused { IfErr result (λ e. kind_of e ≡ ErrorKind.OutOfMemory) }
-        ensures no_memory { IsBorrowedTextPoke self.now → IsOk result }
+        ensures { IsClone text_poke_value text_poke_form self.now result }
     {
         let old_bytes = self.old_bytes.clone(alloc)?;
         let new_bytes = self.new_bytes.clone(alloc)?;
@@ -38,5 +38,60 @@ impl<'a> TextPoke<'a> {
             old_bytes,
             new_bytes,
         })
+    }
+
+    /// The same record with both byte strings in memory of its own, so that it lasts as long as one
+    /// likes. It takes no memory for those that it owns already. Where it is refused,
+    /// `OutOfMemory`, the record is given up.
+    pub fn to_owned<'b>(self, alloc: Global) -> ParseResult<TextPoke<'b>>
+        ensures { IsOwnedCopy text_poke_value text_poke_form self.entry result }
+    {
+        let TextPoke {
+            addr,
+            old_bytes,
+            new_bytes,
+        } = self;
+        let old_bytes = old_bytes.into_owned(alloc)?;
+        let new_bytes = new_bytes.into_owned(alloc)?;
+        Ok(TextPoke {
+            addr,
+            old_bytes,
+            new_bytes,
+        })
+    }
+}
+
+// How many bytes stand behind the lengths: so many that the record ends at a multiple of eight.
+#[inline]
+fn poked_len(both: usize) -> usize
+    requires { both < 2 ^ 17 }
+    ensures exact { result ≡ poked_len both }
+    ensures enough { both ≤ result }
+{
+    both + (12 - both % 8) % 8
+}
+
+impl Meant for TextPoke<'_> {
+    ghost says = { ReadsLent (λ _. text_poke) text_poke_value IsBorrowedTextPoke };
+}
+
+impl<'p, I: Input<'p>> ReadFrom<'p, I> for TextPoke<'p> {
+    #[inline]
+    fn read<E: Endian>(reader: &mut Reader<I, E>) -> ReadResult<Self> {
+        let addr = reader.read_u64()?;
+        let old_len = reader.read_u16()? as usize;
+        let new_len = reader.read_u16()? as usize;
+        let run = reader.read_bytes(poked_len(old_len + new_len))?;
+        match run.split_at(reader.alloc(), old_len) {
+            Ok((old_bytes, mut new_bytes)) => {
+                new_bytes.truncate(new_len);
+                Ok(TextPoke {
+                    addr,
+                    old_bytes,
+                    new_bytes,
+                })
+            }
+            Err(_) => Err(Refusal::OutOfMemory),
+        }
     }
 }

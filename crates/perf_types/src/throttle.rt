@@ -1,4 +1,14 @@
 //! THROTTLE and UNTHROTTLE.
+#![tactic(auto, using(perf_reader::proofs::Paying::chain))]
+
+ghost use Rattle.perf_reader.specs.Words.{ReadsPlain};
+ghost use Rattle.perf_types.specs.Throttle.{throttle};
+
+use perf_base::endian::Endian;
+use perf_base::refusal::ReadResult;
+use perf_buffers::input::Input;
+use perf_reader::read::{Meant, ReadFrom};
+use perf_reader::reader::Reader;
 
 /// The kernel stopped an event that came too often (`PERF_RECORD_THROTTLE`), or let it go on
 /// (`PERF_RECORD_UNTHROTTLE`).
@@ -10,4 +20,19 @@ pub struct Throttle {
     pub id: u64,
     /// The kernel's own number of the event itself.
     pub stream_id: u64,
+}
+
+impl Meant for Throttle {
+    ghost says = { ReadsPlain (λ _. throttle) (λ r. r) };
+}
+
+impl<'p, I: Input<'p>> ReadFrom<'p, I> for Throttle {
+    #[inline]
+    fn read<E: Endian>(reader: &mut Reader<I, E>) -> ReadResult<Self> {
+        Ok(Throttle {
+            time: reader.read_u64()?,
+            id: reader.read_u64()?,
+            stream_id: reader.read_u64()?,
+        })
+    }
 }

@@ -1,0 +1,14 @@
+use Rattle.std.proofs.Common.{◌≡◌, ◌++◌, drop}
+use Rattle.perf_types.specs.EntryCalls.{answers_of, left_by_all}
+use Rattle.perf_types.specs.GroupIter.{entries_left}
+use Rattle.perf_types.proofs.group_laws.entry_calls.Given as goal
+
+-- The answers so far and those to the calls that come are the answers to all, and what all of them
+-- leave is what those that come leave.
+abbrev pub invariant-loop-call : goal.invariant-loop-call
+invariant-loop-call l =
+    let first = entries_left l.fn.entries in
+    let left = entries_left l.entries in
+    let others = drop l.call-index l.calls in
+    (l.answers.items ++ answers_of others left ≡ answers_of l.calls first)
+    × (left_by_all others left ≡ left_by_all l.calls first)

@@ -1,0 +1,110 @@
+-- A read of a group of counters, `struct read_format` of perf_event_open(2) with PERF_FORMAT_GROUP:
+-- how many counters there are, the times of the group, and an entry for each counter.
+use Rattle.std.specs.Prelude.{ℕ, ◌*◌, ◌/◌, ◌^◌, nat_lt, Bool, true, false, List, [], ◌∷◌, length}
+use Rattle.std.specs.Prelude.{Option, Some, None, is_some, unwrap_or}
+use Rattle.std.specs.Bool.{then_some}
+use Rattle.perf_base.specs.Configuration.{Configuration}
+use Rattle.perf_base.specs.Cow.{cow_items, is_borrowed}
+use Rattle.perf_base.specs.Layout.{Parts, done, ◌>>=◌, ◌>>◌}
+use Rattle.perf_base.specs.FieldWords.{u64, u64_if, numbers, require}
+use Rattle.perf_base.specs.declared.error.ErrorKind.TheVariants as kind
+use Rattle.perf_words.specs.Sets.{element_len}
+use Rattle.perf_types.specs.ReadFormat.{has_time_enabled, has_time_running, has_id, has_lost}
+use Rattle.perf_types.specs.ReadFormat.{has_group, is_known}
+use Rattle.perf_types.specs.ReadValue.{SingleRead}
+use Rattle.perf_types.specs.GroupEntry.{block_len, entries_of}
+use Rattle.perf_types.specs.declared.group_entry.GroupEntry.{GroupEntry}
+use Rattle.perf_types.specs.declared.read_group.ReadGroup.{ReadGroup}
+
+-- the read of a group in plain numbers
+pub record GroupRead : Type 0 where
+  -- how long the group was enabled, and how long it ran, in nanoseconds
+  pub time_enabled : Option ℕ
+  pub time_running : Option ℕ
+  -- which numbers each entry has beside its value
+  pub with_id : Bool
+  pub with_lost : Bool
+  pub entries : List GroupEntry
+
+-- the entries of a list of numbers, as many as it has blocks
+abbrev pub all_entries : (with_id with_lost : Bool) → List ℕ → List GroupEntry
+all_entries with_id with_lost words =
+    entries_of with_id with_lost (length words / block_len with_id with_lost) words
+
+-- the value of a group of the code, wherever its numbers lie
+abbrev pub group_read : ReadGroup → GroupRead
+group_read g = record {
+  time_enabled = g.time_enabled;
+  time_running = g.time_running;
+  with_id = g.with_id;
+  with_lost = g.with_lost;
+  entries = all_entries g.with_id g.with_lost (cow_items g.words);
+}
+
+-- the group of these numbers: of the times those count whose flag a read format has
+abbrev pub group_with : (read_format time_enabled time_running : ℕ) → List ℕ → GroupRead
+group_with read_format time_enabled time_running words = record {
+  time_enabled = then_some (has_time_enabled read_format) time_enabled;
+  time_running = then_some (has_time_running read_format) time_running;
+  with_id = has_id read_format;
+  with_lost = has_lost read_format;
+  entries = all_entries (has_id read_format) (has_lost read_format) words;
+}
+
+-- no number of it was copied
+abbrev pub is_borrowed_group : ReadGroup → Bool
+is_borrowed_group g = is_borrowed g.words
+
+-- ---- single reads and groups
+
+-- a single read as a group of one
+abbrev pub group_of : SingleRead → GroupRead
+group_of r = record {
+  time_enabled = r.time_enabled;
+  time_running = r.time_running;
+  with_id = is_some r.id;
+  with_lost = is_some r.lost;
+  entries = record { value = r.value; id = r.id; lost = r.lost } ∷ [];
+}
+
+-- a number where it is wanted: 0 where it is lacking
+abbrev pub wanted : Bool → Option ℕ → Option ℕ
+wanted true number = Some (unwrap_or number 0)
+wanted false number = None
+
+-- an entry, also one of another group, as a single read with the times of a group and the numbers
+-- that its entries have
+abbrev pub single_of : GroupRead → GroupEntry → SingleRead
+single_of g e = record {
+  value = e.value;
+  time_enabled = g.time_enabled;
+  time_running = g.time_running;
+  id = wanted g.with_id e.id;
+  lost = wanted g.with_lost e.lost;
+}
+
+-- the one entry of a list that has no other
+abbrev pub only_entry : List GroupEntry → Option GroupEntry
+only_entry (e ∷ []) = Some e
+only_entry _ = None
+
+-- ---- table
+
+-- A read format that asks for no group, or for what is not known, is refused before the count. A
+-- list of more numbers than 2 ^ 64 - 1 is refused behind the times.
+abbrev pub read_group : Configuration → Parts GroupRead
+read_group c = do
+  require (has_group c.read_format) kind.UnsupportedConfig
+  require (is_known c.read_format) kind.UnsupportedConfig
+  count ← u64
+  time_enabled ← u64_if (has_time_enabled c.read_format)
+  time_running ← u64_if (has_time_running c.read_format)
+  require (nat_lt (count * element_len c.read_format) (2 ^ 64)) kind.InvalidRecord
+  words ← numbers (count * element_len c.read_format)
+  done (record {
+    time_enabled = time_enabled;
+    time_running = time_running;
+    with_id = has_id c.read_format;
+    with_lost = has_lost c.read_format;
+    entries = all_entries (has_id c.read_format) (has_lost c.read_format) words;
+  })

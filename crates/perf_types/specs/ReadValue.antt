@@ -1,0 +1,65 @@
+-- A read of one counter, `struct read_format` of perf_event_open(2) without PERF_FORMAT_GROUP: the
+-- counter's value, and behind it a number for each other flag.
+use Rattle.std.specs.Prelude.{ℕ, not, List, codes, Option}
+use Rattle.std.specs.Bool.{then_some}
+use Rattle.perf_base.specs.Configuration.{Configuration}
+use Rattle.perf_base.specs.Layout.{Parts, done, ◌>>=◌, ◌>>◌}
+use Rattle.perf_base.specs.FieldWords.{u64, u64_if, require}
+use Rattle.perf_base.specs.declared.error.ErrorKind.TheVariants.{UnsupportedConfig}
+use Rattle.perf_types.specs.ReadFormat.{has_time_enabled, has_time_running, has_id, has_lost}
+use Rattle.perf_types.specs.ReadFormat.{has_group, is_known}
+use Rattle.perf_types.specs.declared.read_value.ReadValue.{ReadValue}
+
+-- the read of one counter in plain numbers
+pub record SingleRead : Type 0 where
+  pub value : ℕ
+  -- how long the event was enabled, and how long it ran, in nanoseconds
+  pub time_enabled : Option ℕ
+  pub time_running : Option ℕ
+  -- the kernel's own number of the event
+  pub id : Option ℕ
+  -- how many samples of it were lost
+  pub lost : Option ℕ
+
+-- the numbers of a read of the code
+abbrev pub single_read : ReadValue → SingleRead
+single_read r = record {
+  value = r.value;
+  time_enabled = r.time_enabled;
+  time_running = r.time_running;
+  id = r.id;
+  lost = r.lost;
+}
+
+-- the read of these numbers, of which those count whose flag a read format has
+abbrev pub read_with : (read_format value time_enabled time_running id lost : ℕ) → SingleRead
+read_with read_format value time_enabled time_running id lost = record {
+  value = value;
+  time_enabled = then_some (has_time_enabled read_format) time_enabled;
+  time_running = then_some (has_time_running read_format) time_running;
+  id = then_some (has_id read_format) id;
+  lost = then_some (has_lost read_format) lost;
+}
+
+-- what is written of a group that cannot be one read
+abbrev pub not_one_text : List ℕ
+not_one_text = codes "can only convert groups with a single element to ReadValues"
+
+-- A read format that asks for a group, or for what is not known, is refused before the first
+-- number.
+abbrev pub read_value : Configuration → Parts SingleRead
+read_value c = do
+  require (not (has_group c.read_format)) UnsupportedConfig
+  require (is_known c.read_format) UnsupportedConfig
+  value ← u64
+  time_enabled ← u64_if (has_time_enabled c.read_format)
+  time_running ← u64_if (has_time_running c.read_format)
+  id ← u64_if (has_id c.read_format)
+  lost ← u64_if (has_lost c.read_format)
+  done (record {
+    value = value;
+    time_enabled = time_enabled;
+    time_running = time_running;
+    id = id;
+    lost = lost;
+  })

@@ -1,0 +1,196 @@
+//! The read of a group of counters.
+
+ghost use Rattle.std.specs.Prelude.{◌≡◌, ◌%◌, length};
+ghost use Rattle.perf_base.specs.Cow.{cow_items};
+ghost use Rattle.perf_types.specs.GroupEntry.{block_len};
+
+use crate::group_entry::{GroupEntry, block_len};
+use crate::group_iter::GroupIter;
+use crate::read_value::ReadValue;
+use bitflags::Flags;
+use perf_base::cow::CowSlice;
+use perf_base::error::{ErrorKind, ParseResult};
+use perf_words::ReadFormat;
+use std::alloc::Global;
+
+/// What was read of a group of counters at once (`PERF_FORMAT_GROUP`): an entry for each, in one
+/// list of numbers that may be borrowed.
+#[derive(Debug, Drop)]
+pub struct ReadGroup<'a> {
+    time_enabled: Option<u64>,
+    time_running: Option<u64>,
+    with_id: bool,
+    with_lost: bool,
+    words: CowSlice<'a, u64>,
+    ghost whole: { length (cow_items words) % block_len with_id with_lost ≡ 0 },
+}
+
+impl<'a> ReadGroup<'a> {
+    ghost use Rattle.std.specs.Prelude.{IsTrue, IsOk, IfOk, IfErr, IsNone, ◌↔◌, slice_get, [], not};
+    ghost use Rattle.perf_base.specs.Cow.{is_borrowed};
+    ghost use Rattle.perf_base.specs.Errors.{kind_of};
+    ghost use Rattle.perf_words.specs.Sets.{element_len};
+    ghost use Rattle.perf_words.specs.SetBits.{read_format_bits};
+    ghost use Rattle.perf_types.specs.ReadValue.{single_read};
+    ghost use Rattle.perf_types.specs.ReadGroup.{group_read, group_with, group_of};
+    ghost use Rattle.perf_types.specs.ReadGroup.{is_borrowed_group};
+    ghost use Rattle.perf_types.specs.GroupEntry.{entry_with_id};
+    ghost use Rattle.perf_types.specs.GroupIter.{entries_left};
+
+    /// The group of these numbers: times, of which one whose flag the read format lacks is not
+    /// looked at, and the entries' numbers one behind another, for each as many as
+    /// [`ReadFormat::element_len`] says: its value, its id and its lost samples.
+    #[tactic(auto, using(crate::proofs::Flags::read_flags))]
+    pub fn from_parts(
+        read_format: ReadFormat,
+        time_enabled: u64,
+        time_running: u64,
+        words: CowSlice<'a, u64>,
+    ) -> ReadGroup<'a>
+        requires { length (cow_items words) % element_len (read_format_bits read_format) ≡ 0 }
+        ensures value { let format = read_format_bits read_format in
+            let numbers = cow_items words.entry in
+            group_read result ≡ group_with format time_enabled time_running numbers }
+        ensures form { is_borrowed_group result ≡ is_borrowed words.entry }
+    {
+        ReadGroup {
+            time_enabled: read_format
+                .contains(ReadFormat::TOTAL_TIME_ENABLED)
+                .then_some(time_enabled),
+            time_running: read_format
+                .contains(ReadFormat::TOTAL_TIME_RUNNING)
+                .then_some(time_running),
+            with_id: read_format.contains(ReadFormat::ID),
+            with_lost: read_format.contains(ReadFormat::LOST),
+            words,
+        }
+    }
+
+    /// The read of one counter as a group of one. It is refused only for want of memory.
+    pub fn from_value(alloc: Global, value: ReadValue) -> ParseResult<ReadGroup<'a>>
+        ensures same { IfOk result (λ group. group_read group ≡ group_of (single_read value)) }
+        ensures refused { IfErr result (λ e. kind_of e ≡ ErrorKind.OutOfMemory) }
+    {
+        let words = match (value.id(), value.lost()) {
+            (None, None) => Vec::from_slice(alloc, &[value.value()])?,
+            (Some(id), None) => Vec::from_slice(alloc, &[value.value(), id])?,
+            (None, Some(lost)) => Vec::from_slice(alloc, &[value.value(), lost])?,
+            (Some(id), Some(lost)) => Vec::from_slice(alloc, &[value.value(), id, lost])?,
+        };
+        Ok(ReadGroup {
+            time_enabled: value.time_enabled(),
+            time_running: value.time_running(),
+            with_id: value.id().is_some(),
+            with_lost: value.lost().is_some(),
+            words: CowSlice::Owned(words),
+        })
+    }
+
+    /// How many counters the group has.
+    #[inline]
+    pub fn len(&self) -> usize
+        ensures { result ≡ length (group_read self.now).entries }
+    {
+        self.words.len() / block_len(self.with_id, self.with_lost)
+    }
+
+    /// Whether the group has no counters.
+    #[inline]
+    pub fn is_empty(&self) -> bool
+        ensures { IsTrue result ↔ ((group_read self.now).entries ≡ []) }
+    {
+        self.words.is_empty()
+    }
+
+    /// How long the group was enabled, in nanoseconds, where the read format has
+    /// `PERF_FORMAT_TOTAL_TIME_ENABLED`.
+    #[inline]
+    pub fn time_enabled(&self) -> Option<u64>
+        ensures { result ≡ (group_read self.now).time_enabled }
+    {
+        self.time_enabled
+    }
+
+    /// How long the group ran, in nanoseconds, where the read format has
+    /// `PERF_FORMAT_TOTAL_TIME_RUNNING`. It is less than [`ReadGroup::time_enabled`] where groups
+    /// took turns, as there were more events than counters.
+    #[inline]
+    pub fn time_running(&self) -> Option<u64>
+        ensures { result ≡ (group_read self.now).time_running }
+    {
+        self.time_running
+    }
+
+    // Whether each entry has an id.
+    #[inline]
+    pub(crate) fn with_id(&self) -> bool
+        ensures { result ≡ (group_read self.now).with_id }
+    {
+        self.with_id
+    }
+
+    // Whether each entry has its lost samples.
+    #[inline]
+    pub(crate) fn with_lost(&self) -> bool
+        ensures { result ≡ (group_read self.now).with_lost }
+    {
+        self.with_lost
+    }
+
+    /// The entry at a place, counted from 0. It takes the same time wherever that is.
+    #[inline]
+    #[tactic(auto, using(crate::proofs::Blocks::block_fits))]
+    pub fn get(&self, index: usize) -> Option<GroupEntry>
+        ensures { result ≡ slice_get (group_read self.now).entries index }
+    {
+        let words = self.words.as_slice();
+        let block_len = block_len(self.with_id, self.with_lost);
+        if index >= words.len() / block_len {
+            return None;
+        }
+        let place = index * block_len;
+        let block = &words[place..place + block_len];
+        Some(GroupEntry::of_block(block, self.with_id, self.with_lost))
+    }
+
+    /// The first entry with an id. There is none where the read format lacks `PERF_FORMAT_ID`.
+    pub fn get_by_id(&self, id: u64) -> Option<GroupEntry>
+        ensures first { result ≡ entry_with_id id (group_read self.now).entries }
+        ensures without_ids { IsTrue (not (group_read self.now).with_id) → IsNone result }
+    {
+        if !self.with_id {
+            return None;
+        }
+        self.entries().find(|entry| entry.id() == Some(id))
+    }
+
+    /// The entries, in their order.
+    #[inline]
+    pub fn entries(&self) -> GroupIter<'_>
+        ensures { entries_left result ≡ (group_read self.now).entries }
+    {
+        GroupIter::new(
+            self.words.as_slice(),
+            self.len(),
+            self.with_id,
+            self.with_lost,
+        )
+    }
+
+    /// The same group. It takes no memory where its numbers are borrowed.
+    pub fn clone(&self, alloc: Global) -> ParseResult<ReadGroup<'a>>
+        ensures same { IfOk result (λ copy. group_read copy ≡ group_read self.now) }
+        ensures form { IfOk result (λ copy. is_borrowed_group copy ≡ is_borrowed_group self.now) }
+        ensures refused { IfErr result (λ e. kind_of e ≡ ErrorKind.OutOfMemory) }
+        ensures no_memory { IsTrue (is_borrowed_group self.now) → IsOk result }
+    {
+        let words = self.words.clone(alloc)?;
+        Ok(ReadGroup {
+            time_enabled: self.time_enabled,
+            time_running: self.time_running,
+            with_id: self.with_id,
+            with_lost: self.with_lost,
+            words,
+        })
+    }
+}
