@@ -1,2 +1,6 @@
-pub mod Records
 pub mod Metadata
+pub mod Records
+pub mod RecordTypes
+pub mod Bodies
+pub mod Frames
+pub mod Answers

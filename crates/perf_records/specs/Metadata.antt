@@ -3,7 +3,6 @@
 use Rattle.std.specs.Prelude.{ℕ, Bool, ◌==◌, ◌&&◌, not, nat_lt, if◌then◌else◌}
 use Rattle.perf_base.specs.Configuration.{Configuration}
 use Rattle.perf_base.specs.Layout.{Parts, done}
-use Rattle.perf_base.specs.declared.sys.TheConstants.{PERF_RECORD_SAMPLE}
 use Rattle.perf_types.specs.SampleId.{SampleIdValue, no_sample_id, sample_id, sample_id_length}
 
 pub record MetadataValue : Type 0 where
@@ -13,7 +12,7 @@ pub record MetadataValue : Type 0 where
 
 -- The types whose records end with a sample id: the kernel's own, below 64, but SAMPLE, which has its fields in front.
 abbrev pub carries_sample_id : ℕ → Bool
-carries_sample_id ty = nat_lt ty 64 && not (ty == PERF_RECORD_SAMPLE)
+carries_sample_id ty = nat_lt ty 64 && not (ty == 9)
 
 -- the sample id of a record of a type
 abbrev pub id_of_type : Configuration → ℕ → Parts SampleIdValue

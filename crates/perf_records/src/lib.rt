@@ -1,5 +1,8 @@
 //! One value for every record that the kernel writes.
 #![tactic(auto)]
 
+pub mod body;
+pub mod frame;
 pub mod metadata;
 pub mod record;
+pub mod record_type;

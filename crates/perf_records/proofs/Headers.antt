@@ -1,0 +1,201 @@
+-- The header at the front of bytes, and what a frame says by its own bytes alone.
+use Rattle.std.proofs.Common.{◌≡◌, ℕ, ◌+◌, ◌<◌, ◌≤◌, List, [], length, take, drop, arith, refl, sym, ◌∙◌, ap, true, false, inl, inr, Ok, Err, max, nat_lt}
+use Rattle.std.specs.Prelude.{Result, IsTrue, Some, ◌≢◌}
+use Rattle.std.proofs.lemmas.Bool.{cases_lt, lt-ltb, le-ltb}
+use Rattle.std.proofs.lemmas.List.{take-take, drop-take, take_all, length-take-le, drop-drop, drop_all}
+use Rattle.perf_base.specs.Order.{Order}
+use Rattle.perf_base.specs.Configuration.{Configuration}
+use Rattle.perf_base.specs.Layout.{Parts, done, ◌>>=◌, number, w2, w4}
+use Rattle.perf_base.specs.FieldWords.{u16}
+use Rattle.perf_base.specs.Reads.{layout_reads}
+use Rattle.perf_base.specs.Run.{Ran, ran, stopped, by_places}
+use Rattle.perf_base.specs.Header.{header, header_of}
+use Rattle.perf_base.proofs.Bridge.{judged_yes, judged_no}
+use Rattle.perf_base.specs.declared.sys.perf_event_header.{perf_event_header}
+use Rattle.perf_base.specs.declared.error.ErrorKind.{ErrorKind}
+use Rattle.perf_base.specs.declared.error.ErrorKind.TheVariants.{Eof, InvalidRecord, UnsupportedConfig, UnsupportedData, External, OutOfMemory}
+use Rattle.perf_buffers.specs.Buffer.{Source}
+use Rattle.perf_buffers.specs.Taking.{MovesWithin}
+use Rattle.perf_buffers.proofs.Taking.{moves_more}
+use Rattle.perf_reader.specs.Meaning.{Meaning}
+use Rattle.perf_reader.specs.Reading.{of_layout, is_external}
+use Rattle.perf_records.proofs.Keeping.{within_all, within_taken}
+use Rattle.perf_records.specs.Frames.{frame_length}
+use Rattle.perf_records.specs.Answers.{body_length, split_behind, record_in, answer_behind, of_frame, answer_of_frame, Tells, frame_reads}
+
+-- ---- the header by places
+-- what follows the type, and what follows misc
+abbrev after_type : ℕ → Parts perf_event_header
+after_type ty = u16 >>= λ misc. (u16 >>= λ size. done (record { type_ = ty; misc = misc; size = size }))
+
+abbrev after_misc : ℕ → ℕ → Parts perf_event_header
+after_misc ty misc = u16 >>= λ size. done (record { type_ = ty; misc = misc; size = size })
+
+abbrev after_size : ℕ → ℕ → ℕ → Parts perf_event_header
+after_size ty misc size = done (record { type_ = ty; misc = misc; size = size })
+
+header_there : (o : Order) (bytes : List ℕ) → 8 ≤ length bytes → by_places o header bytes ≡ ran (header_of o bytes) (drop 8 bytes)
+unfolding by_places
+header_there o bytes h =
+    let ty : ℕ = o.four (take 4 bytes) in
+    let misc : ℕ = o.two (take 2 (drop 4 bytes)) in
+    judged_yes o bytes 0 (number w4) after_type (omega arith)
+    ∙ judged_yes o bytes 4 (number w2) (after_misc ty) (omega arith)
+    ∙ judged_yes o bytes 6 (number w2) (after_size ty misc) (omega arith)
+
+header_lacks : (o : Order) (bytes : List ℕ) → length bytes < 8 → by_places o header bytes ≡ stopped Eof []
+unfolding by_places
+header_lacks o bytes h =
+    let ty : ℕ = o.four (take 4 bytes) in
+    let misc : ℕ = o.two (take 2 (drop 4 bytes)) in
+    elim (cases_lt (length bytes) 4) [
+      | inl short ↦ judged_no o bytes 0 (number w4) after_type short
+      | inr four ↦
+          judged_yes o bytes 0 (number w4) after_type four
+          ∙ elim (cases_lt (length bytes) 6) [
+            | inl short ↦ judged_no o bytes 4 (number w2) (after_misc ty) short
+            | inr six ↦ judged_yes o bytes 4 (number w2) (after_misc ty) six ∙ judged_no o bytes 6 (number w2) (after_size ty misc) h
+          ]
+    ]
+
+-- a header that was read
+pub header_read : (o : Order) (bytes left : List ℕ) (h : perf_event_header) → by_places o header bytes ≡ ran h left → (8 ≤ length bytes) × (h ≡ header_of o bytes) × (left ≡ drop 8 bytes)
+header_read o bytes left h e = elim (cases_lt (length bytes) 8) [
+  | inl short ↦ absurd (cc (header_lacks o bytes short))
+  | inr fits ↦
+      let both : ran (header_of o bytes) (drop 8 bytes) ≡ ran h left = sym (header_there o bytes fits) ∙ e in
+      let same : header_of o bytes ≡ h = cc in
+      let same' : drop 8 bytes ≡ left = cc in
+      (fits, sym same, sym same')
+]
+
+-- a header that was not
+pub header_unread : (o : Order) (bytes left : List ℕ) (e : ErrorKind) → by_places o header bytes ≡ stopped e left → (length bytes < 8) × (e ≡ Eof) × (left ≡ [])
+header_unread o bytes left e h = elim (cases_lt (length bytes) 8) [
+  | inr fits ↦ absurd (cc (header_there o bytes fits))
+  | inl short ↦
+      let both : ◌≡◌ {A = Ran perf_event_header} (stopped Eof []) (stopped e left) = sym (header_lacks o bytes short) ∙ h in
+      let same : Eof ≡ e = cc in
+      let same' : [] ≡ left = cc in
+      (short, sym same, sym same')
+]
+
+-- ---- a frame's own bytes
+pub header_take : (o : Order) (n : ℕ) (bytes : List ℕ) → header_of o (take (8 + n) bytes) ≡ header_of o bytes
+header_take o n bytes =
+    let a : take 4 (take (8 + n) bytes) ≡ take 4 bytes = take-take 4 (8 + n) bytes (omega arith) in
+    let b : take 2 (drop 4 (take (8 + n) bytes)) ≡ take 2 (drop 4 bytes) =
+    ap (λ k. take 2 (drop 4 (take k bytes))) (omega arith) ∙ ap (take 2) (drop-take 4 (4 + n) bytes) ∙ take-take 2 (4 + n) (drop 4 bytes) (omega arith) in
+    let d : take 2 (drop 6 (take (8 + n) bytes)) ≡ take 2 (drop 6 bytes) =
+    ap (λ k. take 2 (drop 6 (take k bytes))) (omega arith) ∙ ap (take 2) (drop-take 6 (2 + n) bytes) ∙ take-take 2 (2 + n) (drop 6 bytes) (omega arith) in
+    rw (a, b, d) refl
+
+split_take : (c : Configuration) (o : Order) (h : perf_event_header) (bytes : List ℕ) → split_behind c o h (take (body_length h) bytes) ≡ split_behind c o h bytes
+split_take c o h bytes = elim (cases_lt (length bytes) (body_length h)) [
+  | inl short ↦ ap (split_behind c o h) (take_all (body_length h) bytes (omega arith))
+  | inr fits ↦
+      let all : length (take (body_length h) bytes) ≡ body_length h = length-take-le (body_length h) bytes fits in
+      let a : nat_lt (length (take (body_length h) bytes)) (body_length h) ≡ false = le-ltb (length (take (body_length h) bytes)) (body_length h) (omega arith) in
+      let b : nat_lt (length bytes) (body_length h) ≡ false = le-ltb (length bytes) (body_length h) fits in
+      let t : take (body_length h) (take (body_length h) bytes) ≡ take (body_length h) bytes = take-take (body_length h) (body_length h) bytes (omega arith) in
+      rw (a, b, t) refl
+]
+
+behind_take : (c : Configuration) (o : Order) (h : perf_event_header) (bytes : List ℕ) → answer_behind c o h (take (body_length h) bytes) ≡ answer_behind c o h bytes
+behind_take c o h bytes = ap (record_in c o h) (split_take c o h bytes)
+
+-- what stands behind a header that is whole
+pub frame_whole : {V : Type 0} (says : perf_event_header → List ℕ → Result V ErrorKind) (o : Order) (bytes : List ℕ) → 8 ≤ length bytes → of_frame says o bytes ≡ says (header_of o bytes) (drop 8 bytes)
+frame_whole says o bytes fits = let a : nat_lt (length bytes) 8 ≡ false = le-ltb (length bytes) 8 fits in rw a refl
+
+pub answer_whole : (c : Configuration) (o : Order) (bytes : List ℕ) → 8 ≤ length bytes → answer_of_frame c o bytes ≡ answer_behind c o (header_of o bytes) (drop 8 bytes)
+answer_whole c o bytes fits = frame_whole (answer_behind c o) o bytes fits
+
+-- the frame's length, in the words of its body
+pub frame_body : (h : perf_event_header) → max 8 h.size ≡ 8 + body_length h
+frame_body h = omega arith
+
+-- A frame says by its own bytes what it says in front of others.
+pub answer_alone : (c : Configuration) (o : Order) (bytes : List ℕ) → 8 ≤ length bytes → answer_of_frame c o (take (frame_length o bytes) bytes) ≡ answer_of_frame c o bytes
+answer_alone c o bytes fits =
+    let h : perf_event_header = header_of o bytes in
+    let whole : frame_length o bytes ≡ 8 + body_length h = frame_body h in
+    let same : header_of o (take (8 + body_length h) bytes) ≡ h = header_take o (body_length h) bytes in
+    let enough : 8 ≤ length (take (8 + body_length h) bytes) = elim (cases_lt (length bytes) (8 + body_length h)) [
+      | inl short ↦ omega (arith, ap length (take_all (8 + body_length h) bytes (omega arith)))
+      | inr long ↦ omega (arith, length-take-le (8 + body_length h) bytes long)
+    ] in
+    ap (λ n. answer_of_frame c o (take n bytes)) whole
+    ∙ answer_whole c o (take (8 + body_length h) bytes) enough
+    ∙ ap (λ k. answer_behind c o k (drop 8 (take (8 + body_length h) bytes))) same
+    ∙ ap (answer_behind c o h) (drop-take 8 (body_length h) bytes)
+    ∙ behind_take c o h (drop 8 bytes)
+    ∙ sym (answer_whole c o bytes fits)
+
+-- the header of a frame's own bytes
+pub header_alone : (o : Order) (bytes : List ℕ) → header_of o (take (frame_length o bytes) bytes) ≡ header_of o bytes
+header_alone o bytes = ap (λ n. header_of o (take n bytes)) (frame_body (header_of o bytes)) ∙ header_take o (body_length (header_of o bytes)) bytes
+
+-- ---- a frame, from its header and what stands behind it
+pub frame_behind : (o : Order) (bytes mid new : List ℕ) (h : perf_event_header) → h ≡ header_of o bytes → mid ≡ drop 8 bytes → new ≡ drop (body_length h) mid → new ≡ drop (frame_length o bytes) bytes
+frame_behind o bytes mid new h e m n =
+    n ∙ ap (drop (body_length h)) m ∙ drop-drop (body_length h) 8 bytes ∙ ap (λ k. drop k bytes) (sym (ap (λ (q : perf_event_header). max 8 q.size) (sym e) ∙ frame_body h))
+
+-- the reads of a frame whose header is whole
+reads_whole : (behind : perf_event_header → List ℕ → ℕ) (o : Order) (bytes : List ℕ) → 8 ≤ length bytes →
+    frame_reads behind o bytes ≡ layout_reads o header bytes + behind (header_of o bytes) (drop 8 bytes)
+reads_whole behind o bytes fits = let a : nat_lt (length bytes) 8 ≡ false = le-ltb (length bytes) 8 fits in rw a refl
+
+reads_cut : (behind : perf_event_header → List ℕ → ℕ) (o : Order) (bytes : List ℕ) → length bytes < 8 → frame_reads behind o bytes ≡ layout_reads o header bytes + 0
+reads_cut behind o bytes short = let a : nat_lt (length bytes) 8 ≡ true = lt-ltb (length bytes) 8 short in rw a refl
+
+told_reads : (reads : perf_event_header → List ℕ → ℕ) (old mid : Meaning) (h : perf_event_header) (made : ℕ) → 8 ≤ length old.source.left → h ≡ header_of old.order old.source.left →
+    mid.source.left ≡ drop 8 old.source.left → mid.reads ≡ old.reads + layout_reads old.order header old.source.left → made ≡ mid.reads + reads h mid.source.left →
+    made ≡ old.reads + frame_reads reads old.order old.source.left
+told_reads reads old mid h made fits e m n p =
+    let same : reads h mid.source.left ≡ reads (header_of old.order old.source.left) (drop 8 old.source.left) = ap (λ k. reads k mid.source.left) e ∙ ap (reads (header_of old.order old.source.left)) m in
+    omega (arith, p, n, same, reads_whole reads old.order old.source.left fits)
+
+-- what is told behind a header is told of the frame
+pub tells_frame : {X V : Type 0} (view : X → V) (says : perf_event_header → List ℕ → Result V ErrorKind) (reads : perf_event_header → List ℕ → ℕ)
+    (old mid new : Meaning) (h : perf_event_header) (r : Result X ErrorKind) →
+    8 ≤ length old.source.left → h ≡ header_of old.order old.source.left → mid.source.left ≡ drop 8 old.source.left → mid.reads ≡ old.reads + layout_reads old.order header old.source.left →
+    Tells view (says h mid.source.left) (body_length h) (reads h mid.source.left) mid r new →
+    Tells view (of_frame says old.order old.source.left) (frame_length old.order old.source.left) (frame_reads reads old.order old.source.left) old r new
+tells_frame view says reads old mid new h (Ok x) fits e m n p = (
+  frame_whole says old.order old.source.left fits ∙ ap (λ k. says k (drop 8 old.source.left)) (sym e) ∙ ap (says h) (sym m) ∙ p.0,
+  frame_behind old.order old.source.left mid.source.left new.source.left h e m p.1,
+  told_reads reads old mid h new.reads fits e m n p.2,
+)
+tells_frame view says reads old mid new h (Err x) fits e m n p = λ kind. let q = p kind in (
+  frame_whole says old.order old.source.left fits ∙ ap (λ k. says k (drop 8 old.source.left)) (sym e) ∙ ap (says h) (sym m) ∙ q.0,
+  frame_behind old.order old.source.left mid.source.left new.source.left h e m q.1,
+  told_reads reads old mid h new.reads fits e m n q.2,
+)
+
+-- a header that is lacking
+pub tells_no_header : {X V : Type 0} (view : X → V) (says : perf_event_header → List ℕ → Result V ErrorKind) (reads : perf_event_header → List ℕ → ℕ) (old new : Meaning) (e : ErrorKind) →
+    length old.source.left < 8 → e ≡ Eof → new.source.left ≡ [] → new.reads ≡ old.reads + layout_reads old.order header old.source.left →
+    Tells view (of_frame says old.order old.source.left) (frame_length old.order old.source.left) (frame_reads reads old.order old.source.left) old (Err e) new
+tells_no_header view says reads old new e short eof none n = λ kind.
+    let bytes : List ℕ = old.source.left in
+    let a : nat_lt (length bytes) 8 ≡ true = lt-ltb (length bytes) 8 short in
+    let whole : frame_length old.order bytes ≡ 8 + body_length (header_of old.order bytes) = frame_body (header_of old.order bytes) in
+    (rw a (ap Err (sym eof)), none ∙ sym (drop_all (frame_length old.order bytes) bytes (omega arith)), omega (arith, n, reads_cut reads old.order bytes short))
+
+-- ---- how much of a frame is taken
+pub no_header_within : (o : Order) (old new : Source) (e : ErrorKind) → (IsTrue (of_layout e) → (length old.left < 8) × (e ≡ Eof) × (new.left ≡ [])) → e ≢ OutOfMemory → is_external (Some e) ≡ false →
+    MovesWithin old (frame_length o old.left) new
+no_header_within o old new Eof lacks memory inside = let p = lacks refl in within_all old new (frame_length o old.left) (omega (arith, p.0)) p.2
+no_header_within o old new InvalidRecord lacks memory inside = let p = lacks refl in within_all old new (frame_length o old.left) (omega (arith, p.0)) p.2
+no_header_within o old new UnsupportedConfig lacks memory inside = let p = lacks refl in within_all old new (frame_length o old.left) (omega (arith, p.0)) p.2
+no_header_within o old new UnsupportedData lacks memory inside = let p = lacks refl in within_all old new (frame_length o old.left) (omega (arith, p.0)) p.2
+no_header_within o old new External lacks memory inside = absurd (cc)
+no_header_within o old new OutOfMemory lacks memory inside = absurd (memory refl)
+
+pub frame_within : (o : Order) (old mid new : Source) (h : perf_event_header) → 8 ≤ length old.left → h ≡ header_of o old.left → mid.left ≡ drop 8 old.left → MovesWithin mid (body_length h) new →
+    MovesWithin old (frame_length o old.left) new
+frame_within o old mid new h fits e m p =
+    let whole : frame_length o old.left ≡ 8 + body_length h = ap (λ (q : perf_event_header). max 8 q.size) (sym e) ∙ frame_body h in
+    let first : MovesWithin old 8 mid = within_taken old mid 8 (fits, m) in
+    (omega (arith, whole, first.0, p.0), moves_more old mid new first.1 p.1)

@@ -1,0 +1,5 @@
+pub mod Bodies
+pub mod Saying
+pub mod Keeping
+pub mod Splitting
+pub mod Headers

@@ -1,0 +1,109 @@
+-- How a frame falls apart.
+use Rattle.std.proofs.Common.{◌≡◌, ℕ, ◌<◌, ◌≤◌, List, [], length, take, drop, arith, refl, sym, ◌∙◌, ap, true, false, nat_lt, subst, inl, inr, ◌+◌, ◌-◌}
+use Rattle.std.specs.Prelude.{Ok, Err, IsTrue, Result}
+use Rattle.std.proofs.lemmas.Bool.{cases_lt, lt-ltb, le-ltb}
+use Rattle.std.proofs.lemmas.List.{drop_all, length-take-le}
+use Rattle.perf_base.specs.Configuration.{Configuration, under_misc}
+use Rattle.perf_base.specs.Layout.{layout}
+use Rattle.perf_base.specs.Order.{Order}
+use Rattle.perf_base.specs.Reads.{layout_reads}
+use Rattle.perf_base.specs.declared.error.ErrorKind.{ErrorKind}
+use Rattle.perf_base.specs.declared.error.ErrorKind.TheVariants.{Eof, InvalidRecord, UnsupportedConfig, UnsupportedData, External, OutOfMemory}
+use Rattle.perf_base.specs.declared.sys.perf_event_header.{perf_event_header}
+use Rattle.perf_buffers.specs.Buffer.{Source}
+use Rattle.perf_buffers.specs.Taking.{FailsToKeep}
+use Rattle.perf_reader.specs.Meaning.{Meaning}
+use Rattle.perf_reader.specs.Reading.{of_layout}
+use Rattle.perf_records.specs.Answers.{body_length, FrameParts, parts_of, split_behind, split_reads, id_reads, record_in, record_reads, answer_behind, reads_behind, SaysBehind, SplitsBehind, Finishes}
+use Rattle.perf_records.specs.Bodies.{body}
+use Rattle.perf_records.specs.Metadata.{id_length}
+use Rattle.perf_records.specs.declared.record.Record.{Record}
+
+-- ---- the four cases
+pub split_small : (c : Configuration) (o : Order) (h : perf_event_header) (bytes : List ℕ) → h.size < 8 → split_behind c o h bytes ≡ Err InvalidRecord
+split_small c o h bytes small = let a : nat_lt h.size 8 ≡ true = lt-ltb h.size 8 small in rw a refl
+
+pub split_short : (c : Configuration) (o : Order) (h : perf_event_header) (bytes : List ℕ) → 8 ≤ h.size → length bytes < body_length h → split_behind c o h bytes ≡ Err Eof
+split_short c o h bytes sized short =
+    let a : nat_lt h.size 8 ≡ false = le-ltb h.size 8 sized in
+    let b : nat_lt (length bytes) (body_length h) ≡ true = lt-ltb (length bytes) (body_length h) short in
+    rw (a, b) refl
+
+pub split_no_room : (c : Configuration) (o : Order) (h : perf_event_header) (bytes : List ℕ) → 8 ≤ h.size → body_length h ≤ length bytes → body_length h < id_length c h.type_ → split_behind c o h bytes ≡ Err InvalidRecord
+split_no_room c o h bytes sized fits small =
+    let a : nat_lt h.size 8 ≡ false = le-ltb h.size 8 sized in
+    let b : nat_lt (length bytes) (body_length h) ≡ false = le-ltb (length bytes) (body_length h) fits in
+    let d : nat_lt (body_length h) (id_length c h.type_) ≡ true = lt-ltb (body_length h) (id_length c h.type_) small in
+    rw (a, b, d) refl
+
+pub split_whole : (c : Configuration) (o : Order) (h : perf_event_header) (bytes : List ℕ) → 8 ≤ h.size → body_length h ≤ length bytes → id_length c h.type_ ≤ body_length h →
+    split_behind c o h bytes ≡ Ok (parts_of c o h (take (body_length h) bytes))
+split_whole c o h bytes sized fits room =
+    let a : nat_lt h.size 8 ≡ false = le-ltb h.size 8 sized in
+    let b : nat_lt (length bytes) (body_length h) ≡ false = le-ltb (length bytes) (body_length h) fits in
+    let d : nat_lt (body_length h) (id_length c h.type_) ≡ false = le-ltb (body_length h) (id_length c h.type_) room in
+    rw (a, b, d) refl
+
+-- ---- frames that are refused, each with no read behind the header
+
+-- the answer of a split that was refused
+abbrev pub Unsplit : Configuration → Order → perf_event_header → List ℕ → ErrorKind → Type 0
+Unsplit c o h bytes e = (split_behind c o h bytes ≡ Err e) × (split_reads c o h bytes ≡ 0)
+
+unsplit : (c : Configuration) (o : Order) (h : perf_event_header) (bytes : List ℕ) (e : ErrorKind) → split_behind c o h bytes ≡ Err e → Unsplit c o h bytes e
+unsplit c o h bytes e p = (p, ap (λ (r : Result FrameParts ErrorKind). elim r [ Ok parts ↦ id_reads c o h (take (body_length h) bytes) | Err e ↦ 0 ]) p)
+
+pub unsplit_small : (c : Configuration) (o : Order) (h : perf_event_header) (bytes : List ℕ) → h.size < 8 → Unsplit c o h bytes InvalidRecord × (bytes ≡ drop (body_length h) bytes)
+unsplit_small c o h bytes small =
+    let none : body_length h ≡ 0 = omega arith in
+    (unsplit c o h bytes InvalidRecord (split_small c o h bytes small), sym (ap (λ n. drop n bytes) none))
+
+pub unsplit_cut : (c : Configuration) (o : Order) (h : perf_event_header) (old new : Source) (e : ErrorKind) → 8 ≤ h.size → FailsToKeep old (body_length h) e new → IsTrue (of_layout e) →
+    Unsplit c o h old.left e × (new.left ≡ drop (body_length h) old.left)
+unsplit_cut c o h old new Eof sized p kind = (unsplit c o h old.left Eof (split_short c o h old.left sized p.0), p.1 ∙ sym (drop_all (body_length h) old.left (omega arith)))
+unsplit_cut c o h old new InvalidRecord sized p kind = absurd p
+unsplit_cut c o h old new UnsupportedConfig sized p kind = absurd p
+unsplit_cut c o h old new UnsupportedData sized p kind = absurd p
+unsplit_cut c o h old new External sized p kind = cc
+unsplit_cut c o h old new OutOfMemory sized p kind = cc
+
+pub unsplit_room : (c : Configuration) (o : Order) (h : perf_event_header) (bytes frame : List ℕ) → 8 ≤ h.size → body_length h ≤ length bytes → frame ≡ take (body_length h) bytes → length frame < id_length c h.type_ →
+    Unsplit c o h bytes InvalidRecord
+unsplit_room c o h bytes frame sized fits cut small =
+    let long : length frame ≡ body_length h = ap length cut ∙ length-take-le (body_length h) bytes fits in
+    unsplit c o h bytes InvalidRecord (split_no_room c o h bytes sized fits (omega arith))
+
+-- ---- frames that fall apart
+pub split_made : (c : Configuration) (o : Order) (h : perf_event_header) (bytes frame : List ℕ) (parts : FrameParts) → 8 ≤ h.size → body_length h ≤ length bytes → frame ≡ take (body_length h) bytes →
+    id_length c h.type_ ≤ length frame → parts ≡ parts_of c o h frame → (split_behind c o h bytes ≡ Ok parts) × (split_reads c o h bytes ≡ id_reads c o h frame)
+split_made c o h bytes frame parts sized fits cut room are =
+    let long : length frame ≡ body_length h = ap length cut ∙ length-take-le (body_length h) bytes fits in
+    let whole : split_behind c o h bytes ≡ Ok parts = split_whole c o h bytes sized fits (omega arith) ∙ ap Ok (sym (are ∙ ap (parts_of c o h) cut)) in
+    (whole, ap (λ (r : Result FrameParts ErrorKind). elim r [ Ok parts ↦ id_reads c o h (take (body_length h) bytes) | Err e ↦ 0 ]) whole ∙ sym (ap (id_reads c o h) cut))
+
+-- ---- what is said of a frame
+
+-- one that was refused
+pub says_unsplit : (h : perf_event_header) (old new : Meaning) (e : ErrorKind) → SplitsBehind h old (Err e) new → SaysBehind h old (Err e) new
+says_unsplit h old new e p = λ kind.
+    let c : Configuration = old.settings in let o : Order = old.order in let bytes : List ℕ = old.source.left in
+    let q = p kind in (
+      ap (record_in c o h) q.0,
+      q.1,
+      q.2 ∙ ap (λ (n : ℕ). old.reads + n) (sym (ap (λ (r : Result FrameParts ErrorKind). split_reads c o h bytes + record_reads c o h r) q.0 ∙ omega arith)),
+    )
+
+-- one that fell apart
+pub says_split : (h : perf_event_header) (old mid new : Meaning) (parts : FrameParts) (seen : Result Record ErrorKind) (k : ℕ) →
+    let c = old.settings in let o = old.order in let bytes = old.source.left in
+    split_behind c o h bytes ≡ Ok parts → mid.source.left ≡ drop (body_length h) bytes → mid.reads ≡ old.reads + split_reads c o h bytes →
+    new.source.left ≡ mid.source.left → new.reads ≡ mid.reads + k → Finishes o (body (under_misc h.misc c) h.type_) parts.body seen k → SaysBehind h old seen new
+says_split h old mid new parts (Ok r) k e left reads same more says =
+    let c : Configuration = old.settings in let o : Order = old.order in let bytes : List ℕ = old.source.left in
+    let made : record_reads c o h (split_behind c o h bytes) ≡ k = ap (record_reads c o h) e ∙ sym says.1 in
+    (ap (record_in c o h) e ∙ says.0, same ∙ left, omega (arith, more, reads, made))
+says_split h old mid new parts (Err x) k e left reads same more says = λ kind.
+    let c : Configuration = old.settings in let o : Order = old.order in let bytes : List ℕ = old.source.left in
+    let s = says kind in
+    let made : record_reads c o h (split_behind c o h bytes) ≡ k = ap (record_reads c o h) e ∙ sym s.1 in
+    (ap (record_in c o h) e ∙ s.0, same ∙ left, omega (arith, more, reads, made))

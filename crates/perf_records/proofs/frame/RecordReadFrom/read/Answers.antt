@@ -1,0 +1,98 @@
+use Rattle.std.proofs.Common.{◌≡◌, Ok, Err, Some, false, sym, ◌∙◌, ap, subst}
+use Rattle.std.specs.Prelude.{Result, IsTrue}
+use Rattle.perf_base.specs.Configured.{configuration_of, endian_of}
+use Rattle.perf_base.specs.Header.{header as header_parts}
+use Rattle.perf_base.specs.Refusals.{refusal_kind}
+use Rattle.perf_base.specs.declared.config.ParseConfig.{ParseConfig}
+use Rattle.perf_base.specs.declared.error.ErrorKind.{ErrorKind}
+use Rattle.perf_base.specs.declared.sys.perf_event_header.{perf_event_header}
+use Rattle.perf_reader.specs.Meaning.{Meaning, meaning}
+use Rattle.perf_records.specs.Answers.{Tells, body_length, answer_behind, reads_behind}
+use Rattle.perf_records.specs.Bodies.{holds_a_list}
+use Rattle.perf_records.specs.Records.{record_value}
+use Rattle.perf_records.specs.declared.record.Record.{Record}
+use Rattle.perf_records.proofs.Headers.{header_read, header_unread, tells_frame, tells_no_header, no_header_within, frame_within}
+use Rattle.perf_records.proofs.Saying.{took_ran, quit_stopped}
+use Rattle.perf_records.proofs.frame.RecordReadFrom.read.Goals as goal
+
+-- the header was refused
+pub returns-in-Err : goal.returns-in-Err
+returns-in-Err g c =
+    let old : Meaning = meaning g.I.Input.source g.E.Endian.order c.args.reader.now in
+    let new : Meaning = meaning g.I.Input.source g.E.Endian.order c.read.new.self in
+    let kind : ErrorKind = refusal_kind c.in-Err.refusal in
+    let read = c.in-Err.ensures.call in record {
+      call = record {
+        config = read.config;
+        whole = read.whole;
+        told = read.told;
+        answer = λ told.
+            let says = read.answer told in (
+              (λ layout.
+                  let q = quit_stopped old.order header_parts old.source.left new.source.left old.reads new.reads kind (says.0 layout) in
+                  let h = header_unread old.order old.source.left new.source.left kind q.0 in
+                  tells_no_header record_value (answer_behind old.settings old.order) (reads_behind old.settings old.order) old new kind h.0 h.1 h.2 q.1 layout),
+              (λ inside. no_header_within old.order old.source new.source kind
+                  (λ layout. header_unread old.order old.source.left new.source.left kind (quit_stopped old.order header_parts old.source.left new.source.left old.reads new.reads kind (says.0 layout)).0)
+                  says.1 inside),
+              (λ whole. (tt, (λ none. says.1))),
+            );
+        keeps = read.keeps;
+      };
+    }
+
+-- the header was read, and the rest too
+pub returns-in-Ok-read_behind : goal.returns-in-Ok-read_behind
+returns-in-Ok-read_behind g c =
+    let old : Meaning = meaning g.I.Input.source g.E.Endian.order c.args.reader.now in
+    let mid : Meaning = meaning g.I.Input.source g.E.Endian.order c.read.new.self in
+    let new : Meaning = meaning g.I.Input.source g.E.Endian.order c.read_behind.new.reader in
+    let header = c.in-Ok.header in
+    let seen : Result Record ErrorKind = Ok c.in-Ok-read_behind.record in
+    let read = c.in-Ok.ensures.call in
+    let rest = c.in-Ok-read_behind.ensures.call in
+    let behind = c.in-Ok-read_behind.ensures in
+    let P : ParseConfig g.row.E.Denot → Type 0 = λ k. Tells record_value (answer_behind (configuration_of k) (g.E.Endian.order (endian_of k)) header mid.source.left) (body_length header)
+        (reads_behind (configuration_of k) (g.E.Endian.order (endian_of k)) header mid.source.left) mid seen new in record {
+      call = record {
+        config = rest.config ∙ read.config;
+        whole = rest.whole ∙ read.whole;
+        told = λ told. rest.told (read.told told);
+        answer = λ told.
+            let q = took_ran old.order header_parts old.source.left mid.source.left old.reads mid.reads header (read.answer told).0 in
+            let h = header_read old.order old.source.left mid.source.left header q.0 in (
+              tells_frame record_value (answer_behind old.settings old.order) (reads_behind old.settings old.order) old mid new header seen h.0 h.1 h.2 q.1 (subst P read.config (rest.answer (read.told told))),
+              (λ inside. frame_within old.order old.source mid.source new.source header h.0 h.1 h.2 (behind.within (read.told told))),
+              (λ whole. let still = subst IsTrue (sym read.whole) whole in (behind.borrowed still, (λ none. behind.whole_memory still (ap (λ (k : perf_event_header). holds_a_list k.type_) h.1 ∙ none)))),
+            );
+        keeps = λ start p. rest.keeps start (read.keeps start p);
+      };
+    }
+
+-- the header was read, and the rest refused
+pub returns-in-Err-read_behind : goal.returns-in-Err-read_behind
+returns-in-Err-read_behind g c =
+    let old : Meaning = meaning g.I.Input.source g.E.Endian.order c.args.reader.now in
+    let mid : Meaning = meaning g.I.Input.source g.E.Endian.order c.read.new.self in
+    let new : Meaning = meaning g.I.Input.source g.E.Endian.order c.read_behind.new.reader in
+    let header = c.in-Ok.header in
+    let seen : Result Record ErrorKind = Err (refusal_kind c.in-Err-read_behind.refusal) in
+    let read = c.in-Ok.ensures.call in
+    let rest = c.in-Err-read_behind.ensures.call in
+    let behind = c.in-Err-read_behind.ensures in
+    let P : ParseConfig g.row.E.Denot → Type 0 = λ k. Tells record_value (answer_behind (configuration_of k) (g.E.Endian.order (endian_of k)) header mid.source.left) (body_length header)
+        (reads_behind (configuration_of k) (g.E.Endian.order (endian_of k)) header mid.source.left) mid seen new in record {
+      call = record {
+        config = rest.config ∙ read.config;
+        whole = rest.whole ∙ read.whole;
+        told = λ told. rest.told (read.told told);
+        answer = λ told.
+            let q = took_ran old.order header_parts old.source.left mid.source.left old.reads mid.reads header (read.answer told).0 in
+            let h = header_read old.order old.source.left mid.source.left header q.0 in (
+              tells_frame record_value (answer_behind old.settings old.order) (reads_behind old.settings old.order) old mid new header seen h.0 h.1 h.2 q.1 (subst P read.config (rest.answer (read.told told))),
+              (λ inside. frame_within old.order old.source mid.source new.source header h.0 h.1 h.2 (behind.within (read.told told))),
+              (λ whole. let still = subst IsTrue (sym read.whole) whole in (tt, (λ none. behind.whole_memory still (ap (λ (k : perf_event_header). holds_a_list k.type_) h.1 ∙ none)))),
+            );
+        keeps = λ start p. rest.keeps start (read.keeps start p);
+      };
+    }

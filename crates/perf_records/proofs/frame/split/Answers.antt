@@ -1,0 +1,103 @@
+use Rattle.std.proofs.Common.{◌≡◌, ℕ, ◌+◌, ◌≤◌, ◌<◌, List, length, refl, None, Some, Ok, Err, arith, sym, ◌∙◌, ap, subst}
+use Rattle.std.proofs.lemmas.Bool.Decides.{nat_tests}
+use Rattle.perf_base.specs.Configured.{configuration_of, endian_of}
+use Rattle.perf_base.specs.Refusals.{refusal_kind}
+use Rattle.perf_base.specs.declared.config.ParseConfig.{ParseConfig}
+use Rattle.perf_base.specs.declared.error.ErrorKind.{ErrorKind}
+use Rattle.perf_base.specs.declared.error.ErrorKind.TheVariants.{InvalidRecord}
+use Rattle.perf_buffers.specs.Buffer.{Source, Stays}
+use Rattle.perf_buffers.specs.Cursor.{cursor_left}
+use Rattle.perf_buffers.specs.Taking.{Moves}
+use Rattle.perf_buffers.proofs.Taking.{takes_moves}
+use Rattle.perf_reader.specs.Calls.{Call}
+use Rattle.perf_reader.specs.Meaning.{Meaning, meaning}
+use Rattle.perf_reader.specs.Reading.{Keeps}
+use Rattle.perf_reader.proofs.Paying.{keeps_more, can_fault}
+use Rattle.perf_records.specs.Answers.{body_length, FrameParts, answered_parts, parts_of, id_reads, SplitsBehind}
+use Rattle.perf_records.specs.Metadata.{id_length}
+use Rattle.perf_records.proofs.Keeping.{moved_keeps, stays_refused, within_kept, taken_pays}
+use Rattle.perf_records.proofs.Splitting.{unsplit_cut, unsplit_room, split_made}
+use Rattle.perf_records.proofs.frame.split.Goals as goal
+
+-- the cut was refused
+pub returns-in-Err-clause-call : goal.returns-in-Err-clause-call
+returns-in-Err-clause-call g c =
+    let old : Meaning = meaning g.I.Input.source g.E.Endian.order c.args.reader.now in
+    let new : Meaning = meaning g.I.Input.source g.E.Endian.order c.cut.new.self in
+    let h = c.args.header in
+    let kind : ErrorKind = refusal_kind c.in-Err.refusal in
+    let e = c.in-Err.ensures in
+    let sized : 8 ≤ h.size = grind (arith, nat_tests) in
+    let kept : Keeps old (Some kind) new = moved_keeps old new (Some kind) 0 (omega (arith, e.reads)) e.stays (can_fault old.source (Some kind) e.can_fail) (λ told.
+    let w = within_kept old.source new.source (body_length h) kind (e.err told) in (w.1, omega (arith, w.1.0))) in record {
+      config = e.config;
+      whole = e.stays.0;
+      told = e.stays.3;
+      answer = λ told layout. let u = unsplit_cut old.settings old.order h old.source new.source kind sized (e.err told) layout in (u.0.0, u.1, omega (arith, e.reads, u.0.1));
+      keeps = λ start p. keeps_more start old new (Some kind) p kept;
+    }
+
+-- the frame fell apart
+pub returns-in-Ok-take_id-clause-call : goal.returns-in-Ok-take_id-clause-call
+returns-in-Ok-take_id-clause-call g c =
+    let old : Meaning = meaning g.I.Input.source g.E.Endian.order c.args.reader.now in
+    let mid : Meaning = meaning g.I.Input.source g.E.Endian.order c.cut.new.self in
+    let new : Meaning = meaning g.I.Input.source g.E.Endian.order c.count.new.self in
+    let h = c.args.header in
+    let frame : List ℕ = cursor_left c.in-Ok.frame in
+    let taken = c.in-Ok-take_id.taken in
+    let parts : FrameParts = answered_parts (taken.body, taken.metadata) in
+    let e = c.in-Ok.ensures in
+    let t = c.in-Ok-take_id.ensures in
+    let sized : 8 ≤ h.size = grind (arith, nat_tests) in
+    let config : c.config.result.now ≡ c.args.reader.now.config = c.config.ensures ∙ e.config in
+    let same : new.source ≡ mid.source = ap g.I.Input.source c.count.ensures.input in
+    let P : ParseConfig g.row.E.Denot → Type 0 = λ k. (id_length (configuration_of k) h.type_ ≤ length frame) × (parts ≡ parts_of (configuration_of k) (g.E.Endian.order (endian_of k)) h frame) in
+    let Q : ParseConfig g.row.E.Denot → Type 0 = λ k. taken.reads ≡ id_reads (configuration_of k) (g.E.Endian.order (endian_of k)) h frame in
+    let R : ParseConfig g.row.E.Denot → Type 0 = λ k. taken.reads ≤ id_length (configuration_of k) h.type_ in
+    let are = subst P config t.parts in
+    let reads = subst Q config t.reads in
+    let bound = subst R config t.bound in
+    let less : taken.reads ≤ body_length h = omega (arith, bound, are.0, e.count) in
+    let count : new.reads ≡ old.reads + taken.reads = c.count.ensures.reads ∙ ap (λ n. n + taken.reads) e.reads in
+    let stays : Stays old.source None new.source = subst (λ s. Stays old.source None s) (sym same) e.stays in
+    let kept : Keeps old None new = moved_keeps old new None taken.reads count stays (λ x. cc) (λ told.
+    let o = e.ok told in
+    let paid : taken.reads + length mid.source.left ≤ length old.source.left = taken_pays old.source mid.source (body_length h) taken.reads o.0 less in
+    subst (λ (s : Source). Moves old.source s × (taken.reads + length s.left ≤ length old.source.left + 0)) (sym same) (takes_moves old.source mid.source (body_length h) o.0, omega (arith, paid))) in record {
+      config = c.count.ensures.config ∙ e.config;
+      whole = stays.0;
+      told = stays.3;
+      answer = λ told.
+          let o = e.ok told in
+          let m = split_made old.settings old.order h old.source.left frame parts sized o.0.0 o.1 are.0 are.1 in
+          (m.0, ap (λ (s : Source). s.left) same ∙ o.0.1, count ∙ ap (λ n. old.reads + n) (reads ∙ sym m.1));
+      keeps = λ start p. keeps_more start old new None p kept;
+    }
+
+-- there is no room for its sample id
+pub returns-in-Err-take_id-clause-call : goal.returns-in-Err-take_id-clause-call
+returns-in-Err-take_id-clause-call g c =
+    let old : Meaning = meaning g.I.Input.source g.E.Endian.order c.args.reader.now in
+    let new : Meaning = meaning g.I.Input.source g.E.Endian.order c.cut.new.self in
+    let h = c.args.header in
+    let frame : List ℕ = cursor_left c.in-Ok.frame in
+    let e = c.in-Ok.ensures in
+    let t = c.in-Err-take_id.ensures in
+    let sized : 8 ≤ h.size = grind (arith, nat_tests) in
+    let config : c.config.result.now ≡ c.args.reader.now.config = c.config.ensures ∙ e.config in
+    let short : length frame < id_length (configuration_of c.args.reader.now.config) h.type_ =
+    subst (λ (k : ParseConfig g.row.E.Denot). length frame < id_length (configuration_of k) h.type_) config t.refused.1 in
+    let stays : Stays old.source (Some InvalidRecord) new.source = stays_refused old.source new.source InvalidRecord refl e.stays in
+    let kept : Keeps old (Some InvalidRecord) new = moved_keeps old new (Some InvalidRecord) 0 (omega (arith, e.reads)) stays (λ x. cc) (λ told.
+    let m = takes_moves old.source new.source (body_length h) (e.ok told).0 in (m, omega (arith, m.0))) in
+    subst (λ k. Call g.I.Input.source g.E.Endian.order (SplitsBehind h) c.args.reader.now (Err k) c.cut.new.self) (sym t.refused.0) (record {
+      config = e.config;
+      whole = stays.0;
+      told = stays.3;
+      answer = λ told layout.
+          let o = e.ok told in
+          let u = unsplit_room old.settings old.order h old.source.left frame sized o.0.0 o.1 short in
+          (u.0, o.0.1, omega (arith, e.reads, u.1));
+      keeps = λ start p. keeps_more start old new (Some InvalidRecord) p kept;
+    })

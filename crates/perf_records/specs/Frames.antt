@@ -1,0 +1,38 @@
+-- Frames: how a stream of records falls apart, each record by the size in its header (`struct perf_event_header`).
+-- A list of bytes is cut into the bytes of its frames. Nothing here has a position or a state.
+use Rattle.std.specs.Prelude.{ℕ, zero, suc, max, List, [], ◌∷◌, length, take, drop, nat_lt, if◌then◌else◌}
+use Rattle.perf_base.specs.Order.{Order}
+use Rattle.perf_base.specs.Header.{header_of}
+
+-- The length of the frame at the front of bytes: the size that its header says, and the header's eight where that is less.
+abbrev pub frame_length : Order → List ℕ → ℕ
+frame_length o bytes = max 8 (header_of o bytes).size
+
+-- The bytes of the first n frames. A frame begins wherever eight bytes are left, and the next one begins at its end. The
+-- last one may be unfinished: it then has fewer bytes than its header says.
+abbrev pub first_frames : Order → ℕ → List ℕ → List (List ℕ)
+first_frames o zero bytes = []
+first_frames o (suc n) bytes =
+    if nat_lt (length bytes) 8 then []
+    else take (frame_length o bytes) bytes ∷ first_frames o n (drop (frame_length o bytes) bytes)
+
+-- All frames: there are no more of them than bytes.
+abbrev pub frames : Order → List ℕ → List (List ℕ)
+frames o bytes = first_frames o (length bytes) bytes
+
+-- the bytes behind the first n frames
+abbrev pub behind_frames : Order → ℕ → List ℕ → List ℕ
+behind_frames o zero bytes = bytes
+behind_frames o (suc n) bytes = behind_frames o n (drop (frame_length o bytes) bytes)
+
+-- how a stream ends: at the end of a frame, or inside a header
+pub data StreamEnd : Type 0 where
+  done cut_header : StreamEnd
+
+-- the end, by how many bytes there are behind the last frame
+abbrev pub end_with : ℕ → StreamEnd
+end_with zero = done
+end_with (suc n) = cut_header
+
+abbrev pub stream_end : Order → List ℕ → StreamEnd
+stream_end o bytes = end_with (length (behind_frames o (length (frames o bytes)) bytes))

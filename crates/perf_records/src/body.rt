@@ -1,0 +1,264 @@
+//! The records of a type, out of the bytes between header and sample id.
+//!
+//! Each type is read in a function of its own, so that a call has no more on its stack than that type wants.
+#![tactic(auto, using(perf_reader::proofs::Paying::chain))]
+
+ghost use Rattle.std.specs.Prelude.{IfOk};
+ghost use Rattle.perf_base.specs.Layout.{mapped};
+ghost use Rattle.perf_reader.specs.Words.{Call, Reads, kinds};
+ghost use Rattle.perf_records.specs.Bodies.{SaysBody, SaysLent, unread};
+ghost use Rattle.perf_records.specs.Records.{record_value, IsBorrowed};
+ghost use Rattle.perf_records.specs.Records.{aux_is, aux_output_hw_id_is, bpf_event_is, cgroup_is, comm_is, exit_is, fork_is, itrace_start_is, ksymbol_is};
+ghost use Rattle.perf_records.specs.Records.{lost_is, lost_samples_is, mmap2_is, mmap_is, namespaces_is, switch_cpu_wide_is, text_poke_is, throttle_is, unthrottle_is};
+ghost use Rattle.perf_types.specs.Aux.{aux};
+ghost use Rattle.perf_types.specs.AuxOutputHwId.{aux_output_hw_id};
+ghost use Rattle.perf_types.specs.BpfEvent.{bpf_event};
+ghost use Rattle.perf_types.specs.CGroup.{cgroup};
+ghost use Rattle.perf_types.specs.Comm.{comm};
+ghost use Rattle.perf_types.specs.Exit.{exit};
+ghost use Rattle.perf_types.specs.ITraceStart.{itrace_start};
+ghost use Rattle.perf_types.specs.KSymbol.{ksymbol};
+ghost use Rattle.perf_types.specs.Lost.{lost};
+ghost use Rattle.perf_types.specs.LostSamples.{lost_samples};
+ghost use Rattle.perf_types.specs.Mmap.{mmap};
+ghost use Rattle.perf_types.specs.Mmap2.{mmap2};
+ghost use Rattle.perf_types.specs.Namespaces.{namespaces};
+ghost use Rattle.perf_types.specs.SwitchCpuWide.{switch_cpu_wide};
+ghost use Rattle.perf_types.specs.TextPoke.{text_poke};
+ghost use Rattle.perf_types.specs.Throttle.{throttle};
+
+use crate::record::Record;
+use crate::record_type::RecordType;
+use perf_base::endian::Endian;
+use perf_base::refusal::ReadResult;
+use perf_buffers::input::Input;
+use perf_reader::reader::Reader;
+use perf_types::aux_output_hw_id::AuxOutputHwId;
+use perf_types::aux_record::Aux;
+use perf_types::bpf_event::BpfEvent;
+use perf_types::cgroup::CGroup;
+use perf_types::comm::Comm;
+use perf_types::exit::Exit;
+use perf_types::itrace_start::ITraceStart;
+use perf_types::ksymbol::KSymbol;
+use perf_types::lost::Lost;
+use perf_types::lost_samples::LostSamples;
+use perf_types::mmap::Mmap;
+use perf_types::mmap2::Mmap2;
+use perf_types::namespaces::Namespaces;
+use perf_types::switch_cpu_wide::SwitchCpuWide;
+use perf_types::text_poke::TextPoke;
+use perf_types::throttle::Throttle;
+
+// Reads a type, as the variant that holds it.
+macro_rules! held {
+    ($reader:ident, $type:ty => $variant:ident) => {
+        match $reader.read::<$type>() {
+            Ok(held) => Ok(Record::$variant(held)),
+            Err(refusal) => Err(refusal),
+        }
+    };
+}
+
+#[inline(never)]
+fn read_mmap<'p, I: Input<'p>, E: Endian>(reader: &mut Reader<I, E>) -> ReadResult<Record<'p>>
+    ensures call { Call I.source E.order (SaysLent (λ _. mapped mmap_is mmap))
+        reader.old (kinds result) reader.new }
+{
+    held!(reader, Mmap<'p> => Mmap)
+}
+
+#[inline(never)]
+fn read_lost<'p, I: Input<'p>, E: Endian>(reader: &mut Reader<I, E>) -> ReadResult<Record<'p>>
+    ensures call { Call I.source E.order (SaysLent (λ _. mapped lost_is lost))
+        reader.old (kinds result) reader.new }
+{
+    held!(reader, Lost => Lost)
+}
+
+#[inline(never)]
+fn read_comm<'p, I: Input<'p>, E: Endian>(reader: &mut Reader<I, E>) -> ReadResult<Record<'p>>
+    ensures call { Call I.source E.order (SaysLent (λ _. mapped comm_is comm))
+        reader.old (kinds result) reader.new }
+{
+    held!(reader, Comm<'p> => Comm)
+}
+
+#[inline(never)]
+fn read_exit<'p, I: Input<'p>, E: Endian>(reader: &mut Reader<I, E>) -> ReadResult<Record<'p>>
+    ensures call { Call I.source E.order (SaysLent (λ _. mapped exit_is exit))
+        reader.old (kinds result) reader.new }
+{
+    held!(reader, Exit => Exit)
+}
+
+#[inline(never)]
+fn read_throttle<'p, I: Input<'p>, E: Endian>(reader: &mut Reader<I, E>) -> ReadResult<Record<'p>>
+    ensures call { Call I.source E.order (SaysLent (λ _. mapped throttle_is throttle))
+        reader.old (kinds result) reader.new }
+{
+    held!(reader, Throttle => Throttle)
+}
+
+#[inline(never)]
+fn read_unthrottle<'p, I: Input<'p>, E: Endian>(reader: &mut Reader<I, E>) -> ReadResult<Record<'p>>
+    ensures call { Call I.source E.order (SaysLent (λ _. mapped unthrottle_is throttle))
+        reader.old (kinds result) reader.new }
+{
+    held!(reader, Throttle => Unthrottle)
+}
+
+#[inline(never)]
+fn read_fork<'p, I: Input<'p>, E: Endian>(reader: &mut Reader<I, E>) -> ReadResult<Record<'p>>
+    ensures call { Call I.source E.order (SaysLent (λ _. mapped fork_is exit))
+        reader.old (kinds result) reader.new }
+{
+    held!(reader, Exit => Fork)
+}
+
+#[inline(never)]
+fn read_mmap2<'p, I: Input<'p>, E: Endian>(reader: &mut Reader<I, E>) -> ReadResult<Record<'p>>
+    ensures call { Call I.source E.order (SaysLent (λ c. mapped mmap2_is (mmap2 c)))
+        reader.old (kinds result) reader.new }
+{
+    held!(reader, Mmap2<'p> => Mmap2)
+}
+
+#[inline(never)]
+fn read_aux<'p, I: Input<'p>, E: Endian>(reader: &mut Reader<I, E>) -> ReadResult<Record<'p>>
+    ensures call { Call I.source E.order (SaysLent (λ _. mapped aux_is aux))
+        reader.old (kinds result) reader.new }
+{
+    held!(reader, Aux => Aux)
+}
+
+#[inline(never)]
+fn read_itrace_start<'p, I: Input<'p>, E: Endian>(
+    reader: &mut Reader<I, E>,
+) -> ReadResult<Record<'p>>
+    ensures call { Call I.source E.order (SaysLent (λ _. mapped itrace_start_is itrace_start))
+        reader.old (kinds result) reader.new }
+{
+    held!(reader, ITraceStart => ITraceStart)
+}
+
+#[inline(never)]
+fn read_lost_samples<'p, I: Input<'p>, E: Endian>(
+    reader: &mut Reader<I, E>,
+) -> ReadResult<Record<'p>>
+    ensures call { Call I.source E.order (SaysLent (λ _. mapped lost_samples_is lost_samples))
+        reader.old (kinds result) reader.new }
+{
+    held!(reader, LostSamples => LostSamples)
+}
+
+#[inline(never)]
+fn read_switch_cpu_wide<'p, I: Input<'p>, E: Endian>(
+    reader: &mut Reader<I, E>,
+) -> ReadResult<Record<'p>>
+    ensures call { Call I.source E.order (SaysLent (λ c. mapped switch_cpu_wide_is (switch_cpu_wide c)))
+        reader.old (kinds result) reader.new }
+{
+    held!(reader, SwitchCpuWide => SwitchCpuWide)
+}
+
+#[inline(never)]
+fn read_namespaces<'p, I: Input<'p>, E: Endian>(reader: &mut Reader<I, E>) -> ReadResult<Record<'p>>
+    ensures borrowed { IfOk result (λ r. IsBorrowed r) }
+    ensures call { Call I.source E.order (Reads (λ _. mapped namespaces_is namespaces) record_value)
+        reader.old (kinds result) reader.new }
+{
+    held!(reader, Namespaces<'p> => Namespaces)
+}
+
+#[inline(never)]
+fn read_ksymbol<'p, I: Input<'p>, E: Endian>(reader: &mut Reader<I, E>) -> ReadResult<Record<'p>>
+    ensures call { Call I.source E.order (SaysLent (λ _. mapped ksymbol_is ksymbol))
+        reader.old (kinds result) reader.new }
+{
+    held!(reader, KSymbol<'p> => KSymbol)
+}
+
+#[inline(never)]
+fn read_bpf_event<'p, I: Input<'p>, E: Endian>(reader: &mut Reader<I, E>) -> ReadResult<Record<'p>>
+    ensures call { Call I.source E.order (SaysLent (λ _. mapped bpf_event_is bpf_event))
+        reader.old (kinds result) reader.new }
+{
+    held!(reader, BpfEvent => BpfEvent)
+}
+
+#[inline(never)]
+fn read_cgroup<'p, I: Input<'p>, E: Endian>(reader: &mut Reader<I, E>) -> ReadResult<Record<'p>>
+    ensures call { Call I.source E.order (SaysLent (λ _. mapped cgroup_is cgroup))
+        reader.old (kinds result) reader.new }
+{
+    held!(reader, CGroup<'p> => CGroup)
+}
+
+#[inline(never)]
+fn read_text_poke<'p, I: Input<'p>, E: Endian>(reader: &mut Reader<I, E>) -> ReadResult<Record<'p>>
+    ensures call { Call I.source E.order (SaysLent (λ _. mapped text_poke_is text_poke))
+        reader.old (kinds result) reader.new }
+{
+    held!(reader, TextPoke<'p> => TextPoke)
+}
+
+#[inline(never)]
+fn read_aux_output_hw_id<'p, I: Input<'p>, E: Endian>(
+    reader: &mut Reader<I, E>,
+) -> ReadResult<Record<'p>>
+    ensures call { Call I.source E.order (SaysLent (λ _. mapped aux_output_hw_id_is aux_output_hw_id))
+        reader.old (kinds result) reader.new }
+{
+    held!(reader, AuxOutputHwId => AuxOutputHwId)
+}
+
+// All bytes, of a type that has no table.
+#[inline(never)]
+fn read_unread<'p, I: Input<'p>, E: Endian>(
+    reader: &mut Reader<I, E>,
+    ty: u32,
+) -> ReadResult<Record<'p>>
+    ensures call { Call I.source E.order (SaysLent (λ _. unread ty))
+        reader.old (kinds result) reader.new }
+{
+    match reader.read_rest() {
+        Ok(bytes) => Ok(Record::Unknown { ty, bytes }),
+        Err(refusal) => Err(refusal),
+    }
+}
+
+/// The record of a type, out of the bytes of its body. Those that are left behind the record do not matter.
+#[inline]
+pub fn read_body<'p, I: Input<'p>, E: Endian>(
+    reader: &mut Reader<I, E>,
+    ty: u32,
+) -> ReadResult<Record<'p>>
+    ensures call { Call I.source E.order (SaysBody ty) reader.old (kinds result) reader.new }
+{
+    let Some(kind) = RecordType::of(ty) else {
+        return read_unread(reader, ty);
+    };
+    match kind {
+        RecordType::Mmap => read_mmap(reader),
+        RecordType::Lost => read_lost(reader),
+        RecordType::Comm => read_comm(reader),
+        RecordType::Exit => read_exit(reader),
+        RecordType::Throttle => read_throttle(reader),
+        RecordType::Unthrottle => read_unthrottle(reader),
+        RecordType::Fork => read_fork(reader),
+        RecordType::Read | RecordType::Sample => read_unread(reader, ty),
+        RecordType::Mmap2 => read_mmap2(reader),
+        RecordType::Aux => read_aux(reader),
+        RecordType::ITraceStart => read_itrace_start(reader),
+        RecordType::LostSamples => read_lost_samples(reader),
+        RecordType::Switch => Ok(Record::Switch),
+        RecordType::SwitchCpuWide => read_switch_cpu_wide(reader),
+        RecordType::Namespaces => read_namespaces(reader),
+        RecordType::KSymbol => read_ksymbol(reader),
+        RecordType::BpfEvent => read_bpf_event(reader),
+        RecordType::CGroup => read_cgroup(reader),
+        RecordType::TextPoke => read_text_poke(reader),
+        RecordType::AuxOutputHwId => read_aux_output_hw_id(reader),
+    }
+}

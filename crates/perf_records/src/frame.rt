@@ -1,0 +1,238 @@
+//! Frames: the bytes that belong to a header.
+
+ghost use Rattle.std.specs.Prelude.{◌≡◌, ◌≤◌, ◌<◌, ◌+◌, false, length, IsTrue, IfOk, IfErr};
+ghost use Rattle.perf_base.specs.Configured.{configuration_of, endian_of};
+ghost use Rattle.perf_base.specs.Layout.{value};
+ghost use Rattle.perf_base.specs.Reads.{layout_reads};
+ghost use Rattle.perf_base.specs.declared.error.ErrorKind.TheVariants.{InvalidRecord};
+ghost use Rattle.perf_buffers.specs.Cursor.{cursor_left, cursor_lent};
+ghost use Rattle.perf_buffers.specs.Taking.{MovesWithin};
+ghost use Rattle.perf_reader.specs.Reading.{is_external, one_if_refused};
+ghost use Rattle.perf_reader.specs.Words.{Call, TakesNoMemory, input_of, config_of, reads_of};
+ghost use Rattle.perf_reader.specs.Words.{kinds, refused, refusal_kind};
+ghost use Rattle.perf_records.specs.Answers.{SplitsBehind, SaysBehind, SaysFrame, Finishes, body_length};
+ghost use Rattle.perf_records.specs.Answers.{answered_parts, parts_of, id_reads};
+ghost use Rattle.perf_records.specs.Bodies.{body, holds_a_list};
+ghost use Rattle.perf_records.specs.Metadata.{carries_sample_id, id_of_type, id_length};
+ghost use Rattle.perf_records.specs.Records.{IsBorrowed};
+
+use crate::body::read_body;
+use crate::metadata::RecordMetadata;
+use crate::record::Record;
+use perf_base::config::ParseConfig;
+use perf_base::endian::Endian;
+use perf_base::reads::Reads;
+use perf_base::refusal::{ReadResult, Refusal};
+use perf_base::sys::{PERF_RECORD_SAMPLE, perf_event_header};
+use perf_buffers::cursor::ParseBufCursor;
+use perf_buffers::input::Input;
+use perf_reader::read::{Meant, ReadFrom};
+use perf_reader::reader::Reader;
+use perf_types::sample_id::SampleId;
+use std::alloc::Global;
+
+// Whether records of a type end with a sample id: the kernel's own do, but SAMPLE.
+#[inline]
+fn carries_sample_id(ty: u32) -> bool
+    ensures { result ≡ carries_sample_id ty }
+{
+    ty < 64 && ty != PERF_RECORD_SAMPLE
+}
+
+// How many bytes of a frame are its sample id.
+#[inline]
+fn id_len<E>(config: &ParseConfig<E>, ty: u32) -> usize
+    ensures { result ≡ id_length (configuration_of config.now) ty }
+{
+    if carries_sample_id(ty) {
+        SampleId::estimate_len(config)
+    } else {
+        0
+    }
+}
+
+// The sample id whose bytes these are. So many bytes are never refused.
+#[inline]
+fn read_id<'x, E: Endian>(reader: &mut Reader<&'x [u8], E>, ty: u32) -> SampleId
+    requires { length (input_of reader.old).now
+        ≡ id_length (configuration_of (config_of reader.old)) ty }
+    ensures id { result ≡ value (E.order (endian_of (config_of reader.old)))
+        (input_of reader.old).now 0 (id_of_type (configuration_of (config_of reader.old)) ty) }
+    ensures reads { reads_of reader.new ≡ reads_of reader.old
+        + layout_reads (E.order (endian_of (config_of reader.old)))
+        (id_of_type (configuration_of (config_of reader.old)) ty) (input_of reader.old).now }
+    ensures bound { reads_of reader.new ≤ reads_of reader.old + length (input_of reader.old).now }
+{
+    if carries_sample_id(ty) {
+        match reader.read::<SampleId>() {
+            Ok(id) => id,
+            Err(_) => SampleId::default(),
+        }
+    } else {
+        SampleId::default()
+    }
+}
+
+// What `take_id` leaves of a frame's bytes, and what it read.
+struct Taken<'p> {
+    body: ParseBufCursor<'p>,
+    metadata: RecordMetadata,
+    reads: Reads,
+}
+
+// The bytes of a frame without its sample id, the metadata, and how many reads that took.
+#[inline]
+fn take_id<'p, E: Endian>(
+    alloc: Global,
+    frame: ParseBufCursor<'p>,
+    config: &ParseConfig<E>,
+    header: perf_event_header,
+) -> ReadResult<Taken<'p>>
+    ensures parts { IfOk result (λ taken.
+        (id_length (configuration_of config.now) header.type_ ≤ length (cursor_left frame.entry))
+        × (answered_parts (taken.body, taken.metadata) ≡ parts_of (configuration_of config.now)
+        (E.order (endian_of config.now)) header (cursor_left frame.entry))) }
+    ensures reads { IfOk result (λ taken. taken.reads ≡ id_reads (configuration_of config.now)
+        (E.order (endian_of config.now)) header (cursor_left frame.entry)) }
+    ensures bound { IfOk result (λ taken.
+        taken.reads ≤ id_length (configuration_of config.now) header.type_) }
+    ensures form { IfOk result (λ taken. cursor_lent taken.body ≡ cursor_lent frame.entry) }
+    ensures refused { IfErr result (λ e. (refusal_kind e ≡ InvalidRecord)
+        × (length (cursor_left frame.entry)
+        < id_length (configuration_of config.now) header.type_)) }
+{
+    let mut body = frame;
+    let len = id_len(config, header.type_);
+    if body.len() < len {
+        return Err(Refusal::NoRoomForId);
+    }
+    let mut tail = Reader::new(alloc, body.last(len), config.lent());
+    let id = read_id(&mut tail, header.type_);
+    let reads = tail.into_reads();
+    body.drop_last(len);
+    Ok(Taken {
+        body,
+        metadata: RecordMetadata::from_parts(header.type_, header.misc, id),
+        reads,
+    })
+}
+
+/// The bytes of the body of a frame whose header was read, and its metadata.
+///
+/// A size that does not count the header is `InvalidRecord`, with nothing taken. Too few bytes are `Eof`, and all of
+/// them are taken. A frame without room for its sample id is `InvalidRecord`, and exactly it is taken.
+#[inline]
+pub fn split<'p, I: Input<'p>, E: Endian>(
+    reader: &mut Reader<I, E>,
+    header: perf_event_header,
+) -> ReadResult<(ParseBufCursor<'p>, RecordMetadata)>
+    ensures within { IsTrue (I.source (input_of reader.old)).told →
+        MovesWithin (I.source (input_of reader.old)) (body_length header)
+        (I.source (input_of reader.new)) }
+    ensures whole { IsTrue (I.source (input_of reader.old)).whole →
+        IfOk result (λ parts. IsTrue (cursor_lent parts.0)) }
+    ensures whole_memory { IsTrue (I.source (input_of reader.old)).whole →
+        TakesNoMemory (kinds result) }
+
+    // The body's bytes are paid for, and not read yet.
+    ensures paid { IsTrue (I.source (input_of reader.old)).told → IfOk result (λ parts.
+        reads_of reader.new + length (cursor_left parts.0)
+        + length (I.source (input_of reader.new)).left
+        ≤ reads_of reader.old + length (I.source (input_of reader.old)).left) }
+    ensures call { Call I.source E.order (SplitsBehind header)
+        reader.old (kinds result) reader.new }
+{
+    if header.size < 8 {
+        return Err(Refusal::SmallHeader);
+    }
+    let frame = match reader.cut(header.size as usize - 8) {
+        Ok(frame) => frame,
+        Err(refusal) => return Err(refusal),
+    };
+    match take_id(reader.alloc(), frame, reader.config(), header) {
+        Ok(taken) => {
+            let Taken {
+                body,
+                metadata,
+                reads,
+            } = taken;
+            reader.count(reads);
+            Ok((body, metadata))
+        }
+        Err(refusal) => Err(refusal),
+    }
+}
+
+// The record that the bytes of a body are, and how many reads it took. Bytes behind the record do not matter.
+#[inline]
+fn finish<'p, E: Endian>(
+    alloc: Global,
+    bytes: ParseBufCursor<'p>,
+    config: ParseConfig<E>,
+    ty: u32,
+) -> (ReadResult<Record<'p>>, Reads)
+    ensures answer { Finishes (E.order (endian_of config)) (body (configuration_of config) ty)
+        (cursor_left bytes.entry) (kinds result.0) result.1 }
+    ensures borrowed { IsTrue (cursor_lent bytes.entry) → IfOk result.0 (λ r. IsBorrowed r) }
+    ensures whole_memory { IsTrue (cursor_lent bytes.entry) → holds_a_list ty ≡ false →
+        TakesNoMemory (kinds result.0) }
+    ensures faults { is_external (refused (kinds result.0)) ≡ false }
+    ensures cost { result.1
+        ≤ length (cursor_left bytes.entry) + one_if_refused (refused (kinds result.0)) }
+{
+    if let Some(bytes) = bytes.as_slice() {
+        let mut reader = Reader::new(alloc, bytes, config);
+        let record = read_body(&mut reader, ty);
+        return (record, reader.into_reads());
+    }
+    let mut reader = Reader::new(alloc, bytes, config);
+    let record = read_body(&mut reader, ty);
+    (record, reader.into_reads())
+}
+
+/// The record of a frame whose header was read. Exactly the frame is taken, also where it is refused; after a fault, and
+/// where memory for the frame was refused, a beginning of it.
+#[inline]
+pub fn read_behind<'p, I: Input<'p>, E: Endian>(
+    reader: &mut Reader<I, E>,
+    header: perf_event_header,
+) -> ReadResult<Record<'p>>
+    ensures within { IsTrue (I.source (input_of reader.old)).told →
+        MovesWithin (I.source (input_of reader.old)) (body_length header)
+        (I.source (input_of reader.new)) }
+    ensures borrowed { IsTrue (I.source (input_of reader.old)).whole →
+        IfOk result (λ r. IsBorrowed r) }
+    ensures whole_memory { IsTrue (I.source (input_of reader.old)).whole →
+        holds_a_list header.type_ ≡ false → TakesNoMemory (kinds result) }
+    ensures call { Call I.source E.order (SaysBehind header)
+        reader.old (kinds result) reader.new }
+{
+    let (bytes, _) = match split(reader, header) {
+        Ok(parts) => parts,
+        Err(refusal) => return Err(refusal),
+    };
+    let mut config = reader.config().lent();
+    config.set_misc(header.misc);
+    let (record, made) = finish(reader.alloc(), bytes, config, header.type_);
+    reader.count(made);
+    record
+}
+
+impl Meant for Record<'_> {
+    ghost says = { SaysFrame };
+}
+
+/// A frame with its header, which is three elementary reads.
+impl<'p, I: Input<'p>> ReadFrom<'p, I> for Record<'p> {
+    #[inline]
+    fn read<E: Endian>(reader: &mut Reader<I, E>) -> ReadResult<Self> {
+        let header = match reader.read::<perf_event_header>() {
+            Ok(header) => header,
+            Err(refusal) => return Err(refusal),
+        };
+        match read_behind(reader, header) {
+            Ok(record) => Ok(record),
+            Err(refusal) => Err(refusal),
+        }
+    }
+}
