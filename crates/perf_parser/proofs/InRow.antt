@@ -1,0 +1,33 @@
+-- Items of this library, parsed in a row, keep what each of them keeps.
+use Rattle.std.proofs.Common.{ℕ, List, [], ◌∷◌, sym, subst, inl, inr, arith}
+use Rattle.std.specs.Prelude.{None, Some}
+use Rattle.perf_base.specs.declared.error.ErrorKind.{ErrorKind}
+use Rattle.perf_base.specs.declared.error.ErrorKind.TheVariants.{OutOfMemory}
+use Rattle.perf_reader.specs.Meaning.{Meaning}
+use Rattle.perf_reader.specs.Reading.{Says, Keeps}
+use Rattle.perf_parser.specs.Calls.{KeepsOn}
+use Rattle.perf_parser.specs.Repeats.{Runs, StopsShort}
+use Rattle.perf_parser.proofs.Paying.{chain}
+
+-- no memory was found for what was read
+keeps_refused : (start new : Meaning) → Keeps start None new → Keeps start (Some OutOfMemory) new
+keeps_refused start new k = record {
+  buffer = k.buffer;
+  fault = λ external. cc;
+  cost = λ told. let m = k.cost told in (m.0, omega (arith, m.1));
+  place = k.place;
+}
+
+module _ {T : Type 0} (parses : Says T) where
+  pub runs_kept : (start a b : Meaning) (xs : List T) → Runs parses KeepsOn a xs b → Keeps start None a → Keeps start None b
+  runs_kept start a b [] p k = subst (Keeps start None) (sym p) k
+  runs_kept start a b (x ∷ xs) p k = runs_kept start p.0 b xs p.2 (p.1.counted start k)
+
+  pub short_kept : (start a b : Meaning) (n : ℕ) (e : ErrorKind) → StopsShort parses KeepsOn a n e b → Keeps start None a → Keeps start (Some e) b
+  short_kept start a b n e p k = elim p [
+    | inl q ↦ q.4.counted start (runs_kept start a q.1 q.0 q.3 k)
+    | inr q ↦ subst (λ why. Keeps start (Some why) b) (sym q.3) (keeps_refused start b (runs_kept start a b q.0 q.2 k))
+  ]
+
+-- what calls of this library and lists of its items need, one behind another
+pub ruleset items = (chain, runs_kept, short_kept)

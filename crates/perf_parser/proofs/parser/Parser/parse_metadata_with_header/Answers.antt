@@ -1,0 +1,65 @@
+use Rattle.std.proofs.Common.{◌≡◌, Ok, Err, None, Some, refl, sym, ◌∙◌, ap, subst}
+use Rattle.std.specs.Prelude.{IsTrue, Result}
+use Rattle.perf_base.specs.Errors.{kind_of}
+use Rattle.perf_base.specs.Refusals.{refusal_kind}
+use Rattle.perf_base.specs.declared.error.ErrorKind.{ErrorKind}
+use Rattle.perf_base.specs.declared.error.ErrorKind.TheVariants.{OutOfMemory}
+use Rattle.perf_buffers.specs.Buffer.{Source}
+use Rattle.perf_buffers.specs.declared.cursor.ParseBufCursor.{ParseBufCursor}
+use Rattle.perf_reader.specs.Calls as reader_calls
+use Rattle.perf_reader.specs.Meaning as reader
+use Rattle.perf_reader.specs.Meaning.{Meaning}
+use Rattle.perf_reader.specs.Reading.{Keeps}
+use Rattle.perf_reader.proofs.Paying.{keeps_none}
+use Rattle.perf_records.specs.Answers.{Tells, split_behind, split_reads, body_length}
+use Rattle.perf_parser.specs.Calls.{Call}
+use Rattle.perf_parser.specs.Frames.{SplitsParser, parsed_parts}
+use Rattle.perf_parser.specs.Meaning.{meaning}
+use Rattle.perf_parser.proofs.Lifting.{answered, keeps_follows}
+use Rattle.perf_parser.proofs.Metadata.{split_parsed, split_unparsed, keeps_unparsed}
+use Rattle.perf_parser.proofs.Paying.{follows_more}
+use Rattle.perf_parser.proofs.parser.Parser.parse_metadata_with_header.Goals as goal
+
+-- the frame does not fall apart
+pub returns-in-Err-clause-call : goal.returns-in-Err-clause-call
+returns-in-Err-clause-call g c =
+    let same = c.answer.ensures in
+    let read = c.in-Err.ensures.call in
+    answered g.B.ParseBuf.source g.E.Endian.order (SplitsParser c.args.header) c.args.self.now (record { reader = c.answer.new.self }) c.split.new.reader _ _
+    (record {
+      config = read.config;
+      whole = read.whole;
+      told = read.told;
+      answer = λ told. read.answer told;
+      keeps = read.keeps;
+    }) same.error.kind_is same.buf same.config same.reads
+
+-- it falls apart, and there is a second order
+pub returns-in-Ok-duplicate-clause-call : goal.returns-in-Ok-duplicate-clause-call
+returns-in-Ok-duplicate-clause-call g c =
+    let read = c.in-Ok.ensures.call in
+    let old : Meaning = meaning g.B.ParseBuf.source g.E.Endian.order c.args.self.now in
+    let new : Meaning = meaning g.B.ParseBuf.source g.E.Endian.order (record { reader = c.split.new.reader }) in record {
+      config = read.config;
+      whole = read.whole;
+      told = read.told;
+      answer = λ told. split_parsed c.args.header old new c.in-Ok.parts.0 c.in-Ok.parts.1 c.new.result c.new.ensures.buf (read.answer told);
+      counted = λ start p. read.keeps start p;
+      follows = λ start p. follows_more start old new p (keeps_follows old new None (read.keeps old (keeps_none old)));
+    }
+
+-- it falls apart, and there is none
+pub returns-clause-call : goal.returns-clause-call
+returns-clause-call g c =
+    let read = c.in-Ok.ensures.call in
+    let old : Meaning = meaning g.B.ParseBuf.source g.E.Endian.order c.args.self.now in
+    let new : Meaning = meaning g.B.ParseBuf.source g.E.Endian.order (record { reader = c.split.new.reader }) in
+    let why : kind_of c.in-Err-duplicate.error ≡ OutOfMemory = c.in-Err-duplicate.ensures.refused.0 in
+    subst (λ k. Call g.B.ParseBuf.source g.E.Endian.order (SplitsParser c.args.header) c.args.self.now (Err k) (record { reader = c.split.new.reader })) (sym why) (record {
+      config = read.config;
+      whole = read.whole;
+      told = read.told;
+      answer = λ told. split_unparsed g.row.E.Denot c.args.header old new;
+      counted = λ start p. keeps_unparsed start new (read.keeps start p);
+      follows = λ start p. follows_more start old new p (keeps_follows old new None (read.keeps old (keeps_none old)));
+    })

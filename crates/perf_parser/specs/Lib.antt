@@ -1,0 +1,5 @@
+pub mod Meaning
+pub mod Calls
+pub mod Repeats
+pub mod Words
+pub mod Frames

@@ -1,0 +1,30 @@
+-- What a parser means: what its reader means, which reads a caller's buffer.
+use Rattle.std.specs.Prelude.{ℕ}
+use Rattle.perf_base.specs.Order.{Order}
+use Rattle.perf_base.specs.declared.config.ParseConfig.{ParseConfig}
+use Rattle.perf_buffers.specs.Buffer.{Source}
+use Rattle.perf_buffers.specs.declared.outer.Outer.{Outer}
+use Rattle.perf_reader.specs.Meaning as reader
+use Rattle.perf_reader.specs.Meaning.{Meaning}
+use Rattle.perf_reader.specs.declared.reader.Reader.{Reader}
+use Rattle.perf_parser.specs.declared.parser.Parser.{Parser}
+
+-- the reader of a parser
+abbrev pub reader_of : {B E : Type 0} → Parser B E → Reader (Outer B) E
+reader_of p = p.reader
+
+-- the buffer that it parses
+abbrev pub buffer_of : {B E : Type 0} → Parser B E → B
+buffer_of p = reader.buffer_of p.reader
+
+-- its configuration
+abbrev pub config_of : {B E : Type 0} → Parser B E → ParseConfig E
+config_of p = reader.config_of p.reader
+
+-- how many elementary reads it made
+abbrev pub reads_of : {B E : Type 0} → Parser B E → ℕ
+reads_of p = reader.reads_of p.reader
+
+-- the meaning of a parser, by those of its buffer and its order
+abbrev pub meaning : {B E : Type 0} → (B → Source) → (E → Order) → Parser B E → Meaning
+meaning source order p = reader.meaning (λ o. source o.buf) order p.reader

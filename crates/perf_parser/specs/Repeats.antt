@@ -1,0 +1,44 @@
+-- Several values parsed in order.
+use Rattle.std.specs.Prelude.{Option, Some, None, Result, Ok, Err, ◌≡◌, ◌⊎◌, IsTrue, MatchOption}
+use Rattle.std.specs.Prelude.{ℕ, ◌<◌, ◌≤◌, List, [], ◌∷◌, length}
+use Rattle.perf_base.specs.Refusals.{refused}
+use Rattle.perf_base.specs.declared.error.ErrorKind.{ErrorKind}
+use Rattle.perf_base.specs.declared.error.ErrorKind.TheVariants.{OutOfMemory}
+use Rattle.perf_reader.specs.Meaning.{Meaning}
+use Rattle.perf_reader.specs.Reading.{Says}
+use Rattle.perf_parser.specs.Calls.{Follows, Counts}
+
+-- What a type states of its parse: what it answers, and what it counts.
+module _ {T : Type 0} (parses : Says T) (counts : Counts) where
+  -- One call of its parse, under the configuration and the order that there were.
+  pub record Step (old : Meaning) (seen : Result T ErrorKind) (new : Meaning) : Type 0 where
+    pub answer : IsTrue old.source.told → parses old seen new
+    pub counted : counts old (refused seen) new
+    pub follows : Follows old new
+    pub settings : new.settings ≡ old.settings
+    pub order : new.order ≡ old.order
+
+  -- the values were parsed one after another
+  abbrev pub Runs : Meaning → List T → Meaning → Type 0
+  Runs old [] new = new ≡ old
+  Runs old (x ∷ xs) new = (mid : Meaning) × Step old (Ok x) mid × Runs mid xs new
+
+  -- Fewer than n values were parsed, and the next one was refused; or no memory was found for one
+  -- of those that were.
+  abbrev pub StopsShort : Meaning → ℕ → ErrorKind → Meaning → Type 0
+  StopsShort old n e new =
+      ((xs : List T) × (mid : Meaning) × (length xs < n) × Runs old xs mid
+      × Step mid (Err e) new)
+      ⊎ ((xs : List T) × (length xs ≤ n) × Runs old xs new × (e ≡ OutOfMemory))
+
+-- the same answer, under `Some`
+abbrev pub AsOption : {T R : Type 0} → (Result T R → Type 0) → Result (Option T) R → Type 0
+AsOption P (Ok (Some x)) = P (Ok x)
+AsOption P (Ok None) = ⊥
+AsOption P (Err e) = P (Err e)
+
+-- Room that is made before the first item of a list is read: for no more items than are claimed,
+-- and for at most one for each byte that is left, or 16,384 where the buffer does not say how many
+-- are.
+abbrev pub IsRoom : (hint : Option ℕ) (claimed room : ℕ) → Type 0
+IsRoom hint claimed room = (room ≤ claimed) × MatchOption hint (room ≤ 16384) (λ left. room ≤ left)

@@ -1,0 +1,111 @@
+//! Frames: a header, and the bytes that belong to it.
+
+ghost use Rattle.std.specs.Prelude.{◌≡◌, ◌-◌, false, IsTrue, IfOk};
+ghost use Rattle.perf_base.specs.Configured.{configuration_of, endian_of};
+ghost use Rattle.perf_base.specs.declared.sys.perf_event_header.{perf_event_header};
+ghost use Rattle.perf_buffers.specs.Cursor.{cursor_lent};
+ghost use Rattle.perf_buffers.specs.Taking.{MovesWithin};
+ghost use Rattle.perf_parser.specs.Frames.{SplitsParser, SplitsFrame};
+ghost use Rattle.perf_parser.specs.Words.{Call, TakesNoMemory};
+ghost use Rattle.perf_parser.specs.Words.{buffer_of, config_of, reads_of, error_kinds};
+ghost use Rattle.perf_records.specs.Answers.{SaysBehind, body_length};
+ghost use Rattle.perf_records.specs.Bodies.{holds_a_list};
+ghost use Rattle.perf_records.specs.Records.{IsBorrowed};
+
+use crate::parse::{FrameLayout, ParseRecord};
+use crate::parser::Parser;
+use perf_base::endian::Endian;
+use perf_base::error::ParseResult;
+use perf_base::sys::perf_event_header;
+use perf_buffers::cursor::ParseBufCursor;
+use perf_buffers::parsebuf::ParseBuf;
+use perf_records::frame::{read_behind, split};
+use perf_records::metadata::RecordMetadata;
+use perf_records::record::Record;
+
+impl FrameLayout for Record<'_> {
+    ghost says_behind = { SaysBehind };
+}
+
+impl<'p, B: ParseBuf<'p>> ParseRecord<'p, B> for Record<'p> {
+    #[inline]
+    fn parse_with_header<E: Endian>(
+        parser: &mut Parser<B, E>,
+        header: perf_event_header,
+    ) -> ParseResult<Self>
+        ensures within { IsTrue (B.source (buffer_of parser.old)).told →
+            MovesWithin (B.source (buffer_of parser.old)) (header.size - 8)
+            (B.source (buffer_of parser.new)) }
+        ensures borrowed { IsTrue (B.source (buffer_of parser.old)).whole →
+            IfOk result (λ r. IsBorrowed r) }
+        ensures whole_memory { IsTrue (B.source (buffer_of parser.old)).whole →
+            holds_a_list header.type_ ≡ false → TakesNoMemory (error_kinds result) }
+        ensures call { Call B.source E.order (SaysBehind header)
+            parser.old (error_kinds result) parser.new }
+    {
+        match read_behind(&mut parser.reader, header) {
+            Ok(record) => Ok(record),
+            Err(refusal) => Err(parser.reader.answer(refusal)),
+        }
+    }
+}
+
+impl<'p, B: ParseBuf<'p>, E: Endian> Parser<B, E> {
+    /// The metadata of the next record, whose header was read before, and a parser of the bytes
+    /// between that and its sample id.
+    ///
+    /// That parser has the same configuration, in which `misc` stays what it was, and has made no
+    /// reads. A record that has no room for its sample id is `InvalidRecord`, and exactly its frame
+    /// is taken. After a fault, and where memory is refused, for the frame or for the order's
+    /// second, a beginning of it is taken.
+    #[inline]
+    pub fn parse_metadata_with_header(
+        &mut self,
+        header: perf_event_header,
+    ) -> ParseResult<(Parser<ParseBufCursor<'p>, E>, RecordMetadata)>
+        ensures within { IsTrue (B.source (buffer_of self.old)).told →
+            MovesWithin (B.source (buffer_of self.old)) (body_length header)
+            (B.source (buffer_of self.new)) }
+        ensures inner { IfOk result (λ r.
+            (configuration_of (config_of r.0) ≡ configuration_of (config_of self.old))
+            × (E.order (endian_of (config_of r.0)) ≡ E.order (endian_of (config_of self.old)))
+            × (reads_of r.0 ≡ 0)) }
+        ensures whole { IsTrue (B.source (buffer_of self.old)).whole →
+            IfOk result (λ r. IsTrue (cursor_lent (buffer_of r.0))) }
+        ensures whole_memory { IsTrue (B.source (buffer_of self.old)).whole →
+            E.may_refuse (endian_of (config_of self.old)) ≡ false →
+            TakesNoMemory (error_kinds result) }
+        ensures call { Call B.source E.order (SplitsParser header)
+            self.old (error_kinds result) self.new }
+    {
+        let (body, metadata) = match split(&mut self.reader, header) {
+            Ok(parts) => parts,
+            Err(refusal) => return Err(self.reader.answer(refusal)),
+        };
+        match self.config().duplicate() {
+            Ok(config) => Ok((Parser::new(self.reader.alloc(), body, config), metadata)),
+            Err(error) => Err(error),
+        }
+    }
+
+    /// The same as [`Parser::parse_metadata_with_header`], of a record whose header comes next.
+    #[inline]
+    pub fn parse_metadata(&mut self) -> ParseResult<(Parser<ParseBufCursor<'p>, E>, RecordMetadata)>
+        ensures inner { IfOk result (λ r.
+            (configuration_of (config_of r.0) ≡ configuration_of (config_of self.old))
+            × (E.order (endian_of (config_of r.0)) ≡ E.order (endian_of (config_of self.old)))
+            × (reads_of r.0 ≡ 0)) }
+        ensures whole { IsTrue (B.source (buffer_of self.old)).whole →
+            IfOk result (λ r. IsTrue (cursor_lent (buffer_of r.0))) }
+        ensures call { Call B.source E.order SplitsFrame self.old (error_kinds result) self.new }
+    {
+        let header = match self.parse::<perf_event_header>() {
+            Ok(header) => header,
+            Err(error) => return Err(error),
+        };
+        match self.parse_metadata_with_header(header) {
+            Ok(parts) => Ok(parts),
+            Err(error) => Err(error),
+        }
+    }
+}

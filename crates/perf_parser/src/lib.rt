@@ -1,0 +1,12 @@
+//! Parsers: readers of a caller's buffer, whose refusals are errors.
+//!
+//! [`parse::Parser`] reads values out of a buffer: a slice, a buffered reader, or bytes that come
+//! in pieces.
+#![tactic(auto)]
+
+mod bytes;
+mod frames;
+mod lists;
+mod numbers;
+pub mod parse;
+mod parser;

@@ -1,0 +1,85 @@
+//! Parsing: what can be parsed, and the parser that does it.
+
+ghost use Rattle.std.specs.Prelude.{◌-◌, IsTrue};
+ghost use Rattle.perf_base.specs.declared.sys.perf_event_header.{perf_event_header};
+ghost use Rattle.perf_buffers.specs.Taking.{MovesWithin};
+ghost use Rattle.perf_parser.specs.Words.{Says, Counts, KeepsOn, Call, CallAs};
+ghost use Rattle.perf_parser.specs.Words.{buffer_of, error_kinds};
+
+pub use crate::parser::Parser;
+pub use perf_base::config::ParseConfig;
+use perf_base::endian::Endian;
+pub use perf_base::error::{ErrorKind, ParseError, ParseResult};
+use perf_base::sys::perf_event_header;
+pub use perf_buffers::cursor::ParseBufCursor;
+use perf_buffers::outer::Outer;
+pub use perf_buffers::parsebuf::{ParseBuf, ParseBufChunk};
+use perf_reader::read::{Meant, ReadFrom};
+
+/// What the parse of a type means.
+pub trait Layout: Sized {
+    // What a call answers, from what the parser meant before, and what the parser means after it.
+    ghost parses: { Says Self };
+
+    // What it counts: faults, and elementary reads. What this library parses counts each fault that
+    // it answers and no other, answers one only over a buffer that can fault, and makes at most as
+    // many reads as it takes bytes, and one more where it is refused. Another type may state its
+    // own.
+    ghost counts: { Counts } = { KeepsOn };
+}
+
+/// A type that can be parsed out of a buffer.
+pub trait Parse<'p, B: ParseBuf<'p>>: Layout {
+    /// Parses one value.
+    fn parse<E: Endian>(parser: &mut Parser<B, E>) -> ParseResult<Self>
+        ensures call { CallAs B.source E.order Self.parses Self.counts
+            parser.old (error_kinds result) parser.new };
+}
+
+impl<'p, B: ParseBuf<'p>, E: Endian> Parser<B, E> {
+    /// Parses one value of a type.
+    #[inline]
+    pub fn parse<P: Parse<'p, B>>(&mut self) -> ParseResult<P>
+        ensures call { CallAs B.source E.order P.parses P.counts
+            self.old (error_kinds result) self.new }
+    {
+        P::parse(self)
+    }
+}
+
+/// What this library reads.
+impl<T: Meant> Layout for T {
+    ghost parses = { T.says };
+}
+
+impl<'p, B: ParseBuf<'p>, T: ReadFrom<'p, Outer<B>> + Meant> Parse<'p, B> for T {
+    #[inline]
+    fn parse<E: Endian>(parser: &mut Parser<B, E>) -> ParseResult<Self> {
+        match T::read(&mut parser.reader) {
+            Ok(value) => Ok(value),
+            Err(refusal) => Err(parser.reader.answer(refusal)),
+        }
+    }
+}
+
+/// What the parse of a frame means, by its header.
+pub trait FrameLayout: Sized {
+    // What a call answers behind a header.
+    ghost says_behind: { perf_event_header → Says Self };
+}
+
+/// A type that is parsed out of a frame whose header was read before.
+pub trait ParseRecord<'p, B: ParseBuf<'p>>: FrameLayout {
+    /// Parses the rest of a frame. After a refusal exactly the frame is taken, or all that was left
+    /// where that is less; after a fault, and where memory for the frame was refused, a beginning
+    /// of it.
+    fn parse_with_header<E: Endian>(
+        parser: &mut Parser<B, E>,
+        header: perf_event_header,
+    ) -> ParseResult<Self>
+        ensures within { IsTrue (B.source (buffer_of parser.old)).told →
+            MovesWithin (B.source (buffer_of parser.old)) (header.size - 8)
+            (B.source (buffer_of parser.new)) }
+        ensures call { Call B.source E.order (Self.says_behind header)
+            parser.old (error_kinds result) parser.new };
+}
