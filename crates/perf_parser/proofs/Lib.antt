@@ -3,3 +3,7 @@ pub mod Lifting
 pub mod Repeating
 pub mod InRow
 pub mod Metadata
+pub mod Listing
+pub mod Ending
+pub mod Covering
+pub mod Worked

@@ -3,3 +3,4 @@ pub mod Calls
 pub mod Repeats
 pub mod Words
 pub mod Frames
+pub mod Runs

@@ -10,3 +10,6 @@ mod lists;
 mod numbers;
 pub mod parse;
 mod parser;
+mod runs;
+
+pub use crate::runs::{Run, RunEnd, read_records};

@@ -21,7 +21,7 @@ use Rattle.perf_reader.specs.Meaning.{Meaning}
 use Rattle.perf_reader.specs.Reading.{of_layout, is_external}
 use Rattle.perf_records.proofs.Keeping.{within_all, within_taken}
 use Rattle.perf_records.specs.Frames.{frame_length}
-use Rattle.perf_records.specs.Answers.{body_length, split_behind, record_in, answer_behind, of_frame, answer_of_frame, Tells, frame_reads}
+use Rattle.perf_records.specs.Answers.{FrameParts, body_length, split_behind, split_reads, id_reads, record_in, record_reads, answer_behind, reads_behind, of_frame, answer_of_frame, Tells, frame_reads}
 
 -- ---- the header by places
 -- what follows the type, and what follows misc
@@ -104,6 +104,18 @@ split_take c o h bytes = elim (cases_lt (length bytes) (body_length h)) [
 behind_take : (c : Configuration) (o : Order) (h : perf_event_header) (bytes : List ℕ) → answer_behind c o h (take (body_length h) bytes) ≡ answer_behind c o h bytes
 behind_take c o h bytes = ap (record_in c o h) (split_take c o h bytes)
 
+-- and takes as many reads
+reads_take : (c : Configuration) (o : Order) (h : perf_event_header) (bytes : List ℕ) → reads_behind c o h (take (body_length h) bytes) ≡ reads_behind c o h bytes
+reads_take c o h bytes =
+    let n : ℕ = body_length h in
+    let same : split_behind c o h (take n bytes) ≡ split_behind c o h bytes = split_take c o h bytes in
+    let once : take n (take n bytes) ≡ take n bytes = take-take n n bytes (omega arith) in
+    let split : split_reads c o h (take n bytes) ≡ split_reads c o h bytes =
+    ap (λ (r : Result FrameParts ErrorKind). elim r [ Ok parts ↦ id_reads c o h (take n (take n bytes)) | Err e ↦ 0 ]) same
+    ∙ ap (λ (xs : List ℕ). elim (split_behind c o h bytes) [ Ok parts ↦ id_reads c o h xs | Err e ↦ 0 ]) once in
+    ap (λ (k : ℕ). k + record_reads c o h (split_behind c o h (take n bytes))) split
+    ∙ ap (λ (r : Result FrameParts ErrorKind). split_reads c o h bytes + record_reads c o h r) same
+
 -- what stands behind a header that is whole
 pub frame_whole : {V : Type 0} (says : perf_event_header → List ℕ → Result V ErrorKind) (o : Order) (bytes : List ℕ) → 8 ≤ length bytes → of_frame says o bytes ≡ says (header_of o bytes) (drop 8 bytes)
 frame_whole says o bytes fits = let a : nat_lt (length bytes) 8 ≡ false = le-ltb (length bytes) 8 fits in rw a refl
@@ -135,6 +147,19 @@ answer_alone c o bytes fits =
 -- the header of a frame's own bytes
 pub header_alone : (o : Order) (bytes : List ℕ) → header_of o (take (frame_length o bytes) bytes) ≡ header_of o bytes
 header_alone o bytes = ap (λ n. header_of o (take n bytes)) (frame_body (header_of o bytes)) ∙ header_take o (body_length (header_of o bytes)) bytes
+
+-- A frame takes as many reads behind its header as it does in front of others.
+pub reads_alone : (c : Configuration) (o : Order) (bytes : List ℕ) →
+    let frame : List ℕ = take (frame_length o bytes) bytes in
+    reads_behind c o (header_of o frame) (drop 8 frame) ≡ reads_behind c o (header_of o bytes) (drop 8 bytes)
+reads_alone c o bytes =
+    let h : perf_event_header = header_of o bytes in
+    let frame : List ℕ = take (frame_length o bytes) bytes in
+    let behind : drop 8 frame ≡ take (body_length h) (drop 8 bytes) =
+    ap (λ n. drop 8 (take n bytes)) (frame_body h) ∙ drop-take 8 (body_length h) bytes in
+    ap (λ k. reads_behind c o k (drop 8 frame)) (header_alone o bytes)
+    ∙ ap (reads_behind c o h) behind
+    ∙ reads_take c o h (drop 8 bytes)
 
 -- ---- a frame, from its header and what stands behind it
 pub frame_behind : (o : Order) (bytes mid new : List ℕ) (h : perf_event_header) → h ≡ header_of o bytes → mid ≡ drop 8 bytes → new ≡ drop (body_length h) mid → new ≡ drop (frame_length o bytes) bytes

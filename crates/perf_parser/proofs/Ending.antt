@@ -1,0 +1,254 @@
+-- How a run stops: inside a header, or by a fault; and what it keeps.
+use Rattle.std.proofs.Common.{◌≡◌, ℕ, ◌+◌, ◌-◌, ◌<◌, ◌≤◌, List, [], ◌∷◌, ◌++◌, length, take, drop, arith, refl, sym, ◌∙◌, ap, subst, length-drop, max, Ok, Err, None, Some, inl, inr}
+use Rattle.std.specs.Prelude.{IsTrue, Option, Result, ◌⊎◌}
+use Rattle.std.proofs.lemmas.Bool.{cases_lt}
+use Rattle.perf_base.specs.Configuration.{Configuration}
+use Rattle.perf_base.specs.Errors.{kind_of}
+use Rattle.perf_base.specs.Header.{header_of}
+use Rattle.perf_base.specs.Layout.{run}
+use Rattle.perf_base.specs.Order.{Order}
+use Rattle.perf_base.specs.Refusals.{refusal_kind, refused, error_kinds}
+use Rattle.perf_base.specs.Took.{Took, took, quit, one_took}
+use Rattle.perf_base.specs.declared.error.ErrorKind.{ErrorKind}
+use Rattle.perf_base.specs.declared.error.ErrorKind.TheVariants.{Eof, InvalidRecord, UnsupportedConfig, UnsupportedData, External, OutOfMemory}
+use Rattle.perf_base.specs.declared.error.ParseError.{ParseError}
+use Rattle.perf_base.specs.declared.refusal.Refusal.{Refusal}
+use Rattle.perf_base.specs.declared.sys.perf_event_header.{perf_event_header}
+use Rattle.perf_buffers.specs.Buffer.{Source, faults_after}
+use Rattle.perf_buffers.specs.Taking.{MovesWithin, Takes}
+use Rattle.perf_buffers.proofs.Taking.{moves_more}
+use Rattle.perf_buffers.specs.declared.outer.Outer.{Outer}
+use Rattle.perf_reader.specs.Meaning as reader
+use Rattle.perf_reader.specs.Meaning.{Meaning}
+use Rattle.perf_reader.specs.declared.reader.Reader.{Reader}
+use Rattle.perf_reader.specs.Reading.{Keeps, of_layout, one_if_refused, last_of}
+use Rattle.perf_reader.proofs.Paying.{last_moved, last_all, last_last, within_taken}
+use Rattle.perf_reader.proofs.Steps.{run_there, run_short}
+use Rattle.perf_records.specs.Answers.{SaysBehind, body_length, answer_behind, answer_of_frame, reads_behind}
+use Rattle.perf_records.specs.Frames.{frame_length}
+use Rattle.perf_records.specs.declared.record.Record.{Record}
+use Rattle.perf_records.proofs.Headers.{frame_body, frame_behind, answer_whole}
+use Rattle.perf_parser.specs.Runs.{Pairs, said, refused_count, listed_reads, LeavesWithin, StopsAt, KeepsRun, IsListed}
+use Rattle.perf_parser.specs.Runs.{stop_kind, stopped_by, IsEndOf, one_if_ended, end_refusal}
+use Rattle.perf_parser.specs.declared.runs.RunEnd.{RunEnd}
+use Rattle.perf_parser.specs.declared.runs.Stop.{Stop}
+use Rattle.perf_parser.specs.declared.runs.Stop.TheVariants as stop
+
+-- ---- refused answers are counted
+one_more_refused : (pairs : Pairs) (h : perf_event_header) (r : Result Record ParseError) →
+    refused_count (pairs ++ (h, r) ∷ []) ≡ refused_count pairs + one_if_refused (refused (error_kinds r))
+one_more_refused [] h (Ok r) = refl
+one_more_refused [] h (Err e) = refl
+one_more_refused (pair ∷ pairs) h r = go (one_more_refused pairs h r) (pair.1)
+  where
+    go : refused_count (pairs ++ (h, r) ∷ []) ≡ refused_count pairs + one_if_refused (refused (error_kinds r)) → (s : Result Record ParseError) →
+        refused_count ((pair.0, s) ∷ (pairs ++ (h, r) ∷ [])) ≡ refused_count ((pair.0, s) ∷ pairs) + one_if_refused (refused (error_kinds r))
+    go again (Ok s) = again
+    go again (Err e) = omega (arith, again)
+
+-- ---- bytes of a header
+
+-- bytes that were taken
+pub taken : (o : Order) (k : ℕ) (bytes xs left : List ℕ) (n m : ℕ) → 0 < k → one_took o (run k) bytes n ≡ took xs left m →
+    (k ≤ length bytes) × (xs ≡ take k bytes) × (left ≡ drop k bytes) × (m ≡ n + 1)
+taken o k bytes xs left n m some e = elim (cases_lt (length bytes) k) [
+  | inl short ↦ absurd (cc (run_short o k bytes n short))
+  | inr fits ↦
+      let both : took (take k bytes) (drop k bytes) (n + 1) ≡ took xs left m = sym (run_there o k bytes n some fits) ∙ e in
+      let same : take k bytes ≡ xs = cc in
+      let behind : drop k bytes ≡ left = cc in
+      let count : n + 1 ≡ m = cc in
+      (fits, sym same, sym behind, sym count)
+]
+
+-- bytes that were lacking
+pub lacking : (o : Order) (k : ℕ) (bytes left : List ℕ) (e : ErrorKind) (n m : ℕ) → 0 < k → one_took o (run k) bytes n ≡ quit e left m →
+    (length bytes < k) × (e ≡ Eof) × (left ≡ []) × (m ≡ n + 1)
+lacking o k bytes left e n m some h = elim (cases_lt (length bytes) k) [
+  | inr fits ↦ absurd (cc (run_there o k bytes n some fits))
+  | inl short ↦
+      let both : ◌≡◌ {A = Took (List ℕ)} (quit Eof [] (n + 1)) (quit e left m) = sym (run_short o k bytes n short) ∙ h in
+      let kind : Eof ≡ e = cc in
+      let behind : [] ≡ left = cc in
+      let count : n + 1 ≡ m = cc in
+      (short, sym kind, sym behind, sym count)
+]
+
+no_bytes : (xs : List ℕ) → length xs < 1 → xs ≡ []
+no_bytes [] h = refl
+no_bytes (x ∷ xs) h = absurd (omega arith)
+
+-- ---- how it stops
+
+-- some bytes, and then a beginning of others
+within_more : (a b c : Source) (n k : ℕ) → Takes a n b → MovesWithin b k c → MovesWithin a (n + k) c
+within_more a b c n k p q =
+    let first : MovesWithin a n b = within_taken a b n p in
+    (omega arith, moves_more a b c first.1 q.1)
+
+-- a beginning of the next frame
+leaves : (o : Order) (old new : Source) (n : ℕ) → n ≤ frame_length o old.left → MovesWithin old n new → LeavesWithin o old.left new.left
+leaves o old new n h p = (p.1.0, omega arith, last_moved old new p.1)
+
+-- a kind of the layout, or another
+layout_or_not : (e : ErrorKind) → IsTrue (of_layout e) ⊎ (IsTrue (of_layout e) → ⊥)
+layout_or_not Eof = inl refl
+layout_or_not InvalidRecord = inl refl
+layout_or_not UnsupportedConfig = inl refl
+layout_or_not UnsupportedData = inl refl
+layout_or_not External = inr (λ h. cc)
+layout_or_not OutOfMemory = inr (λ h. cc)
+
+not_the_end : (e : ErrorKind) → (IsTrue (of_layout e) → ⊥) → e ≡ Eof → ⊥
+not_the_end e other same = other (subst (λ (k : ErrorKind). IsTrue (of_layout k)) (sym same) refl)
+
+-- where the first byte of a header was refused
+pub stops_first : (old new : Meaning) (r : Refusal) (s : Stop) → (refusal_kind r ≡ Eof → s ≡ stop.Done) → ((refusal_kind r ≡ Eof → ⊥) → s ≡ stop.Refused r) →
+    (IsTrue (of_layout (refusal_kind r)) → one_took old.order (run 1) old.source.left old.reads ≡ quit (refusal_kind r) new.source.left new.reads) →
+    MovesWithin old.source 1 new.source → StopsAt old s new
+stops_first old new r s eof other gives within = elim (layout_or_not (refusal_kind r)) [
+  | inl layout ↦
+      let p = lacking old.order 1 old.source.left new.source.left (refusal_kind r) old.reads new.reads (omega arith) (gives layout) in
+      subst (λ (x : Stop). StopsAt old x new) (sym (eof p.1)) (no_bytes old.source.left p.0, p.2, p.3)
+  | inr none ↦
+      subst (λ (x : Stop). StopsAt old x new) (sym (other (not_the_end (refusal_kind r) none))) (none, leaves old.order old.source new.source 1 (omega arith) within)
+]
+
+-- where one of the others was
+pub stops_others : (old mid new : Meaning) (r : Refusal) (s : Stop) (first : List ℕ) → (refusal_kind r ≡ Eof → s ≡ stop.CutHeader) → ((refusal_kind r ≡ Eof → ⊥) → s ≡ stop.Refused r) →
+    one_took old.order (run 1) old.source.left old.reads ≡ took first mid.source.left mid.reads →
+    (IsTrue (of_layout (refusal_kind r)) → one_took mid.order (run 7) mid.source.left mid.reads ≡ quit (refusal_kind r) new.source.left new.reads) →
+    MovesWithin mid.source 7 new.source → StopsAt old s new
+stops_others old mid new r s first eof other one gives within =
+    let a = taken old.order 1 old.source.left first mid.source.left old.reads mid.reads (omega arith) one in
+    let left : length mid.source.left ≡ length old.source.left - 1 = ap length a.2 ∙ length-drop 1 old.source.left in
+    elim (layout_or_not (refusal_kind r)) [
+      | inl layout ↦
+          let p = lacking mid.order 7 mid.source.left new.source.left (refusal_kind r) mid.reads new.reads (omega arith) (gives layout) in
+          subst (λ (x : Stop). StopsAt old x new) (sym (eof p.1)) (omega (arith, a.0), omega (arith, left, p.0), p.2, omega (arith, p.3, a.3))
+      | inr none ↦
+          subst (λ (x : Stop). StopsAt old x new) (sym (other (not_the_end (refusal_kind r) none)))
+          (none, leaves old.order old.source new.source 8 (omega arith) (within_more old.source mid.source new.source 1 7 (a.0, a.2) within))
+    ]
+
+-- where the header was read, and not what stands behind it
+pub stops_behind : (old mid new : Meaning) (h : perf_event_header) (r : Refusal) → (IsTrue (of_layout (refusal_kind r)) → ⊥) → 8 ≤ length old.source.left → h ≡ header_of old.order old.source.left →
+    mid.source.left ≡ drop 8 old.source.left → MovesWithin mid.source (body_length h) new.source → StopsAt old (stop.Refused r) new
+stops_behind old mid new h r none fits e m within =
+    let whole : frame_length old.order old.source.left ≡ 8 + body_length h = ap (λ (q : perf_event_header). max 8 q.size) (sym e) ∙ frame_body h in
+    (none, leaves old.order old.source new.source (8 + body_length h) (omega arith) (within_more old.source mid.source new.source 8 (body_length h) (fits, m) within))
+
+-- where there was no memory for an answer
+pub stops_without_memory : (old : Meaning) (r : Refusal) → (IsTrue (of_layout (refusal_kind r)) → ⊥) → StopsAt old (stop.Refused r) old
+stops_without_memory old r none = (none, (omega arith, omega arith, sym (last_all old.source.left)))
+
+-- ---- what is kept
+
+-- a refusal of the layout counts no fault
+no_fault : (a b : Source) (e : ErrorKind) → IsTrue (of_layout e) → b.faults ≡ faults_after a.faults (Some e) → b.faults ≡ a.faults
+no_fault a b Eof h p = p
+no_fault a b InvalidRecord h p = p
+no_fault a b UnsupportedConfig h p = p
+no_fault a b UnsupportedData h p = p
+no_fault a b External h p = absurd (cc)
+no_fault a b OutOfMemory h p = absurd (cc)
+
+-- nothing was done, where some were refused before
+pub run_none : (m : Meaning) (n : ℕ) → KeepsRun m n None m
+run_none m n = record {
+  buffer = (refl, (λ c. c), refl, (λ t. t));
+  fault = λ x. cc;
+  cost = λ t. (omega arith, omega arith);
+  place = λ t. (omega arith, sym (last_all m.source.left));
+}
+
+-- one call behind others
+pub run_more : (start old new : Meaning) (n : ℕ) (e : Option ErrorKind) → KeepsRun start n None old → Keeps old e new → KeepsRun start (n + one_if_refused e) e new
+run_more start old new n e p q = record {
+  buffer = (
+    q.buffer.0 ∙ p.buffer.0,
+    (λ c. p.buffer.1 (q.buffer.1 c)),
+    q.buffer.2 ∙ ap (λ k. faults_after k e) p.buffer.2,
+    (λ t. q.buffer.3 (p.buffer.3 t)),
+  );
+  fault = λ x. p.buffer.1 (q.fault x);
+  cost = λ t. let a = p.cost t in let b = q.cost (p.buffer.3 t) in (omega (arith, a.0, b.0), omega (arith, a.1, b.1));
+  place = λ t. let a = p.place t in let b = q.place (p.buffer.3 t) in (
+    omega (arith, a.0, b.0),
+    b.1 ∙ ap (last_of (length new.source.left)) a.1 ∙ last_last (length new.source.left) (length old.source.left) start.source.left b.0 a.0,
+  );
+}
+
+-- a run goes on behind a refusal of the layout
+pub run_on : (start new : Meaning) (n : ℕ) (e : ErrorKind) → IsTrue (of_layout e) → KeepsRun start n (Some e) new → KeepsRun start n None new
+run_on start new n e layout p = record {
+  buffer = (p.buffer.0, p.buffer.1, no_fault start.source new.source e layout p.buffer.2, p.buffer.3);
+  fault = λ x. cc;
+  cost = p.cost;
+  place = p.place;
+}
+
+-- no memory was found for an answer
+pub run_without_memory : (start new : Meaning) (n : ℕ) → KeepsRun start n None new → KeepsRun start (n + 1) (Some OutOfMemory) new
+run_without_memory start new n p = record {
+  buffer = p.buffer;
+  fault = λ x. cc;
+  cost = λ t. let m = p.cost t in (m.0, omega (arith, m.1));
+  place = p.place;
+}
+
+-- a header that stopped it
+pub run_stops : (start old new : Meaning) (n : ℕ) (s : Stop) → KeepsRun start n None old → Keeps old (Some (stop_kind s)) new → KeepsRun start (n + 1) (stopped_by {A = perf_event_header} (Err s)) new
+run_stops start old new n stop.Done p q = run_on start new (n + 1) Eof refl (run_more start old new n (Some Eof) p q)
+run_stops start old new n stop.CutHeader p q = run_on start new (n + 1) Eof refl (run_more start old new n (Some Eof) p q)
+run_stops start old new n (stop.Refused r) p q = run_more start old new n (Some (refusal_kind r)) p q
+
+-- an answer that was listed
+pub run_lists : (start old new : Meaning) (pairs now : Pairs) (h : perf_event_header) (r : Result Record ParseError) → now ≡ pairs ++ (h, r) ∷ [] → IsListed r →
+    KeepsRun start (refused_count pairs) None old → Keeps old (refused (error_kinds r)) new → KeepsRun start (refused_count now + 0) None new
+run_lists start old new pairs now h (Ok r) e listed p q =
+    let sum : refused_count now + 0 ≡ refused_count pairs + 0 = omega (arith, ap refused_count e ∙ one_more_refused pairs h (Ok r)) in
+    subst (λ (n : ℕ). KeepsRun start n None new) (sym sum) (run_more start old new (refused_count pairs) None p q)
+run_lists start old new pairs now h (Err x) e listed p q =
+    let sum : refused_count now + 0 ≡ refused_count pairs + 1 = omega (arith, ap refused_count e ∙ one_more_refused pairs h (Err x)) in
+    subst (λ (n : ℕ). KeepsRun start n None new) (sym sum)
+    (run_on start new (refused_count pairs + 1) (kind_of x) listed (run_more start old new (refused_count pairs) (Some (kind_of x)) p q))
+
+-- ---- what is said of an answer
+
+pub said_frame : (old mid new : Meaning) (h : perf_event_header) (r : Result Record ParseError) → 8 ≤ length old.source.left → h ≡ header_of old.order old.source.left →
+    mid.settings ≡ old.settings → mid.order ≡ old.order → mid.source.left ≡ drop 8 old.source.left → mid.reads ≡ old.reads + 2 → IsListed r → SaysBehind h mid (error_kinds r) new →
+    (said r ≡ answer_of_frame old.settings old.order old.source.left) × (new.source.left ≡ drop (frame_length old.order old.source.left) old.source.left)
+    × (new.reads ≡ old.reads + listed_reads old.settings old.order old.source.left)
+said_frame old mid new h r fits e same_settings same_order m count listed p =
+    let says = told_listed h mid new r listed p in
+    let bytes : List ℕ = old.source.left in let c : Configuration = old.settings in let o : Order = old.order in
+    let answer : answer_behind mid.settings mid.order h mid.source.left ≡ answer_of_frame c o bytes =
+    ap (λ k. answer_behind k mid.order h mid.source.left) same_settings ∙ ap (λ k. answer_behind c k h mid.source.left) same_order
+    ∙ ap (answer_behind c o h) m ∙ ap (λ k. answer_behind c o k (drop 8 bytes)) e ∙ sym (answer_whole c o bytes fits) in
+    let reads : reads_behind mid.settings mid.order h mid.source.left ≡ reads_behind c o (header_of o bytes) (drop 8 bytes) =
+    ap (λ k. reads_behind k mid.order h mid.source.left) same_settings ∙ ap (λ k. reads_behind c k h mid.source.left) same_order
+    ∙ ap (reads_behind c o h) m ∙ ap (λ k. reads_behind c o k (drop 8 bytes)) e in
+    (sym says.0 ∙ answer, frame_behind o bytes mid.source.left new.source.left h e m says.1, omega (arith, says.2, count, reads))
+  where
+    told_listed : (h : perf_event_header) (mid new : Meaning) (r : Result Record ParseError) → IsListed r → SaysBehind h mid (error_kinds r) new →
+        (answer_behind mid.settings mid.order h mid.source.left ≡ said r) × (new.source.left ≡ drop (body_length h) mid.source.left)
+        × (new.reads ≡ mid.reads + reads_behind mid.settings mid.order h mid.source.left)
+    told_listed h mid new (Ok r) listed p = p
+    told_listed h mid new (Err x) listed p = p listed
+
+-- ---- the public end
+
+-- a reader of which nothing that a run speaks of has changed
+pub same_meaning : {B E : Type 0} (source : B → Source) (order : E → Order) (a b : Reader (Outer B) E) → reader.buffer_of a ≡ reader.buffer_of b → reader.config_of a ≡ reader.config_of b →
+    reader.reads_of a ≡ reader.reads_of b → reader.meaning (λ (o : Outer B). source o.buf) order a ≡ reader.meaning (λ (o : Outer B). source o.buf) order b
+same_meaning source order a b buffer config reads = rw (buffer, config, reads) refl
+
+pub run_ends : (start new : Meaning) (n : ℕ) (s : Stop) (e : RunEnd) → IsEndOf s e → KeepsRun start (n + 1) (stopped_by {A = Unit {0}} (Err s)) new → KeepsRun start (n + one_if_ended e) (end_refusal e) new
+run_ends start new n stop.Done e is k = subst (λ (x : RunEnd). KeepsRun start (n + one_if_ended x) (end_refusal x) new) (sym is) k
+run_ends start new n stop.CutHeader e is k = subst (λ (x : RunEnd). KeepsRun start (n + one_if_ended x) (end_refusal x) new) (sym is) k
+run_ends start new n (stop.Refused r) e is k =
+    subst (λ (x : RunEnd). KeepsRun start (n + one_if_ended x) (end_refusal x) new) (sym is.1) (subst (λ (kind : ErrorKind). KeepsRun start (n + 1) (Some kind) new) (sym is.2) k)
+
+pub run_limit : (start new : Meaning) (n : ℕ) → KeepsRun start n None new → KeepsRun start (n + 0) None new
+run_limit start new n k = let same : n + 0 ≡ n = omega arith in subst (λ (m : ℕ). KeepsRun start m None new) (sym same) k

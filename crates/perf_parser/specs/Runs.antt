@@ -1,0 +1,202 @@
+-- What a run over a stream lists, how it ends, what it leaves, and how many elementary reads it makes.
+use Rattle.std.specs.Prelude.{Option, Some, None, Result, Ok, Err, Bool, true, false, IsTrue}
+use Rattle.std.specs.Prelude.{◌≡◌, ℕ, ◌+◌, ◌<◌, ◌≤◌, min, List, [], ◌∷◌, ◌++◌, map, length, drop, sum_by}
+use Rattle.perf_base.specs.Configuration.{Configuration}
+use Rattle.perf_base.specs.Errors.{kind_of}
+use Rattle.perf_base.specs.Header.{header_of}
+use Rattle.perf_base.specs.Order.{Order}
+use Rattle.perf_base.specs.Refusals.{refusal_kind, error_kinds}
+use Rattle.perf_base.specs.declared.error.ErrorKind.{ErrorKind}
+use Rattle.perf_base.specs.declared.error.ErrorKind.TheVariants.{Eof}
+use Rattle.perf_base.specs.declared.error.ParseError.{ParseError}
+use Rattle.perf_base.specs.declared.refusal.Refusal.{Refusal}
+use Rattle.perf_base.specs.declared.sys.perf_event_header.{perf_event_header}
+use Rattle.perf_buffers.specs.Buffer.{Stays}
+use Rattle.perf_reader.specs.Meaning.{Meaning}
+use Rattle.perf_reader.specs.Reading.{Says, of_layout, last_of, is_external}
+use Rattle.perf_records.specs.Answers.{answer_of_frame, reads_behind}
+use Rattle.perf_records.specs.Frames.{frame_length, first_frames, frames, behind_frames}
+use Rattle.perf_records.specs.Frames.{stream_end, done, cut_header}
+use Rattle.perf_records.specs.Records.{RecordValue, record_value, IsBorrowed}
+use Rattle.perf_records.specs.declared.record.Record.{Record}
+use Rattle.perf_parser.specs.declared.runs.Run.{Run}
+use Rattle.perf_parser.specs.declared.runs.RunEnd.{RunEnd}
+use Rattle.perf_parser.specs.declared.runs.RunEnd.TheVariants as end
+use Rattle.perf_parser.specs.declared.runs.Stop.{Stop}
+use Rattle.perf_parser.specs.declared.runs.Stop.TheVariants as stop
+
+-- ---- what it lists
+
+-- what a run lists: the header of each frame, and its answer
+abbrev pub Pairs : Type 0
+Pairs = List (perf_event_header × Result Record ParseError)
+
+-- a record by its value, a refusal by its kind
+abbrev pub said : Result Record ParseError → Result RecordValue ErrorKind
+said (Ok r) = Ok (record_value r)
+said (Err e) = Err (kind_of e)
+
+-- the headers and answers, in the words of the definition of answers
+abbrev pub pairs_said : Pairs → List (perf_event_header × Result RecordValue ErrorKind)
+pairs_said pairs = map (λ pair. (pair.0, said pair.1)) pairs
+
+-- the same of a run
+abbrev pub listed : Run → List (perf_event_header × Result RecordValue ErrorKind)
+listed run = pairs_said run.frames.items
+
+-- how many frames it lists
+abbrev pub listed_count : Run → ℕ
+listed_count run = length run.frames.items
+
+-- one for each refused answer
+abbrev pub refused_count : Pairs → ℕ
+refused_count [] = 0
+refused_count (pair ∷ pairs) = elim (pair.1) [ Ok r ↦ refused_count pairs | Err e ↦ 1 + refused_count pairs ]
+
+-- no byte string of an answer was copied
+abbrev pub is_borrowed_answer : Result Record ParseError → Type 0
+is_borrowed_answer (Ok r) = IsBorrowed r
+is_borrowed_answer (Err e) = Unit {0}
+
+-- no byte string of any was
+abbrev pub AllBorrowed : Pairs → Type 0
+AllBorrowed [] = Unit {0}
+AllBorrowed (pair ∷ pairs) = is_borrowed_answer pair.1 × AllBorrowed pairs
+
+-- ---- how many reads it makes
+
+-- the reads of a frame, by its bytes: two for its header, and those of what stands behind that
+abbrev pub listed_reads : Configuration → Order → List ℕ → ℕ
+listed_reads c o frame = 2 + reads_behind c o (header_of o frame) (drop 8 frame)
+
+-- those of the first k frames
+abbrev pub first_reads : Configuration → Order → ℕ → List ℕ → ℕ
+first_reads c o k bytes = sum_by (listed_reads c o) (first_frames o k bytes)
+
+-- The reads of a run that listed k frames: theirs, one more where nothing is left, two where a header is cut; those of a
+-- fault are bounded alone.
+abbrev pub CountsReads : Configuration → Order → List ℕ → (k : ℕ) → RunEnd → (old new : ℕ) → Type 0
+CountsReads c o bytes k end.Limit old new = new ≡ old + first_reads c o k bytes
+CountsReads c o bytes k end.Done old new = new ≡ old + first_reads c o k bytes + 1
+CountsReads c o bytes k end.CutHeader old new = new ≡ old + first_reads c o k bytes + 2
+CountsReads c o bytes k (end.Fault e) old new = old + first_reads c o k bytes ≤ new
+
+-- ---- how it ends, and what it leaves
+
+-- the kind of the fault that ended it, if one did
+abbrev pub end_refusal : RunEnd → Option ErrorKind
+end_refusal end.Limit = None
+end_refusal end.Done = None
+end_refusal end.CutHeader = None
+end_refusal (end.Fault e) = Some (kind_of e)
+
+-- one where it ended before its limit
+abbrev pub one_if_ended : RunEnd → ℕ
+one_if_ended end.Limit = 0
+one_if_ended end.Done = 1
+one_if_ended end.CutHeader = 1
+one_if_ended (end.Fault e) = 1
+
+-- the bytes of the next frame, or of a cut header
+abbrev pub next_length : Order → List ℕ → ℕ
+next_length o bytes = min (frame_length o bytes) (length bytes)
+
+-- left is what stood there, but for a beginning of the next frame
+abbrev pub LeavesWithin : Order → List ℕ → List ℕ → Type 0
+LeavesWithin o bytes left =
+    (length left ≤ length bytes) × (length bytes ≤ length left + next_length o bytes)
+    × (left ≡ last_of (length left) bytes)
+
+-- How a run over these bytes ends that has listed k frames, and what it leaves: at its limit the bytes behind those
+-- frames; with all frames listed nothing, where the stream is done or its last header is cut; and after a fault, which is
+-- none of the layout's refusals, the bytes behind those frames but for a beginning of the next one.
+abbrev pub EndsWith : Order → (limit : ℕ) → List ℕ → (k : ℕ) → RunEnd → List ℕ → Type 0
+EndsWith o limit bytes k end.Limit left = (k ≡ limit) × (left ≡ behind_frames o k bytes)
+EndsWith o limit bytes k end.Done left =
+    (k < limit) × (k ≡ length (frames o bytes)) × (stream_end o bytes ≡ done) × (left ≡ [])
+EndsWith o limit bytes k end.CutHeader left =
+    (k < limit) × (k ≡ length (frames o bytes)) × (stream_end o bytes ≡ cut_header) × (left ≡ [])
+EndsWith o limit bytes k (end.Fault e) left =
+    (k < limit) × (IsTrue (of_layout (kind_of e)) → ⊥) × LeavesWithin o (behind_frames o k bytes) left
+
+-- What lies between two moments of a run that answered so many refusals, the second of them behind the one that ended it,
+-- if one did.
+pub record KeepsRun (start : Meaning) (refusals : ℕ) (e : Option ErrorKind) (new : Meaning) : Type 0 where
+  -- the buffer stays what it is, and its faults are counted
+  pub buffer : Stays start.source e new.source
+  -- a fault comes only from a buffer that can fault
+  pub fault : is_external e ≡ true → IsTrue start.source.can_fault
+  -- at most as many reads as bytes taken, and one more for each refusal
+  pub cost : IsTrue start.source.told → (start.reads ≤ new.reads)
+      × (new.reads + length new.source.left ≤ start.reads + length start.source.left + refusals)
+  -- what is left is an end of what was left
+  pub place : IsTrue start.source.told → (length new.source.left ≤ length start.source.left)
+      × (new.source.left ≡ last_of (length new.source.left) start.source.left)
+
+-- ---- one frame of it
+
+-- a header by its bytes, or by the kind of what stops a run there: the end, where bytes are lacking
+abbrev pub stop_kind : Stop → ErrorKind
+stop_kind stop.Done = Eof
+stop_kind stop.CutHeader = Eof
+stop_kind (stop.Refused r) = refusal_kind r
+
+-- the same of an answer
+abbrev pub stop_kinds : {A : Type 0} → Result A Stop → Result A ErrorKind
+stop_kinds (Ok x) = Ok x
+stop_kinds (Err s) = Err (stop_kind s)
+
+-- the refusal that stopped it, if one did
+abbrev pub stopped_by : {A : Type 0} → Result A Stop → Option ErrorKind
+stopped_by (Ok x) = None
+stopped_by (Err stop.Done) = None
+stopped_by (Err stop.CutHeader) = None
+stopped_by (Err (stop.Refused r)) = Some (refusal_kind r)
+
+-- one where it stopped
+abbrev pub one_if_stopped : {A : Type 0} → Result A Stop → ℕ
+one_if_stopped (Ok x) = 0
+one_if_stopped (Err s) = 1
+
+-- a header was read: the next eight bytes, in two reads
+abbrev pub ReadsHeader : Says perf_event_header
+ReadsHeader old (Ok h) new =
+    (8 ≤ length old.source.left) × (h ≡ header_of old.order old.source.left)
+    × (new.source.left ≡ drop 8 old.source.left) × (new.reads ≡ old.reads + 2)
+ReadsHeader old (Err e) new = Unit {0}
+
+-- How a run stops at a frame: nothing is left, its header is cut, or there is a refusal that is not of the layout.
+abbrev pub StopsAt : Meaning → Stop → Meaning → Type 0
+StopsAt old stop.Done new =
+    (old.source.left ≡ []) × (new.source.left ≡ []) × (new.reads ≡ old.reads + 1)
+StopsAt old stop.CutHeader new =
+    (0 < length old.source.left) × (length old.source.left < 8) × (new.source.left ≡ [])
+    × (new.reads ≡ old.reads + 2)
+StopsAt old (stop.Refused r) new =
+    (IsTrue (of_layout (refusal_kind r)) → ⊥) × LeavesWithin old.order old.source.left new.source.left
+
+-- how a run ends that stopped so
+abbrev pub IsEndOf : Stop → RunEnd → Type 0
+IsEndOf stop.Done e = e ≡ end.Done
+IsEndOf stop.CutHeader e = e ≡ end.CutHeader
+IsEndOf (stop.Refused r) e = (x : ParseError) × (e ≡ end.Fault x) × (kind_of x ≡ refusal_kind r)
+
+-- an answer that is listed is neither a fault nor want of memory
+abbrev pub IsListed : Result Record ParseError → Type 0
+IsListed (Ok r) = Unit {0}
+IsListed (Err e) = IsTrue (of_layout (kind_of e))
+
+-- an answer that is listed, or the refusal that stops the run
+abbrev pub answer_kinds : Result (Result Record ParseError) Refusal → Result Record ErrorKind
+answer_kinds (Ok r) = error_kinds r
+answer_kinds (Err e) = Err (refusal_kind e)
+
+-- one more frame was listed: the next one, which was taken whole
+abbrev pub ListsNext : Meaning → (was now : Pairs) → Meaning → Type 0
+ListsNext old was now new =
+    (h : perf_event_header) × (r : Result Record ParseError) × (now ≡ was ++ (h, r) ∷ [])
+    × (IsTrue old.source.whole → is_borrowed_answer r)
+    × (IsTrue old.source.told → (8 ≤ length old.source.left) × (h ≡ header_of old.order old.source.left)
+    × (said r ≡ answer_of_frame old.settings old.order old.source.left)
+    × (new.source.left ≡ drop (frame_length old.order old.source.left) old.source.left)
+    × (new.reads ≡ old.reads + listed_reads old.settings old.order old.source.left))

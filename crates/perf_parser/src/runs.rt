@@ -1,0 +1,246 @@
+//! Runs over a stream of records.
+
+ghost use Rattle.std.specs.Prelude.{◌≡◌, ◌+◌, ◌≤◌, ◌++◌, take, length};
+ghost use Rattle.std.specs.Prelude.{IsTrue, IfOk, IfErr, OnOk, OnErr, None};
+ghost use Rattle.perf_base.specs.Configured.{endian_of};
+ghost use Rattle.perf_base.specs.Header.{header_of};
+ghost use Rattle.perf_buffers.specs.Taking.{MovesWithin};
+ghost use Rattle.perf_parser.specs.Runs.{listed, listed_count, refused_count, AllBorrowed};
+ghost use Rattle.perf_parser.specs.Runs.{end_refusal, one_if_ended, EndsWith, CountsReads, KeepsRun};
+ghost use Rattle.perf_parser.specs.Runs.{stop_kind, stop_kinds, stopped_by, one_if_stopped};
+ghost use Rattle.perf_parser.specs.Runs.{ReadsHeader, StopsAt, IsEndOf, IsListed, ListsNext};
+ghost use Rattle.perf_parser.specs.Runs.{answer_kinds, is_borrowed_answer};
+ghost use Rattle.perf_parser.specs.Words.{buffer_of, config_of, reads_of, meaning};
+ghost use Rattle.perf_reader.specs.Meaning as low;
+ghost use Rattle.perf_reader.specs.Reading.{of_layout};
+ghost use Rattle.perf_reader.specs.Words.{Call, Meaning, input_of, refusal_kind};
+ghost use Rattle.perf_records.specs.Answers.{SaysBehind, answers, body_length};
+
+use crate::parser::Parser;
+use perf_base::endian::Endian;
+use perf_base::error::{ErrorKind, ParseError, ParseResult};
+use perf_base::refusal::{ReadResult, Refusal};
+use perf_base::sys::perf_event_header;
+use perf_buffers::input::Input;
+use perf_buffers::outer::Outer;
+use perf_buffers::parsebuf::ParseBuf;
+use perf_reader::reader::Reader;
+use perf_records::frame::read_behind;
+use perf_records::record::Record;
+
+/// The frames that a run met, each with its header and its answer, and how the run ended.
+#[derive(Debug, Drop)]
+pub struct Run<'p> {
+    /// The header of each frame, and its record or why there is none.
+    pub frames: Vec<(perf_event_header, ParseResult<Record<'p>>)>,
+    /// How the run ended.
+    pub end: RunEnd,
+}
+
+/// How a run ended.
+#[derive(Debug, Drop)]
+pub enum RunEnd {
+    /// It listed as many frames as it was asked for.
+    Limit,
+    /// Nothing was left.
+    Done,
+    /// Fewer bytes were left than a header has.
+    CutHeader,
+    /// The buffer could not go on, or memory was refused. Of the frame that was being read a
+    /// beginning is consumed.
+    Fault(ParseError),
+}
+
+// Why a run stops before its limit.
+#[derive(Copy, Clone)]
+enum Stop {
+    // Nothing is left.
+    Done,
+    // Fewer bytes are left than a header has.
+    CutHeader,
+    // The buffer could not go on, or memory was refused.
+    Refused(Refusal),
+}
+
+// The header whose eight bytes are these.
+#[inline]
+fn header_from<E: Endian>(endian: &E, first: [u8; 1], others: [u8; 7]) -> perf_event_header
+    ensures { result ≡ header_of (E.order endian.now) (first ++ others) }
+{
+    let [b0] = first;
+    let [b1, b2, b3, b4, b5, b6, b7] = others;
+    perf_event_header {
+        type_: endian.convert_u32([b0, b1, b2, b3]),
+        misc: endian.convert_u16([b4, b5]),
+        size: endian.convert_u16([b6, b7]),
+    }
+}
+
+// Why a run stops that cannot read the first byte of a header, or the others.
+#[inline]
+fn stop_at(refusal: Refusal, at_end: Stop) -> Stop
+    ensures eof { refusal_kind refusal ≡ ErrorKind.Eof → result ≡ at_end }
+    ensures other { (refusal_kind refusal ≡ ErrorKind.Eof → ⊥) → result ≡ Stop.Refused refusal }
+{
+    if refusal.kind() == ErrorKind::Eof {
+        at_end
+    } else {
+        Stop::Refused(refusal)
+    }
+}
+
+// The header of the next frame: its first byte, of which there may be none, and the other seven.
+#[inline]
+fn read_header<'p, I: Input<'p>, E: Endian>(
+    reader: &mut Reader<I, E>,
+) -> Result<perf_event_header, Stop>
+    ensures stop { IsTrue (I.source (input_of reader.old)).told → IfErr result (λ s.
+        StopsAt (low.meaning I.source E.order reader.old) s
+        (low.meaning I.source E.order reader.new)) }
+    ensures call { Call I.source E.order ReadsHeader
+        reader.old (stop_kinds result) reader.new }
+{
+    let first = match reader.read_array::<1>() {
+        Ok(bytes) => bytes,
+        Err(refusal) => return Err(stop_at(refusal, Stop::Done)),
+    };
+    let others = match reader.read_array::<7>() {
+        Ok(bytes) => bytes,
+        Err(refusal) => return Err(stop_at(refusal, Stop::CutHeader)),
+    };
+    Ok(header_from(reader.endian(), first, others))
+}
+
+// The answer of a frame behind its header, where a run lists it; else the fault or the want of
+// memory that stops the run.
+#[inline]
+fn read_answer<'p, B: ParseBuf<'p>, E: Endian>(
+    reader: &mut Reader<Outer<B>, E>,
+    header: perf_event_header,
+) -> ReadResult<ParseResult<Record<'p>>>
+    ensures within { IsTrue (B.source (low.buffer_of reader.old)).told →
+        MovesWithin (B.source (low.buffer_of reader.old)) (body_length header)
+        (B.source (low.buffer_of reader.new)) }
+    ensures borrowed { IsTrue (B.source (low.buffer_of reader.old)).whole →
+        IfOk result (λ r. is_borrowed_answer r) }
+    ensures listed { IfOk result (λ r. IsListed r) }
+    ensures stops { IfErr result (λ e. IsTrue (of_layout (refusal_kind e)) → ⊥) }
+    ensures call { Call (λ (o : Outer B). B.source o.buf) E.order (SaysBehind header)
+        reader.old (answer_kinds result) reader.new }
+{
+    match read_behind(reader, header) {
+        Ok(record) => Ok(Ok(record)),
+        Err(refusal) => match refusal.kind() {
+            ErrorKind::External | ErrorKind::OutOfMemory => Err(refusal),
+            ErrorKind::Eof
+            | ErrorKind::InvalidRecord
+            | ErrorKind::UnsupportedConfig
+            | ErrorKind::UnsupportedData => Ok(Err(reader.answer(refusal))),
+        },
+    }
+}
+
+// Reads one frame and lists it, or says why the run stops. Room for the answer is made first.
+#[inline]
+fn read_next<'p, B: ParseBuf<'p>, E: Endian>(
+    reader: &mut Reader<Outer<B>, E>,
+    frames: &mut Vec<(perf_event_header, ParseResult<Record<'p>>)>,
+) -> Result<(), Stop>
+    ensures config { low.config_of reader.new ≡ low.config_of reader.old }
+    ensures listed { OnOk result (ListsNext
+        (low.meaning (λ (o : Outer B). B.source o.buf) E.order reader.old) frames.old.items
+        frames.new.items (low.meaning (λ (o : Outer B). B.source o.buf) E.order reader.new)) }
+    ensures kept { OnErr result (frames.new.items ≡ frames.old.items) }
+    ensures stop { IsTrue (B.source (low.buffer_of reader.old)).told → IfErr result (λ s.
+        StopsAt (low.meaning (λ (o : Outer B). B.source o.buf) E.order reader.old) s
+        (low.meaning (λ (o : Outer B). B.source o.buf) E.order reader.new)) }
+    ensures keeps { (start : Meaning) → KeepsRun start (refused_count frames.old.items) None
+        (low.meaning (λ (o : Outer B). B.source o.buf) E.order reader.old) →
+        KeepsRun start (refused_count frames.new.items + one_if_stopped result)
+        (stopped_by result)
+        (low.meaning (λ (o : Outer B). B.source o.buf) E.order reader.new) }
+{
+    if frames.reserve(1).is_err() {
+        return Err(Stop::Refused(Refusal::OutOfMemory));
+    }
+    let header = match read_header(reader) {
+        Ok(header) => header,
+        Err(stop) => return Err(stop),
+    };
+    let answer = match read_answer(reader, header) {
+        Ok(answer) => answer,
+        Err(refusal) => return Err(Stop::Refused(refusal)),
+    };
+    frames.push((header, answer)).unwrap();
+    Ok(())
+}
+
+// How a run ends that stopped so.
+fn end_of<'p, B: ParseBuf<'p>, E: Endian>(reader: &mut Reader<Outer<B>, E>, stop: Stop) -> RunEnd
+    ensures end { IsEndOf stop result }
+    ensures buf { low.buffer_of reader.new ≡ low.buffer_of reader.old }
+    ensures config { low.config_of reader.new ≡ low.config_of reader.old }
+    ensures reads { low.reads_of reader.new ≡ low.reads_of reader.old }
+{
+    match stop {
+        Stop::Done => RunEnd::Done,
+        Stop::CutHeader => RunEnd::CutHeader,
+        Stop::Refused(refusal) => RunEnd::Fault(reader.answer(refusal)),
+    }
+}
+
+/// Reads the records of the next frames, at most `limit`.
+///
+/// A refused frame costs that one answer, and the next frame begins at its end. Only a fault of the
+/// buffer and want of memory end a run early, and they are not listed.
+pub fn read_records<'p, B: ParseBuf<'p>, E: Endian>(
+    parser: &mut Parser<B, E>,
+    limit: usize,
+) -> Run<'p>
+    ensures config { config_of parser.new ≡ config_of parser.old }
+
+    // What is listed are the first answers of the bytes.
+    ensures answers { IsTrue (B.source (buffer_of parser.old)).told →
+        listed result ≡ take (listed_count result)
+        (answers (meaning B.source E.order parser.old).settings
+        (meaning B.source E.order parser.old).order (B.source (buffer_of parser.old)).left) }
+
+    ensures count { listed_count result ≤ limit }
+
+    // How it ends, and what it leaves.
+    ensures end { IsTrue (B.source (buffer_of parser.old)).told →
+        EndsWith (meaning B.source E.order parser.old).order limit
+        (B.source (buffer_of parser.old)).left (listed_count result) result.end
+        (B.source (buffer_of parser.new)).left }
+
+    // How many elementary reads it makes: those of the frames that it lists, and those of its end.
+    ensures reads { IsTrue (B.source (buffer_of parser.old)).told →
+        CountsReads (meaning B.source E.order parser.old).settings
+        (meaning B.source E.order parser.old).order (B.source (buffer_of parser.old)).left
+        (listed_count result) result.end (reads_of parser.old) (reads_of parser.new) }
+
+    // At most as many of them as bytes taken, and one more for each refused answer and for an end
+    // before the limit.
+    ensures keeps { KeepsRun (meaning B.source E.order parser.old)
+        (refused_count result.frames.items + one_if_ended result.end) (end_refusal result.end)
+        (meaning B.source E.order parser.new) }
+
+    // Over a slice no byte string is copied.
+    ensures borrowed { IsTrue (B.source (buffer_of parser.old)).whole →
+        AllBorrowed result.frames.items }
+{
+    let mut frames = Vec::new(parser.reader.alloc());
+    for _ in 0..limit {
+        match read_next(&mut parser.reader, &mut frames) {
+            Ok(()) => {}
+            Err(stop) => {
+                let end = end_of(&mut parser.reader, stop);
+                return Run { frames, end };
+            }
+        }
+    }
+    Run {
+        frames,
+        end: RunEnd::Limit,
+    }
+}
