@@ -53,7 +53,7 @@ returns-in-Ok-read_behind g c =
     let rest = c.in-Ok-read_behind.ensures.call in
     let behind = c.in-Ok-read_behind.ensures in
     let P : ParseConfig g.row.E.Denot → Type 0 = λ k. Tells record_value (answer_behind (configuration_of k) (g.E.Endian.order (endian_of k)) header mid.source.left) (body_length header)
-        (reads_behind (configuration_of k) (g.E.Endian.order (endian_of k)) header mid.source.left) mid seen new in record {
+    (reads_behind (configuration_of k) (g.E.Endian.order (endian_of k)) header mid.source.left) mid seen new in record {
       call = record {
         config = rest.config ∙ read.config;
         whole = rest.whole ∙ read.whole;
@@ -81,7 +81,7 @@ returns-in-Err-read_behind g c =
     let rest = c.in-Err-read_behind.ensures.call in
     let behind = c.in-Err-read_behind.ensures in
     let P : ParseConfig g.row.E.Denot → Type 0 = λ k. Tells record_value (answer_behind (configuration_of k) (g.E.Endian.order (endian_of k)) header mid.source.left) (body_length header)
-        (reads_behind (configuration_of k) (g.E.Endian.order (endian_of k)) header mid.source.left) mid seen new in record {
+    (reads_behind (configuration_of k) (g.E.Endian.order (endian_of k)) header mid.source.left) mid seen new in record {
       call = record {
         config = rest.config ∙ read.config;
         whole = rest.whole ∙ read.whole;
