@@ -4,28 +4,10 @@
 //! [`read_records`] answers every frame of a stream, a refused one by its error.
 #![tactic(auto)]
 
-mod attribute;
-mod bytes;
-mod frames;
-mod lists;
-mod mmap2;
-mod names;
-mod namespaces;
-mod numbers;
-mod optional;
-pub mod parse;
-mod parser;
-mod pokes;
-mod records;
-mod rest;
-mod runs;
-mod sample_ids;
-mod zeros;
-
-pub use crate::runs::{Run, RunEnd, read_records};
 pub use perf_base::cow::CowSlice;
 pub use perf_base::{endian, sys};
 pub use perf_buffers::pieces::PieceBuf;
+pub use perf_parser::{Run, RunEnd, parse, read_records};
 pub use perf_records::metadata::RecordMetadata;
 pub use perf_records::record::Record;
 pub use perf_types::aux_output_hw_id::AuxOutputHwId;
