@@ -9,8 +9,8 @@ use Rattle.perf_base.specs.Configuration.{Configuration}
 use Rattle.perf_base.specs.declared.sys.perf_event_header.{perf_event_header}
 use Rattle.perf_base.specs.declared.error.ErrorKind.{ErrorKind}
 use Rattle.perf_records.specs.Records.{RecordValue}
-use Rattle.perf_event_data.specs.Frames.{frame_length, first_frames, frames, behind_frames, stream_end, end_with}
-use Rattle.perf_event_data.specs.Answers.{answers, answer_of_frame}
+use Rattle.perf_records.specs.Frames.{frame_length, first_frames, frames, behind_frames, stream_end, end_with}
+use Rattle.perf_records.specs.Answers.{answers, answer_of_frame}
 
 -- ---- frames
 

@@ -14,9 +14,9 @@ use Rattle.perf_base.specs.declared.sys.perf_event_attr.{perf_event_attr}
 use Rattle.perf_base.proofs.Tables.{places_layout}
 use Rattle.perf_base.specs.declared.error.ErrorKind.{ErrorKind}
 use Rattle.perf_base.specs.declared.error.ErrorKind.TheVariants.{Eof, InvalidRecord, UnsupportedConfig, UnsupportedData, External, OutOfMemory}
-use Rattle.perf_event_data.specs.Frames.{StreamEnd, done, cut_header, stream_end}
-use Rattle.perf_event_data.specs.Answers.{answers}
-use Rattle.perf_event_data.specs.Reading.{of_layout}
+use Rattle.perf_records.specs.Frames.{StreamEnd, done, cut_header, stream_end}
+use Rattle.perf_records.specs.Answers.{answers}
+use Rattle.perf_reader.specs.Reading.{of_layout}
 use Rattle.perfrec.specs.declared.outcome.Outcome.{Outcome}
 use Rattle.perfrec.specs.declared.outcome.Outcome.TheVariants.{Clean, Refused, BadAttr, Faulted, Stopped}
 use Rattle.perfrec.specs.Text.{lines_from, end_line, printed, is_at_limit, text, end_name, kind_name, Stream, framed, without_frames, behind_attribute, stream_text, attr_line}

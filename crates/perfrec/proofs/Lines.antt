@@ -7,8 +7,8 @@ use Rattle.perf_base.specs.declared.error.ErrorKind.{ErrorKind}
 use Rattle.perf_base.specs.declared.error.ParseError.{ParseError}
 use Rattle.perf_records.specs.Records.{RecordValue}
 use Rattle.perf_records.specs.declared.record.Record.{Record}
-use Rattle.perf_event_data.specs.Answers.{said}
-use Rattle.perf_event_data.specs.Runs.{pairs_said}
+use Rattle.perf_parser.specs.Runs.{said}
+use Rattle.perf_parser.specs.Runs.{pairs_said}
 use Rattle.perfrec.specs.Text.{line, ended, lines_from}
 
 pub lines_append : (first : ℕ) (xs ys : List (perf_event_header × Result RecordValue ErrorKind)) → lines_from first (xs ++ ys) ≡ lines_from first xs ++ lines_from (first + length xs) ys

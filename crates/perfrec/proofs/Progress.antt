@@ -12,9 +12,10 @@ use Rattle.perf_base.specs.declared.error.ErrorKind.{ErrorKind}
 use Rattle.perf_base.specs.declared.error.ParseError.{ParseError}
 use Rattle.perf_records.specs.Records.{RecordValue}
 use Rattle.perf_records.specs.declared.record.Record.{Record}
-use Rattle.perf_event_data.specs.Frames.{StreamEnd, frames, behind_frames, stream_end}
-use Rattle.perf_event_data.specs.Answers.{answers, answer_of_frame, said}
-use Rattle.perf_event_data.specs.Runs.{pairs_said}
+use Rattle.perf_records.specs.Frames.{StreamEnd, frames, behind_frames, stream_end}
+use Rattle.perf_records.specs.Answers.{answers, answer_of_frame}
+use Rattle.perf_parser.specs.Runs.{said}
+use Rattle.perf_parser.specs.Runs.{pairs_said}
 use Rattle.perf_base.specs.Header.{header_of}
 use Rattle.perfrec.specs.Text.{lines_from}
 use Rattle.perfrec.proofs.Lines.{lines_append}

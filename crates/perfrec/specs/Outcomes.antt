@@ -7,7 +7,7 @@ use Rattle.perf_base.specs.Order.{Order}
 use Rattle.perf_base.specs.Configuration.{Configuration}
 use Rattle.perf_base.specs.declared.error.ErrorKind.{ErrorKind}
 use Rattle.perf_base.specs.declared.error.ErrorKind.TheVariants.{External, OutOfMemory}
-use Rattle.perf_event_data.specs.Frames.{StreamEnd, done, cut_header, stream_end}
+use Rattle.perf_records.specs.Frames.{StreamEnd, done, cut_header, stream_end}
 use Rattle.perfrec.specs.declared.outcome.Outcome.{Outcome}
 use Rattle.perfrec.specs.declared.outcome.Outcome.TheVariants.{Clean, Refused, BadAttr, Faulted, Stopped}
 use Rattle.perfrec.specs.Text.{printed, is_at_limit, lines_from, end_line, kind_name, Stream, framed, without_frames, stream_answers, stream_text}

@@ -29,8 +29,8 @@ use Rattle.perf_types.specs.BpfEvent.{BpfEventValue}
 use Rattle.perf_types.specs.CGroup.{CGroupValue}
 use Rattle.perf_types.specs.TextPoke.{TextPokeValue}
 use Rattle.perf_records.specs.Records.{RecordValue, mmap_is, lost_is, comm_is, exit_is, throttle_is, unthrottle_is, fork_is, mmap2_is, aux_is, itrace_start_is, lost_samples_is, switch_is, switch_cpu_wide_is, namespaces_is, ksymbol_is, bpf_event_is, cgroup_is, text_poke_is, aux_output_hw_id_is, unknown_is}
-use Rattle.perf_event_data.specs.Frames.{StreamEnd, done, cut_header, stream_end}
-use Rattle.perf_event_data.specs.Answers.{answers}
+use Rattle.perf_records.specs.Frames.{StreamEnd, done, cut_header, stream_end}
+use Rattle.perf_records.specs.Answers.{answers}
 
 -- ---- words
 

@@ -2,8 +2,8 @@
 
 ghost use Rattle.std.specs.Prelude.{◌≡◌, ◌+◌, ◌<◌, ◌^◌, ◌++◌, codes, length, string_bytes, OnOk, IfOk, IfErr};
 ghost use Rattle.perf_base.specs.Errors.{kind_of};
-ghost use Rattle.perf_event_data.specs.Answers.{said};
-ghost use Rattle.perf_event_data.specs.Runs.{pairs_said};
+ghost use Rattle.perf_parser.specs.Runs.{said};
+ghost use Rattle.perf_parser.specs.Runs.{pairs_said};
 ghost use Rattle.perfrec.specs.Text.{spaced, kind_name, answer_words, line, ended, lines_from, end_line, attr_line};
 
 use crate::fields::push_number;

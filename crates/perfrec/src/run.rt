@@ -4,8 +4,8 @@ ghost use Rattle.std.specs.Prelude.{◌≡◌, ◌<◌, ◌++◌, List, ℕ, IsT
 ghost use Rattle.std.specs.List.{list_any};
 ghost use Rattle.perf_base.specs.Configured.{configuration_of, endian_of};
 ghost use Rattle.perf_base.specs.Errors.{kind_of};
-ghost use Rattle.perf_event_data.specs.Meaning.{buffer_of, config_of};
-ghost use Rattle.perf_event_data.specs.Reading.{of_layout};
+ghost use Rattle.perf_parser.specs.Meaning.{buffer_of, config_of};
+ghost use Rattle.perf_reader.specs.Reading.{of_layout};
 ghost use Rattle.perfrec.specs.Text.{framed, without_frames, stream_of, behind_attribute, attr_line, end_line, kind_name};
 ghost use Rattle.perfrec.specs.Outcomes.{Says, Writes};
 
@@ -149,10 +149,10 @@ fn push_run<'p, B: ParseBuf<'p>, E: Endian>(
     parser: &mut Parser<B, E>,
     limit: usize,
 ) -> Result<Outcome, AllocError>
-    ensures { IsTrue (B.source parser.old.buf).told → IfOk result (λ outcome. (written : List ℕ)
+    ensures { IsTrue (B.source (buffer_of parser.old)).told → IfOk result (λ outcome. (written : List ℕ)
         × (string_bytes text.new ≡ string_bytes text.old ++ written)
-        × Says (E.order (endian_of parser.old.config)) limit
-        (framed (configuration_of parser.old.config) (B.source parser.old.buf).left) outcome written) }
+        × Says (E.order (endian_of (config_of parser.old))) limit
+        (framed (configuration_of (config_of parser.old)) (B.source (buffer_of parser.old)).left) outcome written) }
 {
     let mut count = 0;
     let mut refused = false;

@@ -1,6 +1,6 @@
 use Rattle.std.proofs.Common.{◌≡◌, ◌+◌, ◌++◌, ℕ, List, [], ◌∷◌, string_bytes, arith, sym, ap, ◌∙◌, append_assoc, take}
-use Rattle.perf_event_data.specs.Answers.{said}
-use Rattle.perf_event_data.specs.Runs.{pairs_said}
+use Rattle.perf_parser.specs.Runs.{said}
+use Rattle.perf_parser.specs.Runs.{pairs_said}
 use Rattle.perfrec.specs.Text.{line, lines_from, ended}
 use Rattle.perfrec.proofs.Lines.{lines_more}
 use Rattle.perfrec.proofs.line.push_lines.Goals as goal

@@ -1,5 +1,5 @@
 use Rattle.std.proofs.Common.{◌≡◌, ◌+◌, ◌<◌, ◌^◌, ◌++◌, length, take, string_bytes}
-use Rattle.perf_event_data.specs.Runs.{pairs_said}
+use Rattle.perf_parser.specs.Runs.{pairs_said}
 use Rattle.perfrec.specs.Text.{lines_from}
 use Rattle.perfrec.proofs.line.push_lines.Given as goal
 

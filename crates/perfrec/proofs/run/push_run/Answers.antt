@@ -1,10 +1,10 @@
 use Rattle.std.proofs.Common.{◌≡◌, ℕ, ◌+◌, ◌<◌, ◌≤◌, ◌^◌, List, length, take, string_bytes, arith, subst, ap, ◌∙◌}
 use Rattle.std.specs.Prelude.{◌||◌, IsTrue}
-use Rattle.perf_event_data.specs.Frames.{behind_frames}
-use Rattle.perf_event_data.specs.Reading.{of_layout}
+use Rattle.perf_records.specs.Frames.{behind_frames}
+use Rattle.perf_reader.specs.Reading.{of_layout}
 use Rattle.perf_base.specs.Configured.{configuration_of, endian_of}
-use Rattle.perf_event_data.specs.Answers.{answers}
-use Rattle.perf_event_data.specs.Runs.{pairs_said, EndsWith}
+use Rattle.perf_records.specs.Answers.{answers}
+use Rattle.perf_parser.specs.Runs.{pairs_said, EndsWith}
 use Rattle.perfrec.proofs.Batches.{behind_more}
 use Rattle.perfrec.proofs.Progress.{Listed, batch_more, all_listed, ends_alike}
 use Rattle.perfrec.proofs.Endings.{Made, if_ok_map, made_to_end, made_to_cut, made_to_fault, ends_early}
@@ -18,16 +18,16 @@ returns-in-Done g c = λ told.
     let old : List ℕ = string_bytes c.args.text.now in
     let made : List ℕ = string_bytes c.loop-count.text in
     let now : List ℕ = string_bytes c.push_lines.new.text in
-    let order = g.E.Endian.order (endian_of start.config) in
-    let config = configuration_of start.config in
-    let bytes : List ℕ = (g.B.ParseBuf.source start.buf).left in
-    let left : List ℕ = (g.B.ParseBuf.source c.loop-count.parser.buf).left in
+    let order = g.E.Endian.order (endian_of start.reader.config) in
+    let config = configuration_of start.reader.config in
+    let bytes : List ℕ = (g.B.ParseBuf.source start.reader.input.buf).left in
+    let left : List ℕ = (g.B.ParseBuf.source c.loop-count.parser.reader.input.buf).left in
     let n : ℕ = c.loop-count.count in
     let pairs = r.result.frames.items in
     let k : ℕ = length pairs in
     let t = i.told told in
     let are = subst (λ p. pairs_said pairs ≡ take k (answers (configuration_of p) (g.E.Endian.order (endian_of p)) left)) i.config (r.ensures.answers t) in
-    let ends = rw c.in-Done.is at (subst (λ p. EndsWith (g.E.Endian.order (endian_of p)) c.min-batch.result left k r.result.end (g.B.ParseBuf.source r.new.parser.buf).left) i.config (r.ensures.end t)) in
+    let ends = rw c.in-Done.is at (subst (λ p. EndsWith (g.E.Endian.order (endian_of p)) c.min-batch.result left k r.result.end (g.B.ParseBuf.source r.new.parser.reader.input.buf).left) i.config (r.ensures.end t)) in
     let listed = i.listed told in
     let within : n + c.min-batch.result ≤ c.args.limit = omega (arith, c.min-batch.ensures, c.loop-count-test.true) in
     let fits : n + length c.deref.result.now < 2 ^ 64 = omega (arith, ap length c.deref.ensures.value, ends.0, within, c.ranges.limit.fits) in
@@ -49,16 +49,16 @@ returns-in-CutHeader g c = λ told.
     let old : List ℕ = string_bytes c.args.text.now in
     let made : List ℕ = string_bytes c.loop-count.text in
     let now : List ℕ = string_bytes c.push_lines.new.text in
-    let order = g.E.Endian.order (endian_of start.config) in
-    let config = configuration_of start.config in
-    let bytes : List ℕ = (g.B.ParseBuf.source start.buf).left in
-    let left : List ℕ = (g.B.ParseBuf.source c.loop-count.parser.buf).left in
+    let order = g.E.Endian.order (endian_of start.reader.config) in
+    let config = configuration_of start.reader.config in
+    let bytes : List ℕ = (g.B.ParseBuf.source start.reader.input.buf).left in
+    let left : List ℕ = (g.B.ParseBuf.source c.loop-count.parser.reader.input.buf).left in
     let n : ℕ = c.loop-count.count in
     let pairs = r.result.frames.items in
     let k : ℕ = length pairs in
     let t = i.told told in
     let are = subst (λ p. pairs_said pairs ≡ take k (answers (configuration_of p) (g.E.Endian.order (endian_of p)) left)) i.config (r.ensures.answers t) in
-    let ends = rw c.in-CutHeader.is at (subst (λ p. EndsWith (g.E.Endian.order (endian_of p)) c.min-batch.result left k r.result.end (g.B.ParseBuf.source r.new.parser.buf).left) i.config (r.ensures.end t)) in
+    let ends = rw c.in-CutHeader.is at (subst (λ p. EndsWith (g.E.Endian.order (endian_of p)) c.min-batch.result left k r.result.end (g.B.ParseBuf.source r.new.parser.reader.input.buf).left) i.config (r.ensures.end t)) in
     let listed = i.listed told in
     let within : n + c.min-batch.result ≤ c.args.limit = omega (arith, c.min-batch.ensures, c.loop-count-test.true) in
     let fits : n + length c.deref.result.now < 2 ^ 64 = omega (arith, ap length c.deref.ensures.value, ends.0, within, c.ranges.limit.fits) in
@@ -80,16 +80,16 @@ returns-in-Fault g c = λ told.
     let old : List ℕ = string_bytes c.args.text.now in
     let made : List ℕ = string_bytes c.loop-count.text in
     let now : List ℕ = string_bytes c.push_lines.new.text in
-    let order = g.E.Endian.order (endian_of start.config) in
-    let config = configuration_of start.config in
-    let bytes : List ℕ = (g.B.ParseBuf.source start.buf).left in
-    let left : List ℕ = (g.B.ParseBuf.source c.loop-count.parser.buf).left in
+    let order = g.E.Endian.order (endian_of start.reader.config) in
+    let config = configuration_of start.reader.config in
+    let bytes : List ℕ = (g.B.ParseBuf.source start.reader.input.buf).left in
+    let left : List ℕ = (g.B.ParseBuf.source c.loop-count.parser.reader.input.buf).left in
     let n : ℕ = c.loop-count.count in
     let pairs = r.result.frames.items in
     let k : ℕ = length pairs in
     let t = i.told told in
     let are = subst (λ p. pairs_said pairs ≡ take k (answers (configuration_of p) (g.E.Endian.order (endian_of p)) left)) i.config (r.ensures.answers t) in
-    let ends = rw c.in-Fault.is at (subst (λ p. EndsWith (g.E.Endian.order (endian_of p)) c.min-batch.result left k r.result.end (g.B.ParseBuf.source r.new.parser.buf).left) i.config (r.ensures.end t)) in
+    let ends = rw c.in-Fault.is at (subst (λ p. EndsWith (g.E.Endian.order (endian_of p)) c.min-batch.result left k r.result.end (g.B.ParseBuf.source r.new.parser.reader.input.buf).left) i.config (r.ensures.end t)) in
     let listed = i.listed told in
     let within : n + c.min-batch.result ≤ c.args.limit = omega (arith, c.min-batch.ensures, c.loop-count-test.true) in
     let fits : n + length c.deref.result.now < 2 ^ 64 = omega (arith, ap length c.deref.ensures.value, ends.0, within, c.ranges.limit.fits) in
@@ -105,22 +105,22 @@ pub loop-count-preserved : goal.loop-count-preserved
 loop-count-preserved g c = record {
   within = omega (arith, c.loop-count.invariant.within, c.min-batch.ensures, c.loop-count-test.true);
   config = c.read_records-run.ensures.config ∙ c.loop-count.invariant.config;
-  told = λ told. c.read_records-run.ensures.keeps.3 (c.loop-count.invariant.told told);
+  told = λ told. c.read_records-run.ensures.keeps.buffer.3 (c.loop-count.invariant.told told);
   left = λ told.
       let i = c.loop-count.invariant in
       let r = c.read_records-run in
       let start = c.args.parser.now in
       let old : List ℕ = string_bytes c.args.text.now in
-      let order = g.E.Endian.order (endian_of start.config) in
-      let config = configuration_of start.config in
-      let bytes : List ℕ = (g.B.ParseBuf.source start.buf).left in
-      let left : List ℕ = (g.B.ParseBuf.source c.loop-count.parser.buf).left in
+      let order = g.E.Endian.order (endian_of start.reader.config) in
+      let config = configuration_of start.reader.config in
+      let bytes : List ℕ = (g.B.ParseBuf.source start.reader.input.buf).left in
+      let left : List ℕ = (g.B.ParseBuf.source c.loop-count.parser.reader.input.buf).left in
       let n : ℕ = c.loop-count.count in
       let pairs = r.result.frames.items in
       let k : ℕ = length pairs in
       let t = i.told told in
       let are = subst (λ p. pairs_said pairs ≡ take k (answers (configuration_of p) (g.E.Endian.order (endian_of p)) left)) i.config (r.ensures.answers t) in
-      let ends = rw c.in-Limit.is at (subst (λ p. EndsWith (g.E.Endian.order (endian_of p)) c.min-batch.result left k r.result.end (g.B.ParseBuf.source r.new.parser.buf).left) i.config (r.ensures.end t)) in
+      let ends = rw c.in-Limit.is at (subst (λ p. EndsWith (g.E.Endian.order (endian_of p)) c.min-batch.result left k r.result.end (g.B.ParseBuf.source r.new.parser.reader.input.buf).left) i.config (r.ensures.end t)) in
       ends.1 ∙ ap (λ xs. behind_frames order k xs) (i.left told) ∙ behind_more order n k bytes ∙ ap (λ j. behind_frames order (n + j) bytes) ends.0;
   listed = λ told.
       let i = c.loop-count.invariant in
@@ -129,16 +129,16 @@ loop-count-preserved g c = record {
       let old : List ℕ = string_bytes c.args.text.now in
       let made : List ℕ = string_bytes c.loop-count.text in
       let now : List ℕ = string_bytes c.push_lines.new.text in
-      let order = g.E.Endian.order (endian_of start.config) in
-      let config = configuration_of start.config in
-      let bytes : List ℕ = (g.B.ParseBuf.source start.buf).left in
-      let left : List ℕ = (g.B.ParseBuf.source c.loop-count.parser.buf).left in
+      let order = g.E.Endian.order (endian_of start.reader.config) in
+      let config = configuration_of start.reader.config in
+      let bytes : List ℕ = (g.B.ParseBuf.source start.reader.input.buf).left in
+      let left : List ℕ = (g.B.ParseBuf.source c.loop-count.parser.reader.input.buf).left in
       let n : ℕ = c.loop-count.count in
       let pairs = r.result.frames.items in
       let k : ℕ = length pairs in
       let t = i.told told in
       let are = subst (λ p. pairs_said pairs ≡ take k (answers (configuration_of p) (g.E.Endian.order (endian_of p)) left)) i.config (r.ensures.answers t) in
-      let ends = rw c.in-Limit.is at (subst (λ p. EndsWith (g.E.Endian.order (endian_of p)) c.min-batch.result left k r.result.end (g.B.ParseBuf.source r.new.parser.buf).left) i.config (r.ensures.end t)) in
+      let ends = rw c.in-Limit.is at (subst (λ p. EndsWith (g.E.Endian.order (endian_of p)) c.min-batch.result left k r.result.end (g.B.ParseBuf.source r.new.parser.reader.input.buf).left) i.config (r.ensures.end t)) in
       let listed = i.listed told in
       let within : n + c.min-batch.result ≤ c.args.limit = omega (arith, c.min-batch.ensures, c.loop-count-test.true) in
       let fits : n + length c.deref.result.now < 2 ^ 64 = omega (arith, ap length c.deref.ensures.value, ends.0, within, c.ranges.limit.fits) in
