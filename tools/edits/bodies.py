@@ -12,7 +12,7 @@ import tempfile
 from pathlib import Path
 
 FUNCTION = re.compile(r"\bfn\s+(\w+)")
-NOTE = re.compile(r"note: (?:\./)?(src/\S+?):(\d+):\d+: (it is not proved .*)")
+NOTE = re.compile(r"note: (?:\./)?(src/\S+?):(\d+):(\d+): (it is not proved .*)")
 UNREAD = re.compile(r"(?:\./)?src/\S+?:\d+:\d+: error: [^`].*")
 ERROR = re.compile(r"(?:\./)?proofs/(\S+?)/(\w+)\.antt:\d+:\d+: error: (.*)")
 # The answers of a proof name what the edit, or the refusal of a callee, took away.
@@ -24,24 +24,46 @@ class Body:
 
     def __init__(self, line):
         self.line = self.first = self.last = line
-        self.names, self.owner = [], ""
+        self.names, self.owner, self.text = [], "", ""
 
     def place(self, lines):
         """Finds the function around the edited line, and the type whose impl it stands in."""
         starts = [at for at, text in enumerate(lines, 1) if is_function(text)]
-        own = max([at for at in starts if at <= self.line], default=self.line)
+        self.text = lines[self.line - 1]
+        before = [at for at in starts if at <= self.line and begins(lines[at - 1])]
         after = min([at for at in starts if at > self.line], default=len(lines) + 1)
-        self.first, self.last = item_start(lines, own), item_start(lines, after) - 1
-        self.names = FUNCTION.findall(lines[own - 1]) or ["?"]
+        own, end = max(before, default=0), item_start(lines, after) - 1
+        if own and self.line <= (closed := closing(lines, own)):
+            self.first, self.last = item_start(lines, own), min(closed, end)
+            self.names = FUNCTION.findall(lines[own - 1])
+        self.names += FUNCTION.findall(self.text) or ["?"]
         for text in lines[: self.first]:
             if text.startswith("impl"):
                 self.owner = owner_of(text)
             elif text.startswith("}"):
                 self.owner = ""
 
+    def at(self, line, column):
+        """The function at a place, where the edited line holds several."""
+        names = FUNCTION.findall(self.text[:column]) if line == self.line else []
+        return names[-1] if names else self.names[0]
+
 
 def is_function(text):
     return bool(FUNCTION.search(text)) and not text.lstrip().startswith("//")
+
+
+def begins(text):
+    """Whether a line begins with a function or an impl, and does not end another one first."""
+    return text.lstrip().startswith("impl") or "}" not in FUNCTION.split(text)[0]
+
+
+def closing(lines, at):
+    """The line of the brace that ends the function which begins on a line."""
+    first = lines[at - 1]
+    indent = first[: len(first) - len(first.lstrip())]
+    after = [it for it in range(at, len(lines)) if lines[it].startswith(indent + "}")]
+    return after[0] + 1 if after else len(lines)
 
 
 def item_start(lines, at):
@@ -75,9 +97,10 @@ def read_edit(edit):
     return path, pairs
 
 
-def continues(new):
+def continues(old, new):
     """Whether a pair belongs to the one before: it ends a comment, or adds a function to call."""
-    return new.lstrip().startswith(("*/", "fn "))
+    adds = new.lstrip().startswith("fn ") and not FUNCTION.search(old)
+    return adds or new.lstrip().startswith("*/")
 
 
 def applied(text, pairs):
@@ -86,7 +109,7 @@ def applied(text, pairs):
     for old, new in pairs:
         if text.count(old) != 1:
             raise SystemExit(f"an old text is there {text.count(old)} times, and not once: {old}")
-        if not (bodies and continues(new)):
+        if not (bodies and continues(old, new)):
             bodies.append(Body(text[: text.index(old)].count("\n") + 1))
         text = text.replace(old, new)
     lines = text.split("\n")
@@ -109,7 +132,7 @@ def refusal(body, path, output):
     for line in output:
         note = NOTE.match(line)
         if note and note[1] == path and body.first <= int(note[2]) <= body.last:
-            return f"{note[2]}: {note[3]}"
+            return f"{body.at(int(note[2]), int(note[3]))}: {note[4]}"
         error = ERROR.match(line)
         if error and proves(body, path, error[1]) and not NAMES.search(error[3]):
             return f"proofs/{error[1]}: {error[3]}"
@@ -167,13 +190,15 @@ def check(edit, folder):
     file.write_text(text, encoding="utf-8")
     output = ran.stdout.split("\n") + ran.stderr.split("\n")
     unread = next((it for it in output if UNREAD.match(it)), "")
-    print(f"{edit.name}: {len(bodies)} bodies{', not read: ' + unread if unread else ''}", flush=True)
+    if not any(it.startswith("logic=") for it in output):
+        unread = unread or "no verdict: " + next((it for it in output if "error" in it), "?")
+    print(f"{edit.name}: {len(bodies)} bodies", flush=True)
     good = 0
     for body in bodies:
         said = "" if unread else refusal(body, path, output)
         good += bool(said)
-        name = " or ".join(body.names)
-        print(f"  {path}:{body.line} {body.owner} {name}: {said[:150] or 'NOT REFUSED AT ITS OWN GOAL'}")
+        said = said[:120] or unread or f"{body.names[0]}: NOT REFUSED AT ITS OWN GOAL"
+        print(f"  {path}:{body.line} {body.owner} {said}", flush=True)
     return good, len(bodies)
 
 
