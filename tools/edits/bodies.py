@@ -1,0 +1,219 @@
+#!/usr/bin/env python3
+"""Says of each body of a joined must-fail edit whether the prover refuses it at its own goal.
+
+Usage, at the top of the repository: tools/edits/bodies.py CRATE...
+"""
+
+import re
+import shutil
+import subprocess
+import sys
+import tempfile
+from pathlib import Path
+
+FUNCTION = re.compile(r"\bfn\s+(\w+)")
+NOTE = re.compile(r"note: (?:\./)?(src/\S+?):(\d+):(\d+): (it is not proved .*)")
+UNREAD = re.compile(r"(?:\./)?src/\S+?:\d+:\d+: error: [^`].*")
+ERROR = re.compile(r"(?:\./)?proofs/(\S+?)/(\w+)\.antt:\d+:\d+: error: (.*)")
+# The answers of a proof name what the edit, or the refusal of a callee, took away.
+NAMES = re.compile(r"has no field|is not in scope|has no `|was not admitted")
+
+
+class Body:
+    """The pairs of an edit that turn one function, and the lines where that function stands."""
+
+    def __init__(self, line):
+        self.line = self.first = self.last = line
+        self.names, self.owner, self.text = [], "", ""
+
+    def place(self, lines):
+        """Finds the function around the edited line, and the type whose impl it stands in."""
+        starts = [at for at, text in enumerate(lines, 1) if is_function(text)]
+        self.text = lines[self.line - 1]
+        before = [at for at in starts if at <= self.line and begins(lines[at - 1])]
+        after = min([at for at in starts if at > self.line], default=len(lines) + 1)
+        own, end = max(before, default=0), item_start(lines, after) - 1
+        if own and self.line <= (closed := closing(lines, own)):
+            self.first, self.last = item_start(lines, own), min(closed, end)
+            self.names = FUNCTION.findall(lines[own - 1])
+        self.names += FUNCTION.findall(self.text) or ["?"]
+        for text in lines[: self.first]:
+            if text.startswith("impl"):
+                self.owner = owner_of(text)
+            elif text.startswith("}"):
+                self.owner = ""
+
+    def at(self, line, column):
+        """The function at a place, where the edited line holds several."""
+        names = FUNCTION.findall(self.text[:column]) if line == self.line else []
+        return names[-1] if names else self.names[0]
+
+
+def is_function(text):
+    return bool(FUNCTION.search(text)) and not text.lstrip().startswith("//")
+
+
+def begins(text):
+    """Whether a line begins with a function or an impl, and does not end another one first."""
+    return text.lstrip().startswith("impl") or "}" not in FUNCTION.split(text)[0]
+
+
+def closing(lines, at):
+    """The line of the brace that ends the function which begins on a line."""
+    first = lines[at - 1]
+    indent = first[: len(first) - len(first.lstrip())]
+    after = [it for it in range(at, len(lines)) if lines[it].startswith(indent + "}")]
+    return after[0] + 1 if after else len(lines)
+
+
+def item_start(lines, at):
+    """Where the attributes and documents of a function begin: the prover's notes stand there."""
+    while at > 1 and lines[at - 2].lstrip().startswith(("#[", "//")):
+        at -= 1
+    return at
+
+
+def owner_of(header):
+    """What the folder of an impl's proofs is called: its type, and behind that its trait."""
+    header = re.sub(r"^impl(<.*?>)? (?=[\w&\[])", "", header)
+    trait, is_trait, of = header.rpartition(" for ")
+    of = re.sub(r"'\w+|&|\s", "", of)
+    name = re.match(r"\[?(\w+)", of)
+    name = name[1] if name else ""
+    name = "Any" if len(name) == 1 else f"Array{name}" if of.startswith("[") else name
+    return name + (re.match(r"[\w:]*", trait)[0].split("::")[-1] if is_trait else "")
+
+
+def read_edit(edit):
+    """The file that an edit changes, and its pairs of old and new texts."""
+    path, old, pairs = "", "", []
+    for line in edit.read_text(encoding="utf-8").split("\n"):
+        if line.startswith("file: "):
+            path = line[len("file: ") :].strip()
+        elif line.startswith("old: "):
+            old = line[len("old: ") :]
+        elif line.startswith("new:"):
+            pairs.append((old, line[len("new:") :].removeprefix(" ")))
+    return path, pairs
+
+
+def continues(old, new):
+    """Whether a pair belongs to the one before: it ends a comment, or adds a function to call."""
+    adds = new.lstrip().startswith("fn ") and not FUNCTION.search(old)
+    return adds or new.lstrip().startswith("*/")
+
+
+def applied(text, pairs):
+    """The edited text and its bodies. Each pair stays on its line, so that line numbers hold."""
+    bodies = []
+    for old, new in pairs:
+        if text.count(old) != 1:
+            raise SystemExit(f"an old text is there {text.count(old)} times, and not once: {old}")
+        if not (bodies and continues(old, new)):
+            bodies.append(Body(text[: text.index(old)].count("\n") + 1))
+        text = text.replace(old, new)
+    lines = text.split("\n")
+    for body in bodies:
+        body.place(lines)
+    return text, joined(bodies)
+
+
+def joined(bodies):
+    """The bodies, where pairs that stand one behind another in one function are one body."""
+    kept = []
+    for body in bodies:
+        if not kept or (kept[-1].first, kept[-1].last) != (body.first, body.last):
+            kept.append(body)
+    return kept
+
+
+def refusal(body, path, output):
+    """What the prover says at the function of a body, or nothing."""
+    for line in output:
+        note = NOTE.match(line)
+        if note and note[1] == path and body.first <= int(note[2]) <= body.last:
+            return f"{body.at(int(note[2]), int(note[3]))}: {note[4]}"
+        error = ERROR.match(line)
+        if error and proves(body, path, error[1]) and not NAMES.search(error[3]):
+            return f"proofs/{error[1]}: {error[3]}"
+    return ""
+
+
+def proves(body, path, folder):
+    """Whether a folder of proofs is that of a body's function."""
+    module = "" if path == "src/lib.rt" else path[len("src/") : -len(".rt")] + "/"
+    if not folder.startswith(module):
+        return False
+    parts = folder[len(module) :].split("/")
+    if not body.owner:
+        return parts[0] in body.names
+    is_owner = parts[0].partition("+")[0].lower() == body.owner.lower()
+    return is_owner and len(parts) > 1 and parts[1] in body.names
+
+
+def below(root, crate):
+    """The crates of the repository that a crate uses, each with what that uses."""
+    used = {}
+    for line in (root / "crates.txt").read_text(encoding="utf-8").split("\n"):
+        head, colon, names = line.partition("#")[0].partition(":")
+        if colon:
+            used[head.split()[0]] = names.split()
+    found, open_names = set(), [crate]
+    while open_names:
+        more = [it for it in used.get(open_names.pop(), []) if it in used and it not in found]
+        found.update(more)
+        open_names += more
+    return found
+
+
+def copy_of(root, crate, room):
+    """A copy of the repository: kept answers of the crate, built libraries of those below."""
+    for name in ("crates.txt", "HANDLES"):
+        shutil.copy2(root / name, room)
+    under = below(root, crate)
+    for folder in sorted((root / "crates").iterdir()):
+        left = ["out"] if folder.name not in under | {crate} else []
+        left += ["incremental"] if folder.name in under else []
+        shutil.copytree(folder, room / "crates" / folder.name, ignore=shutil.ignore_patterns(*left))
+
+
+def check(edit, folder):
+    """Checks the copy under an edit, says what becomes of each body, and counts."""
+    path, pairs = read_edit(edit)
+    file = folder / path
+    text = file.read_text(encoding="utf-8")
+    changed, bodies = applied(text, pairs)
+    if len(bodies) < 2:
+        return 0, 0
+    file.write_text(changed, encoding="utf-8")
+    ran = subprocess.run(["rt", "check"], cwd=folder, capture_output=True, errors="replace")
+    file.write_text(text, encoding="utf-8")
+    output = ran.stdout.split("\n") + ran.stderr.split("\n")
+    unread = next((it for it in output if UNREAD.match(it)), "")
+    if not any(it.startswith("logic=") for it in output):
+        unread = unread or "no verdict: " + next((it for it in output if "error" in it), "?")
+    print(f"{edit.name}: {len(bodies)} bodies", flush=True)
+    good = 0
+    for body in bodies:
+        said = "" if unread else refusal(body, path, output)
+        good += bool(said)
+        said = said[:120] or unread or f"{body.names[0]}: NOT REFUSED AT ITS OWN GOAL"
+        print(f"  {path}:{body.line} {body.owner} {said}", flush=True)
+    return good, len(bodies)
+
+
+def main(crates):
+    root, good, total = Path.cwd(), 0, 0
+    for crate in crates:
+        with tempfile.TemporaryDirectory(prefix="bodies-") as room:
+            copy_of(root, crate, Path(room))
+            folder = Path(room) / "crates" / crate
+            for edit in sorted((root / "crates" / crate / "must-fail").glob("*.edit")):
+                refused, bodies = check(edit, folder)
+                good, total = good + refused, total + bodies
+    print(f"{good} of {total} bodies refused at their own goal")
+    return 0 if good == total else 1
+
+
+if __name__ == "__main__":
+    sys.exit(main(sys.argv[1:]))
