@@ -1,10 +1,6 @@
--- What a record is in plain numbers and lists, and which parts the body of each type has.
-use Rattle.std.specs.Prelude.{ℕ, Bool, List, ◌==◌, if◌then◌else◌, IsTrue}
-use Rattle.perf_base.specs.Configuration.{Configuration}
-use Rattle.perf_base.specs.Layout.{Parts, done, mapped}
-use Rattle.perf_base.specs.FieldWords.{all_left}
+-- What a record is in plain numbers and lists.
+use Rattle.std.specs.Prelude.{ℕ, List, IsTrue}
 use Rattle.perf_base.specs.Cow.{cow_items, is_borrowed}
-use Rattle.perf_base.specs.declared.sys.TheConstants.{PERF_RECORD_MMAP, PERF_RECORD_LOST, PERF_RECORD_COMM, PERF_RECORD_EXIT, PERF_RECORD_THROTTLE, PERF_RECORD_UNTHROTTLE, PERF_RECORD_FORK, PERF_RECORD_MMAP2, PERF_RECORD_AUX, PERF_RECORD_ITRACE_START, PERF_RECORD_LOST_SAMPLES, PERF_RECORD_SWITCH, PERF_RECORD_SWITCH_CPU_WIDE, PERF_RECORD_NAMESPACES, PERF_RECORD_KSYMBOL, PERF_RECORD_BPF_EVENT, PERF_RECORD_CGROUP, PERF_RECORD_TEXT_POKE, PERF_RECORD_AUX_OUTPUT_HW_ID}
 use Rattle.perf_types.specs.declared.lost.Lost.{Lost}
 use Rattle.perf_types.specs.declared.exit.Exit.{Exit}
 use Rattle.perf_types.specs.declared.throttle.Throttle.{Throttle}
@@ -12,22 +8,15 @@ use Rattle.perf_types.specs.declared.itrace_start.ITraceStart.{ITraceStart}
 use Rattle.perf_types.specs.declared.lost_samples.LostSamples.{LostSamples}
 use Rattle.perf_types.specs.declared.switch_cpu_wide.SwitchCpuWide.{SwitchCpuWide}
 use Rattle.perf_types.specs.declared.aux_output_hw_id.AuxOutputHwId.{AuxOutputHwId}
-use Rattle.perf_types.specs.Mmap.{mmap, mmap_value, MmapValue, IsBorrowedMmap}
-use Rattle.perf_types.specs.Lost.{lost}
-use Rattle.perf_types.specs.Comm.{comm, comm_value, CommValue, IsBorrowedComm}
-use Rattle.perf_types.specs.Exit.{exit}
-use Rattle.perf_types.specs.Throttle.{throttle}
-use Rattle.perf_types.specs.Mmap2.{mmap2, mmap2_value, Mmap2Value, IsBorrowedMmap2}
-use Rattle.perf_types.specs.Aux.{aux, aux_value, AuxValue}
-use Rattle.perf_types.specs.ITraceStart.{itrace_start}
-use Rattle.perf_types.specs.LostSamples.{lost_samples}
-use Rattle.perf_types.specs.SwitchCpuWide.{switch_cpu_wide}
-use Rattle.perf_types.specs.Namespaces.{namespaces, namespaces_value, NamespacesValue}
-use Rattle.perf_types.specs.KSymbol.{ksymbol, ksymbol_value, KSymbolValue, IsBorrowedKSymbol}
-use Rattle.perf_types.specs.BpfEvent.{bpf_event, bpf_event_value, BpfEventValue}
-use Rattle.perf_types.specs.CGroup.{cgroup, cgroup_value, CGroupValue, IsBorrowedCGroup}
-use Rattle.perf_types.specs.TextPoke.{text_poke, text_poke_value, TextPokeValue, IsBorrowedTextPoke}
-use Rattle.perf_types.specs.AuxOutputHwId.{aux_output_hw_id}
+use Rattle.perf_types.specs.Mmap.{mmap_value, MmapValue, IsBorrowedMmap}
+use Rattle.perf_types.specs.Comm.{comm_value, CommValue, IsBorrowedComm}
+use Rattle.perf_types.specs.Mmap2.{mmap2_value, Mmap2Value, IsBorrowedMmap2}
+use Rattle.perf_types.specs.Aux.{aux_value, AuxValue}
+use Rattle.perf_types.specs.Namespaces.{namespaces_value, NamespacesValue}
+use Rattle.perf_types.specs.KSymbol.{ksymbol_value, KSymbolValue, IsBorrowedKSymbol}
+use Rattle.perf_types.specs.BpfEvent.{bpf_event_value, BpfEventValue}
+use Rattle.perf_types.specs.CGroup.{cgroup_value, CGroupValue, IsBorrowedCGroup}
+use Rattle.perf_types.specs.TextPoke.{text_poke_value, TextPokeValue, IsBorrowedTextPoke}
 use Rattle.perf_records.specs.declared.record.Record.{Record}
 use Rattle.perf_records.specs.declared.record.Record.TheVariants as record_of
 
@@ -100,32 +89,3 @@ IsBorrowed (record_of.CGroup r) = IsBorrowedCGroup r
 IsBorrowed (record_of.TextPoke r) = IsBorrowedTextPoke r
 IsBorrowed (record_of.AuxOutputHwId r) = Unit {0}
 IsBorrowed (record_of.Unknown ty bytes) = IsTrue (is_borrowed bytes)
-
--- The parts of a record's body under a configuration, by the type in its header. Of any other type it is all the bytes
--- between header and sample id.
-abbrev pub body : Configuration → ℕ → Parts RecordValue
-body c ty =
-    if ty == PERF_RECORD_MMAP then mapped mmap_is mmap
-    else (if ty == PERF_RECORD_LOST then mapped lost_is lost
-    else (if ty == PERF_RECORD_COMM then mapped comm_is comm
-    else (if ty == PERF_RECORD_EXIT then mapped exit_is exit
-    else (if ty == PERF_RECORD_THROTTLE then mapped throttle_is throttle
-    else (if ty == PERF_RECORD_UNTHROTTLE then mapped unthrottle_is throttle
-    else (if ty == PERF_RECORD_FORK then mapped fork_is exit
-    else (if ty == PERF_RECORD_MMAP2 then mapped mmap2_is (mmap2 c)
-    else (if ty == PERF_RECORD_AUX then mapped aux_is aux
-    else (if ty == PERF_RECORD_ITRACE_START then mapped itrace_start_is itrace_start
-    else (if ty == PERF_RECORD_LOST_SAMPLES then mapped lost_samples_is lost_samples
-    else (if ty == PERF_RECORD_SWITCH then done switch_is
-    else (if ty == PERF_RECORD_SWITCH_CPU_WIDE then mapped switch_cpu_wide_is (switch_cpu_wide c)
-    else (if ty == PERF_RECORD_NAMESPACES then mapped namespaces_is namespaces
-    else (if ty == PERF_RECORD_KSYMBOL then mapped ksymbol_is ksymbol
-    else (if ty == PERF_RECORD_BPF_EVENT then mapped bpf_event_is bpf_event
-    else (if ty == PERF_RECORD_CGROUP then mapped cgroup_is cgroup
-    else (if ty == PERF_RECORD_TEXT_POKE then mapped text_poke_is text_poke
-    else (if ty == PERF_RECORD_AUX_OUTPUT_HW_ID then mapped aux_output_hw_id_is aux_output_hw_id
-    else mapped (unknown_is ty) all_left))))))))))))))))))
-
--- a type whose record holds a list, for which memory is taken
-abbrev pub holds_a_list : ℕ → Bool
-holds_a_list ty = ty == PERF_RECORD_NAMESPACES
