@@ -2,6 +2,8 @@
 
 ghost use Rattle.std.specs.Prelude.{IfSome, ◌≡◌, ◌≢◌, ◌<◌, ◌≤◌, true, false, None, Some, length, take, IsTrue, IsOk, OnOk, IfOk, IfErr, MatchOption, IfNone, ◌-◌, ◌↔◌, drop, []};
 ghost use Rattle.perf_base.specs.Errors.{kind_of};
+ghost use Rattle.perf_base.specs.Refusals.{TakesNoMemory, kinds, refused, refusal_kind};
+ghost use Rattle.perf_buffers.specs.Cursor.{held_left, is_at_start, is_lent};
 ghost use Rattle.perf_buffers.specs.Buffer.{NeedsNoMemory, Stays, refusal};
 ghost use Rattle.perf_buffers.specs.Taking.{Takes, FailsToTake, FailsToKeep, CanFail};
 ghost use Rattle.perf_buffers.specs.Room.{falls_short, is_made_beforehand, makes_all_room, room_made};
@@ -11,6 +13,7 @@ use crate::frame_input::behind;
 use crate::parsebuf::{ParseBuf, ParseBufChunk};
 use perf_base::cow::CowSlice;
 use perf_base::error::{ErrorKind, ParseError, ParseResult};
+use perf_base::refusal::{Kept, ReadResult, Refusal};
 use std::alloc::Global;
 
 // Room that is made for bytes of which the buffer does not say whether it has them.
@@ -154,28 +157,49 @@ impl<'p> ParseBuf<'p> for ParseBufCursor<'p> {
     }
 }
 
-// The next `len` bytes, where the first chunk lasts and has them all.
+// The next `len` bytes, where the first chunk has them all: lent where it lasts, and else copied.
 #[inline]
-fn lend<'p, B: ParseBuf<'p>>(buf: &mut B, len: usize) -> ParseResult<Option<&'p [u8]>>
+fn cut_at_once<'p, B: ParseBuf<'p>>(
+    alloc: Global,
+    buf: &mut B,
+    kept: &mut Kept,
+    len: usize,
+) -> ReadResult<Option<Held<'p>>>
     requires { 0 < len }
-    ensures stays { Stays (B.source buf.old) (refusal result) (B.source buf.new) }
-    ensures can_fail { CanFail (B.source buf.old) (refusal result) }
-    ensures whole { IsTrue (B.source buf.old).whole → IfOk result (λ o. IfNone o (IsTrue (B.source buf.old).told × (length (B.source buf.old).left < len))) }
-    ensures memory { NeedsNoMemory result }
-    ensures count { IfOk result (λ o. IfSome o (λ s. length s.now ≡ len)) }
-    ensures ok { IsTrue (B.source buf.old).told → IfOk result (λ o. MatchOption o ((B.source buf.new).left ≡ (B.source buf.old).left)
-        (λ s. Takes (B.source buf.old) len (B.source buf.new) × (s.now ≡ take len (B.source buf.old).left))) }
-    ensures err { IsTrue (B.source buf.old).told → IfErr result (λ e. FailsToTake (B.source buf.old) len (kind_of e) (B.source buf.new)) }
+    ensures stays { Stays (B.source buf.old) (refused (kinds result)) (B.source buf.new) }
+    ensures can_fail { CanFail (B.source buf.old) (refused (kinds result)) }
+    ensures whole { IsTrue (B.source buf.old).whole → IfOk result (λ o. MatchOption o
+        (IsTrue (B.source buf.old).told × (length (B.source buf.old).left < len))
+        (λ held. IsTrue (is_lent held))) }
+    ensures whole_memory { IsTrue (B.source buf.old).whole → TakesNoMemory (kinds result) }
+    ensures beforehand { IsTrue (B.source buf.old).told → IfErr result (λ e.
+        refusal_kind e ≡ ErrorKind.OutOfMemory →
+        (B.source buf.new).left ≡ (B.source buf.old).left) }
+    ensures count { IfOk result (λ o. IfSome o (λ held. length (held_left held) ≡ len)) }
+    ensures start { IfOk result (λ o. IfSome o (λ held. is_at_start held)) }
+    ensures ok { IsTrue (B.source buf.old).told → IfOk result (λ o. MatchOption o
+        ((B.source buf.new).left ≡ (B.source buf.old).left)
+        (λ held. Takes (B.source buf.old) len (B.source buf.new)
+        × (held_left held ≡ take len (B.source buf.old).left))) }
+    ensures err { IsTrue (B.source buf.old).told → IfErr result (λ e.
+        FailsToKeep (B.source buf.old) len (refusal_kind e) (B.source buf.new)) }
 {
-    let bytes = match buf.chunk()? {
-        ParseBufChunk::External(bytes) => bytes,
-        ParseBufChunk::Temporary(_) => return Ok(None),
+    let chunk = match buf.chunk() {
+        Ok(chunk) => chunk,
+        Err(error) => return Err(kept.keep(error)),
     };
-    if bytes.len() < len {
+    if chunk.as_bytes().len() < len {
         return Ok(None);
     }
+    let held = match chunk {
+        ParseBufChunk::External(bytes) => Held::Lent(&bytes[..len]),
+        ParseBufChunk::Temporary(bytes) => match Vec::from_slice(alloc, &bytes[..len]) {
+            Ok(bytes) => Held::Own(bytes, 0),
+            Err(_) => return Err(Refusal::OutOfMemory),
+        },
+    };
     buf.advance(len);
-    Ok(Some(&bytes[..len]))
+    Ok(Some(held))
 }
 
 // Takes what one chunk has, at most `len` bytes, and keeps none of it.
@@ -212,16 +236,17 @@ pub fn skip<'p, B: ParseBuf<'p>>(buf: &mut B, len: usize) -> ParseResult<()>
 // The refusal where fewer than `len` bytes are left, all of which are taken.
 #[cold]
 #[inline(never)]
-fn shortage<'p, B: ParseBuf<'p>>(buf: &mut B, len: usize) -> ParseError
+fn shortage<'p, B: ParseBuf<'p>>(buf: &mut B, kept: &mut Kept, len: usize) -> Refusal
     requires { IsTrue (B.source buf.old).told → length (B.source buf.old).left < len }
-    ensures stays { Stays (B.source buf.old) (Some (kind_of result)) (B.source buf.new) }
-    ensures can_fail { CanFail (B.source buf.old) (Some (kind_of result)) }
-    ensures no_memory { kind_of result ≢ ErrorKind.OutOfMemory }
-    ensures err { IsTrue (B.source buf.old).told → FailsToKeep (B.source buf.old) len (kind_of result) (B.source buf.new) }
+    ensures stays { Stays (B.source buf.old) (Some (refusal_kind result)) (B.source buf.new) }
+    ensures can_fail { CanFail (B.source buf.old) (Some (refusal_kind result)) }
+    ensures no_memory { refusal_kind result ≢ ErrorKind.OutOfMemory }
+    ensures err { IsTrue (B.source buf.old).told →
+        FailsToKeep (B.source buf.old) len (refusal_kind result) (B.source buf.new) }
 {
     match skip(buf, len) {
-        Ok(()) => ParseError::eof(),
-        Err(error) => error,
+        Ok(()) => Refusal::Eof,
+        Err(error) => kept.keep(error),
     }
 }
 
@@ -270,6 +295,81 @@ fn says_too_few(hint: Option<usize>, len: usize) -> bool
     }
 }
 
+// The next `len` bytes, copied from as many chunks as it takes, with the error of a fault kept aside.
+#[cold]
+#[inline(never)]
+fn cut_slowly<'p, B: ParseBuf<'p>>(
+    alloc: Global,
+    buf: &mut B,
+    kept: &mut Kept,
+    len: usize,
+    hinted: bool,
+) -> ReadResult<ParseBufCursor<'p>>
+    ensures stays { Stays (B.source buf.old) (refused (kinds result)) (B.source buf.new) }
+    ensures can_fail { CanFail (B.source buf.old) (refused (kinds result)) }
+    ensures beforehand { IsTrue (B.source buf.old).told → makes_all_room hinted len ≡ true →
+        IfErr result (λ e. refusal_kind e ≡ ErrorKind.OutOfMemory →
+        (B.source buf.new).left ≡ (B.source buf.old).left) }
+    ensures count { IfOk result (λ c. length (held_left c.held) ≡ len) }
+    ensures start { IfOk result (λ c. is_at_start c.held) }
+    ensures ok { IsTrue (B.source buf.old).told → IfOk result (λ c.
+        Takes (B.source buf.old) len (B.source buf.new)
+        × (held_left c.held ≡ take len (B.source buf.old).left)) }
+    ensures err { IsTrue (B.source buf.old).told → IfErr result (λ e.
+        FailsToKeep (B.source buf.old) len (refusal_kind e) (B.source buf.new)) }
+{
+    match copy(alloc, buf, len, hinted) {
+        Ok(bytes) => Ok(ParseBufCursor {
+            held: Held::Own(bytes, 0),
+        }),
+        Err(error) => Err(kept.keep(error)),
+    }
+}
+
+// Cuts the next `len` bytes off a buffer, with the error of a fault kept aside.
+#[inline]
+pub(crate) fn cut<'p, B: ParseBuf<'p>>(
+    alloc: Global,
+    buf: &mut B,
+    kept: &mut Kept,
+    len: usize,
+) -> ReadResult<ParseBufCursor<'p>>
+    ensures stays { Stays (B.source buf.old) (refused (kinds result)) (B.source buf.new) }
+    ensures can_fail { CanFail (B.source buf.old) (refused (kinds result)) }
+    ensures whole { IsTrue (B.source buf.old).whole →
+        IfOk result (λ c. IsTrue (is_lent c.held)) }
+    ensures whole_memory { IsTrue (B.source buf.old).whole → TakesNoMemory (kinds result) }
+    ensures nothing { len ≡ 0 → IfOk result (λ c. IsTrue (is_lent c.held)) × IsOk result
+        × (B.source buf.new ≡ B.source buf.old) }
+    ensures short { falls_short (B.hint buf.old) len ≡ true → TakesNoMemory (kinds result) }
+    ensures beforehand { IsTrue (B.source buf.old).told →
+        is_made_beforehand (B.hint buf.old) len ≡ true →
+        IfErr result (λ e. refusal_kind e ≡ ErrorKind.OutOfMemory →
+        (B.source buf.new).left ≡ (B.source buf.old).left) }
+    ensures ok { IsTrue (B.source buf.old).told → IfOk result (λ c.
+        Takes (B.source buf.old) len (B.source buf.new)
+        × (held_left c.held ≡ take len (B.source buf.old).left)) }
+    ensures start { IfOk result (λ c. is_at_start c.held) }
+    ensures count { IfOk result (λ c. length (held_left c.held) ≡ len) }
+    ensures err { IsTrue (B.source buf.old).told → IfErr result (λ e.
+        FailsToKeep (B.source buf.old) len (refusal_kind e) (B.source buf.new)) }
+{
+    if len == 0 {
+        return Ok(ParseBufCursor {
+            held: Held::Lent(&[]),
+        });
+    }
+    let hint = buf.remaining_hint();
+    if says_too_few(hint, len) {
+        return Err(shortage(buf, kept, len));
+    }
+    match cut_at_once(alloc, buf, kept, len) {
+        Ok(Some(held)) => Ok(ParseBufCursor { held }),
+        Ok(None) => cut_slowly(alloc, buf, kept, len, hint.is_some()),
+        Err(refusal) => Err(refusal),
+    }
+}
+
 impl<'p> ParseBufCursor<'p> {
     ghost use Rattle.perf_buffers.specs.Cursor.{cursor_left, cursor_lent, IsAtStart};
 
@@ -303,26 +403,10 @@ impl<'p> ParseBufCursor<'p> {
         ensures count { IfOk result (λ c. length (cursor_left c) ≡ len) }
         ensures err { IsTrue (B.source buf.old).told → IfErr result (λ e. FailsToKeep (B.source buf.old) len (kind_of e) (B.source buf.new)) }
     {
-        if len == 0 {
-            return Ok(ParseBufCursor {
-                held: Held::Lent(&[]),
-            });
-        }
-        let hint = buf.remaining_hint();
-        if says_too_few(hint, len) {
-            return Err(shortage(buf, len));
-        }
-        match lend(buf, len) {
-            Ok(Some(bytes)) => Ok(ParseBufCursor {
-                held: Held::Lent(bytes),
-            }),
-            Ok(None) => match copy(alloc, buf, len, hint.is_some()) {
-                Ok(bytes) => Ok(ParseBufCursor {
-                    held: Held::Own(bytes, 0),
-                }),
-                Err(error) => Err(error),
-            },
-            Err(error) => Err(error),
+        let mut kept = Kept::none();
+        match cut(alloc, buf, &mut kept, len) {
+            Ok(cursor) => Ok(cursor),
+            Err(refusal) => Err(kept.answer(refusal)),
         }
     }
 }

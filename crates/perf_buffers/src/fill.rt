@@ -2,23 +2,34 @@
 
 ghost use Rattle.std.specs.Prelude.{◌≡◌, ◌+◌, ◌<◌, ◌≤◌, [], ◌++◌, length, take, OnOk, IfOk, IfErr, IsTrue, vec_len, vec_capacity};
 ghost use Rattle.perf_base.specs.Errors.{kind_of};
+ghost use Rattle.perf_base.specs.Refusals.{TakesNoMemory, kinds, refused, refusal_kind};
 ghost use Rattle.perf_buffers.specs.Taking.{Takes, TakesAtOnce, FailsToTake, FailsToKeep, CanFail};
 ghost use Rattle.perf_buffers.specs.Buffer.{NeedsNoMemory, Stays, refusal};
 
 use crate::parsebuf::ParseBuf;
 use perf_base::error::{ErrorKind, ParseError, ParseResult};
+use perf_base::refusal::{Kept, ReadResult};
 
 // Fills `out` where one chunk has all its bytes, and else takes nothing.
 #[inline]
-fn fill_at_once<'p, B: ParseBuf<'p>>(buf: &mut B, out: &mut [u8]) -> ParseResult<bool>
+fn fill_at_once<'p, B: ParseBuf<'p>>(
+    buf: &mut B,
+    kept: &mut Kept,
+    out: &mut [u8],
+) -> ReadResult<bool>
     requires { 0 < length out.old }
-    ensures stays { Stays (B.source buf.old) (refusal result) (B.source buf.new) }
-    ensures can_fail { CanFail (B.source buf.old) (refusal result) }
-    ensures memory { NeedsNoMemory result }
-    ensures ok { IsTrue (B.source buf.old).told → IfOk result (λ all. TakesAtOnce (B.source buf.old) (length out.old) all out.new (B.source buf.new)) }
-    ensures err { IsTrue (B.source buf.old).told → IfErr result (λ e. FailsToTake (B.source buf.old) (length out.old) (kind_of e) (B.source buf.new)) }
+    ensures stays { Stays (B.source buf.old) (refused (kinds result)) (B.source buf.new) }
+    ensures can_fail { CanFail (B.source buf.old) (refused (kinds result)) }
+    ensures memory { TakesNoMemory (kinds result) }
+    ensures ok { IsTrue (B.source buf.old).told → IfOk result (λ all.
+        TakesAtOnce (B.source buf.old) (length out.old) all out.new (B.source buf.new)) }
+    ensures err { IsTrue (B.source buf.old).told → IfErr result (λ e.
+        FailsToTake (B.source buf.old) (length out.old) (refusal_kind e) (B.source buf.new)) }
 {
-    let chunk = buf.chunk()?;
+    let chunk = match buf.chunk() {
+        Ok(chunk) => chunk,
+        Err(error) => return Err(kept.keep(error)),
+    };
     let bytes = chunk.as_bytes();
     let count = out.len();
     if bytes.len() < count {
@@ -48,8 +59,6 @@ fn take_some<'p, B: ParseBuf<'p>>(buf: &mut B, out: &mut [u8]) -> ParseResult<us
 }
 
 // Fills `out` from as many chunks as it takes.
-#[cold]
-#[inline(never)]
 fn fill_on<'p, B: ParseBuf<'p>>(buf: &mut B, out: &mut [u8]) -> ParseResult<()>
     ensures stays { Stays (B.source buf.old) (refusal result) (B.source buf.new) }
     ensures can_fail { CanFail (B.source buf.old) (refusal result) }
@@ -114,33 +123,45 @@ pub(crate) fn append<'p, B: ParseBuf<'p>>(
     Ok(())
 }
 
-/// Fills `out`, which has room for at least one byte.
-#[inline]
-pub fn fill<'p, B: ParseBuf<'p>>(buf: &mut B, out: &mut [u8]) -> ParseResult<()>
-    requires { 0 < length out.old }
-    ensures stays { Stays (B.source buf.old) (refusal result) (B.source buf.new) }
-    ensures can_fail { CanFail (B.source buf.old) (refusal result) }
-    ensures memory { NeedsNoMemory result }
-    ensures ok { IsTrue (B.source buf.old).told → OnOk result (Takes (B.source buf.old) (length out.old) (B.source buf.new) × (out.new ≡ take (length out.old) (B.source buf.old).left)) }
-    ensures err { IsTrue (B.source buf.old).told → IfErr result (λ e. FailsToTake (B.source buf.old) (length out.old) (kind_of e) (B.source buf.new)) }
+// The same, with the error of a fault kept aside: off the way of numbers that one chunk has whole.
+#[cold]
+#[inline(never)]
+fn fill_slowly<'p, B: ParseBuf<'p>>(buf: &mut B, kept: &mut Kept, out: &mut [u8]) -> ReadResult<()>
+    ensures stays { Stays (B.source buf.old) (refused (kinds result)) (B.source buf.new) }
+    ensures can_fail { CanFail (B.source buf.old) (refused (kinds result)) }
+    ensures memory { TakesNoMemory (kinds result) }
+    ensures ok { IsTrue (B.source buf.old).told → OnOk result (
+        Takes (B.source buf.old) (length out.old) (B.source buf.new)
+        × (out.new ≡ take (length out.old) (B.source buf.old).left)) }
+    ensures err { IsTrue (B.source buf.old).told → IfErr result (λ e.
+        FailsToTake (B.source buf.old) (length out.old) (refusal_kind e) (B.source buf.new)) }
 {
-    if fill_at_once(buf, out)? {
-        return Ok(());
+    match fill_on(buf, out) {
+        Ok(()) => Ok(()),
+        Err(error) => Err(kept.keep(error)),
     }
-    fill_on(buf, out)
 }
 
-/// The next `N` bytes, of which there is at least one.
+// Fills `out`, which has room for at least one byte.
 #[inline]
-pub fn take_array<'p, B: ParseBuf<'p>, const N: usize>(buf: &mut B) -> ParseResult<[u8; N]>
-    requires { 0 < N }
-    ensures stays { Stays (B.source buf.old) (refusal result) (B.source buf.new) }
-    ensures can_fail { CanFail (B.source buf.old) (refusal result) }
-    ensures memory { NeedsNoMemory result }
-    ensures ok { IsTrue (B.source buf.old).told → IfOk result (λ bytes. Takes (B.source buf.old) N (B.source buf.new) × (bytes ≡ take N (B.source buf.old).left)) }
-    ensures err { IsTrue (B.source buf.old).told → IfErr result (λ e. FailsToTake (B.source buf.old) N (kind_of e) (B.source buf.new)) }
+pub(crate) fn fill<'p, B: ParseBuf<'p>>(
+    buf: &mut B,
+    kept: &mut Kept,
+    out: &mut [u8],
+) -> ReadResult<()>
+    requires { 0 < length out.old }
+    ensures stays { Stays (B.source buf.old) (refused (kinds result)) (B.source buf.new) }
+    ensures can_fail { CanFail (B.source buf.old) (refused (kinds result)) }
+    ensures memory { TakesNoMemory (kinds result) }
+    ensures ok { IsTrue (B.source buf.old).told → OnOk result (
+        Takes (B.source buf.old) (length out.old) (B.source buf.new)
+        × (out.new ≡ take (length out.old) (B.source buf.old).left)) }
+    ensures err { IsTrue (B.source buf.old).told → IfErr result (λ e.
+        FailsToTake (B.source buf.old) (length out.old) (refusal_kind e) (B.source buf.new)) }
 {
-    let mut bytes = [0u8; N];
-    fill(buf, &mut bytes)?;
-    Ok(bytes)
+    match fill_at_once(buf, kept, out) {
+        Ok(true) => Ok(()),
+        Ok(false) => fill_slowly(buf, kept, out),
+        Err(refusal) => Err(refusal),
+    }
 }

@@ -4,7 +4,7 @@ ghost use Rattle.std.specs.Prelude.{◌≡◌};
 ghost use Rattle.perf_base.specs.Errors.{kind_of};
 ghost use Rattle.perf_base.specs.Refusals.{IsAnswerOf, refusal_kind};
 
-use crate::cursor::{ParseBufCursor, skip};
+use crate::cursor::{ParseBufCursor, cut, skip};
 use crate::fill::fill;
 use crate::input::Input;
 use crate::parsebuf::ParseBuf;
@@ -68,10 +68,7 @@ impl<'p, B: ParseBuf<'p>> Input<'p> for Outer<B> {
 
     #[inline]
     fn fill(&mut self, out: &mut [u8]) -> ReadResult<()> {
-        match fill(&mut self.buf, out) {
-            Ok(()) => Ok(()),
-            Err(error) => Err(self.kept.keep(error)),
-        }
+        fill(&mut self.buf, &mut self.kept, out)
     }
 
     #[inline]
@@ -100,10 +97,7 @@ impl<'p, B: ParseBuf<'p>> Input<'p> for Outer<B> {
 
     #[inline]
     fn cut(&mut self, alloc: Global, len: usize) -> ReadResult<ParseBufCursor<'p>> {
-        match ParseBufCursor::new(alloc, &mut self.buf, len) {
-            Ok(cursor) => Ok(cursor),
-            Err(error) => Err(self.kept.keep(error)),
-        }
+        cut(alloc, &mut self.buf, &mut self.kept, len)
     }
 
     #[inline]
