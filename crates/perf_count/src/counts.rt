@@ -1,7 +1,7 @@
 //! What is counted of frames.
 
 ghost use Rattle.std.specs.Prelude.{◌≡◌};
-ghost use Rattle.perf_event_data.specs.Runs.{pairs_said};
+ghost use Rattle.perf_parser.specs.Runs.{pairs_said};
 ghost use Rattle.perf_count.specs.Counting.{plus, counted};
 
 use crate::sums::frame_sum;

@@ -5,7 +5,7 @@ ghost use Rattle.perf_types.specs.Comm.{comm_value};
 ghost use Rattle.perf_types.specs.Mmap.{mmap_value};
 ghost use Rattle.perf_types.specs.Mmap2.{mmap2_value};
 ghost use Rattle.perf_records.specs.Records.{record_value};
-ghost use Rattle.perf_event_data.specs.Answers.{said};
+ghost use Rattle.perf_parser.specs.Runs.{said};
 ghost use Rattle.perf_count.specs.Counting.{wrapped, mmap_sum, mmap2_sum, comm_sum, task_sum, lost_sum, record_sum, frame_sum};
 
 use perf_event_data::parse::ParseResult;

@@ -33,4 +33,6 @@ mod side_band;
 #[cfg(test)]
 mod streams;
 #[cfg(test)]
+mod through_buffers;
+#[cfg(test)]
 mod values;

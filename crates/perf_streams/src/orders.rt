@@ -8,8 +8,10 @@ use perf_base::config::ParseConfig;
 use perf_base::endian::{Big, Dynamic, Endian, Little, Native};
 use perf_base::error::{ErrorKind, ParseError, ParseResult};
 use perf_base::sys::perf_event_header;
-use perf_event_data::parse::Parser;
-use perf_event_data::{RunEnd, read_records};
+use perf_event_data::PieceBuf;
+use perf_event_data::parse::{ParseBuf, Parser};
+use std::alloc::Global;
+use std::io::BufReader;
 use std::process::Abort;
 use std::test::Fail;
 
@@ -116,22 +118,50 @@ fn an_order_of_words_reads_its_own_bytes(rt: HostRuntime) -> Result<(), Fail> {
     )
 }
 
+// A run lends its order to each frame's body.
 #[test]
-fn a_refused_duplicate_ends_the_run_behind_the_header(rt: HostRuntime) -> Result<(), Fail> {
+fn a_run_asks_for_no_second_order(rt: HostRuntime) -> Result<(), Fail> {
     let bytes = b"\x02\0\0\0\0\0\x07\0\x0D\0\0\0\0\0\x10\0\x05\0\0\0\0\0\0\0";
+    let want = "2 0 7 InvalidRecord; 13 0 16 LostSamples 5; done | done";
+    check_everywhere(&rt, rt.alloc(), bytes, Single, &[10, 10], want)
+}
 
-    // The eight bytes of the second body are then the next header, whose size is 0.
-    let want = "2 0 7 InvalidRecord; fault OutOfMemory | 5 0 0 InvalidRecord; done";
-    check_everywhere(&rt, rt.alloc(), bytes, Single, &[10, 10], want)?;
-    let mut parser = Parser::new(
-        rt.alloc(),
-        &bytes[..],
-        ParseConfig::<Little>::default().with_endian(Single),
-    );
-    assert!(rt; matches!(read_records(&mut parser, 10).end, RunEnd::Fault(_)));
-    assert_eq!(rt; parser.parse_u64()?, 5);
+// The frame is taken, for whose body there is no parser, and the next one is read.
+fn check_refused_body<'p, B: ParseBuf<'p> + Drop>(
+    rt: &impl Abort,
+    alloc: Global,
+    buf: B,
+) -> Result<(), Fail> {
+    let config = ParseConfig::<Little>::default().with_endian(Single);
+    let mut parser = Parser::new(alloc, buf, config);
+    let refused = parser.parse_metadata().map_err(|error| error.kind());
+    assert!(rt; matches!(refused, Err(ErrorKind::OutOfMemory)));
+    let header = parser.parse::<perf_event_header>()?;
+    assert_eq!(rt; (header.type_, header.misc, header.size), (13, 0, 16));
+    let refused = parser
+        .parse_metadata_with_header(header)
+        .map_err(|error| error.kind());
+    assert!(rt; matches!(refused, Err(ErrorKind::OutOfMemory)));
+    assert_eq!(rt; parser.parse_u64()?, 7);
     let rest = parser.parse_rest()?;
     assert!(rt; rest.is_empty());
+    Ok(())
+}
+
+#[test]
+fn a_refused_duplicate_refuses_a_parser_of_the_body(rt: HostRuntime) -> Result<(), Fail> {
+    let bytes: &[u8] = b"\x0D\0\0\0\0\0\x10\0\x05\0\0\0\0\0\0\0\
+        \x0D\0\0\0\0\0\x10\0\x06\0\0\0\0\0\0\0\x07\0\0\0\0\0\0\0";
+    check_refused_body(&rt, rt.alloc(), bytes)?;
+    for capacity in [1, 7, 8192] {
+        let reader = BufReader::with_capacity(rt.alloc(), capacity, bytes)?;
+        check_refused_body(&rt, rt.alloc(), reader)?;
+    }
+    for most in [1, 3, 64] {
+        for lasting in [true, false] {
+            check_refused_body(&rt, rt.alloc(), PieceBuf::new(bytes, most, lasting))?;
+        }
+    }
     Ok(())
 }
 

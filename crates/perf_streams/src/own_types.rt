@@ -16,17 +16,13 @@ struct Task {
 
 // It costs two reads, whatever it says.
 impl Layout for Task {
-    ghost parses = { λ old result new. ⊤ };
+    ghost parses = { λ old seen new. ⊤ };
 
-    ghost counts = { λ old e new. ⊤ };
-
-    ghost faults = { λ old e. ⊤ };
-
-    ghost costs = { λ old e new. e ≡ None → new.reads ≡ old.reads + 2 };
+    ghost counts = { λ old e new. e ≡ None → new.reads ≡ old.reads + 2 };
 }
 
 impl<'p, B: ParseBuf<'p>> Parse<'p, B> for Task {
-    #[tactic(auto, using(perf_event_data::proofs::Paying::chain))]
+    #[tactic(auto, using(perf_parser::proofs::Paying::chain))]
     fn parse<E: Endian>(parser: &mut Parser<B, E>) -> ParseResult<Self> {
         let pid = parser.parse_u32()?;
         let tid = parser.parse_u32()?;
@@ -44,17 +40,13 @@ struct OwnSample {
 
 // Nothing is said of it.
 impl Layout for OwnSample {
-    ghost parses = { λ old result new. ⊤ };
+    ghost parses = { λ old seen new. ⊤ };
 
     ghost counts = { λ old e new. ⊤ };
-
-    ghost faults = { λ old e. ⊤ };
-
-    ghost costs = { λ old e new. ⊤ };
 }
 
 impl<'p, B: ParseBuf<'p>> Parse<'p, B> for OwnSample {
-    #[tactic(auto, using(perf_event_data::proofs::Paying::chain))]
+    #[tactic(auto, using(perf_parser::proofs::Paying::chain))]
     fn parse<E: Endian>(parser: &mut Parser<B, E>) -> ParseResult<Self> {
         let ip = parser.parse()?;
         let task = parser.parse()?;

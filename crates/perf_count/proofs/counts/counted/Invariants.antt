@@ -1,6 +1,6 @@
 use Rattle.std.proofs.Common.{◌≡◌, ◌≤◌, take}
 use Rattle.std.specs.Prelude.{is_err, sum_by, count_by}
-use Rattle.perf_event_data.specs.Runs.{pairs_said}
+use Rattle.perf_parser.specs.Runs.{pairs_said}
 use Rattle.perf_count.specs.Counting.{wrapped, frame_sum}
 use Rattle.perf_count.proofs.counts.counted.Given as goal
 

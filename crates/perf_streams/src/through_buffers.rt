@@ -1,49 +1,15 @@
 //! Values, frames and refusals, through slices, readers and pieces.
 
-use perf_base::cow::CowSlice;
-use perf_base::endian::{Endian, Little};
-use perf_base::sys::{perf_event_attr, perf_event_header};
-use perf_buffers::pieces::PieceBuf;
-use perf_parser::parse::{
+use crate::buffers::{Check, check_through};
+use perf_event_data::endian::{Endian, Little};
+use perf_event_data::parse::{
     ErrorKind, Layout, Parse, ParseBuf, ParseConfig, ParseError, ParseRecord, ParseResult, Parser,
 };
-use perf_records::record::Record;
-use std::alloc::Global;
+use perf_event_data::sys::{perf_event_attr, perf_event_header};
+use perf_event_data::{CowSlice, Record};
 use std::io::{self, BufReader, Read};
 use std::process::Abort;
 use std::test::Fail;
-
-// What is checked of a parser over any buffer.
-trait Check<'p, B: ParseBuf<'p>> {
-    fn check<E: Endian>(rt: &impl Abort, parser: &mut Parser<B, E>) -> Result<(), Fail>;
-}
-
-// The check of one buffer.
-fn check_over<'p, B: ParseBuf<'p> + Drop, C: Check<'p, B>>(
-    rt: &impl Abort,
-    alloc: Global,
-    buf: B,
-) -> Result<(), Fail> {
-    let mut parser = Parser::new(alloc, buf, ParseConfig::<Little>::default());
-    C::check(rt, &mut parser)
-}
-
-// Over a slice, readers of 1 and 7 bytes, and pieces of 3 bytes that last or not.
-fn check_through<'p, C>(rt: &impl Abort, alloc: Global, bytes: &'p [u8]) -> Result<(), Fail>
-where
-    C: Check<'p, &'p [u8]> + Check<'p, BufReader<&'p [u8]>> + Check<'p, PieceBuf<'p>>,
-{
-    check_over::<&'p [u8], C>(rt, alloc, bytes)?;
-    for capacity in [1, 7] {
-        let reader = BufReader::with_capacity(alloc, capacity, bytes)?;
-        check_over::<BufReader<&'p [u8]>, C>(rt, alloc, reader)?;
-    }
-    for lasting in [false, true] {
-        let pieces = PieceBuf::new(bytes, 3, lasting);
-        check_over::<PieceBuf<'p>, C>(rt, alloc, pieces)?;
-    }
-    Ok(())
-}
 
 // LOST, SWITCH, COMM, an MMAP2 with a build id, and a type that the kernel does not have.
 const FRAMES: &[u8] = b"\x02\0\0\0\0\0\x18\0\x07\0\0\0\0\0\0\0\x05\0\0\0\0\0\0\0\
