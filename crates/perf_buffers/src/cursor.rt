@@ -127,14 +127,13 @@ impl<'p> ParseBufCursor<'p> {
 impl<'p> ParseBuf<'p> for ParseBufCursor<'p> {
     ghost use Rattle.perf_buffers.specs.Cursor.{held_left, is_lent};
 
-    ghost source = { λ c.
-        record {
-          left = held_left c.held;
-          told = true;
-          whole = is_lent c.held;
-          can_fault = false;
-          faults = None;
-        } };
+    ghost source = { λ c. record {
+      left = held_left c.held;
+      told = true;
+      whole = is_lent c.held;
+      can_fault = false;
+      faults = None;
+    } };
 
     ghost ready = { λ c. held_left c.held };
 

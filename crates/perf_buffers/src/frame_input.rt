@@ -83,14 +83,13 @@ fn take_all(alloc: Global, bytes: &mut Vec<u8>, place: &mut usize) -> ReadResult
 }
 
 impl<'p> Input<'p> for ParseBufCursor<'p> {
-    ghost source = { λ c.
-        record {
-          left = held_left c.held;
-          told = true;
-          whole = is_lent c.held;
-          can_fault = false;
-          faults = None;
-        } };
+    ghost source = { λ c. record {
+      left = held_left c.held;
+      told = true;
+      whole = is_lent c.held;
+      can_fault = false;
+      faults = None;
+    } };
 
     ghost hint = { λ c. Some (length (held_left c.held)) };
 

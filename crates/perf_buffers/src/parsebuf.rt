@@ -140,14 +140,13 @@ fn read_ahead<R: Read>(reader: &mut BufReader<R>) -> ParseResult<()>
 /// Every fault of the reader is `External`, also where the reader calls it an interruption or an
 /// early end.
 impl<'p, R: Read> ParseBuf<'p> for BufReader<R> {
-    ghost source = { λ s.
-        record {
-          left = known (reader_remaining R.remaining s);
-          told = is_known (reader_remaining R.remaining s);
-          whole = false;
-          can_fault = true;
-          faults = None;
-        } };
+    ghost source = { λ s. record {
+      left = known (reader_remaining R.remaining s);
+      told = is_known (reader_remaining R.remaining s);
+      whole = false;
+      can_fault = true;
+      faults = None;
+    } };
 
     ghost ready = { λ s. reader_buffer s };
 
