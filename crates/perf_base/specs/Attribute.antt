@@ -1,5 +1,5 @@
--- The attribute of an event, `struct perf_event_attr` of perf_event.h: each kernel that made it larger put its fields
--- behind those that were there.
+-- The attribute of an event, `struct perf_event_attr` of perf_event.h: each kernel that made it
+-- larger put its fields behind those that were there.
 use Rattle.std.specs.Prelude.{ℕ, pos, ◌-◌, Bool, ◌==◌, ◌||◌, nat_lt, nat_le, Option}
 use Rattle.std.specs.Option.{unwrap_or}
 use Rattle.std.specs.Int.{w32, cast_signed}
@@ -9,10 +9,12 @@ use Rattle.perf_base.specs.Zeros.{all_zero}
 use Rattle.perf_base.specs.declared.sys.perf_event_attr.{perf_event_attr}
 use Rattle.perf_base.specs.declared.error.ErrorKind.TheVariants.{InvalidRecord, UnsupportedData}
 
--- The sizes that an attribute has had, one for each time that it grew; a larger one is of a newer kernel.
+-- The sizes that an attribute has had, one for each time that it grew; a larger one is of a newer
+-- kernel.
 abbrev pub is_attribute_size : ℕ → Bool
 is_attribute_size n =
-    n == 64 || n == 72 || n == 80 || n == 96 || n == 104 || n == 112 || n == 120 || n == 128 || n == 136 || nat_lt 136 n
+    n == 64 || n == 72 || n == 80 || n == 96 || n == 104 || n == 112 || n == 120 || n == 128
+    || n == 136 || nat_lt 136 n
 
 -- a field that the size does not reach is 0
 abbrev pub or_zero : Option ℕ → ℕ

@@ -1,4 +1,5 @@
--- How records are to be read: what an attribute of perf_event_open(2) says of it, packed into one word and two masks.
+-- How records are to be read: what an attribute of perf_event_open(2) says of it, packed into one
+-- word and two masks.
 use Rattle.std.specs.Prelude.{ℕ, ◌+◌, ◌/◌, ◌%◌, ◌^◌, Bool, nat_lt, if◌then◌else◌}
 use Rattle.perf_words.specs.Bits.{has_bit}
 use Rattle.perf_base.specs.declared.sys.perf_event_attr.{perf_event_attr}
@@ -17,8 +18,8 @@ pub record Configuration : Type 0 where
   pub regs_user : ℕ
   pub regs_intr : ℕ
 
--- The packed word: bits 0 to 5 hold the read format, 6 to 45 the sample type, 46 sample_id_all, 47 branch_hw_index and
--- 48 to 63 misc.
+-- The packed word: bits 0 to 5 hold the read format, 6 to 45 the sample type, 46 sample_id_all, 47
+-- branch_hw_index and 48 to 63 misc.
 abbrev pub unpacked : (word regs_user regs_intr : ℕ) → Configuration
 unpacked word regs_user regs_intr = record {
   read_format = word % 2 ^ 6;
@@ -34,7 +35,8 @@ unpacked word regs_user regs_intr = record {
 abbrev pub plain : Configuration
 plain = unpacked 0 0 0
 
--- What is kept of a read format: its lowest six bits, of which bit 5 is also set where it has any bit above them.
+-- What is kept of a read format: its lowest six bits, of which bit 5 is also set where it has any
+-- bit above them.
 abbrev pub kept_read_format : ℕ → ℕ
 kept_read_format r = if nat_lt r (2 ^ 6) then r else 2 ^ 5 + r % 2 ^ 5
 
@@ -42,8 +44,8 @@ kept_read_format r = if nat_lt r (2 ^ 6) then r else 2 ^ 5 + r % 2 ^ 5
 abbrev pub kept_sample_type : ℕ → ℕ
 kept_sample_type t = t % 2 ^ 40
 
--- What an attribute says: bit 18 of its flags is sample_id_all, and bit 17 of its branch sample type says that branch
--- stacks have the hardware's index.
+-- What an attribute says: bit 18 of its flags is sample_id_all, and bit 17 of its branch sample
+-- type says that branch stacks have the hardware's index.
 abbrev pub configured_by : perf_event_attr → Configuration
 configured_by a = record {
   read_format = kept_read_format a.read_format;

@@ -8,7 +8,9 @@ use Rattle.std.specs.IoError.{error_kind}
 use Rattle.anyhow.specs.declared.error.Error.{Error}
 use Rattle.anyhow.specs.Error.{error_message}
 use Rattle.perf_base.specs.declared.error.ErrorKind.{ErrorKind}
-use Rattle.perf_base.specs.declared.error.ErrorKind.TheVariants.{Eof, InvalidRecord, UnsupportedConfig, UnsupportedData, External, OutOfMemory}
+use Rattle.perf_base.specs.declared.error.ErrorKind.TheVariants.{Eof, InvalidRecord}
+use Rattle.perf_base.specs.declared.error.ErrorKind.TheVariants.{UnsupportedConfig, UnsupportedData}
+use Rattle.perf_base.specs.declared.error.ErrorKind.TheVariants.{External, OutOfMemory}
 use Rattle.perf_base.specs.declared.error.Detail.{Detail}
 use Rattle.perf_base.specs.declared.error.Detail.TheVariants.{Nothing, Message, Cause}
 use Rattle.perf_base.specs.declared.error.ParseError.{ParseError}
@@ -38,7 +40,8 @@ abbrev pub cause_of : ParseError → Option Error
 cause_of e = detail_cause e.detail
 
 -- what an error was made of
-pub record IsMadeOf (e : ParseError) (kind : ErrorKind) (message : Option (List ℕ)) (cause : Option Error) : Type 0 where
+pub record IsMadeOf (e : ParseError) (kind : ErrorKind) (message : Option (List ℕ))
+    (cause : Option Error) : Type 0 where
   pub kind_is : kind_of e ≡ kind
   pub message_is : message_of e ≡ message
   pub cause_is : cause_of e ≡ cause

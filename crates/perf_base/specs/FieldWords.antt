@@ -1,6 +1,8 @@
--- The words in which the parts of a structure are written down, one line a field, as in the manual page.
+-- The words in which the parts of a structure are written down, one line a field, as in the manual
+-- page.
 use Rattle.std.specs.Prelude.{ℕ, Bool, List, Option, if◌then◌else◌}
-use Rattle.perf_base.specs.Layout.{w1, w2, w4, w8, number, optional, run, words, padding, rest, Parts, done, part, check, mapped}
+use Rattle.perf_base.specs.Layout.{w1, w2, w4, w8, number, optional, run, words, padding, rest}
+use Rattle.perf_base.specs.Layout.{Parts, done, part, check, mapped}
 use Rattle.perf_base.specs.Zeros.{trimmed}
 use Rattle.perf_base.specs.declared.error.ErrorKind.{ErrorKind}
 

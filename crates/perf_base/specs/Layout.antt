@@ -1,7 +1,9 @@
--- A layout, as perf_event_open(2) writes one: which parts stand one behind another in the bytes of a value, and where.
--- A part has a size, and its place is the sum of the sizes before it. The value is made of the slices at those places,
--- and a refusal has the kind of the first part that does not stand. Nothing here reads step by step.
-use Rattle.std.specs.Prelude.{ℕ, zero, suc, ◌+◌, ◌-◌, ◌*◌, Bool, true, false, List, [], ◌∷◌, length, take, drop, get_or, Option, Some, None, Result, Ok, Err, nat_le}
+-- A layout, as perf_event_open(2) writes one: which parts stand one behind another in the bytes of
+-- a value, and where. A part has a size, and its place is the sum of the sizes before it. The value
+-- is made of the slices at those places, and a refusal has the kind of the first part that does not
+-- stand. Nothing here reads step by step.
+use Rattle.std.specs.Prelude.{ℕ, zero, suc, ◌+◌, ◌-◌, ◌*◌, Bool, true, false, List, [], ◌∷◌, length}
+use Rattle.std.specs.Prelude.{take, drop, get_or, Option, Some, None, Result, Ok, Err, nat_le}
 use Rattle.perf_base.specs.Order.{Order}
 use Rattle.perf_base.specs.declared.error.ErrorKind.{ErrorKind}
 use Rattle.perf_base.specs.declared.error.ErrorKind.TheVariants.{Eof}
@@ -77,8 +79,8 @@ size rest left = left
 
 -- ---- parts
 
--- The parts of a value of A. What follows a part may hang on what it answers. A check takes no bytes, and where it is
--- false it refuses with its kind.
+-- The parts of a value of A. What follows a part may hang on what it answers. A check takes no
+-- bytes, and where it is false it refuses with its kind.
 pub data Parts (A : Type 0) : Type 0 where
   done : A → Parts A
   part : (shape : Shape) → (Answer shape → Parts A) → Parts A
@@ -137,7 +139,8 @@ value o body s (check t e p) = value o body s p
 
 -- ---- what stands
 
--- A part stands where its place plus its size is at most the body's length, and a check where it is true.
+-- A part stands where its place plus its size is at most the body's length, and a check where it is
+-- true.
 abbrev pub stands : ℕ → Spot → Bool
 stands len (takes s n shape) = nat_le (s + n) len
 stands len (holds s t e) = t
@@ -156,7 +159,8 @@ fault len (x ∷ xs) = elim (stands len x) [ true ↦ fault len xs | false ↦ S
 
 -- The value, where every part stands; else the kind of the first that does not.
 abbrev pub layout_at : {A : Type 0} → Order → List ℕ → ℕ → Parts A → Result A ErrorKind
-layout_at o body s p = elim (fault (length body) (spots o body s p)) [ None ↦ Ok (value o body s p) | Some e ↦ Err e ]
+layout_at o body s p =
+    elim (fault (length body) (spots o body s p)) [ None ↦ Ok (value o body s p) | Some e ↦ Err e ]
 
 -- The same from the body's first byte on. Bytes behind the last part do not matter.
 abbrev pub layout : {A : Type 0} → Order → Parts A → List ℕ → Result A ErrorKind

@@ -1,7 +1,10 @@
--- Elementary reads: how much work a layout may cost. One read is one number, or one run of bytes that wants at least one.
-use Rattle.std.specs.Prelude.{ℕ, zero, suc, ◌+◌, ◌-◌, ◌/◌, true, false, List, [], ◌∷◌, length, take, drop, Option, Some, None, nat_le}
+-- Elementary reads: how much work a layout may cost. One read is one number, or one run of bytes
+-- that wants at least one.
+use Rattle.std.specs.Prelude.{ℕ, zero, suc, ◌+◌, ◌-◌, ◌/◌, true, false, List, [], ◌∷◌, length, take}
+use Rattle.std.specs.Prelude.{drop, Option, Some, None, nat_le}
 use Rattle.perf_base.specs.Order.{Order}
-use Rattle.perf_base.specs.Layout.{Shape, number, optional, run, words, padding, rest, answer_of, size, Parts, done, part, check, Spot, takes, holds, spots}
+use Rattle.perf_base.specs.Layout.{Shape, number, optional, run, words, padding, rest, answer_of}
+use Rattle.perf_base.specs.Layout.{size, Parts, done, part, check, Spot, takes, holds, spots}
 use Rattle.perf_base.specs.declared.error.ErrorKind.{ErrorKind}
 
 -- one, but none for nothing
@@ -9,7 +12,8 @@ abbrev pub one_if_any : ℕ → ℕ
 one_if_any zero = 0
 one_if_any (suc n) = 1
 
--- The reads of a part of n bytes that stands: each number is one, and so are other bytes, where there are any.
+-- The reads of a part of n bytes that stands: each number is one, and so are other bytes, where
+-- there are any.
 abbrev pub reads_of : Shape → ℕ → ℕ
 reads_of (number w) n = 1
 reads_of (optional b w) n = one_if_any n
@@ -26,13 +30,16 @@ failed_reads _ left = 1
 -- the reads of parts at their places, up to the first that does not stand
 abbrev pub reads : ℕ → List Spot → ℕ
 reads len [] = 0
-reads len (takes s n shape ∷ xs) = elim (nat_le (s + n) len) [ true ↦ reads_of shape n + reads len xs | false ↦ failed_reads shape (len - s) ]
+reads len (takes s n shape ∷ xs) =
+    elim (nat_le (s + n) len)
+    [ true ↦ reads_of shape n + reads len xs | false ↦ failed_reads shape (len - s) ]
 reads len (holds s t e ∷ xs) = elim t [ true ↦ reads len xs | false ↦ 0 ]
 
 -- The bytes that are consumed: all, where bytes are lacking; those before a check that is false.
 abbrev pub consumed : ℕ → ℕ → List Spot → ℕ
 consumed len at [] = at
-consumed len at (takes s n shape ∷ xs) = elim (nat_le (s + n) len) [ true ↦ consumed len (s + n) xs | false ↦ len ]
+consumed len at (takes s n shape ∷ xs) =
+    elim (nat_le (s + n) len) [ true ↦ consumed len (s + n) xs | false ↦ len ]
 consumed len at (holds s t e ∷ xs) = elim t [ true ↦ consumed len s xs | false ↦ s ]
 
 -- one where there was a refusal

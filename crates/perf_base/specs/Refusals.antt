@@ -2,7 +2,9 @@
 use Rattle.std.specs.Prelude.{◌≡◌, ◌≢◌, ℕ, List, codes, Option, Some, None, Result, Ok, Err, IfErr}
 use Rattle.perf_base.specs.Errors.{kind_of, message_of, cause_of}
 use Rattle.perf_base.specs.declared.error.ErrorKind.{ErrorKind}
-use Rattle.perf_base.specs.declared.error.ErrorKind.TheVariants.{Eof, InvalidRecord, UnsupportedConfig, UnsupportedData, External, OutOfMemory}
+use Rattle.perf_base.specs.declared.error.ErrorKind.TheVariants.{Eof, InvalidRecord}
+use Rattle.perf_base.specs.declared.error.ErrorKind.TheVariants.{UnsupportedConfig, UnsupportedData}
+use Rattle.perf_base.specs.declared.error.ErrorKind.TheVariants.{External, OutOfMemory}
 use Rattle.perf_base.specs.declared.error.ParseError.{ParseError}
 use Rattle.perf_base.specs.declared.refusal.Refusal.{Refusal}
 use Rattle.perf_base.specs.declared.refusal.Refusal.TheVariants as why
@@ -27,15 +29,20 @@ refusal_kind (why.Kept kind) = kind
 abbrev pub refusal_text : Refusal → Option (List ℕ)
 refusal_text why.Eof = None
 refusal_text why.SmallHeader = Some (codes "header size was too small to be valid")
-refusal_text why.NoRoomForId = Some (codes "config has sample_id_all bit set but record does not have enough data to store the sample_id")
+refusal_text why.NoRoomForId =
+    Some (codes "config has sample_id_all bit set but record does not have enough data to store the sample_id")
 refusal_text why.AttributeSize = Some (codes "not a valid size for a perf_event_attr struct")
-refusal_text why.AttributeTail = Some (codes "serialized perf_event_attr contains fields not supported by this version of perf-event-data")
+refusal_text why.AttributeTail =
+    Some (codes "serialized perf_event_attr contains fields not supported by this version of perf-event-data")
 refusal_text why.BuildIdLength = Some (codes "build_id had invalid length")
 refusal_text why.UsedStack = Some (codes "stack dyn_size was greater than the record size")
-refusal_text why.SingleRead = Some (codes "attempted to parse a SingleRead with a config that has GROUP set in read_format")
-refusal_text why.GroupRead = Some (codes "attempted to parse a GroupRead with a config that does not have GROUP set in read_format")
+refusal_text why.SingleRead =
+    Some (codes "attempted to parse a SingleRead with a config that has GROUP set in read_format")
+refusal_text why.GroupRead =
+    Some (codes "attempted to parse a GroupRead with a config that does not have GROUP set in read_format")
 refusal_text why.ReadFormat = Some (codes "read_format contains unsupported flags")
-refusal_text why.GroupLength = Some (codes "number of elements in group read was too large for data type")
+refusal_text why.GroupLength =
+    Some (codes "number of elements in group read was too large for data type")
 refusal_text why.OutOfMemory = None
 refusal_text (why.Kept kind) = None
 

@@ -1,7 +1,9 @@
--- Bytes put into a body, and taken out of it: what a sample type with one flag more, or one less, does to a SAMPLE.
+-- Bytes put into a body, and taken out of it: what a sample type with one flag more, or one less,
+-- does to a SAMPLE.
 use Rattle.std.specs.Prelude.{◌≡◌, ℕ, List, [], ◌∷◌, ◌++◌, length, take, drop, Option, Some, None}
 use Rattle.perf_base.specs.Order.{Order}
-use Rattle.perf_base.specs.Layout.{Shape, number, optional, run, words, padding, rest, Answer, Parts, done, part, check, ending, spots, fault}
+use Rattle.perf_base.specs.Layout.{Shape, number, optional, run, words, padding, rest, Answer}
+use Rattle.perf_base.specs.Layout.{Parts, done, part, check, ending, spots, fault}
 
 -- a shape that does not take all that is left
 abbrev pub IsBounded : Shape → Type 0

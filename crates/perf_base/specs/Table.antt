@@ -1,4 +1,5 @@
--- Tables: fields one behind another, each there or absent, as the sample type of perf_event_open(2) says it of a SAMPLE.
+-- Tables: fields one behind another, each there or absent, as the sample type of perf_event_open(2)
+-- says it of a SAMPLE.
 use Rattle.std.specs.Prelude.{ℕ, List, [], ◌∷◌, take, Option, Some, None}
 use Rattle.perf_base.specs.Order.{Order}
 use Rattle.perf_base.specs.Layout.{Parts, done, ◌>>=◌, ending}

@@ -1,7 +1,8 @@
 //! How records are to be read.
 
 ghost use Rattle.std.specs.Prelude.{◌≡◌, ◌<◌, ◌^◌, IfOk, IfErr, IsTrue};
-ghost use Rattle.perf_base.specs.Configuration.{plain, unpacked, kept_read_format, configured_by, under_misc, under_sample_type, under_read_format};
+ghost use Rattle.perf_base.specs.Configuration.{plain, unpacked, kept_read_format, configured_by};
+ghost use Rattle.perf_base.specs.Configuration.{under_misc, under_sample_type, under_read_format};
 ghost use Rattle.perf_base.specs.Configured.{configuration_of, endian_of};
 ghost use Rattle.perf_base.specs.Errors.{kind_of};
 ghost use Rattle.perf_words.specs.SetBits.{read_format_bits, sample_flags_bits};
@@ -23,8 +24,8 @@ const MISC_AT: u32 = 48;
 
 const SAMPLE_TYPE_BITS: u32 = 40;
 
-/// What the parser has to know of the event that wrote the records: its flags, packed into one word, two masks of
-/// registers and the byte order.
+/// What the parser has to know of the event that wrote the records: its flags, packed into one
+/// word, two masks of registers and the byte order.
 #[derive(Debug, Drop)]
 pub struct ParseConfig<E> {
     word: u64,
@@ -47,8 +48,8 @@ fn kept_read_format(read_format: u64) -> u64
 }
 
 impl<E> ParseConfig<E> {
-    /// What a read of a counter gives beside its value, `read_format` of the attribute: the five bits that are known,
-    /// and bit 5 where there was any other.
+    /// What a read of a counter gives beside its value, `read_format` of the attribute: the five
+    /// bits that are known, and bit 5 where there was any other.
     #[inline]
     pub fn read_format(&self) -> ReadFormat
         ensures { read_format_bits result ≡ (configuration_of self.now).read_format }
@@ -137,7 +138,8 @@ impl<E> ParseConfig<E> {
 
     /// The same configuration with another sample type, of which the lowest 40 bits are kept.
     pub fn with_sample_type(self, sample_type: SampleFlags) -> ParseConfig<E>
-        ensures changed { configuration_of result ≡ under_sample_type (sample_flags_bits sample_type) (configuration_of self) }
+        ensures changed { configuration_of result ≡
+            under_sample_type (sample_flags_bits sample_type) (configuration_of self) }
         ensures endian { endian_of result ≡ endian_of self }
     {
         let below = self.word % (1 << SAMPLE_TYPE_AT);
@@ -151,10 +153,11 @@ impl<E> ParseConfig<E> {
         }
     }
 
-    /// The same configuration with another read format. Its lowest six bits are kept, of which bit 5 is also set where
-    /// there are others above them.
+    /// The same configuration with another read format. Its lowest six bits are kept, of which bit
+    /// 5 is also set where there are others above them.
     pub fn with_read_format(self, read_format: ReadFormat) -> ParseConfig<E>
-        ensures changed { configuration_of result ≡ under_read_format (read_format_bits read_format) (configuration_of self) }
+        ensures changed { configuration_of result ≡
+            under_read_format (read_format_bits read_format) (configuration_of self) }
         ensures endian { endian_of result ≡ endian_of self }
     {
         let above = self.word >> SAMPLE_TYPE_AT;
@@ -201,8 +204,10 @@ impl<E: Endian> ParseConfig<E> {
     #[inline]
     pub fn duplicate(&self) -> ParseResult<ParseConfig<E>>
         ensures same { IfOk result (λ c. configuration_of c ≡ configuration_of self.now) }
-        ensures order { IfOk result (λ c. (E.order (endian_of c) ≡ E.order (endian_of self.now)) × (E.may_refuse (endian_of c) ≡ E.may_refuse (endian_of self.now))) }
-        ensures refused { IfErr result (λ e. (kind_of e ≡ ErrorKind.OutOfMemory) × IsTrue (E.may_refuse (endian_of self.now))) }
+        ensures order { IfOk result (λ c. (E.order (endian_of c) ≡ E.order (endian_of self.now))
+            × (E.may_refuse (endian_of c) ≡ E.may_refuse (endian_of self.now))) }
+        ensures refused { IfErr result (λ e. (kind_of e ≡ ErrorKind.OutOfMemory)
+            × IsTrue (E.may_refuse (endian_of self.now))) }
     {
         Ok(ParseConfig {
             word: self.word,
@@ -229,7 +234,8 @@ impl<E: Default> Default for ParseConfig<E> {
 
 // The flags of an attribute, packed. There is no frame yet, so that misc is 0.
 fn packed(attr: &perf_event_attr) -> u64
-    ensures { unpacked result attr.now.sample_regs_user attr.now.sample_regs_intr ≡ configured_by attr.now }
+    ensures { unpacked result attr.now.sample_regs_user attr.now.sample_regs_intr ≡
+        configured_by attr.now }
 {
     let sample_id_all = (attr.flags >> 18) % 2;
     let branch_hw_index = (attr.branch_sample_type >> 17) % 2;
@@ -242,7 +248,8 @@ fn packed(attr: &perf_event_attr) -> u64
 
 /// What an attribute says, and the default order. No frame is read yet, so that `misc` is 0.
 impl<E: Default> From<perf_event_attr> for ParseConfig<E> {
-    ghost from_gives = { λ attr c. (configuration_of c ≡ configured_by attr) × E.is_default (endian_of c) };
+    ghost from_gives = { λ attr c. (configuration_of c ≡ configured_by attr)
+        × E.is_default (endian_of c) };
 
     fn from(attr: perf_event_attr) -> ParseConfig<E> {
         ParseConfig {

@@ -1,6 +1,7 @@
 //! A list that is borrowed from the input where it can be, and owned where it cannot.
 
-ghost use Rattle.std.specs.Prelude.{◌≡◌, ◌≤◌, length, take, drop, IsTrue, ◌↔◌, [], IsOk, IfOk, IfErr};
+ghost use Rattle.std.specs.Prelude.{◌≡◌, ◌≤◌, length, take, drop, IsTrue, ◌↔◌, [], IsOk, IfOk};
+ghost use Rattle.std.specs.Prelude.{IfErr};
 ghost use Rattle.perf_base.specs.Cow.{cow_items, is_borrowed, cow_form};
 ghost use Rattle.perf_base.specs.Copies.{IsClone, IsOwnedCopy};
 ghost use Rattle.perf_base.specs.Errors.{kind_of};
@@ -8,7 +9,8 @@ ghost use Rattle.perf_base.specs.Errors.{kind_of};
 use crate::error::{ErrorKind, ParseResult};
 use std::alloc::Global;
 
-/// Items that are borrowed from the input, or owned. Its meaning is the list of its items, whichever it is.
+/// Items that are borrowed from the input, or owned. Its meaning is the list of its items,
+/// whichever it is.
 #[derive(Debug, Drop)]
 pub enum CowSlice<'a, T: Copy> {
     /// Borrowed from the input, for as long as that lives.
@@ -51,7 +53,8 @@ impl<'a, T: Copy> CowSlice<'a, T> {
         }
     }
 
-    /// The first `at` items, and those behind them. Both are borrowed where the items are, and then no memory is taken.
+    /// The first `at` items, and those behind them. Both are borrowed where the items are, and then
+    /// no memory is taken.
     pub fn split_at(
         self,
         alloc: Global,
@@ -93,7 +96,8 @@ impl<'a, T: Copy> CowSlice<'a, T> {
         }
     }
 
-    /// The same items: borrowed where they are, and then no memory is taken, else in memory of their own.
+    /// The same items: borrowed where they are, and then no memory is taken, else in memory of
+    /// their own.
     pub fn clone(&self, alloc: Global) -> ParseResult<CowSlice<'a, T>>
         ensures { IsClone cow_items cow_form self.now result }
     {

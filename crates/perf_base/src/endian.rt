@@ -1,7 +1,7 @@
 //! Byte orders: how the bytes of a number become the number.
 //!
-//! Take [`Native`] for what this machine's kernel wrote, [`Dynamic`] for a file that says its order itself, and
-//! [`Little`] or [`Big`] where the order is known beforehand.
+//! Take [`Native`] for what this machine's kernel wrote, [`Dynamic`] for a file that says its order
+//! itself, and [`Little`] or [`Big`] where the order is known beforehand.
 
 ghost use Rattle.std.specs.Prelude.{◌≡◌, Bool, true, false, IsTrue, IfOk, IfErr};
 ghost use Rattle.perf_base.specs.Order.{Order, little, big};
@@ -10,7 +10,8 @@ ghost use Rattle.perf_base.specs.Errors.{kind_of};
 
 use crate::error::{ErrorKind, ParseResult};
 
-/// Turns bytes of the source into numbers. What an order answers is its own stated function of the bytes.
+/// Turns bytes of the source into numbers. What an order answers is its own stated function of the
+/// bytes.
 pub trait Endian: Drop {
     ghost order: { Self → Order };
 
@@ -36,8 +37,10 @@ pub trait Endian: Drop {
 
     /// A second order that converts alike. It is refused for want of memory alone.
     fn duplicate(&self) -> ParseResult<Self>
-        ensures alike { IfOk result (λ e. (order e ≡ order self.now) × (may_refuse e ≡ may_refuse self.now)) }
-        ensures refused { IfErr result (λ e. (kind_of e ≡ ErrorKind.OutOfMemory) × IsTrue (may_refuse self.now)) };
+        ensures alike { IfOk result (λ e. (order e ≡ order self.now)
+            × (may_refuse e ≡ may_refuse self.now)) }
+        ensures refused { IfErr result (λ e. (kind_of e ≡ ErrorKind.OutOfMemory)
+            × IsTrue (may_refuse self.now)) };
 }
 
 /// The machine's own order, which is little on every machine that this library is built for.

@@ -2,7 +2,8 @@
 
 ghost use Rattle.std.specs.Prelude.{◌≡◌, ◌≤◌, Some, None, option_map, codes, length};
 ghost use Rattle.std.specs.Fmt.Cut.{cut_to};
-ghost use Rattle.perf_base.specs.Errors.{kind_text, kind_of, message_of, cause_of, error_text, IsMadeOf, is_unexpected_eof};
+ghost use Rattle.perf_base.specs.Errors.{kind_text, kind_of, message_of, cause_of, error_text};
+ghost use Rattle.perf_base.specs.Errors.{IsMadeOf, is_unexpected_eof};
 ghost use Rattle.perf_base.specs.declared.error.ErrorKind.TheVariants.{Eof, External, OutOfMemory};
 
 use std::alloc::{AllocError, AllocFailed};
@@ -26,7 +27,8 @@ pub enum ErrorKind {
     UnsupportedConfig,
     /// An attribute has fields of a kernel that is newer than this library.
     UnsupportedData,
-    /// The buffer could not go on, as where a reader failed. This library answers it for nothing else.
+    /// The buffer could not go on, as where a reader failed. This library answers it for nothing
+    /// else.
     External,
     /// Memory was refused.
     OutOfMemory,
@@ -168,11 +170,13 @@ impl<T: Drop> From<AllocFailed<T>> for ParseError {
     }
 }
 
-/// An input that ended too early is [`ErrorKind::Eof`], and any other error [`ErrorKind::External`].
+/// An input that ended too early is [`ErrorKind::Eof`], and any other error
+/// [`ErrorKind::External`].
 impl From<io::Error> for ParseError {
     ghost use Rattle.std.specs.Prelude.{if◌then◌else◌};
 
-    ghost from_gives = { λ x e. IsMadeOf e (if is_unexpected_eof x then Eof else External) None None };
+    ghost from_gives = { λ x e.
+        IsMadeOf e (if is_unexpected_eof x then Eof else External) None None };
 
     fn from(error: io::Error) -> ParseError {
         if error.kind() == io::ErrorKind::UnexpectedEof {

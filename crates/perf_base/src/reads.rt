@@ -14,7 +14,8 @@ enum Steps {
     Sum(Snapshot<Steps>, Snapshot<Steps>),
 }
 
-/// How many elementary reads were made: a number for contracts alone, of which no byte is kept when it runs.
+/// How many elementary reads were made: a number for contracts alone, of which no byte is kept when
+/// it runs.
 #[derive(Drop)]
 pub struct Reads {
     made: Snapshot<Steps>,

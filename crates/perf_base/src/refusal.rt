@@ -1,4 +1,5 @@
-//! Why the calls inside this library refuse: a value of two bytes, which becomes an error where it is answered.
+//! Why the calls inside this library refuse: a value of two bytes, which becomes an error where it
+//! is answered.
 
 ghost use Rattle.std.specs.Prelude.{◌≡◌, option_map};
 ghost use Rattle.perf_base.specs.Errors.{kind_of};

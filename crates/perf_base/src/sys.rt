@@ -29,10 +29,11 @@ impl Default for perf_event_header {
     }
 }
 
-/// What an event counts or samples, and how: `struct perf_event_attr`, as it was passed to `perf_event_open(2)`.
+/// What an event counts or samples, and how: `struct perf_event_attr`, as it was passed to
+/// `perf_event_open(2)`.
 ///
-/// Where the kernel has a union, one of its names stands for all of them. A field that the attribute's size does not
-/// reach is 0.
+/// Where the kernel has a union, one of its names stands for all of them. A field that the
+/// attribute's size does not reach is 0.
 #[derive(Copy, Clone, Debug)]
 pub struct perf_event_attr {
     /// The kind of event, `PERF_TYPE_*`.
@@ -41,7 +42,8 @@ pub struct perf_event_attr {
     pub size: u32,
     /// Which event of that kind.
     pub config: u64,
-    /// After how many events a sample is taken; or `sample_freq`, how many samples a second there should be.
+    /// After how many events a sample is taken; or `sample_freq`, how many samples a second there
+    /// should be.
     pub sample_period: u64,
     /// Which fields a sample has, `PERF_SAMPLE_*`.
     pub sample_type: u64,

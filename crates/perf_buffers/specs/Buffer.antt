@@ -1,9 +1,13 @@
--- A buffer: the bytes that are left in it, and what its calls show, refuse and take. Nothing above speaks of chunks.
-use Rattle.std.specs.Prelude.{Option, Result, ◌≡◌, ℕ, ◌+◌, ◌<◌, Bool, true, false, IsTrue, List, [], length, drop, Ok, Err, Some, None, IfOk, IfErr, IsOkAnd, ◌≢◌}
+-- A buffer: the bytes that are left in it, and what its calls show, refuse and take. Nothing above
+-- speaks of chunks.
+use Rattle.std.specs.Prelude.{Option, Result, ◌≡◌, ℕ, ◌+◌, ◌<◌, Bool, true, false, IsTrue, List, []}
+use Rattle.std.specs.Prelude.{length, drop, Ok, Err, Some, None, IfOk, IfErr, IsOkAnd, ◌≢◌}
 use Rattle.std.specs.Io.{StartsWith}
 use Rattle.perf_base.specs.Errors.{kind_of}
 use Rattle.perf_base.specs.declared.error.ErrorKind.{ErrorKind}
-use Rattle.perf_base.specs.declared.error.ErrorKind.TheVariants.{Eof, InvalidRecord, UnsupportedConfig, UnsupportedData, External, OutOfMemory}
+use Rattle.perf_base.specs.declared.error.ErrorKind.TheVariants.{Eof, InvalidRecord}
+use Rattle.perf_base.specs.declared.error.ErrorKind.TheVariants.{UnsupportedConfig, UnsupportedData}
+use Rattle.perf_base.specs.declared.error.ErrorKind.TheVariants.{External, OutOfMemory}
 use Rattle.perf_base.specs.declared.error.ParseError.{ParseError}
 use Rattle.perf_buffers.specs.declared.parsebuf.ParseBufChunk.{ParseBufChunk}
 use Rattle.perf_buffers.specs.declared.parsebuf.ParseBufChunk.TheVariants as chunk
@@ -80,8 +84,8 @@ faults_after n (Some UnsupportedData) = n
 faults_after n (Some External) = one_more n
 faults_after n (Some OutOfMemory) = n
 
--- What any call keeps: a buffer stays whole and goes on telling its bytes, one that cannot fault never can again, and
--- faults are counted.
+-- What any call keeps: a buffer stays whole and goes on telling its bytes, one that cannot fault
+-- never can again, and faults are counted.
 abbrev pub Stays : Source → Option ErrorKind → Source → Type 0
 Stays old e new =
     (new.whole ≡ old.whole) × (IsTrue new.can_fault → IsTrue old.can_fault)
@@ -89,7 +93,9 @@ Stays old e new =
 
 -- `chunk` takes nothing, and what it showed is ready.
 abbrev pub KeepsChunk : Source → Result ParseBufChunk ParseError → Source → List ℕ → Type 0
-KeepsChunk old r new ready = Stays old (refusal r) new × (IsTrue old.told → new.left ≡ old.left) × IfOk r (λ c. ready ≡ chunk_bytes c)
+KeepsChunk old r new ready =
+    Stays old (refusal r) new × (IsTrue old.told → new.left ≡ old.left)
+    × IfOk r (λ c. ready ≡ chunk_bytes c)
 
 -- `advance` takes n bytes.
 abbrev pub Advances : Source → ℕ → Source → Type 0

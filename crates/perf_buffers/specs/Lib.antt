@@ -3,3 +3,4 @@ pub mod Taking
 pub mod Cursor
 pub mod Room
 pub mod Pieces
+pub mod Words

@@ -6,7 +6,8 @@ abbrev pub falls_short : Option ℕ → ℕ → Bool
 falls_short None n = false
 falls_short (Some left) n = nat_lt left n
 
--- All room is made beforehand where the buffer says that it has n bytes, or where it does not say and n is at most 16,384.
+-- All room is made beforehand where the buffer says that it has n bytes, or where it does not say
+-- and n is at most 16,384.
 abbrev pub is_made_beforehand : Option ℕ → ℕ → Bool
 is_made_beforehand None n = nat_le n 16384
 is_made_beforehand (Some left) n = nat_le n left
@@ -16,7 +17,8 @@ abbrev pub makes_all_room : Bool → ℕ → Bool
 makes_all_room true n = true
 makes_all_room false n = nat_le n 16384
 
--- The room that is made first: all of it, or no more than 16,384 bytes where the buffer does not say what it has.
+-- The room that is made first: all of it, or no more than 16,384 bytes where the buffer does not
+-- say what it has.
 abbrev pub room_made : Bool → ℕ → ℕ
 room_made true n = n
 room_made false n = min n 16384

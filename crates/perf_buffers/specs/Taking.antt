@@ -1,8 +1,11 @@
 -- What a read takes from a buffer that tells its bytes.
-use Rattle.std.specs.Prelude.{Option, ◌≡◌, ℕ, ◌+◌, ◌-◌, ◌<◌, ◌≤◌, Bool, true, false, IsTrue, List, [], length, take, drop, Some, None}
+use Rattle.std.specs.Prelude.{Option, ◌≡◌, ℕ, ◌+◌, ◌-◌, ◌<◌, ◌≤◌, Bool, true, false, IsTrue, List}
+use Rattle.std.specs.Prelude.{[], length, take, drop, Some, None}
 use Rattle.perf_buffers.specs.Buffer.{Source}
 use Rattle.perf_base.specs.declared.error.ErrorKind.{ErrorKind}
-use Rattle.perf_base.specs.declared.error.ErrorKind.TheVariants.{Eof, InvalidRecord, UnsupportedConfig, UnsupportedData, External, OutOfMemory}
+use Rattle.perf_base.specs.declared.error.ErrorKind.TheVariants.{Eof, InvalidRecord}
+use Rattle.perf_base.specs.declared.error.ErrorKind.TheVariants.{UnsupportedConfig, UnsupportedData}
+use Rattle.perf_base.specs.declared.error.ErrorKind.TheVariants.{External, OutOfMemory}
 
 -- how many bytes lie between the two
 abbrev pub consumed : Source → Source → ℕ
@@ -20,7 +23,8 @@ MovesWithin old n new = (length old.left ≤ length new.left + n) × Moves old n
 abbrev pub Takes : Source → ℕ → Source → Type 0
 Takes old n new = (n ≤ length old.left) × (new.left ≡ drop n old.left)
 
--- What a refused read of n bytes took: all that was left, where that is too little; after a fault a beginning.
+-- What a refused read of n bytes took: all that was left, where that is too little; after a fault a
+-- beginning.
 abbrev pub FailsToTake : Source → ℕ → ErrorKind → Source → Type 0
 FailsToTake old n Eof new = (length old.left < n) × (new.left ≡ [])
 FailsToTake old n External new = MovesWithin old n new
@@ -62,7 +66,8 @@ abbrev pub TakesAtOnce : Source → ℕ → Bool → List ℕ → Source → Typ
 TakesAtOnce old n true out new = Takes old n new × (out ≡ take n old.left)
 TakesAtOnce old n false out new = new.left ≡ old.left
 
--- What a refused copy of n bytes behind a place took: all, where that is too little; nothing, where memory was refused.
+-- What a refused copy of n bytes behind a place took: all, where that is too little; nothing, where
+-- memory was refused.
 abbrev pub FailsBehind : ErrorKind → ℕ → List ℕ → (old new : ℕ) → Type 0
 FailsBehind Eof n bytes old new = (length (drop old bytes) < n) × (drop new bytes ≡ [])
 FailsBehind External n bytes old new = ⊥

@@ -1,12 +1,13 @@
 //! The bytes of one frame.
 
-ghost use Rattle.std.specs.Prelude.{IfSome, ◌≡◌, ◌≢◌, ◌<◌, ◌≤◌, true, false, None, Some, length, take, IsTrue, IsOk, OnOk, IfOk, IfErr, MatchOption, IfNone, ◌-◌, ◌↔◌, drop, []};
-ghost use Rattle.perf_base.specs.Errors.{kind_of};
+ghost use Rattle.std.specs.Prelude.{IfSome, ◌≡◌, ◌≢◌, ◌<◌, ◌≤◌, true, false, None, Some, length};
+ghost use Rattle.std.specs.Prelude.{take, IsTrue, IsOk, OnOk, IfOk, IfErr, MatchOption, IfNone};
+ghost use Rattle.std.specs.Prelude.{◌-◌, ◌↔◌, drop, []};
+ghost use Rattle.perf_buffers.specs.Words.{kind_of, NeedsNoMemory, Stays, refusal, Takes};
+ghost use Rattle.perf_buffers.specs.Words.{FailsToTake, FailsToKeep, CanFail, falls_short};
+ghost use Rattle.perf_buffers.specs.Words.{is_made_beforehand, makes_all_room, room_made};
 ghost use Rattle.perf_base.specs.Refusals.{TakesNoMemory, kinds, refused, refusal_kind};
 ghost use Rattle.perf_buffers.specs.Cursor.{held_left, is_at_start, is_lent};
-ghost use Rattle.perf_buffers.specs.Buffer.{NeedsNoMemory, Stays, refusal};
-ghost use Rattle.perf_buffers.specs.Taking.{Takes, FailsToTake, FailsToKeep, CanFail};
-ghost use Rattle.perf_buffers.specs.Room.{falls_short, is_made_beforehand, makes_all_room, room_made};
 
 use crate::fill::append;
 use crate::frame_input::behind;
@@ -34,7 +35,8 @@ pub struct ParseBufCursor<'p> {
 
 impl<'p> ParseBufCursor<'p> {
     ghost use Rattle.perf_base.specs.Cow.{cow_items, is_borrowed};
-    ghost use Rattle.perf_buffers.specs.Cursor.{cursor_left, cursor_lent, held_left, is_at_start, is_lent, IsAtStart};
+    ghost use Rattle.perf_buffers.specs.Cursor.{cursor_left, cursor_lent, held_left, is_at_start};
+    ghost use Rattle.perf_buffers.specs.Cursor.{is_lent, IsAtStart};
 
     // Bytes that are lent.
     #[inline]
@@ -78,7 +80,8 @@ impl<'p> ParseBufCursor<'p> {
     #[inline]
     pub fn last(&self, count: usize) -> &[u8]
         requires { count ≤ length (held_left self.now.held) }
-        ensures { result.now ≡ drop (length (held_left self.now.held) - count) (held_left self.now.held) }
+        ensures { result.now ≡
+            drop (length (held_left self.now.held) - count) (held_left self.now.held) }
     {
         let bytes = self.rest();
         &bytes[bytes.len() - count..]
@@ -88,7 +91,8 @@ impl<'p> ParseBufCursor<'p> {
     #[inline]
     pub fn drop_last(&mut self, count: usize)
         requires { count ≤ length (held_left self.old.held) }
-        ensures left { held_left self.new.held ≡ take (length (held_left self.old.held) - count) (held_left self.old.held) }
+        ensures left { held_left self.new.held ≡
+            take (length (held_left self.old.held) - count) (held_left self.old.held) }
         ensures form { is_lent self.new.held ≡ is_lent self.old.held }
     {
         match &mut self.held {
@@ -126,7 +130,13 @@ impl<'p> ParseBufCursor<'p> {
 impl<'p> ParseBuf<'p> for ParseBufCursor<'p> {
     ghost use Rattle.perf_buffers.specs.Cursor.{held_left, is_lent};
 
-    ghost source = { λ c. record { left = held_left c.held; told = true; whole = is_lent c.held; can_fault = false; faults = None } };
+    ghost source = { λ c. record {
+      left = held_left c.held;
+      told = true;
+      whole = is_lent c.held;
+      can_fault = false;
+      faults = None;
+    } };
 
     ghost ready = { λ c. held_left c.held };
 
@@ -209,8 +219,10 @@ fn skip_some<'p, B: ParseBuf<'p>>(buf: &mut B, len: usize) -> ParseResult<usize>
     ensures can_fail { CanFail (B.source buf.old) (refusal result) }
     ensures memory { NeedsNoMemory result }
     ensures count { IfOk result (λ n. (0 < n) × (n ≤ len)) }
-    ensures ok { IsTrue (B.source buf.old).told → IfOk result (λ n. Takes (B.source buf.old) n (B.source buf.new)) }
-    ensures err { IsTrue (B.source buf.old).told → IfErr result (λ e. FailsToTake (B.source buf.old) len (kind_of e) (B.source buf.new)) }
+    ensures ok { IsTrue (B.source buf.old).told →
+        IfOk result (λ n. Takes (B.source buf.old) n (B.source buf.new)) }
+    ensures err { IsTrue (B.source buf.old).told →
+        IfErr result (λ e. FailsToTake (B.source buf.old) len (kind_of e) (B.source buf.new)) }
 {
     let chunk = buf.chunk()?;
     let count = chunk.as_bytes().len().min(len);
@@ -223,8 +235,10 @@ pub fn skip<'p, B: ParseBuf<'p>>(buf: &mut B, len: usize) -> ParseResult<()>
     ensures stays { Stays (B.source buf.old) (refusal result) (B.source buf.new) }
     ensures can_fail { CanFail (B.source buf.old) (refusal result) }
     ensures memory { NeedsNoMemory result }
-    ensures ok { IsTrue (B.source buf.old).told → OnOk result (Takes (B.source buf.old) len (B.source buf.new)) }
-    ensures err { IsTrue (B.source buf.old).told → IfErr result (λ e. FailsToTake (B.source buf.old) len (kind_of e) (B.source buf.new)) }
+    ensures ok { IsTrue (B.source buf.old).told →
+        OnOk result (Takes (B.source buf.old) len (B.source buf.new)) }
+    ensures err { IsTrue (B.source buf.old).told →
+        IfErr result (λ e. FailsToTake (B.source buf.old) len (kind_of e) (B.source buf.new)) }
 {
     let mut at = 0;
     while at < len {
@@ -268,10 +282,14 @@ fn copy<'p, B: ParseBuf<'p>>(
     ensures stays { Stays (B.source buf.old) (refusal result) (B.source buf.new) }
     ensures can_fail { CanFail (B.source buf.old) (refusal result) }
     ensures beforehand { IsTrue (B.source buf.old).told → makes_all_room hinted len ≡ true →
-        IfErr result (λ e. kind_of e ≡ ErrorKind.OutOfMemory → (B.source buf.new).left ≡ (B.source buf.old).left) }
+        IfErr result (λ e. kind_of e ≡ ErrorKind.OutOfMemory →
+        (B.source buf.new).left ≡ (B.source buf.old).left) }
     ensures count { IfOk result (λ v. length v.items ≡ len) }
-    ensures ok { IsTrue (B.source buf.old).told → IfOk result (λ v. Takes (B.source buf.old) len (B.source buf.new) × (v.items ≡ take len (B.source buf.old).left)) }
-    ensures err { IsTrue (B.source buf.old).told → IfErr result (λ e. FailsToKeep (B.source buf.old) len (kind_of e) (B.source buf.new)) }
+    ensures ok { IsTrue (B.source buf.old).told →
+        IfOk result (λ v. Takes (B.source buf.old) len (B.source buf.new)
+        × (v.items ≡ take len (B.source buf.old).left)) }
+    ensures err { IsTrue (B.source buf.old).told →
+        IfErr result (λ e. FailsToKeep (B.source buf.old) len (kind_of e) (B.source buf.new)) }
 {
     let room = first_room(hinted, len);
     let mut bytes = match Vec::with_capacity(alloc, room) {
@@ -375,9 +393,10 @@ impl<'p> ParseBufCursor<'p> {
 
     /// Cuts the next `len` bytes off a buffer.
     ///
-    /// They are borrowed where one chunk has them all and lasts. Otherwise they are copied: where the buffer says that
-    /// it has them, or does not say and `len` is at most 16,384, all room is made first, so that refused memory takes
-    /// nothing. Too few bytes are `Eof`, for which no room is made where the buffer says so, and all of them are taken.
+    /// They are borrowed where one chunk has them all and lasts. Otherwise they are copied: where
+    /// the buffer says that it has them, or does not say and `len` is at most 16,384, all room is
+    /// made first, so that refused memory takes nothing. Too few bytes are `Eof`, for which no room
+    /// is made where the buffer says so, and all of them are taken.
     #[inline]
     pub fn new<B: ParseBuf<'p>>(
         alloc: Global,
@@ -388,20 +407,27 @@ impl<'p> ParseBufCursor<'p> {
         ensures can_fail { CanFail (B.source buf.old) (refusal result) }
 
         // A whole buffer lends its bytes, and nothing is always there: neither takes memory.
-        ensures whole { IsTrue (B.source buf.old).whole → IfOk result (λ c. IsTrue (cursor_lent c)) }
+        ensures whole { IsTrue (B.source buf.old).whole →
+            IfOk result (λ c. IsTrue (cursor_lent c)) }
         ensures whole_memory { IsTrue (B.source buf.old).whole → NeedsNoMemory result }
         ensures nothing { len ≡ 0 → IfOk result (λ c. IsTrue (cursor_lent c)) × IsOk result
             × (B.source buf.new ≡ B.source buf.old) }
 
-        // No room is made where the buffer says that it has too few, and else all room first, where that is little.
+        // No room is made where the buffer says that it has too few, and else all room first, where
+        // that is little.
         ensures short { falls_short (B.hint buf.old) len ≡ true → NeedsNoMemory result }
-        ensures beforehand { IsTrue (B.source buf.old).told → is_made_beforehand (B.hint buf.old) len ≡ true →
-            IfErr result (λ e. kind_of e ≡ ErrorKind.OutOfMemory → (B.source buf.new).left ≡ (B.source buf.old).left) }
+        ensures beforehand { IsTrue (B.source buf.old).told →
+            is_made_beforehand (B.hint buf.old) len ≡ true →
+            IfErr result (λ e. kind_of e ≡ ErrorKind.OutOfMemory →
+            (B.source buf.new).left ≡ (B.source buf.old).left) }
 
-        ensures ok { IsTrue (B.source buf.old).told → IfOk result (λ c. Takes (B.source buf.old) len (B.source buf.new) × (cursor_left c ≡ take len (B.source buf.old).left)) }
+        ensures ok { IsTrue (B.source buf.old).told →
+            IfOk result (λ c. Takes (B.source buf.old) len (B.source buf.new)
+            × (cursor_left c ≡ take len (B.source buf.old).left)) }
         ensures start { IfOk result (λ c. IsAtStart c) }
         ensures count { IfOk result (λ c. length (cursor_left c) ≡ len) }
-        ensures err { IsTrue (B.source buf.old).told → IfErr result (λ e. FailsToKeep (B.source buf.old) len (kind_of e) (B.source buf.new)) }
+        ensures err { IsTrue (B.source buf.old).told →
+            IfErr result (λ e. FailsToKeep (B.source buf.old) len (kind_of e) (B.source buf.new)) }
     {
         let mut kept = Kept::none();
         match cut(alloc, buf, &mut kept, len) {

@@ -1,6 +1,8 @@
-//! Bytes that are copied, from one chunk or from several: those of a number, and those that are appended to others.
+//! Bytes that are copied, from one chunk or from several: those of a number, and those that are
+//! appended to others.
 
-ghost use Rattle.std.specs.Prelude.{◌≡◌, ◌+◌, ◌<◌, ◌≤◌, [], ◌++◌, length, take, OnOk, IfOk, IfErr, IsTrue, vec_len, vec_capacity};
+ghost use Rattle.std.specs.Prelude.{◌≡◌, ◌+◌, ◌<◌, ◌≤◌, [], ◌++◌, length, take, OnOk, IfOk, IfErr};
+ghost use Rattle.std.specs.Prelude.{IsTrue, vec_len, vec_capacity};
 ghost use Rattle.perf_base.specs.Errors.{kind_of};
 ghost use Rattle.perf_base.specs.Refusals.{TakesNoMemory, kinds, refused, refusal_kind};
 ghost use Rattle.perf_buffers.specs.Taking.{Takes, TakesAtOnce, FailsToTake, FailsToKeep, CanFail};
@@ -47,8 +49,12 @@ fn take_some<'p, B: ParseBuf<'p>>(buf: &mut B, out: &mut [u8]) -> ParseResult<us
     ensures stays { Stays (B.source buf.old) (refusal result) (B.source buf.new) }
     ensures can_fail { CanFail (B.source buf.old) (refusal result) }
     ensures memory { NeedsNoMemory result }
-    ensures ok { IsTrue (B.source buf.old).told → IfOk result (λ n. Takes (B.source buf.old) n (B.source buf.new) × (take n out.new ≡ take n (B.source buf.old).left)) }
-    ensures err { IsTrue (B.source buf.old).told → IfErr result (λ e. FailsToTake (B.source buf.old) (length out.old) (kind_of e) (B.source buf.new)) }
+    ensures ok { IsTrue (B.source buf.old).told →
+        IfOk result (λ n. Takes (B.source buf.old) n (B.source buf.new)
+        × (take n out.new ≡ take n (B.source buf.old).left)) }
+    ensures err { IsTrue (B.source buf.old).told →
+        IfErr result (λ e.
+        FailsToTake (B.source buf.old) (length out.old) (kind_of e) (B.source buf.new)) }
 {
     let chunk = buf.chunk()?;
     let bytes = chunk.as_bytes();
@@ -63,8 +69,12 @@ fn fill_on<'p, B: ParseBuf<'p>>(buf: &mut B, out: &mut [u8]) -> ParseResult<()>
     ensures stays { Stays (B.source buf.old) (refusal result) (B.source buf.new) }
     ensures can_fail { CanFail (B.source buf.old) (refusal result) }
     ensures memory { NeedsNoMemory result }
-    ensures ok { IsTrue (B.source buf.old).told → OnOk result (Takes (B.source buf.old) (length out.old) (B.source buf.new) × (out.new ≡ take (length out.old) (B.source buf.old).left)) }
-    ensures err { IsTrue (B.source buf.old).told → IfErr result (λ e. FailsToTake (B.source buf.old) (length out.old) (kind_of e) (B.source buf.new)) }
+    ensures ok { IsTrue (B.source buf.old).told →
+        OnOk result (Takes (B.source buf.old) (length out.old) (B.source buf.new)
+        × (out.new ≡ take (length out.old) (B.source buf.old).left)) }
+    ensures err { IsTrue (B.source buf.old).told →
+        IfErr result (λ e.
+        FailsToTake (B.source buf.old) (length out.old) (kind_of e) (B.source buf.new)) }
 {
     let mut at = 0;
     while at < out.len() {
@@ -84,10 +94,16 @@ fn append_some<'p, B: ParseBuf<'p>>(
     ensures can_fail { CanFail (B.source buf.old) (refusal result) }
     ensures room { vec_len out.old + len ≤ vec_capacity out.old → NeedsNoMemory result }
     ensures capacity { vec_capacity out.old ≤ vec_capacity out.new }
-    ensures count { IfOk result (λ n. (0 < n) × (n ≤ len) × (vec_len out.new ≡ vec_len out.old + n)) }
-    ensures ok { IsTrue (B.source buf.old).told → IfOk result (λ n. Takes (B.source buf.old) n (B.source buf.new) × (out.new.items ≡ out.old.items ++ take n (B.source buf.old).left)) }
-    ensures end { IsTrue (B.source buf.old).told → IfErr result (λ e. kind_of e ≡ ErrorKind.Eof → ((B.source buf.old).left ≡ []) × (out.new.items ≡ out.old.items)) }
-    ensures err { IsTrue (B.source buf.old).told → IfErr result (λ e. FailsToKeep (B.source buf.old) len (kind_of e) (B.source buf.new)) }
+    ensures count { IfOk result (λ n. (0 < n) × (n ≤ len)
+        × (vec_len out.new ≡ vec_len out.old + n)) }
+    ensures ok { IsTrue (B.source buf.old).told →
+        IfOk result (λ n. Takes (B.source buf.old) n (B.source buf.new)
+        × (out.new.items ≡ out.old.items ++ take n (B.source buf.old).left)) }
+    ensures end { IsTrue (B.source buf.old).told →
+        IfErr result (λ e. kind_of e ≡ ErrorKind.Eof →
+        ((B.source buf.old).left ≡ []) × (out.new.items ≡ out.old.items)) }
+    ensures err { IsTrue (B.source buf.old).told →
+        IfErr result (λ e. FailsToKeep (B.source buf.old) len (kind_of e) (B.source buf.new)) }
 {
     let chunk = buf.chunk()?;
     let bytes = chunk.as_bytes();
@@ -109,9 +125,14 @@ pub(crate) fn append<'p, B: ParseBuf<'p>>(
     ensures can_fail { CanFail (B.source buf.old) (refusal result) }
     ensures room { vec_len out.old + len ≤ vec_capacity out.old → NeedsNoMemory result }
     ensures count { OnOk result (vec_len out.new ≡ vec_len out.old + len) }
-    ensures ok { IsTrue (B.source buf.old).told → OnOk result (Takes (B.source buf.old) len (B.source buf.new) × (out.new.items ≡ out.old.items ++ take len (B.source buf.old).left)) }
-    ensures end { IsTrue (B.source buf.old).told → IfErr result (λ e. kind_of e ≡ ErrorKind.Eof → out.new.items ≡ out.old.items ++ (B.source buf.old).left) }
-    ensures err { IsTrue (B.source buf.old).told → IfErr result (λ e. FailsToKeep (B.source buf.old) len (kind_of e) (B.source buf.new)) }
+    ensures ok { IsTrue (B.source buf.old).told →
+        OnOk result (Takes (B.source buf.old) len (B.source buf.new)
+        × (out.new.items ≡ out.old.items ++ take len (B.source buf.old).left)) }
+    ensures end { IsTrue (B.source buf.old).told →
+        IfErr result (λ e. kind_of e ≡ ErrorKind.Eof →
+        out.new.items ≡ out.old.items ++ (B.source buf.old).left) }
+    ensures err { IsTrue (B.source buf.old).told →
+        IfErr result (λ e. FailsToKeep (B.source buf.old) len (kind_of e) (B.source buf.new)) }
 {
     let mut at = 0;
     while at < len {

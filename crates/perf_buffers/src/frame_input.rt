@@ -2,10 +2,8 @@
 
 ghost use Rattle.std.specs.Prelude.{◌≡◌, ◌<◌, ◌≤◌, [], length, take, drop, true, false, Some, None};
 ghost use Rattle.std.specs.Prelude.{IfOk, IfErr};
-ghost use Rattle.perf_base.specs.Refusals.{refusal_kind, kinds, TakesNoMemory};
-ghost use Rattle.perf_base.specs.declared.error.ErrorKind.TheVariants.{Eof, OutOfMemory};
-ghost use Rattle.perf_buffers.specs.Cursor.{held_left, is_lent};
-ghost use Rattle.perf_buffers.specs.Taking.{FailsBehind};
+ghost use Rattle.perf_buffers.specs.Words.{refusal_kind, kinds, TakesNoMemory, Eof, OutOfMemory};
+ghost use Rattle.perf_buffers.specs.Words.{held_left, is_lent, FailsBehind};
 
 use crate::cursor::{Held, ParseBufCursor};
 use crate::input::Input;
@@ -51,7 +49,8 @@ fn copy_behind(alloc: Global, bytes: &[u8], place: &mut usize, len: usize) -> Re
     ensures ok { IfOk result (λ next. (len ≤ length (drop place.old bytes.now))
         × (next.items ≡ take len (drop place.old bytes.now))
         × (drop place.new bytes.now ≡ drop len (drop place.old bytes.now))) }
-    ensures err { IfErr result (λ e. FailsBehind (refusal_kind e) len bytes.now place.old place.new) }
+    ensures err { IfErr
+        result (λ e. FailsBehind (refusal_kind e) len bytes.now place.old place.new) }
 {
     let from = *place;
     let next = take_behind(bytes, place, len)?;
@@ -84,7 +83,13 @@ fn take_all(alloc: Global, bytes: &mut Vec<u8>, place: &mut usize) -> ReadResult
 }
 
 impl<'p> Input<'p> for ParseBufCursor<'p> {
-    ghost source = { λ c. record { left = held_left c.held; told = true; whole = is_lent c.held; can_fault = false; faults = None } };
+    ghost source = { λ c. record {
+      left = held_left c.held;
+      told = true;
+      whole = is_lent c.held;
+      can_fault = false;
+      faults = None;
+    } };
 
     ghost hint = { λ c. Some (length (held_left c.held)) };
 

@@ -1,19 +1,17 @@
 //! What the calls inside this library take bytes from.
 //!
-//! An input is asked for what is wanted, and refuses by a [`Refusal`] of two bytes. A slice and the bytes of a frame are
-//! inputs as they are; any other buffer is one as an [`Outer`](crate::outer::Outer).
+//! An input is asked for what is wanted, and refuses by a [`Refusal`] of two bytes. A slice and the
+//! bytes of a frame are inputs as they are; any other buffer is one as an
+//! [`Outer`](crate::outer::Outer).
 
-ghost use Rattle.std.specs.Prelude.{◌≡◌, ℕ, ◌<◌, ◌≤◌, [], length, take, drop, true, false, Some, None, Option};
-ghost use Rattle.std.specs.Prelude.{IsTrue, IsOk, OnOk, IfOk, IfErr, IfSome};
-ghost use Rattle.perf_base.specs.Cow.{cow_items, is_borrowed};
-ghost use Rattle.perf_base.specs.Refusals.{refusal_kind, kinds, refused, TakesNoMemory};
-ghost use Rattle.perf_base.specs.Zeros.{all_zero};
+ghost use Rattle.std.specs.Prelude.{◌≡◌, ℕ, ◌<◌, ◌≤◌, [], length, take, drop, true, false, Some};
+ghost use Rattle.std.specs.Prelude.{None, Option, IsTrue, IsOk, OnOk, IfOk, IfErr, IfSome};
 ghost use Rattle.perf_base.specs.declared.error.ErrorKind.{ErrorKind as Kind};
-ghost use Rattle.perf_base.specs.declared.error.ErrorKind.TheVariants.{Eof, OutOfMemory};
-ghost use Rattle.perf_buffers.specs.Buffer.{Source, Stays};
-ghost use Rattle.perf_buffers.specs.Cursor.{cursor_left, cursor_lent, IsAtStart};
-ghost use Rattle.perf_buffers.specs.Room.{falls_short, is_made_beforehand};
-ghost use Rattle.perf_buffers.specs.Taking.{Takes, FailsToTake, FailsToKeep, FailsInRest, CanFail};
+ghost use Rattle.perf_buffers.specs.Words.{cow_items, is_borrowed, refusal_kind, kinds, refused};
+ghost use Rattle.perf_buffers.specs.Words.{TakesNoMemory, all_zero, Eof, OutOfMemory, Source};
+ghost use Rattle.perf_buffers.specs.Words.{Stays, cursor_left, cursor_lent, IsAtStart, falls_short};
+ghost use Rattle.perf_buffers.specs.Words.{is_made_beforehand, Takes, FailsToTake, FailsToKeep};
+ghost use Rattle.perf_buffers.specs.Words.{FailsInRest, CanFail};
 
 use crate::cursor::ParseBufCursor;
 use crate::zeros::is_zero;
@@ -76,8 +74,8 @@ pub trait Input<'p> {
         ensures err { IsTrue (source self.old).told → IfErr result (λ e.
             FailsInRest (source self.old) (refusal_kind e) (source self.new)) };
 
-    /// Cuts off the next `len` bytes. They are borrowed where one chunk has them all and lasts, and else copied, into
-    /// room that is made by the rules of [`ParseBufCursor::new`].
+    /// Cuts off the next `len` bytes. They are borrowed where one chunk has them all and lasts, and
+    /// else copied, into room that is made by the rules of [`ParseBufCursor::new`].
     fn cut(&mut self, alloc: Global, len: usize) -> ReadResult<ParseBufCursor<'p>>
         ensures stays { Stays (source self.old) (refused (kinds result)) (source self.new) }
         ensures can_fail { CanFail (source self.old) (refused (kinds result)) }
@@ -142,7 +140,8 @@ pub(crate) fn take_front<'p>(bytes: &mut &'p [u8], len: usize) -> ReadResult<&'p
 
 /// A slice is whole and cannot fault.
 impl<'p> Input<'p> for &'p [u8] {
-    ghost source = { λ s. record { left = s.now; told = true; whole = true; can_fault = false; faults = None } };
+    ghost source = { λ s.
+        record { left = s.now; told = true; whole = true; can_fault = false; faults = None } };
 
     ghost hint = { λ s. Some (length s.now) };
 

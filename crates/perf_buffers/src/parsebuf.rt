@@ -1,11 +1,10 @@
 //! Buffers: where the bytes come from.
 
-ghost use Rattle.std.specs.Prelude.{◌≡◌, ℕ, ◌≤◌, true, false, None, Some, IsTrue, List, length, Option, IfOk, IfErr, IfSome, ◌<◌, OnOk, IsOk, IsSome};
-ghost use Rattle.std.specs.Borrow.{sem};
-ghost use Rattle.std.specs.Io.BufRead.{Rests};
-ghost use Rattle.perf_base.specs.Errors.{kind_of};
-ghost use Rattle.perf_buffers.specs.Buffer.{Source, Shows, ShowsReady, Refuses, KeepsChunk, Advances, chunk_bytes, known, is_known, RefusesReader};
-ghost use Rattle.std.specs.Io.Buffered.{reader_remaining, reader_buffer};
+ghost use Rattle.std.specs.Prelude.{◌≡◌, ℕ, ◌≤◌, true, false, None, Some, IsTrue, List, length};
+ghost use Rattle.std.specs.Prelude.{Option, IfOk, IfErr, IfSome, ◌<◌, OnOk, IsOk, IsSome};
+ghost use Rattle.perf_buffers.specs.Words.{sem, Rests, kind_of, Source, Shows, ShowsReady, Refuses};
+ghost use Rattle.perf_buffers.specs.Words.{KeepsChunk, Advances, chunk_bytes, known, is_known};
+ghost use Rattle.perf_buffers.specs.Words.{RefusesReader, reader_remaining, reader_buffer};
 
 use perf_base::error::{ErrorKind, ParseError, ParseResult};
 use std::io::{self, BufRead, BufReader, Read};
@@ -36,14 +35,16 @@ impl<'tmp, 'p> ParseBufChunk<'tmp, 'p> {
 pub trait ParseBuf<'p> {
     ghost source: { Self → Source };
 
-    // the bytes that the next chunk shows again, as `chunk` showed them before; none where it may still read more
+    // the bytes that the next chunk shows again, as `chunk` showed them before; none where it may
+    // still read more
     ghost ready: { Self → List ℕ };
 
     // what `remaining_hint` answers
     ghost hint: { Self → Option ℕ };
 
-    /// A non-empty beginning of what is left, and the same until [`ParseBuf::advance`] takes of it. The refusal is
-    /// `Eof` only where nothing is left, and otherwise `External`, which takes nothing.
+    /// A non-empty beginning of what is left, and the same until [`ParseBuf::advance`] takes of it.
+    /// The refusal is `Eof` only where nothing is left, and otherwise `External`, which takes
+    /// nothing.
     fn chunk(&mut self) -> ParseResult<ParseBufChunk<'_, 'p>>
         ensures shows { IfOk result (λ c. Shows (source self.old) c) }
         ensures same { ShowsReady (ready self.old) result }
@@ -60,12 +61,14 @@ pub trait ParseBuf<'p> {
     fn remaining_hint(&self) -> Option<usize>
         ensures is { result ≡ hint self.now }
         ensures whole { IsTrue (source self.now).whole → IsSome result }
-        ensures exact { IfSome result (λ n. IsTrue (source self.now).told → n ≡ length (source self.now).left) };
+        ensures exact { IfSome result (λ n. IsTrue (source self.now).told →
+            n ≡ length (source self.now).left) };
 }
 
 /// A slice is whole and cannot fault.
 impl<'p> ParseBuf<'p> for &'p [u8] {
-    ghost source = { λ s. record { left = s.now; told = true; whole = true; can_fault = false; faults = None } };
+    ghost source = { λ s.
+        record { left = s.now; told = true; whole = true; can_fault = false; faults = None } };
 
     ghost ready = { λ s. s.now };
 
@@ -103,8 +106,10 @@ fn fault_of(error: io::Error) -> ParseError
 #[inline(never)]
 fn read_more<R: Read>(reader: &mut BufReader<R>) -> ParseResult<()>
     ensures some { OnOk result (0 < length (reader_buffer reader.new)) }
-    ensures kept { IsTrue (is_known (reader_remaining R.remaining reader.old)) → reader_remaining R.remaining reader.new ≡ reader_remaining R.remaining reader.old }
-    ensures refuses { IfErr result (λ e. RefusesReader (reader_remaining R.remaining reader.old) (kind_of e)) }
+    ensures kept { IsTrue (is_known (reader_remaining R.remaining reader.old)) →
+        reader_remaining R.remaining reader.new ≡ reader_remaining R.remaining reader.old }
+    ensures refuses { IfErr
+        result (λ e. RefusesReader (reader_remaining R.remaining reader.old) (kind_of e)) }
 {
     if let Err(error) = reader.fill_buf() {
         return Err(fault_of(error));
@@ -118,10 +123,13 @@ fn read_more<R: Read>(reader: &mut BufReader<R>) -> ParseResult<()>
 // Reads ahead where nothing is read and not yet taken.
 #[inline]
 fn read_ahead<R: Read>(reader: &mut BufReader<R>) -> ParseResult<()>
-    ensures ready { 0 < length (reader_buffer reader.old) → OnOk result (reader_buffer reader.new ≡ reader_buffer reader.old) × IsOk result }
+    ensures ready { 0 < length (reader_buffer reader.old) →
+        OnOk result (reader_buffer reader.new ≡ reader_buffer reader.old) × IsOk result }
     ensures some { OnOk result (0 < length (reader_buffer reader.new)) }
-    ensures kept { IsTrue (is_known (reader_remaining R.remaining reader.old)) → reader_remaining R.remaining reader.new ≡ reader_remaining R.remaining reader.old }
-    ensures refuses { IfErr result (λ e. RefusesReader (reader_remaining R.remaining reader.old) (kind_of e)) }
+    ensures kept { IsTrue (is_known (reader_remaining R.remaining reader.old)) →
+        reader_remaining R.remaining reader.new ≡ reader_remaining R.remaining reader.old }
+    ensures refuses { IfErr
+        result (λ e. RefusesReader (reader_remaining R.remaining reader.old) (kind_of e)) }
 {
     if !reader.buffer().is_empty() {
         return Ok(());
@@ -129,9 +137,16 @@ fn read_ahead<R: Read>(reader: &mut BufReader<R>) -> ParseResult<()>
     read_more(reader)
 }
 
-/// Every fault of the reader is `External`, also where the reader calls it an interruption or an early end.
+/// Every fault of the reader is `External`, also where the reader calls it an interruption or an
+/// early end.
 impl<'p, R: Read> ParseBuf<'p> for BufReader<R> {
-    ghost source = { λ s. record { left = known (reader_remaining R.remaining s); told = is_known (reader_remaining R.remaining s); whole = false; can_fault = true; faults = None } };
+    ghost source = { λ s. record {
+      left = known (reader_remaining R.remaining s);
+      told = is_known (reader_remaining R.remaining s);
+      whole = false;
+      can_fault = true;
+      faults = None;
+    } };
 
     ghost ready = { λ s. reader_buffer s };
 

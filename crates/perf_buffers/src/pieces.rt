@@ -18,8 +18,8 @@ impl<'p> PieceBuf<'p> {
     ghost use Rattle.perf_buffers.specs.Buffer.{chunk_bytes, lasts};
     ghost use Rattle.perf_buffers.specs.Pieces.{piece_bytes, piece_most, piece_lasting};
 
-    /// Pieces of at most `most` bytes of the slice. They last as long as the slice where `lasting` says so, and else
-    /// until the buffer advances.
+    /// Pieces of at most `most` bytes of the slice. They last as long as the slice where `lasting`
+    /// says so, and else until the buffer advances.
     pub fn new(bytes: &'p [u8], most: usize, lasting: bool) -> PieceBuf<'p>
         requires { 0 < most }
         ensures bytes { piece_bytes result ≡ bytes.now }

@@ -17,10 +17,14 @@ use std::alloc::Global;
 fn lend_first<'p, B: ParseBuf<'p>>(buf: &mut B) -> ParseResult<&'p [u8]>
     ensures stays { Stays (B.source buf.old) (refusal result) (B.source buf.new) }
     ensures can_fail { CanFail (B.source buf.old) (refusal result) }
-    ensures whole { IsTrue (B.source buf.old).whole → IsTrue (B.source buf.old).told → IfOk result (λ s. s.now ≡ (B.source buf.old).left) }
+    ensures whole { IsTrue (B.source buf.old).whole → IsTrue (B.source buf.old).told →
+        IfOk result (λ s. s.now ≡ (B.source buf.old).left) }
     ensures memory { NeedsNoMemory result }
-    ensures ok { IsTrue (B.source buf.old).told → IfOk result (λ s. Takes (B.source buf.old) (length s.now) (B.source buf.new) × (s.now ≡ take (length s.now) (B.source buf.old).left)) }
-    ensures err { IsTrue (B.source buf.old).told → IfErr result (λ e. FailsInRest (B.source buf.old) (kind_of e) (B.source buf.new)) }
+    ensures ok { IsTrue (B.source buf.old).told →
+        IfOk result (λ s. Takes (B.source buf.old) (length s.now) (B.source buf.new)
+        × (s.now ≡ take (length s.now) (B.source buf.old).left)) }
+    ensures err { IsTrue (B.source buf.old).told →
+        IfErr result (λ e. FailsInRest (B.source buf.old) (kind_of e) (B.source buf.new)) }
 {
     let bytes = match buf.chunk() {
         Ok(ParseBufChunk::External(bytes)) => bytes,
@@ -36,9 +40,12 @@ fn lend_first<'p, B: ParseBuf<'p>>(buf: &mut B) -> ParseResult<&'p [u8]>
 fn is_at_end<'p, B: ParseBuf<'p>>(buf: &mut B) -> ParseResult<bool>
     ensures stays { Stays (B.source buf.old) (refusal result) (B.source buf.new) }
     ensures can_fail { CanFail (B.source buf.old) (refusal result) }
-    ensures kept { IsTrue (B.source buf.old).told → (B.source buf.new).left ≡ (B.source buf.old).left }
-    ensures ok { IsTrue (B.source buf.old).told → IfOk result (λ end. IsTrue end → (B.source buf.old).left ≡ []) }
-    ensures err { IsTrue (B.source buf.old).told → IfErr result (λ e. FailsInRest (B.source buf.old) (kind_of e) (B.source buf.new)) }
+    ensures kept { IsTrue (B.source buf.old).told →
+        (B.source buf.new).left ≡ (B.source buf.old).left }
+    ensures ok { IsTrue (B.source buf.old).told →
+        IfOk result (λ end. IsTrue end → (B.source buf.old).left ≡ []) }
+    ensures err { IsTrue (B.source buf.old).told →
+        IfErr result (λ e. FailsInRest (B.source buf.old) (kind_of e) (B.source buf.new)) }
 {
     match buf.chunk() {
         Ok(_) => Ok(false),
@@ -51,8 +58,11 @@ fn is_at_end<'p, B: ParseBuf<'p>>(buf: &mut B) -> ParseResult<bool>
 fn append_rest<'p, B: ParseBuf<'p>>(buf: &mut B, out: &mut Vec<u8>) -> ParseResult<()>
     ensures stays { Stays (B.source buf.old) (refusal result) (B.source buf.new) }
     ensures can_fail { CanFail (B.source buf.old) (refusal result) }
-    ensures ok { IsTrue (B.source buf.old).told → OnOk result ((out.new.items ≡ out.old.items ++ (B.source buf.old).left) × ((B.source buf.new).left ≡ [])) }
-    ensures err { IsTrue (B.source buf.old).told → IfErr result (λ e. FailsInRest (B.source buf.old) (kind_of e) (B.source buf.new)) }
+    ensures ok { IsTrue (B.source buf.old).told →
+        OnOk result ((out.new.items ≡ out.old.items ++ (B.source buf.old).left)
+        × ((B.source buf.new).left ≡ [])) }
+    ensures err { IsTrue (B.source buf.old).told →
+        IfErr result (λ e. FailsInRest (B.source buf.old) (kind_of e) (B.source buf.new)) }
 {
     match append(buf, out, usize::MAX) {
         Ok(()) => Err(ParseError::out_of_memory()),
@@ -67,8 +77,11 @@ fn append_rest<'p, B: ParseBuf<'p>>(buf: &mut B, out: &mut Vec<u8>) -> ParseResu
 fn copy_rest<'p, B: ParseBuf<'p>>(alloc: Global, buf: &mut B, first: &[u8]) -> ParseResult<Vec<u8>>
     ensures stays { Stays (B.source buf.old) (refusal result) (B.source buf.new) }
     ensures can_fail { CanFail (B.source buf.old) (refusal result) }
-    ensures ok { IsTrue (B.source buf.old).told → IfOk result (λ v. (v.items ≡ first.now ++ (B.source buf.old).left) × ((B.source buf.new).left ≡ [])) }
-    ensures err { IsTrue (B.source buf.old).told → IfErr result (λ e. FailsInRest (B.source buf.old) (kind_of e) (B.source buf.new)) }
+    ensures ok { IsTrue (B.source buf.old).told →
+        IfOk result (λ v. (v.items ≡ first.now ++ (B.source buf.old).left)
+        × ((B.source buf.new).left ≡ [])) }
+    ensures err { IsTrue (B.source buf.old).told →
+        IfErr result (λ e. FailsInRest (B.source buf.old) (kind_of e) (B.source buf.new)) }
 {
     let mut bytes = Vec::new(alloc);
     if bytes.extend_from_slice(first).is_err() {
@@ -85,10 +98,15 @@ fn copy_rest<'p, B: ParseBuf<'p>>(alloc: Global, buf: &mut B, first: &[u8]) -> P
 pub fn take_rest<'p, B: ParseBuf<'p>>(alloc: Global, buf: &mut B) -> ParseResult<CowSlice<'p, u8>>
     ensures stays { Stays (B.source buf.old) (refusal result) (B.source buf.new) }
     ensures can_fail { CanFail (B.source buf.old) (refusal result) }
-    ensures whole { IsTrue (B.source buf.old).whole → IsTrue (B.source buf.old).told → IfOk result (λ c. IsTrue (is_borrowed c)) }
-    ensures whole_memory { IsTrue (B.source buf.old).whole → IsTrue (B.source buf.old).told → NeedsNoMemory result }
-    ensures ok { IsTrue (B.source buf.old).told → IfOk result (λ c. (cow_items c ≡ (B.source buf.old).left) × ((B.source buf.new).left ≡ [])) }
-    ensures err { IsTrue (B.source buf.old).told → IfErr result (λ e. FailsInRest (B.source buf.old) (kind_of e) (B.source buf.new)) }
+    ensures whole { IsTrue (B.source buf.old).whole → IsTrue (B.source buf.old).told →
+        IfOk result (λ c. IsTrue (is_borrowed c)) }
+    ensures whole_memory { IsTrue (B.source buf.old).whole → IsTrue (B.source buf.old).told →
+        NeedsNoMemory result }
+    ensures ok { IsTrue (B.source buf.old).told →
+        IfOk result (λ c. (cow_items c ≡ (B.source buf.old).left)
+        × ((B.source buf.new).left ≡ [])) }
+    ensures err { IsTrue (B.source buf.old).told →
+        IfErr result (λ e. FailsInRest (B.source buf.old) (kind_of e) (B.source buf.new)) }
 {
     let first = match lend_first(buf) {
         Ok(first) => first,

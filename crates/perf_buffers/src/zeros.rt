@@ -22,8 +22,11 @@ fn take_some_zeros<'p, B: ParseBuf<'p>>(buf: &mut B, len: usize) -> ParseResult<
     ensures can_fail { CanFail (B.source buf.old) (refusal result) }
     ensures memory { NeedsNoMemory result }
     ensures count { IfOk result (λ taken. (0 < taken.0) × (taken.0 ≤ len)) }
-    ensures ok { IsTrue (B.source buf.old).told → IfOk result (λ taken. Takes (B.source buf.old) taken.0 (B.source buf.new) × (taken.1 ≡ all_zero (take taken.0 (B.source buf.old).left))) }
-    ensures err { IsTrue (B.source buf.old).told → IfErr result (λ e. FailsToTake (B.source buf.old) len (kind_of e) (B.source buf.new)) }
+    ensures ok { IsTrue (B.source buf.old).told →
+        IfOk result (λ taken. Takes (B.source buf.old) taken.0 (B.source buf.new)
+        × (taken.1 ≡ all_zero (take taken.0 (B.source buf.old).left))) }
+    ensures err { IsTrue (B.source buf.old).told →
+        IfErr result (λ e. FailsToTake (B.source buf.old) len (kind_of e) (B.source buf.new)) }
 {
     let chunk = buf.chunk()?;
     let bytes = chunk.as_bytes();
@@ -38,8 +41,11 @@ pub fn take_zeros<'p, B: ParseBuf<'p>>(buf: &mut B, len: usize) -> ParseResult<b
     ensures stays { Stays (B.source buf.old) (refusal result) (B.source buf.new) }
     ensures can_fail { CanFail (B.source buf.old) (refusal result) }
     ensures memory { NeedsNoMemory result }
-    ensures ok { IsTrue (B.source buf.old).told → IfOk result (λ zero. Takes (B.source buf.old) len (B.source buf.new) × (zero ≡ all_zero (take len (B.source buf.old).left))) }
-    ensures err { IsTrue (B.source buf.old).told → IfErr result (λ e. FailsToTake (B.source buf.old) len (kind_of e) (B.source buf.new)) }
+    ensures ok { IsTrue (B.source buf.old).told →
+        IfOk result (λ zero. Takes (B.source buf.old) len (B.source buf.new)
+        × (zero ≡ all_zero (take len (B.source buf.old).left))) }
+    ensures err { IsTrue (B.source buf.old).told →
+        IfErr result (λ e. FailsToTake (B.source buf.old) len (kind_of e) (B.source buf.new)) }
 {
     let mut at = 0;
     let mut zero = true;

@@ -18,15 +18,19 @@ abbrev pub parsed_parts : {E : Type 0} → Parser ParseBufCursor E × MetadataVa
 parsed_parts pair = record { metadata = pair.1; body = cursor_left (buffer_of pair.0) }
 
 -- how a frame falls apart behind its header; exactly its body and its sample id are taken
-abbrev pub SplitsParser : {E : Type 0} → perf_event_header → Says (Parser ParseBufCursor E × MetadataValue)
+abbrev pub SplitsParser : {E : Type 0} → perf_event_header →
+    Says (Parser ParseBufCursor E × MetadataValue)
 SplitsParser h old seen new =
     let c = old.settings in let o = old.order in let bytes = old.source.left in
-    Tells parsed_parts (split_behind c o h bytes) (body_length h) (split_reads c o h bytes) old seen new
+    Tells parsed_parts (split_behind c o h bytes) (body_length h) (split_reads c o h bytes)
+    old seen new
 
--- The same of a frame with its header, which is three elementary reads. Where it is refused otherwise, but by a fault, a
--- beginning of the frame is taken.
+-- The same of a frame with its header, which is three elementary reads. Where it is refused
+-- otherwise, but by a fault, a beginning of the frame is taken.
 abbrev pub SplitsFrame : {E : Type 0} → Says (Parser ParseBufCursor E × MetadataValue)
 SplitsFrame old seen new =
     let c = old.settings in let o = old.order in let bytes = old.source.left in
-    Tells parsed_parts (split_of_frame c o bytes) (frame_length o bytes) (frame_reads (split_reads c o) o bytes) old seen new
-    × (is_external (refused seen) ≡ false → MovesWithin old.source (frame_length o bytes) new.source)
+    Tells parsed_parts (split_of_frame c o bytes) (frame_length o bytes)
+    (frame_reads (split_reads c o) o bytes) old seen new
+    × (is_external (refused seen) ≡ false →
+    MovesWithin old.source (frame_length o bytes) new.source)

@@ -1,6 +1,7 @@
--- What a run over a stream lists, how it ends, what it leaves, and how many elementary reads it makes.
-use Rattle.std.specs.Prelude.{Option, Some, None, Result, Ok, Err, Bool, true, false, IsTrue}
-use Rattle.std.specs.Prelude.{◌≡◌, ℕ, ◌+◌, ◌<◌, ◌≤◌, min, List, [], ◌∷◌, ◌++◌, map, length, drop, sum_by}
+-- What a run over a stream lists, how it ends, what it leaves, and how many elementary reads it
+-- makes.
+use Rattle.std.specs.Prelude.{Option, Some, None, Result, Ok, Err, Bool, true, false, IsTrue, ◌≡◌}
+use Rattle.std.specs.Prelude.{ℕ, ◌+◌, ◌<◌, ◌≤◌, min, List, [], ◌∷◌, ◌++◌, map, length, drop, sum_by}
 use Rattle.perf_base.specs.Configuration.{Configuration}
 use Rattle.perf_base.specs.Errors.{kind_of}
 use Rattle.perf_base.specs.Header.{header_of}
@@ -51,7 +52,8 @@ listed_count run = length run.frames.items
 -- one for each refused answer
 abbrev pub refused_count : Pairs → ℕ
 refused_count [] = 0
-refused_count (pair ∷ pairs) = elim (pair.1) [ Ok r ↦ refused_count pairs | Err e ↦ 1 + refused_count pairs ]
+refused_count (pair ∷ pairs) =
+    elim (pair.1) [ Ok r ↦ refused_count pairs | Err e ↦ 1 + refused_count pairs ]
 
 -- no byte string of an answer was copied
 abbrev pub is_borrowed_answer : Result Record ParseError → Type 0
@@ -73,8 +75,8 @@ listed_reads c o frame = 2 + reads_behind c o (header_of o frame) (drop 8 frame)
 abbrev pub first_reads : Configuration → Order → ℕ → List ℕ → ℕ
 first_reads c o k bytes = sum_by (listed_reads c o) (first_frames o k bytes)
 
--- The reads of a run that listed k frames: theirs, one more where nothing is left, two where a header is cut; those of a
--- fault are bounded alone.
+-- The reads of a run that listed k frames: theirs, one more where nothing is left, two where a
+-- header is cut; those of a fault are bounded alone.
 abbrev pub CountsReads : Configuration → Order → List ℕ → (k : ℕ) → RunEnd → (old new : ℕ) → Type 0
 CountsReads c o bytes k end.Limit old new = new ≡ old + first_reads c o k bytes
 CountsReads c o bytes k end.Done old new = new ≡ old + first_reads c o k bytes + 1
@@ -107,9 +109,10 @@ LeavesWithin o bytes left =
     (length left ≤ length bytes) × (length bytes ≤ length left + next_length o bytes)
     × (left ≡ last_of (length left) bytes)
 
--- How a run over these bytes ends that has listed k frames, and what it leaves: at its limit the bytes behind those
--- frames; with all frames listed nothing, where the stream is done or its last header is cut; and after a fault, which is
--- none of the layout's refusals, the bytes behind those frames but for a beginning of the next one.
+-- How a run over these bytes ends that has listed k frames, and what it leaves: at its limit the
+-- bytes behind those frames; with all frames listed nothing, where the stream is done or its last
+-- header is cut; and after a fault, which is none of the layout's refusals, the bytes behind those
+-- frames but for a beginning of the next one.
 abbrev pub EndsWith : Order → (limit : ℕ) → List ℕ → (k : ℕ) → RunEnd → List ℕ → Type 0
 EndsWith o limit bytes k end.Limit left = (k ≡ limit) × (left ≡ behind_frames o k bytes)
 EndsWith o limit bytes k end.Done left =
@@ -117,11 +120,13 @@ EndsWith o limit bytes k end.Done left =
 EndsWith o limit bytes k end.CutHeader left =
     (k < limit) × (k ≡ length (frames o bytes)) × (stream_end o bytes ≡ cut_header) × (left ≡ [])
 EndsWith o limit bytes k (end.Fault e) left =
-    (k < limit) × (IsTrue (of_layout (kind_of e)) → ⊥) × LeavesWithin o (behind_frames o k bytes) left
+    (k < limit) × (IsTrue (of_layout (kind_of e)) → ⊥)
+    × LeavesWithin o (behind_frames o k bytes) left
 
--- What lies between two moments of a run that answered so many refusals, the second of them behind the one that ended it,
--- if one did.
-pub record KeepsRun (start : Meaning) (refusals : ℕ) (e : Option ErrorKind) (new : Meaning) : Type 0 where
+-- What lies between two moments of a run that answered so many refusals, the second of them behind
+-- the one that ended it, if one did.
+pub record KeepsRun (start : Meaning) (refusals : ℕ) (e : Option ErrorKind) (new : Meaning)
+    : Type 0 where
   -- the buffer stays what it is, and its faults are counted
   pub buffer : Stays start.source e new.source
   -- a fault comes only from a buffer that can fault
@@ -165,7 +170,8 @@ ReadsHeader old (Ok h) new =
     × (new.source.left ≡ drop 8 old.source.left) × (new.reads ≡ old.reads + 2)
 ReadsHeader old (Err e) new = Unit {0}
 
--- How a run stops at a frame: nothing is left, its header is cut, or there is a refusal that is not of the layout.
+-- How a run stops at a frame: nothing is left, its header is cut, or there is a refusal that is not
+-- of the layout.
 abbrev pub StopsAt : Meaning → Stop → Meaning → Type 0
 StopsAt old stop.Done new =
     (old.source.left ≡ []) × (new.source.left ≡ []) × (new.reads ≡ old.reads + 1)
@@ -173,7 +179,8 @@ StopsAt old stop.CutHeader new =
     (0 < length old.source.left) × (length old.source.left < 8) × (new.source.left ≡ [])
     × (new.reads ≡ old.reads + 2)
 StopsAt old (stop.Refused r) new =
-    (IsTrue (of_layout (refusal_kind r)) → ⊥) × LeavesWithin old.order old.source.left new.source.left
+    (IsTrue (of_layout (refusal_kind r)) → ⊥)
+    × LeavesWithin old.order old.source.left new.source.left
 
 -- how a run ends that stopped so
 abbrev pub IsEndOf : Stop → RunEnd → Type 0
@@ -196,7 +203,8 @@ abbrev pub ListsNext : Meaning → (was now : Pairs) → Meaning → Type 0
 ListsNext old was now new =
     (h : perf_event_header) × (r : Result Record ParseError) × (now ≡ was ++ (h, r) ∷ [])
     × (IsTrue old.source.whole → is_borrowed_answer r)
-    × (IsTrue old.source.told → (8 ≤ length old.source.left) × (h ≡ header_of old.order old.source.left)
+    × (IsTrue old.source.told →
+    (8 ≤ length old.source.left) × (h ≡ header_of old.order old.source.left)
     × (said r ≡ answer_of_frame old.settings old.order old.source.left)
     × (new.source.left ≡ drop (frame_length old.order old.source.left) old.source.left)
     × (new.reads ≡ old.reads + listed_reads old.settings old.order old.source.left))

@@ -1,11 +1,23 @@
 -- The words that contracts of parsing are written in.
+pub use Rattle.perf_base.specs.Configured.{endian_of, configuration_of}
 pub use Rattle.perf_base.specs.Cow.{cow_items, is_borrowed}
 pub use Rattle.perf_base.specs.Errors.{kind_of}
-pub use Rattle.perf_base.specs.Layout.{Parts, number, optional, run, padding, rest, words}
-pub use Rattle.perf_base.specs.Layout.{w1, w2, w4, w8}
+pub use Rattle.perf_base.specs.FieldWords.{name}
+pub use Rattle.perf_base.specs.Header.{header_of}
+pub use Rattle.perf_base.specs.Layout.{Parts, number, optional, run, padding, rest, words, w1, w2}
+pub use Rattle.perf_base.specs.Layout.{w4, w8}
+pub use Rattle.perf_base.specs.Reads.{one_if_any}
 pub use Rattle.perf_base.specs.Refusals.{error_kinds, refused, TakesNoMemory}
+pub use Rattle.perf_base.specs.declared.sys.perf_event_header.{perf_event_header}
+pub use Rattle.perf_buffers.specs.Cursor.{cursor_lent}
+pub use Rattle.perf_buffers.specs.Room.{falls_short, is_made_beforehand}
+pub use Rattle.perf_buffers.specs.Taking.{MovesWithin}
 pub use Rattle.perf_reader.specs.Meaning.{Meaning}
 pub use Rattle.perf_reader.specs.Reading.{Says, Reads, ReadsPlain, ReadsLent, ReadsOne, ReadsNumber}
-pub use Rattle.perf_reader.specs.Reading.{Keeps}
-pub use Rattle.perf_parser.specs.Meaning.{reader_of, buffer_of, config_of, reads_of, meaning}
+pub use Rattle.perf_reader.specs.Reading.{Keeps, of_layout}
+pub use Rattle.perf_records.specs.Answers.{SaysBehind, answers, body_length}
+pub use Rattle.perf_records.specs.Bodies.{holds_a_list}
+pub use Rattle.perf_records.specs.Records.{IsBorrowed}
 pub use Rattle.perf_parser.specs.Calls.{Follows, Counts, KeepsOn, Call, CallAs, CallOnly}
+pub use Rattle.perf_parser.specs.Frames.{SplitsParser, SplitsFrame}
+pub use Rattle.perf_parser.specs.Meaning.{reader_of, buffer_of, config_of, reads_of, meaning}

@@ -1,12 +1,9 @@
 //! Byte strings.
 
 ghost use Rattle.std.specs.Prelude.{◌≡◌, ◌+◌, length, true, IsTrue, IsOk, IfOk, IfErr};
-ghost use Rattle.perf_base.specs.FieldWords.{name};
-ghost use Rattle.perf_base.specs.Reads.{one_if_any};
-ghost use Rattle.perf_buffers.specs.Room.{falls_short, is_made_beforehand};
-ghost use Rattle.perf_parser.specs.Words.{Call, Reads, ReadsOne, TakesNoMemory};
-ghost use Rattle.perf_parser.specs.Words.{buffer_of, reads_of, error_kinds, kind_of};
-ghost use Rattle.perf_parser.specs.Words.{cow_items, is_borrowed, run, rest};
+ghost use Rattle.perf_parser.specs.Words.{name, one_if_any, falls_short, is_made_beforehand, Call};
+ghost use Rattle.perf_parser.specs.Words.{Reads, ReadsOne, TakesNoMemory, buffer_of, reads_of};
+ghost use Rattle.perf_parser.specs.Words.{error_kinds, kind_of, cow_items, is_borrowed, run, rest};
 
 use crate::parser::Parser;
 use perf_base::cow::CowSlice;

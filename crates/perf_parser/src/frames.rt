@@ -1,16 +1,10 @@
 //! Frames: a header, and the bytes that belong to it.
 
 ghost use Rattle.std.specs.Prelude.{◌≡◌, ◌-◌, false, IsTrue, IfOk};
-ghost use Rattle.perf_base.specs.Configured.{configuration_of, endian_of};
-ghost use Rattle.perf_base.specs.declared.sys.perf_event_header.{perf_event_header};
-ghost use Rattle.perf_buffers.specs.Cursor.{cursor_lent};
-ghost use Rattle.perf_buffers.specs.Taking.{MovesWithin};
-ghost use Rattle.perf_parser.specs.Frames.{SplitsParser, SplitsFrame};
-ghost use Rattle.perf_parser.specs.Words.{Call, TakesNoMemory};
-ghost use Rattle.perf_parser.specs.Words.{buffer_of, config_of, reads_of, error_kinds};
-ghost use Rattle.perf_records.specs.Answers.{SaysBehind, body_length};
-ghost use Rattle.perf_records.specs.Bodies.{holds_a_list};
-ghost use Rattle.perf_records.specs.Records.{IsBorrowed};
+ghost use Rattle.perf_parser.specs.Words.{Call, SaysBehind, SplitsParser, SplitsFrame, error_kinds};
+ghost use Rattle.perf_parser.specs.Words.{buffer_of, config_of, reads_of, configuration_of};
+ghost use Rattle.perf_parser.specs.Words.{endian_of, perf_event_header, cursor_lent, MovesWithin};
+ghost use Rattle.perf_parser.specs.Words.{TakesNoMemory, body_length, holds_a_list, IsBorrowed};
 
 use crate::parse::{FrameLayout, ParseRecord};
 use crate::parser::Parser;

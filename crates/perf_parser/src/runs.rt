@@ -2,19 +2,16 @@
 
 ghost use Rattle.std.specs.Prelude.{◌≡◌, ◌+◌, ◌≤◌, ◌++◌, take, length};
 ghost use Rattle.std.specs.Prelude.{IsTrue, IfOk, IfErr, OnOk, OnErr, None};
-ghost use Rattle.perf_base.specs.Configured.{endian_of};
-ghost use Rattle.perf_base.specs.Header.{header_of};
-ghost use Rattle.perf_buffers.specs.Taking.{MovesWithin};
 ghost use Rattle.perf_parser.specs.Runs.{listed, listed_count, refused_count, AllBorrowed};
-ghost use Rattle.perf_parser.specs.Runs.{end_refusal, one_if_ended, EndsWith, CountsReads, KeepsRun};
-ghost use Rattle.perf_parser.specs.Runs.{stop_kind, stop_kinds, stopped_by, one_if_stopped};
-ghost use Rattle.perf_parser.specs.Runs.{ReadsHeader, StopsAt, IsEndOf, IsListed, ListsNext};
-ghost use Rattle.perf_parser.specs.Runs.{answer_kinds, is_borrowed_answer};
-ghost use Rattle.perf_parser.specs.Words.{buffer_of, config_of, reads_of, meaning};
+ghost use Rattle.perf_parser.specs.Runs.{end_refusal, one_if_ended, EndsWith, CountsReads};
+ghost use Rattle.perf_parser.specs.Runs.{KeepsRun, stop_kind, stop_kinds, stopped_by};
+ghost use Rattle.perf_parser.specs.Runs.{one_if_stopped, ReadsHeader, StopsAt, IsEndOf, IsListed};
+ghost use Rattle.perf_parser.specs.Runs.{ListsNext, answer_kinds, is_borrowed_answer};
+ghost use Rattle.perf_parser.specs.Words.{endian_of, header_of, MovesWithin, buffer_of, config_of};
+ghost use Rattle.perf_parser.specs.Words.{reads_of, meaning, of_layout, SaysBehind, answers};
+ghost use Rattle.perf_parser.specs.Words.{body_length};
 ghost use Rattle.perf_reader.specs.Meaning as low;
-ghost use Rattle.perf_reader.specs.Reading.{of_layout};
 ghost use Rattle.perf_reader.specs.Words.{Call, Meaning, input_of, refusal_kind};
-ghost use Rattle.perf_records.specs.Answers.{SaysBehind, answers, body_length};
 
 use crate::parser::Parser;
 use perf_base::endian::Endian;

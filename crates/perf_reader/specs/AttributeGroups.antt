@@ -1,4 +1,5 @@
--- The fields of an attribute in groups, as they are read; `proofs/Attributes` shows that they are its layout.
+-- The fields of an attribute in groups, as they are read; `proofs/Attributes` shows that they are
+-- its layout.
 use Rattle.std.specs.Prelude.{ℕ, nat_le}
 use Rattle.std.specs.Int.{w32, cast_signed}
 use Rattle.perf_base.specs.Attribute.{is_attribute_size, or_zero}
@@ -89,7 +90,8 @@ last_fields size = do
   done (record { sig_data = or_zero sig_data; config3 = or_zero config3 })
 
 -- the attribute of these fields
-abbrev pub assembled : Front → EventFields → WakeupFields → RegisterFields → AuxFields → LastFields → perf_event_attr
+abbrev pub assembled : Front → EventFields → WakeupFields → RegisterFields → AuxFields →
+    LastFields → perf_event_attr
 assembled f a b c d e = record {
   type_ = f.type_;
   size = f.size;

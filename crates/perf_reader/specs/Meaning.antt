@@ -1,4 +1,5 @@
--- What a reader means: its configuration and its order, what its input holds, and how many elementary reads it made.
+-- What a reader means: its configuration and its order, what its input holds, and how many
+-- elementary reads it made.
 use Rattle.std.specs.Prelude.{ℕ}
 use Rattle.perf_base.specs.Order.{Order}
 use Rattle.perf_base.specs.Configuration.{Configuration}

@@ -1,4 +1,5 @@
--- What a call of a reader answers and leaves, and what every call keeps. A refusal is seen by its kind.
+-- What a call of a reader answers and leaves, and what every call keeps. A refusal is seen by its
+-- kind.
 use Rattle.std.specs.Prelude.{Option, Result, Ok, Err, Some, None, Bool, true, false, IsTrue, IfOk}
 use Rattle.std.specs.Prelude.{◌≡◌, ℕ, ◌+◌, ◌-◌, ◌≤◌, List, length, drop}
 use Rattle.perf_base.specs.Configuration.{Configuration}
@@ -6,7 +7,9 @@ use Rattle.perf_base.specs.Layout.{Width, Shape, number, Answer, Parts}
 use Rattle.perf_base.specs.Refusals.{TakesNoMemory}
 use Rattle.perf_base.specs.Took.{Took, took, quit, one_took, took_by_places}
 use Rattle.perf_base.specs.declared.error.ErrorKind.{ErrorKind}
-use Rattle.perf_base.specs.declared.error.ErrorKind.TheVariants.{Eof, InvalidRecord, UnsupportedConfig, UnsupportedData, External, OutOfMemory}
+use Rattle.perf_base.specs.declared.error.ErrorKind.TheVariants.{Eof, InvalidRecord}
+use Rattle.perf_base.specs.declared.error.ErrorKind.TheVariants.{UnsupportedConfig, UnsupportedData}
+use Rattle.perf_base.specs.declared.error.ErrorKind.TheVariants.{External, OutOfMemory}
 use Rattle.perf_buffers.specs.Buffer.{Stays}
 use Rattle.perf_reader.specs.Meaning.{Meaning}
 
@@ -25,8 +28,8 @@ of_layout UnsupportedData = true
 of_layout External = false
 of_layout OutOfMemory = false
 
--- An answer is what a run made, seen through `view`; what is left and how many reads were made is what the run says. Of a
--- fault and of want of memory this says nothing.
+-- An answer is what a run made, seen through `view`; what is left and how many reads were made is
+-- what the run says. Of a fault and of want of memory this says nothing.
 abbrev pub Gives : {X A : Type 0} → (X → A) → Took A → Result X ErrorKind → Meaning → Type 0
 Gives view r (Ok x) new = r ≡ took (view x) new.source.left new.reads
 Gives view r (Err e) new = IsTrue (of_layout e) → r ≡ quit e new.source.left new.reads
@@ -76,7 +79,8 @@ is_external (Some UnsupportedData) = false
 is_external (Some External) = true
 is_external (Some OutOfMemory) = false
 
--- What lies between two moments of a reader, the second of them behind a call that was refused with that kind, if it was.
+-- What lies between two moments of a reader, the second of them behind a call that was refused with
+-- that kind, if it was.
 pub record Keeps (start : Meaning) (e : Option ErrorKind) (new : Meaning) : Type 0 where
   -- the buffer stays what it is, and its faults are counted
   pub buffer : Stays start.source e new.source
@@ -84,7 +88,8 @@ pub record Keeps (start : Meaning) (e : Option ErrorKind) (new : Meaning) : Type
   pub fault : is_external e ≡ true → IsTrue start.source.can_fault
   -- at most as many reads as bytes taken, and one more where it was refused
   pub cost : IsTrue start.source.told → (start.reads ≤ new.reads)
-      × (new.reads + length new.source.left ≤ start.reads + length start.source.left + one_if_refused e)
+      × (new.reads + length new.source.left
+      ≤ start.reads + length start.source.left + one_if_refused e)
   -- what is left is an end of what was left
   pub place : IsTrue start.source.told → (length new.source.left ≤ length start.source.left)
       × (new.source.left ≡ last_of (length new.source.left) start.source.left)

@@ -1,7 +1,16 @@
 -- The words that contracts of reading are written in.
 pub use Rattle.perf_base.specs.Cow.{cow_items, is_borrowed}
-pub use Rattle.perf_base.specs.Layout.{Parts, number, optional, run, padding, rest, words, w1, w2, w4, w8}
+pub use Rattle.perf_base.specs.Layout.{Parts, number, optional, run, padding, rest, words, w1, w2}
+pub use Rattle.perf_base.specs.Layout.{w4, w8}
+pub use Rattle.perf_base.specs.Reads.{one_if_any}
 pub use Rattle.perf_base.specs.Refusals.{kinds, error_kinds, refusal_kind, refused, TakesNoMemory}
+pub use Rattle.perf_base.specs.declared.error.ErrorKind.TheVariants.{OutOfMemory}
+pub use Rattle.perf_buffers.specs.Buffer.{Stays}
+pub use Rattle.perf_buffers.specs.Cursor.{cursor_left, cursor_lent, IsAtStart}
+pub use Rattle.perf_buffers.specs.Room.{falls_short, is_made_beforehand}
+pub use Rattle.perf_buffers.specs.Taking.{Takes, FailsToKeep, CanFail}
 pub use Rattle.perf_reader.specs.Calls.{Call}
-pub use Rattle.perf_reader.specs.Meaning.{Meaning, input_of, buffer_of, config_of, reads_of, meaning}
-pub use Rattle.perf_reader.specs.Reading.{Says, Reads, ReadsPlain, ReadsLent, ReadsOne, ReadsNumber, Keeps}
+pub use Rattle.perf_reader.specs.Meaning.{Meaning, input_of, buffer_of, config_of, reads_of}
+pub use Rattle.perf_reader.specs.Meaning.{meaning}
+pub use Rattle.perf_reader.specs.Reading.{Says, Reads, ReadsPlain, ReadsLent, ReadsOne, ReadsNumber}
+pub use Rattle.perf_reader.specs.Reading.{Keeps}

@@ -234,10 +234,10 @@ impl Meant for perf_event_attr {
         × TakesNoMemory seen × IfOk seen (λ a. new.source.left ≡ drop a.size old.source.left) };
 }
 
-/// The nine sizes that the kernel gave its attributes are read, and larger ones whose bytes behind the known fields are
-/// zero. An attribute takes as many bytes as its size says, and no memory. Another size is [`Refusal::AttributeSize`],
-/// with eight bytes taken; other bytes behind the known fields are [`Refusal::AttributeTail`], with the whole attribute
-/// taken.
+/// The nine sizes that the kernel gave its attributes are read, and larger ones whose bytes behind
+/// the known fields are zero. An attribute takes as many bytes as its size says, and no memory.
+/// Another size is [`Refusal::AttributeSize`], with eight bytes taken; other bytes behind the known
+/// fields are [`Refusal::AttributeTail`], with the whole attribute taken.
 impl<'p, I: Input<'p>> ReadFrom<'p, I> for perf_event_attr {
     fn read<E: Endian>(reader: &mut Reader<I, E>) -> ReadResult<Self> {
         match read_groups(reader) {

@@ -1,11 +1,9 @@
 //! Byte strings of a length that is known.
 
 ghost use Rattle.std.specs.Prelude.{◌≡◌, ◌+◌, length, true, IsTrue, IsOk, IfOk, IfErr};
-ghost use Rattle.perf_base.specs.Reads.{one_if_any};
-ghost use Rattle.perf_base.specs.declared.error.ErrorKind.TheVariants.{OutOfMemory};
-ghost use Rattle.perf_buffers.specs.Room.{falls_short, is_made_beforehand};
-ghost use Rattle.perf_reader.specs.Words.{Call, ReadsOne, TakesNoMemory, input_of, reads_of};
-ghost use Rattle.perf_reader.specs.Words.{kinds, refusal_kind, cow_items, is_borrowed, run};
+ghost use Rattle.perf_reader.specs.Words.{one_if_any, OutOfMemory, falls_short, is_made_beforehand};
+ghost use Rattle.perf_reader.specs.Words.{Call, ReadsOne, TakesNoMemory, input_of, reads_of, kinds};
+ghost use Rattle.perf_reader.specs.Words.{refusal_kind, cow_items, is_borrowed, run};
 
 use crate::reader::Reader;
 use perf_base::cow::CowSlice;
@@ -14,8 +12,8 @@ use perf_base::refusal::ReadResult;
 use perf_buffers::input::Input;
 
 impl<'p, I: Input<'p>, E: Endian> Reader<I, E> {
-    /// The next `len` bytes, borrowed where one chunk has them all and lasts, and else copied into room that is made by
-    /// the rules of a cut.
+    /// The next `len` bytes, borrowed where one chunk has them all and lasts, and else copied into
+    /// room that is made by the rules of a cut.
     #[inline]
     #[tactic(auto, using(crate::proofs::Steps::run_none))]
     pub fn read_bytes(&mut self, len: usize) -> ReadResult<CowSlice<'p, u8>>

@@ -1,12 +1,9 @@
 //! The bytes of a frame, cut off, and the reads that are made of them.
 
 ghost use Rattle.std.specs.Prelude.{◌≡◌, ◌+◌, length, take, true, IsTrue, IsOk, IfOk, IfErr};
-ghost use Rattle.perf_base.specs.declared.error.ErrorKind.TheVariants.{OutOfMemory};
-ghost use Rattle.perf_buffers.specs.Buffer.{Stays};
-ghost use Rattle.perf_buffers.specs.Cursor.{cursor_left, cursor_lent, IsAtStart};
-ghost use Rattle.perf_buffers.specs.Room.{falls_short, is_made_beforehand};
-ghost use Rattle.perf_buffers.specs.Taking.{Takes, FailsToKeep, CanFail};
-ghost use Rattle.perf_reader.specs.Words.{config_of, input_of, reads_of, kinds, refused};
+ghost use Rattle.perf_reader.specs.Words.{OutOfMemory, Stays, cursor_left, cursor_lent, IsAtStart};
+ghost use Rattle.perf_reader.specs.Words.{falls_short, is_made_beforehand, Takes, FailsToKeep};
+ghost use Rattle.perf_reader.specs.Words.{CanFail, config_of, input_of, reads_of, kinds, refused};
 ghost use Rattle.perf_reader.specs.Words.{refusal_kind, TakesNoMemory};
 
 use crate::reader::Reader;
@@ -17,7 +14,8 @@ use perf_buffers::cursor::ParseBufCursor;
 use perf_buffers::input::Input;
 
 impl<'p, I: Input<'p>, E: Endian> Reader<I, E> {
-    /// Cuts off the next `len` bytes. That is no elementary read: those are counted that are made of the bytes.
+    /// Cuts off the next `len` bytes. That is no elementary read: those are counted that are made
+    /// of the bytes.
     #[inline]
     pub fn cut(&mut self, len: usize) -> ReadResult<ParseBufCursor<'p>>
         ensures config { config_of self.new ≡ config_of self.old }

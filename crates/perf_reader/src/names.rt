@@ -26,8 +26,8 @@ fn trimmed_len(bytes: &[u8]) -> usize
 }
 
 impl<'p, I: Input<'p>, E: Endian> Reader<I, E> {
-    /// All bytes that are left, without the zero bytes at their end, borrowed where the input is whole. There may be
-    /// none.
+    /// All bytes that are left, without the zero bytes at their end, borrowed where the input is
+    /// whole. There may be none.
     #[inline]
     #[tactic(auto, using(crate::proofs::Paying::chain))]
     pub fn read_rest_trim_nul(&mut self) -> ReadResult<CowSlice<'p, u8>>

@@ -9,7 +9,8 @@ use perf_base::endian::Endian;
 use perf_base::reads::Reads;
 use std::alloc::Global;
 
-/// Reads values out of an input, under a configuration. Its calls alone take bytes and count what they read.
+/// Reads values out of an input, under a configuration. Its calls alone take bytes and count what
+/// they read.
 #[derive(Drop)]
 pub struct Reader<I, E> {
     pub(crate) input: I,
@@ -19,7 +20,8 @@ pub struct Reader<I, E> {
 }
 
 impl<I, E: Endian> Reader<I, E> {
-    /// A reader of an input of which nothing was read, which takes what memory it needs from `alloc`.
+    /// A reader of an input of which nothing was read, which takes what memory it needs from
+    /// `alloc`.
     #[inline]
     pub fn new(alloc: Global, input: I, config: ParseConfig<E>) -> Reader<I, E>
         ensures input { input_of result ≡ input }

@@ -9,8 +9,8 @@ use perf_base::refusal::{ReadResult, Refusal};
 use perf_buffers::input::Input;
 
 impl<'p, I: Input<'p>, E: Endian> Reader<I, E> {
-    /// Takes bytes behind the fields of an attribute that are known, all of which have to be zero. Where one is not, all
-    /// of them are taken, and the refusal is [`Refusal::AttributeTail`].
+    /// Takes bytes behind the fields of an attribute that are known, all of which have to be zero.
+    /// Where one is not, all of them are taken, and the refusal is [`Refusal::AttributeTail`].
     pub fn read_zero_tail(&mut self, len: usize) -> ReadResult<()>
         ensures memory { TakesNoMemory (kinds result) }
         ensures call { Call I.source E.order (Reads (λ _. zero_tail len) (λ _. tt))

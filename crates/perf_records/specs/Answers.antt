@@ -1,5 +1,7 @@
--- How a frame falls apart, what it says and how many elementary reads that takes: by its own bytes alone.
-use Rattle.std.specs.Prelude.{Result, Ok, Err, ◌≡◌, ℕ, ◌+◌, ◌-◌, ◌<◌, ◌≤◌, List, [], map, length, take, drop, IsTrue, IfOk, false, nat_lt, if◌then◌else◌}
+-- How a frame falls apart, what it says and how many elementary reads that takes: by its own bytes
+-- alone.
+use Rattle.std.specs.Prelude.{Result, Ok, Err, ◌≡◌, ℕ, ◌+◌, ◌-◌, ◌<◌, ◌≤◌, List, [], map, length}
+use Rattle.std.specs.Prelude.{take, drop, IsTrue, IfOk, false, nat_lt, if◌then◌else◌}
 use Rattle.perf_base.specs.Configuration.{Configuration, under_misc}
 use Rattle.perf_base.specs.Header.{header, header_of}
 use Rattle.perf_base.specs.Layout.{Parts, layout, value}
@@ -8,7 +10,9 @@ use Rattle.perf_base.specs.Reads.{layout_reads}
 use Rattle.perf_base.specs.Refusals.{refused, TakesNoMemory}
 use Rattle.perf_base.specs.declared.sys.perf_event_header.{perf_event_header}
 use Rattle.perf_base.specs.declared.error.ErrorKind.{ErrorKind}
-use Rattle.perf_base.specs.declared.error.ErrorKind.TheVariants.{Eof, InvalidRecord, UnsupportedConfig, UnsupportedData, External, OutOfMemory}
+use Rattle.perf_base.specs.declared.error.ErrorKind.TheVariants.{Eof, InvalidRecord}
+use Rattle.perf_base.specs.declared.error.ErrorKind.TheVariants.{UnsupportedConfig, UnsupportedData}
+use Rattle.perf_base.specs.declared.error.ErrorKind.TheVariants.{External, OutOfMemory}
 use Rattle.perf_buffers.specs.Buffer.{Source}
 use Rattle.perf_buffers.specs.Cursor.{cursor_left}
 use Rattle.perf_buffers.specs.Taking.{MovesWithin}
@@ -27,7 +31,8 @@ body_length h = h.size - 8
 
 -- ---- how a frame falls apart
 
--- What is known of a frame beside its record, and the bytes of its body: those between its header and its sample id.
+-- What is known of a frame beside its record, and the bytes of its body: those between its header
+-- and its sample id.
 pub record FrameParts : Type 0 where
   pub metadata : MetadataValue
   pub body : List ℕ
@@ -39,7 +44,11 @@ id_bytes c h bytes = drop (length bytes - id_length c h.type_) bytes
 -- the parts of such a frame
 abbrev pub parts_of : Configuration → Order → perf_event_header → List ℕ → FrameParts
 parts_of c o h bytes = record {
-  metadata = record { ty = h.type_; misc = h.misc; sample_id = value o (id_bytes c h bytes) 0 (id_of_type c h.type_) };
+  metadata = record {
+    ty = h.type_;
+    misc = h.misc;
+    sample_id = value o (id_bytes c h bytes) 0 (id_of_type c h.type_);
+  };
   body = take (length bytes - id_length c h.type_) bytes;
 }
 
@@ -47,9 +56,10 @@ parts_of c o h bytes = record {
 abbrev pub id_reads : Configuration → Order → perf_event_header → List ℕ → ℕ
 id_reads c o h bytes = layout_reads o (id_of_type c h.type_) (id_bytes c h bytes)
 
--- How a frame falls apart, by its header and the bytes behind that: a size below the header's own is refused, and so is a
--- frame that is unfinished, or one that has no room for its sample id.
-abbrev pub split_behind : Configuration → Order → perf_event_header → List ℕ → Result FrameParts ErrorKind
+-- How a frame falls apart, by its header and the bytes behind that: a size below the header's own
+-- is refused, and so is a frame that is unfinished, or one that has no room for its sample id.
+abbrev pub split_behind : Configuration → Order → perf_event_header → List ℕ →
+    Result FrameParts ErrorKind
 split_behind c o h bytes =
     if nat_lt h.size 8 then Err InvalidRecord
     else (if nat_lt (length bytes) (body_length h) then Err Eof
@@ -65,18 +75,22 @@ split_reads c o h bytes = elim (split_behind c o h bytes) [
 
 -- ---- what a frame says
 
--- The record in a frame's body: the layout of its bytes by the table of the frame's type, under the frame's own misc.
-abbrev pub record_in : Configuration → Order → perf_event_header → Result FrameParts ErrorKind → Result RecordValue ErrorKind
+-- The record in a frame's body: the layout of its bytes by the table of the frame's type, under the
+-- frame's own misc.
+abbrev pub record_in : Configuration → Order → perf_event_header → Result FrameParts ErrorKind →
+    Result RecordValue ErrorKind
 record_in c o h (Ok parts) = layout o (body (under_misc h.misc c) h.type_) parts.body
 record_in c o h (Err e) = Err e
 
 -- the reads of it
-abbrev pub record_reads : Configuration → Order → perf_event_header → Result FrameParts ErrorKind → ℕ
+abbrev pub record_reads : Configuration → Order → perf_event_header →
+    Result FrameParts ErrorKind → ℕ
 record_reads c o h (Ok parts) = layout_reads o (body (under_misc h.misc c) h.type_) parts.body
 record_reads c o h (Err e) = 0
 
 -- what a frame says, by its header and the bytes behind that
-abbrev pub answer_behind : Configuration → Order → perf_event_header → List ℕ → Result RecordValue ErrorKind
+abbrev pub answer_behind : Configuration → Order → perf_event_header → List ℕ →
+    Result RecordValue ErrorKind
 answer_behind c o h bytes = record_in c o h (split_behind c o h bytes)
 
 -- the reads that it takes behind its header: those of the sample id and of the record
@@ -84,8 +98,10 @@ abbrev pub reads_behind : Configuration → Order → perf_event_header → List
 reads_behind c o h bytes = split_reads c o h bytes + record_reads c o h (split_behind c o h bytes)
 
 -- the same of a frame's own bytes, with the header in front
-abbrev pub of_frame : {V : Type 0} → (perf_event_header → List ℕ → Result V ErrorKind) → Order → List ℕ → Result V ErrorKind
-of_frame says o frame = if nat_lt (length frame) 8 then Err Eof else says (header_of o frame) (drop 8 frame)
+abbrev pub of_frame : {V : Type 0} → (perf_event_header → List ℕ → Result V ErrorKind) →
+    Order → List ℕ → Result V ErrorKind
+of_frame says o frame =
+    if nat_lt (length frame) 8 then Err Eof else says (header_of o frame) (drop 8 frame)
 
 -- how a frame falls apart, by its bytes
 abbrev pub split_of_frame : Configuration → Order → List ℕ → Result FrameParts ErrorKind
@@ -97,16 +113,19 @@ answer_of_frame c o frame = of_frame (answer_behind c o) o frame
 
 -- the reads of a frame whose header is read as three numbers, and of what stands behind it
 abbrev pub frame_reads : (perf_event_header → List ℕ → ℕ) → Order → List ℕ → ℕ
-frame_reads behind o frame = layout_reads o header frame + (if nat_lt (length frame) 8 then 0 else behind (header_of o frame) (drop 8 frame))
+frame_reads behind o frame =
+    layout_reads o header frame
+    + (if nat_lt (length frame) 8 then 0 else behind (header_of o frame) (drop 8 frame))
 
 -- The answers of a stream: the header and the answer of each of its frames.
-abbrev pub answers : Configuration → Order → List ℕ → List (perf_event_header × Result RecordValue ErrorKind)
+abbrev pub answers : Configuration → Order → List ℕ →
+    List (perf_event_header × Result RecordValue ErrorKind)
 answers c o bytes = map (λ frame. (header_of o frame, answer_of_frame c o frame)) (frames o bytes)
 
 -- ---- what a call answers, in the same words
 
--- A call answers what a definition says, seen through `view`, takes n bytes, or all that were left where that is less, and
--- makes k reads. Of a fault and of want of memory this says nothing.
+-- A call answers what a definition says, seen through `view`, takes n bytes, or all that were left
+-- where that is less, and makes k reads. Of a fault and of want of memory this says nothing.
 abbrev pub Tells : {X V : Type 0} → (X → V) → Result V ErrorKind → (n k : ℕ) → Says X
 Tells view says n k old (Ok x) new =
     (says ≡ Ok (view x)) × (new.source.left ≡ drop n old.source.left) × (new.reads ≡ old.reads + k)
@@ -121,28 +140,34 @@ answered_parts pair = record { metadata = pair.1; body = cursor_left pair.0 }
 abbrev pub SplitsBehind : perf_event_header → Says (ParseBufCursor × MetadataValue)
 SplitsBehind h old seen new =
     let c = old.settings in let o = old.order in let bytes = old.source.left in
-    Tells answered_parts (split_behind c o h bytes) (body_length h) (split_reads c o h bytes) old seen new
+    Tells answered_parts (split_behind c o h bytes) (body_length h) (split_reads c o h bytes)
+    old seen new
 
 -- what a frame says behind its header; exactly its body and its sample id are taken
 abbrev pub SaysBehind : perf_event_header → Says Record
 SaysBehind h old seen new =
     let c = old.settings in let o = old.order in let bytes = old.source.left in
-    Tells record_value (answer_behind c o h bytes) (body_length h) (reads_behind c o h bytes) old seen new
+    Tells record_value (answer_behind c o h bytes) (body_length h) (reads_behind c o h bytes)
+    old seen new
 
--- What the reading of a frame means, with its header: what its bytes say, and exactly they are taken. Where it is refused
--- otherwise, but by a fault, a beginning of them is taken. Of a whole buffer no byte is copied, and memory is taken for a
--- list alone.
+-- What the reading of a frame means, with its header: what its bytes say, and exactly they are
+-- taken. Where it is refused otherwise, but by a fault, a beginning of them is taken. Of a whole
+-- buffer no byte is copied, and memory is taken for a list alone.
 abbrev pub SaysFrame : Says Record
 SaysFrame old seen new =
     let c = old.settings in let o = old.order in let bytes = old.source.left in
-    Tells record_value (answer_of_frame c o bytes) (frame_length o bytes) (frame_reads (reads_behind c o) o bytes) old seen new
-    × (is_external (refused seen) ≡ false → MovesWithin old.source (frame_length o bytes) new.source)
-    × (IsTrue old.source.whole → IfOk seen IsBorrowed × (holds_a_list (header_of o bytes).type_ ≡ false → TakesNoMemory seen))
+    Tells record_value (answer_of_frame c o bytes) (frame_length o bytes)
+    (frame_reads (reads_behind c o) o bytes) old seen new
+    × (is_external (refused seen) ≡ false →
+    MovesWithin old.source (frame_length o bytes) new.source)
+    × (IsTrue old.source.whole →
+    IfOk seen IsBorrowed
+    × (holds_a_list (header_of o bytes).type_ ≡ false → TakesNoMemory seen))
 
 -- ---- how a frame's body is cut off
 
--- What a refused cut leaves: all where the header's size is too small, nothing where bytes are lacking, and else what
--- stood there but for a beginning of the body.
+-- What a refused cut leaves: all where the header's size is too small, nothing where bytes are
+-- lacking, and else what stood there but for a beginning of the body.
 abbrev pub FailsToCut : Source → perf_event_header → ErrorKind → Source → Type 0
 FailsToCut old h Eof new = (8 ≤ h.size) × (length old.left < body_length h) × (new.left ≡ [])
 FailsToCut old h InvalidRecord new = (h.size < 8) × (new.left ≡ old.left)
@@ -151,7 +176,10 @@ FailsToCut old h UnsupportedData new = ⊥
 FailsToCut old h External new = MovesWithin old (body_length h) new
 FailsToCut old h OutOfMemory new = MovesWithin old (body_length h) new
 
--- The reading of all of a body: its layout, with the reads that makes. Of want of memory this says nothing.
+-- The reading of all of a body: its layout, with the reads that makes. Of want of memory this says
+-- nothing.
 abbrev pub Finishes : Order → Parts RecordValue → List ℕ → Result Record ErrorKind → ℕ → Type 0
-Finishes o p bytes (Ok r) k = (layout o p bytes ≡ Ok (record_value r)) × (k ≡ layout_reads o p bytes)
-Finishes o p bytes (Err e) k = IsTrue (of_layout e) → (layout o p bytes ≡ Err e) × (k ≡ layout_reads o p bytes)
+Finishes o p bytes (Ok r) k =
+    (layout o p bytes ≡ Ok (record_value r)) × (k ≡ layout_reads o p bytes)
+Finishes o p bytes (Err e) k =
+    IsTrue (of_layout e) → (layout o p bytes ≡ Err e) × (k ≡ layout_reads o p bytes)

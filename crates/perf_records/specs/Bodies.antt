@@ -6,7 +6,12 @@ use Rattle.perf_base.specs.Layout.{Parts, done, mapped}
 use Rattle.perf_base.specs.Refusals.{TakesNoMemory}
 use Rattle.perf_reader.specs.Reading.{Says, Reads, ReadsLent}
 use Rattle.perf_records.specs.RecordTypes.{type_of, type_holds_a_list}
-use Rattle.perf_records.specs.Records.{RecordValue, record_value, IsBorrowed, mmap_is, lost_is, comm_is, exit_is, throttle_is, unthrottle_is, fork_is, mmap2_is, aux_is, itrace_start_is, lost_samples_is, switch_is, switch_cpu_wide_is, namespaces_is, ksymbol_is, bpf_event_is, cgroup_is, text_poke_is, aux_output_hw_id_is, unknown_is}
+use Rattle.perf_records.specs.Records.{RecordValue, record_value, IsBorrowed, mmap_is, lost_is}
+use Rattle.perf_records.specs.Records.{comm_is, exit_is, throttle_is, unthrottle_is, fork_is}
+use Rattle.perf_records.specs.Records.{mmap2_is, aux_is, itrace_start_is, lost_samples_is}
+use Rattle.perf_records.specs.Records.{switch_is, switch_cpu_wide_is, namespaces_is, ksymbol_is}
+use Rattle.perf_records.specs.Records.{bpf_event_is, cgroup_is, text_poke_is, aux_output_hw_id_is}
+use Rattle.perf_records.specs.Records.{unknown_is}
 use Rattle.perf_records.specs.declared.record.Record.{Record}
 use Rattle.perf_records.specs.declared.record_type.RecordType.{RecordType}
 use Rattle.perf_records.specs.declared.record_type.RecordType.TheVariants as type
@@ -63,12 +68,13 @@ body c ty = elim (type_of ty) [ Some type ↦ body_of c ty type | None ↦ unrea
 abbrev pub holds_a_list : ℕ → Bool
 holds_a_list ty = elim (type_of ty) [ Some type ↦ type_holds_a_list type | None ↦ false ]
 
--- What the reading of a body means: its layout, of which no byte is copied out of a whole buffer; memory is taken there
--- for a list alone.
+-- What the reading of a body means: its layout, of which no byte is copied out of a whole buffer;
+-- memory is taken there for a list alone.
 abbrev pub SaysBody : ℕ → Says Record
 SaysBody ty old seen new =
     Reads (λ c. body c ty) record_value old seen new
-    × (IsTrue old.source.whole → IfOk seen IsBorrowed × (holds_a_list ty ≡ false → TakesNoMemory seen))
+    × (IsTrue old.source.whole →
+    IfOk seen IsBorrowed × (holds_a_list ty ≡ false → TakesNoMemory seen))
 
 -- the same of a type that is known
 abbrev pub SaysLent : (Configuration → Parts RecordValue) → Says Record

@@ -4,3 +4,4 @@ pub mod RecordTypes
 pub mod Bodies
 pub mod Frames
 pub mod Answers
+pub mod Words

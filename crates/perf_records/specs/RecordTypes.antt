@@ -1,4 +1,5 @@
--- The types of records, each by its number: `enum perf_event_type` of perf_event.h, as perf_event_open(2) lists them.
+-- The types of records, each by its number: `enum perf_event_type` of perf_event.h, as
+-- perf_event_open(2) lists them.
 use Rattle.std.specs.Prelude.{ℕ, Bool, true, false, Option, Some, None, ◌==◌, if◌then◌else◌}
 use Rattle.perf_records.specs.declared.record_type.RecordType.{RecordType}
 use Rattle.perf_records.specs.declared.record_type.RecordType.TheVariants as type

@@ -1,31 +1,19 @@
 //! The records of a type, out of the bytes between header and sample id.
 //!
-//! Each type is read in a function of its own, so that a call has no more on its stack than that type wants.
+//! Each type is read in a function of its own, so that a call has no more on its stack than that
+//! type wants.
 #![tactic(auto, using(perf_reader::proofs::Paying::chain))]
 
 ghost use Rattle.std.specs.Prelude.{IfOk};
-ghost use Rattle.perf_base.specs.Layout.{mapped};
-ghost use Rattle.perf_reader.specs.Words.{Call, Reads, kinds};
-ghost use Rattle.perf_records.specs.Bodies.{SaysBody, SaysLent, unread};
-ghost use Rattle.perf_records.specs.Records.{record_value, IsBorrowed};
-ghost use Rattle.perf_records.specs.Records.{aux_is, aux_output_hw_id_is, bpf_event_is, cgroup_is, comm_is, exit_is, fork_is, itrace_start_is, ksymbol_is};
-ghost use Rattle.perf_records.specs.Records.{lost_is, lost_samples_is, mmap2_is, mmap_is, namespaces_is, switch_cpu_wide_is, text_poke_is, throttle_is, unthrottle_is};
-ghost use Rattle.perf_types.specs.Aux.{aux};
-ghost use Rattle.perf_types.specs.AuxOutputHwId.{aux_output_hw_id};
-ghost use Rattle.perf_types.specs.BpfEvent.{bpf_event};
-ghost use Rattle.perf_types.specs.CGroup.{cgroup};
-ghost use Rattle.perf_types.specs.Comm.{comm};
-ghost use Rattle.perf_types.specs.Exit.{exit};
-ghost use Rattle.perf_types.specs.ITraceStart.{itrace_start};
-ghost use Rattle.perf_types.specs.KSymbol.{ksymbol};
-ghost use Rattle.perf_types.specs.Lost.{lost};
-ghost use Rattle.perf_types.specs.LostSamples.{lost_samples};
-ghost use Rattle.perf_types.specs.Mmap.{mmap};
-ghost use Rattle.perf_types.specs.Mmap2.{mmap2};
-ghost use Rattle.perf_types.specs.Namespaces.{namespaces};
-ghost use Rattle.perf_types.specs.SwitchCpuWide.{switch_cpu_wide};
-ghost use Rattle.perf_types.specs.TextPoke.{text_poke};
-ghost use Rattle.perf_types.specs.Throttle.{throttle};
+ghost use Rattle.perf_records.specs.Words.{mapped, Call, Reads, kinds, SaysBody, SaysLent, unread};
+ghost use Rattle.perf_records.specs.Words.{record_value, IsBorrowed, aux_is, aux_output_hw_id_is};
+ghost use Rattle.perf_records.specs.Words.{bpf_event_is, cgroup_is, comm_is, exit_is, fork_is};
+ghost use Rattle.perf_records.specs.Words.{itrace_start_is, ksymbol_is, lost_is, lost_samples_is};
+ghost use Rattle.perf_records.specs.Words.{mmap2_is, mmap_is, namespaces_is, switch_cpu_wide_is};
+ghost use Rattle.perf_records.specs.Words.{text_poke_is, throttle_is, unthrottle_is, aux};
+ghost use Rattle.perf_records.specs.Words.{aux_output_hw_id, bpf_event, cgroup, comm, exit};
+ghost use Rattle.perf_records.specs.Words.{itrace_start, ksymbol, lost, lost_samples, mmap, mmap2};
+ghost use Rattle.perf_records.specs.Words.{namespaces, switch_cpu_wide, text_poke, throttle};
 
 use crate::record::Record;
 use crate::record_type::RecordType;
@@ -156,7 +144,8 @@ fn read_lost_samples<'p, I: Input<'p>, E: Endian>(
 fn read_switch_cpu_wide<'p, I: Input<'p>, E: Endian>(
     reader: &mut Reader<I, E>,
 ) -> ReadResult<Record<'p>>
-    ensures call { Call I.source E.order (SaysLent (λ c. mapped switch_cpu_wide_is (switch_cpu_wide c)))
+    ensures call { Call I.source E.order
+        (SaysLent (λ c. mapped switch_cpu_wide_is (switch_cpu_wide c)))
         reader.old (kinds result) reader.new }
 {
     held!(reader, SwitchCpuWide => SwitchCpuWide)
@@ -207,7 +196,8 @@ fn read_text_poke<'p, I: Input<'p>, E: Endian>(reader: &mut Reader<I, E>) -> Rea
 fn read_aux_output_hw_id<'p, I: Input<'p>, E: Endian>(
     reader: &mut Reader<I, E>,
 ) -> ReadResult<Record<'p>>
-    ensures call { Call I.source E.order (SaysLent (λ _. mapped aux_output_hw_id_is aux_output_hw_id))
+    ensures call { Call I.source E.order
+        (SaysLent (λ _. mapped aux_output_hw_id_is aux_output_hw_id))
         reader.old (kinds result) reader.new }
 {
     held!(reader, AuxOutputHwId => AuxOutputHwId)
@@ -228,7 +218,8 @@ fn read_unread<'p, I: Input<'p>, E: Endian>(
     }
 }
 
-/// The record of a type, out of the bytes of its body. Those that are left behind the record do not matter.
+/// The record of a type, out of the bytes of its body. Those that are left behind the record do not
+/// matter.
 #[inline]
 pub fn read_body<'p, I: Input<'p>, E: Endian>(
     reader: &mut Reader<I, E>,

@@ -1,20 +1,14 @@
 //! Frames: the bytes that belong to a header.
 
 ghost use Rattle.std.specs.Prelude.{◌≡◌, ◌≤◌, ◌<◌, ◌+◌, false, length, IsTrue, IfOk, IfErr};
-ghost use Rattle.perf_base.specs.Configured.{configuration_of, endian_of};
-ghost use Rattle.perf_base.specs.Layout.{value};
-ghost use Rattle.perf_base.specs.Reads.{layout_reads};
-ghost use Rattle.perf_base.specs.declared.error.ErrorKind.TheVariants.{InvalidRecord};
-ghost use Rattle.perf_buffers.specs.Cursor.{cursor_left, cursor_lent};
-ghost use Rattle.perf_buffers.specs.Taking.{MovesWithin};
-ghost use Rattle.perf_reader.specs.Reading.{is_external, one_if_refused};
-ghost use Rattle.perf_reader.specs.Words.{Call, TakesNoMemory, input_of, config_of, reads_of};
-ghost use Rattle.perf_reader.specs.Words.{kinds, refused, refusal_kind};
-ghost use Rattle.perf_records.specs.Answers.{SplitsBehind, SaysBehind, SaysFrame, Finishes, body_length};
-ghost use Rattle.perf_records.specs.Answers.{answered_parts, parts_of, id_reads};
-ghost use Rattle.perf_records.specs.Bodies.{body, holds_a_list};
-ghost use Rattle.perf_records.specs.Metadata.{carries_sample_id, id_of_type, id_length};
-ghost use Rattle.perf_records.specs.Records.{IsBorrowed};
+ghost use Rattle.perf_records.specs.Words.{configuration_of, endian_of, value, layout_reads};
+ghost use Rattle.perf_records.specs.Words.{InvalidRecord, cursor_left, cursor_lent, MovesWithin};
+ghost use Rattle.perf_records.specs.Words.{is_external, one_if_refused, Call, TakesNoMemory};
+ghost use Rattle.perf_records.specs.Words.{input_of, config_of, reads_of, kinds, refused};
+ghost use Rattle.perf_records.specs.Words.{refusal_kind, SplitsBehind, SaysBehind, SaysFrame};
+ghost use Rattle.perf_records.specs.Words.{Finishes, body_length, answered_parts, parts_of};
+ghost use Rattle.perf_records.specs.Words.{id_reads, body, holds_a_list, carries_sample_id};
+ghost use Rattle.perf_records.specs.Words.{id_of_type, id_length, IsBorrowed};
 
 use crate::body::read_body;
 use crate::metadata::RecordMetadata;
@@ -119,8 +113,9 @@ fn take_id<'p, E: Endian>(
 
 /// The bytes of the body of a frame whose header was read, and its metadata.
 ///
-/// A size that does not count the header is `InvalidRecord`, with nothing taken. Too few bytes are `Eof`, and all of
-/// them are taken. A frame without room for its sample id is `InvalidRecord`, and exactly it is taken.
+/// A size that does not count the header is `InvalidRecord`, with nothing taken. Too few bytes are
+/// `Eof`, and all of them are taken. A frame without room for its sample id is `InvalidRecord`, and
+/// exactly it is taken.
 #[inline]
 pub fn split<'p, I: Input<'p>, E: Endian>(
     reader: &mut Reader<I, E>,
@@ -163,7 +158,8 @@ pub fn split<'p, I: Input<'p>, E: Endian>(
     }
 }
 
-// The record that the bytes of a body are, and how many reads it took. Bytes behind the record do not matter.
+// The record that the bytes of a body are, and how many reads it took. Bytes behind the record do
+// not matter.
 #[inline]
 fn finish<'p, E: Endian>(
     alloc: Global,
@@ -190,8 +186,8 @@ fn finish<'p, E: Endian>(
     (record, reader.into_reads())
 }
 
-/// The record of a frame whose header was read. Exactly the frame is taken, also where it is refused; after a fault, and
-/// where memory for the frame was refused, a beginning of it.
+/// The record of a frame whose header was read. Exactly the frame is taken, also where it is
+/// refused; after a fault, and where memory for the frame was refused, a beginning of it.
 #[inline]
 pub fn read_behind<'p, I: Input<'p>, E: Endian>(
     reader: &mut Reader<I, E>,

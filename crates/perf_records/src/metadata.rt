@@ -6,8 +6,8 @@ ghost use Rattle.perf_records.specs.Metadata.{MetadataValue};
 use perf_types::sample_id::SampleId;
 use std::marker::Model;
 
-/// What the header of a record and the sample id at its end say: its type, its `misc`, and which task and event it
-/// belongs to.
+/// What the header of a record and the sample id at its end say: its type, its `misc`, and which
+/// task and event it belongs to.
 #[derive(Clone, Debug, Drop)]
 pub struct RecordMetadata {
     ty: u32,

@@ -14,7 +14,8 @@ pub record AuxValue : Type 0 where
 
 -- the value of a record of the code
 abbrev pub aux_value : Aux → AuxValue
-aux_value r = record { aux_offset = r.aux_offset; aux_size = r.aux_size; flags = aux_flags_bits r.flags }
+aux_value r =
+    record { aux_offset = r.aux_offset; aux_size = r.aux_size; flags = aux_flags_bits r.flags }
 
 -- the body: three numbers
 abbrev pub aux : Parts AuxValue

@@ -1,4 +1,5 @@
--- PERF_RECORD_KSYMBOL: a place and a length in the kernel's memory, what stands there, flags and a name.
+-- PERF_RECORD_KSYMBOL: a place and a length in the kernel's memory, what stands there, flags and a
+-- name.
 use Rattle.std.specs.Prelude.{ℕ, List, IsTrue, Bool}
 use Rattle.perf_base.specs.Cow.{cow_items, is_borrowed, cow_form}
 use Rattle.perf_base.specs.Layout.{Parts, done, ◌>>=◌}
@@ -17,7 +18,13 @@ pub record KSymbolValue : Type 0 where
 
 -- the value of a record of the code, wherever its bytes lie
 abbrev pub ksymbol_value : KSymbol → KSymbolValue
-ksymbol_value r = record { addr = r.addr; len = r.len; ksym_type = r.ksym_type; flags = ksymbol_flags_bits r.flags; name = cow_items r.name }
+ksymbol_value r = record {
+  addr = r.addr;
+  len = r.len;
+  ksym_type = r.ksym_type;
+  flags = ksymbol_flags_bits r.flags;
+  name = cow_items r.name;
+}
 
 -- whether its name is borrowed
 abbrev pub ksymbol_form : KSymbol → List Bool

@@ -26,3 +26,4 @@ pub mod SwitchCpuWide
 pub mod Text
 pub mod TextPoke
 pub mod Throttle
+pub mod Words

@@ -16,7 +16,14 @@ pub record MmapValue : Type 0 where
 
 -- the value of a record of the code, wherever its bytes lie
 abbrev pub mmap_value : Mmap → MmapValue
-mmap_value r = record { pid = r.pid; tid = r.tid; addr = r.addr; len = r.len; pgoff = r.pgoff; filename = cow_items r.filename }
+mmap_value r = record {
+  pid = r.pid;
+  tid = r.tid;
+  addr = r.addr;
+  len = r.len;
+  pgoff = r.pgoff;
+  filename = cow_items r.filename;
+}
 
 -- whether its path is borrowed
 abbrev pub mmap_form : Mmap → List Bool

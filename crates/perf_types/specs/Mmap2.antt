@@ -1,4 +1,5 @@
--- PERF_RECORD_MMAP2: as PERF_RECORD_MMAP, and which file was mapped, how its memory may be used, and how it was mapped.
+-- PERF_RECORD_MMAP2: as PERF_RECORD_MMAP, and which file was mapped, how its memory may be used,
+-- and how it was mapped.
 use Rattle.std.specs.Prelude.{ℕ, List, IsTrue, Bool}
 use Rattle.perf_base.specs.Configuration.{Configuration}
 use Rattle.perf_base.specs.Cow.{cow_items, is_borrowed, cow_form}
@@ -22,11 +23,28 @@ pub record Mmap2Value : Type 0 where
 
 -- the value of a record of the code, wherever its bytes lie
 abbrev pub mmap2_value : Mmap2 → Mmap2Value
-mmap2_value r = record { pid = r.pid; tid = r.tid; addr = r.addr; len = r.len; pgoff = r.pgoff; detail = detail_value r.detail; prot = r.prot; flags = r.flags; filename = cow_items r.filename }
+mmap2_value r = record {
+  pid = r.pid;
+  tid = r.tid;
+  addr = r.addr;
+  len = r.len;
+  pgoff = r.pgoff;
+  detail = detail_value r.detail;
+  prot = r.prot;
+  flags = r.flags;
+  filename = cow_items r.filename;
+}
 
 -- what an MMAP record says of the same mapping
 abbrev pub mapping_of : Mmap2Value → MmapValue
-mapping_of r = record { pid = r.pid; tid = r.tid; addr = r.addr; len = r.len; pgoff = r.pgoff; filename = r.filename }
+mapping_of r = record {
+  pid = r.pid;
+  tid = r.tid;
+  addr = r.addr;
+  len = r.len;
+  pgoff = r.pgoff;
+  filename = r.filename;
+}
 
 -- whether its path is borrowed
 abbrev pub mmap2_form : Mmap2 → List Bool
@@ -48,4 +66,14 @@ mmap2 c = do
   prot ← u32
   flags ← u32
   filename ← name
-  done (record { pid = pid; tid = tid; addr = addr; len = len; pgoff = pgoff; detail = detail; prot = prot; flags = flags; filename = filename })
+  done (record {
+    pid = pid;
+    tid = tid;
+    addr = addr;
+    len = len;
+    pgoff = pgoff;
+    detail = detail;
+    prot = prot;
+    flags = flags;
+    filename = filename;
+  })

@@ -61,7 +61,8 @@ inode = do
   ino_generation ← u64
   done (inode_is maj min ino ino_generation)
 
--- Twenty bytes, of which the first `len` are the build id. A length above twenty is found once all bytes are there.
+-- Twenty bytes, of which the first `len` are the build id. A length above twenty is found once all
+-- bytes are there.
 abbrev pub build_id : Parts DetailValue
 build_id = do
   len ← u8

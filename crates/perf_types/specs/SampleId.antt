@@ -1,5 +1,5 @@
--- The sample id, `struct sample_id` of perf_event_open(2): fields that the kernel writes at the end of records where
--- `sample_id_all` is set. Each flag of the sample type has eight bytes.
+-- The sample id, `struct sample_id` of perf_event_open(2): fields that the kernel writes at the end
+-- of records where `sample_id_all` is set. Each flag of the sample type has eight bytes.
 use Rattle.std.specs.Prelude.{ℕ, ◌+◌, ◌*◌, Bool, Option, Some, None, if◌then◌else◌}
 use Rattle.perf_base.specs.Configuration.{Configuration}
 use Rattle.perf_words.specs.Bits.{has_bit}
@@ -17,7 +17,8 @@ pub record SampleIdValue : Type 0 where
 
 -- one without fields
 abbrev pub no_sample_id : SampleIdValue
-no_sample_id = record { pid = None; tid = None; time = None; id = None; stream_id = None; cpu = None }
+no_sample_id =
+    record { pid = None; tid = None; time = None; id = None; stream_id = None; cpu = None }
 
 -- ---- the flags of the sample type that count, PERF_SAMPLE_*
 
@@ -63,7 +64,14 @@ sample_id_fields sample_type = do
   cpu ← u32_if (has_cpu sample_type)
   ignored_if (has_cpu sample_type) 4
   identifier ← u64_if (has_identifier sample_type)
-  done (record { pid = pid; tid = tid; time = time; id = first_of id identifier; stream_id = stream_id; cpu = cpu })
+  done (record {
+    pid = pid;
+    tid = tid;
+    time = time;
+    id = first_of id identifier;
+    stream_id = stream_id;
+    cpu = cpu;
+  })
 
 -- what it is under a configuration: without `sample_id_all` there is none
 abbrev pub sample_id : Configuration → Parts SampleIdValue
@@ -77,7 +85,10 @@ one_if flag = if flag then 1 else 0
 
 -- how many flags are set
 abbrev pub sample_id_flags : ℕ → ℕ
-sample_id_flags sample_type = one_if (has_tid sample_type) + one_if (has_time sample_type) + one_if (has_id sample_type) + one_if (has_stream_id sample_type) + one_if (has_cpu sample_type) + one_if (has_identifier sample_type)
+sample_id_flags sample_type =
+    one_if (has_tid sample_type) + one_if (has_time sample_type) + one_if (has_id sample_type)
+    + one_if (has_stream_id sample_type) + one_if (has_cpu sample_type)
+    + one_if (has_identifier sample_type)
 
 -- how many bytes it has
 abbrev pub sample_id_length : Configuration → ℕ

@@ -16,7 +16,14 @@ fields_of has = do
   cpu ← u32_if has.cpu
   ignored_if has.cpu 4
   identifier ← u64_if has.identifier
-  done (record { pid = pid; tid = tid; time = time; id = first_of id identifier; stream_id = stream_id; cpu = cpu })
+  done (record {
+    pid = pid;
+    tid = tid;
+    time = time;
+    id = first_of id identifier;
+    stream_id = stream_id;
+    cpu = cpu;
+  })
 
 -- n bytes were taken; or fewer were left, where it was refused with a kind of the layout
 abbrev pub TakesOrLacks : {X : Type 0} → ℕ → Says X

@@ -1,4 +1,5 @@
--- PERF_RECORD_SWITCH_CPU_WIDE: the other task's process and thread. The header's misc says which way the switch went.
+-- PERF_RECORD_SWITCH_CPU_WIDE: the other task's process and thread. The header's misc says which
+-- way the switch went.
 use Rattle.std.specs.Prelude.{ℕ, if◌then◌else◌}
 use Rattle.perf_base.specs.Configuration.{Configuration}
 use Rattle.perf_words.specs.Bits.{has_bit}

@@ -2,11 +2,8 @@
 #![tactic(auto, using(perf_reader::proofs::Paying::chain))]
 
 ghost use Rattle.std.specs.Prelude.{◌≡◌, option_map};
-ghost use Rattle.perf_base.specs.Cow.{cow_items};
-ghost use Rattle.perf_reader.specs.Words.{ReadsLent};
-ghost use Rattle.perf_types.specs.Text.{text_of};
 ghost use Rattle.perf_types.specs.CGroup.{cgroup, cgroup_value, IsBorrowedCGroup, cgroup_form};
-ghost use Rattle.perf_base.specs.Copies.{IsClone, IsOwnedCopy};
+ghost use Rattle.perf_types.specs.Words.{ReadsLent, cow_items, text_of, IsClone, IsOwnedCopy};
 
 use crate::text::text;
 use perf_base::cow::CowSlice;

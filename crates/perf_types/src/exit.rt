@@ -10,7 +10,8 @@ use perf_buffers::input::Input;
 use perf_reader::read::{Meant, ReadFrom};
 use perf_reader::reader::Reader;
 
-/// A task ended (`PERF_RECORD_EXIT`), or was made (`PERF_RECORD_FORK`), as perf_event_open(2) lays both out.
+/// A task ended (`PERF_RECORD_EXIT`), or was made (`PERF_RECORD_FORK`), as perf_event_open(2) lays
+/// both out.
 #[derive(Clone, Debug, Drop)]
 pub struct Exit {
     /// The process of the task.

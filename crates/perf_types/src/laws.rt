@@ -1,5 +1,6 @@
-//! The law of equality and hashing of [`NamespaceEntry`]: entries are equal exactly where both of their numbers are, and
-//! hash as these do, the device's first, whatever the hash function. So equal ones hash alike.
+//! The law of equality and hashing of [`NamespaceEntry`]: entries are equal exactly where both of
+//! their numbers are, and hash as these do, the device's first, whatever the hash function. So
+//! equal ones hash alike.
 
 ghost use Rattle.std.specs.Hash as fed;
 ghost use Rattle.perf_types.specs.Alike.{IsByFields, entry_hash};
@@ -14,7 +15,8 @@ pub fn namespace_entry_by_numbers<S: BuildHasher>(
     first: NamespaceEntry,
     second: NamespaceEntry,
 ) -> Compared
-    ensures { IsByFields (entry_hash S.Hasher.finish S.Hasher.write (S.build_hasher hashing.now) fed.u64)
+    ensures { IsByFields
+        (entry_hash S.Hasher.finish S.Hasher.write (S.build_hasher hashing.now) fed.u64)
         first second result.equal result.first_hash result.second_hash }
 {
     Compared {

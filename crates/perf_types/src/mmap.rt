@@ -2,11 +2,8 @@
 #![tactic(auto, using(perf_reader::proofs::Paying::chain))]
 
 ghost use Rattle.std.specs.Prelude.{◌≡◌, option_map};
-ghost use Rattle.perf_base.specs.Cow.{cow_items};
-ghost use Rattle.perf_reader.specs.Words.{ReadsLent};
-ghost use Rattle.perf_types.specs.Text.{text_of};
 ghost use Rattle.perf_types.specs.Mmap.{mmap, mmap_value, IsBorrowedMmap, mmap_form};
-ghost use Rattle.perf_base.specs.Copies.{IsClone, IsOwnedCopy};
+ghost use Rattle.perf_types.specs.Words.{ReadsLent, cow_items, text_of, IsClone, IsOwnedCopy};
 
 use crate::text::text;
 use perf_base::cow::CowSlice;
@@ -32,8 +29,8 @@ pub struct Mmap<'a> {
     pub len: u64,
     /// Where it begins in the file, in bytes.
     pub pgoff: u64,
-    /// The file's path, without the zero bytes behind it. Where there is no file it is a word of the kernel's for what
-    /// is mapped, such as `//anon` or `[vdso]`.
+    /// The file's path, without the zero bytes behind it. Where there is no file it is a word of
+    /// the kernel's for what is mapped, such as `//anon` or `[vdso]`.
     pub filename: CowSlice<'a, u8>,
 }
 

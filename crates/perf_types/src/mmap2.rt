@@ -2,11 +2,10 @@
 #![tactic(auto, using(perf_reader::proofs::Paying::chain))]
 
 ghost use Rattle.std.specs.Prelude.{◌≡◌, IsTrue, IfOk};
-ghost use Rattle.perf_reader.specs.Words.{Call, Reads, ReadsPlain, ReadsLent, TakesNoMemory};
-ghost use Rattle.perf_reader.specs.Words.{kinds};
 ghost use Rattle.perf_types.specs.MmapDetail.{inode, build_id, mmap_detail, detail_value};
 ghost use Rattle.perf_types.specs.MmapDetail.{has_fitting_id};
-ghost use Rattle.perf_words.specs.Bits.{has_bit};
+ghost use Rattle.perf_types.specs.Words.{Call, Reads, ReadsPlain, ReadsLent, TakesNoMemory, kinds};
+ghost use Rattle.perf_types.specs.Words.{has_bit};
 
 use crate::mmap::Mmap;
 use crate::text::text;
@@ -37,15 +36,15 @@ pub struct Mmap2<'a> {
     pub prot: u32,
     /// How it was mapped, `MAP_*` of mmap(2).
     pub flags: u32,
-    /// The file's path, without the zero bytes behind it. Where there is no file it is a word of the kernel's for what
-    /// is mapped, such as `//anon` or `[vdso]`.
+    /// The file's path, without the zero bytes behind it. Where there is no file it is a word of
+    /// the kernel's for what is mapped, such as `//anon` or `[vdso]`.
     pub filename: CowSlice<'a, u8>,
     detail: MmapDetail,
     ghost fitting: { IsTrue (has_fitting_id detail) },
 }
 
-/// Which file was mapped: one by its inode, or a program by its build id. Bit 14 of the header's `misc`,
-/// `PERF_RECORD_MISC_MMAP_BUILD_ID`, says which of both a record has.
+/// Which file was mapped: one by its inode, or a program by its build id. Bit 14 of the header's
+/// `misc`, `PERF_RECORD_MISC_MMAP_BUILD_ID`, says which of both a record has.
 #[derive(Clone, Debug, Drop)]
 pub enum MmapDetail {
     /// The file's inode.
@@ -56,7 +55,8 @@ pub enum MmapDetail {
         min: u32,
         /// The number of the inode.
         ino: u64,
-        /// The generation of the inode, which tells files apart that had its number one after another.
+        /// The generation of the inode, which tells files apart that had its number one after
+        /// another.
         ino_generation: u64,
     },
     /// The program's build id: the first `len` bytes of `build_id`.
@@ -70,12 +70,12 @@ pub enum MmapDetail {
 
 impl<'a> Mmap2<'a> {
     ghost use Rattle.std.specs.Prelude.{◌≡◌, IfOk, option_map};
-    ghost use Rattle.perf_base.specs.Cow.{cow_items, is_borrowed};
-    ghost use Rattle.perf_base.specs.Copies.{KeepsForm, IsClone, IsOwnedCopy};
-    ghost use Rattle.perf_types.specs.Text.{text_of};
     ghost use Rattle.perf_types.specs.Mmap.{mmap_value, mmap_form};
-    ghost use Rattle.perf_types.specs.MmapDetail.{detail_value, maj_of, min_of, ino_of, ino_generation_of, build_id_of};
     ghost use Rattle.perf_types.specs.Mmap2.{mmap2_value, mmap2_form, mapping_of};
+    ghost use Rattle.perf_types.specs.MmapDetail.{detail_value, maj_of, min_of, ino_of};
+    ghost use Rattle.perf_types.specs.MmapDetail.{ino_generation_of, build_id_of};
+    ghost use Rattle.perf_types.specs.Words.{KeepsForm, IsClone, IsOwnedCopy};
+    ghost use Rattle.perf_types.specs.Words.{cow_items, is_borrowed, text_of};
 
     /// The record of these fields.
     pub fn from_parts(
@@ -90,7 +90,17 @@ impl<'a> Mmap2<'a> {
         detail: MmapDetail,
     ) -> Mmap2<'a>
         requires { IsTrue (has_fitting_id detail) }
-        ensures value { mmap2_value result ≡ record { pid = pid; tid = tid; addr = addr; len = len; pgoff = pgoff; detail = detail_value detail; prot = prot; flags = flags; filename = cow_items filename.entry } }
+        ensures value { mmap2_value result ≡ record {
+          pid = pid;
+          tid = tid;
+          addr = addr;
+          len = len;
+          pgoff = pgoff;
+          detail = detail_value detail;
+          prot = prot;
+          flags = flags;
+          filename = cow_items filename.entry;
+        } }
         ensures form { is_borrowed result.filename ≡ is_borrowed filename.entry }
     {
         Mmap2 {
@@ -153,7 +163,8 @@ impl<'a> Mmap2<'a> {
         }
     }
 
-    /// The build id of the program, where the record has one: the first bytes of its twenty, as many as it says.
+    /// The build id of the program, where the record has one: the first bytes of its twenty, as
+    /// many as it says.
     pub fn build_id(&self) -> Option<&[u8]>
         ensures { option_map (λ id. id.now) result ≡ build_id_of (mmap2_value self.now).detail }
     {
@@ -268,7 +279,8 @@ impl<'a> From<Mmap2<'a>> for Mmap<'a> {
     ghost use Rattle.perf_types.specs.Mmap.{mmap_value};
     ghost use Rattle.perf_types.specs.Mmap2.{mmap2_value, mapping_of};
 
-    ghost from_gives = { λ longer shorter. (mmap_value shorter ≡ mapping_of (mmap2_value longer)) × (is_borrowed shorter.filename ≡ is_borrowed longer.filename) };
+    ghost from_gives = { λ longer shorter. (mmap_value shorter ≡ mapping_of (mmap2_value longer))
+        × (is_borrowed shorter.filename ≡ is_borrowed longer.filename) };
 
     fn from(longer: Mmap2<'a>) -> Mmap<'a> {
         longer.into_mmap()

@@ -1,15 +1,12 @@
 //! NAMESPACES. No claimed count makes room for entries.
 #![tactic(auto, using(perf_reader::proofs::Paying::chain))]
 
-ghost use Rattle.std.specs.List.{flat_map};
 ghost use Rattle.std.specs.Prelude.{◌≡◌, ◌*◌, slice_get};
-ghost use Rattle.std.specs.Option.{option_copied};
-ghost use Rattle.perf_base.specs.Cow.{cow_items};
-ghost use Rattle.perf_reader.specs.Words.{Call, Reads, ReadsOne, ReadsPlain, kinds, words};
-ghost use Rattle.perf_types.specs.Namespaces.{namespace_entry, entry_numbers, namespaces, namespaces_value, namespaces_form};
-ghost use Rattle.perf_base.specs.Copies.{IsClone};
-ghost use Rattle.perf_types.specs.Namespaces.{network_index, uts_index, ipc_index};
-ghost use Rattle.perf_types.specs.Namespaces.{pid_index, user_index, cgroup_index};
+ghost use Rattle.perf_types.specs.Namespaces.{namespace_entry, namespaces_value, namespaces_form};
+ghost use Rattle.perf_types.specs.Namespaces.{entry_numbers, namespaces, network_index, uts_index};
+ghost use Rattle.perf_types.specs.Namespaces.{ipc_index, pid_index, user_index, cgroup_index};
+ghost use Rattle.perf_types.specs.Words.{Call, Reads, ReadsOne, ReadsPlain, kinds, words};
+ghost use Rattle.perf_types.specs.Words.{cow_items, IsClone, flat_map, option_copied};
 
 use perf_base::cow::CowSlice;
 use perf_base::endian::Endian;
@@ -38,14 +35,16 @@ const USER: usize = 4;
 // `CGROUP_NS_INDEX`. The one of mounts, `MNT_NS_INDEX` at 5, has no call.
 const CGROUP: usize = 6;
 
-/// The namespaces that a task is in (`PERF_RECORD_NAMESPACES`), when it was made or changed one of them.
+/// The namespaces that a task is in (`PERF_RECORD_NAMESPACES`), when it was made or changed one of
+/// them.
 #[derive(Debug, Drop)]
 pub struct Namespaces<'a> {
     /// The process of the task.
     pub pid: u32,
     /// The task's thread.
     pub tid: u32,
-    /// Its namespaces. Each kind of namespace has a place of its own, for which there are calls below.
+    /// Its namespaces. Each kind of namespace has a place of its own, for which there are calls
+    /// below.
     pub namespaces: CowSlice<'a, NamespaceEntry>,
 }
 
@@ -73,7 +72,8 @@ impl<'a> Namespaces<'a> {
         self.namespaces.as_slice().get(UTS)
     }
 
-    /// The namespace of shared memory, semaphores and message queues, if it is listed: `IPC_NS_INDEX`.
+    /// The namespace of shared memory, semaphores and message queues, if it is listed:
+    /// `IPC_NS_INDEX`.
     pub fn ipc(&self) -> Option<&NamespaceEntry>
         ensures { option_copied result ≡ slice_get (cow_items self.now.namespaces) ipc_index }
     {

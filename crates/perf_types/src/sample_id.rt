@@ -2,14 +2,12 @@
 #![tactic(auto, using(perf_reader::proofs::Paying::chain))]
 
 ghost use Rattle.std.specs.Prelude.{◌≡◌, ◌*◌, if◌then◌else◌};
-ghost use Rattle.perf_base.specs.Configured.{configuration_of};
-ghost use Rattle.perf_reader.specs.Words.{Call, ReadsPlain, kinds};
-ghost use Rattle.perf_types.specs.SampleId.{SampleIdValue, no_sample_id, sample_id};
-ghost use Rattle.perf_types.specs.SampleId.{sample_id_length, one_if};
-ghost use Rattle.perf_types.specs.SampleId.{has_tid, has_time, has_id, has_stream_id};
-ghost use Rattle.perf_types.specs.SampleId.{has_cpu, has_identifier};
+ghost use Rattle.perf_types.specs.SampleId.{SampleIdValue, no_sample_id, sample_id, one_if};
+ghost use Rattle.perf_types.specs.SampleId.{sample_id_length, has_tid, has_time, has_id};
+ghost use Rattle.perf_types.specs.SampleId.{has_stream_id, has_cpu, has_identifier};
 ghost use Rattle.perf_types.specs.SampleIdFields.{fields_of, TakesOrLacks};
-ghost use Rattle.perf_words.specs.SetBits.{sample_flags_bits};
+ghost use Rattle.perf_types.specs.Words.{Call, ReadsPlain, kinds};
+ghost use Rattle.perf_types.specs.Words.{configuration_of, sample_flags_bits};
 
 use bitflags::Flags;
 use perf_base::config::ParseConfig;
@@ -37,9 +35,23 @@ pub struct SampleId {
 impl Model for SampleId {
     ghost Value = { SampleIdValue };
 
-    ghost view = { λ s. record { pid = s.pid; tid = s.tid; time = s.time; id = s.id; stream_id = s.stream_id; cpu = s.cpu } };
+    ghost view = { λ s. record {
+      pid = s.pid;
+      tid = s.tid;
+      time = s.time;
+      id = s.id;
+      stream_id = s.stream_id;
+      cpu = s.cpu;
+    } };
 
-    ghost inverse = { λ s. record { pid = s.pid; tid = s.tid; time = s.time; id = s.id; stream_id = s.stream_id; cpu = s.cpu } };
+    ghost inverse = { λ s. record {
+      pid = s.pid;
+      tid = s.tid;
+      time = s.time;
+      id = s.id;
+      stream_id = s.stream_id;
+      cpu = s.cpu;
+    } };
 }
 
 /// No field is there.
@@ -76,7 +88,14 @@ impl SampleId {
         stream_id: Option<u64>,
         cpu: Option<u32>,
     ) -> SampleId
-        ensures { result ≡ record { pid = pid; tid = tid; time = time; id = id; stream_id = stream_id; cpu = cpu } }
+        ensures { result ≡ record {
+          pid = pid;
+          tid = tid;
+          time = time;
+          id = id;
+          stream_id = stream_id;
+          cpu = cpu;
+        } }
     {
         SampleId {
             pid,
@@ -88,8 +107,8 @@ impl SampleId {
         }
     }
 
-    /// How many bytes the sample id of a record has under a configuration: eight for each flag of the sample type that
-    /// it has, and none without `sample_id_all`.
+    /// How many bytes the sample id of a record has under a configuration: eight for each flag of
+    /// the sample type that it has, and none without `sample_id_all`.
     #[inline]
     #[tactic(auto, using(crate::proofs::Flags::sample_flags))]
     pub fn estimate_len<E>(config: &ParseConfig<E>) -> usize
@@ -123,7 +142,8 @@ impl SampleId {
         self.tid
     }
 
-    /// When it happened, in nanoseconds of the event's clock, where the sample type has `PERF_SAMPLE_TIME`.
+    /// When it happened, in nanoseconds of the event's clock, where the sample type has
+    /// `PERF_SAMPLE_TIME`.
     #[inline]
     pub fn time(&self) -> Option<u64>
         ensures { result ≡ self.now.time }
@@ -131,8 +151,8 @@ impl SampleId {
         self.time
     }
 
-    /// The kernel's own number of the event, or of its group's leader, where the sample type has `PERF_SAMPLE_ID` or
-    /// `PERF_SAMPLE_IDENTIFIER`.
+    /// The kernel's own number of the event, or of its group's leader, where the sample type has
+    /// `PERF_SAMPLE_ID` or `PERF_SAMPLE_IDENTIFIER`.
     #[inline]
     pub fn id(&self) -> Option<u64>
         ensures { result ≡ self.now.id }
@@ -140,7 +160,8 @@ impl SampleId {
         self.id
     }
 
-    /// The kernel's own number of the event itself, where the sample type has `PERF_SAMPLE_STREAM_ID`.
+    /// The kernel's own number of the event itself, where the sample type has
+    /// `PERF_SAMPLE_STREAM_ID`.
     #[inline]
     pub fn stream_id(&self) -> Option<u64>
         ensures { result ≡ self.now.stream_id }

@@ -12,8 +12,9 @@ use perf_buffers::input::Input;
 use perf_reader::read::{Meant, ReadFrom};
 use perf_reader::reader::Reader;
 
-/// The processor went from one task to another (`PERF_RECORD_SWITCH_CPU_WIDE`), as an event of the whole processor sees
-/// it. Which way it went is bit 13 of the header's `misc`, `PERF_RECORD_MISC_SWITCH_OUT`.
+/// The processor went from one task to another (`PERF_RECORD_SWITCH_CPU_WIDE`), as an event of the
+/// whole processor sees it. Which way it went is bit 13 of the header's `misc`,
+/// `PERF_RECORD_MISC_SWITCH_OUT`.
 #[derive(Copy, Clone, Debug)]
 pub enum SwitchCpuWide {
     /// To the task of this record's sample id.

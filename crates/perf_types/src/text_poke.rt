@@ -3,7 +3,8 @@
 
 ghost use Rattle.std.specs.Prelude.{◌≡◌, ◌<◌, ◌≤◌, ◌^◌};
 ghost use Rattle.perf_reader.specs.Words.{ReadsLent};
-ghost use Rattle.perf_types.specs.TextPoke.{text_poke, text_poke_value, poked_len, IsBorrowedTextPoke, text_poke_form};
+ghost use Rattle.perf_types.specs.TextPoke.{text_poke, text_poke_value, poked_len};
+ghost use Rattle.perf_types.specs.TextPoke.{IsBorrowedTextPoke, text_poke_form};
 ghost use Rattle.perf_base.specs.Copies.{IsClone, IsOwnedCopy};
 
 use perf_base::cow::CowSlice;

@@ -1,5 +1,5 @@
--- Bit fields of a word, as perf_event_open(2) writes them: `cycles : 16` is 16 bits from the lowest that is not yet taken.
--- Bits are counted from the lowest, whatever the machine.
+-- Bit fields of a word, as perf_event_open(2) writes them: `cycles : 16` is 16 bits from the lowest
+-- that is not yet taken. Bits are counted from the lowest, whatever the machine.
 use Rattle.std.specs.Prelude.{ℕ, ◌/◌, ◌%◌, ◌^◌, ◌==◌, Bool}
 
 -- the number in `width` bits of a word, of which the lowest is bit `at`

@@ -1,5 +1,5 @@
--- A branch that the processor recorded, `struct perf_branch_entry` of perf_event.h: where it came from, where it went, and
--- a word of bit fields. Bits from 24 on have no field here.
+-- A branch that the processor recorded, `struct perf_branch_entry` of perf_event.h: where it came
+-- from, where it went, and a word of bit fields. Bits from 24 on have no field here.
 use Rattle.std.specs.Prelude.{ℕ, Bool}
 use Rattle.perf_words.specs.Bits.{bit_field, has_bit}
 

@@ -1,5 +1,5 @@
--- The numbers that perf_event.h names: for each kind of number a table with a row for each name, without the kernel's
--- prefix. Numbers that have no row are values too.
+-- The numbers that perf_event.h names: for each kind of number a table with a row for each name,
+-- without the kernel's prefix. Numbers that have no row are values too.
 use Rattle.std.specs.Prelude.{ℕ, List, [], ◌∷◌, codes}
 
 -- a row for each name, with its number
@@ -8,7 +8,10 @@ NumberTable = List (List ℕ × ℕ)
 
 -- kinds of branches, `PERF_BR_*`
 abbrev pub branch_types : NumberTable
-branch_types = (codes "UNKNOWN", 0) ∷ (codes "COND", 1) ∷ (codes "UNCOND", 2) ∷ (codes "IND", 3) ∷ (codes "CALL", 4) ∷ (codes "IND_CALL", 5) ∷ (codes "RET", 6) ∷ (codes "SYSCALL", 7) ∷ (codes "COND_CALL", 9) ∷ (codes "COND_RET", 10) ∷ []
+branch_types =
+    (codes "UNKNOWN", 0) ∷ (codes "COND", 1) ∷ (codes "UNCOND", 2) ∷ (codes "IND", 3) ∷
+    (codes "CALL", 4) ∷ (codes "IND_CALL", 5) ∷ (codes "RET", 6) ∷ (codes "SYSCALL", 7) ∷
+    (codes "COND_CALL", 9) ∷ (codes "COND_RET", 10) ∷ []
 
 -- formats of traces, `PERF_AUX_FLAG_CORESIGHT_FORMAT_*` without the eight bits below
 abbrev pub aux_pmu_format_types : NumberTable
@@ -16,7 +19,10 @@ aux_pmu_format_types = (codes "CORESIGHT", 0) ∷ (codes "CORESIGHT_RAW", 1) ∷
 
 -- numbers of memory levels, `PERF_MEM_LVLNUM_*`
 abbrev pub mem_level_nums : NumberTable
-mem_level_nums = (codes "L1", 1) ∷ (codes "L2", 2) ∷ (codes "L3", 3) ∷ (codes "L4", 4) ∷ (codes "ANY_CACHE", 11) ∷ (codes "LFB", 12) ∷ (codes "RAM", 13) ∷ (codes "PMEM", 14) ∷ (codes "NA", 15) ∷ []
+mem_level_nums =
+    (codes "L1", 1) ∷ (codes "L2", 2) ∷ (codes "L3", 3) ∷ (codes "L4", 4) ∷
+    (codes "ANY_CACHE", 11) ∷ (codes "LFB", 12) ∷ (codes "RAM", 13) ∷ (codes "PMEM", 14) ∷
+    (codes "NA", 15) ∷ []
 
 -- what happened to a BPF program, `PERF_BPF_EVENT_*`
 abbrev pub bpf_event_types : NumberTable

@@ -1,5 +1,5 @@
--- The flags of perf_event_open(2) and of the kernel's perf_event.h: for each set a table with a row for each flag, its name
--- without the kernel's prefix and its bits.
+-- The flags of perf_event_open(2) and of the kernel's perf_event.h: for each set a table with a row
+-- for each flag, its name without the kernel's prefix and its bits.
 use Rattle.std.specs.Prelude.{ℕ, ◌+◌, ◌*◌, ◌^◌, List, [], ◌∷◌, codes, if◌then◌else◌}
 use Rattle.perf_words.specs.Bits.{has_bit}
 
@@ -126,7 +126,8 @@ mem_blk_table =
     (codes "ADDR", 4) ∷
     []
 
--- both snoop fields, at the places that they have in a data source, `PERF_MEM_SNOOP_*` and `PERF_MEM_SNOOPX_*`
+-- both snoop fields, at the places that they have in a data source, `PERF_MEM_SNOOP_*` and
+-- `PERF_MEM_SNOOPX_*`
 abbrev pub mem_snoop_table : FlagTable
 mem_snoop_table =
     (codes "NA", 1 * 2 ^ 19) ∷
@@ -152,6 +153,8 @@ txn_table =
     (codes "ABORT_MASK", 0xffffffff * 2 ^ 32) ∷
     []
 
--- how many numbers each counter of a group has: its value, its id by the bit ID and its lost samples by the bit LOST
+-- how many numbers each counter of a group has: its value, its id by the bit ID and its lost
+-- samples by the bit LOST
 abbrev pub element_len : (read_format : ℕ) → ℕ
-element_len read_format = 1 + (if has_bit read_format 2 then 1 else 0) + (if has_bit read_format 4 then 1 else 0)
+element_len read_format =
+    1 + (if has_bit read_format 2 then 1 else 0) + (if has_bit read_format 4 then 1 else 0)

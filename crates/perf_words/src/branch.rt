@@ -1,7 +1,8 @@
 //! Branches that the processor recorded.
 
 ghost use Rattle.std.specs.Prelude.{◌≡◌};
-ghost use Rattle.perf_words.specs.Branch.{Branch, mispred_of, predicted_of, in_tx_of, abort_of, cycles_of, type_of};
+ghost use Rattle.perf_words.specs.Branch.{Branch, mispred_of, predicted_of, in_tx_of, abort_of};
+ghost use Rattle.perf_words.specs.Branch.{cycles_of, type_of};
 
 use crate::field::bit_field;
 use crate::named::BranchType;

@@ -2,10 +2,15 @@
 
 ghost use Rattle.std.specs.Prelude.{◌≡◌, ⊤, ℕ};
 ghost use Rattle.perf_words.specs.Bits.{bit_field};
-ghost use Rattle.perf_words.specs.Sets.{mem_op_table, mem_level_table, mem_lock_table, mem_dtlb_table, mem_snoop_x_table, mem_blk_table, mem_snoop_table, txn_table};
-ghost use Rattle.perf_words.specs.DataSource.{mem_op_of, mem_lvl_of, mem_snoop_of, mem_lock_of, mem_dtlb_of, mem_lvl_num_of, mem_remote_of, mem_blk_of, mem_hops_of, snoop_of};
-ghost use Rattle.perf_words.specs.SetBits.{mem_op_bits, mem_level_bits, mem_lock_bits, mem_dtlb_bits};
-ghost use Rattle.perf_words.specs.SetBits.{mem_snoop_x_bits, mem_blk_bits, mem_snoop_bits, txn_bits};
+ghost use Rattle.perf_words.specs.Sets.{mem_op_table, mem_level_table, mem_lock_table};
+ghost use Rattle.perf_words.specs.Sets.{mem_dtlb_table, mem_snoop_x_table, mem_blk_table};
+ghost use Rattle.perf_words.specs.Sets.{mem_snoop_table, txn_table};
+ghost use Rattle.perf_words.specs.DataSource.{mem_op_of, mem_lvl_of, mem_snoop_of, mem_lock_of};
+ghost use Rattle.perf_words.specs.DataSource.{mem_dtlb_of, mem_lvl_num_of, mem_remote_of};
+ghost use Rattle.perf_words.specs.DataSource.{mem_blk_of, mem_hops_of, snoop_of};
+ghost use Rattle.perf_words.specs.SetBits.{mem_op_bits, mem_level_bits, mem_lock_bits};
+ghost use Rattle.perf_words.specs.SetBits.{mem_dtlb_bits, mem_snoop_x_bits, mem_blk_bits};
+ghost use Rattle.perf_words.specs.SetBits.{mem_snoop_bits, txn_bits};
 
 use crate::field::bit_field;
 use crate::macros::flag_table;
@@ -14,8 +19,8 @@ use bitflags::{Flag, Flags};
 use std::fmt;
 use std::marker::Model;
 
-/// Where data that a memory instruction accessed came from, `union perf_mem_data_src`. Every word is a data source: bits
-/// and numbers without a name are kept.
+/// Where data that a memory instruction accessed came from, `union perf_mem_data_src`. Every word
+/// is a data source: bits and numbers without a name are kept.
 #[derive(Copy, Clone)]
 pub struct DataSource {
     word: u64,
@@ -249,8 +254,9 @@ impl MemLevel {
     /// Memory that is not cached, `PERF_MEM_LVL_UNC`.
     pub const UNC: MemLevel = MemLevel(0x2000);
 
-    const FLAGS: &'static [Flag<MemLevel>] =
-        flag_table!(MemLevel: NA, HIT, MISS, L1, LFB, L2, L3, LOC_RAM, REM_RAM1, REM_RAM2, REM_CCE1, REM_CCE2, IO, UNC);
+    const FLAGS: &'static [Flag<MemLevel>] = flag_table!(MemLevel:
+        NA, HIT, MISS, L1, LFB, L2, L3, LOC_RAM, REM_RAM1, REM_RAM2, REM_CCE1, REM_CCE2, IO, UNC
+    );
 }
 
 /// No flag is set.
@@ -492,8 +498,8 @@ impl Flags for MemBlk {
     }
 }
 
-/// What was found in other caches: both snoop fields of a data source, at the places that they have there,
-/// `PERF_MEM_SNOOP_*` and `PERF_MEM_SNOOPX_*`.
+/// What was found in other caches: both snoop fields of a data source, at the places that they have
+/// there, `PERF_MEM_SNOOP_*` and `PERF_MEM_SNOOPX_*`.
 #[derive(Copy, Clone, Debug, PartialEq, Eq, Hash)]
 pub struct MemSnoop(u64);
 
@@ -557,8 +563,9 @@ impl Flags for MemSnoop {
 }
 
 impl MemSnoop {
-    /// Both snoop fields, each put at the place that it has in a data source: the five bits of `mem_snoop` from bit 19
-    /// on, and the two of `mem_snoopx` from bit 38 on. Higher bits of either are left out.
+    /// Both snoop fields, each put at the place that it has in a data source: the five bits of
+    /// `mem_snoop` from bit 19 on, and the two of `mem_snoopx` from bit 38 on. Higher bits of
+    /// either are left out.
     #[inline]
     pub const fn new(mem_snoop: u64, mem_snoopx: u64) -> MemSnoop
         ensures { mem_snoop_bits result ≡ snoop_of mem_snoop mem_snoopx }
@@ -599,8 +606,10 @@ impl Txn {
     /// Where the abort code stands, `PERF_TXN_ABORT_MASK`.
     pub const ABORT_MASK: Txn = Txn(0xffff_ffff << 32);
 
-    const FLAGS: &'static [Flag<Txn>] =
-        flag_table!(Txn: ELISION, TRANSACTION, SYNC, ASYNC, RETRY, CONFLICT, CAPACITY_WRITE, CAPACITY_READ, ABORT_MASK);
+    const FLAGS: &'static [Flag<Txn>] = flag_table!(Txn:
+        ELISION, TRANSACTION, SYNC, ASYNC, RETRY, CONFLICT, CAPACITY_WRITE, CAPACITY_READ,
+        ABORT_MASK
+    );
 }
 
 /// No flag is set.

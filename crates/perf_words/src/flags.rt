@@ -2,7 +2,8 @@
 
 ghost use Rattle.std.specs.Prelude.{◌≡◌, ⊤};
 ghost use Rattle.perf_words.specs.Bits.{bit_field};
-ghost use Rattle.perf_words.specs.Sets.{sample_flags_table, read_format_table, aux_flags_table, ksymbol_flags_table, element_len};
+ghost use Rattle.perf_words.specs.Sets.{sample_flags_table, read_format_table, aux_flags_table};
+ghost use Rattle.perf_words.specs.Sets.{ksymbol_flags_table, element_len};
 ghost use Rattle.perf_words.specs.SetBits.{sample_flags_bits, read_format_bits, aux_flags_bits};
 
 use crate::field::bit_field;
@@ -90,8 +91,11 @@ impl SampleFlags {
     /// A weight of several parts, `PERF_SAMPLE_WEIGHT_STRUCT`.
     pub const WEIGHT_STRUCT: SampleFlags = SampleFlags(1 << 24);
 
-    const FLAGS: &'static [Flag<SampleFlags>] =
-        flag_table!(SampleFlags: IP, TID, TIME, ADDR, READ, CALLCHAIN, ID, CPU, PERIOD, STREAM_ID, RAW, BRANCH_STACK, REGS_USER, STACK_USER, WEIGHT, DATA_SRC, IDENTIFIER, TRANSACTION, REGS_INTR, PHYS_ADDR, AUX, CGROUP, DATA_PAGE_SIZE, CODE_PAGE_SIZE, WEIGHT_STRUCT);
+    const FLAGS: &'static [Flag<SampleFlags>] = flag_table!(SampleFlags:
+        IP, TID, TIME, ADDR, READ, CALLCHAIN, ID, CPU, PERIOD, STREAM_ID, RAW, BRANCH_STACK,
+        REGS_USER, STACK_USER, WEIGHT, DATA_SRC, IDENTIFIER, TRANSACTION, REGS_INTR, PHYS_ADDR,
+        AUX, CGROUP, DATA_PAGE_SIZE, CODE_PAGE_SIZE, WEIGHT_STRUCT
+    );
 }
 
 /// No flag is set.
@@ -185,8 +189,8 @@ impl Flags for ReadFormat {
 }
 
 impl ReadFormat {
-    /// How many numbers of eight bytes each counter of a group has: its value, its id where [`ReadFormat::ID`] is set,
-    /// and its lost samples where [`ReadFormat::LOST`] is set.
+    /// How many numbers of eight bytes each counter of a group has: its value, its id where
+    /// [`ReadFormat::ID`] is set, and its lost samples where [`ReadFormat::LOST`] is set.
     #[inline]
     pub fn element_len(&self) -> usize
         ensures { result ≡ element_len (read_format_bits self.now) }

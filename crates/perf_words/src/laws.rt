@@ -1,9 +1,12 @@
-//! Laws of equality and hashing: sets and named numbers are equal exactly where their numbers are, and hash as these do,
-//! whatever the hash function. So equal ones hash alike.
+//! Laws of equality and hashing: sets and named numbers are equal exactly where their numbers are,
+//! and hash as these do, whatever the hash function. So equal ones hash alike.
 
 ghost use Rattle.std.specs.Hash as fed;
 ghost use Rattle.perf_words.specs.Alike.{IsByNumber, number_hash};
-ghost use Rattle.perf_words.specs.SetBits.{sample_flags_bits, read_format_bits, aux_flags_bits, ksymbol_flags_bits, mem_op_bits, mem_level_bits, mem_lock_bits, mem_dtlb_bits, mem_snoop_x_bits, mem_blk_bits, mem_snoop_bits, txn_bits};
+ghost use Rattle.perf_words.specs.SetBits.{sample_flags_bits, read_format_bits, aux_flags_bits};
+ghost use Rattle.perf_words.specs.SetBits.{ksymbol_flags_bits, mem_op_bits, mem_level_bits};
+ghost use Rattle.perf_words.specs.SetBits.{mem_lock_bits, mem_dtlb_bits, mem_snoop_x_bits};
+ghost use Rattle.perf_words.specs.SetBits.{mem_blk_bits, mem_snoop_bits, txn_bits};
 
 use crate::data_source::{MemBlk, MemDtlb, MemLevel, MemLock, MemOp, MemSnoop, MemSnoopX, Txn};
 use crate::flags::{AuxFlags, KSymbolFlags, ReadFormat, SampleFlags};
@@ -29,8 +32,10 @@ pub fn sample_flags_by_number<S: BuildHasher>(
     first: SampleFlags,
     second: SampleFlags,
 ) -> Compared
-    ensures { IsByNumber (number_hash S.Hasher.finish S.Hasher.write (S.build_hasher hashing.now) fed.u64)
-        (sample_flags_bits first) (sample_flags_bits second) result.equal result.first_hash result.second_hash }
+    ensures { IsByNumber
+        (number_hash S.Hasher.finish S.Hasher.write (S.build_hasher hashing.now) fed.u64)
+        (sample_flags_bits first) (sample_flags_bits second)
+        result.equal result.first_hash result.second_hash }
 {
     Compared {
         equal: first == second,
@@ -45,8 +50,10 @@ pub fn read_format_by_number<S: BuildHasher>(
     first: ReadFormat,
     second: ReadFormat,
 ) -> Compared
-    ensures { IsByNumber (number_hash S.Hasher.finish S.Hasher.write (S.build_hasher hashing.now) fed.u64)
-        (read_format_bits first) (read_format_bits second) result.equal result.first_hash result.second_hash }
+    ensures { IsByNumber
+        (number_hash S.Hasher.finish S.Hasher.write (S.build_hasher hashing.now) fed.u64)
+        (read_format_bits first) (read_format_bits second)
+        result.equal result.first_hash result.second_hash }
 {
     Compared {
         equal: first == second,
@@ -61,8 +68,10 @@ pub fn aux_flags_by_number<S: BuildHasher>(
     first: AuxFlags,
     second: AuxFlags,
 ) -> Compared
-    ensures { IsByNumber (number_hash S.Hasher.finish S.Hasher.write (S.build_hasher hashing.now) fed.u64)
-        (aux_flags_bits first) (aux_flags_bits second) result.equal result.first_hash result.second_hash }
+    ensures { IsByNumber
+        (number_hash S.Hasher.finish S.Hasher.write (S.build_hasher hashing.now) fed.u64)
+        (aux_flags_bits first) (aux_flags_bits second)
+        result.equal result.first_hash result.second_hash }
 {
     Compared {
         equal: first == second,
@@ -77,8 +86,10 @@ pub fn ksymbol_flags_by_number<S: BuildHasher>(
     first: KSymbolFlags,
     second: KSymbolFlags,
 ) -> Compared
-    ensures { IsByNumber (number_hash S.Hasher.finish S.Hasher.write (S.build_hasher hashing.now) fed.u16)
-        (ksymbol_flags_bits first) (ksymbol_flags_bits second) result.equal result.first_hash result.second_hash }
+    ensures { IsByNumber
+        (number_hash S.Hasher.finish S.Hasher.write (S.build_hasher hashing.now) fed.u16)
+        (ksymbol_flags_bits first) (ksymbol_flags_bits second)
+        result.equal result.first_hash result.second_hash }
 {
     Compared {
         equal: first == second,
@@ -89,7 +100,8 @@ pub fn ksymbol_flags_by_number<S: BuildHasher>(
 
 /// How two values of [`MemOp`] compare and hash: by their numbers.
 pub fn mem_op_by_number<S: BuildHasher>(hashing: &S, first: MemOp, second: MemOp) -> Compared
-    ensures { IsByNumber (number_hash S.Hasher.finish S.Hasher.write (S.build_hasher hashing.now) fed.u64)
+    ensures { IsByNumber
+        (number_hash S.Hasher.finish S.Hasher.write (S.build_hasher hashing.now) fed.u64)
         (mem_op_bits first) (mem_op_bits second) result.equal result.first_hash result.second_hash }
 {
     Compared {
@@ -105,8 +117,10 @@ pub fn mem_level_by_number<S: BuildHasher>(
     first: MemLevel,
     second: MemLevel,
 ) -> Compared
-    ensures { IsByNumber (number_hash S.Hasher.finish S.Hasher.write (S.build_hasher hashing.now) fed.u64)
-        (mem_level_bits first) (mem_level_bits second) result.equal result.first_hash result.second_hash }
+    ensures { IsByNumber
+        (number_hash S.Hasher.finish S.Hasher.write (S.build_hasher hashing.now) fed.u64)
+        (mem_level_bits first) (mem_level_bits second)
+        result.equal result.first_hash result.second_hash }
 {
     Compared {
         equal: first == second,
@@ -117,8 +131,10 @@ pub fn mem_level_by_number<S: BuildHasher>(
 
 /// How two values of [`MemLock`] compare and hash: by their numbers.
 pub fn mem_lock_by_number<S: BuildHasher>(hashing: &S, first: MemLock, second: MemLock) -> Compared
-    ensures { IsByNumber (number_hash S.Hasher.finish S.Hasher.write (S.build_hasher hashing.now) fed.u64)
-        (mem_lock_bits first) (mem_lock_bits second) result.equal result.first_hash result.second_hash }
+    ensures { IsByNumber
+        (number_hash S.Hasher.finish S.Hasher.write (S.build_hasher hashing.now) fed.u64)
+        (mem_lock_bits first) (mem_lock_bits second)
+        result.equal result.first_hash result.second_hash }
 {
     Compared {
         equal: first == second,
@@ -129,8 +145,10 @@ pub fn mem_lock_by_number<S: BuildHasher>(hashing: &S, first: MemLock, second: M
 
 /// How two values of [`MemDtlb`] compare and hash: by their numbers.
 pub fn mem_dtlb_by_number<S: BuildHasher>(hashing: &S, first: MemDtlb, second: MemDtlb) -> Compared
-    ensures { IsByNumber (number_hash S.Hasher.finish S.Hasher.write (S.build_hasher hashing.now) fed.u64)
-        (mem_dtlb_bits first) (mem_dtlb_bits second) result.equal result.first_hash result.second_hash }
+    ensures { IsByNumber
+        (number_hash S.Hasher.finish S.Hasher.write (S.build_hasher hashing.now) fed.u64)
+        (mem_dtlb_bits first) (mem_dtlb_bits second)
+        result.equal result.first_hash result.second_hash }
 {
     Compared {
         equal: first == second,
@@ -145,8 +163,10 @@ pub fn mem_snoop_x_by_number<S: BuildHasher>(
     first: MemSnoopX,
     second: MemSnoopX,
 ) -> Compared
-    ensures { IsByNumber (number_hash S.Hasher.finish S.Hasher.write (S.build_hasher hashing.now) fed.u64)
-        (mem_snoop_x_bits first) (mem_snoop_x_bits second) result.equal result.first_hash result.second_hash }
+    ensures { IsByNumber
+        (number_hash S.Hasher.finish S.Hasher.write (S.build_hasher hashing.now) fed.u64)
+        (mem_snoop_x_bits first) (mem_snoop_x_bits second)
+        result.equal result.first_hash result.second_hash }
 {
     Compared {
         equal: first == second,
@@ -157,8 +177,10 @@ pub fn mem_snoop_x_by_number<S: BuildHasher>(
 
 /// How two values of [`MemBlk`] compare and hash: by their numbers.
 pub fn mem_blk_by_number<S: BuildHasher>(hashing: &S, first: MemBlk, second: MemBlk) -> Compared
-    ensures { IsByNumber (number_hash S.Hasher.finish S.Hasher.write (S.build_hasher hashing.now) fed.u64)
-        (mem_blk_bits first) (mem_blk_bits second) result.equal result.first_hash result.second_hash }
+    ensures { IsByNumber
+        (number_hash S.Hasher.finish S.Hasher.write (S.build_hasher hashing.now) fed.u64)
+        (mem_blk_bits first) (mem_blk_bits second)
+        result.equal result.first_hash result.second_hash }
 {
     Compared {
         equal: first == second,
@@ -173,8 +195,10 @@ pub fn mem_snoop_by_number<S: BuildHasher>(
     first: MemSnoop,
     second: MemSnoop,
 ) -> Compared
-    ensures { IsByNumber (number_hash S.Hasher.finish S.Hasher.write (S.build_hasher hashing.now) fed.u64)
-        (mem_snoop_bits first) (mem_snoop_bits second) result.equal result.first_hash result.second_hash }
+    ensures { IsByNumber
+        (number_hash S.Hasher.finish S.Hasher.write (S.build_hasher hashing.now) fed.u64)
+        (mem_snoop_bits first) (mem_snoop_bits second)
+        result.equal result.first_hash result.second_hash }
 {
     Compared {
         equal: first == second,
@@ -185,7 +209,8 @@ pub fn mem_snoop_by_number<S: BuildHasher>(
 
 /// How two values of [`Txn`] compare and hash: by their numbers.
 pub fn txn_by_number<S: BuildHasher>(hashing: &S, first: Txn, second: Txn) -> Compared
-    ensures { IsByNumber (number_hash S.Hasher.finish S.Hasher.write (S.build_hasher hashing.now) fed.u64)
+    ensures { IsByNumber
+        (number_hash S.Hasher.finish S.Hasher.write (S.build_hasher hashing.now) fed.u64)
         (txn_bits first) (txn_bits second) result.equal result.first_hash result.second_hash }
 {
     Compared {
@@ -201,7 +226,8 @@ pub fn branch_type_by_number<S: BuildHasher>(
     first: BranchType,
     second: BranchType,
 ) -> Compared
-    ensures { IsByNumber (number_hash S.Hasher.finish S.Hasher.write (S.build_hasher hashing.now) fed.u8)
+    ensures { IsByNumber
+        (number_hash S.Hasher.finish S.Hasher.write (S.build_hasher hashing.now) fed.u8)
         first second result.equal result.first_hash result.second_hash }
 {
     Compared {
@@ -217,7 +243,8 @@ pub fn aux_pmu_format_type_by_number<S: BuildHasher>(
     first: AuxPmuFormatType,
     second: AuxPmuFormatType,
 ) -> Compared
-    ensures { IsByNumber (number_hash S.Hasher.finish S.Hasher.write (S.build_hasher hashing.now) fed.u8)
+    ensures { IsByNumber
+        (number_hash S.Hasher.finish S.Hasher.write (S.build_hasher hashing.now) fed.u8)
         first second result.equal result.first_hash result.second_hash }
 {
     Compared {
@@ -233,7 +260,8 @@ pub fn mem_level_num_by_number<S: BuildHasher>(
     first: MemLevelNum,
     second: MemLevelNum,
 ) -> Compared
-    ensures { IsByNumber (number_hash S.Hasher.finish S.Hasher.write (S.build_hasher hashing.now) fed.u8)
+    ensures { IsByNumber
+        (number_hash S.Hasher.finish S.Hasher.write (S.build_hasher hashing.now) fed.u8)
         first second result.equal result.first_hash result.second_hash }
 {
     Compared {
@@ -249,7 +277,8 @@ pub fn bpf_event_type_by_number<S: BuildHasher>(
     first: BpfEventType,
     second: BpfEventType,
 ) -> Compared
-    ensures { IsByNumber (number_hash S.Hasher.finish S.Hasher.write (S.build_hasher hashing.now) fed.u16)
+    ensures { IsByNumber
+        (number_hash S.Hasher.finish S.Hasher.write (S.build_hasher hashing.now) fed.u16)
         first second result.equal result.first_hash result.second_hash }
 {
     Compared {
@@ -265,7 +294,8 @@ pub fn ksymbol_type_by_number<S: BuildHasher>(
     first: KSymbolType,
     second: KSymbolType,
 ) -> Compared
-    ensures { IsByNumber (number_hash S.Hasher.finish S.Hasher.write (S.build_hasher hashing.now) fed.u16)
+    ensures { IsByNumber
+        (number_hash S.Hasher.finish S.Hasher.write (S.build_hasher hashing.now) fed.u16)
         first second result.equal result.first_hash result.second_hash }
 {
     Compared {
@@ -281,7 +311,8 @@ pub fn sample_regs_abi_by_number<S: BuildHasher>(
     first: SampleRegsAbi,
     second: SampleRegsAbi,
 ) -> Compared
-    ensures { IsByNumber (number_hash S.Hasher.finish S.Hasher.write (S.build_hasher hashing.now) fed.u64)
+    ensures { IsByNumber
+        (number_hash S.Hasher.finish S.Hasher.write (S.build_hasher hashing.now) fed.u64)
         first second result.equal result.first_hash result.second_hash }
 {
     Compared {

@@ -1,7 +1,8 @@
 //! Numbers of which some have a name. Every number is a value: those without a name are kept.
 
 ghost use Rattle.std.specs.Prelude.{◌≡◌, ℕ, map};
-ghost use Rattle.perf_words.specs.Named.{branch_types, aux_pmu_format_types, mem_level_nums, bpf_event_types, ksymbol_types, sample_regs_abis};
+ghost use Rattle.perf_words.specs.Named.{branch_types, aux_pmu_format_types, mem_level_nums};
+ghost use Rattle.perf_words.specs.Named.{bpf_event_types, ksymbol_types, sample_regs_abis};
 
 use crate::macros::name_table;
 use std::marker::Model;
@@ -69,7 +70,9 @@ impl BranchType {
     pub fn names() -> [(&'static str, BranchType); 10]
         ensures { map (λ row. (row.0.now, row.1)) result ≡ branch_types }
     {
-        name_table!(BranchType: UNKNOWN, COND, UNCOND, IND, CALL, IND_CALL, RET, SYSCALL, COND_CALL, COND_RET)
+        name_table!(BranchType:
+            UNKNOWN, COND, UNCOND, IND, CALL, IND_CALL, RET, SYSCALL, COND_CALL, COND_RET
+        )
     }
 }
 
@@ -116,7 +119,8 @@ impl AuxPmuFormatType {
     }
 }
 
-/// The number of the memory level that an access ended at: `mem_lvl_num` of a data source, `PERF_MEM_LVLNUM_*`.
+/// The number of the memory level that an access ended at: `mem_lvl_num` of a data source,
+/// `PERF_MEM_LVLNUM_*`.
 #[derive(Copy, Clone, Debug, PartialEq, Eq, Hash)]
 pub struct MemLevelNum(u8);
 
