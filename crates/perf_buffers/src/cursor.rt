@@ -2,7 +2,7 @@
 
 ghost use Rattle.std.specs.Prelude.{IfSome, ◌≡◌, ◌≢◌, ◌<◌, ◌≤◌, true, false, None, Some, length};
 ghost use Rattle.std.specs.Prelude.{take, IsTrue, IsOk, OnOk, IfOk, IfErr, MatchOption, IfNone};
-ghost use Rattle.std.specs.Prelude.{◌-◌, ◌↔◌, drop, []};
+ghost use Rattle.std.specs.Prelude.{◌-◌, ◌↔◌, ⊥, drop, []};
 ghost use Rattle.perf_buffers.specs.Words.{kind_of, NeedsNoMemory, Stays, refusal, Takes};
 ghost use Rattle.perf_buffers.specs.Words.{FailsToTake, FailsToKeep, CanFail, falls_short};
 ghost use Rattle.perf_buffers.specs.Words.{is_made_beforehand, makes_all_room, room_made};
@@ -359,7 +359,8 @@ pub(crate) fn cut<'p, B: ParseBuf<'p>>(
     ensures whole_memory { IsTrue (B.source buf.old).whole → TakesNoMemory (kinds result) }
     ensures nothing { len ≡ 0 → IfOk result (λ c. IsTrue (is_lent c.held)) × IsOk result
         × (B.source buf.new ≡ B.source buf.old) }
-    ensures short { falls_short (B.hint buf.old) len ≡ true → TakesNoMemory (kinds result) }
+    ensures short { falls_short (B.hint buf.old) len ≡ true →
+        TakesNoMemory (kinds result) × IfOk result (λ c. ⊥) }
     ensures beforehand { IsTrue (B.source buf.old).told →
         is_made_beforehand (B.hint buf.old) len ≡ true →
         IfErr result (λ e. refusal_kind e ≡ ErrorKind.OutOfMemory →
@@ -415,7 +416,8 @@ impl<'p> ParseBufCursor<'p> {
 
         // No room is made where the buffer says that it has too few, and else all room first, where
         // that is little.
-        ensures short { falls_short (B.hint buf.old) len ≡ true → NeedsNoMemory result }
+        ensures short { falls_short (B.hint buf.old) len ≡ true →
+            NeedsNoMemory result × IfOk result (λ c. ⊥) }
         ensures beforehand { IsTrue (B.source buf.old).told →
             is_made_beforehand (B.hint buf.old) len ≡ true →
             IfErr result (λ e. kind_of e ≡ ErrorKind.OutOfMemory →

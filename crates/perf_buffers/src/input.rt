@@ -5,7 +5,7 @@
 //! [`Outer`](crate::outer::Outer).
 
 ghost use Rattle.std.specs.Prelude.{◌≡◌, ℕ, ◌<◌, ◌≤◌, [], length, take, drop, true, false, Some};
-ghost use Rattle.std.specs.Prelude.{None, Option, IsTrue, IsOk, OnOk, IfOk, IfErr, IfSome};
+ghost use Rattle.std.specs.Prelude.{None, Option, IsTrue, IsOk, OnOk, IfOk, IfErr, IfSome, ⊥};
 ghost use Rattle.perf_base.specs.declared.error.ErrorKind.{ErrorKind as Kind};
 ghost use Rattle.perf_buffers.specs.Words.{cow_items, is_borrowed, refusal_kind, kinds, refused};
 ghost use Rattle.perf_buffers.specs.Words.{TakesNoMemory, all_zero, Eof, OutOfMemory, Source};
@@ -61,14 +61,15 @@ pub trait Input<'p> {
         ensures err { IsTrue (source self.old).told → IfErr result (λ e.
             FailsToTake (source self.old) len (refusal_kind e) (source self.new)) };
 
-    /// All that is left, borrowed where it is whole.
+    /// All that is left, borrowed where it is whole, and where there is nothing.
     fn take_rest(&mut self, alloc: Global) -> ReadResult<CowSlice<'p, u8>>
         ensures stays { Stays (source self.old) (refused (kinds result)) (source self.new) }
         ensures can_fail { CanFail (source self.old) (refused (kinds result)) }
-        ensures whole { IsTrue (source self.old).whole → IsTrue (source self.old).told →
+        ensures whole { IsTrue (source self.old).whole →
             IfOk result (λ c. IsTrue (is_borrowed c)) }
-        ensures whole_memory { IsTrue (source self.old).whole → IsTrue (source self.old).told →
-            TakesNoMemory (kinds result) }
+        ensures whole_memory { IsTrue (source self.old).whole → TakesNoMemory (kinds result) }
+        ensures nothing { IsTrue (source self.old).told → (source self.old).left ≡ [] →
+            TakesNoMemory (kinds result) × IfOk result (λ c. IsTrue (is_borrowed c)) }
         ensures ok { IsTrue (source self.old).told → IfOk result (λ c.
             (cow_items c ≡ (source self.old).left) × ((source self.new).left ≡ [])) }
         ensures err { IsTrue (source self.old).told → IfErr result (λ e.
@@ -84,7 +85,8 @@ pub trait Input<'p> {
         ensures whole_memory { IsTrue (source self.old).whole → TakesNoMemory (kinds result) }
         ensures nothing { len ≡ 0 → IfOk result (λ c. IsTrue (cursor_lent c)) × IsOk result
             × (source self.new ≡ source self.old) }
-        ensures short { falls_short (hint self.old) len ≡ true → TakesNoMemory (kinds result) }
+        ensures short { falls_short (hint self.old) len ≡ true →
+            TakesNoMemory (kinds result) × IfOk result (λ c. ⊥) }
         ensures beforehand { IsTrue (source self.old).told →
             is_made_beforehand (hint self.old) len ≡ true → IfErr result (λ e.
             refusal_kind e ≡ OutOfMemory → (source self.new).left ≡ (source self.old).left) }

@@ -1,10 +1,9 @@
 //! All that is left in a buffer.
 
-ghost use Rattle.std.specs.Prelude.{◌≡◌, length, take, IsTrue, IfOk, IfErr, [], ◌++◌, OnOk};
-ghost use Rattle.perf_base.specs.Cow.{cow_items, is_borrowed};
-ghost use Rattle.perf_base.specs.Errors.{kind_of};
-ghost use Rattle.perf_buffers.specs.Buffer.{NeedsNoMemory, refusal, Stays};
-ghost use Rattle.perf_buffers.specs.Taking.{Takes, FailsInRest, CanFail};
+ghost use Rattle.std.specs.Prelude.{◌≡◌, ◌<◌, ◌↔◌, length, take, [], ◌++◌, IsTrue};
+ghost use Rattle.std.specs.Prelude.{IfOk, IfErr, IfSome, OnOk, MatchOption};
+ghost use Rattle.perf_buffers.specs.Words.{cow_items, is_borrowed, kind_of, NeedsNoMemory};
+ghost use Rattle.perf_buffers.specs.Words.{refusal, Stays, Takes, FailsInRest, CanFail};
 
 use crate::fill::append;
 use crate::parsebuf::{ParseBuf, ParseBufChunk};
@@ -12,38 +11,41 @@ use perf_base::cow::CowSlice;
 use perf_base::error::{ErrorKind, ParseError, ParseResult};
 use std::alloc::Global;
 
-// The first chunk, where it lasts; else nothing.
+// The first chunk, where it lasts, and else nothing of it; `None` where nothing is left.
 #[inline]
-fn lend_first<'p, B: ParseBuf<'p>>(buf: &mut B) -> ParseResult<&'p [u8]>
+fn lend_first<'p, B: ParseBuf<'p>>(buf: &mut B) -> ParseResult<Option<&'p [u8]>>
     ensures stays { Stays (B.source buf.old) (refusal result) (B.source buf.new) }
     ensures can_fail { CanFail (B.source buf.old) (refusal result) }
-    ensures whole { IsTrue (B.source buf.old).whole → IsTrue (B.source buf.old).told →
-        IfOk result (λ s. s.now ≡ (B.source buf.old).left) }
+    ensures whole { IsTrue (B.source buf.old).whole → IfOk result (λ o. IfSome o (λ s.
+        IsTrue (B.source buf.old).told × (s.now ≡ (B.source buf.old).left))) }
     ensures memory { NeedsNoMemory result }
-    ensures ok { IsTrue (B.source buf.old).told →
-        IfOk result (λ s. Takes (B.source buf.old) (length s.now) (B.source buf.new)
-        × (s.now ≡ take (length s.now) (B.source buf.old).left)) }
+    ensures ok { IsTrue (B.source buf.old).told → IfOk result (λ o. MatchOption o
+        (((B.source buf.old).left ≡ []) × ((B.source buf.new).left ≡ []))
+        (λ s. Takes (B.source buf.old) (length s.now) (B.source buf.new)
+        × (s.now ≡ take (length s.now) (B.source buf.old).left)
+        × (0 < length (B.source buf.old).left))) }
     ensures err { IsTrue (B.source buf.old).told →
         IfErr result (λ e. FailsInRest (B.source buf.old) (kind_of e) (B.source buf.new)) }
 {
     let bytes = match buf.chunk() {
         Ok(ParseBufChunk::External(bytes)) => bytes,
-        Ok(ParseBufChunk::Temporary(_)) => return Ok(&[]),
-        Err(error) if error.kind() == ErrorKind::Eof => return Ok(&[]),
+        Ok(ParseBufChunk::Temporary(_)) => return Ok(Some(&[])),
+        Err(error) if error.kind() == ErrorKind::Eof => return Ok(None),
         Err(error) => return Err(error),
     };
     buf.advance(bytes.len());
-    Ok(bytes)
+    Ok(Some(bytes))
 }
 
 // Whether nothing is left.
 fn is_at_end<'p, B: ParseBuf<'p>>(buf: &mut B) -> ParseResult<bool>
     ensures stays { Stays (B.source buf.old) (refusal result) (B.source buf.new) }
     ensures can_fail { CanFail (B.source buf.old) (refusal result) }
+    ensures memory { NeedsNoMemory result }
     ensures kept { IsTrue (B.source buf.old).told →
         (B.source buf.new).left ≡ (B.source buf.old).left }
     ensures ok { IsTrue (B.source buf.old).told →
-        IfOk result (λ end. IsTrue end → (B.source buf.old).left ≡ []) }
+        IfOk result (λ end. IsTrue end ↔ ((B.source buf.old).left ≡ [])) }
     ensures err { IsTrue (B.source buf.old).told →
         IfErr result (λ e. FailsInRest (B.source buf.old) (kind_of e) (B.source buf.new)) }
 {
@@ -93,15 +95,15 @@ fn copy_rest<'p, B: ParseBuf<'p>>(alloc: Global, buf: &mut B, first: &[u8]) -> P
     }
 }
 
-/// All that is left, borrowed where the buffer is whole.
+/// All that is left, borrowed where the buffer is whole, and where there is nothing.
 #[inline]
 pub fn take_rest<'p, B: ParseBuf<'p>>(alloc: Global, buf: &mut B) -> ParseResult<CowSlice<'p, u8>>
     ensures stays { Stays (B.source buf.old) (refusal result) (B.source buf.new) }
     ensures can_fail { CanFail (B.source buf.old) (refusal result) }
-    ensures whole { IsTrue (B.source buf.old).whole → IsTrue (B.source buf.old).told →
-        IfOk result (λ c. IsTrue (is_borrowed c)) }
-    ensures whole_memory { IsTrue (B.source buf.old).whole → IsTrue (B.source buf.old).told →
-        NeedsNoMemory result }
+    ensures whole { IsTrue (B.source buf.old).whole → IfOk result (λ c. IsTrue (is_borrowed c)) }
+    ensures whole_memory { IsTrue (B.source buf.old).whole → NeedsNoMemory result }
+    ensures nothing { IsTrue (B.source buf.old).told → (B.source buf.old).left ≡ [] →
+        NeedsNoMemory result × IfOk result (λ c. IsTrue (is_borrowed c)) }
     ensures ok { IsTrue (B.source buf.old).told →
         IfOk result (λ c. (cow_items c ≡ (B.source buf.old).left)
         × ((B.source buf.new).left ≡ [])) }
@@ -109,7 +111,8 @@ pub fn take_rest<'p, B: ParseBuf<'p>>(alloc: Global, buf: &mut B) -> ParseResult
         IfErr result (λ e. FailsInRest (B.source buf.old) (kind_of e) (B.source buf.new)) }
 {
     let first = match lend_first(buf) {
-        Ok(first) => first,
+        Ok(Some(first)) => first,
+        Ok(None) => return Ok(CowSlice::Borrowed(&[])),
         Err(error) => return Err(error),
     };
     if let Some(0) = buf.remaining_hint() {

@@ -1,6 +1,6 @@
 //! The bytes of a frame, cut off, and the reads that are made of them.
 
-ghost use Rattle.std.specs.Prelude.{◌≡◌, ◌+◌, length, take, true, IsTrue, IsOk, IfOk, IfErr};
+ghost use Rattle.std.specs.Prelude.{◌≡◌, ◌+◌, ⊥, length, take, true, IsTrue, IsOk, IfOk, IfErr};
 ghost use Rattle.perf_reader.specs.Words.{OutOfMemory, Stays, cursor_left, cursor_lent, IsAtStart};
 ghost use Rattle.perf_reader.specs.Words.{falls_short, is_made_beforehand, Takes, FailsToKeep};
 ghost use Rattle.perf_reader.specs.Words.{CanFail, config_of, input_of, reads_of, kinds, refused};
@@ -30,7 +30,7 @@ impl<'p, I: Input<'p>, E: Endian> Reader<I, E> {
         ensures nothing { len ≡ 0 → IfOk result (λ c. IsTrue (cursor_lent c)) × IsOk result
             × (I.source (input_of self.new) ≡ I.source (input_of self.old)) }
         ensures short { falls_short (I.hint (input_of self.old)) len ≡ true →
-            TakesNoMemory (kinds result) }
+            TakesNoMemory (kinds result) × IfOk result (λ c. ⊥) }
         ensures beforehand { IsTrue (I.source (input_of self.old)).told →
             is_made_beforehand (I.hint (input_of self.old)) len ≡ true → IfErr result (λ e.
             refusal_kind e ≡ OutOfMemory →

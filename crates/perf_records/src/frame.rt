@@ -129,6 +129,21 @@ pub fn split<'p, I: Input<'p>, E: Endian>(
     ensures whole_memory { IsTrue (I.source (input_of reader.old)).whole →
         TakesNoMemory (kinds result) }
 
+    // A size that does not count the header is refused before anything else.
+    ensures small { header.size < 8 → (kinds result ≡ Err InvalidRecord)
+        × (I.source (input_of reader.new) ≡ I.source (input_of reader.old)) }
+
+    // Memory is taken by the rules of a cut: for nothing none, none where the input says that it
+    // has too few bytes, and else all room first, where that is little.
+    ensures nothing { body_length header ≡ 0 → TakesNoMemory (kinds result)
+        × IfOk result (λ parts. IsTrue (cursor_lent parts.0)) }
+    ensures short { falls_short (I.hint (input_of reader.old)) (body_length header) ≡ true →
+        TakesNoMemory (kinds result) × IfOk result (λ parts. ⊥) }
+    ensures beforehand { IsTrue (I.source (input_of reader.old)).told →
+        is_made_beforehand (I.hint (input_of reader.old)) (body_length header) ≡ true →
+        IfErr result (λ e. refusal_kind e ≡ OutOfMemory →
+        (I.source (input_of reader.new)).left ≡ (I.source (input_of reader.old)).left) }
+
     // The body's bytes are paid for, and not read yet.
     ensures paid { IsTrue (I.source (input_of reader.old)).told → IfOk result (λ parts.
         reads_of reader.new + length (cursor_left parts.0)
@@ -200,6 +215,28 @@ pub fn read_behind<'p, I: Input<'p>, E: Endian>(
         IfOk result (λ r. IsBorrowed r) }
     ensures whole_memory { IsTrue (I.source (input_of reader.old)).whole →
         holds_a_list header.type_ ≡ false → TakesNoMemory (kinds result) }
+
+    // A size that does not count the header is refused before anything else.
+    ensures small { header.size < 8 → (kinds result ≡ Err InvalidRecord)
+        × (I.source (input_of reader.new) ≡ I.source (input_of reader.old)) }
+
+    // Memory is taken by the rules of a cut, and by what the body takes. Where memory for the frame
+    // is refused, nothing is taken if all room was made first; where it is refused for the body,
+    // exactly the frame is.
+    ensures nothing { body_length header ≡ 0 → holds_a_list header.type_ ≡ false →
+        TakesNoMemory (kinds result) }
+    ensures short { falls_short (I.hint (input_of reader.old)) (body_length header) ≡ true →
+        TakesNoMemory (kinds result) }
+    ensures beforehand { IsTrue (I.source (input_of reader.old)).told →
+        is_made_beforehand (I.hint (input_of reader.old)) (body_length header) ≡ true →
+        IfErr result (λ e. refusal_kind e ≡ OutOfMemory →
+        LeavesAllOrBehind (I.source (input_of reader.old)) (body_length header)
+        (I.source (input_of reader.new))) }
+    ensures spent { IsTrue (I.source (input_of reader.old)).told →
+        IsTrue (I.source (input_of reader.old)).whole →
+        IfErr result (λ e. refusal_kind e ≡ OutOfMemory →
+        (I.source (input_of reader.new)).left
+        ≡ drop (body_length header) (I.source (input_of reader.old)).left) }
     ensures call { Call I.source E.order (SaysBehind header)
         reader.old (kinds result) reader.new }
 {
