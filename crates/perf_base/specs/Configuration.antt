@@ -61,36 +61,12 @@ configured_by a = record {
 
 -- another frame's misc
 abbrev pub under_misc : ℕ → Configuration → Configuration
-under_misc misc c = record {
-  read_format = c.read_format;
-  sample_type = c.sample_type;
-  sample_id_all = c.sample_id_all;
-  branch_hw_index = c.branch_hw_index;
-  misc = misc;
-  regs_user = c.regs_user;
-  regs_intr = c.regs_intr;
-}
+under_misc misc c = record c { misc = misc }
 
 -- another sample type
 abbrev pub under_sample_type : ℕ → Configuration → Configuration
-under_sample_type sample_type c = record {
-  read_format = c.read_format;
-  sample_type = kept_sample_type sample_type;
-  sample_id_all = c.sample_id_all;
-  branch_hw_index = c.branch_hw_index;
-  misc = c.misc;
-  regs_user = c.regs_user;
-  regs_intr = c.regs_intr;
-}
+under_sample_type sample_type c = record c { sample_type = kept_sample_type sample_type }
 
 -- another read format
 abbrev pub under_read_format : ℕ → Configuration → Configuration
-under_read_format read_format c = record {
-  read_format = kept_read_format read_format;
-  sample_type = c.sample_type;
-  sample_id_all = c.sample_id_all;
-  branch_hw_index = c.branch_hw_index;
-  misc = c.misc;
-  regs_user = c.regs_user;
-  regs_intr = c.regs_intr;
-}
+under_read_format read_format c = record c { read_format = kept_read_format read_format }
