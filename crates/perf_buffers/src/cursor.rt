@@ -2,7 +2,7 @@
 
 ghost use Rattle.std.specs.Prelude.{IfSome, ◌≡◌, ◌≢◌, ◌<◌, ◌≤◌, true, false, None, Some, length};
 ghost use Rattle.std.specs.Prelude.{take, IsTrue, IsOk, OnOk, IfOk, IfErr, MatchOption, IfNone};
-ghost use Rattle.std.specs.Prelude.{◌-◌, ◌↔◌, ⊥, drop, []};
+ghost use Rattle.std.specs.Prelude.{◌-◌, ◌↔◌, drop, []};
 ghost use Rattle.perf_buffers.specs.Words.{kind_of, NeedsNoMemory, Stays, refusal, Takes};
 ghost use Rattle.perf_buffers.specs.Words.{FailsToTake, FailsToKeep, CanFail, falls_short};
 ghost use Rattle.perf_buffers.specs.Words.{is_made_beforehand, makes_all_room, room_made};

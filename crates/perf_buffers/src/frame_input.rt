@@ -129,9 +129,11 @@ impl<'p> Input<'p> for ParseBufCursor<'p> {
 
     #[inline]
     fn take_rest(&mut self, alloc: Global) -> ReadResult<CowSlice<'p, u8>> {
+        if self.is_empty() {
+            return Ok(CowSlice::Borrowed(&[]));
+        }
         match &mut self.held {
             Held::Lent(bytes) => bytes.take_rest(alloc),
-            Held::Own(bytes, place) if *place == bytes.len() => Ok(CowSlice::Borrowed(&[])),
             Held::Own(bytes, place) => match take_all(alloc, bytes, place) {
                 Ok(rest) => Ok(CowSlice::Owned(rest)),
                 Err(refusal) => Err(refusal),

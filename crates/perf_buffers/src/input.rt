@@ -5,7 +5,7 @@
 //! [`Outer`](crate::outer::Outer).
 
 ghost use Rattle.std.specs.Prelude.{◌≡◌, ℕ, ◌<◌, ◌≤◌, [], length, take, drop, true, false, Some};
-ghost use Rattle.std.specs.Prelude.{None, Option, IsTrue, IsOk, OnOk, IfOk, IfErr, IfSome, ⊥};
+ghost use Rattle.std.specs.Prelude.{None, Option, IsTrue, IsOk, OnOk, IfOk, IfErr, IfSome};
 ghost use Rattle.perf_base.specs.declared.error.ErrorKind.{ErrorKind as Kind};
 ghost use Rattle.perf_buffers.specs.Words.{cow_items, is_borrowed, refusal_kind, kinds, refused};
 ghost use Rattle.perf_buffers.specs.Words.{TakesNoMemory, all_zero, Eof, OutOfMemory, Source};

@@ -1,6 +1,6 @@
 //! The bytes of a frame, cut off, and the reads that are made of them.
 
-ghost use Rattle.std.specs.Prelude.{◌≡◌, ◌+◌, ⊥, length, take, true, IsTrue, IsOk, IfOk, IfErr};
+ghost use Rattle.std.specs.Prelude.{◌≡◌, ◌+◌, length, take, true, IsTrue, IsOk, IfOk, IfErr};
 ghost use Rattle.perf_reader.specs.Words.{OutOfMemory, Stays, cursor_left, cursor_lent, IsAtStart};
 ghost use Rattle.perf_reader.specs.Words.{falls_short, is_made_beforehand, Takes, FailsToKeep};
 ghost use Rattle.perf_reader.specs.Words.{CanFail, config_of, input_of, reads_of, kinds, refused};
