@@ -42,14 +42,17 @@ impl<'p, B: ParseBuf<'p>, E: Endian> Parser<B, E> {
         }
     }
 
-    /// All bytes that are left, borrowed where the buffer is a slice. There may be none.
+    /// All bytes that are left, borrowed where the buffer is a slice, and where
+    /// there are none.
     #[inline]
     pub fn parse_rest(&mut self) -> ParseResult<CowSlice<'p, u8>>
         ensures whole { IsTrue (B.source (buffer_of self.old)).whole →
-            IsTrue (B.source (buffer_of self.old)).told →
             IfOk result (λ c. IsTrue (is_borrowed c)) }
         ensures whole_memory { IsTrue (B.source (buffer_of self.old)).whole →
-            IsTrue (B.source (buffer_of self.old)).told → TakesNoMemory (error_kinds result) }
+            TakesNoMemory (error_kinds result) }
+        ensures nothing { IsTrue (B.source (buffer_of self.old)).told →
+            (B.source (buffer_of self.old)).left ≡ [] →
+            TakesNoMemory (error_kinds result) × IfOk result (λ c. IsTrue (is_borrowed c)) }
         ensures counted { IfOk result (λ c.
             reads_of self.new ≡ reads_of self.old + one_if_any (length (cow_items c))) }
         ensures call { Call B.source E.order (ReadsOne rest cow_items)
@@ -62,14 +65,16 @@ impl<'p, B: ParseBuf<'p>, E: Endian> Parser<B, E> {
     }
 
     /// All bytes that are left, without the zero bytes at their end, borrowed where the buffer is a
-    /// slice. There may be none.
+    /// slice, and where there are none.
     #[inline]
     pub fn parse_rest_trim_nul(&mut self) -> ParseResult<CowSlice<'p, u8>>
         ensures whole { IsTrue (B.source (buffer_of self.old)).whole →
-            IsTrue (B.source (buffer_of self.old)).told →
             IfOk result (λ c. IsTrue (is_borrowed c)) }
         ensures whole_memory { IsTrue (B.source (buffer_of self.old)).whole →
-            IsTrue (B.source (buffer_of self.old)).told → TakesNoMemory (error_kinds result) }
+            TakesNoMemory (error_kinds result) }
+        ensures nothing { IsTrue (B.source (buffer_of self.old)).told →
+            (B.source (buffer_of self.old)).left ≡ [] →
+            TakesNoMemory (error_kinds result) × IfOk result (λ c. IsTrue (is_borrowed c)) }
         ensures call { Call B.source E.order (Reads (λ _. name) cow_items)
             self.old (error_kinds result) self.new }
     {

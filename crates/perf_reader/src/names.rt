@@ -1,6 +1,6 @@
 //! Names: all that is left, without the zero bytes behind them.
 
-ghost use Rattle.std.specs.Prelude.{◌≡◌, ◌≤◌, length, take, IsTrue, IfOk};
+ghost use Rattle.std.specs.Prelude.{◌≡◌, ◌≤◌, length, take, [], IsTrue, IfOk};
 ghost use Rattle.perf_base.specs.FieldWords.{name};
 ghost use Rattle.perf_base.specs.Zeros.{trimmed};
 ghost use Rattle.perf_reader.specs.Words.{Call, Reads, TakesNoMemory, input_of, kinds};
@@ -27,14 +27,17 @@ fn trimmed_len(bytes: &[u8]) -> usize
 
 impl<'p, I: Input<'p>, E: Endian> Reader<I, E> {
     /// All bytes that are left, without the zero bytes at their end, borrowed where the input is
-    /// whole. There may be none.
+    /// whole, and where there are none.
     #[inline]
     #[tactic(auto, using(crate::proofs::Paying::chain))]
     pub fn read_rest_trim_nul(&mut self) -> ReadResult<CowSlice<'p, u8>>
         ensures whole { IsTrue (I.source (input_of self.old)).whole →
-            IsTrue (I.source (input_of self.old)).told → IfOk result (λ c. IsTrue (is_borrowed c)) }
+            IfOk result (λ c. IsTrue (is_borrowed c)) }
         ensures whole_memory { IsTrue (I.source (input_of self.old)).whole →
-            IsTrue (I.source (input_of self.old)).told → TakesNoMemory (kinds result) }
+            TakesNoMemory (kinds result) }
+        ensures nothing { IsTrue (I.source (input_of self.old)).told →
+            (I.source (input_of self.old)).left ≡ [] →
+            TakesNoMemory (kinds result) × IfOk result (λ c. IsTrue (is_borrowed c)) }
         ensures call { Call I.source E.order (Reads (λ _. name) cow_items)
             self.old (kinds result) self.new }
     {

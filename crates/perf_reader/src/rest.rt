@@ -1,6 +1,6 @@
 //! All that is left in a reader's input.
 
-ghost use Rattle.std.specs.Prelude.{◌≡◌, ◌+◌, length, IsTrue, IfOk};
+ghost use Rattle.std.specs.Prelude.{◌≡◌, ◌+◌, length, [], IsTrue, IfOk};
 ghost use Rattle.perf_base.specs.Reads.{one_if_any};
 ghost use Rattle.perf_reader.specs.Words.{Call, ReadsOne, TakesNoMemory, input_of, reads_of, kinds};
 ghost use Rattle.perf_reader.specs.Words.{cow_items, is_borrowed, rest};
@@ -12,13 +12,17 @@ use perf_base::refusal::ReadResult;
 use perf_buffers::input::Input;
 
 impl<'p, I: Input<'p>, E: Endian> Reader<I, E> {
-    /// All bytes that are left, borrowed where the input is whole. There may be none.
+    /// All bytes that are left, borrowed where the input is whole, and where
+    /// there are none.
     #[inline]
     pub fn read_rest(&mut self) -> ReadResult<CowSlice<'p, u8>>
         ensures whole { IsTrue (I.source (input_of self.old)).whole →
-            IsTrue (I.source (input_of self.old)).told → IfOk result (λ c. IsTrue (is_borrowed c)) }
+            IfOk result (λ c. IsTrue (is_borrowed c)) }
         ensures whole_memory { IsTrue (I.source (input_of self.old)).whole →
-            IsTrue (I.source (input_of self.old)).told → TakesNoMemory (kinds result) }
+            TakesNoMemory (kinds result) }
+        ensures nothing { IsTrue (I.source (input_of self.old)).told →
+            (I.source (input_of self.old)).left ≡ [] →
+            TakesNoMemory (kinds result) × IfOk result (λ c. IsTrue (is_borrowed c)) }
         ensures counted { IfOk result (λ c.
             reads_of self.new ≡ reads_of self.old + one_if_any (length (cow_items c))) }
         ensures call { Call I.source E.order (ReadsOne rest cow_items)
