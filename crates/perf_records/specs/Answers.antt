@@ -1,6 +1,6 @@
 -- How a frame falls apart, what it says and how many elementary reads that takes: by its own bytes
 -- alone.
-use Rattle.std.specs.Prelude.{Result, Ok, Err, ◌≡◌, ℕ, ◌+◌, ◌-◌, ◌<◌, ◌≤◌, List, [], map, length}
+use Rattle.std.specs.Prelude.{◌⊎◌, Result, Ok, Err, ◌≡◌, ℕ, ◌+◌, ◌-◌, ◌<◌, ◌≤◌, List, [], map, length}
 use Rattle.std.specs.Prelude.{take, drop, IsTrue, IfOk, false, nat_lt, if◌then◌else◌}
 use Rattle.perf_base.specs.Configuration.{Configuration, under_misc}
 use Rattle.perf_base.specs.Header.{header, header_of}
@@ -163,6 +163,10 @@ SaysFrame old seen new =
     × (IsTrue old.source.whole →
     IfOk seen IsBorrowed
     × (holds_a_list (header_of o bytes).type_ ≡ false → TakesNoMemory seen))
+
+-- nothing was taken, or exactly n bytes were
+abbrev pub LeavesAllOrBehind : Source → ℕ → Source → Type 0
+LeavesAllOrBehind old n new = (new.left ≡ old.left) ⊎ (new.left ≡ drop n old.left)
 
 -- ---- how a frame's body is cut off
 

@@ -2,8 +2,9 @@
 pub use Rattle.perf_base.specs.Configured.{configuration_of, endian_of}
 pub use Rattle.perf_base.specs.Layout.{mapped, value}
 pub use Rattle.perf_base.specs.Reads.{layout_reads}
-pub use Rattle.perf_base.specs.declared.error.ErrorKind.TheVariants.{InvalidRecord}
+pub use Rattle.perf_base.specs.declared.error.ErrorKind.TheVariants.{InvalidRecord, OutOfMemory}
 pub use Rattle.perf_buffers.specs.Cursor.{cursor_left, cursor_lent}
+pub use Rattle.perf_buffers.specs.Room.{falls_short, is_made_beforehand}
 pub use Rattle.perf_buffers.specs.Taking.{MovesWithin}
 pub use Rattle.perf_reader.specs.Reading.{is_external, one_if_refused}
 pub use Rattle.perf_reader.specs.Words.{Call, Reads, kinds, TakesNoMemory, input_of, config_of}
@@ -26,6 +27,7 @@ pub use Rattle.perf_types.specs.TextPoke.{text_poke}
 pub use Rattle.perf_types.specs.Throttle.{throttle}
 pub use Rattle.perf_records.specs.Answers.{SplitsBehind, SaysBehind, SaysFrame, Finishes}
 pub use Rattle.perf_records.specs.Answers.{body_length, answered_parts, parts_of, id_reads}
+pub use Rattle.perf_records.specs.Answers.{LeavesAllOrBehind}
 pub use Rattle.perf_records.specs.Bodies.{SaysBody, SaysLent, unread, body, holds_a_list}
 pub use Rattle.perf_records.specs.Metadata.{carries_sample_id, id_of_type, id_length}
 pub use Rattle.perf_records.specs.Records.{record_value, IsBorrowed, aux_is, aux_output_hw_id_is}

@@ -1,6 +1,7 @@
 //! Frames: the bytes that belong to a header.
 
-ghost use Rattle.std.specs.Prelude.{◌≡◌, ◌≤◌, ◌<◌, ◌+◌, false, length, IsTrue, IfOk, IfErr};
+ghost use Rattle.std.specs.Prelude.{◌≡◌, ◌≤◌, ◌<◌, ◌+◌, false, true, length, drop, Err};
+ghost use Rattle.std.specs.Prelude.{IsTrue, IfOk, IfErr};
 ghost use Rattle.perf_records.specs.Words.{configuration_of, endian_of, value, layout_reads};
 ghost use Rattle.perf_records.specs.Words.{InvalidRecord, cursor_left, cursor_lent, MovesWithin};
 ghost use Rattle.perf_records.specs.Words.{is_external, one_if_refused, Call, TakesNoMemory};
@@ -8,7 +9,8 @@ ghost use Rattle.perf_records.specs.Words.{input_of, config_of, reads_of, kinds,
 ghost use Rattle.perf_records.specs.Words.{refusal_kind, SplitsBehind, SaysBehind, SaysFrame};
 ghost use Rattle.perf_records.specs.Words.{Finishes, body_length, answered_parts, parts_of};
 ghost use Rattle.perf_records.specs.Words.{id_reads, body, holds_a_list, carries_sample_id};
-ghost use Rattle.perf_records.specs.Words.{id_of_type, id_length, IsBorrowed};
+ghost use Rattle.perf_records.specs.Words.{id_of_type, id_length, IsBorrowed, OutOfMemory};
+ghost use Rattle.perf_records.specs.Words.{falls_short, is_made_beforehand, LeavesAllOrBehind};
 
 use crate::body::read_body;
 use crate::metadata::RecordMetadata;
