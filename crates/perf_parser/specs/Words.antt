@@ -15,7 +15,7 @@ pub use Rattle.perf_buffers.specs.Taking.{MovesWithin}
 pub use Rattle.perf_reader.specs.Meaning.{Meaning}
 pub use Rattle.perf_reader.specs.Reading.{Says, Reads, ReadsPlain, ReadsLent, ReadsOne, ReadsNumber}
 pub use Rattle.perf_reader.specs.Reading.{Keeps, of_layout}
-pub use Rattle.perf_records.specs.Answers.{SaysBehind, answers, body_length}
+pub use Rattle.perf_records.specs.Answers.{SaysBehind, answers, body_length, LeavesAllOrBehind}
 pub use Rattle.perf_records.specs.Bodies.{holds_a_list}
 pub use Rattle.perf_records.specs.Records.{IsBorrowed}
 pub use Rattle.perf_parser.specs.Calls.{Follows, Counts, KeepsOn, Call, CallAs, CallOnly}

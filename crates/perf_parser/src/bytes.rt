@@ -1,6 +1,6 @@
 //! Byte strings.
 
-ghost use Rattle.std.specs.Prelude.{◌≡◌, ◌+◌, length, true, IsTrue, IsOk, IfOk, IfErr};
+ghost use Rattle.std.specs.Prelude.{◌≡◌, ◌+◌, length, [], true, IsTrue, IsOk, IfOk, IfErr};
 ghost use Rattle.perf_parser.specs.Words.{name, one_if_any, falls_short, is_made_beforehand, Call};
 ghost use Rattle.perf_parser.specs.Words.{Reads, ReadsOne, TakesNoMemory, buffer_of, reads_of};
 ghost use Rattle.perf_parser.specs.Words.{error_kinds, kind_of, cow_items, is_borrowed, run, rest};

@@ -1,15 +1,17 @@
 //! Frames: a header, and the bytes that belong to it.
 
-ghost use Rattle.std.specs.Prelude.{◌≡◌, ◌-◌, false, IsTrue, IfOk};
+ghost use Rattle.std.specs.Prelude.{◌≡◌, ◌-◌, ◌<◌, false, true, drop, Err, IsTrue, IfOk, IfErr};
 ghost use Rattle.perf_parser.specs.Words.{Call, SaysBehind, SplitsParser, SplitsFrame, error_kinds};
 ghost use Rattle.perf_parser.specs.Words.{buffer_of, config_of, reads_of, configuration_of};
 ghost use Rattle.perf_parser.specs.Words.{endian_of, perf_event_header, cursor_lent, MovesWithin};
 ghost use Rattle.perf_parser.specs.Words.{TakesNoMemory, body_length, holds_a_list, IsBorrowed};
+ghost use Rattle.perf_parser.specs.Words.{kind_of, falls_short, is_made_beforehand};
+ghost use Rattle.perf_parser.specs.Words.{LeavesAllOrBehind};
 
 use crate::parse::{FrameLayout, ParseRecord};
 use crate::parser::Parser;
 use perf_base::endian::Endian;
-use perf_base::error::ParseResult;
+use perf_base::error::{ErrorKind, ParseResult};
 use perf_base::sys::perf_event_header;
 use perf_buffers::cursor::ParseBufCursor;
 use perf_buffers::parsebuf::ParseBuf;
@@ -34,6 +36,28 @@ impl<'p, B: ParseBuf<'p>> ParseRecord<'p, B> for Record<'p> {
             IfOk result (λ r. IsBorrowed r) }
         ensures whole_memory { IsTrue (B.source (buffer_of parser.old)).whole →
             holds_a_list header.type_ ≡ false → TakesNoMemory (error_kinds result) }
+
+        // A size that does not count the header is refused before anything else.
+        ensures small { header.size < 8 → (error_kinds result ≡ Err ErrorKind.InvalidRecord)
+            × (B.source (buffer_of parser.new) ≡ B.source (buffer_of parser.old)) }
+
+        // Memory is taken by the rules of a cut, and by what the body takes. Where memory for the
+        // frame is refused, nothing is taken if all room was made first; where it is refused for
+        // the body, exactly the frame is.
+        ensures nothing { body_length header ≡ 0 → holds_a_list header.type_ ≡ false →
+            TakesNoMemory (error_kinds result) }
+        ensures short { falls_short (B.hint (buffer_of parser.old)) (body_length header) ≡ true →
+            TakesNoMemory (error_kinds result) }
+        ensures beforehand { IsTrue (B.source (buffer_of parser.old)).told →
+            is_made_beforehand (B.hint (buffer_of parser.old)) (body_length header) ≡ true →
+            IfErr result (λ e. kind_of e ≡ ErrorKind.OutOfMemory →
+            LeavesAllOrBehind (B.source (buffer_of parser.old)) (body_length header)
+            (B.source (buffer_of parser.new))) }
+        ensures spent { IsTrue (B.source (buffer_of parser.old)).told →
+            IsTrue (B.source (buffer_of parser.old)).whole →
+            IfErr result (λ e. kind_of e ≡ ErrorKind.OutOfMemory →
+            (B.source (buffer_of parser.new)).left
+            ≡ drop (body_length header) (B.source (buffer_of parser.old)).left) }
         ensures call { Call B.source E.order (SaysBehind header)
             parser.old (error_kinds result) parser.new }
     {
@@ -69,6 +93,22 @@ impl<'p, B: ParseBuf<'p>, E: Endian> Parser<B, E> {
         ensures whole_memory { IsTrue (B.source (buffer_of self.old)).whole →
             E.may_refuse (endian_of (config_of self.old)) ≡ false →
             TakesNoMemory (error_kinds result) }
+
+        // A size that does not count the header is refused before anything else.
+        ensures small { header.size < 8 → (error_kinds result ≡ Err ErrorKind.InvalidRecord)
+            × (B.source (buffer_of self.new) ≡ B.source (buffer_of self.old)) }
+
+        // Memory is taken by the rules of a cut, and for the order's second.
+        ensures nothing { body_length header ≡ 0 →
+            E.may_refuse (endian_of (config_of self.old)) ≡ false →
+            TakesNoMemory (error_kinds result) }
+        ensures short { falls_short (B.hint (buffer_of self.old)) (body_length header) ≡ true →
+            TakesNoMemory (error_kinds result) }
+        ensures beforehand { IsTrue (B.source (buffer_of self.old)).told →
+            is_made_beforehand (B.hint (buffer_of self.old)) (body_length header) ≡ true →
+            IfErr result (λ e. kind_of e ≡ ErrorKind.OutOfMemory →
+            LeavesAllOrBehind (B.source (buffer_of self.old)) (body_length header)
+            (B.source (buffer_of self.new))) }
         ensures call { Call B.source E.order (SplitsParser header)
             self.old (error_kinds result) self.new }
     {

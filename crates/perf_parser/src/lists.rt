@@ -1,6 +1,6 @@
 //! Lists of values, and values that may be absent.
 
-ghost use Rattle.std.specs.Prelude.{◌≡◌, false, true, length, IfOk, IfErr, Ok, None};
+ghost use Rattle.std.specs.Prelude.{◌≡◌, false, true, length, IsOk, IfOk, IfErr, Ok, None};
 ghost use Rattle.std.specs.Fn.{FnOnceReturnsAtMut};
 ghost use Rattle.perf_parser.specs.Words.{CallAs, CallOnly, cow_items, is_borrowed};
 ghost use Rattle.perf_parser.specs.Words.{meaning, error_kinds, kind_of};
@@ -83,8 +83,10 @@ impl<'p, B: ParseBuf<'p>, E: Endian> Parser<B, E> {
     /// `len` values of a type, one behind another. The first that is refused is the answer.
     ///
     /// No claimed count makes room: beforehand there is room for at most one item for each byte
-    /// that is left, or for 16,384 where the buffer does not say how many are.
+    /// that is left, or for 16,384 where the buffer does not say how many are. No value at all takes
+    /// no memory.
     pub fn parse_repeated<P: Parse<'p, B> + Drop>(&mut self, len: usize) -> ParseResult<Vec<P>>
+        ensures nothing { len ≡ 0 → IsOk result }
         ensures call { CallOnly B.source E.order self.old (error_kinds result) self.new }
         ensures ok { IfOk result (λ v. (length v.items ≡ len) × Runs P.parses P.counts
             (meaning B.source E.order self.old) v.items (meaning B.source E.order self.new)) }
@@ -114,6 +116,7 @@ impl<'p, B: ParseBuf<'p>, E: Endian> Parser<B, E> {
         &mut self,
         len: usize,
     ) -> ParseResult<CowSlice<'p, P>>
+        ensures nothing { len ≡ 0 → IsOk result }
         ensures call { CallOnly B.source E.order self.old (error_kinds result) self.new }
         ensures owned { IfOk result (λ c. is_borrowed c ≡ false) }
         ensures ok { IfOk result (λ c. (length (cow_items c) ≡ len) × Runs P.parses P.counts
