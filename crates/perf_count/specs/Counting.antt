@@ -1,5 +1,6 @@
 -- What is counted of the answers to frames.
-use Rattle.std.specs.Prelude.{ℕ, ◌+◌, ◌%◌, ◌^◌, List, [], ◌∷◌, length, sum, sum_by, count_by, Result, Ok, Err, is_err}
+use Rattle.std.specs.Prelude.{ℕ, ◌+◌, ◌%◌, ◌^◌, List, [], ◌∷◌, length, sum, sum_by, count_by}
+use Rattle.std.specs.Prelude.{Result, Ok, Err, is_err}
 use Rattle.perf_base.specs.declared.sys.perf_event_header.{perf_event_header}
 use Rattle.perf_base.specs.declared.error.ErrorKind.{ErrorKind}
 use Rattle.perf_types.specs.declared.exit.Exit.{Exit}
@@ -7,7 +8,8 @@ use Rattle.perf_types.specs.declared.lost.Lost.{Lost}
 use Rattle.perf_types.specs.Mmap.{MmapValue}
 use Rattle.perf_types.specs.Mmap2.{Mmap2Value}
 use Rattle.perf_types.specs.Comm.{CommValue}
-use Rattle.perf_records.specs.Records.{RecordValue, mmap_is, lost_is, comm_is, exit_is, fork_is, mmap2_is, lost_samples_is}
+use Rattle.perf_records.specs.Records.{RecordValue, mmap_is, lost_is, comm_is, exit_is, fork_is}
+use Rattle.perf_records.specs.Records.{mmap2_is, lost_samples_is}
 use Rattle.perf_count.specs.declared.counts.Counts.{Counts}
 
 -- a number as 64 bits hold it
@@ -45,7 +47,8 @@ record_sum _ = 0
 
 -- ---- what is counted of frames
 
--- what a frame adds to the checksum: what its record adds, and its type and size; a refused one adds nothing
+-- what a frame adds to the checksum: what its record adds, and its type and size; a refused one
+-- adds nothing
 abbrev pub frame_sum : perf_event_header × Result RecordValue ErrorKind → ℕ
 frame_sum (h, Ok r) = record_sum r + h.type_ + h.size
 frame_sum (h, Err e) = 0

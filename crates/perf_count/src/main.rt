@@ -1,18 +1,21 @@
 //! Counts the records that Linux wrote for performance events.
 //!
-//! `perf_count little|big|native [attr]` reads records from standard input, in the byte order that is named, and prints one
-//! line of three numbers: how many frames there are, how many of them were refused, and a checksum of the others. With
-//! `attr` the input begins with an attribute, which says how the records behind it are read. The whole input is read into
-//! memory first, and no record is printed, so its time is that of reading records.
+//! `perf_count little|big|native [attr]` reads records from standard input, in the byte order that
+//! is named, and prints one line of three numbers: how many frames there are, how many of them were
+//! refused, and a checksum of the others. With `attr` the input begins with an attribute, which
+//! says how the records behind it are read. The whole input is read into memory first, and no
+//! record is printed, so its time is that of reading records.
 //!
-//! The checksum is the sum, modulo 2^64, of the type and the size in the header of each frame that was not refused, and of
-//! what its record has: of MMAP and MMAP2 `pid`, `tid`, `addr`, `len`, `pgoff` and the length of the file's name; of COMM
-//! `pid`, `tid` and the length of the name; of EXIT and FORK `pid`, `ppid`, `tid`, `ptid` and `time`; of LOST `id` and
-//! `lost`; of LOST_SAMPLES `lost`. Other records add nothing of their own, nor do READ and SAMPLE, which are read as records
-//! of unknown type.
+//! The checksum is the sum, modulo 2^64, of the type and the size in the header of each frame that
+//! was not refused, and of what its record has: of MMAP and MMAP2 `pid`, `tid`, `addr`, `len`,
+//! `pgoff` and the length of the file's name; of COMM `pid`, `tid` and the length of the name; of
+//! EXIT and FORK `pid`, `ppid`, `tid`, `ptid` and `time`; of LOST `id` and `lost`; of LOST_SAMPLES
+//! `lost`. Other records add nothing of their own, nor do READ and SAMPLE, which are read as
+//! records of unknown type.
 //!
-//! The exit status is 0 where no frame was refused and the input ended behind one, and else 1. Why the attribute was
-//! refused, or what kept the input from being read to its end, goes to standard error.
+//! The exit status is 0 where no frame was refused and the input ended behind one, and else 1. Why
+//! the attribute was refused, or what kept the input from being read to its end, goes to standard
+//! error.
 #![tactic(auto)]
 
 mod command;

@@ -10,8 +10,8 @@ use std::alloc::Global;
 // How many answers are held at a time.
 const BATCH: usize = 256;
 
-/// Counts the frames of a stream, and says how it ended. With `with_attr` an attribute comes first, and its configuration
-/// holds for the records behind it; where it is refused, nothing is counted.
+/// Counts the frames of a stream, and says how it ended. With `with_attr` an attribute comes first,
+/// and its configuration holds for the records behind it; where it is refused, nothing is counted.
 pub fn count_stream<E: Endian>(
     alloc: Global,
     input: &[u8],

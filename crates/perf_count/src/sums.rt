@@ -6,13 +6,15 @@ ghost use Rattle.perf_types.specs.Mmap.{mmap_value};
 ghost use Rattle.perf_types.specs.Mmap2.{mmap2_value};
 ghost use Rattle.perf_records.specs.Records.{record_value};
 ghost use Rattle.perf_parser.specs.Runs.{said};
-ghost use Rattle.perf_count.specs.Counting.{wrapped, mmap_sum, mmap2_sum, comm_sum, task_sum, lost_sum, record_sum, frame_sum};
+ghost use Rattle.perf_count.specs.Counting.{wrapped, mmap_sum, mmap2_sum, comm_sum, task_sum};
+ghost use Rattle.perf_count.specs.Counting.{lost_sum, record_sum, frame_sum};
 
 use perf_event_data::parse::ParseResult;
 use perf_event_data::sys::perf_event_header;
 use perf_event_data::{Comm, Exit, Lost, Mmap, Mmap2, Record};
 
-/// What a frame adds to the checksum: a refused one nothing, and another what its record adds, its type and its size.
+/// What a frame adds to the checksum: a refused one nothing, and another what its record adds, its
+/// type and its size.
 pub fn frame_sum(header: &perf_event_header, answer: &ParseResult<Record>) -> u64
     ensures { result ≡ wrapped (frame_sum (header.now, said answer.now)) }
 {

@@ -18,7 +18,8 @@ fn check<E: Endian>(
     assert!(rt; matches!(counted, Ok((counts, RunEnd::Done)) if counts == want));
 }
 
-// The largest number and 3 make 2, modulo 2^64; the type is 2 and the size 24. So the checksum is 2 + 2 + 24.
+// The largest number and 3 make 2, modulo 2^64; the type is 2 and the size 24. So the checksum is 2
+// + 2 + 24.
 #[test]
 fn a_checksum_begins_again_at_zero(rt: HostRuntime) {
     let input: &[u8] = &[
@@ -32,9 +33,10 @@ fn a_checksum_begins_again_at_zero(rt: HostRuntime) {
     check(&rt, Little, false, input, want);
 }
 
-// A LOST of 8 bytes has no room for its fields and is refused. A COMM (3 and 24) of process 5, thread 6 and the name `sh`
-// adds 3 + 24 + 5 + 6 + 2 = 40, an EXIT (4 and 32) of 1, 2, 3, 4 at 100 adds 4 + 32 + 10 + 100 = 146, and four bytes of
-// the unknown type 71 add 71 + 12 = 83. Together they are 269.
+// A LOST of 8 bytes has no room for its fields and is refused. A COMM (3 and 24) of process 5,
+// thread 6 and the name `sh` adds 3 + 24 + 5 + 6 + 2 = 40, an EXIT (4 and 32) of 1, 2, 3, 4 at 100
+// adds 4 + 32 + 10 + 100 = 146, and four bytes of the unknown type 71 add 71 + 12 = 83. Together
+// they are 269.
 #[test]
 fn a_refused_frame_adds_nothing(rt: HostRuntime) {
     let input: &[u8] = &[
@@ -50,8 +52,8 @@ fn a_refused_frame_adds_nothing(rt: HostRuntime) {
     check(&rt, Big, false, input, want);
 }
 
-// Each byte is 1, so that each frame has the type 0x01010101, which is unknown, and the size 0x0101: it adds 16,843,009 and
-// 257, that is 16,843,266. The 300 frames are more than a batch.
+// Each byte is 1, so that each frame has the type 0x01010101, which is unknown, and the size
+// 0x0101: it adds 16,843,009 and 257, that is 16,843,266. The 300 frames are more than a batch.
 #[test]
 fn batches_add_up(rt: HostRuntime) {
     let input: &[u8] = &[1; 300 * 257];
@@ -63,8 +65,9 @@ fn batches_add_up(rt: HostRuntime) {
     check(&rt, Little, false, input, want);
 }
 
-// An attribute of 64 bytes: `sample_type` is TIME (4) and `sample_id_all` is set (bit 18 of the flags). So the last eight
-// bytes of the COMM are its sample id, and its name is `sh`: it adds 3 + 32 + 5 + 6 + 2 = 48.
+// An attribute of 64 bytes: `sample_type` is TIME (4) and `sample_id_all` is set (bit 18 of the
+// flags). So the last eight bytes of the COMM are its sample id, and its name is `sh`: it adds 3 +
+// 32 + 5 + 6 + 2 = 48.
 #[test]
 fn a_sample_id_adds_nothing(rt: HostRuntime) {
     let input: &[u8] = &[

@@ -5,8 +5,8 @@ ghost use Rattle.perf_count.specs.Words.{order_named, asked, command_of};
 
 use crate::command::{Command, OrderName};
 
-/// What the words behind the program's name ask for: an order's name, and then `attr`, where the input begins with an
-/// attribute. Other words ask for nothing.
+/// What the words behind the program's name ask for: an order's name, and then `attr`, where the
+/// input begins with an attribute. Other words ask for nothing.
 pub fn command(words: &[String]) -> Option<Command>
     ensures { result ≡ command_of (map string_bytes words.now) }
 {

@@ -193,7 +193,8 @@ fn check_over<'p, B: ParseBuf<'p> + Drop, C: Check<'p, B>>(
     C::check(rt, &mut parser)
 }
 
-/// Runs a test over these bytes through a slice, buffered readers and pieces, under a configuration.
+/// Runs a test over these bytes through a slice, buffered readers and pieces, under a
+/// configuration.
 pub fn check_under<'p, C>(
     rt: &impl Abort,
     alloc: Global,

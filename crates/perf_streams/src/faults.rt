@@ -111,8 +111,8 @@ fn a_fault_of_a_reader_has_it_as_its_cause(rt: HostRuntime) -> Result<(), Fail> 
     Ok(())
 }
 
-// Counts its faults: after `before` bytes come so many, and then all the rest. Its count cannot go past its greatest
-// value, so there it fails no more.
+// Counts its faults: after `before` bytes come so many, and then all the rest. Its count cannot go
+// past its greatest value, so there it fails no more.
 #[derive(Drop)]
 struct Counting<'p> {
     bytes: &'p [u8],
@@ -122,7 +122,13 @@ struct Counting<'p> {
 }
 
 impl<'p> ParseBuf<'p> for Counting<'p> {
-    ghost source = { λ s. record { left = s.bytes.now; told = true; whole = false; can_fault = nat_lt s.faults 18446744073709551615; faults = Some s.faults } };
+    ghost source = { λ s. record {
+      left = s.bytes.now;
+      told = true;
+      whole = false;
+      can_fault = nat_lt s.faults 18446744073709551615;
+      faults = Some s.faults;
+    } };
 
     ghost ready = { λ s. take s.before s.bytes.now };
 

@@ -1,5 +1,6 @@
-//! Tests that cross the crates: whole streams through every buffer, orders and buffers of a user's own, and what lies
-//! outside the contracts, such as the texts of errors. Without its tests this crate is empty.
+//! Tests that cross the crates: whole streams through every buffer, orders and buffers of a user's
+//! own, and what lies outside the contracts, such as the texts of errors. Without its tests this
+//! crate is empty.
 #![tactic(auto)]
 
 #[cfg(test)]

@@ -20,7 +20,11 @@ use std::test::Fail;
 struct Eights;
 
 impl Endian for Eights {
-    ghost order = { λ _. record { two = λ _. 8; four = from_le_bytes w32; eight = from_le_bytes w64 } };
+    ghost order = { λ _. record {
+      two = λ _. 8;
+      four = from_le_bytes w32;
+      eight = from_le_bytes w64;
+    } };
 
     ghost may_refuse = { λ _. false };
 
@@ -49,7 +53,8 @@ impl Endian for Words {
     ghost order = { λ _. record {
       two = from_le_bytes w16;
       four = λ b. from_le_bytes w32 (drop 2 b ++ take 2 b);
-      eight = λ b. from_le_bytes w64 (drop 6 b ++ take 2 (drop 4 b) ++ take 2 (drop 2 b) ++ take 2 b);
+      eight = λ b. from_le_bytes w64
+          (drop 6 b ++ take 2 (drop 4 b) ++ take 2 (drop 2 b) ++ take 2 b);
     } };
 
     ghost may_refuse = { λ _. false };
@@ -78,7 +83,11 @@ impl Endian for Words {
 struct Single;
 
 impl Endian for Single {
-    ghost order = { λ _. record { two = from_le_bytes w16; four = from_le_bytes w32; eight = from_le_bytes w64 } };
+    ghost order = { λ _. record {
+      two = from_le_bytes w16;
+      four = from_le_bytes w32;
+      eight = from_le_bytes w64;
+    } };
 
     ghost may_refuse = { λ _. true };
 

@@ -1,5 +1,6 @@
 -- The lines that the program prints, without the line feeds behind them.
-use Rattle.std.specs.Prelude.{ℕ, false, List, [], ◌∷◌, ◌++◌, ◌/◌, ◌%◌, ◌==◌, if◌then◌else◌, Option, Some, None, codes, decimal, bit_and}
+use Rattle.std.specs.Prelude.{ℕ, false, List, [], ◌∷◌, ◌++◌, ◌/◌, ◌%◌, ◌==◌, if◌then◌else◌, Option}
+use Rattle.std.specs.Prelude.{Some, None, codes, decimal, bit_and}
 use Rattle.std.specs.Fmt.{digits}
 use Rattle.std.specs.List.{flat_map, join_by, join_with_byte}
 use Rattle.std.specs.Str.Lossy.{utf8_lossy}
@@ -10,7 +11,8 @@ use Rattle.perf_types.specs.Mmap.{MmapValue}
 use Rattle.perf_types.specs.Mmap2.{Mmap2Value}
 use Rattle.perf_types.specs.MmapDetail.{DetailValue, inode_is, build_id_is}
 use Rattle.perf_types.specs.Namespaces.{NamespacesValue}
-use Rattle.perf_records.specs.Records.{RecordValue, comm_is, mmap_is, mmap2_is, fork_is, exit_is, namespaces_is}
+use Rattle.perf_records.specs.Records.{RecordValue, comm_is, mmap_is, mmap2_is, fork_is, exit_is}
+use Rattle.perf_records.specs.Records.{namespaces_is}
 
 -- ---- words
 
@@ -44,7 +46,8 @@ hex_byte byte = digits 16 false (byte / 16) ++ digits 16 false (byte % 16)
 
 -- a file by its device, its inode and its generation
 abbrev pub inode : (maj min ino generation : ℕ) → List ℕ
-inode maj min ino generation = spaced ((hex maj ++ (codes ":" ++ hex min)) ∷ decimal ino ∷ decimal generation ∷ [])
+inode maj min ino generation =
+    spaced ((hex maj ++ (codes ":" ++ hex min)) ∷ decimal ino ∷ decimal generation ∷ [])
 
 -- which file was mapped: its inode, or the digits of its build id
 abbrev pub file : DetailValue → List ℕ
@@ -65,19 +68,23 @@ abbrev pub comm_line : CommValue → List ℕ
 comm_line r = line (codes "comm") r.pid r.tid (utf8_lossy r.comm)
 
 abbrev pub mmap_line : MmapValue → List ℕ
-mmap_line r = line (codes "mmap") r.pid r.tid (spaced (place r.addr r.len r.pgoff ∷ utf8_lossy r.filename ∷ []))
+mmap_line r =
+    line (codes "mmap") r.pid r.tid
+    (spaced (place r.addr r.len r.pgoff ∷ utf8_lossy r.filename ∷ []))
 
 abbrev pub mmap2_line : Mmap2Value → List ℕ
 mmap2_line r =
     line (codes "mmap2") r.pid r.tid
-    (spaced (place r.addr r.len r.pgoff ∷ file r.detail ∷ protection r.prot r.flags ∷ utf8_lossy r.filename ∷ []))
+    (spaced (place r.addr r.len r.pgoff ∷ file r.detail ∷ protection r.prot r.flags
+    ∷ utf8_lossy r.filename ∷ []))
 
 -- a task that was made or that ended, and the one that made it or its parent
 abbrev pub task_line : List ℕ → Exit → List ℕ
 task_line what r = line what r.pid r.tid (spaced (decimal r.ppid ∷ decimal r.ptid ∷ []))
 
 abbrev pub namespaces_line : NamespacesValue → List ℕ
-namespaces_line r = line (codes "namespaces") r.pid r.tid (join_by namespace (codes ",") r.namespaces)
+namespaces_line r =
+    line (codes "namespaces") r.pid r.tid (join_by namespace (codes ",") r.namespaces)
 
 -- the line of a record that tells of a task
 abbrev pub line_of : RecordValue → Option (List ℕ)

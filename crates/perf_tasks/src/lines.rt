@@ -8,7 +8,9 @@ ghost use Rattle.perf_types.specs.Mmap.{mmap_value};
 ghost use Rattle.perf_types.specs.Mmap2.{mmap2_value};
 ghost use Rattle.perf_types.specs.Namespaces.{namespaces_value};
 ghost use Rattle.perf_records.specs.Records.{record_value};
-ghost use Rattle.perf_tasks.specs.Lines.{hex, letter, place, protection, hex_byte, inode, file, namespace, line, comm_line, mmap_line, mmap2_line, task_line, namespaces_line, line_of};
+ghost use Rattle.perf_tasks.specs.Lines.{hex, letter, place, protection, hex_byte, inode, file};
+ghost use Rattle.perf_tasks.specs.Lines.{namespace, line, comm_line, mmap_line, mmap2_line};
+ghost use Rattle.perf_tasks.specs.Lines.{task_line, namespaces_line, line_of};
 
 use perf_event_data::{Comm, Exit, Mmap, Mmap2, NamespaceEntry, Namespaces, Record};
 use std::alloc::{AllocError, Global};
@@ -39,9 +41,11 @@ impl fmt::Display for Hex {
     }
 }
 
-/// The line of a record that tells of a task, without the line feed behind it. Other records have none.
+/// The line of a record that tells of a task, without the line feed behind it. Other records have
+/// none.
 pub fn line_of(alloc: Global, found: &Record) -> Result<Option<String>, AllocError>
-    ensures { IfOk result (λ line. option_map string_bytes line ≡ line_of (record_value found.now)) }
+    ensures { IfOk result (λ line.
+        option_map string_bytes line ≡ line_of (record_value found.now)) }
 {
     let line = match found {
         Record::Comm(comm) => comm_line(alloc, comm)?,
@@ -91,7 +95,8 @@ fn task_line(alloc: Global, what: &str, task: &Exit) -> Result<String, AllocErro
 }
 
 fn namespaces_line(alloc: Global, namespaces: &Namespaces) -> Result<String, AllocError>
-    ensures { IfOk result (λ text. string_bytes text ≡ namespaces_line (namespaces_value namespaces.now)) }
+    ensures { IfOk result (λ text.
+        string_bytes text ≡ namespaces_line (namespaces_value namespaces.now)) }
 {
     let says = listed(alloc, namespaces.namespaces.as_slice())?;
     line(
@@ -178,7 +183,8 @@ fn letter(word: u32, bit: u32, set: &'static str, unset: &'static str) -> &'stat
 
 // Namespaces with a comma between each two.
 fn listed(alloc: Global, namespaces: &[NamespaceEntry]) -> Result<String, AllocError>
-    ensures { IfOk result (λ text. string_bytes text ≡ join_by namespace (codes ",") namespaces.now) }
+    ensures { IfOk result (λ text.
+        string_bytes text ≡ join_by namespace (codes ",") namespaces.now) }
 {
     let mut text = String::new(alloc);
     if let Some((first, others)) = namespaces.split_first() {
@@ -190,7 +196,8 @@ fn listed(alloc: Global, namespaces: &[NamespaceEntry]) -> Result<String, AllocE
 
 // Appends the namespaces behind the first.
 fn push_others(text: &mut String, others: &[NamespaceEntry]) -> Result<(), AllocError>
-    ensures { OnOk result (string_bytes text.new ≡ string_bytes text.old ++ flat_map (λ entry. codes "," ++ namespace entry) others.now) }
+    ensures { OnOk result (string_bytes text.new
+        ≡ string_bytes text.old ++ flat_map (λ entry. codes "," ++ namespace entry) others.now) }
 {
     for entry in others {
         text.push_str(",")?;

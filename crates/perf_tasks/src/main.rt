@@ -1,8 +1,10 @@
-//! Prints what a recording says of tasks: their names, what they mapped, when they began and ended, their namespaces.
+//! Prints what a recording says of tasks: their names, what they mapped, when they began and ended,
+//! their namespaces.
 //!
-//! `perf_tasks` reads an attribute and the records behind it from standard input, in little endian, and prints a line for
-//! each COMM, MMAP, MMAP2, FORK, EXIT and NAMESPACES record. Why a record was refused goes to standard error, and then
-//! the exit status is 1, as where the attribute is refused, the input cannot be read, or it ends inside a header.
+//! `perf_tasks` reads an attribute and the records behind it from standard input, in little endian,
+//! and prints a line for each COMM, MMAP, MMAP2, FORK, EXIT and NAMESPACES record. Why a record was
+//! refused goes to standard error, and then the exit status is 1, as where the attribute is
+//! refused, the input cannot be read, or it ends inside a header.
 #![tactic(auto)]
 
 ghost use Rattle.std.specs.Prelude.{◌≡◌, is_ok};
@@ -35,7 +37,8 @@ fn main(rt: HostRuntime) -> Result<ExitCode> {
     }
 }
 
-// Prints the records that a parser reads to the end of its buffer, and says whether none was refused.
+// Prints the records that a parser reads to the end of its buffer, and says whether none was
+// refused.
 fn print_records<'p, B: ParseBuf<'p>>(
     rt: &HostRuntime,
     parser: &mut Parser<B, Little>,

@@ -1,5 +1,6 @@
 -- How a run of the program ends, and what it has then written.
-use Rattle.std.specs.Prelude.{◌≡◌, ℕ, ◌<◌, Bool, true, false, ◌||◌, ◌&&◌, not, List, ◌++◌, take, codes, is_err, if◌then◌else◌, ◌⊎◌, Option}
+use Rattle.std.specs.Prelude.{◌≡◌, ℕ, ◌<◌, Bool, true, false, ◌||◌, ◌&&◌, not, List, ◌++◌, take}
+use Rattle.std.specs.Prelude.{codes, is_err, if◌then◌else◌, ◌⊎◌, Option}
 use Rattle.std.specs.List.{list_any}
 use Rattle.std.specs.Io.{StartsWith}
 use Rattle.std.specs.Io.KnownBytes.{Appends}
@@ -9,8 +10,10 @@ use Rattle.perf_base.specs.declared.error.ErrorKind.{ErrorKind}
 use Rattle.perf_base.specs.declared.error.ErrorKind.TheVariants.{External, OutOfMemory}
 use Rattle.perf_records.specs.Frames.{StreamEnd, done, cut_header, stream_end}
 use Rattle.perfrec.specs.declared.outcome.Outcome.{Outcome}
-use Rattle.perfrec.specs.declared.outcome.Outcome.TheVariants.{Clean, Refused, BadAttr, Faulted, Stopped}
-use Rattle.perfrec.specs.Text.{printed, is_at_limit, lines_from, end_line, kind_name, Stream, framed, without_frames, stream_answers, stream_text}
+use Rattle.perfrec.specs.declared.outcome.Outcome.TheVariants.{Clean, Refused, BadAttr, Faulted}
+use Rattle.perfrec.specs.declared.outcome.Outcome.TheVariants.{Stopped}
+use Rattle.perfrec.specs.Text.{printed, is_at_limit, lines_from, end_line, kind_name, Stream}
+use Rattle.perfrec.specs.Text.{framed, without_frames, stream_answers, stream_text}
 
 -- the exit status of an outcome
 abbrev pub status_of : Outcome → ℕ
@@ -36,7 +39,8 @@ ends_cut c o limit bytes = not (is_at_limit c o limit bytes) && is_cut (stream_e
 
 -- what the text of a stream amounts to
 abbrev pub outcome_of : Configuration → Order → ℕ → List ℕ → Outcome
-outcome_of c o limit bytes = if prints_refusal c o limit bytes || ends_cut c o limit bytes then Refused else Clean
+outcome_of c o limit bytes =
+    if prints_refusal c o limit bytes || ends_cut c o limit bytes then Refused else Clean
 
 -- the same of a stream that may begin with an attribute
 abbrev pub stream_outcome : Order → ℕ → Stream → Outcome
@@ -49,21 +53,26 @@ stream_outcome o limit (without_frames kind) = BadAttr
 abbrev pub EndsEarly : ErrorKind → Type 0
 EndsEarly kind = (kind ≡ External) ⊎ (kind ≡ OutOfMemory)
 
--- The text of a run that a fault ended: the lines of the first k answers, fewer than the limit or none, and the fault.
+-- The text of a run that a fault ended: the lines of the first k answers, fewer than the limit or
+-- none, and the fault.
 abbrev pub IsFaultText : Order → ℕ → Stream → List ℕ → Type 0
 IsFaultText o limit stream written =
     (k : ℕ) × (kind : ErrorKind) × ((k < limit) ⊎ (k ≡ 0)) × EndsEarly kind
-    × (written ≡ lines_from 0 (take k (stream_answers o stream)) ++ end_line (codes "fault " ++ kind_name kind))
+    × (written
+    ≡ lines_from 0 (take k (stream_answers o stream))
+    ++ end_line (codes "fault " ++ kind_name kind))
 
 -- ---- what an outcome says
 
 -- a whole text, with a fault or without
 abbrev pub IsText : Order → ℕ → Stream → List ℕ → Type 0
-IsText o limit stream written = (written ≡ stream_text o limit stream) ⊎ IsFaultText o limit stream written
+IsText o limit stream written =
+    (written ≡ stream_text o limit stream) ⊎ IsFaultText o limit stream written
 
 -- the text without a fault, which amounts to this outcome
 abbrev pub IsTextOf : Order → ℕ → Stream → Outcome → List ℕ → Type 0
-IsTextOf o limit stream outcome written = (written ≡ stream_text o limit stream) × (stream_outcome o limit stream ≡ outcome)
+IsTextOf o limit stream outcome written =
+    (written ≡ stream_text o limit stream) × (stream_outcome o limit stream ≡ outcome)
 
 -- What was written of a stream, by the outcome of its run.
 abbrev pub Says : Order → ℕ → Stream → Outcome → List ℕ → Type 0
@@ -71,8 +80,10 @@ Says o limit stream Clean written = IsTextOf o limit stream Clean written
 Says o limit stream Refused written = IsTextOf o limit stream Refused written
 Says o limit stream BadAttr written = IsTextOf o limit stream BadAttr written
 Says o limit stream Faulted written = IsFaultText o limit stream written
-Says o limit stream Stopped written = (whole : List ℕ) × IsText o limit stream whole × StartsWith whole written
+Says o limit stream Stopped written =
+    (whole : List ℕ) × IsText o limit stream whole × StartsWith whole written
 
 -- The writer, where it tells its bytes, has got what such a run writes.
 abbrev pub Writes : Order → ℕ → Stream → Outcome → (old new : Option (List ℕ)) → Type 0
-Writes o limit stream outcome old new = (written : List ℕ) × Appends old new written × Says o limit stream outcome written
+Writes o limit stream outcome old new =
+    (written : List ℕ) × Appends old new written × Says o limit stream outcome written

@@ -1,5 +1,8 @@
--- The text that the program writes: a line for each frame, and a last one that says how reading ended.
-use Rattle.std.specs.Prelude.{ℕ, ◌+◌, ◌-◌, ◌/◌, ◌%◌, Bool, true, false, List, [], ◌∷◌, ◌++◌, length, take, drop, nat_lt, nat_le, codes, decimal, Option, Some, None, Result, Ok, Err, if◌then◌else◌}
+-- The text that the program writes: a line for each frame, and a last one that says how reading
+-- ended.
+use Rattle.std.specs.Prelude.{ℕ, ◌+◌, ◌-◌, ◌/◌, ◌%◌, Bool, true, false, List, [], ◌∷◌, ◌++◌, length}
+use Rattle.std.specs.Prelude.{take, drop, nat_lt, nat_le, codes, decimal, Option, Some, None}
+use Rattle.std.specs.Prelude.{Result, Ok, Err, if◌then◌else◌}
 use Rattle.std.specs.List.{flat_map, enumerate_from}
 use Rattle.perf_base.specs.Order.{Order}
 use Rattle.perf_base.specs.Configuration.{Configuration, plain, configured_by}
@@ -7,7 +10,9 @@ use Rattle.perf_base.specs.Attribute.{attribute}
 use Rattle.perf_base.specs.Layout.{layout}
 use Rattle.perf_base.specs.declared.sys.perf_event_header.{perf_event_header}
 use Rattle.perf_base.specs.declared.error.ErrorKind.{ErrorKind}
-use Rattle.perf_base.specs.declared.error.ErrorKind.TheVariants.{Eof, InvalidRecord, UnsupportedConfig, UnsupportedData, External, OutOfMemory}
+use Rattle.perf_base.specs.declared.error.ErrorKind.TheVariants.{Eof, InvalidRecord}
+use Rattle.perf_base.specs.declared.error.ErrorKind.TheVariants.{UnsupportedConfig, UnsupportedData}
+use Rattle.perf_base.specs.declared.error.ErrorKind.TheVariants.{External, OutOfMemory}
 use Rattle.perf_types.specs.declared.exit.Exit.{Exit}
 use Rattle.perf_types.specs.declared.lost.Lost.{Lost}
 use Rattle.perf_types.specs.declared.lost_samples.LostSamples.{LostSamples}
@@ -28,7 +33,11 @@ use Rattle.perf_types.specs.KSymbol.{KSymbolValue}
 use Rattle.perf_types.specs.BpfEvent.{BpfEventValue}
 use Rattle.perf_types.specs.CGroup.{CGroupValue}
 use Rattle.perf_types.specs.TextPoke.{TextPokeValue}
-use Rattle.perf_records.specs.Records.{RecordValue, mmap_is, lost_is, comm_is, exit_is, throttle_is, unthrottle_is, fork_is, mmap2_is, aux_is, itrace_start_is, lost_samples_is, switch_is, switch_cpu_wide_is, namespaces_is, ksymbol_is, bpf_event_is, cgroup_is, text_poke_is, aux_output_hw_id_is, unknown_is}
+use Rattle.perf_records.specs.Records.{RecordValue, mmap_is, lost_is, comm_is, exit_is, throttle_is}
+use Rattle.perf_records.specs.Records.{unthrottle_is, fork_is, mmap2_is, aux_is, itrace_start_is}
+use Rattle.perf_records.specs.Records.{lost_samples_is, switch_is, switch_cpu_wide_is}
+use Rattle.perf_records.specs.Records.{namespaces_is, ksymbol_is, bpf_event_is, cgroup_is}
+use Rattle.perf_records.specs.Records.{text_poke_is, aux_output_hw_id_is, unknown_is}
 use Rattle.perf_records.specs.Frames.{StreamEnd, done, cut_header, stream_end}
 use Rattle.perf_records.specs.Answers.{answers}
 
@@ -93,7 +102,8 @@ exit_fields r =
 -- the fields of a THROTTLE or an UNTHROTTLE
 abbrev pub throttle_fields : Throttle → List (List ℕ)
 throttle_fields r =
-    number (codes "time") r.time ∷ number (codes "id") r.id ∷ number (codes "stream_id") r.stream_id ∷ []
+    number (codes "time") r.time ∷ number (codes "id") r.id
+    ∷ number (codes "stream_id") r.stream_id ∷ []
 
 -- which file an MMAP2 has: the numbers of its inode, or its build id
 abbrev pub detail_words : DetailValue → List (List ℕ)
@@ -107,7 +117,8 @@ mmap2_words r =
     codes "Mmap2" ∷ number (codes "pid") r.pid ∷ number (codes "tid") r.tid
     ∷ number (codes "addr") r.addr ∷ number (codes "len") r.len ∷ number (codes "pgoff") r.pgoff
     ∷ (detail_words r.detail
-    ++ (number (codes "prot") r.prot ∷ number (codes "flags") r.flags ∷ field (codes "filename") (hex r.filename) ∷ []))
+    ++ (number (codes "prot") r.prot ∷ number (codes "flags") r.flags
+    ∷ field (codes "filename") (hex r.filename) ∷ []))
 
 abbrev pub aux_words : AuxValue → List (List ℕ)
 aux_words r =
@@ -143,7 +154,8 @@ namespaces_words r =
 abbrev pub ksymbol_words : KSymbolValue → List (List ℕ)
 ksymbol_words r =
     codes "KSymbol" ∷ number (codes "addr") r.addr ∷ number (codes "len") r.len
-    ∷ number (codes "ksym_type") r.ksym_type ∷ number (codes "flags") r.flags ∷ field (codes "name") (hex r.name) ∷ []
+    ∷ number (codes "ksym_type") r.ksym_type ∷ number (codes "flags") r.flags
+    ∷ field (codes "name") (hex r.name) ∷ []
 
 abbrev pub bpf_event_words : BpfEventValue → List (List ℕ)
 bpf_event_words r =
@@ -208,7 +220,9 @@ answer_words (Err e) = codes "refused" ∷ kind_name e ∷ []
 -- the number of a frame, what its header says, and its answer
 abbrev pub line : ℕ → perf_event_header → Result RecordValue ErrorKind → List ℕ
 line index h answer =
-    decimal index ++ (spaced (decimal h.type_ ∷ decimal h.misc ∷ decimal h.size ∷ []) ++ spaced (answer_words answer))
+    decimal index
+    ++ (spaced (decimal h.type_ ∷ decimal h.misc ∷ decimal h.size ∷ [])
+    ++ spaced (answer_words answer))
 
 -- a line with the line feed that ends it
 abbrev pub ended : List ℕ → List ℕ
@@ -216,7 +230,9 @@ ended text = text ++ codes "\n"
 
 -- the lines of answers, numbered from a first number on
 abbrev pub lines_from : ℕ → List (perf_event_header × Result RecordValue ErrorKind) → List ℕ
-lines_from first pairs = flat_map (λ numbered. ended (line numbered.0 numbered.1.0 numbered.1.1)) (enumerate_from first pairs)
+lines_from first pairs =
+    flat_map (λ numbered. ended (line numbered.0 numbered.1.0 numbered.1.1))
+    (enumerate_from first pairs)
 
 -- the line that says how reading ended
 abbrev pub end_line : List ℕ → List ℕ
@@ -225,7 +241,8 @@ end_line how = ended (codes "end " ++ how)
 -- ---- the text
 
 -- the answers that are printed: the first ones, at most limit of them
-abbrev pub printed : Configuration → Order → ℕ → List ℕ → List (perf_event_header × Result RecordValue ErrorKind)
+abbrev pub printed : Configuration → Order → ℕ → List ℕ →
+    List (perf_event_header × Result RecordValue ErrorKind)
 printed c o limit bytes = take limit (answers c o bytes)
 
 -- whether the limit is what ends the text
@@ -240,7 +257,8 @@ end_name cut_header = codes "cut"
 abbrev pub text : Configuration → Order → ℕ → List ℕ → List ℕ
 text c o limit bytes =
     lines_from 0 (printed c o limit bytes)
-    ++ end_line (if is_at_limit c o limit bytes then codes "limit" else end_name (stream_end o bytes))
+    ++ end_line
+    (if is_at_limit c o limit bytes then codes "limit" else end_name (stream_end o bytes))
 
 -- ---- a stream that may begin with an attribute
 
@@ -249,10 +267,14 @@ pub data Stream : Type 0 where
   framed : Configuration → List ℕ → Stream
   without_frames : ErrorKind → Stream
 
--- A stream whose attribute comes first: where that is not refused, its configuration holds for the bytes behind it, which
--- begin where its size says. It is opened only where a proof asks for it.
+-- A stream whose attribute comes first: where that is not refused, its configuration holds for the
+-- bytes behind it, which begin where its size says. It is opened only where a proof asks for it.
 unfoldable pub behind_attribute : Order → List ℕ → Stream
-behind_attribute o bytes = elim (layout o attribute bytes) [ Ok a ↦ framed (configured_by a) (drop a.size bytes) | Err kind ↦ without_frames kind ]
+behind_attribute o bytes =
+    elim (layout o attribute bytes) [
+      | Ok a ↦ framed (configured_by a) (drop a.size bytes)
+      | Err kind ↦ without_frames kind
+    ]
 
 -- Without an attribute the plain configuration holds for all bytes.
 abbrev pub stream_of : (with_attr : Bool) → Order → List ℕ → Stream

@@ -1,6 +1,7 @@
 //! Fields of a line.
 
-ghost use Rattle.std.specs.Prelude.{◌≡◌, ◌*◌, ◌<◌, ◌≤◌, ◌++◌, length, take, decimal, string_bytes, OnOk};
+ghost use Rattle.std.specs.Prelude.{◌≡◌, ◌*◌, ◌<◌, ◌≤◌, ◌++◌, length, take, decimal, string_bytes};
+ghost use Rattle.std.specs.Prelude.{OnOk};
 ghost use Rattle.std.specs.List.{flat_map};
 ghost use Rattle.perfrec.specs.Text.{hex_digit, hex, present};
 
@@ -19,7 +20,8 @@ pub(crate) fn push_fields(
     fields: &[(&str, u64)],
 ) -> Result<(), AllocError>
     ensures { OnOk result (string_bytes text.new
-        ≡ string_bytes text.old ++ (name.now ++ flat_map (λ field. field.0.now ++ decimal field.1) fields.now)) }
+        ≡ string_bytes text.old
+        ++ (name.now ++ flat_map (λ field. field.0.now ++ decimal field.1) fields.now)) }
 {
     text.push_str(name)?;
     for (before, number) in fields {
@@ -30,7 +32,8 @@ pub(crate) fn push_fields(
 
 // Appends a number behind what stands in front of it.
 pub(crate) fn push_number(text: &mut String, before: &str, number: u64) -> Result<(), AllocError>
-    ensures { OnOk result (string_bytes text.new ≡ string_bytes text.old ++ (before.now ++ decimal number)) }
+    ensures { OnOk result (string_bytes text.new
+        ≡ string_bytes text.old ++ (before.now ++ decimal number)) }
 {
     let mut buffer = itoa::Buffer::new();
     text.push_str(before)?;
@@ -43,7 +46,8 @@ pub(crate) fn push_present(
     before: &str,
     number: Option<u64>,
 ) -> Result<(), AllocError>
-    ensures { OnOk result (string_bytes text.new ≡ string_bytes text.old ++ present (λ n. before.now ++ decimal n) number) }
+    ensures { OnOk result (string_bytes text.new
+        ≡ string_bytes text.old ++ present (λ n. before.now ++ decimal n) number) }
 {
     match number {
         Some(number) => push_number(text, before, number),
@@ -53,7 +57,8 @@ pub(crate) fn push_present(
 
 // Appends the digits of bytes behind what stands in front of them.
 pub(crate) fn push_hex(text: &mut String, before: &str, bytes: &[u8]) -> Result<(), AllocError>
-    ensures { OnOk result (string_bytes text.new ≡ string_bytes text.old ++ (before.now ++ hex bytes.now)) }
+    ensures { OnOk result (string_bytes text.new
+        ≡ string_bytes text.old ++ (before.now ++ hex bytes.now)) }
 {
     text.push_str(before)?;
     for piece in bytes.chunks(PIECE) {

@@ -1,10 +1,12 @@
 //! Lines of the text.
 
-ghost use Rattle.std.specs.Prelude.{◌≡◌, ◌+◌, ◌<◌, ◌^◌, ◌++◌, codes, length, string_bytes, OnOk, IfOk, IfErr};
+ghost use Rattle.std.specs.Prelude.{◌≡◌, ◌+◌, ◌<◌, ◌^◌, ◌++◌, codes, length, string_bytes, OnOk};
+ghost use Rattle.std.specs.Prelude.{IfOk, IfErr};
 ghost use Rattle.perf_base.specs.Errors.{kind_of};
 ghost use Rattle.perf_parser.specs.Runs.{said};
 ghost use Rattle.perf_parser.specs.Runs.{pairs_said};
-ghost use Rattle.perfrec.specs.Text.{spaced, kind_name, answer_words, line, ended, lines_from, end_line, attr_line};
+ghost use Rattle.perfrec.specs.Text.{spaced, kind_name, answer_words, line, ended, lines_from};
+ghost use Rattle.perfrec.specs.Text.{end_line, attr_line};
 
 use crate::fields::push_number;
 use crate::records::push_record;
@@ -13,7 +15,8 @@ use perf_event_data::parse::{ErrorKind, ParseResult};
 use perf_event_data::sys::perf_event_header;
 use std::alloc::{AllocError, Global};
 
-/// The line of one frame, without the line feed that ends it: its number, what its header says, and its answer.
+/// The line of one frame, without the line feed that ends it: its number, what its header says, and
+/// its answer.
 pub fn line_of(
     alloc: Global,
     index: usize,
@@ -35,7 +38,8 @@ pub fn push_lines(
     frames: &[(perf_event_header, ParseResult<Record>)],
 ) -> Result<(), AllocError>
     ensures { first + length frames.now < 2 ^ 64 → OnOk result
-        (string_bytes text.new ≡ string_bytes text.old ++ lines_from first (pairs_said frames.now)) }
+        (string_bytes text.new
+        ≡ string_bytes text.old ++ lines_from first (pairs_said frames.now)) }
 {
     let mut index = first;
     for (header, answer) in frames {
@@ -57,7 +61,8 @@ pub fn push_end(text: &mut String, how: &str) -> Result<(), AllocError>
 
 /// Appends the line of a run that a fault ended.
 pub fn push_fault(text: &mut String, kind: ErrorKind) -> Result<(), AllocError>
-    ensures { OnOk result (string_bytes text.new ≡ string_bytes text.old ++ end_line (codes "fault " ++ kind_name kind)) }
+    ensures { OnOk result (string_bytes text.new
+        ≡ string_bytes text.old ++ end_line (codes "fault " ++ kind_name kind)) }
 {
     push_kind(text, "end fault ", kind)
 }
@@ -71,7 +76,8 @@ pub fn push_attr_refused(text: &mut String, kind: ErrorKind) -> Result<(), Alloc
 
 // Appends a line that a kind ends.
 fn push_kind(text: &mut String, before: &str, kind: ErrorKind) -> Result<(), AllocError>
-    ensures { OnOk result (string_bytes text.new ≡ string_bytes text.old ++ ended (before.now ++ kind_name kind)) }
+    ensures { OnOk result (string_bytes text.new
+        ≡ string_bytes text.old ++ ended (before.now ++ kind_name kind)) }
 {
     text.push_str(before)?;
     text.push_str(kind_name(kind))?;
@@ -84,7 +90,8 @@ fn push_line(
     header: &perf_event_header,
     answer: &ParseResult<Record>,
 ) -> Result<(), AllocError>
-    ensures { OnOk result (string_bytes text.new ≡ string_bytes text.old ++ line index header.now (said answer.now)) }
+    ensures { OnOk result (string_bytes text.new
+        ≡ string_bytes text.old ++ line index header.now (said answer.now)) }
 {
     push_number(text, "", index as u64)?;
     push_number(text, " ", u64::from(header.type_))?;
@@ -94,7 +101,8 @@ fn push_line(
 }
 
 fn push_answer(text: &mut String, answer: &ParseResult<Record>) -> Result<(), AllocError>
-    ensures { OnOk result (string_bytes text.new ≡ string_bytes text.old ++ spaced (answer_words (said answer.now))) }
+    ensures { OnOk result (string_bytes text.new
+        ≡ string_bytes text.old ++ spaced (answer_words (said answer.now))) }
 {
     match answer {
         Ok(record) => push_record(text, record),

@@ -1,9 +1,10 @@
 //! Prints the records that Linux wrote for performance events, a line each.
 //!
-//! `perfrec little|big|native LIMIT [attr]` reads records from standard input, in the byte order that is named, and writes
-//! at most LIMIT lines to standard output, and a last one that says how reading ended. With `attr` the input begins with
-//! an attribute, which says how the records behind it are read. The exit status is 0 where every record could be read, 1
-//! where one was refused or the input ends inside a header, 2 where the attribute was refused and for other words, and 3
+//! `perfrec little|big|native LIMIT [attr]` reads records from standard input, in the byte order
+//! that is named, and writes at most LIMIT lines to standard output, and a last one that says how
+//! reading ended. With `attr` the input begins with an attribute, which says how the records behind
+//! it are read. The exit status is 0 where every record could be read, 1 where one was refused or
+//! the input ends inside a header, 2 where the attribute was refused and for other words, and 3
 //! where reading or writing failed or memory was refused.
 #![tactic(auto)]
 

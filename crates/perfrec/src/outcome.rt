@@ -14,7 +14,8 @@ pub enum Outcome {
     BadAttr,
     /// The reader failed or memory was refused, and the last line says so.
     Faulted,
-    /// Writing failed, or there was no memory for a line. What was written is a beginning of the text.
+    /// Writing failed, or there was no memory for a line. What was written is a beginning of the
+    /// text.
     Stopped,
 }
 

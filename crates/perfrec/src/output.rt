@@ -5,11 +5,13 @@ ghost use Rattle.std.specs.Io.KnownBytes.{Appends};
 
 use std::io::Write;
 
-/// Writes bytes, and says whether all of them were written and flushed. A write that fails or takes nothing is the last
-/// one.
+/// Writes bytes, and says whether all of them were written and flushed. A write that fails or takes
+/// nothing is the last one.
 pub fn write_whole<W: Write>(writer: &mut W, bytes: &[u8]) -> bool
-    ensures whole { IsTrue result → Appends (W.contents writer.old) (W.contents writer.new) bytes.now }
-    ensures part { (n : ℕ) × Appends (W.contents writer.old) (W.contents writer.new) (take n bytes.now) }
+    ensures whole { IsTrue result →
+        Appends (W.contents writer.old) (W.contents writer.new) bytes.now }
+    ensures part { (n : ℕ)
+        × Appends (W.contents writer.old) (W.contents writer.new) (take n bytes.now) }
 {
     let mut at = 0;
     while at < bytes.len() {

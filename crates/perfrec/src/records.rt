@@ -11,7 +11,13 @@ ghost use Rattle.perf_types.specs.BpfEvent.{bpf_event_value};
 ghost use Rattle.perf_types.specs.CGroup.{cgroup_value};
 ghost use Rattle.perf_types.specs.TextPoke.{text_poke_value};
 ghost use Rattle.perf_records.specs.Records.{record_value};
-ghost use Rattle.perfrec.specs.Text.{spaced, listed, namespace_item, mmap_words, lost_words, comm_words, exit_fields, throttle_fields, mmap2_words, detail_words, aux_words, itrace_start_words, lost_samples_words, out_of, switch_cpu_wide_words, namespaces_words, ksymbol_words, bpf_event_words, cgroup_words, text_poke_words, aux_output_hw_id_words, unknown_words, record_words};
+ghost use Rattle.perfrec.specs.Text.{spaced, listed, namespace_item, mmap_words, lost_words};
+ghost use Rattle.perfrec.specs.Text.{comm_words, exit_fields, throttle_fields, mmap2_words};
+ghost use Rattle.perfrec.specs.Text.{detail_words, aux_words, itrace_start_words};
+ghost use Rattle.perfrec.specs.Text.{lost_samples_words, out_of, switch_cpu_wide_words};
+ghost use Rattle.perfrec.specs.Text.{namespaces_words, ksymbol_words, bpf_event_words};
+ghost use Rattle.perfrec.specs.Text.{cgroup_words, text_poke_words, aux_output_hw_id_words};
+ghost use Rattle.perfrec.specs.Text.{unknown_words, record_words};
 
 use crate::fields::{push_fields, push_hex, push_number, push_present};
 use bitflags::Flags;
@@ -22,7 +28,8 @@ use perf_event_data::{
 use std::alloc::AllocError;
 
 pub(crate) fn push_record(text: &mut String, found: &Record) -> Result<(), AllocError>
-    ensures { OnOk result (string_bytes text.new ≡ string_bytes text.old ++ spaced (record_words (record_value found.now))) }
+    ensures { OnOk result (string_bytes text.new
+        ≡ string_bytes text.old ++ spaced (record_words (record_value found.now))) }
 {
     match found {
         Record::Mmap(mapped) => push_mmap(text, mapped),
@@ -49,7 +56,8 @@ pub(crate) fn push_record(text: &mut String, found: &Record) -> Result<(), Alloc
 }
 
 fn push_mmap(text: &mut String, mapped: &Mmap) -> Result<(), AllocError>
-    ensures { OnOk result (string_bytes text.new ≡ string_bytes text.old ++ spaced (mmap_words (mmap_value mapped.now))) }
+    ensures { OnOk result (string_bytes text.new
+        ≡ string_bytes text.old ++ spaced (mmap_words (mmap_value mapped.now))) }
 {
     let fields = [
         (" pid=", u64::from(mapped.pid)),
@@ -63,13 +71,15 @@ fn push_mmap(text: &mut String, mapped: &Mmap) -> Result<(), AllocError>
 }
 
 fn push_lost(text: &mut String, lost: &Lost) -> Result<(), AllocError>
-    ensures { OnOk result (string_bytes text.new ≡ string_bytes text.old ++ spaced (lost_words lost.now)) }
+    ensures { OnOk result (string_bytes text.new
+        ≡ string_bytes text.old ++ spaced (lost_words lost.now)) }
 {
     push_fields(text, " Lost", &[(" id=", lost.id), (" lost=", lost.lost)])
 }
 
 fn push_comm(text: &mut String, comm: &Comm) -> Result<(), AllocError>
-    ensures { OnOk result (string_bytes text.new ≡ string_bytes text.old ++ spaced (comm_words (comm_value comm.now))) }
+    ensures { OnOk result (string_bytes text.new
+        ≡ string_bytes text.old ++ spaced (comm_words (comm_value comm.now))) }
 {
     let fields = [
         (" pid=", u64::from(comm.pid)),
@@ -81,7 +91,8 @@ fn push_comm(text: &mut String, comm: &Comm) -> Result<(), AllocError>
 
 // The name has a space in front, as an exit and a fork have the same fields.
 fn push_exit(text: &mut String, name: &str, exit: &Exit) -> Result<(), AllocError>
-    ensures { OnOk result (string_bytes text.new ≡ string_bytes text.old ++ (name.now ++ spaced (exit_fields exit.now))) }
+    ensures { OnOk result (string_bytes text.new
+        ≡ string_bytes text.old ++ (name.now ++ spaced (exit_fields exit.now))) }
 {
     let fields = [
         (" pid=", u64::from(exit.pid)),
@@ -95,7 +106,8 @@ fn push_exit(text: &mut String, name: &str, exit: &Exit) -> Result<(), AllocErro
 
 // The name has a space in front, as both ends of a throttle have the same fields.
 fn push_throttle(text: &mut String, name: &str, throttle: &Throttle) -> Result<(), AllocError>
-    ensures { OnOk result (string_bytes text.new ≡ string_bytes text.old ++ (name.now ++ spaced (throttle_fields throttle.now))) }
+    ensures { OnOk result (string_bytes text.new
+        ≡ string_bytes text.old ++ (name.now ++ spaced (throttle_fields throttle.now))) }
 {
     let fields = [
         (" time=", throttle.time),
@@ -106,7 +118,8 @@ fn push_throttle(text: &mut String, name: &str, throttle: &Throttle) -> Result<(
 }
 
 fn push_mmap2(text: &mut String, mapped: &Mmap2) -> Result<(), AllocError>
-    ensures { OnOk result (string_bytes text.new ≡ string_bytes text.old ++ spaced (mmap2_words (mmap2_value mapped.now))) }
+    ensures { OnOk result (string_bytes text.new
+        ≡ string_bytes text.old ++ spaced (mmap2_words (mmap2_value mapped.now))) }
 {
     let fields = [
         (" pid=", u64::from(mapped.pid)),
@@ -127,7 +140,8 @@ fn push_mmap2(text: &mut String, mapped: &Mmap2) -> Result<(), AllocError>
 
 // Appends the numbers of the inode, or the build id.
 fn push_detail(text: &mut String, mapped: &Mmap2) -> Result<(), AllocError>
-    ensures { OnOk result (string_bytes text.new ≡ string_bytes text.old ++ spaced (detail_words (mmap2_value mapped.now).detail)) }
+    ensures { OnOk result (string_bytes text.new
+        ≡ string_bytes text.old ++ spaced (detail_words (mmap2_value mapped.now).detail)) }
 {
     push_present(text, " maj=", mapped.maj().map(u64::from))?;
     push_present(text, " min=", mapped.min().map(u64::from))?;
@@ -140,7 +154,8 @@ fn push_detail(text: &mut String, mapped: &Mmap2) -> Result<(), AllocError>
 }
 
 fn push_aux(text: &mut String, aux: &Aux) -> Result<(), AllocError>
-    ensures { OnOk result (string_bytes text.new ≡ string_bytes text.old ++ spaced (aux_words (aux_value aux.now))) }
+    ensures { OnOk result (string_bytes text.new
+        ≡ string_bytes text.old ++ spaced (aux_words (aux_value aux.now))) }
 {
     let fields = [
         (" aux_offset=", aux.aux_offset),
@@ -151,7 +166,8 @@ fn push_aux(text: &mut String, aux: &Aux) -> Result<(), AllocError>
 }
 
 fn push_itrace_start(text: &mut String, start: &ITraceStart) -> Result<(), AllocError>
-    ensures { OnOk result (string_bytes text.new ≡ string_bytes text.old ++ spaced (itrace_start_words start.now)) }
+    ensures { OnOk result (string_bytes text.new
+        ≡ string_bytes text.old ++ spaced (itrace_start_words start.now)) }
 {
     let fields = [
         (" pid=", u64::from(start.pid)),
@@ -161,13 +177,15 @@ fn push_itrace_start(text: &mut String, start: &ITraceStart) -> Result<(), Alloc
 }
 
 fn push_lost_samples(text: &mut String, lost: &LostSamples) -> Result<(), AllocError>
-    ensures { OnOk result (string_bytes text.new ≡ string_bytes text.old ++ spaced (lost_samples_words lost.now)) }
+    ensures { OnOk result (string_bytes text.new
+        ≡ string_bytes text.old ++ spaced (lost_samples_words lost.now)) }
 {
     push_fields(text, " LostSamples", &[(" lost=", lost.lost)])
 }
 
 fn push_switch_cpu_wide(text: &mut String, switch: &SwitchCpuWide) -> Result<(), AllocError>
-    ensures { OnOk result (string_bytes text.new ≡ string_bytes text.old ++ spaced (switch_cpu_wide_words switch.now)) }
+    ensures { OnOk result (string_bytes text.new
+        ≡ string_bytes text.old ++ spaced (switch_cpu_wide_words switch.now)) }
 {
     let fields = [
         (" pid=", u64::from(switch.pid())),
@@ -187,7 +205,8 @@ fn out_of(switch: &SwitchCpuWide) -> u64
 }
 
 fn push_namespaces(text: &mut String, found: &Namespaces) -> Result<(), AllocError>
-    ensures { OnOk result (string_bytes text.new ≡ string_bytes text.old ++ spaced (namespaces_words (namespaces_value found.now))) }
+    ensures { OnOk result (string_bytes text.new
+        ≡ string_bytes text.old ++ spaced (namespaces_words (namespaces_value found.now))) }
 {
     let fields = [
         (" pid=", u64::from(found.pid)),
@@ -203,7 +222,8 @@ fn push_entries(
     before: &str,
     entries: &[NamespaceEntry],
 ) -> Result<(), AllocError>
-    ensures { OnOk result (string_bytes text.new ≡ string_bytes text.old ++ (before.now ++ listed namespace_item entries.now)) }
+    ensures { OnOk result (string_bytes text.new
+        ≡ string_bytes text.old ++ (before.now ++ listed namespace_item entries.now)) }
 {
     text.push_str(before)?;
     let Some((first, rest)) = entries.split_first() else {
@@ -218,14 +238,16 @@ fn push_entries(
 
 // Appends one entry behind what stands in front of it.
 fn push_entry(text: &mut String, before: &str, entry: &NamespaceEntry) -> Result<(), AllocError>
-    ensures { OnOk result (string_bytes text.new ≡ string_bytes text.old ++ (before.now ++ namespace_item entry.now)) }
+    ensures { OnOk result (string_bytes text.new
+        ≡ string_bytes text.old ++ (before.now ++ namespace_item entry.now)) }
 {
     push_number(text, before, entry.dev)?;
     push_number(text, ":", entry.inode)
 }
 
 fn push_ksymbol(text: &mut String, symbol: &KSymbol) -> Result<(), AllocError>
-    ensures { OnOk result (string_bytes text.new ≡ string_bytes text.old ++ spaced (ksymbol_words (ksymbol_value symbol.now))) }
+    ensures { OnOk result (string_bytes text.new
+        ≡ string_bytes text.old ++ spaced (ksymbol_words (ksymbol_value symbol.now))) }
 {
     let fields = [
         (" addr=", symbol.addr),
@@ -238,7 +260,8 @@ fn push_ksymbol(text: &mut String, symbol: &KSymbol) -> Result<(), AllocError>
 }
 
 fn push_bpf_event(text: &mut String, event: &BpfEvent) -> Result<(), AllocError>
-    ensures { OnOk result (string_bytes text.new ≡ string_bytes text.old ++ spaced (bpf_event_words (bpf_event_value event.now))) }
+    ensures { OnOk result (string_bytes text.new
+        ≡ string_bytes text.old ++ spaced (bpf_event_words (bpf_event_value event.now))) }
 {
     let fields = [
         (" ty=", u64::from(event.ty.get())),
@@ -250,14 +273,16 @@ fn push_bpf_event(text: &mut String, event: &BpfEvent) -> Result<(), AllocError>
 }
 
 fn push_cgroup(text: &mut String, group: &CGroup) -> Result<(), AllocError>
-    ensures { OnOk result (string_bytes text.new ≡ string_bytes text.old ++ spaced (cgroup_words (cgroup_value group.now))) }
+    ensures { OnOk result (string_bytes text.new
+        ≡ string_bytes text.old ++ spaced (cgroup_words (cgroup_value group.now))) }
 {
     push_fields(text, " CGroup", &[(" id=", group.id)])?;
     push_hex(text, " path=", group.path.as_slice())
 }
 
 fn push_text_poke(text: &mut String, poke: &TextPoke) -> Result<(), AllocError>
-    ensures { OnOk result (string_bytes text.new ≡ string_bytes text.old ++ spaced (text_poke_words (text_poke_value poke.now))) }
+    ensures { OnOk result (string_bytes text.new
+        ≡ string_bytes text.old ++ spaced (text_poke_words (text_poke_value poke.now))) }
 {
     push_fields(text, " TextPoke", &[(" addr=", poke.addr)])?;
     push_hex(text, " old_bytes=", poke.old_bytes.as_slice())?;
@@ -265,13 +290,15 @@ fn push_text_poke(text: &mut String, poke: &TextPoke) -> Result<(), AllocError>
 }
 
 fn push_aux_output_hw_id(text: &mut String, output: &AuxOutputHwId) -> Result<(), AllocError>
-    ensures { OnOk result (string_bytes text.new ≡ string_bytes text.old ++ spaced (aux_output_hw_id_words output.now)) }
+    ensures { OnOk result (string_bytes text.new
+        ≡ string_bytes text.old ++ spaced (aux_output_hw_id_words output.now)) }
 {
     push_fields(text, " AuxOutputHwId", &[(" hw_id=", output.hw_id)])
 }
 
 fn push_unknown(text: &mut String, bytes: &[u8]) -> Result<(), AllocError>
-    ensures { OnOk result (string_bytes text.new ≡ string_bytes text.old ++ spaced (unknown_words bytes.now)) }
+    ensures { OnOk result (string_bytes text.new
+        ≡ string_bytes text.old ++ spaced (unknown_words bytes.now)) }
 {
     push_hex(text, " Unknown data=", bytes)
 }

@@ -11,7 +11,8 @@ use std::alloc::{AllocError, Global};
 use std::process::Abort;
 use std::test::Fail;
 
-// A case as it stands in the list: its name, the program's words, the stream, and the text and the status of the run.
+// A case as it stands in the list: its name, the program's words, the stream, and the text and the
+// status of the run.
 #[derive(Drop)]
 struct Case<'a> {
     name: &'a str,
@@ -21,7 +22,8 @@ struct Case<'a> {
     status: &'a str,
 }
 
-// Takes apart a block of the list, whose lines begin with what they are; those of the stream are digits alone.
+// Takes apart a block of the list, whose lines begin with what they are; those of the stream are
+// digits alone.
 fn case_of(alloc: Global, block: &str) -> Result<Case<'_>, AllocError> {
     let mut case = Case {
         name: "",

@@ -1,12 +1,14 @@
 //! The engine: what a reader gives in, its text out.
 
-ghost use Rattle.std.specs.Prelude.{◌≡◌, ◌<◌, ◌++◌, List, ℕ, IsTrue, IfOk, IfErr, IfSome, is_err, codes, string_bytes, if◌then◌else◌};
+ghost use Rattle.std.specs.Prelude.{◌≡◌, ◌<◌, ◌++◌, List, ℕ, IsTrue, IfOk, IfErr, IfSome, is_err};
+ghost use Rattle.std.specs.Prelude.{codes, string_bytes, if◌then◌else◌};
 ghost use Rattle.std.specs.List.{list_any};
 ghost use Rattle.perf_base.specs.Configured.{configuration_of, endian_of};
 ghost use Rattle.perf_base.specs.Errors.{kind_of};
 ghost use Rattle.perf_parser.specs.Meaning.{buffer_of, config_of};
 ghost use Rattle.perf_reader.specs.Reading.{of_layout};
-ghost use Rattle.perfrec.specs.Text.{framed, without_frames, stream_of, behind_attribute, attr_line, end_line, kind_name};
+ghost use Rattle.perfrec.specs.Text.{framed, without_frames, stream_of, behind_attribute};
+ghost use Rattle.perfrec.specs.Text.{attr_line, end_line, kind_name};
 ghost use Rattle.perfrec.specs.Outcomes.{Says, Writes};
 
 use crate::line::{push_attr_refused, push_end, push_fault, push_lines};
@@ -22,11 +24,12 @@ use std::io::{BufReader, Read, Write};
 // How many answers are held at a time.
 const BATCH: usize = 256;
 
-/// Reads records in pieces of at most `piece` bytes, at most `limit` of them, and writes a line for each and a last one
-/// that says how reading ended. Nothing is written before all is read, and only the text is held meanwhile.
+/// Reads records in pieces of at most `piece` bytes, at most `limit` of them, and writes a line for
+/// each and a last one that says how reading ended. Nothing is written before all is read, and only
+/// the text is held meanwhile.
 ///
-/// With `with_attr` an attribute comes first. Its configuration holds for the records behind it; where it is refused, the
-/// only line says so, and the outcome is `BadAttr`.
+/// With `with_attr` an attribute comes first. Its configuration holds for the records behind it;
+/// where it is refused, the only line says so, and the outcome is `BadAttr`.
 pub fn run<R: Read + Drop, W: Write, E: Endian>(
     alloc: Global,
     reader: R,
@@ -40,7 +43,8 @@ pub fn run<R: Read + Drop, W: Write, E: Endian>(
 
     // Where the reader tells its bytes, what is written is their text, as far as the outcome says.
     ensures { IfSome (R.remaining reader) (λ bytes.
-        Writes (E.order order) limit (stream_of with_attr (E.order order) bytes) result (W.contents writer.old) (W.contents writer.new)) }
+        Writes (E.order order) limit (stream_of with_attr (E.order order) bytes) result
+        (W.contents writer.old) (W.contents writer.new)) }
 {
     let Ok((text, outcome)) = text_of(alloc, reader, order, limit, with_attr, piece) else {
         return Outcome::Stopped;
@@ -63,7 +67,8 @@ fn text_of<R: Read + Drop, E: Endian>(
 ) -> Result<(String, Outcome), AllocError>
     requires { 0 < piece }
     ensures { IfSome (R.remaining reader) (λ bytes. IfOk result (λ made.
-        Says (E.order order) limit (stream_of with_attr (E.order order) bytes) made.1 (string_bytes made.0))) }
+        Says (E.order order) limit (stream_of with_attr (E.order order) bytes) made.1
+        (string_bytes made.0))) }
 {
     let mut text = String::new(alloc);
     let Ok(buffer) = BufReader::with_capacity(alloc, piece, reader) else {
@@ -89,7 +94,8 @@ fn push_run_with_attr<'p, B: ParseBuf<'p> + Drop, E: Endian>(
     ensures { IsTrue (B.source (buffer_of parser)).told → IfOk result (λ outcome. (written : List ℕ)
         × (string_bytes text.new ≡ string_bytes text.old ++ written)
         × Says (E.order (endian_of (config_of parser))) limit
-        (behind_attribute (E.order (endian_of (config_of parser))) (B.source (buffer_of parser)).left) outcome written) }
+        (behind_attribute (E.order (endian_of (config_of parser)))
+        (B.source (buffer_of parser)).left) outcome written) }
 {
     match parse_attr(parser) {
         Ok(mut behind) => push_run(text, &mut behind, limit),
@@ -97,17 +103,22 @@ fn push_run_with_attr<'p, B: ParseBuf<'p> + Drop, E: Endian>(
     }
 }
 
-// Reads the attribute: the parser of what comes behind it, under its configuration and the same order.
+// Reads the attribute: the parser of what comes behind it, under its configuration and the same
+// order.
 fn parse_attr<'p, B: ParseBuf<'p> + Drop, E: Endian>(
     mut parser: Parser<B, E>,
 ) -> ParseResult<Parser<B, E>>
-    ensures told { IsTrue (B.source (buffer_of parser)).told → IfOk result (λ behind. IsTrue (B.source (buffer_of behind)).told) }
-    ensures order { IfOk result (λ behind. E.order (endian_of (config_of behind)) ≡ E.order (endian_of (config_of parser))) }
+    ensures told { IsTrue (B.source (buffer_of parser)).told → IfOk result (λ behind.
+        IsTrue (B.source (buffer_of behind)).told) }
+    ensures order { IfOk result (λ behind.
+        E.order (endian_of (config_of behind)) ≡ E.order (endian_of (config_of parser))) }
     ensures read { IsTrue (B.source (buffer_of parser)).told → IfOk result (λ behind.
         behind_attribute (E.order (endian_of (config_of parser))) (B.source (buffer_of parser)).left
         ≡ framed (configuration_of (config_of behind)) (B.source (buffer_of behind)).left) }
-    ensures refused { IsTrue (B.source (buffer_of parser)).told → IfErr result (λ e. IsTrue (of_layout (kind_of e))
-        → behind_attribute (E.order (endian_of (config_of parser))) (B.source (buffer_of parser)).left ≡ without_frames (kind_of e)) }
+    ensures refused { IsTrue (B.source (buffer_of parser)).told → IfErr result (λ e.
+        IsTrue (of_layout (kind_of e)) →
+        behind_attribute (E.order (endian_of (config_of parser))) (B.source (buffer_of parser)).left
+        ≡ without_frames (kind_of e)) }
 {
     let attr = match parser.parse::<perf_event_attr>() {
         Ok(attr) => attr,
@@ -124,9 +135,12 @@ fn parse_attr<'p, B: ParseBuf<'p> + Drop, E: Endian>(
 // Appends the only line of a run whose attribute could not be read.
 fn push_refusal(text: &mut String, kind: ErrorKind) -> Result<Outcome, AllocError>
     ensures refused { IsTrue (of_layout kind) → IfOk result (λ outcome.
-        (string_bytes text.new ≡ string_bytes text.old ++ attr_line kind) × (outcome ≡ Outcome.BadAttr)) }
+        (string_bytes text.new ≡ string_bytes text.old ++ attr_line kind)
+        × (outcome ≡ Outcome.BadAttr)) }
     ensures fault { (IsTrue (of_layout kind) → ⊥) → IfOk result (λ outcome.
-        (string_bytes text.new ≡ string_bytes text.old ++ end_line (codes "fault " ++ kind_name kind)) × (outcome ≡ Outcome.Faulted)) }
+        (string_bytes text.new
+        ≡ string_bytes text.old ++ end_line (codes "fault " ++ kind_name kind))
+        × (outcome ≡ Outcome.Faulted)) }
 {
     match kind {
         ErrorKind::External | ErrorKind::OutOfMemory => {
@@ -149,10 +163,12 @@ fn push_run<'p, B: ParseBuf<'p>, E: Endian>(
     parser: &mut Parser<B, E>,
     limit: usize,
 ) -> Result<Outcome, AllocError>
-    ensures { IsTrue (B.source (buffer_of parser.old)).told → IfOk result (λ outcome. (written : List ℕ)
+    ensures { IsTrue (B.source (buffer_of parser.old)).told → IfOk result (λ outcome.
+        (written : List ℕ)
         × (string_bytes text.new ≡ string_bytes text.old ++ written)
         × Says (E.order (endian_of (config_of parser.old))) limit
-        (framed (configuration_of (config_of parser.old)) (B.source (buffer_of parser.old)).left) outcome written) }
+        (framed (configuration_of (config_of parser.old)) (B.source (buffer_of parser.old)).left)
+        outcome written) }
 {
     let mut count = 0;
     let mut refused = false;

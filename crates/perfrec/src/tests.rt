@@ -19,7 +19,8 @@ use std::process::Abort;
 // Five lost samples, the lowest byte first.
 const FIVE_LOST: [u8; 16] = [13, 0, 0, 0, 0, 0, 16, 0, 5, 0, 0, 0, 0, 0, 0, 0];
 
-// The text and the outcome of an input that is read in pieces, with an attribute in front or without.
+// The text and the outcome of an input that is read in pieces, with an attribute in front or
+// without.
 fn check_pieces<E: Endian>(
     rt: &(impl AllocGlobal + Abort),
     order: E,
@@ -319,7 +320,8 @@ fn a_fault_inside_the_attribute_is_no_refusal(rt: HostRuntime) -> Result<(), All
     Ok(())
 }
 
-// Keeps what it is given, a few bytes at a time, up to a number of calls; then it fails or takes nothing.
+// Keeps what it is given, a few bytes at a time, up to a number of calls; then it fails or takes
+// nothing.
 #[derive(Drop)]
 struct Full {
     kept: Vec<u8>,

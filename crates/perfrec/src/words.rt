@@ -7,8 +7,8 @@ ghost use Rattle.perfrec.specs.Words.{order_named, limit_named, asked, command_o
 
 use crate::command::{Command, OrderName};
 
-/// What the words behind the program's name ask for: an order's name, a limit in digits alone, and then `attr`, where the
-/// input begins with an attribute. Other words ask for nothing.
+/// What the words behind the program's name ask for: an order's name, a limit in digits alone, and
+/// then `attr`, where the input begins with an attribute. Other words ask for nothing.
 pub fn command(words: &[String]) -> Option<Command>
     ensures { result ≡ command_of (map string_bytes words.now) }
 {
