@@ -313,7 +313,8 @@ fn says_too_few(hint: Option<usize>, len: usize) -> bool
     }
 }
 
-// The next `len` bytes, copied from as many chunks as it takes, with the error of a fault kept aside.
+// The next `len` bytes, copied from as many chunks as it takes, with the error of a fault kept
+// aside.
 #[cold]
 #[inline(never)]
 fn cut_slowly<'p, B: ParseBuf<'p>>(

@@ -83,8 +83,8 @@ impl<'p, B: ParseBuf<'p>, E: Endian> Parser<B, E> {
     /// `len` values of a type, one behind another. The first that is refused is the answer.
     ///
     /// No claimed count makes room: beforehand there is room for at most one item for each byte
-    /// that is left, or for 16,384 where the buffer does not say how many are. No value at all takes
-    /// no memory.
+    /// that is left, or for 16,384 where the buffer does not say how many are. No value at all
+    /// takes no memory.
     pub fn parse_repeated<P: Parse<'p, B> + Drop>(&mut self, len: usize) -> ParseResult<Vec<P>>
         ensures nothing { len ≡ 0 → IsOk result }
         ensures call { CallOnly B.source E.order self.old (error_kinds result) self.new }
