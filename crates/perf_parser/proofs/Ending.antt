@@ -188,15 +188,6 @@ run_on start new n e layout p = record {
   place = p.place;
 }
 
--- no memory was found for an answer
-pub run_without_memory : (start new : Meaning) (n : ℕ) → KeepsRun start n None new → KeepsRun start (n + 1) (Some OutOfMemory) new
-run_without_memory start new n p = record {
-  buffer = p.buffer;
-  fault = λ x. cc;
-  cost = λ t. let m = p.cost t in (m.0, omega (arith, m.1));
-  place = p.place;
-}
-
 -- a header that stopped it
 pub run_stops : (start old new : Meaning) (n : ℕ) (s : Stop) → KeepsRun start n None old → Keeps old (Some (stop_kind s)) new → KeepsRun start (n + 1) (stopped_by {A = perf_event_header} (Err s)) new
 run_stops start old new n stop.Done p q = run_on start new (n + 1) Eof refl (run_more start old new n (Some Eof) p q)

@@ -19,7 +19,8 @@ use Rattle.perf_buffers.specs.Taking.{MovesWithin}
 use Rattle.perf_buffers.proofs.Taking.{moves_more}
 use Rattle.perf_reader.specs.Meaning.{Meaning}
 use Rattle.perf_reader.specs.Reading.{of_layout, is_external}
-use Rattle.perf_records.proofs.Keeping.{within_all, within_taken}
+use Rattle.perf_reader.proofs.Paying.{within_taken}
+use Rattle.perf_records.proofs.Keeping.{within_all}
 use Rattle.perf_records.specs.Frames.{frame_length}
 use Rattle.perf_records.specs.Answers.{FrameParts, body_length, split_behind, split_reads, id_reads, record_in, record_reads, answer_behind, reads_behind, of_frame, answer_of_frame, Tells, frame_reads}
 

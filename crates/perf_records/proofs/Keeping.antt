@@ -6,7 +6,6 @@ use Rattle.perf_base.specs.declared.error.ErrorKind.{ErrorKind}
 use Rattle.perf_base.specs.declared.error.ErrorKind.TheVariants.{Eof, InvalidRecord, UnsupportedConfig, UnsupportedData, External, OutOfMemory}
 use Rattle.perf_buffers.specs.Buffer.{Source, Stays}
 use Rattle.perf_buffers.specs.Taking.{consumed, Moves, MovesWithin, Takes, FailsToKeep}
-use Rattle.perf_buffers.proofs.Taking.{takes_moves}
 use Rattle.perf_reader.specs.Meaning.{Meaning}
 use Rattle.perf_reader.specs.Reading.{Keeps, is_external, of_layout, one_if_refused}
 use Rattle.perf_reader.proofs.Paying.{last_moved}
@@ -33,7 +32,7 @@ stays_refused a b OutOfMemory x p = p
 pub no_fault : (e : Option ErrorKind) (P : Type 0) → is_external e ≡ false → is_external e ≡ true → P
 no_fault e P p q = absurd (cc)
 
--- ---- nothing, all and n bytes taken are a beginning
+-- ---- nothing and all taken are a beginning
 pub within_none : (old new : Source) (n : ℕ) → new.left ≡ old.left → MovesWithin old n new
 within_none old new n e =
     let same : length new.left ≡ length old.left = ap length e in
@@ -44,11 +43,6 @@ pub within_all : (old new : Source) (n : ℕ) → length old.left ≤ n → new.
 within_all old new n short e =
     let nothing : length new.left ≡ 0 = ap length e in
     (omega arith, (omega arith, e ∙ sym (drop_all (consumed old new) old.left (omega arith))))
-
-pub within_taken : (old new : Source) (n : ℕ) → Takes old n new → MovesWithin old n new
-within_taken old new n p =
-    let left : length new.left ≡ length old.left - n = ap length p.1 ∙ length-drop n old.left in
-    (omega arith, takes_moves old new n p)
 
 -- bytes that were to be kept
 pub within_kept : (old new : Source) (n : ℕ) (e : ErrorKind) → FailsToKeep old n e new → MovesWithin old n new
