@@ -1,6 +1,6 @@
 -- Layouts of bodies, computed: a wrong order, width or padding of a field is refused here.
 use Rattle.std.proofs.Common.{◌≡◌, ℕ, true, false, List, [], ◌∷◌, ◌++◌, Some, None, Ok, Err, refl}
-use Rattle.perf_base.specs.Configuration.{Configuration, plain}
+use Rattle.perf_base.specs.Configuration.{Configuration, plain, kept_read_format}
 use Rattle.perf_base.specs.Order.{little, big}
 use Rattle.perf_base.specs.Layout.{layout}
 use Rattle.perf_base.specs.Reads.{layout_reads, layout_consumed}
@@ -289,6 +289,13 @@ consumed_of_what_is_not_known = refl
 read_of_seven_bytes : layout little (read (reading 0x21)) (four 1 0 ++ 2 ∷ 0 ∷ 0 ∷ []) ≡ Err Eof
 read_of_seven_bytes = refl
 
+-- bit 6 of an attribute's read format
+read_of_bit_six : layout little (read (reading (kept_read_format 0x41))) (four 1 0 ++ four 2 0 ++ eight 3 0) ≡ Err UnsupportedConfig
+read_of_bit_six = refl
+
+seven_bytes_of_bit_six : layout little (read (reading (kept_read_format 0x41))) (four 1 0 ++ 2 ∷ 0 ∷ 0 ∷ []) ≡ Err Eof
+seven_bytes_of_bit_six = refl
+
 single_value : layout little (read_value (reading 0)) (eight 3 0) ≡ Ok (record { value = 3; time_enabled = None; time_running = None; id = None; lost = None })
 single_value = refl
 
@@ -355,6 +362,16 @@ group_of_too_many = refl
 
 group_of_many : layout little (read_group (reading 0x0C)) bit_62 ≡ Err Eof
 group_of_many = refl
+
+-- a list that is refused is not read, and one that lacks numbers is read to its end
+reads_of_too_many : layout_reads little (read_group (reading 0x0C)) (bit_63 ++ eight 1 0) ≡ 1
+reads_of_too_many = refl
+
+reads_of_many : layout_reads little (read_group (reading 0x0C)) (bit_62 ++ eight 1 0 ++ eight 2 0) ≡ 4
+reads_of_many = refl
+
+consumed_of_many : layout_consumed little (read_group (reading 0x0C)) (bit_62 ++ eight 1 0 ++ eight 2 0) ≡ 24
+consumed_of_many = refl
 
 -- where each entry has one number, no count is too many
 group_of_many_values : layout little (read_group (reading 8)) bit_63 ≡ Err Eof
