@@ -1,8 +1,7 @@
 //! How records are to be read.
 
 ghost use Rattle.std.specs.Prelude.{◌≡◌, ◌<◌, ◌^◌, IfOk, IfErr, IsTrue};
-ghost use Rattle.perf_base.specs.Configuration.{plain, unpacked, kept_read_format, configured_by};
-ghost use Rattle.perf_base.specs.Configuration.{under_misc, under_sample_type, under_read_format};
+ghost use Rattle.perf_base.specs.Configuration as config;
 ghost use Rattle.perf_base.specs.Configured.{configuration_of, endian_of};
 ghost use Rattle.perf_base.specs.Errors.{kind_of};
 ghost use Rattle.perf_words.specs.SetBits.{read_format_bits, sample_flags_bits};
@@ -37,7 +36,7 @@ pub struct ParseConfig<E> {
 // What is kept of a read format: six bits, of which the last says too whether there were others.
 #[inline]
 fn kept_read_format(read_format: u64) -> u64
-    ensures value { result ≡ kept_read_format read_format }
+    ensures value { result ≡ config.kept_read_format read_format }
     ensures small { result < 2 ^ 6 }
 {
     if read_format < 1 << 6 {
@@ -116,7 +115,7 @@ impl<E> ParseConfig<E> {
     /// The same configuration with another `misc`.
     #[inline]
     pub fn with_misc(self, misc: u16) -> ParseConfig<E>
-        ensures changed { configuration_of result ≡ under_misc misc (configuration_of self) }
+        ensures changed { configuration_of result ≡ config.under_misc misc (configuration_of self) }
         ensures endian { endian_of result ≡ endian_of self }
     {
         ParseConfig {
@@ -130,7 +129,8 @@ impl<E> ParseConfig<E> {
     /// Puts another `misc` in the place of this.
     #[inline]
     pub fn set_misc(&mut self, misc: u16)
-        ensures changed { configuration_of self.new ≡ under_misc misc (configuration_of self.old) }
+        ensures changed { configuration_of self.new ≡
+            config.under_misc misc (configuration_of self.old) }
         ensures endian { endian_of self.new ≡ endian_of self.old }
     {
         self.word = self.word % (1 << MISC_AT) + (u64::from(misc) << MISC_AT);
@@ -139,7 +139,7 @@ impl<E> ParseConfig<E> {
     /// The same configuration with another sample type, of which the lowest 40 bits are kept.
     pub fn with_sample_type(self, sample_type: SampleFlags) -> ParseConfig<E>
         ensures changed { configuration_of result ≡
-            under_sample_type (sample_flags_bits sample_type) (configuration_of self) }
+            config.under_sample_type (sample_flags_bits sample_type) (configuration_of self) }
         ensures endian { endian_of result ≡ endian_of self }
     {
         let below = self.word % (1 << SAMPLE_TYPE_AT);
@@ -157,7 +157,7 @@ impl<E> ParseConfig<E> {
     /// 5 is also set where there are others above them.
     pub fn with_read_format(self, read_format: ReadFormat) -> ParseConfig<E>
         ensures changed { configuration_of result ≡
-            under_read_format (read_format_bits read_format) (configuration_of self) }
+            config.under_read_format (read_format_bits read_format) (configuration_of self) }
         ensures endian { endian_of result ≡ endian_of self }
     {
         let above = self.word >> SAMPLE_TYPE_AT;
@@ -220,7 +220,7 @@ impl<E: Endian> ParseConfig<E> {
 
 /// No flags, no registers, and the default order.
 impl<E: Default> Default for ParseConfig<E> {
-    ghost is_default = { λ c. (configuration_of c ≡ plain) × E.is_default (endian_of c) };
+    ghost is_default = { λ c. (configuration_of c ≡ config.plain) × E.is_default (endian_of c) };
 
     fn default() -> ParseConfig<E> {
         ParseConfig {
@@ -234,8 +234,8 @@ impl<E: Default> Default for ParseConfig<E> {
 
 // The flags of an attribute, packed. There is no frame yet, so that misc is 0.
 fn packed(attr: &perf_event_attr) -> u64
-    ensures { unpacked result attr.now.sample_regs_user attr.now.sample_regs_intr ≡
-        configured_by attr.now }
+    ensures { config.unpacked result attr.now.sample_regs_user attr.now.sample_regs_intr ≡
+        config.configured_by attr.now }
 {
     let sample_id_all = (attr.flags >> 18) % 2;
     let branch_hw_index = (attr.branch_sample_type >> 17) % 2;
@@ -248,7 +248,7 @@ fn packed(attr: &perf_event_attr) -> u64
 
 /// What an attribute says, and the default order. No frame is read yet, so that `misc` is 0.
 impl<E: Default> From<perf_event_attr> for ParseConfig<E> {
-    ghost from_gives = { λ attr c. (configuration_of c ≡ configured_by attr)
+    ghost from_gives = { λ attr c. (configuration_of c ≡ config.configured_by attr)
         × E.is_default (endian_of c) };
 
     fn from(attr: perf_event_attr) -> ParseConfig<E> {

@@ -1,6 +1,6 @@
 //! Why something could not be parsed.
 
-ghost use Rattle.std.specs.Prelude.{◌≡◌, ◌≤◌, Some, None, option_map, codes, length};
+ghost use Rattle.std.specs.Prelude.{◌≡◌, ◌≤◌, if◌then◌else◌, Some, None, option_map, codes, length};
 ghost use Rattle.std.specs.Fmt.Cut.{cut_to};
 ghost use Rattle.perf_base.specs.Errors.{kind_text, kind_of, message_of, cause_of, error_text};
 ghost use Rattle.perf_base.specs.Errors.{IsMadeOf, is_unexpected_eof};
@@ -173,8 +173,6 @@ impl<T: Drop> From<AllocFailed<T>> for ParseError {
 /// An input that ended too early is [`ErrorKind::Eof`], and any other error
 /// [`ErrorKind::External`].
 impl From<io::Error> for ParseError {
-    ghost use Rattle.std.specs.Prelude.{if◌then◌else◌};
-
     ghost from_gives = { λ x e.
         IsMadeOf e (if is_unexpected_eof x then Eof else External) None None };
 

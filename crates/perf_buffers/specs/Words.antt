@@ -9,8 +9,9 @@ pub use Rattle.perf_base.specs.Zeros.{all_zero}
 pub use Rattle.perf_base.specs.declared.error.ErrorKind.TheVariants.{Eof, OutOfMemory}
 pub use Rattle.perf_buffers.specs.Buffer.{Source, Stays, Shows, ShowsReady, Refuses, KeepsChunk}
 pub use Rattle.perf_buffers.specs.Buffer.{Advances, chunk_bytes, known, is_known, RefusesReader}
-pub use Rattle.perf_buffers.specs.Buffer.{NeedsNoMemory, refusal}
+pub use Rattle.perf_buffers.specs.Buffer.{NeedsNoMemory, refusal, lasts}
 pub use Rattle.perf_buffers.specs.Cursor.{cursor_left, cursor_lent, IsAtStart, held_left, is_lent}
+pub use Rattle.perf_buffers.specs.Cursor.{is_at_start}
 pub use Rattle.perf_buffers.specs.Room.{falls_short, is_made_beforehand, makes_all_room, room_made}
 pub use Rattle.perf_buffers.specs.Taking.{Takes, FailsToTake, FailsToKeep, FailsInRest, CanFail}
-pub use Rattle.perf_buffers.specs.Taking.{FailsBehind}
+pub use Rattle.perf_buffers.specs.Taking.{FailsBehind, TakesAtOnce}

@@ -1,24 +1,18 @@
 //! The bytes of one frame.
 
-ghost use Rattle.std.specs.Prelude.{IfSome, ◌≡◌, ◌≢◌, ◌<◌, ◌≤◌, true, false, None, Some, length};
-ghost use Rattle.std.specs.Prelude.{take, IsTrue, IsOk, OnOk, IfOk, IfErr, MatchOption, IfNone};
-ghost use Rattle.std.specs.Prelude.{◌-◌, ◌↔◌, drop, []};
-ghost use Rattle.perf_buffers.specs.Words.{kind_of, NeedsNoMemory, Stays, refusal, Takes};
-ghost use Rattle.perf_buffers.specs.Words.{FailsToTake, FailsToKeep, CanFail, falls_short};
-ghost use Rattle.perf_buffers.specs.Words.{is_made_beforehand, makes_all_room, room_made};
-ghost use Rattle.perf_base.specs.Refusals.{TakesNoMemory, kinds, refused, refusal_kind};
-ghost use Rattle.perf_buffers.specs.Cursor.{held_left, is_at_start, is_lent};
+ghost use Rattle.std.specs.Prelude.{◌≡◌, ◌-◌, ◌≤◌, ◌↔◌, true, false, None, Some, [], length};
+ghost use Rattle.std.specs.Prelude.{take, drop, IsTrue, IsOk, IfOk, IfErr, MatchOption};
+ghost use Rattle.perf_buffers.specs.Words.{cow_items, is_borrowed, kind_of, refusal, Stays};
+ghost use Rattle.perf_buffers.specs.Words.{CanFail, Takes, FailsToKeep, NeedsNoMemory};
+ghost use Rattle.perf_buffers.specs.Words as words;
 
-use crate::fill::append;
+use crate::cut::cut;
 use crate::frame_input::behind;
 use crate::parsebuf::{ParseBuf, ParseBufChunk};
 use perf_base::cow::CowSlice;
 use perf_base::error::{ErrorKind, ParseError, ParseResult};
-use perf_base::refusal::{Kept, ReadResult, Refusal};
+use perf_base::refusal::Kept;
 use std::alloc::Global;
-
-// Room that is made for bytes of which the buffer does not say whether it has them.
-const UNHINTED_ROOM: usize = 16384;
 
 #[derive(Debug, Drop)]
 pub(crate) enum Held<'p> {
@@ -34,16 +28,12 @@ pub struct ParseBufCursor<'p> {
 }
 
 impl<'p> ParseBufCursor<'p> {
-    ghost use Rattle.perf_base.specs.Cow.{cow_items, is_borrowed};
-    ghost use Rattle.perf_buffers.specs.Cursor.{cursor_left, cursor_lent, held_left, is_at_start};
-    ghost use Rattle.perf_buffers.specs.Cursor.{is_lent, IsAtStart};
-
     // Bytes that are lent.
     #[inline]
     pub(crate) fn lent(bytes: &'p [u8]) -> ParseBufCursor<'p>
-        ensures left { cursor_left result ≡ bytes.now }
-        ensures form { cursor_lent result ≡ true }
-        ensures start { IsAtStart result }
+        ensures left { words.cursor_left result ≡ bytes.now }
+        ensures form { words.cursor_lent result ≡ true }
+        ensures start { words.IsAtStart result }
     {
         ParseBufCursor {
             held: Held::Lent(bytes),
@@ -52,7 +42,7 @@ impl<'p> ParseBufCursor<'p> {
 
     #[inline]
     fn rest(&self) -> &[u8]
-        ensures { result.now ≡ held_left self.now.held }
+        ensures { result.now ≡ words.held_left self.now.held }
     {
         match &self.held {
             Held::Lent(bytes) => bytes,
@@ -63,7 +53,7 @@ impl<'p> ParseBufCursor<'p> {
     /// How many bytes are left.
     #[inline]
     pub fn len(&self) -> usize
-        ensures { result ≡ length (held_left self.now.held) }
+        ensures { result ≡ length (words.held_left self.now.held) }
     {
         self.rest().len()
     }
@@ -71,7 +61,7 @@ impl<'p> ParseBufCursor<'p> {
     /// Whether no bytes are left.
     #[inline]
     pub fn is_empty(&self) -> bool
-        ensures { IsTrue result ↔ (held_left self.now.held ≡ []) }
+        ensures { IsTrue result ↔ (words.held_left self.now.held ≡ []) }
     {
         self.rest().is_empty()
     }
@@ -79,9 +69,9 @@ impl<'p> ParseBufCursor<'p> {
     /// The last `count` bytes of what is left.
     #[inline]
     pub fn last(&self, count: usize) -> &[u8]
-        requires { count ≤ length (held_left self.now.held) }
+        requires { count ≤ length (words.held_left self.now.held) }
         ensures { result.now ≡
-            drop (length (held_left self.now.held) - count) (held_left self.now.held) }
+            drop (length (words.held_left self.now.held) - count) (words.held_left self.now.held) }
     {
         let bytes = self.rest();
         &bytes[bytes.len() - count..]
@@ -90,10 +80,10 @@ impl<'p> ParseBufCursor<'p> {
     /// Drops the last `count` bytes of what is left.
     #[inline]
     pub fn drop_last(&mut self, count: usize)
-        requires { count ≤ length (held_left self.old.held) }
-        ensures left { held_left self.new.held ≡
-            take (length (held_left self.old.held) - count) (held_left self.old.held) }
-        ensures form { is_lent self.new.held ≡ is_lent self.old.held }
+        requires { count ≤ length (words.held_left self.old.held) }
+        ensures left { words.held_left self.new.held ≡
+            take (length (words.held_left self.old.held) - count) (words.held_left self.old.held) }
+        ensures form { words.is_lent self.new.held ≡ words.is_lent self.old.held }
     {
         match &mut self.held {
             Held::Lent(bytes) => *bytes = &bytes[..bytes.len() - count],
@@ -104,9 +94,9 @@ impl<'p> ParseBufCursor<'p> {
     /// The bytes, of which none was taken yet.
     #[inline]
     pub fn into_bytes(self) -> CowSlice<'p, u8>
-        requires { is_at_start self.held }
-        ensures items { cow_items result ≡ held_left self.entry.held }
-        ensures form { is_borrowed result ≡ is_lent self.entry.held }
+        requires { words.is_at_start self.held }
+        ensures items { cow_items result ≡ words.held_left self.entry.held }
+        ensures form { is_borrowed result ≡ words.is_lent self.entry.held }
     {
         match self.held {
             Held::Lent(bytes) => CowSlice::Borrowed(bytes),
@@ -117,8 +107,8 @@ impl<'p> ParseBufCursor<'p> {
     /// What is left, where the bytes are borrowed.
     #[inline]
     pub fn as_slice(&self) -> Option<&'p [u8]>
-        ensures { MatchOption result (cursor_lent self.now ≡ false)
-            (λ s. IsTrue (cursor_lent self.now) × (s.now ≡ cursor_left self.now)) }
+        ensures { MatchOption result (words.cursor_lent self.now ≡ false)
+            (λ s. IsTrue (words.cursor_lent self.now) × (s.now ≡ words.cursor_left self.now)) }
     {
         match &self.held {
             Held::Lent(bytes) => Some(*bytes),
@@ -128,19 +118,17 @@ impl<'p> ParseBufCursor<'p> {
 }
 
 impl<'p> ParseBuf<'p> for ParseBufCursor<'p> {
-    ghost use Rattle.perf_buffers.specs.Cursor.{held_left, is_lent};
-
     ghost source = { λ c. record {
-      left = held_left c.held;
+      left = words.held_left c.held;
       told = true;
-      whole = is_lent c.held;
+      whole = words.is_lent c.held;
       can_fault = false;
       faults = None;
     } };
 
-    ghost ready = { λ c. held_left c.held };
+    ghost ready = { λ c. words.held_left c.held };
 
-    ghost hint = { λ c. Some (length (held_left c.held)) };
+    ghost hint = { λ c. Some (length (words.held_left c.held)) };
 
     #[inline]
     fn chunk(&mut self) -> ParseResult<ParseBufChunk<'_, 'p>> {
@@ -167,232 +155,7 @@ impl<'p> ParseBuf<'p> for ParseBufCursor<'p> {
     }
 }
 
-// The next `len` bytes, where the first chunk has them all: lent where it lasts, and else copied.
-#[inline]
-fn cut_at_once<'p, B: ParseBuf<'p>>(
-    alloc: Global,
-    buf: &mut B,
-    kept: &mut Kept,
-    len: usize,
-) -> ReadResult<Option<Held<'p>>>
-    requires { 0 < len }
-    ensures stays { Stays (B.source buf.old) (refused (kinds result)) (B.source buf.new) }
-    ensures can_fail { CanFail (B.source buf.old) (refused (kinds result)) }
-    ensures whole { IsTrue (B.source buf.old).whole → IfOk result (λ o. MatchOption o
-        (IsTrue (B.source buf.old).told × (length (B.source buf.old).left < len))
-        (λ held. IsTrue (is_lent held))) }
-    ensures whole_memory { IsTrue (B.source buf.old).whole → TakesNoMemory (kinds result) }
-    ensures beforehand { IsTrue (B.source buf.old).told → IfErr result (λ e.
-        refusal_kind e ≡ ErrorKind.OutOfMemory →
-        (B.source buf.new).left ≡ (B.source buf.old).left) }
-    ensures count { IfOk result (λ o. IfSome o (λ held. length (held_left held) ≡ len)) }
-    ensures start { IfOk result (λ o. IfSome o (λ held. is_at_start held)) }
-    ensures ok { IsTrue (B.source buf.old).told → IfOk result (λ o. MatchOption o
-        ((B.source buf.new).left ≡ (B.source buf.old).left)
-        (λ held. Takes (B.source buf.old) len (B.source buf.new)
-        × (held_left held ≡ take len (B.source buf.old).left))) }
-    ensures err { IsTrue (B.source buf.old).told → IfErr result (λ e.
-        FailsToKeep (B.source buf.old) len (refusal_kind e) (B.source buf.new)) }
-{
-    let chunk = match buf.chunk() {
-        Ok(chunk) => chunk,
-        Err(error) => return Err(kept.keep(error)),
-    };
-    if chunk.as_bytes().len() < len {
-        return Ok(None);
-    }
-    let held = match chunk {
-        ParseBufChunk::External(bytes) => Held::Lent(&bytes[..len]),
-        ParseBufChunk::Temporary(bytes) => match Vec::from_slice(alloc, &bytes[..len]) {
-            Ok(bytes) => Held::Own(bytes, 0),
-            Err(_) => return Err(Refusal::OutOfMemory),
-        },
-    };
-    buf.advance(len);
-    Ok(Some(held))
-}
-
-// Takes what one chunk has, at most `len` bytes, and keeps none of it.
-fn skip_some<'p, B: ParseBuf<'p>>(buf: &mut B, len: usize) -> ParseResult<usize>
-    requires { 0 < len }
-    ensures stays { Stays (B.source buf.old) (refusal result) (B.source buf.new) }
-    ensures can_fail { CanFail (B.source buf.old) (refusal result) }
-    ensures memory { NeedsNoMemory result }
-    ensures count { IfOk result (λ n. (0 < n) × (n ≤ len)) }
-    ensures ok { IsTrue (B.source buf.old).told →
-        IfOk result (λ n. Takes (B.source buf.old) n (B.source buf.new)) }
-    ensures err { IsTrue (B.source buf.old).told →
-        IfErr result (λ e. FailsToTake (B.source buf.old) len (kind_of e) (B.source buf.new)) }
-{
-    let chunk = buf.chunk()?;
-    let count = chunk.as_bytes().len().min(len);
-    buf.advance(count);
-    Ok(count)
-}
-
-/// Takes `len` bytes and keeps none of them.
-pub fn skip<'p, B: ParseBuf<'p>>(buf: &mut B, len: usize) -> ParseResult<()>
-    ensures stays { Stays (B.source buf.old) (refusal result) (B.source buf.new) }
-    ensures can_fail { CanFail (B.source buf.old) (refusal result) }
-    ensures memory { NeedsNoMemory result }
-    ensures ok { IsTrue (B.source buf.old).told →
-        OnOk result (Takes (B.source buf.old) len (B.source buf.new)) }
-    ensures err { IsTrue (B.source buf.old).told →
-        IfErr result (λ e. FailsToTake (B.source buf.old) len (kind_of e) (B.source buf.new)) }
-{
-    let mut at = 0;
-    while at < len {
-        at += skip_some(buf, len - at)?;
-    }
-    Ok(())
-}
-
-// The refusal where fewer than `len` bytes are left, all of which are taken.
-#[cold]
-#[inline(never)]
-fn shortage<'p, B: ParseBuf<'p>>(buf: &mut B, kept: &mut Kept, len: usize) -> Refusal
-    requires { IsTrue (B.source buf.old).told → length (B.source buf.old).left < len }
-    ensures stays { Stays (B.source buf.old) (Some (refusal_kind result)) (B.source buf.new) }
-    ensures can_fail { CanFail (B.source buf.old) (Some (refusal_kind result)) }
-    ensures no_memory { refusal_kind result ≢ ErrorKind.OutOfMemory }
-    ensures err { IsTrue (B.source buf.old).told →
-        FailsToKeep (B.source buf.old) len (refusal_kind result) (B.source buf.new) }
-{
-    match skip(buf, len) {
-        Ok(()) => Refusal::Eof,
-        Err(error) => kept.keep(error),
-    }
-}
-
-// How much room is made before the first byte is taken.
-#[inline]
-fn first_room(hinted: bool, len: usize) -> usize
-    ensures { result ≡ room_made hinted len }
-{
-    if hinted { len } else { len.min(UNHINTED_ROOM) }
-}
-
-// The next `len` bytes, copied.
-fn copy<'p, B: ParseBuf<'p>>(
-    alloc: Global,
-    buf: &mut B,
-    len: usize,
-    hinted: bool,
-) -> ParseResult<Vec<u8>>
-    ensures stays { Stays (B.source buf.old) (refusal result) (B.source buf.new) }
-    ensures can_fail { CanFail (B.source buf.old) (refusal result) }
-    ensures beforehand { IsTrue (B.source buf.old).told → makes_all_room hinted len ≡ true →
-        IfErr result (λ e. kind_of e ≡ ErrorKind.OutOfMemory →
-        (B.source buf.new).left ≡ (B.source buf.old).left) }
-    ensures count { IfOk result (λ v. length v.items ≡ len) }
-    ensures ok { IsTrue (B.source buf.old).told →
-        IfOk result (λ v. Takes (B.source buf.old) len (B.source buf.new)
-        × (v.items ≡ take len (B.source buf.old).left)) }
-    ensures err { IsTrue (B.source buf.old).told →
-        IfErr result (λ e. FailsToKeep (B.source buf.old) len (kind_of e) (B.source buf.new)) }
-{
-    let room = first_room(hinted, len);
-    let mut bytes = match Vec::with_capacity(alloc, room) {
-        Ok(bytes) => bytes,
-        Err(_) => return Err(ParseError::out_of_memory()),
-    };
-    match append(buf, &mut bytes, len) {
-        Ok(()) => Ok(bytes),
-        Err(error) => Err(error),
-    }
-}
-
-// Whether the buffer says that it has fewer than `len` bytes.
-#[inline]
-fn says_too_few(hint: Option<usize>, len: usize) -> bool
-    ensures { result ≡ falls_short hint len }
-{
-    match hint {
-        Some(left) => left < len,
-        None => false,
-    }
-}
-
-// The next `len` bytes, copied from as many chunks as it takes, with the error of a fault kept
-// aside.
-#[cold]
-#[inline(never)]
-fn cut_slowly<'p, B: ParseBuf<'p>>(
-    alloc: Global,
-    buf: &mut B,
-    kept: &mut Kept,
-    len: usize,
-    hinted: bool,
-) -> ReadResult<ParseBufCursor<'p>>
-    ensures stays { Stays (B.source buf.old) (refused (kinds result)) (B.source buf.new) }
-    ensures can_fail { CanFail (B.source buf.old) (refused (kinds result)) }
-    ensures beforehand { IsTrue (B.source buf.old).told → makes_all_room hinted len ≡ true →
-        IfErr result (λ e. refusal_kind e ≡ ErrorKind.OutOfMemory →
-        (B.source buf.new).left ≡ (B.source buf.old).left) }
-    ensures count { IfOk result (λ c. length (held_left c.held) ≡ len) }
-    ensures start { IfOk result (λ c. is_at_start c.held) }
-    ensures ok { IsTrue (B.source buf.old).told → IfOk result (λ c.
-        Takes (B.source buf.old) len (B.source buf.new)
-        × (held_left c.held ≡ take len (B.source buf.old).left)) }
-    ensures err { IsTrue (B.source buf.old).told → IfErr result (λ e.
-        FailsToKeep (B.source buf.old) len (refusal_kind e) (B.source buf.new)) }
-{
-    match copy(alloc, buf, len, hinted) {
-        Ok(bytes) => Ok(ParseBufCursor {
-            held: Held::Own(bytes, 0),
-        }),
-        Err(error) => Err(kept.keep(error)),
-    }
-}
-
-// Cuts the next `len` bytes off a buffer, with the error of a fault kept aside.
-#[inline]
-pub(crate) fn cut<'p, B: ParseBuf<'p>>(
-    alloc: Global,
-    buf: &mut B,
-    kept: &mut Kept,
-    len: usize,
-) -> ReadResult<ParseBufCursor<'p>>
-    ensures stays { Stays (B.source buf.old) (refused (kinds result)) (B.source buf.new) }
-    ensures can_fail { CanFail (B.source buf.old) (refused (kinds result)) }
-    ensures whole { IsTrue (B.source buf.old).whole →
-        IfOk result (λ c. IsTrue (is_lent c.held)) }
-    ensures whole_memory { IsTrue (B.source buf.old).whole → TakesNoMemory (kinds result) }
-    ensures nothing { len ≡ 0 → IfOk result (λ c. IsTrue (is_lent c.held)) × IsOk result
-        × (B.source buf.new ≡ B.source buf.old) }
-    ensures short { falls_short (B.hint buf.old) len ≡ true →
-        TakesNoMemory (kinds result) × IfOk result (λ c. ⊥) }
-    ensures beforehand { IsTrue (B.source buf.old).told →
-        is_made_beforehand (B.hint buf.old) len ≡ true →
-        IfErr result (λ e. refusal_kind e ≡ ErrorKind.OutOfMemory →
-        (B.source buf.new).left ≡ (B.source buf.old).left) }
-    ensures ok { IsTrue (B.source buf.old).told → IfOk result (λ c.
-        Takes (B.source buf.old) len (B.source buf.new)
-        × (held_left c.held ≡ take len (B.source buf.old).left)) }
-    ensures start { IfOk result (λ c. is_at_start c.held) }
-    ensures count { IfOk result (λ c. length (held_left c.held) ≡ len) }
-    ensures err { IsTrue (B.source buf.old).told → IfErr result (λ e.
-        FailsToKeep (B.source buf.old) len (refusal_kind e) (B.source buf.new)) }
-{
-    if len == 0 {
-        return Ok(ParseBufCursor {
-            held: Held::Lent(&[]),
-        });
-    }
-    let hint = buf.remaining_hint();
-    if says_too_few(hint, len) {
-        return Err(shortage(buf, kept, len));
-    }
-    match cut_at_once(alloc, buf, kept, len) {
-        Ok(Some(held)) => Ok(ParseBufCursor { held }),
-        Ok(None) => cut_slowly(alloc, buf, kept, len, hint.is_some()),
-        Err(refusal) => Err(refusal),
-    }
-}
-
 impl<'p> ParseBufCursor<'p> {
-    ghost use Rattle.perf_buffers.specs.Cursor.{cursor_left, cursor_lent, IsAtStart};
-
     /// Cuts the next `len` bytes off a buffer.
     ///
     /// They are borrowed where one chunk has them all and lasts. Otherwise they are copied: where
@@ -410,25 +173,25 @@ impl<'p> ParseBufCursor<'p> {
 
         // A whole buffer lends its bytes, and nothing is always there: neither takes memory.
         ensures whole { IsTrue (B.source buf.old).whole →
-            IfOk result (λ c. IsTrue (cursor_lent c)) }
+            IfOk result (λ c. IsTrue (words.cursor_lent c)) }
         ensures whole_memory { IsTrue (B.source buf.old).whole → NeedsNoMemory result }
-        ensures nothing { len ≡ 0 → IfOk result (λ c. IsTrue (cursor_lent c)) × IsOk result
+        ensures nothing { len ≡ 0 → IfOk result (λ c. IsTrue (words.cursor_lent c)) × IsOk result
             × (B.source buf.new ≡ B.source buf.old) }
 
         // No room is made where the buffer says that it has too few, and else all room first, where
         // that is little.
-        ensures short { falls_short (B.hint buf.old) len ≡ true →
+        ensures short { words.falls_short (B.hint buf.old) len ≡ true →
             NeedsNoMemory result × IfOk result (λ c. ⊥) }
         ensures beforehand { IsTrue (B.source buf.old).told →
-            is_made_beforehand (B.hint buf.old) len ≡ true →
+            words.is_made_beforehand (B.hint buf.old) len ≡ true →
             IfErr result (λ e. kind_of e ≡ ErrorKind.OutOfMemory →
             (B.source buf.new).left ≡ (B.source buf.old).left) }
 
         ensures ok { IsTrue (B.source buf.old).told →
             IfOk result (λ c. Takes (B.source buf.old) len (B.source buf.new)
-            × (cursor_left c ≡ take len (B.source buf.old).left)) }
-        ensures start { IfOk result (λ c. IsAtStart c) }
-        ensures count { IfOk result (λ c. length (cursor_left c) ≡ len) }
+            × (words.cursor_left c ≡ take len (B.source buf.old).left)) }
+        ensures start { IfOk result (λ c. words.IsAtStart c) }
+        ensures count { IfOk result (λ c. length (words.cursor_left c) ≡ len) }
         ensures err { IsTrue (B.source buf.old).told →
             IfErr result (λ e. FailsToKeep (B.source buf.old) len (kind_of e) (B.source buf.new)) }
     {

@@ -6,12 +6,9 @@
 
 ghost use Rattle.std.specs.Prelude.{◌≡◌, ℕ, ◌<◌, ◌≤◌, [], length, take, drop, true, false, Some};
 ghost use Rattle.std.specs.Prelude.{None, Option, IsTrue, IsOk, OnOk, IfOk, IfErr, IfSome};
-ghost use Rattle.perf_base.specs.declared.error.ErrorKind.{ErrorKind as Kind};
-ghost use Rattle.perf_buffers.specs.Words.{cow_items, is_borrowed, refusal_kind, kinds, refused};
-ghost use Rattle.perf_buffers.specs.Words.{TakesNoMemory, all_zero, Eof, OutOfMemory, Source};
-ghost use Rattle.perf_buffers.specs.Words.{Stays, cursor_left, cursor_lent, IsAtStart, falls_short};
-ghost use Rattle.perf_buffers.specs.Words.{is_made_beforehand, Takes, FailsToTake, FailsToKeep};
-ghost use Rattle.perf_buffers.specs.Words.{FailsInRest, CanFail};
+ghost use Rattle.perf_buffers.specs.Words.{refusal_kind, kinds, refused, Eof, OutOfMemory, Stays};
+ghost use Rattle.perf_buffers.specs.Words.{CanFail, Takes, FailsToTake, FailsToKeep, TakesNoMemory};
+ghost use Rattle.perf_buffers.specs.Words as words;
 
 use crate::cursor::ParseBufCursor;
 use crate::zeros::is_zero;
@@ -21,7 +18,7 @@ use std::alloc::Global;
 
 /// Bytes that are taken as they are wanted.
 pub trait Input<'p> {
-    ghost source: { Self → Source };
+    ghost source: { Self → words.Source };
 
     // how many bytes are left, where it knows it
     ghost hint: { Self → Option ℕ };
@@ -57,7 +54,7 @@ pub trait Input<'p> {
         ensures memory { TakesNoMemory (kinds result) }
         ensures ok { IsTrue (source self.old).told → IfOk result (λ zero.
             Takes (source self.old) len (source self.new)
-            × (zero ≡ all_zero (take len (source self.old).left))) }
+            × (zero ≡ words.all_zero (take len (source self.old).left))) }
         ensures err { IsTrue (source self.old).told → IfErr result (λ e.
             FailsToTake (source self.old) len (refusal_kind e) (source self.new)) };
 
@@ -66,14 +63,14 @@ pub trait Input<'p> {
         ensures stays { Stays (source self.old) (refused (kinds result)) (source self.new) }
         ensures can_fail { CanFail (source self.old) (refused (kinds result)) }
         ensures whole { IsTrue (source self.old).whole →
-            IfOk result (λ c. IsTrue (is_borrowed c)) }
+            IfOk result (λ c. IsTrue (words.is_borrowed c)) }
         ensures whole_memory { IsTrue (source self.old).whole → TakesNoMemory (kinds result) }
         ensures nothing { IsTrue (source self.old).told → (source self.old).left ≡ [] →
-            TakesNoMemory (kinds result) × IfOk result (λ c. IsTrue (is_borrowed c)) }
+            TakesNoMemory (kinds result) × IfOk result (λ c. IsTrue (words.is_borrowed c)) }
         ensures ok { IsTrue (source self.old).told → IfOk result (λ c.
-            (cow_items c ≡ (source self.old).left) × ((source self.new).left ≡ [])) }
+            (words.cow_items c ≡ (source self.old).left) × ((source self.new).left ≡ [])) }
         ensures err { IsTrue (source self.old).told → IfErr result (λ e.
-            FailsInRest (source self.old) (refusal_kind e) (source self.new)) };
+            words.FailsInRest (source self.old) (refusal_kind e) (source self.new)) };
 
     /// Cuts off the next `len` bytes. They are borrowed where one chunk has them all and lasts, and
     /// else copied, into room that is made by the rules of [`ParseBufCursor::new`].
@@ -81,20 +78,20 @@ pub trait Input<'p> {
         ensures stays { Stays (source self.old) (refused (kinds result)) (source self.new) }
         ensures can_fail { CanFail (source self.old) (refused (kinds result)) }
         ensures whole { IsTrue (source self.old).whole →
-            IfOk result (λ c. IsTrue (cursor_lent c)) }
+            IfOk result (λ c. IsTrue (words.cursor_lent c)) }
         ensures whole_memory { IsTrue (source self.old).whole → TakesNoMemory (kinds result) }
-        ensures nothing { len ≡ 0 → IfOk result (λ c. IsTrue (cursor_lent c)) × IsOk result
+        ensures nothing { len ≡ 0 → IfOk result (λ c. IsTrue (words.cursor_lent c)) × IsOk result
             × (source self.new ≡ source self.old) }
-        ensures short { falls_short (hint self.old) len ≡ true →
+        ensures short { words.falls_short (hint self.old) len ≡ true →
             TakesNoMemory (kinds result) × IfOk result (λ c. ⊥) }
         ensures beforehand { IsTrue (source self.old).told →
-            is_made_beforehand (hint self.old) len ≡ true → IfErr result (λ e.
+            words.is_made_beforehand (hint self.old) len ≡ true → IfErr result (λ e.
             refusal_kind e ≡ OutOfMemory → (source self.new).left ≡ (source self.old).left) }
         ensures ok { IsTrue (source self.old).told → IfOk result (λ c.
             Takes (source self.old) len (source self.new)
-            × (cursor_left c ≡ take len (source self.old).left)) }
-        ensures start { IfOk result (λ c. IsAtStart c) }
-        ensures count { IfOk result (λ c. length (cursor_left c) ≡ len) }
+            × (words.cursor_left c ≡ take len (source self.old).left)) }
+        ensures start { IfOk result (λ c. words.IsAtStart c) }
+        ensures count { IfOk result (λ c. length (words.cursor_left c) ≡ len) }
         ensures err { IsTrue (source self.old).told → IfErr result (λ e.
             FailsToKeep (source self.old) len (refusal_kind e) (source self.new)) };
 

@@ -2,6 +2,7 @@
 #![tactic(auto)]
 
 pub mod cursor;
+pub mod cut;
 pub mod fill;
 mod frame_input;
 pub mod input;

@@ -4,7 +4,8 @@ ghost use Rattle.std.specs.Prelude.{◌≡◌};
 ghost use Rattle.perf_base.specs.Errors.{kind_of};
 ghost use Rattle.perf_base.specs.Refusals.{IsAnswerOf, refusal_kind};
 
-use crate::cursor::{ParseBufCursor, cut, skip};
+use crate::cursor::ParseBufCursor;
+use crate::cut::{cut, skip};
 use crate::fill::fill;
 use crate::input::Input;
 use crate::parsebuf::ParseBuf;

@@ -1,6 +1,6 @@
 //! A slice in pieces.
 
-ghost use Rattle.std.specs.Prelude.{◌≡◌, ◌<◌, true, false, None, Some, length, take};
+ghost use Rattle.std.specs.Prelude.{◌≡◌, ◌<◌, Some, [], length, take, IfOk, IfErr};
 
 use crate::parsebuf::{ParseBuf, ParseBufChunk};
 use perf_base::error::{ParseError, ParseResult};
@@ -49,11 +49,8 @@ impl<'p> PieceBuf<'p> {
 }
 
 impl<'p> ParseBuf<'p> for PieceBuf<'p> {
-    ghost use Rattle.std.specs.Prelude.{IfOk, IfErr, []};
-    ghost use Rattle.std.specs.Borrow.{sem};
-    ghost use Rattle.std.specs.Io.BufRead.{Rests};
-    ghost use Rattle.perf_base.specs.Errors.{kind_of};
-    ghost use Rattle.perf_buffers.specs.Buffer.{Shows, ShowsReady, Refuses, KeepsChunk, lasts};
+    ghost use Rattle.perf_buffers.specs.Words.{sem, Rests, kind_of, Shows, ShowsReady, Refuses};
+    ghost use Rattle.perf_buffers.specs.Words.{KeepsChunk, lasts};
     ghost use Rattle.perf_buffers.specs.Pieces.{piece_lasting, piece_source, piece_ready};
     ghost use Rattle.perf_buffers.specs.contracts.pieces.PieceBuf.{the_row};
     ghost use mir.Syntax.{named};

@@ -1,10 +1,7 @@
 //! What frames add to the checksum.
 
 ghost use Rattle.std.specs.Prelude.{◌≡◌, sum};
-ghost use Rattle.perf_types.specs.Comm.{comm_value};
-ghost use Rattle.perf_types.specs.Mmap.{mmap_value};
-ghost use Rattle.perf_types.specs.Mmap2.{mmap2_value};
-ghost use Rattle.perf_records.specs.Records.{record_value};
+ghost use Rattle.perf_records.specs.Records.{record_value, comm_value, mmap_value, mmap2_value};
 ghost use Rattle.perf_parser.specs.Runs.{said};
 ghost use Rattle.perf_count.specs.Counting.{wrapped, mmap_sum, mmap2_sum, comm_sum, task_sum};
 ghost use Rattle.perf_count.specs.Counting.{lost_sum, record_sum, frame_sum};

@@ -1,5 +1,5 @@
 -- Several values parsed in order.
-use Rattle.std.specs.Prelude.{Option, Some, None, Result, Ok, Err, ◌≡◌, ◌⊎◌, IsTrue, MatchOption}
+use Rattle.std.specs.Prelude.{Option, Some, None, Result, Ok, Err, ◌≡◌, ◌⊎◌, IsTrue}
 use Rattle.std.specs.Prelude.{ℕ, ◌<◌, ◌≤◌, List, [], ◌∷◌, length}
 use Rattle.perf_base.specs.Refusals.{refused}
 use Rattle.perf_base.specs.declared.error.ErrorKind.{ErrorKind}
@@ -36,9 +36,3 @@ abbrev pub AsOption : {T R : Type 0} → (Result T R → Type 0) → Result (Opt
 AsOption P (Ok (Some x)) = P (Ok x)
 AsOption P (Ok None) = ⊥
 AsOption P (Err e) = P (Err e)
-
--- Room that is made before the first item of a list is read: for no more items than are claimed,
--- and for at most one for each byte that is left, or 16,384 where the buffer does not say how many
--- are.
-abbrev pub IsRoom : (hint : Option ℕ) (claimed room : ℕ) → Type 0
-IsRoom hint claimed room = (room ≤ claimed) × MatchOption hint (room ≤ 16384) (λ left. room ≤ left)

@@ -16,6 +16,7 @@ use Rattle.perf_buffers.specs.Buffer.{Stays}
 use Rattle.perf_reader.specs.Meaning.{Meaning}
 use Rattle.perf_reader.specs.Reading.{Says, of_layout, last_of, is_external}
 use Rattle.perf_records.specs.Answers.{answer_of_frame, reads_behind}
+pub use Rattle.perf_records.specs.Answers.{SaysBehind, answers, body_length}
 use Rattle.perf_records.specs.Frames.{frame_length, first_frames, frames, behind_frames}
 use Rattle.perf_records.specs.Frames.{stream_end, done, cut_header}
 use Rattle.perf_records.specs.Records.{RecordValue, record_value, IsBorrowed}

@@ -1,12 +1,10 @@
 //! Frames: a header, and the bytes that belong to it.
 
-ghost use Rattle.std.specs.Prelude.{◌≡◌, ◌-◌, ◌<◌, false, true, drop, Err, IsTrue, IfOk, IfErr};
+ghost use Rattle.std.specs.Prelude.{◌≡◌, ◌<◌, false, true, drop, Err, IsTrue, IfOk, IfErr};
 ghost use Rattle.perf_parser.specs.Words.{Call, SaysBehind, SplitsParser, SplitsFrame, error_kinds};
 ghost use Rattle.perf_parser.specs.Words.{buffer_of, config_of, reads_of, configuration_of};
-ghost use Rattle.perf_parser.specs.Words.{endian_of, perf_event_header, cursor_lent, MovesWithin};
-ghost use Rattle.perf_parser.specs.Words.{TakesNoMemory, body_length, holds_a_list, IsBorrowed};
-ghost use Rattle.perf_parser.specs.Words.{kind_of, falls_short, is_made_beforehand};
-ghost use Rattle.perf_parser.specs.Words.{LeavesAllOrBehind};
+ghost use Rattle.perf_parser.specs.Words.{endian_of, TakesNoMemory, body_length, kind_of};
+ghost use Rattle.perf_parser.specs.Words as words;
 
 use crate::parse::{FrameLayout, ParseRecord};
 use crate::parser::Parser;
@@ -30,12 +28,12 @@ impl<'p, B: ParseBuf<'p>> ParseRecord<'p, B> for Record<'p> {
         header: perf_event_header,
     ) -> ParseResult<Self>
         ensures within { IsTrue (B.source (buffer_of parser.old)).told →
-            MovesWithin (B.source (buffer_of parser.old)) (header.size - 8)
+            words.MovesWithin (B.source (buffer_of parser.old)) (body_length header)
             (B.source (buffer_of parser.new)) }
         ensures borrowed { IsTrue (B.source (buffer_of parser.old)).whole →
-            IfOk result (λ r. IsBorrowed r) }
+            IfOk result (λ r. words.IsBorrowed r) }
         ensures whole_memory { IsTrue (B.source (buffer_of parser.old)).whole →
-            holds_a_list header.type_ ≡ false → TakesNoMemory (error_kinds result) }
+            words.holds_a_list header.type_ ≡ false → TakesNoMemory (error_kinds result) }
 
         // A size that does not count the header is refused before anything else.
         ensures small { header.size < 8 → (error_kinds result ≡ Err ErrorKind.InvalidRecord)
@@ -44,14 +42,15 @@ impl<'p, B: ParseBuf<'p>> ParseRecord<'p, B> for Record<'p> {
         // Memory is taken by the rules of a cut, and by what the body takes. Where memory for the
         // frame is refused, nothing is taken if all room was made first; where it is refused for
         // the body, exactly the frame is.
-        ensures nothing { body_length header ≡ 0 → holds_a_list header.type_ ≡ false →
+        ensures nothing { body_length header ≡ 0 → words.holds_a_list header.type_ ≡ false →
             TakesNoMemory (error_kinds result) }
-        ensures short { falls_short (B.hint (buffer_of parser.old)) (body_length header) ≡ true →
+        ensures short { words.falls_short (B.hint (buffer_of parser.old))
+            (body_length header) ≡ true →
             TakesNoMemory (error_kinds result) }
         ensures beforehand { IsTrue (B.source (buffer_of parser.old)).told →
-            is_made_beforehand (B.hint (buffer_of parser.old)) (body_length header) ≡ true →
+            words.is_made_beforehand (B.hint (buffer_of parser.old)) (body_length header) ≡ true →
             IfErr result (λ e. kind_of e ≡ ErrorKind.OutOfMemory →
-            LeavesAllOrBehind (B.source (buffer_of parser.old)) (body_length header)
+            words.LeavesAllOrBehind (B.source (buffer_of parser.old)) (body_length header)
             (B.source (buffer_of parser.new))) }
         ensures spent { IsTrue (B.source (buffer_of parser.old)).told →
             IsTrue (B.source (buffer_of parser.old)).whole →
@@ -82,14 +81,14 @@ impl<'p, B: ParseBuf<'p>, E: Endian> Parser<B, E> {
         header: perf_event_header,
     ) -> ParseResult<(Parser<ParseBufCursor<'p>, E>, RecordMetadata)>
         ensures within { IsTrue (B.source (buffer_of self.old)).told →
-            MovesWithin (B.source (buffer_of self.old)) (body_length header)
+            words.MovesWithin (B.source (buffer_of self.old)) (body_length header)
             (B.source (buffer_of self.new)) }
         ensures inner { IfOk result (λ r.
             (configuration_of (config_of r.0) ≡ configuration_of (config_of self.old))
             × (E.order (endian_of (config_of r.0)) ≡ E.order (endian_of (config_of self.old)))
             × (reads_of r.0 ≡ 0)) }
         ensures whole { IsTrue (B.source (buffer_of self.old)).whole →
-            IfOk result (λ r. IsTrue (cursor_lent (buffer_of r.0))) }
+            IfOk result (λ r. IsTrue (words.cursor_lent (buffer_of r.0))) }
         ensures whole_memory { IsTrue (B.source (buffer_of self.old)).whole →
             E.may_refuse (endian_of (config_of self.old)) ≡ false →
             TakesNoMemory (error_kinds result) }
@@ -102,12 +101,13 @@ impl<'p, B: ParseBuf<'p>, E: Endian> Parser<B, E> {
         ensures nothing { body_length header ≡ 0 →
             E.may_refuse (endian_of (config_of self.old)) ≡ false →
             TakesNoMemory (error_kinds result) }
-        ensures short { falls_short (B.hint (buffer_of self.old)) (body_length header) ≡ true →
+        ensures short { words.falls_short (B.hint (buffer_of self.old))
+            (body_length header) ≡ true →
             TakesNoMemory (error_kinds result) }
         ensures beforehand { IsTrue (B.source (buffer_of self.old)).told →
-            is_made_beforehand (B.hint (buffer_of self.old)) (body_length header) ≡ true →
+            words.is_made_beforehand (B.hint (buffer_of self.old)) (body_length header) ≡ true →
             IfErr result (λ e. kind_of e ≡ ErrorKind.OutOfMemory →
-            LeavesAllOrBehind (B.source (buffer_of self.old)) (body_length header)
+            words.LeavesAllOrBehind (B.source (buffer_of self.old)) (body_length header)
             (B.source (buffer_of self.new))) }
         ensures call { Call B.source E.order (SplitsParser header)
             self.old (error_kinds result) self.new }
@@ -130,7 +130,7 @@ impl<'p, B: ParseBuf<'p>, E: Endian> Parser<B, E> {
             × (E.order (endian_of (config_of r.0)) ≡ E.order (endian_of (config_of self.old)))
             × (reads_of r.0 ≡ 0)) }
         ensures whole { IsTrue (B.source (buffer_of self.old)).whole →
-            IfOk result (λ r. IsTrue (cursor_lent (buffer_of r.0))) }
+            IfOk result (λ r. IsTrue (words.cursor_lent (buffer_of r.0))) }
         ensures call { Call B.source E.order SplitsFrame self.old (error_kinds result) self.new }
     {
         let header = match self.parse::<perf_event_header>() {

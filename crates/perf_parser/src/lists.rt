@@ -4,30 +4,14 @@ ghost use Rattle.std.specs.Prelude.{◌≡◌, false, true, length, IsOk, IfOk, 
 ghost use Rattle.std.specs.Fn.{FnOnceReturnsAtMut};
 ghost use Rattle.perf_parser.specs.Words.{CallAs, CallOnly, cow_items, is_borrowed};
 ghost use Rattle.perf_parser.specs.Words.{meaning, error_kinds, kind_of};
-ghost use Rattle.perf_parser.specs.Repeats.{Runs, StopsShort, AsOption, IsRoom};
+ghost use Rattle.perf_parser.specs.Repeats.{Runs, StopsShort, AsOption};
 
 use crate::parse::Parse;
 use crate::parser::Parser;
 use perf_base::cow::CowSlice;
 use perf_base::endian::Endian;
 use perf_base::error::{ParseError, ParseResult};
-use perf_buffers::input::Input;
 use perf_buffers::parsebuf::ParseBuf;
-
-// How many items room is made for where the buffer does not say how many bytes it has.
-const UNHINTED_ITEMS: usize = 16384;
-
-// For how many of the claimed items room is made before the first is read: items of the kernel's
-// lists have eight bytes or more.
-fn list_room(hint: Option<usize>, claimed: usize) -> usize
-    ensures { IsRoom hint claimed result }
-{
-    let most = match hint {
-        Some(left) => left,
-        None => UNHINTED_ITEMS,
-    };
-    claimed.min(most / 8)
-}
 
 impl<'p, B: ParseBuf<'p>, E: Endian> Parser<B, E> {
     /// What a closure parses.
@@ -94,7 +78,7 @@ impl<'p, B: ParseBuf<'p>, E: Endian> Parser<B, E> {
             (meaning B.source E.order self.old) len (kind_of e)
             (meaning B.source E.order self.new)) }
     {
-        let room = list_room(self.reader.input().remaining_hint(), len);
+        let room = self.reader.room_for(len);
         let mut items = match Vec::with_capacity(self.reader.alloc(), room) {
             Ok(items) => items,
             Err(_) => return Err(ParseError::out_of_memory()),

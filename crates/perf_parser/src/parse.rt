@@ -1,10 +1,9 @@
 //! Parsing: what can be parsed, and the parser that does it.
 
-ghost use Rattle.std.specs.Prelude.{◌-◌, IsTrue};
+ghost use Rattle.std.specs.Prelude.{IsTrue};
 ghost use Rattle.perf_base.specs.declared.sys.perf_event_header.{perf_event_header};
-ghost use Rattle.perf_buffers.specs.Taking.{MovesWithin};
-ghost use Rattle.perf_parser.specs.Words.{Says, Counts, KeepsOn, Call, CallAs};
-ghost use Rattle.perf_parser.specs.Words.{buffer_of, error_kinds};
+ghost use Rattle.perf_parser.specs.Words.{Says, Counts, KeepsOn, Call, CallAs, buffer_of};
+ghost use Rattle.perf_parser.specs.Words.{error_kinds, body_length, MovesWithin};
 
 pub use crate::parser::Parser;
 pub use perf_base::config::ParseConfig;
@@ -78,7 +77,7 @@ pub trait ParseRecord<'p, B: ParseBuf<'p>>: FrameLayout {
         header: perf_event_header,
     ) -> ParseResult<Self>
         ensures within { IsTrue (B.source (buffer_of parser.old)).told →
-            MovesWithin (B.source (buffer_of parser.old)) (header.size - 8)
+            MovesWithin (B.source (buffer_of parser.old)) (body_length header)
             (B.source (buffer_of parser.new)) }
         ensures call { Call B.source E.order (Self.says_behind header)
             parser.old (error_kinds result) parser.new };

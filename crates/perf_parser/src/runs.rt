@@ -1,17 +1,10 @@
 //! Runs over a stream of records.
 
-ghost use Rattle.std.specs.Prelude.{◌≡◌, ◌+◌, ◌≤◌, ◌++◌, take, length};
-ghost use Rattle.std.specs.Prelude.{IsTrue, IfOk, IfErr, OnOk, OnErr, None};
-ghost use Rattle.perf_parser.specs.Runs.{listed, listed_count, refused_count, AllBorrowed};
-ghost use Rattle.perf_parser.specs.Runs.{end_refusal, one_if_ended, EndsWith, CountsReads};
-ghost use Rattle.perf_parser.specs.Runs.{KeepsRun, stop_kind, stop_kinds, stopped_by};
-ghost use Rattle.perf_parser.specs.Runs.{one_if_stopped, ReadsHeader, StopsAt, IsEndOf, IsListed};
-ghost use Rattle.perf_parser.specs.Runs.{ListsNext, answer_kinds, is_borrowed_answer};
-ghost use Rattle.perf_parser.specs.Words.{endian_of, header_of, MovesWithin, buffer_of, config_of};
-ghost use Rattle.perf_parser.specs.Words.{reads_of, meaning, of_layout, SaysBehind, answers};
-ghost use Rattle.perf_parser.specs.Words.{body_length};
-ghost use Rattle.perf_reader.specs.Meaning as low;
-ghost use Rattle.perf_reader.specs.Words.{Call, Meaning, input_of, refusal_kind};
+ghost use Rattle.std.specs.Prelude.{◌≡◌, ◌+◌, ◌≤◌, ◌++◌, take, None};
+ghost use Rattle.std.specs.Prelude.{IsTrue, IfOk, IfErr, OnOk, OnErr};
+ghost use Rattle.perf_parser.specs.Words.{header_of, buffer_of, config_of, reads_of, meaning};
+ghost use Rattle.perf_parser.specs.Runs as stream;
+ghost use Rattle.perf_reader.specs.Words as low;
 
 use crate::parser::Parser;
 use perf_base::endian::Endian;
@@ -76,8 +69,8 @@ fn header_from<E: Endian>(endian: &E, first: [u8; 1], others: [u8; 7]) -> perf_e
 // Why a run stops that cannot read the first byte of a header, or the others.
 #[inline]
 fn stop_at(refusal: Refusal, at_end: Stop) -> Stop
-    ensures eof { refusal_kind refusal ≡ ErrorKind.Eof → result ≡ at_end }
-    ensures other { (refusal_kind refusal ≡ ErrorKind.Eof → ⊥) → result ≡ Stop.Refused refusal }
+    ensures eof { low.refusal_kind refusal ≡ ErrorKind.Eof → result ≡ at_end }
+    ensures other { (low.refusal_kind refusal ≡ ErrorKind.Eof → ⊥) → result ≡ Stop.Refused refusal }
 {
     if refusal.kind() == ErrorKind::Eof {
         at_end
@@ -91,11 +84,11 @@ fn stop_at(refusal: Refusal, at_end: Stop) -> Stop
 fn read_header<'p, I: Input<'p>, E: Endian>(
     reader: &mut Reader<I, E>,
 ) -> Result<perf_event_header, Stop>
-    ensures stop { IsTrue (I.source (input_of reader.old)).told → IfErr result (λ s.
-        StopsAt (low.meaning I.source E.order reader.old) s
+    ensures stop { IsTrue (I.source (low.input_of reader.old)).told → IfErr result (λ s.
+        stream.StopsAt (low.meaning I.source E.order reader.old) s
         (low.meaning I.source E.order reader.new)) }
-    ensures call { Call I.source E.order ReadsHeader
-        reader.old (stop_kinds result) reader.new }
+    ensures call { low.Call I.source E.order stream.ReadsHeader
+        reader.old (stream.stop_kinds result) reader.new }
 {
     let first = match reader.read_array::<1>() {
         Ok(bytes) => bytes,
@@ -116,14 +109,14 @@ fn read_answer<'p, B: ParseBuf<'p>, E: Endian>(
     header: perf_event_header,
 ) -> ReadResult<ParseResult<Record<'p>>>
     ensures within { IsTrue (B.source (low.buffer_of reader.old)).told →
-        MovesWithin (B.source (low.buffer_of reader.old)) (body_length header)
+        low.MovesWithin (B.source (low.buffer_of reader.old)) (stream.body_length header)
         (B.source (low.buffer_of reader.new)) }
     ensures borrowed { IsTrue (B.source (low.buffer_of reader.old)).whole →
-        IfOk result (λ r. is_borrowed_answer r) }
-    ensures listed { IfOk result (λ r. IsListed r) }
-    ensures stops { IfErr result (λ e. IsTrue (of_layout (refusal_kind e)) → ⊥) }
-    ensures call { Call (λ (o : Outer B). B.source o.buf) E.order (SaysBehind header)
-        reader.old (answer_kinds result) reader.new }
+        IfOk result (λ r. stream.is_borrowed_answer r) }
+    ensures listed { IfOk result (λ r. stream.IsListed r) }
+    ensures stops { IfErr result (λ e. IsTrue (low.of_layout (low.refusal_kind e)) → ⊥) }
+    ensures call { low.Call (λ (o : Outer B). B.source o.buf) E.order (stream.SaysBehind header)
+        reader.old (stream.answer_kinds result) reader.new }
 {
     match read_behind(reader, header) {
         Ok(record) => Ok(Ok(record)),
@@ -144,17 +137,18 @@ fn read_next<'p, B: ParseBuf<'p>, E: Endian>(
     frames: &mut Vec<(perf_event_header, ParseResult<Record<'p>>)>,
 ) -> Result<(), Stop>
     ensures config { low.config_of reader.new ≡ low.config_of reader.old }
-    ensures listed { OnOk result (ListsNext
+    ensures listed { OnOk result (stream.ListsNext
         (low.meaning (λ (o : Outer B). B.source o.buf) E.order reader.old) frames.old.items
         frames.new.items (low.meaning (λ (o : Outer B). B.source o.buf) E.order reader.new)) }
     ensures kept { OnErr result (frames.new.items ≡ frames.old.items) }
     ensures stop { IsTrue (B.source (low.buffer_of reader.old)).told → IfErr result (λ s.
-        StopsAt (low.meaning (λ (o : Outer B). B.source o.buf) E.order reader.old) s
+        stream.StopsAt (low.meaning (λ (o : Outer B). B.source o.buf) E.order reader.old) s
         (low.meaning (λ (o : Outer B). B.source o.buf) E.order reader.new)) }
-    ensures keeps { (start : Meaning) → KeepsRun start (refused_count frames.old.items) None
+    ensures keeps { (start : low.Meaning) →
+        stream.KeepsRun start (stream.refused_count frames.old.items) None
         (low.meaning (λ (o : Outer B). B.source o.buf) E.order reader.old) →
-        KeepsRun start (refused_count frames.new.items + one_if_stopped result)
-        (stopped_by result)
+        stream.KeepsRun start (stream.refused_count frames.new.items + stream.one_if_stopped result)
+        (stream.stopped_by result)
         (low.meaning (λ (o : Outer B). B.source o.buf) E.order reader.new) }
 {
     if frames.reserve(1).is_err() {
@@ -174,7 +168,7 @@ fn read_next<'p, B: ParseBuf<'p>, E: Endian>(
 
 // How a run ends that stopped so.
 fn end_of<'p, B: ParseBuf<'p>, E: Endian>(reader: &mut Reader<Outer<B>, E>, stop: Stop) -> RunEnd
-    ensures end { IsEndOf stop result }
+    ensures end { stream.IsEndOf stop result }
     ensures buf { low.buffer_of reader.new ≡ low.buffer_of reader.old }
     ensures config { low.config_of reader.new ≡ low.config_of reader.old }
     ensures reads { low.reads_of reader.new ≡ low.reads_of reader.old }
@@ -198,33 +192,34 @@ pub fn read_records<'p, B: ParseBuf<'p>, E: Endian>(
 
     // What is listed are the first answers of the bytes.
     ensures answers { IsTrue (B.source (buffer_of parser.old)).told →
-        listed result ≡ take (listed_count result)
-        (answers (meaning B.source E.order parser.old).settings
+        stream.listed result ≡ take (stream.listed_count result)
+        (stream.answers (meaning B.source E.order parser.old).settings
         (meaning B.source E.order parser.old).order (B.source (buffer_of parser.old)).left) }
 
-    ensures count { listed_count result ≤ limit }
+    ensures count { stream.listed_count result ≤ limit }
 
     // How it ends, and what it leaves.
     ensures end { IsTrue (B.source (buffer_of parser.old)).told →
-        EndsWith (meaning B.source E.order parser.old).order limit
-        (B.source (buffer_of parser.old)).left (listed_count result) result.end
+        stream.EndsWith (meaning B.source E.order parser.old).order limit
+        (B.source (buffer_of parser.old)).left (stream.listed_count result) result.end
         (B.source (buffer_of parser.new)).left }
 
     // How many elementary reads it makes: those of the frames that it lists, and those of its end.
     ensures reads { IsTrue (B.source (buffer_of parser.old)).told →
-        CountsReads (meaning B.source E.order parser.old).settings
+        stream.CountsReads (meaning B.source E.order parser.old).settings
         (meaning B.source E.order parser.old).order (B.source (buffer_of parser.old)).left
-        (listed_count result) result.end (reads_of parser.old) (reads_of parser.new) }
+        (stream.listed_count result) result.end (reads_of parser.old) (reads_of parser.new) }
 
     // At most as many of them as bytes taken, and one more for each refused answer and for an end
     // before the limit.
-    ensures keeps { KeepsRun (meaning B.source E.order parser.old)
-        (refused_count result.frames.items + one_if_ended result.end) (end_refusal result.end)
+    ensures keeps { stream.KeepsRun (meaning B.source E.order parser.old)
+        (stream.refused_count result.frames.items + stream.one_if_ended result.end)
+        (stream.end_refusal result.end)
         (meaning B.source E.order parser.new) }
 
     // Over a slice no byte string is copied.
     ensures borrowed { IsTrue (B.source (buffer_of parser.old)).whole →
-        AllBorrowed result.frames.items }
+        stream.AllBorrowed result.frames.items }
 {
     let mut frames = Vec::new(parser.reader.alloc());
     for _ in 0..limit {

@@ -8,15 +8,24 @@ use Rattle.perf_types.specs.declared.itrace_start.ITraceStart.{ITraceStart}
 use Rattle.perf_types.specs.declared.lost_samples.LostSamples.{LostSamples}
 use Rattle.perf_types.specs.declared.switch_cpu_wide.SwitchCpuWide.{SwitchCpuWide}
 use Rattle.perf_types.specs.declared.aux_output_hw_id.AuxOutputHwId.{AuxOutputHwId}
-use Rattle.perf_types.specs.Mmap.{mmap_value, MmapValue, IsBorrowedMmap}
-use Rattle.perf_types.specs.Comm.{comm_value, CommValue, IsBorrowedComm}
-use Rattle.perf_types.specs.Mmap2.{mmap2_value, Mmap2Value, IsBorrowedMmap2}
-use Rattle.perf_types.specs.Aux.{aux_value, AuxValue}
-use Rattle.perf_types.specs.Namespaces.{namespaces_value, NamespacesValue}
-use Rattle.perf_types.specs.KSymbol.{ksymbol_value, KSymbolValue, IsBorrowedKSymbol}
-use Rattle.perf_types.specs.BpfEvent.{bpf_event_value, BpfEventValue}
-use Rattle.perf_types.specs.CGroup.{cgroup_value, CGroupValue, IsBorrowedCGroup}
-use Rattle.perf_types.specs.TextPoke.{text_poke_value, TextPokeValue, IsBorrowedTextPoke}
+pub use Rattle.perf_types.specs.Mmap.{mmap_value}
+use Rattle.perf_types.specs.Mmap.{MmapValue, IsBorrowedMmap}
+pub use Rattle.perf_types.specs.Comm.{comm_value}
+use Rattle.perf_types.specs.Comm.{CommValue, IsBorrowedComm}
+pub use Rattle.perf_types.specs.Mmap2.{mmap2_value}
+use Rattle.perf_types.specs.Mmap2.{Mmap2Value, IsBorrowedMmap2}
+pub use Rattle.perf_types.specs.Aux.{aux_value}
+use Rattle.perf_types.specs.Aux.{AuxValue}
+pub use Rattle.perf_types.specs.Namespaces.{namespaces_value}
+use Rattle.perf_types.specs.Namespaces.{NamespacesValue}
+pub use Rattle.perf_types.specs.KSymbol.{ksymbol_value}
+use Rattle.perf_types.specs.KSymbol.{KSymbolValue, IsBorrowedKSymbol}
+pub use Rattle.perf_types.specs.BpfEvent.{bpf_event_value}
+use Rattle.perf_types.specs.BpfEvent.{BpfEventValue}
+pub use Rattle.perf_types.specs.CGroup.{cgroup_value}
+use Rattle.perf_types.specs.CGroup.{CGroupValue, IsBorrowedCGroup}
+pub use Rattle.perf_types.specs.TextPoke.{text_poke_value}
+use Rattle.perf_types.specs.TextPoke.{TextPokeValue, IsBorrowedTextPoke}
 use Rattle.perf_records.specs.declared.record.Record.{Record}
 use Rattle.perf_records.specs.declared.record.Record.TheVariants as record_of
 

@@ -2,15 +2,9 @@
 
 ghost use Rattle.std.specs.Prelude.{◌≡◌, ◌≤◌, ◌<◌, ◌+◌, false, true, length, drop, Err};
 ghost use Rattle.std.specs.Prelude.{IsTrue, IfOk, IfErr};
-ghost use Rattle.perf_records.specs.Words.{configuration_of, endian_of, value, layout_reads};
-ghost use Rattle.perf_records.specs.Words.{InvalidRecord, cursor_left, cursor_lent, MovesWithin};
-ghost use Rattle.perf_records.specs.Words.{is_external, one_if_refused, Call, TakesNoMemory};
-ghost use Rattle.perf_records.specs.Words.{input_of, config_of, reads_of, kinds, refused};
-ghost use Rattle.perf_records.specs.Words.{refusal_kind, SplitsBehind, SaysBehind, SaysFrame};
-ghost use Rattle.perf_records.specs.Words.{Finishes, body_length, answered_parts, parts_of};
-ghost use Rattle.perf_records.specs.Words.{id_reads, body, holds_a_list, carries_sample_id};
-ghost use Rattle.perf_records.specs.Words.{id_of_type, id_length, IsBorrowed, OutOfMemory};
-ghost use Rattle.perf_records.specs.Words.{falls_short, is_made_beforehand, LeavesAllOrBehind};
+ghost use Rattle.perf_records.specs.Words.{configuration_of, endian_of, input_of, config_of, Call};
+ghost use Rattle.perf_records.specs.Words.{reads_of, kinds, refusal_kind, cursor_left, body_length};
+ghost use Rattle.perf_records.specs.Words as words;
 
 use crate::body::read_body;
 use crate::metadata::RecordMetadata;
@@ -30,7 +24,7 @@ use std::alloc::Global;
 // Whether records of a type end with a sample id: the kernel's own do, but SAMPLE.
 #[inline]
 fn carries_sample_id(ty: u32) -> bool
-    ensures { result ≡ carries_sample_id ty }
+    ensures { result ≡ words.carries_sample_id ty }
 {
     ty < 64 && ty != PERF_RECORD_SAMPLE
 }
@@ -38,7 +32,7 @@ fn carries_sample_id(ty: u32) -> bool
 // How many bytes of a frame are its sample id.
 #[inline]
 fn id_len<E>(config: &ParseConfig<E>, ty: u32) -> usize
-    ensures { result ≡ id_length (configuration_of config.now) ty }
+    ensures { result ≡ words.id_length (configuration_of config.now) ty }
 {
     if carries_sample_id(ty) {
         SampleId::estimate_len(config)
@@ -51,12 +45,13 @@ fn id_len<E>(config: &ParseConfig<E>, ty: u32) -> usize
 #[inline]
 fn read_id<'x, E: Endian>(reader: &mut Reader<&'x [u8], E>, ty: u32) -> SampleId
     requires { length (input_of reader.old).now
-        ≡ id_length (configuration_of (config_of reader.old)) ty }
-    ensures id { result ≡ value (E.order (endian_of (config_of reader.old)))
-        (input_of reader.old).now 0 (id_of_type (configuration_of (config_of reader.old)) ty) }
+        ≡ words.id_length (configuration_of (config_of reader.old)) ty }
+    ensures id { result ≡ words.value (E.order (endian_of (config_of reader.old)))
+        (input_of reader.old).now 0
+        (words.id_of_type (configuration_of (config_of reader.old)) ty) }
     ensures reads { reads_of reader.new ≡ reads_of reader.old
-        + layout_reads (E.order (endian_of (config_of reader.old)))
-        (id_of_type (configuration_of (config_of reader.old)) ty) (input_of reader.old).now }
+        + words.layout_reads (E.order (endian_of (config_of reader.old)))
+        (words.id_of_type (configuration_of (config_of reader.old)) ty) (input_of reader.old).now }
     ensures bound { reads_of reader.new ≤ reads_of reader.old + length (input_of reader.old).now }
 {
     if carries_sample_id(ty) {
@@ -85,17 +80,20 @@ fn take_id<'p, E: Endian>(
     header: perf_event_header,
 ) -> ReadResult<Taken<'p>>
     ensures parts { IfOk result (λ taken.
-        (id_length (configuration_of config.now) header.type_ ≤ length (cursor_left frame.entry))
-        × (answered_parts (taken.body, taken.metadata) ≡ parts_of (configuration_of config.now)
-        (E.order (endian_of config.now)) header (cursor_left frame.entry))) }
-    ensures reads { IfOk result (λ taken. taken.reads ≡ id_reads (configuration_of config.now)
+        (words.id_length (configuration_of config.now) header.type_
+        ≤ length (cursor_left frame.entry))
+        × (words.answered_parts (taken.body, taken.metadata)
+        ≡ words.parts_of (configuration_of config.now) (E.order (endian_of config.now)) header
+        (cursor_left frame.entry))) }
+    ensures reads { IfOk result (λ taken. taken.reads ≡ words.id_reads (configuration_of config.now)
         (E.order (endian_of config.now)) header (cursor_left frame.entry)) }
     ensures bound { IfOk result (λ taken.
-        taken.reads ≤ id_length (configuration_of config.now) header.type_) }
-    ensures form { IfOk result (λ taken. cursor_lent taken.body ≡ cursor_lent frame.entry) }
-    ensures refused { IfErr result (λ e. (refusal_kind e ≡ InvalidRecord)
+        taken.reads ≤ words.id_length (configuration_of config.now) header.type_) }
+    ensures form { IfOk result (λ taken.
+        words.cursor_lent taken.body ≡ words.cursor_lent frame.entry) }
+    ensures refused { IfErr result (λ e. (refusal_kind e ≡ words.InvalidRecord)
         × (length (cursor_left frame.entry)
-        < id_length (configuration_of config.now) header.type_)) }
+        < words.id_length (configuration_of config.now) header.type_)) }
 {
     let mut body = frame;
     let len = id_len(config, header.type_);
@@ -124,26 +122,26 @@ pub fn split<'p, I: Input<'p>, E: Endian>(
     header: perf_event_header,
 ) -> ReadResult<(ParseBufCursor<'p>, RecordMetadata)>
     ensures within { IsTrue (I.source (input_of reader.old)).told →
-        MovesWithin (I.source (input_of reader.old)) (body_length header)
+        words.MovesWithin (I.source (input_of reader.old)) (body_length header)
         (I.source (input_of reader.new)) }
     ensures whole { IsTrue (I.source (input_of reader.old)).whole →
-        IfOk result (λ parts. IsTrue (cursor_lent parts.0)) }
+        IfOk result (λ parts. IsTrue (words.cursor_lent parts.0)) }
     ensures whole_memory { IsTrue (I.source (input_of reader.old)).whole →
-        TakesNoMemory (kinds result) }
+        words.TakesNoMemory (kinds result) }
 
     // A size that does not count the header is refused before anything else.
-    ensures small { header.size < 8 → (kinds result ≡ Err InvalidRecord)
+    ensures small { header.size < 8 → (kinds result ≡ Err words.InvalidRecord)
         × (I.source (input_of reader.new) ≡ I.source (input_of reader.old)) }
 
     // Memory is taken by the rules of a cut: for nothing none, none where the input says that it
     // has too few bytes, and else all room first, where that is little.
-    ensures nothing { body_length header ≡ 0 → TakesNoMemory (kinds result)
-        × IfOk result (λ parts. IsTrue (cursor_lent parts.0)) }
-    ensures short { falls_short (I.hint (input_of reader.old)) (body_length header) ≡ true →
-        TakesNoMemory (kinds result) × IfOk result (λ parts. ⊥) }
+    ensures nothing { body_length header ≡ 0 → words.TakesNoMemory (kinds result)
+        × IfOk result (λ parts. IsTrue (words.cursor_lent parts.0)) }
+    ensures short { words.falls_short (I.hint (input_of reader.old)) (body_length header) ≡ true →
+        words.TakesNoMemory (kinds result) × IfOk result (λ parts. ⊥) }
     ensures beforehand { IsTrue (I.source (input_of reader.old)).told →
-        is_made_beforehand (I.hint (input_of reader.old)) (body_length header) ≡ true →
-        IfErr result (λ e. refusal_kind e ≡ OutOfMemory →
+        words.is_made_beforehand (I.hint (input_of reader.old)) (body_length header) ≡ true →
+        IfErr result (λ e. refusal_kind e ≡ words.OutOfMemory →
         (I.source (input_of reader.new)).left ≡ (I.source (input_of reader.old)).left) }
 
     // The body's bytes are paid for, and not read yet.
@@ -151,7 +149,7 @@ pub fn split<'p, I: Input<'p>, E: Endian>(
         reads_of reader.new + length (cursor_left parts.0)
         + length (I.source (input_of reader.new)).left
         ≤ reads_of reader.old + length (I.source (input_of reader.old)).left) }
-    ensures call { Call I.source E.order (SplitsBehind header)
+    ensures call { Call I.source E.order (words.SplitsBehind header)
         reader.old (kinds result) reader.new }
 {
     if header.size < 8 {
@@ -184,14 +182,16 @@ fn finish<'p, E: Endian>(
     config: ParseConfig<E>,
     ty: u32,
 ) -> (ReadResult<Record<'p>>, Reads)
-    ensures answer { Finishes (E.order (endian_of config)) (body (configuration_of config) ty)
+    ensures answer { words.Finishes (E.order (endian_of config))
+        (words.body (configuration_of config) ty)
         (cursor_left bytes.entry) (kinds result.0) result.1 }
-    ensures borrowed { IsTrue (cursor_lent bytes.entry) → IfOk result.0 (λ r. IsBorrowed r) }
-    ensures whole_memory { IsTrue (cursor_lent bytes.entry) → holds_a_list ty ≡ false →
-        TakesNoMemory (kinds result.0) }
-    ensures faults { is_external (refused (kinds result.0)) ≡ false }
+    ensures borrowed { IsTrue (words.cursor_lent bytes.entry) →
+        IfOk result.0 (λ r. words.IsBorrowed r) }
+    ensures whole_memory { IsTrue (words.cursor_lent bytes.entry) → words.holds_a_list ty ≡ false →
+        words.TakesNoMemory (kinds result.0) }
+    ensures faults { words.is_external (words.refused (kinds result.0)) ≡ false }
     ensures cost { result.1
-        ≤ length (cursor_left bytes.entry) + one_if_refused (refused (kinds result.0)) }
+        ≤ length (cursor_left bytes.entry) + words.one_if_refused (words.refused (kinds result.0)) }
 {
     if let Some(bytes) = bytes.as_slice() {
         let mut reader = Reader::new(alloc, bytes, config);
@@ -211,35 +211,35 @@ pub fn read_behind<'p, I: Input<'p>, E: Endian>(
     header: perf_event_header,
 ) -> ReadResult<Record<'p>>
     ensures within { IsTrue (I.source (input_of reader.old)).told →
-        MovesWithin (I.source (input_of reader.old)) (body_length header)
+        words.MovesWithin (I.source (input_of reader.old)) (body_length header)
         (I.source (input_of reader.new)) }
     ensures borrowed { IsTrue (I.source (input_of reader.old)).whole →
-        IfOk result (λ r. IsBorrowed r) }
+        IfOk result (λ r. words.IsBorrowed r) }
     ensures whole_memory { IsTrue (I.source (input_of reader.old)).whole →
-        holds_a_list header.type_ ≡ false → TakesNoMemory (kinds result) }
+        words.holds_a_list header.type_ ≡ false → words.TakesNoMemory (kinds result) }
 
     // A size that does not count the header is refused before anything else.
-    ensures small { header.size < 8 → (kinds result ≡ Err InvalidRecord)
+    ensures small { header.size < 8 → (kinds result ≡ Err words.InvalidRecord)
         × (I.source (input_of reader.new) ≡ I.source (input_of reader.old)) }
 
     // Memory is taken by the rules of a cut, and by what the body takes. Where memory for the frame
     // is refused, nothing is taken if all room was made first; where it is refused for the body,
     // exactly the frame is.
-    ensures nothing { body_length header ≡ 0 → holds_a_list header.type_ ≡ false →
-        TakesNoMemory (kinds result) }
-    ensures short { falls_short (I.hint (input_of reader.old)) (body_length header) ≡ true →
-        TakesNoMemory (kinds result) }
+    ensures nothing { body_length header ≡ 0 → words.holds_a_list header.type_ ≡ false →
+        words.TakesNoMemory (kinds result) }
+    ensures short { words.falls_short (I.hint (input_of reader.old)) (body_length header) ≡ true →
+        words.TakesNoMemory (kinds result) }
     ensures beforehand { IsTrue (I.source (input_of reader.old)).told →
-        is_made_beforehand (I.hint (input_of reader.old)) (body_length header) ≡ true →
-        IfErr result (λ e. refusal_kind e ≡ OutOfMemory →
-        LeavesAllOrBehind (I.source (input_of reader.old)) (body_length header)
+        words.is_made_beforehand (I.hint (input_of reader.old)) (body_length header) ≡ true →
+        IfErr result (λ e. refusal_kind e ≡ words.OutOfMemory →
+        words.LeavesAllOrBehind (I.source (input_of reader.old)) (body_length header)
         (I.source (input_of reader.new))) }
     ensures spent { IsTrue (I.source (input_of reader.old)).told →
         IsTrue (I.source (input_of reader.old)).whole →
-        IfErr result (λ e. refusal_kind e ≡ OutOfMemory →
+        IfErr result (λ e. refusal_kind e ≡ words.OutOfMemory →
         (I.source (input_of reader.new)).left
         ≡ drop (body_length header) (I.source (input_of reader.old)).left) }
-    ensures call { Call I.source E.order (SaysBehind header)
+    ensures call { Call I.source E.order (words.SaysBehind header)
         reader.old (kinds result) reader.new }
 {
     let (bytes, _) = match split(reader, header) {
@@ -254,7 +254,7 @@ pub fn read_behind<'p, I: Input<'p>, E: Endian>(
 }
 
 impl Meant for Record<'_> {
-    ghost says = { SaysFrame };
+    ghost says = { words.SaysFrame };
 }
 
 /// A frame with its header, which is three elementary reads.

@@ -3,14 +3,8 @@
 ghost use Rattle.std.specs.Prelude.{◌≡◌, ◌++◌, option_map, string_bytes, Some, IfOk, OnOk, codes};
 ghost use Rattle.std.specs.List.{flat_map, join_by};
 ghost use Rattle.std.specs.Str.Lossy.{utf8_lossy};
-ghost use Rattle.perf_types.specs.Comm.{comm_value};
-ghost use Rattle.perf_types.specs.Mmap.{mmap_value};
-ghost use Rattle.perf_types.specs.Mmap2.{mmap2_value};
-ghost use Rattle.perf_types.specs.Namespaces.{namespaces_value};
-ghost use Rattle.perf_records.specs.Records.{record_value};
-ghost use Rattle.perf_tasks.specs.Lines.{hex, letter, place, protection, hex_byte, inode, file};
-ghost use Rattle.perf_tasks.specs.Lines.{namespace, line, comm_line, mmap_line, mmap2_line};
-ghost use Rattle.perf_tasks.specs.Lines.{task_line, namespaces_line, line_of};
+ghost use Rattle.perf_records.specs.Records as values;
+ghost use Rattle.perf_tasks.specs.Lines as printed;
 
 use perf_event_data::{Comm, Exit, Mmap, Mmap2, NamespaceEntry, Namespaces, Record};
 use std::alloc::{AllocError, Global};
@@ -34,7 +28,7 @@ const SHARED: u32 = 1;
 struct Hex(u64);
 
 impl fmt::Display for Hex {
-    ghost output = { λ number. Some (hex number.0) };
+    ghost output = { λ number. Some (printed.hex number.0) };
 
     fn fmt<W: fmt::Write>(&self, f: &mut fmt::Formatter<W>) -> fmt::Result {
         write!(f, "0x{:x}", self.0)
@@ -45,7 +39,7 @@ impl fmt::Display for Hex {
 /// none.
 pub fn line_of(alloc: Global, found: &Record) -> Result<Option<String>, AllocError>
     ensures { IfOk result (λ line.
-        option_map string_bytes line ≡ line_of (record_value found.now)) }
+        option_map string_bytes line ≡ printed.line_of (values.record_value found.now)) }
 {
     let line = match found {
         Record::Comm(comm) => comm_line(alloc, comm)?,
@@ -60,14 +54,16 @@ pub fn line_of(alloc: Global, found: &Record) -> Result<Option<String>, AllocErr
 }
 
 fn comm_line(alloc: Global, comm: &Comm) -> Result<String, AllocError>
-    ensures { IfOk result (λ text. string_bytes text ≡ comm_line (comm_value comm.now)) }
+    ensures { IfOk result (λ text.
+        string_bytes text ≡ printed.comm_line (values.comm_value comm.now)) }
 {
     let name = name(alloc, comm.comm.as_slice())?;
     line(alloc, "comm", comm.pid, comm.tid, name.as_str())
 }
 
 fn mmap_line(alloc: Global, map: &Mmap) -> Result<String, AllocError>
-    ensures { IfOk result (λ text. string_bytes text ≡ mmap_line (mmap_value map.now)) }
+    ensures { IfOk result (λ text.
+        string_bytes text ≡ printed.mmap_line (values.mmap_value map.now)) }
 {
     let place = place(alloc, map.addr, map.len, map.pgoff)?;
     let name = name(alloc, map.filename.as_slice())?;
@@ -76,7 +72,8 @@ fn mmap_line(alloc: Global, map: &Mmap) -> Result<String, AllocError>
 }
 
 fn mmap2_line(alloc: Global, map: &Mmap2) -> Result<String, AllocError>
-    ensures { IfOk result (λ text. string_bytes text ≡ mmap2_line (mmap2_value map.now)) }
+    ensures { IfOk result (λ text.
+        string_bytes text ≡ printed.mmap2_line (values.mmap2_value map.now)) }
 {
     let place = place(alloc, map.addr, map.len, map.pgoff)?;
     let file = file(alloc, map)?;
@@ -88,7 +85,7 @@ fn mmap2_line(alloc: Global, map: &Mmap2) -> Result<String, AllocError>
 
 // A task that was made or that ended, and the one that made it or its parent.
 fn task_line(alloc: Global, what: &str, task: &Exit) -> Result<String, AllocError>
-    ensures { IfOk result (λ text. string_bytes text ≡ task_line what.now task.now) }
+    ensures { IfOk result (λ text. string_bytes text ≡ printed.task_line what.now task.now) }
 {
     let says = format!(in alloc; "{} {}", task.ppid, task.ptid)?;
     line(alloc, what, task.pid, task.tid, says.as_str())
@@ -96,7 +93,7 @@ fn task_line(alloc: Global, what: &str, task: &Exit) -> Result<String, AllocErro
 
 fn namespaces_line(alloc: Global, namespaces: &Namespaces) -> Result<String, AllocError>
     ensures { IfOk result (λ text.
-        string_bytes text ≡ namespaces_line (namespaces_value namespaces.now)) }
+        string_bytes text ≡ printed.namespaces_line (values.namespaces_value namespaces.now)) }
 {
     let says = listed(alloc, namespaces.namespaces.as_slice())?;
     line(
@@ -110,7 +107,7 @@ fn namespaces_line(alloc: Global, namespaces: &Namespaces) -> Result<String, All
 
 // What a line tells of, which task, and what it says.
 fn line(alloc: Global, what: &str, pid: u32, tid: u32, says: &str) -> Result<String, AllocError>
-    ensures { IfOk result (λ text. string_bytes text ≡ line what.now pid tid says.now) }
+    ensures { IfOk result (λ text. string_bytes text ≡ printed.line what.now pid tid says.now) }
 {
     format!(in alloc; "{what} {pid} {tid} {says}")
 }
@@ -124,14 +121,15 @@ fn name(alloc: Global, bytes: &[u8]) -> Result<String, AllocError>
 
 // Where a mapping lies in memory, its length, and where it begins in the file.
 fn place(alloc: Global, addr: u64, len: u64, pgoff: u64) -> Result<String, AllocError>
-    ensures { IfOk result (λ text. string_bytes text ≡ place addr len pgoff) }
+    ensures { IfOk result (λ text. string_bytes text ≡ printed.place addr len pgoff) }
 {
     format!(in alloc; "{} {} {}", Hex(addr), Hex(len), Hex(pgoff))
 }
 
 // Which file was mapped: its inode, or the digits of its build id.
 fn file(alloc: Global, map: &Mmap2) -> Result<String, AllocError>
-    ensures { IfOk result (λ text. string_bytes text ≡ file (mmap2_value map.now).detail) }
+    ensures { IfOk result (λ text.
+        string_bytes text ≡ printed.file (values.mmap2_value map.now).detail) }
 {
     if let (Some(maj), Some(min), Some(ino), Some(generation)) = (
         map.maj(),
@@ -146,7 +144,7 @@ fn file(alloc: Global, map: &Mmap2) -> Result<String, AllocError>
 
 // A file by its device, its inode and its generation.
 fn inode(alloc: Global, maj: u32, min: u32, ino: u64, generation: u64) -> Result<String, AllocError>
-    ensures { IfOk result (λ text. string_bytes text ≡ inode maj min ino generation) }
+    ensures { IfOk result (λ text. string_bytes text ≡ printed.inode maj min ino generation) }
 {
     let device = format!(in alloc; "{}:{}", Hex(u64::from(maj)), Hex(u64::from(min)))?;
     format!(in alloc; "{device} {ino} {generation}")
@@ -154,7 +152,7 @@ fn inode(alloc: Global, maj: u32, min: u32, ino: u64, generation: u64) -> Result
 
 // Bytes in hexadecimal, two digits each.
 fn digits(alloc: Global, bytes: &[u8]) -> Result<String, AllocError>
-    ensures { IfOk result (λ text. string_bytes text ≡ flat_map hex_byte bytes.now) }
+    ensures { IfOk result (λ text. string_bytes text ≡ flat_map printed.hex_byte bytes.now) }
 {
     let mut digits = String::new(alloc);
     for byte in bytes {
@@ -165,7 +163,7 @@ fn digits(alloc: Global, bytes: &[u8]) -> Result<String, AllocError>
 
 // How mapped memory may be used: readable, writable, executable, and shared or private.
 fn protection(alloc: Global, prot: u32, flags: u32) -> Result<String, AllocError>
-    ensures { IfOk result (λ text. string_bytes text ≡ protection prot flags) }
+    ensures { IfOk result (λ text. string_bytes text ≡ printed.protection prot flags) }
 {
     let read = letter(prot, READ, "r", "-");
     let write = letter(prot, WRITE, "w", "-");
@@ -176,7 +174,7 @@ fn protection(alloc: Global, prot: u32, flags: u32) -> Result<String, AllocError
 
 // A letter where a bit is set in a word, and where it is not.
 fn letter(word: u32, bit: u32, set: &'static str, unset: &'static str) -> &'static str
-    ensures { result.now ≡ letter word bit set.now unset.now }
+    ensures { result.now ≡ printed.letter word bit set.now unset.now }
 {
     if word & bit == 0 { unset } else { set }
 }
@@ -184,7 +182,7 @@ fn letter(word: u32, bit: u32, set: &'static str, unset: &'static str) -> &'stat
 // Namespaces with a comma between each two.
 fn listed(alloc: Global, namespaces: &[NamespaceEntry]) -> Result<String, AllocError>
     ensures { IfOk result (λ text.
-        string_bytes text ≡ join_by namespace (codes ",") namespaces.now) }
+        string_bytes text ≡ join_by printed.namespace (codes ",") namespaces.now) }
 {
     let mut text = String::new(alloc);
     if let Some((first, others)) = namespaces.split_first() {
@@ -196,8 +194,8 @@ fn listed(alloc: Global, namespaces: &[NamespaceEntry]) -> Result<String, AllocE
 
 // Appends the namespaces behind the first.
 fn push_others(text: &mut String, others: &[NamespaceEntry]) -> Result<(), AllocError>
-    ensures { OnOk result (string_bytes text.new
-        ≡ string_bytes text.old ++ flat_map (λ entry. codes "," ++ namespace entry) others.now) }
+    ensures { OnOk result (string_bytes text.new ≡ string_bytes text.old
+        ++ flat_map (λ entry. codes "," ++ printed.namespace entry) others.now) }
 {
     for entry in others {
         text.push_str(",")?;
@@ -208,7 +206,8 @@ fn push_others(text: &mut String, others: &[NamespaceEntry]) -> Result<(), Alloc
 
 // Appends a namespace: the device and the inode of its file.
 fn push_namespace(text: &mut String, entry: &NamespaceEntry) -> Result<(), AllocError>
-    ensures { OnOk result (string_bytes text.new ≡ string_bytes text.old ++ namespace entry.now) }
+    ensures { OnOk result (string_bytes text.new
+        ≡ string_bytes text.old ++ printed.namespace entry.now) }
 {
     write!(text, "{}:{}", entry.dev, Hex(entry.inode))
 }

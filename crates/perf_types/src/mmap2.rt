@@ -1,11 +1,10 @@
 //! MMAP2.
 #![tactic(auto, using(perf_reader::proofs::Paying::chain))]
 
-ghost use Rattle.std.specs.Prelude.{◌≡◌, IsTrue, IfOk};
-ghost use Rattle.perf_types.specs.MmapDetail.{inode, build_id, mmap_detail, detail_value};
-ghost use Rattle.perf_types.specs.MmapDetail.{has_fitting_id};
+ghost use Rattle.std.specs.Prelude.{◌≡◌, IsTrue, IfOk, option_map};
+ghost use Rattle.perf_types.specs.MmapDetail as file;
 ghost use Rattle.perf_types.specs.Words.{Call, Reads, ReadsPlain, ReadsLent, TakesNoMemory, kinds};
-ghost use Rattle.perf_types.specs.Words.{has_bit};
+ghost use Rattle.perf_types.specs.Words.{cow_items, is_borrowed, text_of, has_bit};
 
 use crate::mmap::Mmap;
 use crate::text::text;
@@ -40,7 +39,7 @@ pub struct Mmap2<'a> {
     /// the kernel's for what is mapped, such as `//anon` or `[vdso]`.
     pub filename: CowSlice<'a, u8>,
     detail: MmapDetail,
-    ghost fitting: { IsTrue (has_fitting_id detail) },
+    ghost fitting: { IsTrue (file.has_fitting_id detail) },
 }
 
 /// Which file was mapped: one by its inode, or a program by its build id. Bit 14 of the header's
@@ -69,13 +68,9 @@ pub enum MmapDetail {
 }
 
 impl<'a> Mmap2<'a> {
-    ghost use Rattle.std.specs.Prelude.{◌≡◌, IfOk, option_map};
     ghost use Rattle.perf_types.specs.Mmap.{mmap_value, mmap_form};
     ghost use Rattle.perf_types.specs.Mmap2.{mmap2_value, mmap2_form, mapping_of};
-    ghost use Rattle.perf_types.specs.MmapDetail.{detail_value, maj_of, min_of, ino_of};
-    ghost use Rattle.perf_types.specs.MmapDetail.{ino_generation_of, build_id_of};
     ghost use Rattle.perf_types.specs.Words.{KeepsForm, IsClone, IsOwnedCopy};
-    ghost use Rattle.perf_types.specs.Words.{cow_items, is_borrowed, text_of};
 
     /// The record of these fields.
     pub fn from_parts(
@@ -89,14 +84,14 @@ impl<'a> Mmap2<'a> {
         filename: CowSlice<'a, u8>,
         detail: MmapDetail,
     ) -> Mmap2<'a>
-        requires { IsTrue (has_fitting_id detail) }
+        requires { IsTrue (file.has_fitting_id detail) }
         ensures value { mmap2_value result ≡ record {
           pid = pid;
           tid = tid;
           addr = addr;
           len = len;
           pgoff = pgoff;
-          detail = detail_value detail;
+          detail = file.detail_value detail;
           prot = prot;
           flags = flags;
           filename = cow_items filename.entry;
@@ -125,7 +120,7 @@ impl<'a> Mmap2<'a> {
 
     /// The major number of the device that holds the file, where the record names an inode.
     pub fn maj(&self) -> Option<u32>
-        ensures { result ≡ maj_of (mmap2_value self.now).detail }
+        ensures { result ≡ file.maj_of (mmap2_value self.now).detail }
     {
         match &self.detail {
             MmapDetail::Default { maj, .. } => Some(*maj),
@@ -135,7 +130,7 @@ impl<'a> Mmap2<'a> {
 
     /// The minor number of that device, where the record names an inode.
     pub fn min(&self) -> Option<u32>
-        ensures { result ≡ min_of (mmap2_value self.now).detail }
+        ensures { result ≡ file.min_of (mmap2_value self.now).detail }
     {
         match &self.detail {
             MmapDetail::Default { min, .. } => Some(*min),
@@ -145,7 +140,7 @@ impl<'a> Mmap2<'a> {
 
     /// The number of the inode, where the record names one.
     pub fn ino(&self) -> Option<u64>
-        ensures { result ≡ ino_of (mmap2_value self.now).detail }
+        ensures { result ≡ file.ino_of (mmap2_value self.now).detail }
     {
         match &self.detail {
             MmapDetail::Default { ino, .. } => Some(*ino),
@@ -155,7 +150,7 @@ impl<'a> Mmap2<'a> {
 
     /// The generation of the inode, where the record names one.
     pub fn ino_generation(&self) -> Option<u64>
-        ensures { result ≡ ino_generation_of (mmap2_value self.now).detail }
+        ensures { result ≡ file.ino_generation_of (mmap2_value self.now).detail }
     {
         match &self.detail {
             MmapDetail::Default { ino_generation, .. } => Some(*ino_generation),
@@ -166,7 +161,8 @@ impl<'a> Mmap2<'a> {
     /// The build id of the program, where the record has one: the first bytes of its twenty, as
     /// many as it says.
     pub fn build_id(&self) -> Option<&[u8]>
-        ensures { option_map (λ id. id.now) result ≡ build_id_of (mmap2_value self.now).detail }
+        ensures { option_map (λ id. id.now) result ≡
+            file.build_id_of (mmap2_value self.now).detail }
     {
         match &self.detail {
             MmapDetail::Default { .. } => None,
@@ -247,8 +243,6 @@ impl<'a> Mmap2<'a> {
 }
 
 impl MmapDetail {
-    ghost use Rattle.std.specs.Prelude.{◌≡◌};
-
     // The same detail. Unlike `clone` it cannot be refused.
     fn copied(&self) -> MmapDetail
         ensures { result ≡ self.now }
@@ -274,8 +268,6 @@ impl MmapDetail {
 }
 
 impl<'a> From<Mmap2<'a>> for Mmap<'a> {
-    ghost use Rattle.std.specs.Prelude.{◌≡◌};
-    ghost use Rattle.perf_base.specs.Cow.{is_borrowed};
     ghost use Rattle.perf_types.specs.Mmap.{mmap_value};
     ghost use Rattle.perf_types.specs.Mmap2.{mmap2_value, mapping_of};
 
@@ -301,8 +293,8 @@ fn has_build_id(misc: u16) -> bool
 #[inline]
 fn read_inode<'p, I: Input<'p>, E: Endian>(reader: &mut Reader<I, E>) -> ReadResult<MmapDetail>
     ensures memory { TakesNoMemory (kinds result) }
-    ensures fitting { IfOk result (λ d. IsTrue (has_fitting_id d)) }
-    ensures call { Call I.source E.order (Reads (λ _. inode) detail_value)
+    ensures fitting { IfOk result (λ d. IsTrue (file.has_fitting_id d)) }
+    ensures call { Call I.source E.order (Reads (λ _. file.inode) file.detail_value)
         reader.old (kinds result) reader.new }
 {
     Ok(MmapDetail::Default {
@@ -316,8 +308,8 @@ fn read_inode<'p, I: Input<'p>, E: Endian>(reader: &mut Reader<I, E>) -> ReadRes
 #[inline]
 fn read_build_id<'p, I: Input<'p>, E: Endian>(reader: &mut Reader<I, E>) -> ReadResult<MmapDetail>
     ensures memory { TakesNoMemory (kinds result) }
-    ensures fitting { IfOk result (λ d. IsTrue (has_fitting_id d)) }
-    ensures call { Call I.source E.order (Reads (λ _. build_id) detail_value)
+    ensures fitting { IfOk result (λ d. IsTrue (file.has_fitting_id d)) }
+    ensures call { Call I.source E.order (Reads (λ _. file.build_id) file.detail_value)
         reader.old (kinds result) reader.new }
 {
     let len = reader.read_u8()?;
@@ -332,8 +324,8 @@ fn read_build_id<'p, I: Input<'p>, E: Endian>(reader: &mut Reader<I, E>) -> Read
 #[inline]
 fn read_detail<'p, I: Input<'p>, E: Endian>(reader: &mut Reader<I, E>) -> ReadResult<MmapDetail>
     ensures memory { TakesNoMemory (kinds result) }
-    ensures fitting { IfOk result (λ d. IsTrue (has_fitting_id d)) }
-    ensures call { Call I.source E.order (Reads mmap_detail detail_value)
+    ensures fitting { IfOk result (λ d. IsTrue (file.has_fitting_id d)) }
+    ensures call { Call I.source E.order (Reads file.mmap_detail file.detail_value)
         reader.old (kinds result) reader.new }
 {
     if has_build_id(reader.config().misc()) {
@@ -350,7 +342,7 @@ fn read_detail<'p, I: Input<'p>, E: Endian>(reader: &mut Reader<I, E>) -> ReadRe
 }
 
 impl Meant for MmapDetail {
-    ghost says = { ReadsPlain mmap_detail detail_value };
+    ghost says = { ReadsPlain file.mmap_detail file.detail_value };
 }
 
 impl<'p, I: Input<'p>> ReadFrom<'p, I> for MmapDetail {

@@ -2,9 +2,7 @@
 #![tactic(auto, using(perf_reader::proofs::Paying::chain))]
 
 ghost use Rattle.std.specs.Prelude.{◌≡◌, ◌*◌, slice_get};
-ghost use Rattle.perf_types.specs.Namespaces.{namespace_entry, namespaces_value, namespaces_form};
-ghost use Rattle.perf_types.specs.Namespaces.{entry_numbers, namespaces, network_index, uts_index};
-ghost use Rattle.perf_types.specs.Namespaces.{ipc_index, pid_index, user_index, cgroup_index};
+ghost use Rattle.perf_types.specs.Namespaces as spaces;
 ghost use Rattle.perf_types.specs.Words.{Call, Reads, ReadsOne, ReadsPlain, kinds, words};
 ghost use Rattle.perf_types.specs.Words.{cow_items, IsClone, flat_map, option_copied};
 
@@ -60,14 +58,16 @@ pub struct NamespaceEntry {
 impl<'a> Namespaces<'a> {
     /// The network namespace, if it is listed: `NET_NS_INDEX`.
     pub fn network(&self) -> Option<&NamespaceEntry>
-        ensures { option_copied result ≡ slice_get (cow_items self.now.namespaces) network_index }
+        ensures { option_copied result ≡
+            slice_get (cow_items self.now.namespaces) spaces.network_index }
     {
         self.namespaces.as_slice().get(NETWORK)
     }
 
     /// The namespace of the host's name, if it is listed: `UTS_NS_INDEX`.
     pub fn uts(&self) -> Option<&NamespaceEntry>
-        ensures { option_copied result ≡ slice_get (cow_items self.now.namespaces) uts_index }
+        ensures { option_copied result ≡
+            slice_get (cow_items self.now.namespaces) spaces.uts_index }
     {
         self.namespaces.as_slice().get(UTS)
     }
@@ -75,35 +75,39 @@ impl<'a> Namespaces<'a> {
     /// The namespace of shared memory, semaphores and message queues, if it is listed:
     /// `IPC_NS_INDEX`.
     pub fn ipc(&self) -> Option<&NamespaceEntry>
-        ensures { option_copied result ≡ slice_get (cow_items self.now.namespaces) ipc_index }
+        ensures { option_copied result ≡
+            slice_get (cow_items self.now.namespaces) spaces.ipc_index }
     {
         self.namespaces.as_slice().get(IPC)
     }
 
     /// The namespace of process ids, if it is listed: `PID_NS_INDEX`.
     pub fn pid(&self) -> Option<&NamespaceEntry>
-        ensures { option_copied result ≡ slice_get (cow_items self.now.namespaces) pid_index }
+        ensures { option_copied result ≡
+            slice_get (cow_items self.now.namespaces) spaces.pid_index }
     {
         self.namespaces.as_slice().get(PID)
     }
 
     /// The namespace of user ids, if it is listed: `USER_NS_INDEX`.
     pub fn user(&self) -> Option<&NamespaceEntry>
-        ensures { option_copied result ≡ slice_get (cow_items self.now.namespaces) user_index }
+        ensures { option_copied result ≡
+            slice_get (cow_items self.now.namespaces) spaces.user_index }
     {
         self.namespaces.as_slice().get(USER)
     }
 
     /// The namespace of control groups, if it is listed: `CGROUP_NS_INDEX`.
     pub fn cgroup(&self) -> Option<&NamespaceEntry>
-        ensures { option_copied result ≡ slice_get (cow_items self.now.namespaces) cgroup_index }
+        ensures { option_copied result ≡
+            slice_get (cow_items self.now.namespaces) spaces.cgroup_index }
     {
         self.namespaces.as_slice().get(CGROUP)
     }
 
     /// The same record. It takes no memory where the list is borrowed.
     pub fn clone(&self, alloc: Global) -> ParseResult<Namespaces<'a>>
-        ensures { IsClone namespaces_value namespaces_form self.now result }
+        ensures { IsClone spaces.namespaces_value spaces.namespaces_form self.now result }
     {
         Ok(Namespaces {
             pid: self.pid,
@@ -114,7 +118,7 @@ impl<'a> Namespaces<'a> {
 }
 
 impl Meant for NamespaceEntry {
-    ghost says = { ReadsPlain (λ _. namespace_entry) (λ e. e) };
+    ghost says = { ReadsPlain (λ _. spaces.namespace_entry) (λ e. e) };
 }
 
 impl<'p, I: Input<'p>> ReadFrom<'p, I> for NamespaceEntry {
@@ -133,7 +137,7 @@ fn read_entries<'p, I: Input<'p>, E: Endian>(
     count: usize,
 ) -> ReadResult<Vec<NamespaceEntry>>
     ensures call { Call I.source E.order
-        (ReadsOne (words (2 * count)) (λ v. flat_map entry_numbers v.items))
+        (ReadsOne (words (2 * count)) (λ v. flat_map spaces.entry_numbers v.items))
         reader.old (kinds result) reader.new }
 {
     let mut entries = match Vec::with_capacity(reader.alloc(), reader.room_for(count)) {
@@ -157,7 +161,7 @@ fn read_entries<'p, I: Input<'p>, E: Endian>(
 }
 
 impl Meant for Namespaces<'_> {
-    ghost says = { Reads (λ _. namespaces) namespaces_value };
+    ghost says = { Reads (λ _. spaces.namespaces) spaces.namespaces_value };
 }
 
 impl<'p, I: Input<'p>> ReadFrom<'p, I> for Namespaces<'p> {

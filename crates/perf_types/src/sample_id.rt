@@ -2,12 +2,10 @@
 #![tactic(auto, using(perf_reader::proofs::Paying::chain))]
 
 ghost use Rattle.std.specs.Prelude.{◌≡◌, ◌*◌, if◌then◌else◌};
-ghost use Rattle.perf_types.specs.SampleId.{SampleIdValue, no_sample_id, sample_id, one_if};
-ghost use Rattle.perf_types.specs.SampleId.{sample_id_length, has_tid, has_time, has_id};
-ghost use Rattle.perf_types.specs.SampleId.{has_stream_id, has_cpu, has_identifier};
+ghost use Rattle.perf_types.specs.SampleId as ids;
 ghost use Rattle.perf_types.specs.SampleIdFields.{fields_of, TakesOrLacks};
-ghost use Rattle.perf_types.specs.Words.{Call, ReadsPlain, kinds};
-ghost use Rattle.perf_types.specs.Words.{configuration_of, sample_flags_bits};
+ghost use Rattle.perf_types.specs.Words.{Call, ReadsPlain, kinds, configuration_of};
+ghost use Rattle.perf_types.specs.Words.{sample_flags_bits};
 
 use bitflags::Flags;
 use perf_base::config::ParseConfig;
@@ -33,7 +31,7 @@ pub struct SampleId {
 }
 
 impl Model for SampleId {
-    ghost Value = { SampleIdValue };
+    ghost Value = { ids.SampleIdValue };
 
     ghost view = { λ s. record {
       pid = s.pid;
@@ -56,7 +54,7 @@ impl Model for SampleId {
 
 /// No field is there.
 impl Default for SampleId {
-    ghost is_default = { λ s. s ≡ no_sample_id };
+    ghost is_default = { λ s. s ≡ ids.no_sample_id };
 
     fn default() -> SampleId {
         SampleId {
@@ -72,7 +70,7 @@ impl Default for SampleId {
 
 #[inline]
 fn eight_if(flag: bool) -> usize
-    ensures { result ≡ 8 * one_if flag }
+    ensures { result ≡ 8 * ids.one_if flag }
 {
     if flag { 8 } else { 0 }
 }
@@ -112,7 +110,7 @@ impl SampleId {
     #[inline]
     #[tactic(auto, using(crate::proofs::Flags::sample_flags))]
     pub fn estimate_len<E>(config: &ParseConfig<E>) -> usize
-        ensures { result ≡ sample_id_length (configuration_of config.now) }
+        ensures { result ≡ ids.sample_id_length (configuration_of config.now) }
     {
         if !config.sample_id_all() {
             return 0;
@@ -192,12 +190,12 @@ struct Present {
 #[inline]
 #[tactic(auto, using(crate::proofs::Flags::sample_flags))]
 fn fields_of_type(flags: SampleFlags) -> Present
-    ensures tid { result.tid ≡ has_tid (sample_flags_bits flags) }
-    ensures time { result.time ≡ has_time (sample_flags_bits flags) }
-    ensures id { result.id ≡ has_id (sample_flags_bits flags) }
-    ensures stream_id { result.stream_id ≡ has_stream_id (sample_flags_bits flags) }
-    ensures cpu { result.cpu ≡ has_cpu (sample_flags_bits flags) }
-    ensures identifier { result.identifier ≡ has_identifier (sample_flags_bits flags) }
+    ensures tid { result.tid ≡ ids.has_tid (sample_flags_bits flags) }
+    ensures time { result.time ≡ ids.has_time (sample_flags_bits flags) }
+    ensures id { result.id ≡ ids.has_id (sample_flags_bits flags) }
+    ensures stream_id { result.stream_id ≡ ids.has_stream_id (sample_flags_bits flags) }
+    ensures cpu { result.cpu ≡ ids.has_cpu (sample_flags_bits flags) }
+    ensures identifier { result.identifier ≡ ids.has_identifier (sample_flags_bits flags) }
 {
     Present {
         tid: flags.contains(SampleFlags::TID),
@@ -236,8 +234,8 @@ fn read_fields<'p, I: Input<'p>, E: Endian>(
 }
 
 impl Meant for SampleId {
-    ghost says = { λ old seen new. ReadsPlain sample_id (λ s. s) old seen new
-        × TakesOrLacks (sample_id_length old.settings) old seen new };
+    ghost says = { λ old seen new. ReadsPlain ids.sample_id (λ s. s) old seen new
+        × TakesOrLacks (ids.sample_id_length old.settings) old seen new };
 }
 
 /// The sample id of a record, where its bytes begin. It is there wherever

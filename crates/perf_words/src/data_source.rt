@@ -2,15 +2,9 @@
 
 ghost use Rattle.std.specs.Prelude.{◌≡◌, ⊤, ℕ};
 ghost use Rattle.perf_words.specs.Bits.{bit_field};
-ghost use Rattle.perf_words.specs.Sets.{mem_op_table, mem_level_table, mem_lock_table};
-ghost use Rattle.perf_words.specs.Sets.{mem_dtlb_table, mem_snoop_x_table, mem_blk_table};
-ghost use Rattle.perf_words.specs.Sets.{mem_snoop_table, txn_table};
-ghost use Rattle.perf_words.specs.DataSource.{mem_op_of, mem_lvl_of, mem_snoop_of, mem_lock_of};
-ghost use Rattle.perf_words.specs.DataSource.{mem_dtlb_of, mem_lvl_num_of, mem_remote_of};
-ghost use Rattle.perf_words.specs.DataSource.{mem_blk_of, mem_hops_of, snoop_of};
-ghost use Rattle.perf_words.specs.SetBits.{mem_op_bits, mem_level_bits, mem_lock_bits};
-ghost use Rattle.perf_words.specs.SetBits.{mem_dtlb_bits, mem_snoop_x_bits, mem_blk_bits};
-ghost use Rattle.perf_words.specs.SetBits.{mem_snoop_bits, txn_bits};
+ghost use Rattle.perf_words.specs.Sets as sets;
+ghost use Rattle.perf_words.specs.SetBits as bits;
+ghost use Rattle.perf_words.specs.DataSource as fields;
 
 use crate::field::bit_field;
 use crate::macros::flag_table;
@@ -63,7 +57,7 @@ impl DataSource {
     /// What the instruction does: bits 0 to 4.
     #[inline]
     pub fn mem_op(&self) -> MemOp
-        ensures { mem_op_bits result ≡ mem_op_of self.now }
+        ensures { bits.mem_op_bits result ≡ fields.mem_op_of self.now }
     {
         MemOp(bit_field(self.word, 0, 5))
     }
@@ -71,7 +65,7 @@ impl DataSource {
     /// Where in the memory hierarchy the access ended: bits 5 to 18.
     #[inline]
     pub fn mem_lvl(&self) -> MemLevel
-        ensures { mem_level_bits result ≡ mem_lvl_of self.now }
+        ensures { bits.mem_level_bits result ≡ fields.mem_lvl_of self.now }
     {
         MemLevel(bit_field(self.word, 5, 14))
     }
@@ -79,7 +73,7 @@ impl DataSource {
     /// What was found in other caches: bits 19 to 23 and 38 to 39, which stay at these places.
     #[inline]
     pub fn mem_snoop(&self) -> MemSnoop
-        ensures { mem_snoop_bits result ≡ mem_snoop_of self.now }
+        ensures { bits.mem_snoop_bits result ≡ fields.mem_snoop_of self.now }
     {
         MemSnoop::new(bit_field(self.word, 19, 5), bit_field(self.word, 38, 2))
     }
@@ -87,7 +81,7 @@ impl DataSource {
     /// Whether the access held a lock: bits 24 and 25.
     #[inline]
     pub fn mem_lock(&self) -> MemLock
-        ensures { mem_lock_bits result ≡ mem_lock_of self.now }
+        ensures { bits.mem_lock_bits result ≡ fields.mem_lock_of self.now }
     {
         MemLock(bit_field(self.word, 24, 2))
     }
@@ -95,7 +89,7 @@ impl DataSource {
     /// How the address was translated: bits 26 to 32.
     #[inline]
     pub fn mem_dtlb(&self) -> MemDtlb
-        ensures { mem_dtlb_bits result ≡ mem_dtlb_of self.now }
+        ensures { bits.mem_dtlb_bits result ≡ fields.mem_dtlb_of self.now }
     {
         MemDtlb(bit_field(self.word, 26, 7))
     }
@@ -103,7 +97,7 @@ impl DataSource {
     /// The number of the memory level: bits 33 to 36.
     #[inline]
     pub fn mem_lvl_num(&self) -> MemLevelNum
-        ensures { result ≡ mem_lvl_num_of self.now }
+        ensures { result ≡ fields.mem_lvl_num_of self.now }
     {
         MemLevelNum::new(bit_field(self.word, 33, 4) as u8)
     }
@@ -111,7 +105,7 @@ impl DataSource {
     /// Whether the access went to another node: bit 37.
     #[inline]
     pub fn mem_remote(&self) -> bool
-        ensures { result ≡ mem_remote_of self.now }
+        ensures { result ≡ fields.mem_remote_of self.now }
     {
         bit_field(self.word, 37, 1) == 1
     }
@@ -119,7 +113,7 @@ impl DataSource {
     /// Why the access was blocked: bits 40 to 42.
     #[inline]
     pub fn mem_blk(&self) -> MemBlk
-        ensures { mem_blk_bits result ≡ mem_blk_of self.now }
+        ensures { bits.mem_blk_bits result ≡ fields.mem_blk_of self.now }
     {
         MemBlk(bit_field(self.word, 40, 3))
     }
@@ -129,7 +123,7 @@ impl DataSource {
     /// (`PERF_MEM_HOPS_2`) another socket of the same board, 4 (`PERF_MEM_HOPS_3`) another board.
     #[inline]
     pub fn mem_hops(&self) -> u8
-        ensures { result ≡ mem_hops_of self.now }
+        ensures { result ≡ fields.mem_hops_of self.now }
     {
         bit_field(self.word, 43, 3) as u8
     }
@@ -176,7 +170,7 @@ impl MemOp {
 
 /// No flag is set.
 impl Default for MemOp {
-    ghost is_default = { λ set. mem_op_bits set ≡ 0 };
+    ghost is_default = { λ set. bits.mem_op_bits set ≡ 0 };
 
     fn default() -> MemOp {
         MemOp(0)
@@ -188,7 +182,7 @@ impl Flags for MemOp {
 
     ghost exact = { ⊤ };
 
-    ghost table = { mem_op_table };
+    ghost table = { sets.mem_op_table };
 
     ghost set_of = { λ set. set.0 };
 
@@ -261,7 +255,7 @@ impl MemLevel {
 
 /// No flag is set.
 impl Default for MemLevel {
-    ghost is_default = { λ set. mem_level_bits set ≡ 0 };
+    ghost is_default = { λ set. bits.mem_level_bits set ≡ 0 };
 
     fn default() -> MemLevel {
         MemLevel(0)
@@ -273,7 +267,7 @@ impl Flags for MemLevel {
 
     ghost exact = { ⊤ };
 
-    ghost table = { mem_level_table };
+    ghost table = { sets.mem_level_table };
 
     ghost set_of = { λ set. set.0 };
 
@@ -308,7 +302,7 @@ impl MemLock {
 
 /// No flag is set.
 impl Default for MemLock {
-    ghost is_default = { λ set. mem_lock_bits set ≡ 0 };
+    ghost is_default = { λ set. bits.mem_lock_bits set ≡ 0 };
 
     fn default() -> MemLock {
         MemLock(0)
@@ -320,7 +314,7 @@ impl Flags for MemLock {
 
     ghost exact = { ⊤ };
 
-    ghost table = { mem_lock_table };
+    ghost table = { sets.mem_lock_table };
 
     ghost set_of = { λ set. set.0 };
 
@@ -370,7 +364,7 @@ impl MemDtlb {
 
 /// No flag is set.
 impl Default for MemDtlb {
-    ghost is_default = { λ set. mem_dtlb_bits set ≡ 0 };
+    ghost is_default = { λ set. bits.mem_dtlb_bits set ≡ 0 };
 
     fn default() -> MemDtlb {
         MemDtlb(0)
@@ -382,7 +376,7 @@ impl Flags for MemDtlb {
 
     ghost exact = { ⊤ };
 
-    ghost table = { mem_dtlb_table };
+    ghost table = { sets.mem_dtlb_table };
 
     ghost set_of = { λ set. set.0 };
 
@@ -417,7 +411,7 @@ impl MemSnoopX {
 
 /// No flag is set.
 impl Default for MemSnoopX {
-    ghost is_default = { λ set. mem_snoop_x_bits set ≡ 0 };
+    ghost is_default = { λ set. bits.mem_snoop_x_bits set ≡ 0 };
 
     fn default() -> MemSnoopX {
         MemSnoopX(0)
@@ -429,7 +423,7 @@ impl Flags for MemSnoopX {
 
     ghost exact = { ⊤ };
 
-    ghost table = { mem_snoop_x_table };
+    ghost table = { sets.mem_snoop_x_table };
 
     ghost set_of = { λ set. set.0 };
 
@@ -467,7 +461,7 @@ impl MemBlk {
 
 /// No flag is set.
 impl Default for MemBlk {
-    ghost is_default = { λ set. mem_blk_bits set ≡ 0 };
+    ghost is_default = { λ set. bits.mem_blk_bits set ≡ 0 };
 
     fn default() -> MemBlk {
         MemBlk(0)
@@ -479,7 +473,7 @@ impl Flags for MemBlk {
 
     ghost exact = { ⊤ };
 
-    ghost table = { mem_blk_table };
+    ghost table = { sets.mem_blk_table };
 
     ghost set_of = { λ set. set.0 };
 
@@ -531,7 +525,7 @@ impl MemSnoop {
 
 /// No flag is set.
 impl Default for MemSnoop {
-    ghost is_default = { λ set. mem_snoop_bits set ≡ 0 };
+    ghost is_default = { λ set. bits.mem_snoop_bits set ≡ 0 };
 
     fn default() -> MemSnoop {
         MemSnoop(0)
@@ -543,7 +537,7 @@ impl Flags for MemSnoop {
 
     ghost exact = { ⊤ };
 
-    ghost table = { mem_snoop_table };
+    ghost table = { sets.mem_snoop_table };
 
     ghost set_of = { λ set. set.0 };
 
@@ -568,7 +562,7 @@ impl MemSnoop {
     /// either are left out.
     #[inline]
     pub const fn new(mem_snoop: u64, mem_snoopx: u64) -> MemSnoop
-        ensures { mem_snoop_bits result ≡ snoop_of mem_snoop mem_snoopx }
+        ensures { bits.mem_snoop_bits result ≡ fields.snoop_of mem_snoop mem_snoopx }
     {
         MemSnoop((mem_snoop % 32) * (1 << 19) + (mem_snoopx % 4) * (1 << 38))
     }
@@ -614,7 +608,7 @@ impl Txn {
 
 /// No flag is set.
 impl Default for Txn {
-    ghost is_default = { λ set. txn_bits set ≡ 0 };
+    ghost is_default = { λ set. bits.txn_bits set ≡ 0 };
 
     fn default() -> Txn {
         Txn(0)
@@ -626,7 +620,7 @@ impl Flags for Txn {
 
     ghost exact = { ⊤ };
 
-    ghost table = { txn_table };
+    ghost table = { sets.txn_table };
 
     ghost set_of = { λ set. set.0 };
 
@@ -649,7 +643,7 @@ impl Txn {
     /// The code that the program gave for its abort, which stands in bits 32 to 63.
     #[inline]
     pub fn abort(&self) -> u32
-        ensures { result ≡ bit_field (txn_bits self.now) 32 32 }
+        ensures { result ≡ bit_field (bits.txn_bits self.now) 32 32 }
     {
         bit_field(self.0, 32, 32) as u32
     }

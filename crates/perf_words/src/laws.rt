@@ -3,10 +3,7 @@
 
 ghost use Rattle.std.specs.Hash as fed;
 ghost use Rattle.perf_words.specs.Alike.{IsByNumber, number_hash};
-ghost use Rattle.perf_words.specs.SetBits.{sample_flags_bits, read_format_bits, aux_flags_bits};
-ghost use Rattle.perf_words.specs.SetBits.{ksymbol_flags_bits, mem_op_bits, mem_level_bits};
-ghost use Rattle.perf_words.specs.SetBits.{mem_lock_bits, mem_dtlb_bits, mem_snoop_x_bits};
-ghost use Rattle.perf_words.specs.SetBits.{mem_blk_bits, mem_snoop_bits, txn_bits};
+ghost use Rattle.perf_words.specs.SetBits as bits;
 
 use crate::data_source::{MemBlk, MemDtlb, MemLevel, MemLock, MemOp, MemSnoop, MemSnoopX, Txn};
 use crate::flags::{AuxFlags, KSymbolFlags, ReadFormat, SampleFlags};
@@ -34,7 +31,7 @@ pub fn sample_flags_by_number<S: BuildHasher>(
 ) -> Compared
     ensures { IsByNumber
         (number_hash S.Hasher.finish S.Hasher.write (S.build_hasher hashing.now) fed.u64)
-        (sample_flags_bits first) (sample_flags_bits second)
+        (bits.sample_flags_bits first) (bits.sample_flags_bits second)
         result.equal result.first_hash result.second_hash }
 {
     Compared {
@@ -52,7 +49,7 @@ pub fn read_format_by_number<S: BuildHasher>(
 ) -> Compared
     ensures { IsByNumber
         (number_hash S.Hasher.finish S.Hasher.write (S.build_hasher hashing.now) fed.u64)
-        (read_format_bits first) (read_format_bits second)
+        (bits.read_format_bits first) (bits.read_format_bits second)
         result.equal result.first_hash result.second_hash }
 {
     Compared {
@@ -70,7 +67,7 @@ pub fn aux_flags_by_number<S: BuildHasher>(
 ) -> Compared
     ensures { IsByNumber
         (number_hash S.Hasher.finish S.Hasher.write (S.build_hasher hashing.now) fed.u64)
-        (aux_flags_bits first) (aux_flags_bits second)
+        (bits.aux_flags_bits first) (bits.aux_flags_bits second)
         result.equal result.first_hash result.second_hash }
 {
     Compared {
@@ -88,7 +85,7 @@ pub fn ksymbol_flags_by_number<S: BuildHasher>(
 ) -> Compared
     ensures { IsByNumber
         (number_hash S.Hasher.finish S.Hasher.write (S.build_hasher hashing.now) fed.u16)
-        (ksymbol_flags_bits first) (ksymbol_flags_bits second)
+        (bits.ksymbol_flags_bits first) (bits.ksymbol_flags_bits second)
         result.equal result.first_hash result.second_hash }
 {
     Compared {
@@ -102,7 +99,8 @@ pub fn ksymbol_flags_by_number<S: BuildHasher>(
 pub fn mem_op_by_number<S: BuildHasher>(hashing: &S, first: MemOp, second: MemOp) -> Compared
     ensures { IsByNumber
         (number_hash S.Hasher.finish S.Hasher.write (S.build_hasher hashing.now) fed.u64)
-        (mem_op_bits first) (mem_op_bits second) result.equal result.first_hash result.second_hash }
+        (bits.mem_op_bits first) (bits.mem_op_bits second)
+        result.equal result.first_hash result.second_hash }
 {
     Compared {
         equal: first == second,
@@ -119,7 +117,7 @@ pub fn mem_level_by_number<S: BuildHasher>(
 ) -> Compared
     ensures { IsByNumber
         (number_hash S.Hasher.finish S.Hasher.write (S.build_hasher hashing.now) fed.u64)
-        (mem_level_bits first) (mem_level_bits second)
+        (bits.mem_level_bits first) (bits.mem_level_bits second)
         result.equal result.first_hash result.second_hash }
 {
     Compared {
@@ -133,7 +131,7 @@ pub fn mem_level_by_number<S: BuildHasher>(
 pub fn mem_lock_by_number<S: BuildHasher>(hashing: &S, first: MemLock, second: MemLock) -> Compared
     ensures { IsByNumber
         (number_hash S.Hasher.finish S.Hasher.write (S.build_hasher hashing.now) fed.u64)
-        (mem_lock_bits first) (mem_lock_bits second)
+        (bits.mem_lock_bits first) (bits.mem_lock_bits second)
         result.equal result.first_hash result.second_hash }
 {
     Compared {
@@ -147,7 +145,7 @@ pub fn mem_lock_by_number<S: BuildHasher>(hashing: &S, first: MemLock, second: M
 pub fn mem_dtlb_by_number<S: BuildHasher>(hashing: &S, first: MemDtlb, second: MemDtlb) -> Compared
     ensures { IsByNumber
         (number_hash S.Hasher.finish S.Hasher.write (S.build_hasher hashing.now) fed.u64)
-        (mem_dtlb_bits first) (mem_dtlb_bits second)
+        (bits.mem_dtlb_bits first) (bits.mem_dtlb_bits second)
         result.equal result.first_hash result.second_hash }
 {
     Compared {
@@ -165,7 +163,7 @@ pub fn mem_snoop_x_by_number<S: BuildHasher>(
 ) -> Compared
     ensures { IsByNumber
         (number_hash S.Hasher.finish S.Hasher.write (S.build_hasher hashing.now) fed.u64)
-        (mem_snoop_x_bits first) (mem_snoop_x_bits second)
+        (bits.mem_snoop_x_bits first) (bits.mem_snoop_x_bits second)
         result.equal result.first_hash result.second_hash }
 {
     Compared {
@@ -179,7 +177,7 @@ pub fn mem_snoop_x_by_number<S: BuildHasher>(
 pub fn mem_blk_by_number<S: BuildHasher>(hashing: &S, first: MemBlk, second: MemBlk) -> Compared
     ensures { IsByNumber
         (number_hash S.Hasher.finish S.Hasher.write (S.build_hasher hashing.now) fed.u64)
-        (mem_blk_bits first) (mem_blk_bits second)
+        (bits.mem_blk_bits first) (bits.mem_blk_bits second)
         result.equal result.first_hash result.second_hash }
 {
     Compared {
@@ -197,7 +195,7 @@ pub fn mem_snoop_by_number<S: BuildHasher>(
 ) -> Compared
     ensures { IsByNumber
         (number_hash S.Hasher.finish S.Hasher.write (S.build_hasher hashing.now) fed.u64)
-        (mem_snoop_bits first) (mem_snoop_bits second)
+        (bits.mem_snoop_bits first) (bits.mem_snoop_bits second)
         result.equal result.first_hash result.second_hash }
 {
     Compared {
@@ -211,7 +209,8 @@ pub fn mem_snoop_by_number<S: BuildHasher>(
 pub fn txn_by_number<S: BuildHasher>(hashing: &S, first: Txn, second: Txn) -> Compared
     ensures { IsByNumber
         (number_hash S.Hasher.finish S.Hasher.write (S.build_hasher hashing.now) fed.u64)
-        (txn_bits first) (txn_bits second) result.equal result.first_hash result.second_hash }
+        (bits.txn_bits first) (bits.txn_bits second)
+        result.equal result.first_hash result.second_hash }
 {
     Compared {
         equal: first == second,

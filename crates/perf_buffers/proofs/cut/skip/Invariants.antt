@@ -2,7 +2,7 @@ use Rattle.std.proofs.Common.{◌-◌, ◌≤◌, None}
 use Rattle.std.specs.Prelude.{IsTrue}
 use Rattle.perf_buffers.specs.Buffer.{Stays}
 use Rattle.perf_buffers.specs.Taking.{Takes}
-use Rattle.perf_buffers.proofs.cursor.skip.Given as goal
+use Rattle.perf_buffers.proofs.cut.skip.Given as goal
 
 abbrev pub invariant-loop-at : goal.invariant-loop-at
 invariant-loop-at g l =

@@ -1,0 +1,240 @@
+//! Bytes that are cut off a buffer as one frame, and bytes that are skipped.
+
+ghost use Rattle.std.specs.Prelude.{◌≡◌, ◌≢◌, ◌<◌, ◌≤◌, true, Some, length, take};
+ghost use Rattle.std.specs.Prelude.{IsTrue, IsOk, OnOk, IfOk, IfErr, IfSome, MatchOption};
+ghost use Rattle.perf_buffers.specs.Words.{kind_of, refusal_kind, refused, kinds, refusal, Stays};
+ghost use Rattle.perf_buffers.specs.Words.{CanFail, Takes, FailsToTake, FailsToKeep};
+ghost use Rattle.perf_buffers.specs.Words as words;
+
+use crate::cursor::{Held, ParseBufCursor};
+use crate::fill::append;
+use crate::parsebuf::{ParseBuf, ParseBufChunk};
+use perf_base::error::{ErrorKind, ParseError, ParseResult};
+use perf_base::refusal::{Kept, ReadResult, Refusal};
+use std::alloc::Global;
+
+// Room that is made for bytes of which the buffer does not say whether it has them.
+const UNHINTED_ROOM: usize = 16384;
+
+// The next `len` bytes, where the first chunk has them all: lent where it lasts, and else copied.
+#[inline]
+fn cut_at_once<'p, B: ParseBuf<'p>>(
+    alloc: Global,
+    buf: &mut B,
+    kept: &mut Kept,
+    len: usize,
+) -> ReadResult<Option<Held<'p>>>
+    requires { 0 < len }
+    ensures stays { Stays (B.source buf.old) (refused (kinds result)) (B.source buf.new) }
+    ensures can_fail { CanFail (B.source buf.old) (refused (kinds result)) }
+    ensures whole { IsTrue (B.source buf.old).whole → IfOk result (λ o. MatchOption o
+        (IsTrue (B.source buf.old).told × (length (B.source buf.old).left < len))
+        (λ held. IsTrue (words.is_lent held))) }
+    ensures whole_memory { IsTrue (B.source buf.old).whole → words.TakesNoMemory (kinds result) }
+    ensures beforehand { IsTrue (B.source buf.old).told → IfErr result (λ e.
+        refusal_kind e ≡ ErrorKind.OutOfMemory →
+        (B.source buf.new).left ≡ (B.source buf.old).left) }
+    ensures count { IfOk result (λ o. IfSome o (λ held. length (words.held_left held) ≡ len)) }
+    ensures start { IfOk result (λ o. IfSome o (λ held. words.is_at_start held)) }
+    ensures ok { IsTrue (B.source buf.old).told → IfOk result (λ o. MatchOption o
+        ((B.source buf.new).left ≡ (B.source buf.old).left)
+        (λ held. Takes (B.source buf.old) len (B.source buf.new)
+        × (words.held_left held ≡ take len (B.source buf.old).left))) }
+    ensures err { IsTrue (B.source buf.old).told → IfErr result (λ e.
+        FailsToKeep (B.source buf.old) len (refusal_kind e) (B.source buf.new)) }
+{
+    let chunk = match buf.chunk() {
+        Ok(chunk) => chunk,
+        Err(error) => return Err(kept.keep(error)),
+    };
+    if chunk.as_bytes().len() < len {
+        return Ok(None);
+    }
+    let held = match chunk {
+        ParseBufChunk::External(bytes) => Held::Lent(&bytes[..len]),
+        ParseBufChunk::Temporary(bytes) => match Vec::from_slice(alloc, &bytes[..len]) {
+            Ok(bytes) => Held::Own(bytes, 0),
+            Err(_) => return Err(Refusal::OutOfMemory),
+        },
+    };
+    buf.advance(len);
+    Ok(Some(held))
+}
+
+// Takes what one chunk has, at most `len` bytes, and keeps none of it.
+fn skip_some<'p, B: ParseBuf<'p>>(buf: &mut B, len: usize) -> ParseResult<usize>
+    requires { 0 < len }
+    ensures stays { Stays (B.source buf.old) (refusal result) (B.source buf.new) }
+    ensures can_fail { CanFail (B.source buf.old) (refusal result) }
+    ensures memory { words.NeedsNoMemory result }
+    ensures count { IfOk result (λ n. (0 < n) × (n ≤ len)) }
+    ensures ok { IsTrue (B.source buf.old).told →
+        IfOk result (λ n. Takes (B.source buf.old) n (B.source buf.new)) }
+    ensures err { IsTrue (B.source buf.old).told →
+        IfErr result (λ e. FailsToTake (B.source buf.old) len (kind_of e) (B.source buf.new)) }
+{
+    let chunk = buf.chunk()?;
+    let count = chunk.as_bytes().len().min(len);
+    buf.advance(count);
+    Ok(count)
+}
+
+/// Takes `len` bytes and keeps none of them.
+pub fn skip<'p, B: ParseBuf<'p>>(buf: &mut B, len: usize) -> ParseResult<()>
+    ensures stays { Stays (B.source buf.old) (refusal result) (B.source buf.new) }
+    ensures can_fail { CanFail (B.source buf.old) (refusal result) }
+    ensures memory { words.NeedsNoMemory result }
+    ensures ok { IsTrue (B.source buf.old).told →
+        OnOk result (Takes (B.source buf.old) len (B.source buf.new)) }
+    ensures err { IsTrue (B.source buf.old).told →
+        IfErr result (λ e. FailsToTake (B.source buf.old) len (kind_of e) (B.source buf.new)) }
+{
+    let mut at = 0;
+    while at < len {
+        at += skip_some(buf, len - at)?;
+    }
+    Ok(())
+}
+
+// The refusal where fewer than `len` bytes are left, all of which are taken.
+#[cold]
+#[inline(never)]
+fn shortage<'p, B: ParseBuf<'p>>(buf: &mut B, kept: &mut Kept, len: usize) -> Refusal
+    requires { IsTrue (B.source buf.old).told → length (B.source buf.old).left < len }
+    ensures stays { Stays (B.source buf.old) (Some (refusal_kind result)) (B.source buf.new) }
+    ensures can_fail { CanFail (B.source buf.old) (Some (refusal_kind result)) }
+    ensures no_memory { refusal_kind result ≢ ErrorKind.OutOfMemory }
+    ensures err { IsTrue (B.source buf.old).told →
+        FailsToKeep (B.source buf.old) len (refusal_kind result) (B.source buf.new) }
+{
+    match skip(buf, len) {
+        Ok(()) => Refusal::Eof,
+        Err(error) => kept.keep(error),
+    }
+}
+
+// How much room is made before the first byte is taken.
+#[inline]
+fn first_room(hinted: bool, len: usize) -> usize
+    ensures { result ≡ words.room_made hinted len }
+{
+    if hinted { len } else { len.min(UNHINTED_ROOM) }
+}
+
+// The next `len` bytes, copied.
+fn copy<'p, B: ParseBuf<'p>>(
+    alloc: Global,
+    buf: &mut B,
+    len: usize,
+    hinted: bool,
+) -> ParseResult<Vec<u8>>
+    ensures stays { Stays (B.source buf.old) (refusal result) (B.source buf.new) }
+    ensures can_fail { CanFail (B.source buf.old) (refusal result) }
+    ensures beforehand { IsTrue (B.source buf.old).told → words.makes_all_room hinted len ≡ true →
+        IfErr result (λ e. kind_of e ≡ ErrorKind.OutOfMemory →
+        (B.source buf.new).left ≡ (B.source buf.old).left) }
+    ensures count { IfOk result (λ v. length v.items ≡ len) }
+    ensures ok { IsTrue (B.source buf.old).told →
+        IfOk result (λ v. Takes (B.source buf.old) len (B.source buf.new)
+        × (v.items ≡ take len (B.source buf.old).left)) }
+    ensures err { IsTrue (B.source buf.old).told →
+        IfErr result (λ e. FailsToKeep (B.source buf.old) len (kind_of e) (B.source buf.new)) }
+{
+    let room = first_room(hinted, len);
+    let mut bytes = match Vec::with_capacity(alloc, room) {
+        Ok(bytes) => bytes,
+        Err(_) => return Err(ParseError::out_of_memory()),
+    };
+    match append(buf, &mut bytes, len) {
+        Ok(()) => Ok(bytes),
+        Err(error) => Err(error),
+    }
+}
+
+// Whether the buffer says that it has fewer than `len` bytes.
+#[inline]
+fn says_too_few(hint: Option<usize>, len: usize) -> bool
+    ensures { result ≡ words.falls_short hint len }
+{
+    match hint {
+        Some(left) => left < len,
+        None => false,
+    }
+}
+
+// The next `len` bytes, copied from as many chunks as it takes, with the error of a fault kept
+// aside.
+#[cold]
+#[inline(never)]
+fn cut_slowly<'p, B: ParseBuf<'p>>(
+    alloc: Global,
+    buf: &mut B,
+    kept: &mut Kept,
+    len: usize,
+    hinted: bool,
+) -> ReadResult<ParseBufCursor<'p>>
+    ensures stays { Stays (B.source buf.old) (refused (kinds result)) (B.source buf.new) }
+    ensures can_fail { CanFail (B.source buf.old) (refused (kinds result)) }
+    ensures beforehand { IsTrue (B.source buf.old).told → words.makes_all_room hinted len ≡ true →
+        IfErr result (λ e. refusal_kind e ≡ ErrorKind.OutOfMemory →
+        (B.source buf.new).left ≡ (B.source buf.old).left) }
+    ensures count { IfOk result (λ c. length (words.held_left c.held) ≡ len) }
+    ensures start { IfOk result (λ c. words.is_at_start c.held) }
+    ensures ok { IsTrue (B.source buf.old).told → IfOk result (λ c.
+        Takes (B.source buf.old) len (B.source buf.new)
+        × (words.held_left c.held ≡ take len (B.source buf.old).left)) }
+    ensures err { IsTrue (B.source buf.old).told → IfErr result (λ e.
+        FailsToKeep (B.source buf.old) len (refusal_kind e) (B.source buf.new)) }
+{
+    match copy(alloc, buf, len, hinted) {
+        Ok(bytes) => Ok(ParseBufCursor {
+            held: Held::Own(bytes, 0),
+        }),
+        Err(error) => Err(kept.keep(error)),
+    }
+}
+
+// Cuts the next `len` bytes off a buffer, with the error of a fault kept aside.
+#[inline]
+pub(crate) fn cut<'p, B: ParseBuf<'p>>(
+    alloc: Global,
+    buf: &mut B,
+    kept: &mut Kept,
+    len: usize,
+) -> ReadResult<ParseBufCursor<'p>>
+    ensures stays { Stays (B.source buf.old) (refused (kinds result)) (B.source buf.new) }
+    ensures can_fail { CanFail (B.source buf.old) (refused (kinds result)) }
+    ensures whole { IsTrue (B.source buf.old).whole →
+        IfOk result (λ c. IsTrue (words.is_lent c.held)) }
+    ensures whole_memory { IsTrue (B.source buf.old).whole → words.TakesNoMemory (kinds result) }
+    ensures nothing { len ≡ 0 → IfOk result (λ c. IsTrue (words.is_lent c.held)) × IsOk result
+        × (B.source buf.new ≡ B.source buf.old) }
+    ensures short { words.falls_short (B.hint buf.old) len ≡ true →
+        words.TakesNoMemory (kinds result) × IfOk result (λ c. ⊥) }
+    ensures beforehand { IsTrue (B.source buf.old).told →
+        words.is_made_beforehand (B.hint buf.old) len ≡ true →
+        IfErr result (λ e. refusal_kind e ≡ ErrorKind.OutOfMemory →
+        (B.source buf.new).left ≡ (B.source buf.old).left) }
+    ensures ok { IsTrue (B.source buf.old).told → IfOk result (λ c.
+        Takes (B.source buf.old) len (B.source buf.new)
+        × (words.held_left c.held ≡ take len (B.source buf.old).left)) }
+    ensures start { IfOk result (λ c. words.is_at_start c.held) }
+    ensures count { IfOk result (λ c. length (words.held_left c.held) ≡ len) }
+    ensures err { IsTrue (B.source buf.old).told → IfErr result (λ e.
+        FailsToKeep (B.source buf.old) len (refusal_kind e) (B.source buf.new)) }
+{
+    if len == 0 {
+        return Ok(ParseBufCursor {
+            held: Held::Lent(&[]),
+        });
+    }
+    let hint = buf.remaining_hint();
+    if says_too_few(hint, len) {
+        return Err(shortage(buf, kept, len));
+    }
+    match cut_at_once(alloc, buf, kept, len) {
+        Ok(Some(held)) => Ok(ParseBufCursor { held }),
+        Ok(None) => cut_slowly(alloc, buf, kept, len, hint.is_some()),
+        Err(refusal) => Err(refusal),
+    }
+}
