@@ -10,12 +10,16 @@
 #
 # A file has an attribute for each event that was recorded. The first is taken. The others must agree with it in all
 # that the reading of records rests on: size, sample_type, read_format, sample_id_all, branch_sample_type,
-# sample_regs_user and sample_regs_intr. One event makes one attribute: `perf record -e cpu-clock`.
+# sample_regs_user and sample_regs_intr. One event makes one attribute: `perf record -e cpu-clock`. With `-a` perf may
+# add an event of its own (`dummy`), which has no frequency, so that its samples have no period: there a fixed period
+# makes both agree, as in `perf record -a -e cpu-clock -c 1000000`.
 #
-# Refused, with a message and the status 1, and with nothing written: what isn't a file of perf, a big-endian or pipe
-# mode file, one that perf did not close, one that is cut, attributes that differ, and files whose data section isn't
-# plain records: compressed (`perf record -z`), one file a thread (`--threads`), or with AUX data, which lies behind
-# its record. Other words get a usage line and the status 2.
+# Refused, with a message and the status 1, and with nothing written: a name that is none of a file, a file that can't
+# be read, a folder, standard input (`-`: the file is read in several places, and a file of that name is `./-`), what
+# isn't a file of perf, a big-endian or pipe mode file, one that perf did not close, one that is cut, attributes that
+# differ (the message names the field and both values, and says what to do), and files whose data section isn't plain
+# records: compressed (`perf record -z`), one file a thread (`--threads`), or with AUX data, which lies behind its
+# record. Other words get a usage line and the status 2.
 #
 # It needs `od`, `tr`, `wc`, `tail`, and a `head` that knows `-c`.
 #
@@ -70,18 +74,44 @@ section() {
     fi
 }
 
-# agreed AT: what the reading of records takes from the attribute at AT, whose size is `size`.
-agreed() {
-    hex $(($1 + 4)) 4
-    hex $(($1 + 24)) 16
-    number $(($1 + 42)) 1
-    echo " $((number & 4))"
-    if [ "$size" -ge 80 ]; then hex $(($1 + 72)) 8; fi
-    if [ "$size" -ge 96 ]; then hex $(($1 + 80)) 8; fi
-    if [ "$size" -ge 104 ]; then hex $(($1 + 96)) 8; fi
+# differs NAME ONE OTHER: refuses the attribute at `at`, whose field NAME has another value than the first's. Where
+# the samples of one event alone have a period (0x100 of sample_type), that event alone has a frequency.
+differs() {
+    advice="record one event only, with -e EVENT"
+    if [ "$1" = sample_type ] && [ $(($2 ^ $3)) -eq 256 ]; then
+        advice="record with a fixed period, as with -c 1000000"
+    fi
+    event=$(((at - first) / entry + 1))
+    refuse "$(printf 'its attributes 1 and %d differ in %s, 0x%x and 0x%x: %s' "$event" "$1" "$2" "$3" "$advice")"
 }
 
-[ -f "$file" ] && [ -r "$file" ] || refuse "no file that can be read"
+# same NAME AT LEN: sees that the attribute at `at` has the first one's value of the field NAME, whose bytes they are.
+same() {
+    number $((first + $2)) "$3"
+    one=$number
+    number $((at + $2)) "$3"
+    [ "$number" -eq "$one" ] || differs "$1" "$one" "$number"
+}
+
+# agrees: sees that the attribute at `at` agrees with the first, whose size is `size`.
+agrees() {
+    same size 4 4
+    same sample_type 24 8
+    same read_format 32 8
+    number $((first + 42)) 1
+    one=$((number >> 2 & 1))
+    number $((at + 42)) 1
+    [ $((number >> 2 & 1)) -eq "$one" ] || differs sample_id_all "$one" $((number >> 2 & 1))
+    if [ "$size" -ge 80 ]; then same branch_sample_type 72 8; fi
+    if [ "$size" -ge 96 ]; then same sample_regs_user 80 8; fi
+    if [ "$size" -ge 104 ]; then same sample_regs_intr 96 8; fi
+}
+
+[ "$file" != - ] || refuse "standard input can't be read in several places: write it to a file first"
+[ -e "$file" ] || refuse "no such file"
+[ ! -d "$file" ] || refuse "a folder"
+[ -f "$file" ] || refuse "not a plain file"
+[ -r "$file" ] || refuse "can't be read: no permission"
 total=$(($(wc -c < "$file")))
 [ "$total" -ge 16 ] || refuse "not a file of perf: too short"
 case $(hex 0 8) in
@@ -108,10 +138,9 @@ end=$((at + len))
 number $((first + 4)) 4
 size=$number
 [ "$size" -ge 64 ] && [ "$size" -le $((entry - 16)) ] || refuse "its first attribute has no lawful size"
-wanted=$(agreed "$first")
 at=$((first + entry))
 while [ "$at" -lt "$end" ]; do
-    [ "$(agreed "$at")" = "$wanted" ] || refuse "its attributes differ: record one event only"
+    agrees
     at=$((at + entry))
 done
 

@@ -1,6 +1,6 @@
 -- How a run of the program ends, and what it has then written.
 use Rattle.std.specs.Prelude.{◌≡◌, ℕ, ◌<◌, Bool, true, false, ◌||◌, ◌&&◌, not, List, ◌++◌, take}
-use Rattle.std.specs.Prelude.{codes, is_err, if◌then◌else◌, ◌⊎◌, Option}
+use Rattle.std.specs.Prelude.{codes, is_err, if◌then◌else◌, ◌⊎◌, Option, IsTrue}
 use Rattle.std.specs.List.{list_any}
 use Rattle.std.specs.Io.{StartsWith}
 use Rattle.std.specs.Io.KnownBytes.{Appends}
@@ -49,15 +49,15 @@ stream_outcome o limit (without_frames kind) = BadAttr
 
 -- ---- a text with a fault
 
--- a kind that ends a run early
-abbrev pub EndsEarly : ErrorKind → Type 0
-EndsEarly kind = (kind ≡ External) ⊎ (kind ≡ OutOfMemory)
+-- a kind that ends a run early: want of memory, and a fault only of a buffer that can fault
+abbrev pub EndsEarly : (can_fault : Bool) → ErrorKind → Type 0
+EndsEarly can_fault kind = ((kind ≡ External) × IsTrue can_fault) ⊎ (kind ≡ OutOfMemory)
 
 -- The text of a run that a fault ended: the lines of the first k answers, fewer than the limit or
 -- none, and the fault.
-abbrev pub IsFaultText : Order → ℕ → Stream → List ℕ → Type 0
-IsFaultText o limit stream written =
-    (k : ℕ) × (kind : ErrorKind) × ((k < limit) ⊎ (k ≡ 0)) × EndsEarly kind
+abbrev pub IsFaultText : (can_fault : Bool) → Order → ℕ → Stream → List ℕ → Type 0
+IsFaultText can_fault o limit stream written =
+    (k : ℕ) × (kind : ErrorKind) × ((k < limit) ⊎ (k ≡ 0)) × EndsEarly can_fault kind
     × (written
     ≡ lines_from 0 (take k (stream_answers o stream))
     ++ end_line (codes "fault " ++ kind_name kind))
@@ -65,25 +65,25 @@ IsFaultText o limit stream written =
 -- ---- what an outcome says
 
 -- a whole text, with a fault or without
-abbrev pub IsText : Order → ℕ → Stream → List ℕ → Type 0
-IsText o limit stream written =
-    (written ≡ stream_text o limit stream) ⊎ IsFaultText o limit stream written
+abbrev pub IsText : (can_fault : Bool) → Order → ℕ → Stream → List ℕ → Type 0
+IsText can_fault o limit stream written =
+    (written ≡ stream_text o limit stream) ⊎ IsFaultText can_fault o limit stream written
 
 -- the text without a fault, which amounts to this outcome
 abbrev pub IsTextOf : Order → ℕ → Stream → Outcome → List ℕ → Type 0
 IsTextOf o limit stream outcome written =
     (written ≡ stream_text o limit stream) × (stream_outcome o limit stream ≡ outcome)
 
--- What was written of a stream, by the outcome of its run.
-abbrev pub Says : Order → ℕ → Stream → Outcome → List ℕ → Type 0
-Says o limit stream Clean written = IsTextOf o limit stream Clean written
-Says o limit stream Refused written = IsTextOf o limit stream Refused written
-Says o limit stream BadAttr written = IsTextOf o limit stream BadAttr written
-Says o limit stream Faulted written = IsFaultText o limit stream written
-Says o limit stream Stopped written =
-    (whole : List ℕ) × IsText o limit stream whole × StartsWith whole written
+-- What was written of a stream, by the outcome of its run, and by whether the buffer can fault.
+abbrev pub Says : (can_fault : Bool) → Order → ℕ → Stream → Outcome → List ℕ → Type 0
+Says can_fault o limit stream Clean written = IsTextOf o limit stream Clean written
+Says can_fault o limit stream Refused written = IsTextOf o limit stream Refused written
+Says can_fault o limit stream BadAttr written = IsTextOf o limit stream BadAttr written
+Says can_fault o limit stream Faulted written = IsFaultText can_fault o limit stream written
+Says can_fault o limit stream Stopped written =
+    (whole : List ℕ) × IsText can_fault o limit stream whole × StartsWith whole written
 
--- The writer, where it tells its bytes, has got what such a run writes.
+-- The writer, where it tells its bytes, has got what such a run writes. A reader can fault.
 abbrev pub Writes : Order → ℕ → Stream → Outcome → (old new : Option (List ℕ)) → Type 0
 Writes o limit stream outcome old new =
-    (written : List ℕ) × Appends old new written × Says o limit stream outcome written
+    (written : List ℕ) × Appends old new written × Says true o limit stream outcome written

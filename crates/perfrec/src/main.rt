@@ -13,6 +13,8 @@ mod answers;
 #[cfg(test)]
 mod answers_first;
 mod command;
+#[cfg(test)]
+mod failing;
 mod fields;
 mod line;
 mod outcome;

@@ -1,7 +1,7 @@
 //! The engine: what a reader gives in, its text out.
 
 ghost use Rattle.std.specs.Prelude.{◌≡◌, ◌<◌, ◌++◌, List, ℕ, IsTrue, IfOk, IfErr, IfSome, is_err};
-ghost use Rattle.std.specs.Prelude.{codes, string_bytes, if◌then◌else◌};
+ghost use Rattle.std.specs.Prelude.{codes, string_bytes, if◌then◌else◌, true};
 ghost use Rattle.std.specs.List.{list_any};
 ghost use Rattle.perf_base.specs.Configured.{configuration_of, endian_of};
 ghost use Rattle.perf_base.specs.Errors.{kind_of};
@@ -67,7 +67,7 @@ fn text_of<R: Read + Drop, E: Endian>(
 ) -> Result<(String, Outcome), AllocError>
     requires { 0 < piece }
     ensures { IfSome (R.remaining reader) (λ bytes. IfOk result (λ made.
-        Says (E.order order) limit (stream_of with_attr (E.order order) bytes) made.1
+        Says true (E.order order) limit (stream_of with_attr (E.order order) bytes) made.1
         (string_bytes made.0))) }
 {
     let mut text = String::new(alloc);
@@ -93,8 +93,8 @@ fn push_run_with_attr<'p, B: ParseBuf<'p> + Drop, E: Endian>(
 ) -> Result<Outcome, AllocError>
     ensures { IsTrue (B.source (buffer_of parser)).told → IfOk result (λ outcome. (written : List ℕ)
         × (string_bytes text.new ≡ string_bytes text.old ++ written)
-        × Says (E.order (endian_of (config_of parser))) limit
-        (behind_attribute (E.order (endian_of (config_of parser)))
+        × Says (B.source (buffer_of parser)).can_fault (E.order (endian_of (config_of parser)))
+        limit (behind_attribute (E.order (endian_of (config_of parser)))
         (B.source (buffer_of parser)).left) outcome written) }
 {
     match parse_attr(parser) {
@@ -110,6 +110,10 @@ fn parse_attr<'p, B: ParseBuf<'p> + Drop, E: Endian>(
 ) -> ParseResult<Parser<B, E>>
     ensures told { IsTrue (B.source (buffer_of parser)).told → IfOk result (λ behind.
         IsTrue (B.source (buffer_of behind)).told) }
+    ensures can_fault { IfOk result (λ behind. IsTrue (B.source (buffer_of behind)).can_fault →
+        IsTrue (B.source (buffer_of parser)).can_fault) }
+    ensures fault { IfErr result (λ e. kind_of e ≡ ErrorKind.External →
+        IsTrue (B.source (buffer_of parser)).can_fault) }
     ensures order { IfOk result (λ behind.
         E.order (endian_of (config_of behind)) ≡ E.order (endian_of (config_of parser))) }
     ensures read { IsTrue (B.source (buffer_of parser)).told → IfOk result (λ behind.
@@ -166,7 +170,8 @@ fn push_run<'p, B: ParseBuf<'p>, E: Endian>(
     ensures { IsTrue (B.source (buffer_of parser.old)).told → IfOk result (λ outcome.
         (written : List ℕ)
         × (string_bytes text.new ≡ string_bytes text.old ++ written)
-        × Says (E.order (endian_of (config_of parser.old))) limit
+        × Says (B.source (buffer_of parser.old)).can_fault
+        (E.order (endian_of (config_of parser.old))) limit
         (framed (configuration_of (config_of parser.old)) (B.source (buffer_of parser.old)).left)
         outcome written) }
 {

@@ -12,12 +12,10 @@ use perf_event_data::parse::{ErrorKind, ParseError, ParseResult};
 use perf_event_data::sys::perf_event_header;
 use perf_event_data::{LostSamples, Record};
 use std::alloc::{AllocError, Global};
-use std::io;
-use std::io::{Read, Write};
 use std::process::Abort;
 
 // Five lost samples, the lowest byte first.
-const FIVE_LOST: [u8; 16] = [13, 0, 0, 0, 0, 0, 16, 0, 5, 0, 0, 0, 0, 0, 0, 0];
+pub(crate) const FIVE_LOST: [u8; 16] = [13, 0, 0, 0, 0, 0, 16, 0, 5, 0, 0, 0, 0, 0, 0, 0];
 
 // The text and the outcome of an input that is read in pieces, with an attribute in front or
 // without.
@@ -48,7 +46,7 @@ fn check_pieces<E: Endian>(
 }
 
 // The same in pieces of one byte, of seven and of more than there are.
-fn check_all<E: Endian + Copy>(
+pub(crate) fn check_all<E: Endian + Copy>(
     rt: &(impl AllocGlobal + Abort),
     order: E,
     limit: usize,
@@ -251,128 +249,8 @@ fn frames_are_numbered_on_from_batch_to_batch(rt: HostRuntime) -> Result<(), All
     check_many(&rt, 600, 513, "end limit\n")
 }
 
-// Some bytes, and then a fault.
-struct Failing<'a> {
-    bytes: &'a [u8],
-    kind: io::ErrorKind,
-}
-
-impl Drop for Failing<'_> {
-    fn drop(self) {
-        let Failing { bytes: _, kind: _ } = self;
-    }
-}
-
-impl Read for Failing<'_> {
-    fn read(&mut self, buf: &mut [u8]) -> io::Result<usize> {
-        if self.bytes.is_empty() {
-            return Err(io::Error::from(self.kind));
-        }
-        self.bytes.read(buf)
-    }
-}
-
-// The text of bytes and then a fault.
-fn check_fault(
-    rt: &(impl AllocGlobal + Abort),
-    with_attr: bool,
-    bytes: &[u8],
-    kind: io::ErrorKind,
-    text: &str,
-) {
-    let mut written = Vec::new(rt.alloc());
-    let ended = run(
-        rt.alloc(),
-        Failing { bytes, kind },
-        &mut written,
-        Little,
-        10,
-        with_attr,
-        8192,
-    );
-    assert_eq!(rt; written.as_slice(), text.as_bytes());
-    assert_eq!(rt; ended, Outcome::Faulted);
-}
-
-#[test]
-fn a_fault_of_the_reader_ends_the_text(rt: HostRuntime) {
-    let line = "end fault External\n";
-    let cut = [1, 0, 0, 0, 0, 0, 48, 0, 0x16, 0x4c, 1, 0];
-    check_fault(&rt, false, &cut, io::ErrorKind::UnexpectedEof, line);
-    check_fault(&rt, false, &[], io::ErrorKind::Interrupted, line);
-    let text = "0 13 0 16 LostSamples lost=5\nend fault External\n";
-    check_fault(&rt, false, &FIVE_LOST, io::ErrorKind::Other, text);
-}
-
-#[test]
-fn a_fault_inside_the_attribute_is_no_refusal(rt: HostRuntime) -> Result<(), AllocError> {
-    let line = "end fault External\n";
-    for kind in [io::ErrorKind::UnexpectedEof, io::ErrorKind::Other] {
-        for count in [0, 7, 71, 72] {
-            let cut = attr_bytes(rt.alloc(), 72, count, 0, 0)?;
-            check_fault(&rt, true, &cut, kind, line);
-        }
-    }
-    let mut input = plain_attr(rt.alloc(), 72)?;
-    input.extend_from_slice(&FIVE_LOST)?;
-    let text = "0 13 0 16 LostSamples lost=5\nend fault External\n";
-    check_fault(&rt, true, &input, io::ErrorKind::Other, text);
-    Ok(())
-}
-
-// Keeps what it is given, a few bytes at a time, up to a number of calls; then it fails or takes
-// nothing.
-#[derive(Drop)]
-struct Full {
-    kept: Vec<u8>,
-    calls: usize,
-    fails: bool,
-}
-
-impl Write for Full {
-    fn write(&mut self, buf: &[u8]) -> io::Result<usize> {
-        if self.calls == 0 {
-            return if self.fails {
-                Err(io::Error::from(io::ErrorKind::Interrupted))
-            } else {
-                Ok(0)
-            };
-        }
-        self.calls -= 1;
-        let taken = buf.len().min(4);
-        self.kept.extend_from_slice(&buf[..taken])?;
-        Ok(taken)
-    }
-
-    fn flush(&mut self) -> io::Result<()> {
-        Err(io::Error::from(io::ErrorKind::Other))
-    }
-}
-
-// What a writer has that is full after some calls, which is tried once more and no further.
-fn check_full(rt: &(impl AllocGlobal + Abort), calls: usize, fails: bool, kept: &str) {
-    let mut writer = Full {
-        kept: Vec::new(rt.alloc()),
-        calls,
-        fails,
-    };
-    let input: &[u8] = &FIVE_LOST;
-    let ended = run(rt.alloc(), input, &mut writer, Little, 10, false, 8192);
-    assert_eq!(rt; writer.kept.as_slice(), kept.as_bytes());
-    assert_eq!(rt; ended, Outcome::Stopped);
-}
-
-#[test]
-fn a_writer_that_fails_stops_the_run(rt: HostRuntime) {
-    for fails in [false, true] {
-        check_full(&rt, 0, fails, "");
-        check_full(&rt, 2, fails, "0 13 0 1");
-        check_full(&rt, 100, fails, "0 13 0 16 LostSamples lost=5\nend done\n");
-    }
-}
-
 // The first bytes of an attribute that says nothing but its size, but for one byte.
-fn attr_bytes(
+pub(crate) fn attr_bytes(
     alloc: Global,
     size: u8,
     count: usize,
@@ -388,7 +266,7 @@ fn attr_bytes(
 }
 
 // The whole of an attribute that says nothing but its size.
-fn plain_attr(alloc: Global, size: u8) -> Result<Vec<u8>, AllocError> {
+pub(crate) fn plain_attr(alloc: Global, size: u8) -> Result<Vec<u8>, AllocError> {
     attr_bytes(alloc, size, size as usize, 0, 0)
 }
 

@@ -1,13 +1,13 @@
-use Rattle.std.proofs.Common.{◌≡◌, ℕ, ◌+◌, ◌<◌, ◌≤◌, ◌^◌, List, length, take, string_bytes, arith, subst, ap, ◌∙◌}
-use Rattle.std.specs.Prelude.{◌||◌, IsTrue}
+use Rattle.std.proofs.Common.{◌≡◌, ℕ, ◌+◌, ◌<◌, ◌≤◌, ◌^◌, List, length, take, string_bytes, arith, subst, sym, ap, ◌∙◌}
+use Rattle.std.specs.Prelude.{◌||◌, IsTrue, Some}
 use Rattle.perf_records.specs.Frames.{behind_frames}
 use Rattle.perf_reader.specs.Reading.{of_layout}
 use Rattle.perf_base.specs.Configured.{configuration_of, endian_of}
 use Rattle.perf_records.specs.Answers.{answers}
-use Rattle.perf_parser.specs.Runs.{pairs_said, EndsWith}
+use Rattle.perf_parser.specs.Runs.{pairs_said, EndsWith, end_refusal}
 use Rattle.perfrec.proofs.Batches.{behind_more}
 use Rattle.perfrec.proofs.Progress.{Listed, batch_more, all_listed, ends_alike}
-use Rattle.perfrec.proofs.Endings.{Made, if_ok_map, made_to_end, made_to_cut, made_to_fault, ends_early}
+use Rattle.perfrec.proofs.Endings.{Made, if_ok_map, made_to_end, made_to_cut, made_to_fault, ends_early, fault_within}
 use Rattle.perfrec.proofs.run.push_run.Goals as goal
 
 pub returns-in-Done : goal.returns-in-Done
@@ -15,6 +15,7 @@ returns-in-Done g c = λ told.
     let i = c.loop-count.invariant in
     let r = c.read_records-run in
     let start = c.args.parser.now in
+    let f = (g.B.ParseBuf.source start.reader.input.buf).can_fault in
     let old : List ℕ = string_bytes c.args.text.now in
     let made : List ℕ = string_bytes c.loop-count.text in
     let now : List ℕ = string_bytes c.push_lines.new.text in
@@ -38,14 +39,15 @@ returns-in-Done g c = λ told.
     let all : n + k ≡ length (answers config order bytes) = all_listed config order bytes n k left listed.within (i.left told) ends.1 in
     let end = ends_alike config order bytes n left _ listed.within (i.left told) ends.2 in
     let below : n + k < c.args.limit = omega (arith, ends.0, within) in
-    if_ok_map c.push_last.result _ (λ outcome. Made config order c.args.limit bytes old outcome (string_bytes c.push_last.new.text))
-    (λ outcome last. made_to_end config order c.args.limit bytes old (n + k) now _ batch all below end (string_bytes c.push_last.new.text) last.0 outcome last.1) c.push_last.ensures
+    if_ok_map c.push_last.result _ (λ outcome. Made f config order c.args.limit bytes old outcome (string_bytes c.push_last.new.text))
+    (λ outcome last. made_to_end f config order c.args.limit bytes old (n + k) now _ batch all below end (string_bytes c.push_last.new.text) last.0 outcome last.1) c.push_last.ensures
 
 pub returns-in-CutHeader : goal.returns-in-CutHeader
 returns-in-CutHeader g c = λ told.
     let i = c.loop-count.invariant in
     let r = c.read_records-run in
     let start = c.args.parser.now in
+    let f = (g.B.ParseBuf.source start.reader.input.buf).can_fault in
     let old : List ℕ = string_bytes c.args.text.now in
     let made : List ℕ = string_bytes c.loop-count.text in
     let now : List ℕ = string_bytes c.push_lines.new.text in
@@ -69,14 +71,15 @@ returns-in-CutHeader g c = λ told.
     let all : n + k ≡ length (answers config order bytes) = all_listed config order bytes n k left listed.within (i.left told) ends.1 in
     let end = ends_alike config order bytes n left _ listed.within (i.left told) ends.2 in
     let below : n + k < c.args.limit = omega (arith, ends.0, within) in
-    if_ok_map c.push_last-in-CutHeader.result _ (λ outcome. Made config order c.args.limit bytes old outcome (string_bytes c.push_last-in-CutHeader.new.text))
-    (λ outcome last. made_to_cut config order c.args.limit bytes old (n + k) now _ batch all below end (string_bytes c.push_last-in-CutHeader.new.text) last.0 outcome last.1) c.push_last-in-CutHeader.ensures
+    if_ok_map c.push_last-in-CutHeader.result _ (λ outcome. Made f config order c.args.limit bytes old outcome (string_bytes c.push_last-in-CutHeader.new.text))
+    (λ outcome last. made_to_cut f config order c.args.limit bytes old (n + k) now _ batch all below end (string_bytes c.push_last-in-CutHeader.new.text) last.0 outcome last.1) c.push_last-in-CutHeader.ensures
 
 pub returns-in-Fault : goal.returns-in-Fault
 returns-in-Fault g c = λ told.
     let i = c.loop-count.invariant in
     let r = c.read_records-run in
     let start = c.args.parser.now in
+    let f = (g.B.ParseBuf.source start.reader.input.buf).can_fault in
     let old : List ℕ = string_bytes c.args.text.now in
     let made : List ℕ = string_bytes c.loop-count.text in
     let now : List ℕ = string_bytes c.push_lines.new.text in
@@ -98,13 +101,16 @@ returns-in-Fault g c = λ told.
     c.deref.result.now c.deref.ensures.value now (c.in_ok-push_lines.ensures fits)
     c.deref-in-loop-count.result.now c.deref-in-loop-count.ensures.value c.has_refusal-refused.result c.has_refusal-refused.ensures in
     let below : n + k < c.args.limit = omega (arith, ends.0, within) in
-    let early = ends_early c.kind.result (λ h. ends.1 (subst (λ kind. IsTrue (of_layout kind)) c.kind.ensures h)) in
-    made_to_fault config order c.args.limit bytes old (n + k) now _ batch below c.kind.result early (string_bytes c.push_fault.new.text) c.in_ok-push_fault-in-Fault.ensures
+    let fault = fault_within f (g.B.ParseBuf.source c.loop-count.parser.reader.input.buf).can_fault (end_refusal r.result.end) c.kind.result
+    (ap end_refusal c.in-Fault.is ∙ ap (λ kind. Some kind) (sym c.kind.ensures)) r.ensures.keeps.fault i.can_fault in
+    let early = ends_early f c.kind.result (λ h. ends.1 (subst (λ kind. IsTrue (of_layout kind)) c.kind.ensures h)) fault in
+    made_to_fault f config order c.args.limit bytes old (n + k) now _ batch below c.kind.result early (string_bytes c.push_fault.new.text) c.in_ok-push_fault-in-Fault.ensures
 
 pub loop-count-preserved : goal.loop-count-preserved
 loop-count-preserved g c = record {
   within = omega (arith, c.loop-count.invariant.within, c.min-batch.ensures, c.loop-count-test.true);
   config = c.read_records-run.ensures.config ∙ c.loop-count.invariant.config;
+  can_fault = λ can. c.loop-count.invariant.can_fault (c.read_records-run.ensures.keeps.buffer.1 can);
   told = λ told. c.read_records-run.ensures.keeps.buffer.3 (c.loop-count.invariant.told told);
   left = λ told.
       let i = c.loop-count.invariant in

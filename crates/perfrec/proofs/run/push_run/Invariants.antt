@@ -12,6 +12,7 @@ invariant-loop-count g l =
     let bytes = (source l.initial.parser.reader.input.buf).left in record {
       within : l.count ≤ l.limit;
       config : l.parser.reader.config ≡ l.initial.parser.reader.config;
+      can_fault : IsTrue (source l.parser.reader.input.buf).can_fault → IsTrue (source l.initial.parser.reader.input.buf).can_fault;
       told : IsTrue (source l.initial.parser.reader.input.buf).told → IsTrue (source l.parser.reader.input.buf).told;
       left : IsTrue (source l.initial.parser.reader.input.buf).told → (source l.parser.reader.input.buf).left ≡ behind_frames order l.count bytes;
       listed : IsTrue (source l.initial.parser.reader.input.buf).told

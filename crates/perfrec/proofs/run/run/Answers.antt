@@ -1,4 +1,4 @@
-use Rattle.std.proofs.Common.{ℕ, List, [], take, string_bytes, subst}
+use Rattle.std.proofs.Common.{ℕ, true, List, [], take, string_bytes, subst}
 use Rattle.std.specs.Io.KnownBytes.{Appends}
 use Rattle.perfrec.specs.declared.outcome.Outcome.TheVariants.{Stopped}
 use Rattle.perfrec.specs.Outcomes.{Says, Writes}
@@ -12,7 +12,7 @@ returns-in_default g c =
     let order = g.E.Endian.order c.args.order in
     let old = g.W.Write.contents c.args.writer.now in
     if_some_all (g.R.Read.remaining c.args.reader) (λ bytes. Writes order c.args.limit (stream_of c.args.with_attr order bytes) Stopped old old)
-    (λ bytes. ([], appends_nothing old, says_nothing order c.args.limit (stream_of c.args.with_attr order bytes)))
+    (λ bytes. ([], appends_nothing old, says_nothing true order c.args.limit (stream_of c.args.with_attr order bytes)))
 
 pub returns : goal.returns
 returns g c =
@@ -22,7 +22,7 @@ returns g c =
     let text : List ℕ = string_bytes c.in-Ok.text in
     let part = subst (λ bytes. (n : ℕ) × Appends old new (take n bytes)) c.as_bytes.ensures.value c.write_whole.ensures.part in
     if_some_map (g.R.Read.remaining c.args.reader)
-    (λ bytes. Says order c.args.limit (stream_of c.args.with_attr order bytes) c.in-Ok.outcome text)
+    (λ bytes. Says true order c.args.limit (stream_of c.args.with_attr order bytes) c.in-Ok.outcome text)
     (λ bytes. Writes order c.args.limit (stream_of c.args.with_attr order bytes) Stopped old new)
-    (λ bytes says. (take part.0 text, part.1, says_beginning order c.args.limit (stream_of c.args.with_attr order bytes) c.in-Ok.outcome text part.0 says))
+    (λ bytes says. (take part.0 text, part.1, says_beginning true order c.args.limit (stream_of c.args.with_attr order bytes) c.in-Ok.outcome text part.0 says))
     c.in-Ok.ensures
