@@ -1,10 +1,12 @@
-use crate::laws::{branch_type_by_number, read_format_by_number};
-use crate::{
+//! Flags, named numbers, branch entries and data sources.
+
+use bitflags::Flags;
+use perf_words::laws::{branch_type_by_number, read_format_by_number};
+use perf_words::{
     AuxFlags, AuxPmuFormatType, BranchEntry, BranchType, DataSource, KSymbolFlags, MemBlk, MemDtlb,
     MemLevel, MemLevelNum, MemLock, MemOp, MemSnoop, MemSnoopX, ReadFormat, SampleFlags,
     SampleRegsAbi, Txn,
 };
-use bitflags::Flags;
 use std::hash::{BuildHasherDefault, FoldHasher};
 use std::test::Fail;
 

@@ -1,11 +1,11 @@
-use crate::group_entry::GroupEntry;
-use crate::group_iter::GroupIter;
-use crate::group_laws::{EntryCall, entry_call, entry_calls, through_a_group};
-use crate::read::Read;
-use crate::read_group::ReadGroup;
-use crate::read_value::ReadValue;
 use bitflags::Flags;
 use perf_base::cow::CowSlice;
+use perf_types::group_entry::GroupEntry;
+use perf_types::group_iter::GroupIter;
+use perf_types::group_laws::{EntryCall, entry_call, entry_calls, through_a_group};
+use perf_types::read::Read;
+use perf_types::read_group::ReadGroup;
+use perf_types::read_value::ReadValue;
 use perf_words::ReadFormat;
 use std::alloc::Global;
 use std::test::Fail;
