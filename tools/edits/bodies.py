@@ -1,7 +1,7 @@
 #!/usr/bin/env python3
 """Says of each body of a joined must-fail edit whether the prover refuses it at its own goal.
 
-Usage, at the top of the repository: tools/edits/bodies.py CRATE...
+Usage, at the top of the repository: tools/edits/bodies.py CRATE[/EDIT]...
 """
 
 import re
@@ -85,16 +85,16 @@ def owner_of(header):
 
 
 def read_edit(edit):
-    """The file that an edit changes, and its pairs of old and new texts."""
-    path, old, pairs = "", "", []
+    """The files that an edit changes, each with its pairs of old and new texts."""
+    pairs, old, files = [], "", {}
     for line in edit.read_text(encoding="utf-8").split("\n"):
         if line.startswith("file: "):
-            path = line[len("file: ") :].strip()
+            pairs = files.setdefault(line[len("file: ") :].strip(), [])
         elif line.startswith("old: "):
             old = line[len("old: ") :]
         elif line.startswith("new:"):
             pairs.append((old, line[len("new:") :].removeprefix(" ")))
-    return path, pairs
+    return files
 
 
 def continues(old, new):
@@ -140,15 +140,13 @@ def refusal(body, path, output):
 
 
 def proves(body, path, folder):
-    """Whether a folder of proofs is that of a body's function."""
-    module = "" if path == "src/lib.rt" else path[len("src/") : -len(".rt")] + "/"
-    if not folder.startswith(module):
-        return False
-    parts = folder[len(module) :].split("/")
-    if not body.owner:
-        return parts[0] in body.names
-    is_owner = parts[0].partition("+")[0].lower() == body.owner.lower()
-    return is_owner and len(parts) > 1 and parts[1] in body.names
+    """Whether a folder of proofs is that of a body's function: a method's is below its type."""
+    *around, name = folder.split("/")
+    if body.owner:
+        owner = around[-1].partition("+")[0] if around else ""
+        return name in body.names and owner.lower() == body.owner.lower()
+    module = "" if path == "src/lib.rt" else path[len("src/") : -len(".rt")]
+    return name in body.names and "/".join(around) == module
 
 
 def below(root, crate):
@@ -179,36 +177,41 @@ def copy_of(root, crate, room):
 
 def check(edit, folder):
     """Checks the copy under an edit, says what becomes of each body, and counts."""
-    path, pairs = read_edit(edit)
-    file = folder / path
-    text = file.read_text(encoding="utf-8")
-    changed, bodies = applied(text, pairs)
+    kept = {it: (folder / it).read_text(encoding="utf-8") for it in read_edit(edit)}
+    changed = {it: applied(kept[it], pairs) for it, pairs in read_edit(edit).items()}
+    bodies = [(path, body) for path, (_, found) in changed.items() for body in found]
     if len(bodies) < 2:
         return 0, 0
-    file.write_text(changed, encoding="utf-8")
+    for path, (text, _) in changed.items():
+        (folder / path).write_text(text, encoding="utf-8")
     ran = subprocess.run(["rt", "check"], cwd=folder, capture_output=True, errors="replace")
-    file.write_text(text, encoding="utf-8")
-    output = ran.stdout.split("\n") + ran.stderr.split("\n")
+    for path, text in kept.items():
+        (folder / path).write_text(text, encoding="utf-8")
+    print(f"{edit.name}: {len(bodies)} bodies", flush=True)
+    return told(bodies, ran.stdout.split("\n") + ran.stderr.split("\n")), len(bodies)
+
+
+def told(bodies, output):
+    """Prints what the prover said of each body, and counts those that it refused."""
     unread = next((it for it in output if UNREAD.match(it)), "")
     if not any(it.startswith("logic=") for it in output):
         unread = unread or "no verdict: " + next((it for it in output if "error" in it), "?")
-    print(f"{edit.name}: {len(bodies)} bodies", flush=True)
     good = 0
-    for body in bodies:
+    for path, body in bodies:
         said = "" if unread else refusal(body, path, output)
         good += bool(said)
         said = said[:120] or unread or f"{body.names[0]}: NOT REFUSED AT ITS OWN GOAL"
         print(f"  {path}:{body.line} {body.owner} {said}", flush=True)
-    return good, len(bodies)
+    return good
 
 
-def main(crates):
+def main(asked):
     root, good, total = Path.cwd(), 0, 0
-    for crate in crates:
+    for crate, _, name in (it.partition("/") for it in asked):
         with tempfile.TemporaryDirectory(prefix="bodies-") as room:
             copy_of(root, crate, Path(room))
             folder = Path(room) / "crates" / crate
-            for edit in sorted((root / "crates" / crate / "must-fail").glob("*.edit")):
+            for edit in sorted((root / "crates" / crate / "must-fail").glob(f"{name or '*'}.edit")):
                 refused, bodies = check(edit, folder)
                 good, total = good + refused, total + bodies
     print(f"{good} of {total} bodies refused at their own goal")

@@ -10,8 +10,6 @@ pub mod exit;
 pub mod group_entry;
 pub mod group_iter;
 pub mod group_laws;
-#[cfg(test)]
-mod group_tests;
 pub mod itrace_start;
 pub mod ksymbol;
 pub mod laws;
@@ -27,8 +25,6 @@ pub mod read_group;
 pub mod read_value;
 pub mod sample_id;
 pub mod switch_cpu_wide;
-#[cfg(test)]
-mod tests;
 mod text;
 pub mod text_poke;
 pub mod throttle;

@@ -9,8 +9,6 @@ pub mod flags;
 pub mod laws;
 mod macros;
 pub mod named;
-#[cfg(test)]
-mod tests;
 
 pub use branch::BranchEntry;
 pub use data_source::{

@@ -1,0 +1,246 @@
+use bitflags::Flags;
+use perf_base::cow::CowSlice;
+use perf_types::group_entry::GroupEntry;
+use perf_types::group_iter::GroupIter;
+use perf_types::group_laws::{EntryCall, entry_call, entry_calls, through_a_group};
+use perf_types::read::Read;
+use perf_types::read_group::ReadGroup;
+use perf_types::read_value::ReadValue;
+use perf_words::ReadFormat;
+use std::alloc::Global;
+use std::test::Fail;
+
+// The values of up to six entries. An entry's id is 100 more, and its lost samples are 200 more.
+const VALUES: [u64; 6] = [1, 2, 3, 4, 5, 6];
+
+// What a call does: its last three fall behind six entries or more.
+const CALLS: [EntryCall; 8] = [
+    EntryCall::Next,
+    EntryCall::NextBack,
+    EntryCall::Nth(0),
+    EntryCall::Nth(1),
+    EntryCall::NthBack(0),
+    EntryCall::NthBack(1),
+    EntryCall::Nth(7),
+    EntryCall::NthBack(6),
+];
+
+// The numbers of some entries, as the kernel writes them.
+fn numbers(alloc: Global, format: ReadFormat, values: &[u64]) -> Result<Vec<u64>, Fail> {
+    let mut numbers = Vec::new(alloc);
+    for value in values {
+        numbers.push(*value)?;
+        if format.contains(ReadFormat::ID) {
+            numbers.push(value.wrapping_add(100))?;
+        }
+        if format.contains(ReadFormat::LOST) {
+            numbers.push(value.wrapping_add(200))?;
+        }
+    }
+    Ok(numbers)
+}
+
+// Whether it is the entry of that value in that form.
+fn is_entry(format: ReadFormat, entry: Option<GroupEntry>, value: Option<u64>) -> bool {
+    match (entry, value) {
+        (None, None) => true,
+        (Some(entry), Some(value)) => {
+            let id = format
+                .contains(ReadFormat::ID)
+                .then_some(value.wrapping_add(100));
+            let lost = format
+                .contains(ReadFormat::LOST)
+                .then_some(value.wrapping_add(200));
+            entry.value() == value && entry.id() == id && entry.lost() == lost
+        }
+        _ => false,
+    }
+}
+
+// Whether four calls, named by their places in `CALLS`, answer what those of a list's iterator do.
+fn goes_as_a_list(
+    entries: GroupIter<'_>,
+    format: ReadFormat,
+    values: &[u64],
+    calls: [usize; 4],
+) -> bool {
+    let mut entries = entries;
+    let mut list = values.iter().copied();
+    for place in calls {
+        let call = CALLS[place % 8];
+        let value = match call {
+            EntryCall::Next => list.next(),
+            EntryCall::NextBack => list.next_back(),
+            EntryCall::Nth(place) => list.nth(place),
+            EntryCall::NthBack(place) => list.nth_back(place),
+        };
+        if !is_entry(format, entry_call(&mut entries, call), value) || entries.len() != list.len() {
+            return false;
+        }
+    }
+    true
+}
+
+#[test]
+fn mixtures_of_calls(rt: HostRuntime) -> Result<(), Fail> {
+    let alloc = rt.alloc();
+    for bits in [8, 12, 24, 28] {
+        let format = ReadFormat::from_bits_retain(bits);
+        for count in 0..7usize {
+            let values = &VALUES[..count];
+            let numbers = numbers(alloc, format, values)?;
+            assert_eq!(rt; numbers.len() % format.element_len(), 0);
+            let borrowed = ReadGroup::from_parts(
+                format,
+                0,
+                0,
+                CowSlice::Borrowed(numbers.as_slice()),
+            );
+            let copy = Vec::from_slice(alloc, numbers.as_slice())?;
+            assert_eq!(rt; copy.len() % format.element_len(), 0);
+            let owned = ReadGroup::from_parts(format, 0, 0, CowSlice::Owned(copy));
+            assert_eq!(rt; owned.len(), count);
+            for code in 0..4096usize {
+                let calls = [code, code / 8, code / 64, code / 512];
+                assert!(rt; goes_as_a_list(borrowed.entries(), format, values, calls));
+                assert!(rt; goes_as_a_list(owned.entries(), format, values, calls));
+            }
+        }
+    }
+    Ok(())
+}
+
+#[test]
+fn entries_from_both_ends(rt: HostRuntime) -> Result<(), Fail> {
+    let alloc = rt.alloc();
+    let words = CowSlice::Borrowed(&VALUES[..5]);
+    let group = ReadGroup::from_parts(ReadFormat::GROUP, 0, 0, words);
+    let mut entries = group.entries();
+    assert_eq!(rt; entries.nth(1).map(|entry| entry.value()), Some(2));
+    let mut copy = entries.clone()?;
+    assert_eq!(rt; entries.next_back().map(|entry| entry.value()), Some(5));
+    assert_eq!(rt; entries.nth_back(1).map(|entry| entry.value()), Some(3));
+    assert_eq!(rt; entries.len(), 0);
+    assert!(rt; entries.next().is_none());
+    assert!(rt; entries.next_back().is_none());
+    assert_eq!(rt; copy.size_hint(), (3, Some(3)));
+    let calls = [EntryCall::NthBack(1), EntryCall::Next, EntryCall::Next];
+    let answers = entry_calls(alloc, &mut copy, &calls)?;
+    let values: Vec<Option<u64>> = answers.iter().map(|e| e.map(|e| e.value())).collect(alloc)?;
+    assert_eq!(rt; values.as_slice(), [Some(4), Some(3), None].as_slice());
+    assert_eq!(rt; group.entries().count(), 5);
+    assert_eq!(rt; group.entries().last().map(|entry| entry.value()), Some(5));
+    Ok(())
+}
+
+#[test]
+fn entries_with_ids(rt: HostRuntime) -> Result<(), Fail> {
+    let alloc = rt.alloc();
+    let words = CowSlice::Borrowed(&[10u64, 1, 20, 2, 30, 2]);
+    let group = ReadGroup::from_parts(ReadFormat::from_bits_retain(0x0c), 7, 8, words);
+    assert_eq!(rt; group.len(), 3);
+    assert!(rt; !group.is_empty());
+    assert_eq!(rt; group.time_enabled(), None);
+    assert_eq!(rt; group.time_running(), None);
+    assert_eq!(rt; group.get(2).and_then(|entry| entry.id()), Some(2));
+    assert_eq!(rt; group.get(2).map(|entry| entry.value()), Some(30));
+    assert!(rt; group.get(3).is_none());
+    assert!(rt; group.get(usize::MAX).is_none());
+    assert_eq!(rt; group.get_by_id(2).map(|entry| entry.value()), Some(20));
+    assert!(rt; group.get_by_id(3).is_none());
+    let copy = group.clone(alloc)?;
+    assert_eq!(rt; copy.get(0).map(|entry| entry.value()), Some(10));
+    assert!(rt; ReadValue::try_from(group).is_err());
+    Ok(())
+}
+
+#[test]
+fn entries_without_ids(rt: HostRuntime) {
+    let words = CowSlice::Borrowed(&[10u64, 1]);
+    let group = ReadGroup::from_parts(ReadFormat::from_bits_retain(0x1b), 7, 8, words);
+    assert_eq!(rt; group.time_enabled(), Some(7));
+    assert_eq!(rt; group.time_running(), Some(8));
+    assert_eq!(rt; group.get(0).and_then(|entry| entry.lost()), Some(1));
+    assert!(rt; group.get_by_id(0).is_none());
+    assert!(rt; group.get_by_id(1).is_none());
+    let none = ReadGroup::from_parts(ReadFormat::GROUP, 0, 0, CowSlice::Borrowed(&[]));
+    assert!(rt; none.is_empty());
+    assert!(rt; none.get(0).is_none());
+    assert!(rt; ReadValue::try_from(none).is_err());
+}
+
+#[test]
+fn single_reads(rt: HostRuntime) -> Result<(), Fail> {
+    let alloc = rt.alloc();
+    let format = ReadFormat::from_bits_retain(0x17);
+    let values = ReadValue::from_parts(format, 3, 4, 5, 6, 7);
+    let read = Read {
+        pid: 1,
+        tid: 2,
+        values,
+    };
+    let copy = read.clone()?.values;
+    assert_eq!(rt; read.tid, 2);
+    for value in [
+        read.values,
+        ReadValue::try_from(ReadGroup::from_value(alloc, copy)?)?,
+    ] {
+        assert_eq!(rt; value.value(), 3);
+        assert_eq!(rt; value.time_enabled(), Some(4));
+        assert_eq!(rt; value.time_running(), Some(5));
+        assert_eq!(rt; value.id(), Some(6));
+        assert_eq!(rt; value.lost(), Some(7));
+        assert!(rt; through_a_group(alloc, value)?.is_ok());
+    }
+    let value = ReadValue::from_parts(ReadFormat::ID, 3, 4, 5, 6, 7);
+    assert_eq!(rt; value.time_enabled(), None);
+    assert_eq!(rt; value.time_running(), None);
+    assert_eq!(rt; value.lost(), None);
+    let group = ReadGroup::from_value(alloc, value)?;
+    assert_eq!(rt; group.get_by_id(6).map(|entry| entry.value()), Some(3));
+    assert_eq!(rt; group.len(), 1);
+    Ok(())
+}
+
+#[test]
+fn entry_of_another_group(rt: HostRuntime) {
+    let values = ReadGroup::from_parts(ReadFormat::GROUP, 0, 0, CowSlice::Borrowed(&[5]));
+    let with_ids = ReadFormat::from_bits_retain(0x0c);
+    let others = ReadGroup::from_parts(with_ids, 1, 2, CowSlice::Borrowed(&[8, 9]));
+    let entry = values.get(0).expect(&rt, "an entry");
+    let read = ReadValue::from_group_and_entry(&others, &entry);
+    assert_eq!(rt; read.value(), 5);
+    assert_eq!(rt; read.id(), Some(0));
+    assert_eq!(rt; read.lost(), None);
+    assert_eq!(rt; read.time_enabled(), None);
+    assert_eq!(rt; read.time_running(), None);
+    let entry = others.get(0).expect(&rt, "an entry");
+    assert_eq!(rt;
+        ReadValue::from_group_and_entry(&others, &entry).id(),
+        Some(9)
+    );
+    assert_eq!(rt; ReadValue::from_group_and_entry(&values, &entry).id(), None);
+}
+
+#[test]
+fn texts(rt: HostRuntime) -> Result<(), Fail> {
+    let alloc = rt.alloc();
+    let none = ReadGroup::from_parts(ReadFormat::GROUP, 0, 0, CowSlice::Borrowed(&[]));
+    match ReadValue::try_from(none) {
+        Ok(_) => assert!(rt; false),
+        Err(error) => {
+            let text = format!(in alloc; "{error}")?;
+            assert_eq!(rt;
+                text.as_str(),
+                "can only convert groups with a single element to ReadValues"
+            );
+        }
+    }
+    let value = ReadValue::from_parts(ReadFormat::ID, 3, 4, 5, 6, 7);
+    let text = format!(in alloc; "{value:?}")?;
+    assert_eq!(rt;
+        text.as_str(),
+        "ReadValue { value: 3, time_enabled: None, time_running: None, id: Some(6), lost: None }"
+    );
+    Ok(())
+}
