@@ -3,7 +3,7 @@ use Rattle.std.proofs.Common.{◌≡◌, ℕ, ◌≤◌, true, false, List, [], 
 use Rattle.std.proofs.lemmas.List.{length-append, length-take-le, take-append-le, drop-append-le, take-append-drop, append_assoc, take_at, drop_at}
 use Rattle.std.proofs.lemmas.Bool.{cases_lt}
 use Rattle.perf_base.specs.Order.{Order}
-use Rattle.perf_base.specs.Layout.{Shape, number, optional, run, words, padding, rest, answer_of, size, Parts, done, part, check, ◌>>=◌}
+use Rattle.perf_base.specs.Layout.{Shape, number, optional, byte_string, words, padding, rest, answer_of, size, Parts, done, part, check, ◌>>=◌}
 use Rattle.perf_base.specs.Run.{ran, run_parts}
 use Rattle.perf_base.specs.Splice.{IsBounded, Closed}
 use Rattle.perf_base.proofs.Bridge.{run_yes, run_no}
@@ -44,7 +44,7 @@ then_inv o (part shape k) f bytes y left e =
 -- ---- the bytes behind what is read
 pub bounded : (shape : Shape) → IsBounded shape → (m n : ℕ) → size shape m ≡ size shape n
 bounded (number w) h m n = refl
-bounded (run k) h m n = refl
+bounded (byte_string k) h m n = refl
 bounded (words k) h m n = refl
 bounded (padding k) h m n = refl
 bounded rest h m n = absurd h

@@ -4,7 +4,7 @@ use Rattle.std.specs.Prelude.{Result, ◌==◌, ◌||◌, nat_le, nat_lt, if◌t
 use Rattle.std.proofs.lemmas.Bool.{le-leb}
 use Rattle.std.proofs.lemmas.Bool.Decides.{nat_tests}
 use Rattle.perf_base.specs.Order.{Order}
-use Rattle.perf_base.specs.Layout.{Width, optional, bytes_in, size, layout, ending, Spot, takes, holds, stands, kind_of, spots, fault, value}
+use Rattle.perf_base.specs.Layout.{Width, optional, bytes_in, size, layout, ending, Spot, takes, holds, stands, spot_kind, spots, first_refusal, value}
 use Rattle.perf_base.specs.Attribute.{attribute, is_attribute_size}
 use Rattle.perf_base.specs.declared.sys.perf_event_attr.{perf_event_attr}
 use Rattle.perf_base.specs.declared.error.ErrorKind.{ErrorKind}
@@ -65,21 +65,21 @@ ThirdHolds (x ∷ y ∷ []) = Unit {0}
 ThirdHolds (x ∷ y ∷ takes s n shape ∷ xs) = Unit {0}
 ThirdHolds (x ∷ y ∷ holds s t e ∷ xs) = t ≡ true
 
-third : (len : ℕ) (xs : List Spot) → fault len xs ≡ None → ThirdHolds xs
+third : (len : ℕ) (xs : List Spot) → first_refusal len xs ≡ None → ThirdHolds xs
 third len [] h = tt
 third len (x ∷ []) h = tt
 third len (x ∷ y ∷ []) h = tt
 third len (x ∷ y ∷ takes s n shape ∷ xs) h = tt
 third len (x ∷ y ∷ holds s t e ∷ xs) h =
-    let behind = first (stands len x) (fault len (y ∷ holds s t e ∷ xs)) (kind_of x) h in
-    let next = first (stands len y) (fault len (holds s t e ∷ xs)) (kind_of y) behind.1 in
-    (first t (fault len xs) e next.1).0
+    let behind = first (stands len x) (first_refusal len (y ∷ holds s t e ∷ xs)) (spot_kind x) h in
+    let next = first (stands len y) (first_refusal len (holds s t e ∷ xs)) (spot_kind y) behind.1 in
+    (first t (first_refusal len xs) e next.1).0
 
 -- An attribute that was read ends where its size says.
 pub ends : (o : Order) (body : List ℕ) (a : perf_event_attr) → layout o attribute body ≡ Ok a → ending o body 0 attribute ≡ a.size
 ends o body a h =
     let n : ℕ = o.four (take 4 (drop 4 body)) in
-    let both : (fault (length body) (spots o body 0 attribute) ≡ None) × (value o body 0 attribute ≡ a) = stood (fault (length body) (spots o body 0 attribute)) (value o body 0 attribute) a h in
+    let both : (first_refusal (length body) (spots o body 0 attribute) ≡ None) × (value o body 0 attribute ≡ a) = stood (first_refusal (length body) (spots o body 0 attribute)) (value o body 0 attribute) a h in
     let size : n ≡ a.size = ap (λ (x : perf_event_attr). x.size) both.1 in
     let known : is_attribute_size n ≡ true = third (length body) (spots o body 0 attribute) both.0 in
     ends_at o body ∙ reached n known ∙ size

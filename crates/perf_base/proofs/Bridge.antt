@@ -3,7 +3,7 @@ use Rattle.std.proofs.Common.{◌≡◌, ℕ, ◌+◌, ◌-◌, ◌≤◌, ◌<�
 use Rattle.std.proofs.lemmas.List.{length-drop, drop-drop}
 use Rattle.std.proofs.lemmas.Bool.{cases_lt, le-leb, lt-leb}
 use Rattle.perf_base.specs.Order.{Order}
-use Rattle.perf_base.specs.Layout.{Shape, Answer, answer_of, size, Parts, done, part, check, slice, Spot, spots, ending, value, fault}
+use Rattle.perf_base.specs.Layout.{Shape, Answer, answer_of, size, Parts, done, part, check, slice, Spot, spots, ending, value, first_refusal}
 use Rattle.perf_base.specs.Run.{Ran, ran, stopped, one, run_parts, left_at, judged, by_places}
 use Rattle.perf_base.specs.declared.error.ErrorKind.{ErrorKind}
 use Rattle.perf_base.specs.declared.error.ErrorKind.TheVariants.{Eof}
@@ -56,7 +56,7 @@ judged_yes {A} o body s shape k h =
     let n : ℕ = size shape (length body - s) in
     let q : Parts A = k (answer_of o shape (slice body s n)) in
     let xs : List Spot = spots o body (s + n) q in
-    ap (λ (b : Bool). elim (elim b as (λ b. Option ErrorKind) [ true ↦ fault (length body) xs | false ↦ Some Eof ]) as (λ f. Ran A) [ None ↦ ran (value o body (s + n) q) (drop (ending o body (s + n) q) body) | Some e ↦ stopped e (elim b as (λ b. List ℕ) [ true ↦ left_at body xs | false ↦ [] ]) ]) (le-leb (s + n) (length body) h)
+    ap (λ (b : Bool). elim (elim b as (λ b. Option ErrorKind) [ true ↦ first_refusal (length body) xs | false ↦ Some Eof ]) as (λ f. Ran A) [ None ↦ ran (value o body (s + n) q) (drop (ending o body (s + n) q) body) | Some e ↦ stopped e (elim b as (λ b. List ℕ) [ true ↦ left_at body xs | false ↦ [] ]) ]) (le-leb (s + n) (length body) h)
 
 pub judged_no : {A : Type 0} (o : Order) (body : List ℕ) (s : ℕ) (shape : Shape) (k : Answer shape → Parts A) →
     length body < s + size shape (length body - s) → judged o body s (part shape k) ≡ stopped Eof []
@@ -64,7 +64,7 @@ judged_no {A} o body s shape k h =
     let n : ℕ = size shape (length body - s) in
     let q : Parts A = k (answer_of o shape (slice body s n)) in
     let xs : List Spot = spots o body (s + n) q in
-    ap (λ (b : Bool). elim (elim b as (λ b. Option ErrorKind) [ true ↦ fault (length body) xs | false ↦ Some Eof ]) as (λ f. Ran A) [ None ↦ ran (value o body (s + n) q) (drop (ending o body (s + n) q) body) | Some e ↦ stopped e (elim b as (λ b. List ℕ) [ true ↦ left_at body xs | false ↦ [] ]) ]) (lt-leb (s + n) (length body) h)
+    ap (λ (b : Bool). elim (elim b as (λ b. Option ErrorKind) [ true ↦ first_refusal (length body) xs | false ↦ Some Eof ]) as (λ f. Ran A) [ None ↦ ran (value o body (s + n) q) (drop (ending o body (s + n) q) body) | Some e ↦ stopped e (elim b as (λ b. List ℕ) [ true ↦ left_at body xs | false ↦ [] ]) ]) (lt-leb (s + n) (length body) h)
 
 pub bridge : {A : Type 0} (o : Order) (body : List ℕ) (s : ℕ) (p : Parts A) → s ≤ length body → run_parts o p (drop s body) ≡ judged o body s p
 bridge o body s (done v) h = refl

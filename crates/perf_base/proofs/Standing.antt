@@ -2,7 +2,7 @@
 use Rattle.std.proofs.Common.{◌≡◌, ℕ, ◌+◌, ◌-◌, ◌≤◌, true, List, length, drop, Option, Some, None, refl, ◌∙◌, ap, arith}
 use Rattle.std.proofs.lemmas.Bool.{le-leb}
 use Rattle.perf_base.specs.Order.{Order}
-use Rattle.perf_base.specs.Layout.{Answer, answer_of, size, Parts, done, part, check, slice, spots, ending, value, fault}
+use Rattle.perf_base.specs.Layout.{Answer, answer_of, size, Parts, done, part, check, slice, spots, ending, value, first_refusal}
 use Rattle.perf_base.specs.Run.{Ran, ran, stopped, left_at, by_places}
 use Rattle.perf_base.specs.declared.error.ErrorKind.{ErrorKind}
 use Rattle.perf_base.proofs.Bridge.{taken}
@@ -21,7 +21,7 @@ onwards o body s (part shape k) =
     omega arith
 onwards o body s (check t e p) = onwards o body s p
 
-unchecked_stand : {A : Type 0} (o : Order) (body : List ℕ) (s : ℕ) (p : Parts A) → Unchecked p → ending o body s p ≤ length body → fault (length body) (spots o body s p) ≡ None
+unchecked_stand : {A : Type 0} (o : Order) (body : List ℕ) (s : ℕ) (p : Parts A) → Unchecked p → ending o body s p ≤ length body → first_refusal (length body) (spots o body s p) ≡ None
 unchecked_stand o body s (done v) free fits = refl
 unchecked_stand o body s (check t e p) free fits = absurd free
 unchecked_stand o body s (part shape k) free fits =

@@ -2,7 +2,7 @@
 use Rattle.std.proofs.Common.{◌≡◌, ℕ, suc, ◌<◌, List, [], ◌∷◌, ◌++◌, length, take, drop, set, get_or, Option, Some, None, Result, Ok, Err, refl, sym, ◌∙◌, ap, arith, add-one}
 use Rattle.std.proofs.lemmas.List.{append_cancel_right, take-append-drop, set_at, drop_all, drop_more, take_more, set_split, length-take-le}
 use Rattle.perf_base.specs.Order.{Order}
-use Rattle.perf_base.specs.Layout.{Parts, done, part, check, ◌>>=◌, spots, ending, value, fault, layout}
+use Rattle.perf_base.specs.Layout.{Parts, done, part, check, ◌>>=◌, spots, ending, value, first_refusal, layout}
 use Rattle.perf_base.specs.Table.{slot, table, place_of}
 use Rattle.perf_base.specs.Run.{Ran, ran, stopped, answer, run_parts, by_places}
 use Rattle.perf_base.specs.Splice.{Closed, IsClosed, AllClosed, Spells, put_in, take_out}
@@ -18,7 +18,7 @@ judged_ok (Some k) v left back x e = cc
 
 pub layout_run : {A : Type 0} (o : Order) (p : Parts A) (body : List ℕ) (v : A) → layout o p body ≡ Ok v →
     run_parts o p body ≡ ran v (drop (ending o body 0 p) body)
-layout_run o p body v e = bridge o body 0 p (omega arith) ∙ judged_ok (fault (length body) (spots o body 0 p)) _ _ _ v e
+layout_run o p body v e = bridge o body 0 p (omega arith) ∙ judged_ok (first_refusal (length body) (spots o body 0 p)) _ _ _ v e
 
 ran_ok : {A : Type 0} (f : Option ErrorKind) (v : A) (left left' back : List ℕ) (x : A) → ◌≡◌ {A = Ran A} (elim f [ None ↦ ran v left | Some e ↦ stopped e back ]) (ran x left') →
     (◌≡◌ {A = Result A ErrorKind} (elim f [ None ↦ Ok v | Some e ↦ Err e ]) (Ok x)) × (left ≡ left')
@@ -27,7 +27,7 @@ ran_ok (Some k) v left left' back x e = absurd (cc)
 
 pub run_layout : {A : Type 0} (o : Order) (p : Parts A) (body : List ℕ) (v : A) (left : List ℕ) → run_parts o p body ≡ ran v left →
     (layout o p body ≡ Ok v) × (drop (ending o body 0 p) body ≡ left)
-run_layout o p body v left e = ran_ok (fault (length body) (spots o body 0 p)) _ _ left _ v (sym (bridge o body 0 p (omega arith)) ∙ e)
+run_layout o p body v left e = ran_ok (first_refusal (length body) (spots o body 0 p)) _ _ left _ v (sym (bridge o body 0 p (omega arith)) ∙ e)
 
 -- ---- parts in a row
 pub closed_then : {A B : Type 0} (p : Parts A) (f : A → Parts B) → Closed p → ((v : A) → Closed (f v)) → Closed (p >>= f)
@@ -193,9 +193,9 @@ answer_judged None v left back = refl
 answer_judged (Some e) v left back = refl
 
 pub layout_is_run : {A : Type 0} (o : Order) (p : Parts A) (body : List ℕ) → layout o p body ≡ answer (run_parts o p body)
-layout_is_run o p body = answer_judged (fault (length body) (spots o body 0 p)) (value o body 0 p) (drop (ending o body 0 p) body) _ ∙ ap answer (sym (bridge o body 0 p (omega arith)))
+layout_is_run o p body = answer_judged (first_refusal (length body) (spots o body 0 p)) (value o body 0 p) (drop (ending o body 0 p) body) _ ∙ ap answer (sym (bridge o body 0 p (omega arith)))
 
 -- the answer by places is the layout
 pub places_layout : {A : Type 0} (o : Order) (p : Parts A) (body : List ℕ) → answer (by_places o p body) ≡ layout o p body
 unfolding by_places
-places_layout o p body = sym (answer_judged (fault (length body) (spots o body 0 p)) (value o body 0 p) (drop (ending o body 0 p) body) _)
+places_layout o p body = sym (answer_judged (first_refusal (length body) (spots o body 0 p)) (value o body 0 p) (drop (ending o body 0 p) body) _)

@@ -1,7 +1,7 @@
 -- The words in which the parts of a structure are written down, one line a field, as in the manual
 -- page.
 use Rattle.std.specs.Prelude.{ℕ, Bool, List, Option, if◌then◌else◌}
-use Rattle.perf_base.specs.Layout.{w1, w2, w4, w8, number, optional, run, words, padding, rest}
+use Rattle.perf_base.specs.Layout.{w1, w2, w4, w8, number, optional, byte_string, words, padding, rest}
 use Rattle.perf_base.specs.Layout.{Parts, done, part, check, mapped}
 use Rattle.perf_base.specs.Zeros.{trimmed}
 use Rattle.perf_base.specs.declared.error.ErrorKind.{ErrorKind}
@@ -36,7 +36,7 @@ u16_if present = part (optional present w2) done
 
 -- n bytes
 abbrev pub bytes : ℕ → Parts (List ℕ)
-bytes n = part (run n) done
+bytes n = part (byte_string n) done
 
 -- n numbers of eight bytes
 abbrev pub numbers : ℕ → Parts (List ℕ)

@@ -28,7 +28,7 @@ pub data Shape : Type 0 where
   -- one number that is there, or not
   optional : Bool → Width → Shape
   -- k bytes
-  run : ℕ → Shape
+  byte_string : ℕ → Shape
   -- k numbers of eight bytes
   words : ℕ → Shape
   -- k bytes that say nothing
@@ -40,7 +40,7 @@ pub data Shape : Type 0 where
 abbrev pub Answer : Shape → Type 0
 Answer (number w) = ℕ
 Answer (optional b w) = Option ℕ
-Answer (run k) = List ℕ
+Answer (byte_string k) = List ℕ
 Answer (words k) = List ℕ
 Answer (padding k) = Unit {0}
 Answer rest = List ℕ
@@ -62,7 +62,7 @@ abbrev pub answer_of : Order → (shape : Shape) → List ℕ → Answer shape
 answer_of o (number w) bytes = number_of o w bytes
 answer_of o (optional true w) bytes = Some (number_of o w bytes)
 answer_of o (optional false w) bytes = None
-answer_of o (run k) bytes = bytes
+answer_of o (byte_string k) bytes = bytes
 answer_of o (words k) bytes = words_of o k bytes
 answer_of o (padding k) bytes = tt
 answer_of o rest bytes = bytes
@@ -72,7 +72,7 @@ abbrev pub size : Shape → ℕ → ℕ
 size (number w) left = bytes_in w
 size (optional true w) left = bytes_in w
 size (optional false w) left = 0
-size (run k) left = k
+size (byte_string k) left = k
 size (words k) left = 8 * k
 size (padding k) left = k
 size rest left = left
@@ -146,21 +146,21 @@ stands len (takes s n shape) = nat_le (s + n) len
 stands len (holds s t e) = t
 
 -- why one that does not stand is refused: bytes are lacking, or the check says it
-abbrev pub kind_of : Spot → ErrorKind
-kind_of (takes s n shape) = Eof
-kind_of (holds s t e) = e
+abbrev pub spot_kind : Spot → ErrorKind
+spot_kind (takes s n shape) = Eof
+spot_kind (holds s t e) = e
 
 -- the kind of the first that does not stand
-abbrev pub fault : ℕ → List Spot → Option ErrorKind
-fault len [] = None
-fault len (x ∷ xs) = elim (stands len x) [ true ↦ fault len xs | false ↦ Some (kind_of x) ]
+abbrev pub first_refusal : ℕ → List Spot → Option ErrorKind
+first_refusal len [] = None
+first_refusal len (x ∷ xs) = elim (stands len x) [ true ↦ first_refusal len xs | false ↦ Some (spot_kind x) ]
 
 -- ---- the layout
 
 -- The value, where every part stands; else the kind of the first that does not.
 abbrev pub layout_at : {A : Type 0} → Order → List ℕ → ℕ → Parts A → Result A ErrorKind
 layout_at o body s p =
-    elim (fault (length body) (spots o body s p)) [ None ↦ Ok (value o body s p) | Some e ↦ Err e ]
+    elim (first_refusal (length body) (spots o body s p)) [ None ↦ Ok (value o body s p) | Some e ↦ Err e ]
 
 -- The same from the body's first byte on. Bytes behind the last part do not matter.
 abbrev pub layout : {A : Type 0} → Order → Parts A → List ℕ → Result A ErrorKind

@@ -3,7 +3,7 @@ pub mod Layout
 pub mod Table
 pub mod Run
 pub mod Splice
-pub mod Reads
+pub mod LayoutReads
 pub mod Took
 pub mod Zeros
 pub mod FieldWords

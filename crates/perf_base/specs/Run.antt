@@ -5,7 +5,7 @@ use Rattle.std.specs.Prelude.{ℕ, true, false, List, [], ◌∷◌, length, tak
 use Rattle.std.specs.Prelude.{Result, Ok, Err, nat_le}
 use Rattle.perf_base.specs.Order.{Order}
 use Rattle.perf_base.specs.Layout.{Shape, Answer, answer_of, Parts, done, part, check, size, Spot}
-use Rattle.perf_base.specs.Layout.{takes, holds, stands, spots, ending, value, fault}
+use Rattle.perf_base.specs.Layout.{takes, holds, stands, spots, ending, value, first_refusal}
 use Rattle.perf_base.specs.Table.{slot, table}
 use Rattle.perf_base.specs.declared.error.ErrorKind.{ErrorKind}
 use Rattle.perf_base.specs.declared.error.ErrorKind.TheVariants.{Eof}
@@ -54,7 +54,7 @@ left_at body (x ∷ xs) =
 -- the layout from place s on, and what it leaves
 abbrev pub judged : {A : Type 0} → Order → List ℕ → ℕ → Parts A → Ran A
 judged o body s p =
-    elim (fault (length body) (spots o body s p)) [
+    elim (first_refusal (length body) (spots o body s p)) [
       | None ↦ ran (value o body s p) (drop (ending o body s p) body)
       | Some e ↦ stopped e (left_at body (spots o body s p))
     ]

@@ -2,14 +2,14 @@
 -- does to a SAMPLE.
 use Rattle.std.specs.Prelude.{◌≡◌, ℕ, List, [], ◌∷◌, ◌++◌, length, take, drop, Option, Some, None}
 use Rattle.perf_base.specs.Order.{Order}
-use Rattle.perf_base.specs.Layout.{Shape, number, optional, run, words, padding, rest, Answer}
-use Rattle.perf_base.specs.Layout.{Parts, done, part, check, ending, spots, fault}
+use Rattle.perf_base.specs.Layout.{Shape, number, optional, byte_string, words, padding, rest, Answer}
+use Rattle.perf_base.specs.Layout.{Parts, done, part, check, ending, spots, first_refusal}
 
 -- a shape that does not take all that is left
 abbrev pub IsBounded : Shape → Type 0
 IsBounded (number w) = Unit {0}
 IsBounded (optional b w) = Unit {0}
-IsBounded (run k) = Unit {0}
+IsBounded (byte_string k) = Unit {0}
 IsBounded (words k) = Unit {0}
 IsBounded (padding k) = Unit {0}
 IsBounded rest = ⊥
@@ -32,7 +32,7 @@ AllClosed (field ∷ fields) = IsClosed field × AllClosed fields
 
 -- Bytes w spell parts p: the parts stand in w alone, and end where w ends.
 pub record Spells {A : Type 0} (o : Order) (p : Parts A) (w : List ℕ) : Type 0 where
-  pub stand : fault (length w) (spots o w 0 p) ≡ None
+  pub stand : first_refusal (length w) (spots o w 0 p) ≡ None
   pub whole : ending o w 0 p ≡ length w
 
 -- the body with w spliced in at place n

@@ -2,7 +2,7 @@
 
 ghost use Rattle.std.specs.Prelude.{◌≡◌, ℕ, ◌+◌};
 ghost use Rattle.perf_base.specs.ReadCount.{steps_of};
-ghost use Rattle.perf_base.specs.Reads.{one_if_any};
+ghost use Rattle.perf_base.specs.LayoutReads.{one_if_any};
 
 use std::marker::Model;
 use std::mem;
@@ -17,23 +17,23 @@ enum Steps {
 /// How many elementary reads were made: a number for contracts alone, of which no byte is kept when
 /// it runs.
 #[derive(Drop)]
-pub struct Reads {
+pub struct ReadCounter {
     made: Snapshot<Steps>,
 }
 
-impl Model for Reads {
+impl Model for ReadCounter {
     ghost Value = { ℕ };
 
     ghost view = { λ r. steps_of r.made.value };
 }
 
-impl Reads {
+impl ReadCounter {
     /// No reads yet.
     #[inline]
-    pub fn new() -> Reads
+    pub fn new() -> ReadCounter
         ensures { result ≡ 0 }
     {
-        Reads {
+        ReadCounter {
             made: Snapshot::of(&Steps::Many(0)),
         }
     }
@@ -43,7 +43,7 @@ impl Reads {
     pub fn tick(&mut self)
         ensures { self.new ≡ self.old + 1 }
     {
-        self.add(Reads {
+        self.add(ReadCounter {
             made: Snapshot::of(&Steps::Many(1)),
         });
     }
@@ -60,21 +60,21 @@ impl Reads {
 
     /// Counts the reads of another count.
     #[inline]
-    pub fn add(&mut self, more: Reads)
+    pub fn add(&mut self, more: ReadCounter)
         ensures { self.new ≡ self.old + more }
     {
         let before = mem::replace(&mut self.made, Snapshot::of(&Steps::Many(0)));
-        let Reads { made } = more;
+        let ReadCounter { made } = more;
         self.made = Snapshot::of(&Steps::Sum(before, made));
     }
 }
 
 #[cfg(test)]
 mod tests {
-    use super::Reads;
+    use super::ReadCounter;
 
     #[test]
     fn takes_no_bytes(rt: HostRuntime) {
-        assert_eq!(rt; std::mem::size_of::<Reads>(), 0);
+        assert_eq!(rt; std::mem::size_of::<ReadCounter>(), 0);
     }
 }

@@ -1,7 +1,7 @@
 //! What is counted of frames.
 
 ghost use Rattle.std.specs.Prelude.{◌≡◌};
-ghost use Rattle.perf_parser.specs.Runs.{pairs_said};
+ghost use Rattle.perf_parser.specs.Runs.{seen_answers};
 ghost use Rattle.perf_count.specs.Counting.{plus, counted};
 
 use crate::sums::frame_sum;
@@ -30,7 +30,7 @@ impl Counts {
 
     /// Counts further frames.
     pub fn add(&mut self, frames: &[(perf_event_header, ParseResult<Record>)])
-        ensures { self.new ≡ plus self.old (counted (pairs_said frames.now)) }
+        ensures { self.new ≡ plus self.old (counted (seen_answers frames.now)) }
     {
         *self = self.plus(counted(frames));
     }
@@ -48,7 +48,7 @@ impl Counts {
 
 /// What is counted of frames alone.
 pub fn counted(frames: &[(perf_event_header, ParseResult<Record>)]) -> Counts
-    ensures { result ≡ counted (pairs_said frames.now) }
+    ensures { result ≡ counted (seen_answers frames.now) }
 {
     let mut refused = 0;
     let mut checksum: u64 = 0;

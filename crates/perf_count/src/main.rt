@@ -48,7 +48,7 @@ fn main(rt: HostRuntime) -> Result<ExitCode> {
     };
     let mut input = Vec::new(rt.alloc());
     rt.stdin().read_to_end(&mut input)?;
-    let (counts, end) = obey(rt.alloc(), &input, command)?;
+    let (counts, end) = count_command(rt.alloc(), &input, command)?;
     let Counts {
         records,
         refused,
@@ -64,7 +64,7 @@ fn main(rt: HostRuntime) -> Result<ExitCode> {
 }
 
 // Counts an input in the order that is named.
-fn obey(alloc: Global, input: &[u8], command: Command) -> ParseResult<(Counts, RunEnd)> {
+fn count_command(alloc: Global, input: &[u8], command: Command) -> ParseResult<(Counts, RunEnd)> {
     match command.order {
         OrderName::Little => count_stream(alloc, input, Little, command.with_attr),
         OrderName::Big => count_stream(alloc, input, Big, command.with_attr),

@@ -2,7 +2,7 @@
 
 ghost use Rattle.std.specs.Prelude.{◌≡◌, sum};
 ghost use Rattle.perf_records.specs.Records.{record_value, comm_value, mmap_value, mmap2_value};
-ghost use Rattle.perf_parser.specs.Runs.{said};
+ghost use Rattle.perf_parser.specs.Runs.{seen_answer};
 ghost use Rattle.perf_count.specs.Counting.{wrapped, mmap_sum, mmap2_sum, comm_sum, task_sum};
 ghost use Rattle.perf_count.specs.Counting.{lost_sum, record_sum, frame_sum};
 
@@ -13,7 +13,7 @@ use perf_event_data::{Comm, Exit, Lost, Mmap, Mmap2, Record};
 /// What a frame adds to the checksum: a refused one nothing, and another what its record adds, its
 /// type and its size.
 pub fn frame_sum(header: &perf_event_header, answer: &ParseResult<Record>) -> u64
-    ensures { result ≡ wrapped (frame_sum (header.now, said answer.now)) }
+    ensures { result ≡ wrapped (frame_sum (header.now, seen_answer answer.now)) }
 {
     match answer {
         Ok(record) => wrapping_sum(&[

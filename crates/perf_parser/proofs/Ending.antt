@@ -5,7 +5,7 @@ use Rattle.std.proofs.lemmas.Bool.{cases_lt}
 use Rattle.perf_base.specs.Configuration.{Configuration}
 use Rattle.perf_base.specs.Errors.{kind_of}
 use Rattle.perf_base.specs.Header.{header_of}
-use Rattle.perf_base.specs.Layout.{run}
+use Rattle.perf_base.specs.Layout.{byte_string}
 use Rattle.perf_base.specs.Order.{Order}
 use Rattle.perf_base.specs.Refusals.{refusal_kind, refused, error_kinds}
 use Rattle.perf_base.specs.Took.{Took, took, quit, one_took}
@@ -28,7 +28,7 @@ use Rattle.perf_records.specs.Answers.{SaysBehind, body_length, answer_behind, a
 use Rattle.perf_records.specs.Frames.{frame_length}
 use Rattle.perf_records.specs.declared.record.Record.{Record}
 use Rattle.perf_records.proofs.Headers.{frame_body, frame_behind, answer_whole}
-use Rattle.perf_parser.specs.Runs.{Pairs, said, refused_count, listed_reads, LeavesWithin, StopsAt, KeepsRun, IsListed}
+use Rattle.perf_parser.specs.Runs.{Pairs, seen_answer, refused_count, listed_reads, LeavesWithin, StopsAt, KeepsRun, IsListed}
 use Rattle.perf_parser.specs.Runs.{stop_kind, stopped_by, IsEndOf, one_if_ended, end_refusal}
 use Rattle.perf_parser.specs.declared.runs.RunEnd.{RunEnd}
 use Rattle.perf_parser.specs.declared.runs.Stop.{Stop}
@@ -49,7 +49,7 @@ one_more_refused (pair ∷ pairs) h r = go (one_more_refused pairs h r) (pair.1)
 -- ---- bytes of a header
 
 -- bytes that were taken
-pub taken : (o : Order) (k : ℕ) (bytes xs left : List ℕ) (n m : ℕ) → 0 < k → one_took o (run k) bytes n ≡ took xs left m →
+pub taken : (o : Order) (k : ℕ) (bytes xs left : List ℕ) (n m : ℕ) → 0 < k → one_took o (byte_string k) bytes n ≡ took xs left m →
     (k ≤ length bytes) × (xs ≡ take k bytes) × (left ≡ drop k bytes) × (m ≡ n + 1)
 taken o k bytes xs left n m some e = elim (cases_lt (length bytes) k) [
   | inl short ↦ absurd (cc (run_short o k bytes n short))
@@ -62,7 +62,7 @@ taken o k bytes xs left n m some e = elim (cases_lt (length bytes) k) [
 ]
 
 -- bytes that were lacking
-pub lacking : (o : Order) (k : ℕ) (bytes left : List ℕ) (e : ErrorKind) (n m : ℕ) → 0 < k → one_took o (run k) bytes n ≡ quit e left m →
+pub lacking : (o : Order) (k : ℕ) (bytes left : List ℕ) (e : ErrorKind) (n m : ℕ) → 0 < k → one_took o (byte_string k) bytes n ≡ quit e left m →
     (length bytes < k) × (e ≡ Eof) × (left ≡ []) × (m ≡ n + 1)
 lacking o k bytes left e n m some h = elim (cases_lt (length bytes) k) [
   | inr fits ↦ absurd (cc (run_there o k bytes n some fits))
@@ -104,7 +104,7 @@ not_the_end e other same = other (subst (λ (k : ErrorKind). IsTrue (of_layout k
 
 -- where the first byte of a header was refused
 pub stops_first : (old new : Meaning) (r : Refusal) (s : Stop) → (refusal_kind r ≡ Eof → s ≡ stop.Done) → ((refusal_kind r ≡ Eof → ⊥) → s ≡ stop.Refused r) →
-    (IsTrue (of_layout (refusal_kind r)) → one_took old.order (run 1) old.source.left old.reads ≡ quit (refusal_kind r) new.source.left new.reads) →
+    (IsTrue (of_layout (refusal_kind r)) → one_took old.order (byte_string 1) old.source.left old.reads ≡ quit (refusal_kind r) new.source.left new.reads) →
     MovesWithin old.source 1 new.source → StopsAt old s new
 stops_first old new r s eof other gives within = elim (layout_or_not (refusal_kind r)) [
   | inl layout ↦
@@ -116,8 +116,8 @@ stops_first old new r s eof other gives within = elim (layout_or_not (refusal_ki
 
 -- where one of the others was
 pub stops_others : (old mid new : Meaning) (r : Refusal) (s : Stop) (first : List ℕ) → (refusal_kind r ≡ Eof → s ≡ stop.CutHeader) → ((refusal_kind r ≡ Eof → ⊥) → s ≡ stop.Refused r) →
-    one_took old.order (run 1) old.source.left old.reads ≡ took first mid.source.left mid.reads →
-    (IsTrue (of_layout (refusal_kind r)) → one_took mid.order (run 7) mid.source.left mid.reads ≡ quit (refusal_kind r) new.source.left new.reads) →
+    one_took old.order (byte_string 1) old.source.left old.reads ≡ took first mid.source.left mid.reads →
+    (IsTrue (of_layout (refusal_kind r)) → one_took mid.order (byte_string 7) mid.source.left mid.reads ≡ quit (refusal_kind r) new.source.left new.reads) →
     MovesWithin mid.source 7 new.source → StopsAt old s new
 stops_others old mid new r s first eof other one gives within =
     let a = taken old.order 1 old.source.left first mid.source.left old.reads mid.reads (omega arith) one in
@@ -209,7 +209,7 @@ run_lists start old new pairs now h (Err x) e listed p q =
 
 pub said_frame : (old mid new : Meaning) (h : perf_event_header) (r : Result Record ParseError) → 8 ≤ length old.source.left → h ≡ header_of old.order old.source.left →
     mid.settings ≡ old.settings → mid.order ≡ old.order → mid.source.left ≡ drop 8 old.source.left → mid.reads ≡ old.reads + 2 → IsListed r → SaysBehind h mid (error_kinds r) new →
-    (said r ≡ answer_of_frame old.settings old.order old.source.left) × (new.source.left ≡ drop (frame_length old.order old.source.left) old.source.left)
+    (seen_answer r ≡ answer_of_frame old.settings old.order old.source.left) × (new.source.left ≡ drop (frame_length old.order old.source.left) old.source.left)
     × (new.reads ≡ old.reads + listed_reads old.settings old.order old.source.left)
 said_frame old mid new h r fits e same_settings same_order m count listed p =
     let says = told_listed h mid new r listed p in
@@ -223,7 +223,7 @@ said_frame old mid new h r fits e same_settings same_order m count listed p =
     (sym says.0 ∙ answer, frame_behind o bytes mid.source.left new.source.left h e m says.1, omega (arith, says.2, count, reads))
   where
     told_listed : (h : perf_event_header) (mid new : Meaning) (r : Result Record ParseError) → IsListed r → SaysBehind h mid (error_kinds r) new →
-        (answer_behind mid.settings mid.order h mid.source.left ≡ said r) × (new.source.left ≡ drop (body_length h) mid.source.left)
+        (answer_behind mid.settings mid.order h mid.source.left ≡ seen_answer r) × (new.source.left ≡ drop (body_length h) mid.source.left)
         × (new.reads ≡ mid.reads + reads_behind mid.settings mid.order h mid.source.left)
     told_listed h mid new (Ok r) listed p = p
     told_listed h mid new (Err x) listed p = p listed

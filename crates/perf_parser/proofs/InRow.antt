@@ -6,7 +6,7 @@ use Rattle.perf_base.specs.declared.error.ErrorKind.TheVariants.{OutOfMemory}
 use Rattle.perf_reader.specs.Meaning.{Meaning}
 use Rattle.perf_reader.specs.Reading.{Says, Keeps}
 use Rattle.perf_parser.specs.Calls.{KeepsOn}
-use Rattle.perf_parser.specs.Repeats.{Runs, StopsShort}
+use Rattle.perf_parser.specs.Repeats.{ParsesInTurn, StopsShort}
 use Rattle.perf_parser.proofs.Paying.{chain}
 
 -- no memory was found for what was read
@@ -19,7 +19,7 @@ keeps_refused start new k = record {
 }
 
 module _ {T : Type 0} (parses : Says T) where
-  pub runs_kept : (start a b : Meaning) (xs : List T) → Runs parses KeepsOn a xs b → Keeps start None a → Keeps start None b
+  pub runs_kept : (start a b : Meaning) (xs : List T) → ParsesInTurn parses KeepsOn a xs b → Keeps start None a → Keeps start None b
   runs_kept start a b [] p k = subst (Keeps start None) (sym p) k
   runs_kept start a b (x ∷ xs) p k = runs_kept start p.0 b xs p.2 (p.1.counted start k)
 

@@ -18,7 +18,7 @@ use Rattle.perf_records.specs.Frames.{cut_header, end_with, stream_end}
 use Rattle.perf_records.specs.Records.{RecordValue}
 use Rattle.perf_records.specs.declared.record.Record.{Record}
 use Rattle.perf_records.proofs.Headers.{header_alone, answer_alone, reads_alone}
-use Rattle.perf_parser.specs.Runs.{Pairs, said, pairs_said, listed_reads, first_reads, CountsReads}
+use Rattle.perf_parser.specs.Runs.{Pairs, seen_answer, seen_answers, listed_reads, first_reads, CountsReads}
 use Rattle.perf_parser.specs.Runs.{is_borrowed_answer, AllBorrowed, LeavesWithin, StopsAt, IsEndOf, EndsWith}
 use Rattle.perf_parser.specs.declared.runs.RunEnd.{RunEnd}
 use Rattle.perf_parser.specs.declared.runs.RunEnd.TheVariants as end
@@ -110,7 +110,7 @@ pair_of c o frame = (header_of o frame, answer_of_frame c o frame)
 
 -- These pairs are the answers of the first k frames, which are all there; this is left behind them, and so many reads were made.
 pub record IsSoFar (start : Meaning) (pairs : Pairs) (k : ℕ) (here : Meaning) : Type 0 where
-  pub said_is : pairs_said pairs ≡ map (pair_of start.settings start.order) (first_frames start.order k start.source.left)
+  pub said_is : seen_answers pairs ≡ map (pair_of start.settings start.order) (first_frames start.order k start.source.left)
   pub there : AreThere start.order k start.source.left
   pub left_is : here.source.left ≡ behind_frames start.order k start.source.left
   pub reads_are : here.reads ≡ start.reads + first_reads start.settings start.order k start.source.left
@@ -129,11 +129,11 @@ listed_alone c o bytes = ap (λ n. 2 + n) (reads_alone c o bytes)
 -- what is told of the next frame, under a configuration and an order
 abbrev TellsOf : Configuration → Order → Meaning → perf_event_header → Result Record ParseError → Meaning → Type 0
 TellsOf c o here h r new =
-    (8 ≤ length here.source.left) × (h ≡ header_of o here.source.left) × (said r ≡ answer_of_frame c o here.source.left)
+    (8 ≤ length here.source.left) × (h ≡ header_of o here.source.left) × (seen_answer r ≡ answer_of_frame c o here.source.left)
     × (new.source.left ≡ drop (frame_length o here.source.left) here.source.left) × (new.reads ≡ here.reads + listed_reads c o here.source.left)
 
 one_more_told : (start here new : Meaning) (pairs : Pairs) (k : ℕ) (h : perf_event_header) (r : Result Record ParseError) → IsSoFar start pairs k here →
-    8 ≤ length here.source.left → h ≡ header_of start.order here.source.left → said r ≡ answer_of_frame start.settings start.order here.source.left →
+    8 ≤ length here.source.left → h ≡ header_of start.order here.source.left → seen_answer r ≡ answer_of_frame start.settings start.order here.source.left →
     new.source.left ≡ drop (frame_length start.order here.source.left) here.source.left → new.reads ≡ here.reads + listed_reads start.settings start.order here.source.left →
     IsSoFar start (pairs ++ (h, r) ∷ []) (k + 1) new
 one_more_told start here new pairs k h r so_far fits e s n count =
@@ -143,12 +143,12 @@ one_more_told start here new pairs k h r so_far fits e s n count =
     let enough : 8 ≤ length (behind_frames o k bytes) = subst (λ (xs : List ℕ). 8 ≤ length xs) behind fits in
     let grown : first_frames o (k + 1) bytes ≡ first_frames o k bytes ++ next ∷ [] =
     frames_on o k bytes so_far.there enough ∙ ap (λ xs. first_frames o k bytes ++ take (frame_length o xs) xs ∷ []) (sym behind) in
-    let pair : (h, said r) ≡ pair_of c o next = ap (λ x. (x, said r)) (e ∙ sym (header_alone o left)) ∙ ap (λ x. (header_of o next, x)) (s ∙ sym (answer_alone c o left fits)) in
+    let pair : (h, seen_answer r) ≡ pair_of c o next = ap (λ x. (x, seen_answer r)) (e ∙ sym (header_alone o left)) ∙ ap (λ x. (header_of o next, x)) (s ∙ sym (answer_alone c o left fits)) in
     let sum : first_reads c o (k + 1) bytes ≡ first_reads c o k bytes + sum_by (listed_reads c o) (next ∷ []) =
     ap (sum_by (listed_reads c o)) grown ∙ sum_by-append (listed_reads c o) (first_frames o k bytes) (next ∷ []) in
     let one : sum_by (listed_reads c o) (next ∷ []) ≡ listed_reads c o next = omega arith in
     record {
-      said_is = map_on (λ p. (p.0, said p.1)) pairs (h, r) ∙ ap (λ ps. ps ++ (h, said r) ∷ []) so_far.said_is
+      said_is = map_on (λ p. (p.0, seen_answer p.1)) pairs (h, r) ∙ ap (λ ps. ps ++ (h, seen_answer r) ∷ []) so_far.said_is
           ∙ ap (λ p. map (pair_of c o) (first_frames o k bytes) ++ p ∷ []) pair
           ∙ sym (map_on (pair_of c o) (first_frames o k bytes) next) ∙ ap (map (pair_of c o)) (sym grown);
       there = ap length grown ∙ length-append (first_frames o k bytes) (next ∷ []) ∙ ap (λ m. m + 1) so_far.there;
@@ -164,7 +164,7 @@ one_more_so_far start here new pairs k h r settings order so_far next =
 
 -- ---- what a run lists
 pub listed_first : (start here : Meaning) (pairs : Pairs) (k : ℕ) → IsSoFar start pairs k here → length pairs ≡ k →
-    pairs_said pairs ≡ take (length pairs) (answers start.settings start.order start.source.left)
+    seen_answers pairs ≡ take (length pairs) (answers start.settings start.order start.source.left)
 listed_first start here pairs k so_far e =
     let c : Configuration = start.settings in let o : Order = start.order in let bytes : List ℕ = start.source.left in
     so_far.said_is

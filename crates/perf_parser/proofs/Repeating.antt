@@ -10,7 +10,7 @@ use Rattle.perf_reader.specs.Meaning.{Meaning}
 use Rattle.perf_reader.specs.Reading.{Says}
 use Rattle.perf_parser.specs.Meaning.{config_of, meaning}
 use Rattle.perf_parser.specs.Calls.{Follows, Counts, CallAs, CallOnly}
-use Rattle.perf_parser.specs.Repeats.{Step, Runs, StopsShort}
+use Rattle.perf_parser.specs.Repeats.{Step, ParsesInTurn, StopsShort}
 use Rattle.perf_parser.specs.declared.parser.Parser.{Parser}
 use Rattle.perf_parser.proofs.Paying.{follows_none, follows_more}
 
@@ -26,12 +26,12 @@ step_of {E = E} source order says counts old new seen c = record {
 }
 
 module _ {T : Type 0} (parses : Says T) (counts : Counts) where
-  pub runs_on : (a b c : Meaning) (xs : List T) (x : T) → Runs parses counts a xs b → Step parses counts b (Ok x) c → Runs parses counts a (xs ++ x ∷ []) c
+  pub runs_on : (a b c : Meaning) (xs : List T) (x : T) → ParsesInTurn parses counts a xs b → Step parses counts b (Ok x) c → ParsesInTurn parses counts a (xs ++ x ∷ []) c
   runs_on a b c [] x p q = (c, subst (λ m. Step parses counts m (Ok x) c) p q, refl)
   runs_on a b c (y ∷ ys) x p q = (p.0, p.1, runs_on p.0 b c ys x p.2 q)
 
   -- what several calls keep
-  pub runs_follow : (a b : Meaning) (xs : List T) → Runs parses counts a xs b → Follows a b
+  pub runs_follow : (a b : Meaning) (xs : List T) → ParsesInTurn parses counts a xs b → Follows a b
   runs_follow a b [] p = subst (λ m. Follows a m) (sym p) (follows_none a)
   runs_follow a b (x ∷ xs) p = follows_more a p.0 b p.1.follows (runs_follow p.0 b xs p.2)
 

@@ -6,7 +6,7 @@ use Rattle.perf_buffers.specs.Cursor.{cursor_left}
 use Rattle.perf_buffers.specs.declared.cursor.ParseBufCursor.{ParseBufCursor}
 use Rattle.perf_buffers.specs.Taking.{MovesWithin}
 use Rattle.perf_reader.specs.Reading.{Says, is_external}
-use Rattle.perf_records.specs.Answers.{FrameParts, Tells, split_behind, split_of_frame}
+use Rattle.perf_records.specs.Answers.{FrameParts, AnswersExactly, split_behind, split_of_frame}
 use Rattle.perf_records.specs.Answers.{split_reads, frame_reads, body_length}
 use Rattle.perf_records.specs.Frames.{frame_length}
 use Rattle.perf_records.specs.Metadata.{MetadataValue}
@@ -22,7 +22,7 @@ abbrev pub SplitsParser : {E : Type 0} → perf_event_header →
     Says (Parser ParseBufCursor E × MetadataValue)
 SplitsParser h old seen new =
     let c = old.settings in let o = old.order in let bytes = old.source.left in
-    Tells parsed_parts (split_behind c o h bytes) (body_length h) (split_reads c o h bytes)
+    AnswersExactly parsed_parts (split_behind c o h bytes) (body_length h) (split_reads c o h bytes)
     old seen new
 
 -- The same of a frame with its header, which is three elementary reads. Where it is refused
@@ -30,7 +30,7 @@ SplitsParser h old seen new =
 abbrev pub SplitsFrame : {E : Type 0} → Says (Parser ParseBufCursor E × MetadataValue)
 SplitsFrame old seen new =
     let c = old.settings in let o = old.order in let bytes = old.source.left in
-    Tells parsed_parts (split_of_frame c o bytes) (frame_length o bytes)
+    AnswersExactly parsed_parts (split_of_frame c o bytes) (frame_length o bytes)
     (frame_reads (split_reads c o) o bytes) old seen new
     × (is_external (refused seen) ≡ false →
     MovesWithin old.source (frame_length o bytes) new.source)

@@ -19,17 +19,17 @@ module _ {T : Type 0} (parses : Says T) (counts : Counts) where
     pub order : new.order ≡ old.order
 
   -- the values were parsed one after another
-  abbrev pub Runs : Meaning → List T → Meaning → Type 0
-  Runs old [] new = new ≡ old
-  Runs old (x ∷ xs) new = (mid : Meaning) × Step old (Ok x) mid × Runs mid xs new
+  abbrev pub ParsesInTurn : Meaning → List T → Meaning → Type 0
+  ParsesInTurn old [] new = new ≡ old
+  ParsesInTurn old (x ∷ xs) new = (mid : Meaning) × Step old (Ok x) mid × ParsesInTurn mid xs new
 
   -- Fewer than n values were parsed, and the next one was refused; or no memory was found for one
   -- of those that were.
   abbrev pub StopsShort : Meaning → ℕ → ErrorKind → Meaning → Type 0
   StopsShort old n e new =
-      ((xs : List T) × (mid : Meaning) × (length xs < n) × Runs old xs mid
+      ((xs : List T) × (mid : Meaning) × (length xs < n) × ParsesInTurn old xs mid
       × Step mid (Err e) new)
-      ⊎ ((xs : List T) × (length xs ≤ n) × Runs old xs new × (e ≡ OutOfMemory))
+      ⊎ ((xs : List T) × (length xs ≤ n) × ParsesInTurn old xs new × (e ≡ OutOfMemory))
 
 -- the same answer, under `Some`
 abbrev pub AsOption : {T R : Type 0} → (Result T R → Type 0) → Result (Option T) R → Type 0

@@ -34,17 +34,17 @@ abbrev pub Pairs : Type 0
 Pairs = List (perf_event_header × Result Record ParseError)
 
 -- a record by its value, a refusal by its kind
-abbrev pub said : Result Record ParseError → Result RecordValue ErrorKind
-said (Ok r) = Ok (record_value r)
-said (Err e) = Err (kind_of e)
+abbrev pub seen_answer : Result Record ParseError → Result RecordValue ErrorKind
+seen_answer (Ok r) = Ok (record_value r)
+seen_answer (Err e) = Err (kind_of e)
 
 -- the headers and answers, in the words of the definition of answers
-abbrev pub pairs_said : Pairs → List (perf_event_header × Result RecordValue ErrorKind)
-pairs_said pairs = map (λ pair. (pair.0, said pair.1)) pairs
+abbrev pub seen_answers : Pairs → List (perf_event_header × Result RecordValue ErrorKind)
+seen_answers pairs = map (λ pair. (pair.0, seen_answer pair.1)) pairs
 
 -- the same of a run
 abbrev pub listed : Run → List (perf_event_header × Result RecordValue ErrorKind)
-listed run = pairs_said run.frames.items
+listed run = seen_answers run.frames.items
 
 -- how many frames it lists
 abbrev pub listed_count : Run → ℕ
@@ -206,6 +206,6 @@ ListsNext old was now new =
     × (IsTrue old.source.whole → is_borrowed_answer r)
     × (IsTrue old.source.told →
     (8 ≤ length old.source.left) × (h ≡ header_of old.order old.source.left)
-    × (said r ≡ answer_of_frame old.settings old.order old.source.left)
+    × (seen_answer r ≡ answer_of_frame old.settings old.order old.source.left)
     × (new.source.left ≡ drop (frame_length old.order old.source.left) old.source.left)
     × (new.reads ≡ old.reads + listed_reads old.settings old.order old.source.left))

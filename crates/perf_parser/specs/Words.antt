@@ -4,9 +4,9 @@ pub use Rattle.perf_base.specs.Cow.{cow_items, is_borrowed}
 pub use Rattle.perf_base.specs.Errors.{kind_of}
 pub use Rattle.perf_base.specs.FieldWords.{name}
 pub use Rattle.perf_base.specs.Header.{header_of}
-pub use Rattle.perf_base.specs.Layout.{Parts, number, optional, run, padding, rest, words, w1, w2}
+pub use Rattle.perf_base.specs.Layout.{Parts, number, optional, byte_string, padding, rest, words, w1, w2}
 pub use Rattle.perf_base.specs.Layout.{w4, w8}
-pub use Rattle.perf_base.specs.Reads.{one_if_any}
+pub use Rattle.perf_base.specs.LayoutReads.{one_if_any}
 pub use Rattle.perf_base.specs.Refusals.{error_kinds, refused, TakesNoMemory}
 pub use Rattle.perf_base.specs.declared.sys.perf_event_header.{perf_event_header}
 pub use Rattle.perf_buffers.specs.Cursor.{cursor_lent}

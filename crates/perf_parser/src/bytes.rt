@@ -3,7 +3,8 @@
 ghost use Rattle.std.specs.Prelude.{◌≡◌, ◌+◌, length, [], true, IsTrue, IsOk, IfOk, IfErr};
 ghost use Rattle.perf_parser.specs.Words.{name, one_if_any, falls_short, is_made_beforehand, Call};
 ghost use Rattle.perf_parser.specs.Words.{Reads, ReadsOne, TakesNoMemory, buffer_of, reads_of};
-ghost use Rattle.perf_parser.specs.Words.{error_kinds, kind_of, cow_items, is_borrowed, run, rest};
+ghost use Rattle.perf_parser.specs.Words.{error_kinds, kind_of, cow_items, is_borrowed};
+ghost use Rattle.perf_parser.specs.Words.{byte_string, rest};
 
 use crate::parser::Parser;
 use perf_base::cow::CowSlice;
@@ -33,7 +34,7 @@ impl<'p, B: ParseBuf<'p>, E: Endian> Parser<B, E> {
             (B.source (buffer_of self.new)).left ≡ (B.source (buffer_of self.old)).left) }
         ensures counted { reads_of self.new ≡ reads_of self.old + one_if_any len }
         ensures length { IfOk result (λ c. length (cow_items c) ≡ len) }
-        ensures call { Call B.source E.order (ReadsOne (run len) cow_items)
+        ensures call { Call B.source E.order (ReadsOne (byte_string len) cow_items)
             self.old (error_kinds result) self.new }
     {
         match self.reader.read_bytes(len) {

@@ -4,7 +4,7 @@ ghost use Rattle.std.specs.Prelude.{◌≡◌, false, true, length, IsOk, IfOk, 
 ghost use Rattle.std.specs.Fn.{FnOnceReturnsAtMut};
 ghost use Rattle.perf_parser.specs.Words.{CallAs, CallOnly, cow_items, is_borrowed};
 ghost use Rattle.perf_parser.specs.Words.{meaning, error_kinds, kind_of};
-ghost use Rattle.perf_parser.specs.Repeats.{Runs, StopsShort, AsOption};
+ghost use Rattle.perf_parser.specs.Repeats.{ParsesInTurn, StopsShort, AsOption};
 
 use crate::parse::Parse;
 use crate::parser::Parser;
@@ -72,7 +72,7 @@ impl<'p, B: ParseBuf<'p>, E: Endian> Parser<B, E> {
     pub fn parse_repeated<P: Parse<'p, B> + Drop>(&mut self, len: usize) -> ParseResult<Vec<P>>
         ensures nothing { len ≡ 0 → IsOk result }
         ensures call { CallOnly B.source E.order self.old (error_kinds result) self.new }
-        ensures ok { IfOk result (λ v. (length v.items ≡ len) × Runs P.parses P.counts
+        ensures ok { IfOk result (λ v. (length v.items ≡ len) × ParsesInTurn P.parses P.counts
             (meaning B.source E.order self.old) v.items (meaning B.source E.order self.new)) }
         ensures err { IfErr result (λ e. StopsShort P.parses P.counts
             (meaning B.source E.order self.old) len (kind_of e)
@@ -103,7 +103,7 @@ impl<'p, B: ParseBuf<'p>, E: Endian> Parser<B, E> {
         ensures nothing { len ≡ 0 → IsOk result }
         ensures call { CallOnly B.source E.order self.old (error_kinds result) self.new }
         ensures owned { IfOk result (λ c. is_borrowed c ≡ false) }
-        ensures ok { IfOk result (λ c. (length (cow_items c) ≡ len) × Runs P.parses P.counts
+        ensures ok { IfOk result (λ c. (length (cow_items c) ≡ len) × ParsesInTurn P.parses P.counts
             (meaning B.source E.order self.old) (cow_items c)
             (meaning B.source E.order self.new)) }
         ensures err { IfErr result (λ e. StopsShort P.parses P.counts

@@ -11,7 +11,7 @@ use Rattle.perf_base.proofs.Took.{places_took, then_take}
 use Rattle.perf_buffers.specs.Buffer.{Source}
 use Rattle.perf_reader.specs.Calls.{Call}
 use Rattle.perf_reader.specs.Meaning.{Meaning, meaning}
-use Rattle.perf_reader.specs.Reading.{Gives, Reads}
+use Rattle.perf_reader.specs.Reading.{AnswersRun, Reads}
 use Rattle.perf_reader.specs.declared.reader.Reader.{Reader}
 
 -- what follows, where both do the same
@@ -58,7 +58,7 @@ module _ {I E : Type 0} {source : I → Source} {order : E → Order} where
             ap (λ k. took_by_places (order (endian_of k)) (f (configuration_of k) (view x)) mid.source.left mid.reads) first.config
             ∙ sym (places_behind old.order (p old.settings) (f old.settings) old.source.left old.reads
             ∙ ap (then_take (λ v left m. took_by_places old.order (f old.settings v) left m)) (first.answer t)) in
-            subst (λ r. Gives show r seen new) same (next.answer (first.told t));
+            subst (λ r. AnswersRun show r seen new) same (next.answer (first.told t));
         keeps = λ start k. next.keeps start (first.keeps start k);
       }
 

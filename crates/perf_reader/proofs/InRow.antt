@@ -7,7 +7,7 @@ use Rattle.std.specs.Prelude.{None, Some}
 use Rattle.perf_base.specs.Layout.{Shape, number, words, w8, Answer, answer_of, words_of, size}
 use Rattle.perf_base.specs.Configured.{endian_of}
 use Rattle.perf_base.specs.Order.{Order}
-use Rattle.perf_base.specs.Reads.{reads_of}
+use Rattle.perf_base.specs.LayoutReads.{reads_of}
 use Rattle.perf_base.specs.Took.{Took, took, quit, one_took}
 use Rattle.perf_base.specs.declared.config.ParseConfig.{ParseConfig}
 use Rattle.perf_base.specs.declared.error.ErrorKind.{ErrorKind}

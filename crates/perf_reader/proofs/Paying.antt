@@ -8,7 +8,7 @@ use Rattle.std.specs.Prelude.{true}
 use Rattle.perf_base.specs.declared.error.ErrorKind.TheVariants.{Eof, InvalidRecord, UnsupportedConfig, UnsupportedData, External, OutOfMemory}
 use Rattle.perf_base.proofs.Took.{places_took}
 use Rattle.perf_base.proofs.ReadBound.{any_le}
-use Rattle.perf_base.specs.Reads.{one_if_any}
+use Rattle.perf_base.specs.LayoutReads.{one_if_any}
 use Rattle.std.specs.Prelude.{Option, None, Some, IsTrue}
 use Rattle.perf_base.specs.declared.error.ErrorKind.{ErrorKind}
 use Rattle.perf_buffers.specs.Buffer.{faults_after, Stays}

@@ -9,8 +9,8 @@ use Rattle.perf_buffers.specs.Buffer.{Source}
 use Rattle.perf_buffers.specs.Taking.{Takes, FailsToTake, FailsToKeep, FailsInRest}
 use Rattle.perf_reader.specs.Reading.{of_layout}
 use Rattle.perf_base.specs.Order.{Order}
-use Rattle.perf_base.specs.Layout.{number, run, rest, padding, optional, Width, w1, w2, w4, w8, bytes_in, number_of}
-use Rattle.perf_base.specs.Reads.{one_if_any, reads_of}
+use Rattle.perf_base.specs.Layout.{number, byte_string, rest, padding, optional, Width, w1, w2, w4, w8, bytes_in, number_of}
+use Rattle.perf_base.specs.LayoutReads.{one_if_any, reads_of}
 use Rattle.perf_base.specs.Took.{took, quit, one_took}
 use Rattle.perf_base.proofs.Took.{took_yes, took_no, then_take}
 
@@ -19,13 +19,13 @@ any zero h = omega arith
 any (suc n) h = refl
 
 -- bytes that are there, and that are not
-pub run_there : (o : Order) (k : ℕ) (bytes : List ℕ) (n : ℕ) → 0 < k → k ≤ length bytes → one_took o (run k) bytes n ≡ took (take k bytes) (drop k bytes) (n + 1)
-run_there o k bytes n some h = took_yes o (run k) bytes n h ∙ ap (λ i. took (take k bytes) (drop k bytes) (n + i)) (any k some)
+pub run_there : (o : Order) (k : ℕ) (bytes : List ℕ) (n : ℕ) → 0 < k → k ≤ length bytes → one_took o (byte_string k) bytes n ≡ took (take k bytes) (drop k bytes) (n + 1)
+run_there o k bytes n some h = took_yes o (byte_string k) bytes n h ∙ ap (λ i. took (take k bytes) (drop k bytes) (n + i)) (any k some)
 
-pub run_short : (o : Order) (k : ℕ) (bytes : List ℕ) (n : ℕ) → length bytes < k → one_took o (run k) bytes n ≡ quit Eof [] (n + 1)
-run_short o k bytes n h = took_no o (run k) bytes n h
+pub run_short : (o : Order) (k : ℕ) (bytes : List ℕ) (n : ℕ) → length bytes < k → one_took o (byte_string k) bytes n ≡ quit Eof [] (n + 1)
+run_short o k bytes n h = took_no o (byte_string k) bytes n h
 
-pub array_short : (o : Order) (k : ℕ) (old new : Source) (e : ErrorKind) (n m : ℕ) → FailsToTake old k e new → m ≡ n + 1 → IsTrue (of_layout e) → one_took o (run k) old.left n ≡ quit e new.left m
+pub array_short : (o : Order) (k : ℕ) (old new : Source) (e : ErrorKind) (n m : ℕ) → FailsToTake old k e new → m ≡ n + 1 → IsTrue (of_layout e) → one_took o (byte_string k) old.left n ≡ quit e new.left m
 array_short o k old new Eof n m p q kind = rw (p.1, q) (run_short o k old.left n p.0)
 array_short o k old new InvalidRecord n m p q kind = absurd p
 array_short o k old new UnsupportedConfig n m p q kind = absurd p
@@ -34,7 +34,7 @@ array_short o k old new External n m p q kind = cc
 array_short o k old new OutOfMemory n m p q kind = absurd p
 
 -- the same of bytes that are kept, for which memory may be refused
-pub kept_short : (o : Order) (k : ℕ) (old new : Source) (e : ErrorKind) (n m : ℕ) → FailsToKeep old k e new → m ≡ n + 1 → IsTrue (of_layout e) → one_took o (run k) old.left n ≡ quit e new.left m
+pub kept_short : (o : Order) (k : ℕ) (old new : Source) (e : ErrorKind) (n m : ℕ) → FailsToKeep old k e new → m ≡ n + 1 → IsTrue (of_layout e) → one_took o (byte_string k) old.left n ≡ quit e new.left m
 kept_short o k old new Eof n m p q kind = rw (p.1, q) (run_short o k old.left n p.0)
 kept_short o k old new InvalidRecord n m p q kind = absurd p
 kept_short o k old new UnsupportedConfig n m p q kind = absurd p
@@ -42,23 +42,23 @@ kept_short o k old new UnsupportedData n m p q kind = absurd p
 kept_short o k old new External n m p q kind = cc
 kept_short o k old new OutOfMemory n m p q kind = cc
 
-pub run_none : (o : Order) (bytes : List ℕ) (n : ℕ) → one_took o (run 0) bytes n ≡ took [] bytes n
-run_none o bytes n = took_yes o (run 0) bytes n (omega arith) ∙ ap (took [] bytes) (omega arith)
+pub run_none : (o : Order) (bytes : List ℕ) (n : ℕ) → one_took o (byte_string 0) bytes n ≡ took [] bytes n
+run_none o bytes n = took_yes o (byte_string 0) bytes n (omega arith) ∙ ap (took [] bytes) (omega arith)
 
 -- a number is made of its bytes
-width_some : (w : Width) → reads_of (run (bytes_in w)) (bytes_in w) ≡ 1
+width_some : (w : Width) → reads_of (byte_string (bytes_in w)) (bytes_in w) ≡ 1
 width_some w1 = refl
 width_some w2 = refl
 width_some w4 = refl
 width_some w8 = refl
 
-pub number_run : (o : Order) (w : Width) (bytes : List ℕ) (n : ℕ) → one_took o (number w) bytes n ≡ then_take (λ xs left m. took (number_of o w xs) left m) (one_took o (run (bytes_in w)) bytes n)
+pub number_run : (o : Order) (w : Width) (bytes : List ℕ) (n : ℕ) → one_took o (number w) bytes n ≡ then_take (λ xs left m. took (number_of o w xs) left m) (one_took o (byte_string (bytes_in w)) bytes n)
 number_run o w bytes n = elim (cases_lt (length bytes) (bytes_in w)) [
-  | inl short ↦ took_no o (number w) bytes n short ∙ sym (ap (then_take (λ xs left m. took (number_of o w xs) left m)) (took_no o (run (bytes_in w)) bytes n short))
+  | inl short ↦ took_no o (number w) bytes n short ∙ sym (ap (then_take (λ xs left m. took (number_of o w xs) left m)) (took_no o (byte_string (bytes_in w)) bytes n short))
   | inr fits ↦
       took_yes o (number w) bytes n fits
       ∙ ap (λ i. took (number_of o w (take (bytes_in w) bytes)) (drop (bytes_in w) bytes) (n + i)) (sym (width_some w))
-      ∙ sym (ap (then_take (λ xs left m. took (number_of o w xs) left m)) (took_yes o (run (bytes_in w)) bytes n fits))
+      ∙ sym (ap (then_take (λ xs left m. took (number_of o w xs) left m)) (took_yes o (byte_string (bytes_in w)) bytes n fits))
 ]
 
 -- all that is left
@@ -93,10 +93,10 @@ option_absent o w false bytes n h = took_yes o (optional false w) bytes n (omega
 pub ruleset optionals = (option_there, option_absent)
 
 -- bytes that say nothing
-pub padding_run : (o : Order) (k : ℕ) (bytes : List ℕ) (n : ℕ) → one_took o (padding k) bytes n ≡ then_take (λ xs left m. took tt left m) (one_took o (run k) bytes n)
+pub padding_run : (o : Order) (k : ℕ) (bytes : List ℕ) (n : ℕ) → one_took o (padding k) bytes n ≡ then_take (λ xs left m. took tt left m) (one_took o (byte_string k) bytes n)
 padding_run o k bytes n = elim (cases_lt (length bytes) k) [
-  | inl short ↦ took_no o (padding k) bytes n short ∙ sym (ap (then_take (λ xs left m. took tt left m)) (took_no o (run k) bytes n short))
-  | inr fits ↦ took_yes o (padding k) bytes n fits ∙ sym (ap (then_take (λ xs left m. took tt left m)) (took_yes o (run k) bytes n fits))
+  | inl short ↦ took_no o (padding k) bytes n short ∙ sym (ap (then_take (λ xs left m. took tt left m)) (took_no o (byte_string k) bytes n short))
+  | inr fits ↦ took_yes o (padding k) bytes n fits ∙ sym (ap (then_take (λ xs left m. took tt left m)) (took_yes o (byte_string k) bytes n fits))
 ]
 
 pub padding_none : (o : Order) (k : ℕ) (bytes : List ℕ) (n : ℕ) → k ≡ 0 → one_took o (padding k) bytes n ≡ took tt bytes n

@@ -2,7 +2,7 @@
 use Rattle.std.proofs.Common.{◌≡◌, ℕ, ◌+◌, ◌<◌, Bool, true, false, List, take, refl, ap, ◌∙◌, arith}
 use Rattle.std.specs.Prelude.{IsTrue, Some, None}
 use Rattle.perf_base.specs.Attribute.{zero_tail}
-use Rattle.perf_base.specs.Layout.{run}
+use Rattle.perf_base.specs.Layout.{byte_string}
 use Rattle.perf_base.specs.Order.{Order}
 use Rattle.perf_base.specs.Took.{Took, took, quit, one_took, took_by_places}
 use Rattle.perf_base.specs.Zeros.{all_zero}
@@ -24,8 +24,8 @@ checked : (t : Bool) (left : List ℕ) (m : ℕ) → ◌≡◌ {A = Took (Unit {
 checked true left m = refl
 checked false left m = refl
 
-zeros_run : (o : Order) (n : ℕ) (bytes : List ℕ) (m : ℕ) → took_by_places o (zero_tail n) bytes m ≡ then_take (λ tail left k. judged (all_zero tail) left k) (one_took o (run n) bytes m)
-zeros_run o n bytes m = places_took o (zero_tail n) bytes m ∙ go (one_took o (run n) bytes m)
+zeros_run : (o : Order) (n : ℕ) (bytes : List ℕ) (m : ℕ) → took_by_places o (zero_tail n) bytes m ≡ then_take (λ tail left k. judged (all_zero tail) left k) (one_took o (byte_string n) bytes m)
+zeros_run o n bytes m = places_took o (zero_tail n) bytes m ∙ go (one_took o (byte_string n) bytes m)
   where
     go : (r : Took (List ℕ)) → ◌≡◌ {A = Took (Unit {0})}
         (elim r [ took tail left k ↦ elim (all_zero tail) [ true ↦ took tt left k | false ↦ quit UnsupportedData left k ] | quit e left k ↦ quit e left k ])

@@ -30,14 +30,14 @@ of_layout OutOfMemory = false
 
 -- An answer is what a run made, seen through `view`; what is left and how many reads were made is
 -- what the run says. Of a fault and of want of memory this says nothing.
-abbrev pub Gives : {X A : Type 0} → (X → A) → Took A → Result X ErrorKind → Meaning → Type 0
-Gives view r (Ok x) new = r ≡ took (view x) new.source.left new.reads
-Gives view r (Err e) new = IsTrue (of_layout e) → r ≡ quit e new.source.left new.reads
+abbrev pub AnswersRun : {X A : Type 0} → (X → A) → Took A → Result X ErrorKind → Meaning → Type 0
+AnswersRun view r (Ok x) new = r ≡ took (view x) new.source.left new.reads
+AnswersRun view r (Err e) new = IsTrue (of_layout e) → r ≡ quit e new.source.left new.reads
 
 -- The layout of its parts, under the configuration, in the bytes that were left.
 abbrev pub Reads : {X A : Type 0} → (Configuration → Parts A) → (X → A) → Says X
 Reads parts view old seen new =
-    Gives view (took_by_places old.order (parts old.settings) old.source.left old.reads) seen new
+    AnswersRun view (took_by_places old.order (parts old.settings) old.source.left old.reads) seen new
 
 -- the same, for which no memory is taken
 abbrev pub ReadsPlain : {X A : Type 0} → (Configuration → Parts A) → (X → A) → Says X
@@ -52,7 +52,7 @@ ReadsLent parts view borrowed old seen new =
 -- the same of a single part
 abbrev pub ReadsOne : {X : Type 0} → (shape : Shape) → (X → Answer shape) → Says X
 ReadsOne shape view old seen new =
-    Gives view (one_took old.order shape old.source.left old.reads) seen new
+    AnswersRun view (one_took old.order shape old.source.left old.reads) seen new
 
 -- the same of a number, for which no memory is taken
 abbrev pub ReadsNumber : Width → Says ℕ

@@ -3,7 +3,7 @@
 ghost use Rattle.std.specs.Prelude.{◌≡◌, ◌+◌, length, true, IsTrue, IsOk, IfOk, IfErr};
 ghost use Rattle.perf_reader.specs.Words.{one_if_any, OutOfMemory, falls_short, is_made_beforehand};
 ghost use Rattle.perf_reader.specs.Words.{Call, ReadsOne, TakesNoMemory, input_of, reads_of, kinds};
-ghost use Rattle.perf_reader.specs.Words.{refusal_kind, cow_items, is_borrowed, run};
+ghost use Rattle.perf_reader.specs.Words.{refusal_kind, cow_items, is_borrowed, byte_string};
 
 use crate::reader::Reader;
 use perf_base::cow::CowSlice;
@@ -31,7 +31,7 @@ impl<'p, I: Input<'p>, E: Endian> Reader<I, E> {
             (I.source (input_of self.new)).left ≡ (I.source (input_of self.old)).left) }
         ensures counted { reads_of self.new ≡ reads_of self.old + one_if_any len }
         ensures length { IfOk result (λ c. length (cow_items c) ≡ len) }
-        ensures call { Call I.source E.order (ReadsOne (run len) cow_items)
+        ensures call { Call I.source E.order (ReadsOne (byte_string len) cow_items)
             self.old (kinds result) self.new }
     {
         if len == 0 {

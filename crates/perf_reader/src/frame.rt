@@ -8,7 +8,7 @@ ghost use Rattle.perf_reader.specs.Words.{refusal_kind, TakesNoMemory};
 
 use crate::reader::Reader;
 use perf_base::endian::Endian;
-use perf_base::reads::Reads;
+use perf_base::reads::ReadCounter;
 use perf_base::refusal::ReadResult;
 use perf_buffers::cursor::ParseBufCursor;
 use perf_buffers::input::Input;
@@ -52,7 +52,7 @@ impl<'p, I: Input<'p>, E: Endian> Reader<I, E> {
 
     /// Counts the reads that were made of bytes which were cut off.
     #[inline]
-    pub fn count(&mut self, made: Reads)
+    pub fn count(&mut self, made: ReadCounter)
         ensures input { input_of self.new ≡ input_of self.old }
         ensures config { config_of self.new ≡ config_of self.old }
         ensures reads { reads_of self.new ≡ reads_of self.old + made }
@@ -64,7 +64,7 @@ impl<'p, I: Input<'p>, E: Endian> Reader<I, E> {
 impl<I: Drop, E: Endian> Reader<I, E> {
     /// How many reads it made.
     #[inline]
-    pub fn into_reads(self) -> Reads
+    pub fn into_reads(self) -> ReadCounter
         ensures { result ≡ reads_of self }
     {
         self.reads

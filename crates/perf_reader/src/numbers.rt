@@ -4,7 +4,7 @@
 ghost use Rattle.std.specs.Prelude.{◌≡◌, ◌+◌, ◌<◌, IsTrue};
 ghost use Rattle.perf_buffers.specs.Taking.{MovesWithin};
 ghost use Rattle.perf_reader.specs.Words.{Call, ReadsOne, TakesNoMemory, kinds, input_of, reads_of};
-ghost use Rattle.perf_reader.specs.Words.{number, run, w1, w2, w4, w8};
+ghost use Rattle.perf_reader.specs.Words.{number, byte_string, w1, w2, w4, w8};
 
 use crate::reader::Reader;
 use perf_base::endian::Endian;
@@ -21,7 +21,7 @@ impl<'p, I: Input<'p>, E: Endian> Reader<I, E> {
         ensures memory { TakesNoMemory (kinds result) }
         ensures within { IsTrue (I.source (input_of self.old)).told →
             MovesWithin (I.source (input_of self.old)) N (I.source (input_of self.new)) }
-        ensures call { Call I.source E.order (ReadsOne (run N) (λ bytes. bytes))
+        ensures call { Call I.source E.order (ReadsOne (byte_string N) (λ bytes. bytes))
             self.old (kinds result) self.new }
     {
         self.reads.tick();

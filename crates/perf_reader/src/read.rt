@@ -1,7 +1,7 @@
 //! What the types of this library mean, and how they are read.
 
 ghost use Rattle.perf_reader.specs.Words.{Call, Says, ReadsNumber, ReadsOne, TakesNoMemory};
-ghost use Rattle.perf_reader.specs.Words.{kinds, run, w1, w2, w4, w8};
+ghost use Rattle.perf_reader.specs.Words.{kinds, byte_string, w1, w2, w4, w8};
 
 use crate::reader::Reader;
 use perf_base::endian::Endian;
@@ -89,7 +89,7 @@ impl<'p, I: Input<'p>> ReadFrom<'p, I> for u64 {
 
 impl<const N: usize> Meant for [u8; N] {
     ghost says = { λ old seen new.
-        ReadsOne (run N) (λ bytes. bytes) old seen new × TakesNoMemory seen };
+        ReadsOne (byte_string N) (λ bytes. bytes) old seen new × TakesNoMemory seen };
 }
 
 impl<'p, I: Input<'p>, const N: usize> ReadFrom<'p, I> for [u8; N] {

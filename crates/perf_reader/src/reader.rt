@@ -6,7 +6,7 @@ ghost use Rattle.perf_reader.specs.Words.{input_of, config_of, reads_of};
 
 use perf_base::config::ParseConfig;
 use perf_base::endian::Endian;
-use perf_base::reads::Reads;
+use perf_base::reads::ReadCounter;
 use std::alloc::Global;
 
 /// Reads values out of an input, under a configuration. Its calls alone take bytes and count what
@@ -15,7 +15,7 @@ use std::alloc::Global;
 pub struct Reader<I, E> {
     pub(crate) input: I,
     pub(crate) config: ParseConfig<E>,
-    pub(crate) reads: Reads,
+    pub(crate) reads: ReadCounter,
     pub(crate) alloc: Global,
 }
 
@@ -31,7 +31,7 @@ impl<I, E: Endian> Reader<I, E> {
         Reader {
             input,
             config,
-            reads: Reads::new(),
+            reads: ReadCounter::new(),
             alloc,
         }
     }

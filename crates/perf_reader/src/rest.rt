@@ -1,7 +1,7 @@
 //! All that is left in a reader's input.
 
 ghost use Rattle.std.specs.Prelude.{◌≡◌, ◌+◌, length, [], IsTrue, IfOk};
-ghost use Rattle.perf_base.specs.Reads.{one_if_any};
+ghost use Rattle.perf_base.specs.LayoutReads.{one_if_any};
 ghost use Rattle.perf_reader.specs.Words.{Call, ReadsOne, TakesNoMemory, input_of, reads_of, kinds};
 ghost use Rattle.perf_reader.specs.Words.{cow_items, is_borrowed, rest};
 

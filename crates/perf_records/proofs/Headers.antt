@@ -7,7 +7,7 @@ use Rattle.perf_base.specs.Order.{Order}
 use Rattle.perf_base.specs.Configuration.{Configuration}
 use Rattle.perf_base.specs.Layout.{Parts, done, ◌>>=◌, number, w2, w4}
 use Rattle.perf_base.specs.FieldWords.{u16}
-use Rattle.perf_base.specs.Reads.{layout_reads}
+use Rattle.perf_base.specs.LayoutReads.{layout_reads}
 use Rattle.perf_base.specs.Run.{Ran, ran, stopped, by_places}
 use Rattle.perf_base.specs.Header.{header, header_of}
 use Rattle.perf_base.proofs.Bridge.{judged_yes, judged_no}
@@ -22,7 +22,7 @@ use Rattle.perf_reader.specs.Reading.{of_layout, is_external}
 use Rattle.perf_reader.proofs.Paying.{within_taken}
 use Rattle.perf_records.proofs.Keeping.{within_all}
 use Rattle.perf_records.specs.Frames.{frame_length}
-use Rattle.perf_records.specs.Answers.{FrameParts, body_length, split_behind, split_reads, id_reads, record_in, record_reads, answer_behind, reads_behind, of_frame, answer_of_frame, Tells, frame_reads}
+use Rattle.perf_records.specs.Answers.{FrameParts, body_length, split_behind, split_reads, id_reads, record_in, record_reads, answer_behind, reads_behind, of_frame, answer_of_frame, AnswersExactly, frame_reads}
 
 -- ---- the header by places
 -- what follows the type, and what follows misc
@@ -186,8 +186,8 @@ told_reads reads old mid h made fits e m n p =
 pub tells_frame : {X V : Type 0} (view : X → V) (says : perf_event_header → List ℕ → Result V ErrorKind) (reads : perf_event_header → List ℕ → ℕ)
     (old mid new : Meaning) (h : perf_event_header) (r : Result X ErrorKind) →
     8 ≤ length old.source.left → h ≡ header_of old.order old.source.left → mid.source.left ≡ drop 8 old.source.left → mid.reads ≡ old.reads + layout_reads old.order header old.source.left →
-    Tells view (says h mid.source.left) (body_length h) (reads h mid.source.left) mid r new →
-    Tells view (of_frame says old.order old.source.left) (frame_length old.order old.source.left) (frame_reads reads old.order old.source.left) old r new
+    AnswersExactly view (says h mid.source.left) (body_length h) (reads h mid.source.left) mid r new →
+    AnswersExactly view (of_frame says old.order old.source.left) (frame_length old.order old.source.left) (frame_reads reads old.order old.source.left) old r new
 tells_frame view says reads old mid new h (Ok x) fits e m n p = (
   frame_whole says old.order old.source.left fits ∙ ap (λ k. says k (drop 8 old.source.left)) (sym e) ∙ ap (says h) (sym m) ∙ p.0,
   frame_behind old.order old.source.left mid.source.left new.source.left h e m p.1,
@@ -202,7 +202,7 @@ tells_frame view says reads old mid new h (Err x) fits e m n p = λ kind. let q 
 -- a header that is lacking
 pub tells_no_header : {X V : Type 0} (view : X → V) (says : perf_event_header → List ℕ → Result V ErrorKind) (reads : perf_event_header → List ℕ → ℕ) (old new : Meaning) (e : ErrorKind) →
     length old.source.left < 8 → e ≡ Eof → new.source.left ≡ [] → new.reads ≡ old.reads + layout_reads old.order header old.source.left →
-    Tells view (of_frame says old.order old.source.left) (frame_length old.order old.source.left) (frame_reads reads old.order old.source.left) old (Err e) new
+    AnswersExactly view (of_frame says old.order old.source.left) (frame_length old.order old.source.left) (frame_reads reads old.order old.source.left) old (Err e) new
 tells_no_header view says reads old new e short eof none n = λ kind.
     let bytes : List ℕ = old.source.left in
     let a : nat_lt (length bytes) 8 ≡ true = lt-ltb (length bytes) 8 short in

@@ -1,14 +1,14 @@
 -- What was read by places is what the layout says, with as many reads.
 use Rattle.std.proofs.Common.{◌≡◌, ℕ, ◌+◌, List, length, drop, arith}
 use Rattle.std.specs.Prelude.{Option, None, Some, Result, Ok, Err, IsTrue}
-use Rattle.perf_base.specs.Layout.{Parts, spots, fault, ending, value, layout}
+use Rattle.perf_base.specs.Layout.{Parts, spots, first_refusal, ending, value, layout}
 use Rattle.perf_base.specs.Order.{Order}
-use Rattle.perf_base.specs.Reads.{layout_reads}
+use Rattle.perf_base.specs.LayoutReads.{layout_reads}
 use Rattle.perf_base.specs.Run.{Ran, ran, stopped, left_at, by_places}
 use Rattle.perf_base.specs.Took.{Took, took, quit, with_reads, took_by_places}
 use Rattle.perf_base.specs.declared.error.ErrorKind.{ErrorKind}
 use Rattle.perf_reader.specs.Meaning.{Meaning}
-use Rattle.perf_reader.specs.Reading.{Gives}
+use Rattle.perf_reader.specs.Reading.{AnswersRun}
 use Rattle.perf_records.specs.Answers.{Finishes}
 use Rattle.perf_records.specs.Records.{RecordValue, record_value}
 use Rattle.perf_records.specs.declared.record.Record.{Record}
@@ -37,19 +37,19 @@ pub took_says : {A : Type 0} (o : Order) (p : Parts A) (body left : List ℕ) (n
     (layout o p body ≡ Ok v) × (v ≡ value o body 0 p) × (m ≡ n + layout_reads o p body)
 unfolding took_by_places
 took_says o p body left n m v h =
-    let s = ran_of (fault (length body) (spots o body 0 p)) (value o body 0 p) v (drop (ending o body 0 p) body) (left_at body (spots o body 0 p)) left (n + layout_reads o p body) m h in
+    let s = ran_of (first_refusal (length body) (spots o body 0 p)) (value o body 0 p) v (drop (ending o body 0 p) body) (left_at body (spots o body 0 p)) left (n + layout_reads o p body) m h in
     (s.0, s.1, s.3)
 
 pub quit_says : {A : Type 0} (o : Order) (p : Parts A) (body left : List ℕ) (n m : ℕ) (e : ErrorKind) → took_by_places o p body n ≡ quit e left m →
     (layout o p body ≡ Err e) × (m ≡ n + layout_reads o p body)
 unfolding took_by_places
 quit_says o p body left n m e h =
-    let s = stopped_of (fault (length body) (spots o body 0 p)) (value o body 0 p) e (drop (ending o body 0 p) body) (left_at body (spots o body 0 p)) left (n + layout_reads o p body) m h in
+    let s = stopped_of (first_refusal (length body) (spots o body 0 p)) (value o body 0 p) e (drop (ending o body 0 p) body) (left_at body (spots o body 0 p)) left (n + layout_reads o p body) m h in
     (s.0, s.2)
 
 -- the reading of all of a body
 pub finishes : (r : Result Record ErrorKind) (o : Order) (p : Parts RecordValue) (bytes : List ℕ) (n : ℕ) (new : Meaning) → n ≡ 0 →
-    Gives record_value (took_by_places o p bytes n) r new → Finishes o p bytes r new.reads
+    AnswersRun record_value (took_by_places o p bytes n) r new → Finishes o p bytes r new.reads
 finishes (Ok r) o p bytes n new none h =
     let s = took_says o p bytes new.source.left n new.reads (record_value r) h in (s.0, omega (arith, none, s.2))
 finishes (Err e) o p bytes n new none h = λ kind.
@@ -61,12 +61,12 @@ pub took_ran : {A : Type 0} (o : Order) (p : Parts A) (body left : List ℕ) (n 
     (by_places o p body ≡ ran v left) × (m ≡ n + layout_reads o p body)
 unfolding took_by_places by_places
 took_ran o p body left n m v h =
-    let s = ran_of (fault (length body) (spots o body 0 p)) (value o body 0 p) v (drop (ending o body 0 p) body) (left_at body (spots o body 0 p)) left (n + layout_reads o p body) m h in
+    let s = ran_of (first_refusal (length body) (spots o body 0 p)) (value o body 0 p) v (drop (ending o body 0 p) body) (left_at body (spots o body 0 p)) left (n + layout_reads o p body) m h in
     (s.2, s.3)
 
 pub quit_stopped : {A : Type 0} (o : Order) (p : Parts A) (body left : List ℕ) (n m : ℕ) (e : ErrorKind) → took_by_places o p body n ≡ quit e left m →
     (by_places o p body ≡ stopped e left) × (m ≡ n + layout_reads o p body)
 unfolding took_by_places by_places
 quit_stopped o p body left n m e h =
-    let s = stopped_of (fault (length body) (spots o body 0 p)) (value o body 0 p) e (drop (ending o body 0 p) body) (left_at body (spots o body 0 p)) left (n + layout_reads o p body) m h in
+    let s = stopped_of (first_refusal (length body) (spots o body 0 p)) (value o body 0 p) e (drop (ending o body 0 p) body) (left_at body (spots o body 0 p)) left (n + layout_reads o p body) m h in
     (s.1, s.2)

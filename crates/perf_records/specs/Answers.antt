@@ -7,7 +7,7 @@ use Rattle.perf_base.specs.Configuration.{Configuration, under_misc}
 use Rattle.perf_base.specs.Header.{header, header_of}
 use Rattle.perf_base.specs.Layout.{Parts, layout, value}
 use Rattle.perf_base.specs.Order.{Order}
-use Rattle.perf_base.specs.Reads.{layout_reads}
+use Rattle.perf_base.specs.LayoutReads.{layout_reads}
 use Rattle.perf_base.specs.Refusals.{refused, TakesNoMemory}
 use Rattle.perf_base.specs.declared.sys.perf_event_header.{perf_event_header}
 use Rattle.perf_base.specs.declared.error.ErrorKind.{ErrorKind}
@@ -127,10 +127,10 @@ answers c o bytes = map (λ frame. (header_of o frame, answer_of_frame c o frame
 
 -- A call answers what a definition says, seen through `view`, takes n bytes, or all that were left
 -- where that is less, and makes k reads. Of a fault and of want of memory this says nothing.
-abbrev pub Tells : {X V : Type 0} → (X → V) → Result V ErrorKind → (n k : ℕ) → Says X
-Tells view says n k old (Ok x) new =
+abbrev pub AnswersExactly : {X V : Type 0} → (X → V) → Result V ErrorKind → (n k : ℕ) → Says X
+AnswersExactly view says n k old (Ok x) new =
     (says ≡ Ok (view x)) × (new.source.left ≡ drop n old.source.left) × (new.reads ≡ old.reads + k)
-Tells view says n k old (Err e) new = IsTrue (of_layout e) →
+AnswersExactly view says n k old (Err e) new = IsTrue (of_layout e) →
     (says ≡ Err e) × (new.source.left ≡ drop n old.source.left) × (new.reads ≡ old.reads + k)
 
 -- the parts of a frame that a call answers: the bytes of the body, and the metadata
@@ -141,14 +141,14 @@ answered_parts pair = record { metadata = pair.1; body = cursor_left pair.0 }
 abbrev pub SplitsBehind : perf_event_header → Says (ParseBufCursor × MetadataValue)
 SplitsBehind h old seen new =
     let c = old.settings in let o = old.order in let bytes = old.source.left in
-    Tells answered_parts (split_behind c o h bytes) (body_length h) (split_reads c o h bytes)
+    AnswersExactly answered_parts (split_behind c o h bytes) (body_length h) (split_reads c o h bytes)
     old seen new
 
 -- what a frame says behind its header; exactly its body and its sample id are taken
 abbrev pub SaysBehind : perf_event_header → Says Record
 SaysBehind h old seen new =
     let c = old.settings in let o = old.order in let bytes = old.source.left in
-    Tells record_value (answer_behind c o h bytes) (body_length h) (reads_behind c o h bytes)
+    AnswersExactly record_value (answer_behind c o h bytes) (body_length h) (reads_behind c o h bytes)
     old seen new
 
 -- What the reading of a frame means, with its header: what its bytes say, and exactly they are
@@ -157,7 +157,7 @@ SaysBehind h old seen new =
 abbrev pub SaysFrame : Says Record
 SaysFrame old seen new =
     let c = old.settings in let o = old.order in let bytes = old.source.left in
-    Tells record_value (answer_of_frame c o bytes) (frame_length o bytes)
+    AnswersExactly record_value (answer_of_frame c o bytes) (frame_length o bytes)
     (frame_reads (reads_behind c o) o bytes) old seen new
     × (is_external (refused seen) ≡ false →
     MovesWithin old.source (frame_length o bytes) new.source)

@@ -1,7 +1,7 @@
 -- The words that contracts of records of every type are written in.
 pub use Rattle.perf_base.specs.Configured.{configuration_of, endian_of}
 pub use Rattle.perf_base.specs.Layout.{mapped, value}
-pub use Rattle.perf_base.specs.Reads.{layout_reads}
+pub use Rattle.perf_base.specs.LayoutReads.{layout_reads}
 pub use Rattle.perf_base.specs.declared.error.ErrorKind.TheVariants.{InvalidRecord, OutOfMemory}
 pub use Rattle.perf_buffers.specs.Cursor.{cursor_left, cursor_lent}
 pub use Rattle.perf_buffers.specs.Room.{falls_short, is_made_beforehand}

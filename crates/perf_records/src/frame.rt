@@ -11,7 +11,7 @@ use crate::metadata::RecordMetadata;
 use crate::record::Record;
 use perf_base::config::ParseConfig;
 use perf_base::endian::Endian;
-use perf_base::reads::Reads;
+use perf_base::reads::ReadCounter;
 use perf_base::refusal::{ReadResult, Refusal};
 use perf_base::sys::{PERF_RECORD_SAMPLE, perf_event_header};
 use perf_buffers::cursor::ParseBufCursor;
@@ -68,7 +68,7 @@ fn read_id<'x, E: Endian>(reader: &mut Reader<&'x [u8], E>, ty: u32) -> SampleId
 struct Taken<'p> {
     body: ParseBufCursor<'p>,
     metadata: RecordMetadata,
-    reads: Reads,
+    reads: ReadCounter,
 }
 
 // The bytes of a frame without its sample id, the metadata, and how many reads that took.
@@ -181,7 +181,7 @@ fn finish<'p, E: Endian>(
     bytes: ParseBufCursor<'p>,
     config: ParseConfig<E>,
     ty: u32,
-) -> (ReadResult<Record<'p>>, Reads)
+) -> (ReadResult<Record<'p>>, ReadCounter)
     ensures answer { words.Finishes (E.order (endian_of config))
         (words.body (configuration_of config) ty)
         (cursor_left bytes.entry) (kinds result.0) result.1 }

@@ -3,7 +3,7 @@ use Rattle.std.proofs.Common.{◌≡◌, ℕ, true, false, List, [], ◌∷◌, 
 use Rattle.perf_base.specs.Configuration.{Configuration, plain, kept_read_format}
 use Rattle.perf_base.specs.Order.{little, big}
 use Rattle.perf_base.specs.Layout.{layout}
-use Rattle.perf_base.specs.Reads.{layout_reads, layout_consumed}
+use Rattle.perf_base.specs.LayoutReads.{layout_reads, layout_consumed}
 use Rattle.perf_base.specs.declared.error.ErrorKind.TheVariants.{Eof, InvalidRecord, UnsupportedConfig}
 use Rattle.perf_types.specs.Aux.{aux}
 use Rattle.perf_types.specs.AuxOutputHwId.{aux_output_hw_id}

@@ -280,7 +280,7 @@ impl<'a> From<Mmap2<'a>> for Mmap<'a> {
 }
 
 // How long a build id can be.
-const BUILD_ID_MOST: u8 = 20;
+const BUILD_ID_SIZE_MAX: u8 = 20;
 
 // Whether the record whose `misc` this is names its file by a build id.
 #[inline]
@@ -315,7 +315,7 @@ fn read_build_id<'p, I: Input<'p>, E: Endian>(reader: &mut Reader<I, E>) -> Read
     let len = reader.read_u8()?;
     reader.skip(3)?;
     let build_id = reader.read_array::<20>()?;
-    if len > BUILD_ID_MOST {
+    if len > BUILD_ID_SIZE_MAX {
         return Err(Refusal::BuildIdLength);
     }
     Ok(MmapDetail::BuildId { build_id, len })

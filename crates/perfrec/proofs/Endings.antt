@@ -20,12 +20,12 @@ use Rattle.perf_reader.specs.Reading.{of_layout, is_external}
 use Rattle.perfrec.specs.declared.outcome.Outcome.{Outcome}
 use Rattle.perfrec.specs.declared.outcome.Outcome.TheVariants.{Clean, Refused, BadAttr, Faulted, Stopped}
 use Rattle.perfrec.specs.Text.{lines_from, end_line, printed, is_at_limit, text, end_name, kind_name, Stream, framed, without_frames, behind_attribute, stream_text, attr_line}
-use Rattle.perfrec.specs.Outcomes.{is_cut, prints_refusal, ends_cut, EndsEarly, IsFaultText, IsText, Says}
+use Rattle.perfrec.specs.Outcomes.{is_cut, prints_refusal, ends_cut, EndsEarly, IsFaultText, IsText, IsWritten}
 use Rattle.perfrec.proofs.Progress.{Listed}
 
 -- behind start stands what a run with this outcome makes
 abbrev pub Made : Bool → Configuration → Order → ℕ → List ℕ → List ℕ → Outcome → List ℕ → Type 0
-Made f c o limit bytes start outcome now = (written : List ℕ) × (now ≡ start ++ written) × Says f o limit (framed c bytes) outcome written
+Made f c o limit bytes start outcome now = (written : List ℕ) × (now ≡ start ++ written) × IsWritten f o limit (framed c bytes) outcome written
 
 pub if_ok_map : {A E : Type 0} (r : Result A E) (P Q : A → Type 0) → ((x : A) → P x → Q x) → IfOk r P → IfOk r Q
 if_ok_map (Ok x) P Q f h = f x h
@@ -49,7 +49,7 @@ or_true false = refl
 
 -- ---- without a fault
 
-says_as : (f : Bool) (c : Configuration) (o : Order) (limit : ℕ) (bytes : List ℕ) (b : Bool) → (prints_refusal c o limit bytes || ends_cut c o limit bytes) ≡ b → Says f o limit (framed c bytes) (if b then Refused else Clean) (text c o limit bytes)
+says_as : (f : Bool) (c : Configuration) (o : Order) (limit : ℕ) (bytes : List ℕ) (b : Bool) → (prints_refusal c o limit bytes || ends_cut c o limit bytes) ≡ b → IsWritten f o limit (framed c bytes) (if b then Refused else Clean) (text c o limit bytes)
 says_as f c o limit bytes true e = (refl, ap (λ b. if b then Refused else Clean) e)
 says_as f c o limit bytes false e = (refl, ap (λ b. if b then Refused else Clean) e)
 
@@ -64,7 +64,7 @@ whole f c o limit bytes start n made refused before all how ends cut cuts now gr
       text c o limit bytes,
       grown ∙ ap (λ xs. xs ++ end_line how) (before.made_is ∙ ap (λ pairs. start ++ lines_from 0 pairs) all)
           ∙ append_assoc start lines (end_line how) ∙ ap (λ xs. start ++ xs) (sym same),
-      subst (λ x. Says f o limit (framed c bytes) x (text c o limit bytes)) (sym is) (says_as f c o limit bytes (refused || cut) test),
+      subst (λ x. IsWritten f o limit (framed c bytes) x (text c o limit bytes)) (sym is) (says_as f c o limit bytes (refused || cut) test),
     )
 
 -- the limit was reached
@@ -129,7 +129,7 @@ starts_with_taken : (xs : List ℕ) (n : ℕ) → StartsWith xs (take n xs)
 starts_with_taken xs n = ap (λ k. take k xs) (length-take n xs) ∙ take_min n xs
 
 -- a beginning of what an outcome says is what a run says that was stopped
-pub says_beginning : (f : Bool) (o : Order) (limit : ℕ) (stream : Stream) (outcome : Outcome) (written : List ℕ) (n : ℕ) → Says f o limit stream outcome written → Says f o limit stream Stopped (take n written)
+pub says_beginning : (f : Bool) (o : Order) (limit : ℕ) (stream : Stream) (outcome : Outcome) (written : List ℕ) (n : ℕ) → IsWritten f o limit stream outcome written → IsWritten f o limit stream Stopped (take n written)
 says_beginning f o limit stream Clean written n h = (written, inl h.0, starts_with_taken written n)
 says_beginning f o limit stream Refused written n h = (written, inl h.0, starts_with_taken written n)
 says_beginning f o limit stream BadAttr written n h = (written, inl h.0, starts_with_taken written n)
@@ -139,13 +139,13 @@ says_beginning f o limit stream Stopped written n h =
     (h.0, h.1, sym (take-take (length (take n written)) (length written) h.0 short) ∙ ap (λ xs. take (length (take n written)) xs) h.2 ∙ starts_with_taken written n)
 
 -- nothing at all is a beginning
-pub says_nothing : (f : Bool) (o : Order) (limit : ℕ) (stream : Stream) → Says f o limit stream Stopped []
+pub says_nothing : (f : Bool) (o : Order) (limit : ℕ) (stream : Stream) → IsWritten f o limit stream Stopped []
 says_nothing f o limit stream = (stream_text o limit stream, inl refl, refl)
 
 -- ---- an attribute
 
 -- the line of a fault alone, whatever the stream
-pub fault_alone : (f : Bool) (o : Order) (limit : ℕ) (stream : Stream) (kind : ErrorKind) → EndsEarly f kind → (now : List ℕ) → now ≡ end_line (codes "fault " ++ kind_name kind) → Says f o limit stream Faulted now
+pub fault_alone : (f : Bool) (o : Order) (limit : ℕ) (stream : Stream) (kind : ErrorKind) → EndsEarly f kind → (now : List ℕ) → now ≡ end_line (codes "fault " ++ kind_name kind) → IsWritten f o limit stream Faulted now
 fault_alone f o limit stream kind early now is = (0, kind, inr refl, early, is)
 
 abbrev stream_by : Result perf_event_attr ErrorKind → List ℕ → Stream
@@ -166,7 +166,7 @@ refused_attribute o bytes left kind read = by_answer o bytes (Err kind) (sym (pl
 
 -- behind start stands what a run over this stream makes
 abbrev pub MadeOf : Bool → Order → ℕ → Stream → List ℕ → Outcome → List ℕ → Type 0
-MadeOf f o limit stream start outcome now = (written : List ℕ) × (now ≡ start ++ written) × Says f o limit stream outcome written
+MadeOf f o limit stream start outcome now = (written : List ℕ) × (now ≡ start ++ written) × IsWritten f o limit stream outcome written
 
 -- what is made where the attribute could not be read
 abbrev MadeRefused : List ℕ → ErrorKind → Outcome → List ℕ → Type 0
@@ -179,13 +179,13 @@ as_refused : (f : Bool) (o : Order) (limit : ℕ) (stream : Stream) (start : Lis
 as_refused f o limit stream start kind outcome now refused h = (
   attr_line kind,
   h.0,
-  subst (λ x. Says f o limit stream x (attr_line kind)) (sym h.1) (subst (λ x. Says f o limit x BadAttr (attr_line kind)) (sym refused) (refl, refl)),
+  subst (λ x. IsWritten f o limit stream x (attr_line kind)) (sym h.1) (subst (λ x. IsWritten f o limit x BadAttr (attr_line kind)) (sym refused) (refl, refl)),
 )
 
 as_faulted : (f : Bool) (o : Order) (limit : ℕ) (stream : Stream) (start : List ℕ) (kind : ErrorKind) (outcome : Outcome) (now : List ℕ) → EndsEarly f kind → MadeFault start kind outcome now → MadeOf f o limit stream start outcome now
 as_faulted f o limit stream start kind outcome now early h =
     let last : List ℕ = end_line (codes "fault " ++ kind_name kind) in
-    (last, h.0, subst (λ x. Says f o limit stream x last) (sym h.1) (fault_alone f o limit stream kind early last refl))
+    (last, h.0, subst (λ x. IsWritten f o limit stream x last) (sym h.1) (fault_alone f o limit stream kind early last refl))
 
 layout_or_not : (b : Bool) → IsTrue b ⊎ (IsTrue b → ⊥)
 layout_or_not true = inl refl
@@ -220,7 +220,7 @@ fault_text_within f g within o limit stream written h = (h.0, h.1, h.2, early_wi
 text_within : (f g : Bool) → (IsTrue g → IsTrue f) → (o : Order) (limit : ℕ) (stream : Stream) (written : List ℕ) → IsText g o limit stream written → IsText f o limit stream written
 text_within f g within o limit stream written h = elim h [ inl e ↦ inl e | inr e ↦ inr (fault_text_within f g within o limit stream written e) ]
 
-says_within : (f g : Bool) → (IsTrue g → IsTrue f) → (o : Order) (limit : ℕ) (stream : Stream) (outcome : Outcome) (written : List ℕ) → Says g o limit stream outcome written → Says f o limit stream outcome written
+says_within : (f g : Bool) → (IsTrue g → IsTrue f) → (o : Order) (limit : ℕ) (stream : Stream) (outcome : Outcome) (written : List ℕ) → IsWritten g o limit stream outcome written → IsWritten f o limit stream outcome written
 says_within f g within o limit stream Clean written h = h
 says_within f g within o limit stream Refused written h = h
 says_within f g within o limit stream BadAttr written h = h

@@ -14,8 +14,8 @@ use Rattle.perf_records.specs.Records.{RecordValue}
 use Rattle.perf_records.specs.declared.record.Record.{Record}
 use Rattle.perf_records.specs.Frames.{StreamEnd, frames, behind_frames, stream_end}
 use Rattle.perf_records.specs.Answers.{answers, answer_of_frame}
-use Rattle.perf_parser.specs.Runs.{said}
-use Rattle.perf_parser.specs.Runs.{pairs_said}
+use Rattle.perf_parser.specs.Runs.{seen_answer}
+use Rattle.perf_parser.specs.Runs.{seen_answers}
 use Rattle.perf_base.specs.Header.{header_of}
 use Rattle.perfrec.specs.Text.{lines_from}
 use Rattle.perfrec.proofs.Lines.{lines_append}
@@ -41,18 +41,18 @@ count_answers : (c : Configuration) (o : Order) (bytes : List ℕ) → length (a
 count_answers c o bytes = length-map (frames o bytes) (λ frame. (header_of o frame, answer_of_frame c o frame))
 
 -- a refusal is one in the words of the definition too
-refused_said : (pairs : List (perf_event_header × Result Record ParseError)) → list_any (λ pair. is_err pair.1) pairs ≡ list_any is_refused (pairs_said pairs)
+refused_said : (pairs : List (perf_event_header × Result Record ParseError)) → list_any (λ pair. is_err pair.1) pairs ≡ list_any is_refused (seen_answers pairs)
 refused_said [] = refl
 refused_said ((h, Ok r) ∷ pairs) = refused_said pairs
 refused_said ((h, Err e) ∷ pairs) = refl
 
 -- a batch more
-pub listed_more : (c : Configuration) (o : Order) (bytes start : List ℕ) (n : ℕ) (made : List ℕ) (refused : Bool) → Listed c o bytes start n made refused → (left : List ℕ) → left ≡ behind_frames o n bytes → (pairs : List (perf_event_header × Result Record ParseError)) → pairs_said pairs ≡ take (length pairs) (answers c o left) → (now : List ℕ) → now ≡ made ++ lines_from n (pairs_said pairs) → Listed c o bytes start (n + length pairs) now (refused || list_any (λ pair. is_err pair.1) pairs)
+pub listed_more : (c : Configuration) (o : Order) (bytes start : List ℕ) (n : ℕ) (made : List ℕ) (refused : Bool) → Listed c o bytes start n made refused → (left : List ℕ) → left ≡ behind_frames o n bytes → (pairs : List (perf_event_header × Result Record ParseError)) → seen_answers pairs ≡ take (length pairs) (answers c o left) → (now : List ℕ) → now ≡ made ++ lines_from n (seen_answers pairs) → Listed c o bytes start (n + length pairs) now (refused || list_any (λ pair. is_err pair.1) pairs)
 listed_more c o bytes start n made refused before left at pairs are now grown =
     let all : List Pair = answers c o bytes in
     let k : ℕ = length pairs in
-    let more : List Pair = pairs_said pairs in
-    let as_many : length more ≡ k = length-map pairs (λ pair. (pair.0, said pair.1)) in
+    let more : List Pair = seen_answers pairs in
+    let as_many : length more ≡ k = length-map pairs (λ pair. (pair.0, seen_answer pair.1)) in
     let there : n ≤ length (frames o bytes) = omega (arith, before.within, count_answers c o bytes) in
     let next : more ≡ take k (drop n all) = are ∙ ap (λ xs. take k xs) (ap (λ xs. answers c o xs) at ∙ answers_behind c o n bytes there) in
     let together : take (n + k) all ≡ take n all ++ more = take-add n k all ∙ ap (λ xs. take n all ++ xs) (sym next) in
@@ -71,10 +71,10 @@ listed_more c o bytes start n made refused before left at pairs are now grown =
     }
 
 -- the same, as the code says it
-pub batch_more : (c : Configuration) (o : Order) (bytes start : List ℕ) (n : ℕ) (made : List ℕ) (refused : Bool) → Listed c o bytes start n made refused → (left : List ℕ) → left ≡ behind_frames o n bytes → (pairs : List (perf_event_header × Result Record ParseError)) → pairs_said pairs ≡ take (length pairs) (answers c o left) → (shown : List (perf_event_header × Result Record ParseError)) → shown ≡ pairs → (now : List ℕ) → now ≡ made ++ lines_from n (pairs_said shown) → (seen : List (perf_event_header × Result Record ParseError)) → seen ≡ pairs → (any : Bool) → any ≡ list_any (λ pair. is_err pair.1) seen → Listed c o bytes start (n + length pairs) now (refused || any)
+pub batch_more : (c : Configuration) (o : Order) (bytes start : List ℕ) (n : ℕ) (made : List ℕ) (refused : Bool) → Listed c o bytes start n made refused → (left : List ℕ) → left ≡ behind_frames o n bytes → (pairs : List (perf_event_header × Result Record ParseError)) → seen_answers pairs ≡ take (length pairs) (answers c o left) → (shown : List (perf_event_header × Result Record ParseError)) → shown ≡ pairs → (now : List ℕ) → now ≡ made ++ lines_from n (seen_answers shown) → (seen : List (perf_event_header × Result Record ParseError)) → seen ≡ pairs → (any : Bool) → any ≡ list_any (λ pair. is_err pair.1) seen → Listed c o bytes start (n + length pairs) now (refused || any)
 batch_more c o bytes start n made refused before left at pairs are shown same now grown seen alike any is =
     subst (λ b. Listed c o bytes start (n + length pairs) now (refused || b)) (sym (is ∙ ap (λ xs. list_any (λ pair. is_err pair.1) xs) alike))
-    (listed_more c o bytes start n made refused before left at pairs are now (grown ∙ ap (λ xs. made ++ lines_from n (pairs_said xs)) same))
+    (listed_more c o bytes start n made refused before left at pairs are now (grown ∙ ap (λ xs. made ++ lines_from n (seen_answers xs)) same))
 
 -- a batch that lists all that is left makes all answers of the stream
 pub all_listed : (c : Configuration) (o : Order) (bytes : List ℕ) (n k : ℕ) (left : List ℕ) → n ≤ length (answers c o bytes) → left ≡ behind_frames o n bytes → k ≡ length (frames o left) → n + k ≡ length (answers c o bytes)

@@ -75,15 +75,15 @@ IsTextOf o limit stream outcome written =
     (written ≡ stream_text o limit stream) × (stream_outcome o limit stream ≡ outcome)
 
 -- What was written of a stream, by the outcome of its run, and by whether the buffer can fault.
-abbrev pub Says : (can_fault : Bool) → Order → ℕ → Stream → Outcome → List ℕ → Type 0
-Says can_fault o limit stream Clean written = IsTextOf o limit stream Clean written
-Says can_fault o limit stream Refused written = IsTextOf o limit stream Refused written
-Says can_fault o limit stream BadAttr written = IsTextOf o limit stream BadAttr written
-Says can_fault o limit stream Faulted written = IsFaultText can_fault o limit stream written
-Says can_fault o limit stream Stopped written =
+abbrev pub IsWritten : (can_fault : Bool) → Order → ℕ → Stream → Outcome → List ℕ → Type 0
+IsWritten can_fault o limit stream Clean written = IsTextOf o limit stream Clean written
+IsWritten can_fault o limit stream Refused written = IsTextOf o limit stream Refused written
+IsWritten can_fault o limit stream BadAttr written = IsTextOf o limit stream BadAttr written
+IsWritten can_fault o limit stream Faulted written = IsFaultText can_fault o limit stream written
+IsWritten can_fault o limit stream Stopped written =
     (whole : List ℕ) × IsText can_fault o limit stream whole × StartsWith whole written
 
 -- The writer, where it tells its bytes, has got what such a run writes. A reader can fault.
 abbrev pub Writes : Order → ℕ → Stream → Outcome → (old new : Option (List ℕ)) → Type 0
 Writes o limit stream outcome old new =
-    (written : List ℕ) × Appends old new written × Says true o limit stream outcome written
+    (written : List ℕ) × Appends old new written × IsWritten true o limit stream outcome written

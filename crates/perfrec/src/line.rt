@@ -3,8 +3,8 @@
 ghost use Rattle.std.specs.Prelude.{◌≡◌, ◌+◌, ◌<◌, ◌^◌, ◌++◌, codes, length, string_bytes, OnOk};
 ghost use Rattle.std.specs.Prelude.{IfOk, IfErr};
 ghost use Rattle.perf_base.specs.Errors.{kind_of};
-ghost use Rattle.perf_parser.specs.Runs.{said};
-ghost use Rattle.perf_parser.specs.Runs.{pairs_said};
+ghost use Rattle.perf_parser.specs.Runs.{seen_answer};
+ghost use Rattle.perf_parser.specs.Runs.{seen_answers};
 ghost use Rattle.perfrec.specs.Text.{spaced, kind_name, answer_words, line, ended, lines_from};
 ghost use Rattle.perfrec.specs.Text.{end_line, attr_line};
 
@@ -23,7 +23,8 @@ pub fn line_of(
     header: &perf_event_header,
     answer: &ParseResult<Record>,
 ) -> ParseResult<String>
-    ensures ok { IfOk result (λ text. string_bytes text ≡ line index header.now (said answer.now)) }
+    ensures ok { IfOk result (λ text.
+        string_bytes text ≡ line index header.now (seen_answer answer.now)) }
     ensures err { IfErr result (λ e. kind_of e ≡ ErrorKind.OutOfMemory) }
 {
     let mut text = String::new(alloc);
@@ -39,7 +40,7 @@ pub fn push_lines(
 ) -> Result<(), AllocError>
     ensures { first + length frames.now < 2 ^ 64 → OnOk result
         (string_bytes text.new
-        ≡ string_bytes text.old ++ lines_from first (pairs_said frames.now)) }
+        ≡ string_bytes text.old ++ lines_from first (seen_answers frames.now)) }
 {
     let mut index = first;
     for (header, answer) in frames {
@@ -91,7 +92,7 @@ fn push_line(
     answer: &ParseResult<Record>,
 ) -> Result<(), AllocError>
     ensures { OnOk result (string_bytes text.new
-        ≡ string_bytes text.old ++ line index header.now (said answer.now)) }
+        ≡ string_bytes text.old ++ line index header.now (seen_answer answer.now)) }
 {
     push_number(text, "", index as u64)?;
     push_number(text, " ", u64::from(header.type_))?;
@@ -102,7 +103,7 @@ fn push_line(
 
 fn push_answer(text: &mut String, answer: &ParseResult<Record>) -> Result<(), AllocError>
     ensures { OnOk result (string_bytes text.new
-        ≡ string_bytes text.old ++ spaced (answer_words (said answer.now))) }
+        ≡ string_bytes text.old ++ spaced (answer_words (seen_answer answer.now))) }
 {
     match answer {
         Ok(record) => push_record(text, record),

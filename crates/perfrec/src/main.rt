@@ -51,9 +51,9 @@ fn main(rt: HostRuntime) -> ExitCode {
         return ExitCode::from(Outcome::BadAttr.status());
     };
     let outcome = match command.order {
-        OrderName::Little => obey(&rt, Little, command),
-        OrderName::Big => obey(&rt, Big, command),
-        OrderName::Native => obey(&rt, Native, command),
+        OrderName::Little => run_command(&rt, Little, command),
+        OrderName::Big => run_command(&rt, Big, command),
+        OrderName::Native => run_command(&rt, Native, command),
     };
     ExitCode::from(outcome.status())
 }
@@ -65,7 +65,7 @@ fn words_of(rt: &HostRuntime) -> io::Result<Vec<String>> {
 }
 
 // Runs on the standard streams. The input is not buffered twice, and the text is written as it is.
-fn obey<E: Endian>(rt: &HostRuntime, order: E, command: Command) -> Outcome {
+fn run_command<E: Endian>(rt: &HostRuntime, order: E, command: Command) -> Outcome {
     let mut output = rt.stdout();
     let Command {
         limit,

@@ -9,7 +9,7 @@ ghost use Rattle.perf_parser.specs.Meaning.{buffer_of, config_of};
 ghost use Rattle.perf_reader.specs.Reading.{of_layout};
 ghost use Rattle.perfrec.specs.Text.{framed, without_frames, stream_of, behind_attribute};
 ghost use Rattle.perfrec.specs.Text.{attr_line, end_line, kind_name};
-ghost use Rattle.perfrec.specs.Outcomes.{Says, Writes};
+ghost use Rattle.perfrec.specs.Outcomes.{IsWritten, Writes};
 
 use crate::line::{push_attr_refused, push_end, push_fault, push_lines};
 use crate::outcome::Outcome;
@@ -67,7 +67,7 @@ fn text_of<R: Read + Drop, E: Endian>(
 ) -> Result<(String, Outcome), AllocError>
     requires { 0 < piece }
     ensures { IfSome (R.remaining reader) (λ bytes. IfOk result (λ made.
-        Says true (E.order order) limit (stream_of with_attr (E.order order) bytes) made.1
+        IsWritten true (E.order order) limit (stream_of with_attr (E.order order) bytes) made.1
         (string_bytes made.0))) }
 {
     let mut text = String::new(alloc);
@@ -93,7 +93,7 @@ fn push_run_with_attr<'p, B: ParseBuf<'p> + Drop, E: Endian>(
 ) -> Result<Outcome, AllocError>
     ensures { IsTrue (B.source (buffer_of parser)).told → IfOk result (λ outcome. (written : List ℕ)
         × (string_bytes text.new ≡ string_bytes text.old ++ written)
-        × Says (B.source (buffer_of parser)).can_fault (E.order (endian_of (config_of parser)))
+        × IsWritten (B.source (buffer_of parser)).can_fault (E.order (endian_of (config_of parser)))
         limit (behind_attribute (E.order (endian_of (config_of parser)))
         (B.source (buffer_of parser)).left) outcome written) }
 {
@@ -170,7 +170,7 @@ fn push_run<'p, B: ParseBuf<'p>, E: Endian>(
     ensures { IsTrue (B.source (buffer_of parser.old)).told → IfOk result (λ outcome.
         (written : List ℕ)
         × (string_bytes text.new ≡ string_bytes text.old ++ written)
-        × Says (B.source (buffer_of parser.old)).can_fault
+        × IsWritten (B.source (buffer_of parser.old)).can_fault
         (E.order (endian_of (config_of parser.old))) limit
         (framed (configuration_of (config_of parser.old)) (B.source (buffer_of parser.old)).left)
         outcome written) }

@@ -56,10 +56,10 @@ returns-clause-listed g c =
       (λ whole. read.borrowed (c.in-Ok.ensures.call.whole ∙ whole)),
       (λ told.
           let head = c.in-Ok.ensures.call.answer told in
-          let said = said_frame old mid new h r head.0 head.1
+          let seen_answer = said_frame old mid new h r head.0 head.1
           (ap (λ (k : ParseConfig g.row.E.Denot). configuration_of k) c.in-Ok.ensures.call.config) (ap (λ (k : ParseConfig g.row.E.Denot). g.E.Endian.order (endian_of k)) c.in-Ok.ensures.call.config)
           head.2 head.3 read.listed (read.call.answer (c.in-Ok.ensures.call.told told)) in
-          (head.0, head.1, said.0, said.1, said.2)),
+          (head.0, head.1, seen_answer.0, seen_answer.1, seen_answer.2)),
     )
 
 pub returns-clause-keeps : goal.returns-clause-keeps

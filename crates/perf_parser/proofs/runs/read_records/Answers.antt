@@ -7,7 +7,7 @@ use Rattle.perf_reader.specs.Meaning as reader
 use Rattle.perf_reader.specs.Meaning.{Meaning}
 use Rattle.perf_records.specs.Answers.{answers}
 use Rattle.perf_parser.specs.Meaning.{meaning}
-use Rattle.perf_parser.specs.Runs.{Pairs, pairs_said, AllBorrowed, EndsWith, CountsReads, KeepsRun, ListsNext, refused_count, one_if_ended, end_refusal}
+use Rattle.perf_parser.specs.Runs.{Pairs, seen_answers, AllBorrowed, EndsWith, CountsReads, KeepsRun, ListsNext, refused_count, one_if_ended, end_refusal}
 use Rattle.perf_parser.proofs.Ending.{run_none, run_ends, run_limit, same_meaning}
 use Rattle.perf_parser.proofs.Listing.{IsSoFar, listed_first, none_so_far, one_more_borrowed, one_more_so_far, ends_with, counts_reads}
 use Rattle.perf_parser.proofs.runs.read_records.Goals as goal
@@ -32,7 +32,7 @@ returns-in-Err-clause-answers g c = λ told.
     let start : Meaning = meaning g.B.ParseBuf.source g.E.Endian.order c.args.parser.now in
     let here : Meaning = meaning g.B.ParseBuf.source g.E.Endian.order c.loop.parser in
     let i = c.loop.invariant in
-    let P : Pairs → Type 0 = λ xs. pairs_said xs ≡ take (length xs) (answers start.settings start.order start.source.left) in
+    let P : Pairs → Type 0 = λ xs. seen_answers xs ≡ take (length xs) (answers start.settings start.order start.source.left) in
     subst P (sym c.in-Err.ensures.kept) (listed_first start here c.loop.frames.items c.loop.counter (i.4 told) i.1)
 
 pub returns-in-Err-clause-end : goal.returns-in-Err-clause-end

@@ -3,7 +3,7 @@ use Rattle.perf_base.specs.Layout.{Parts}
 use Rattle.perf_base.specs.Refusals.{kinds}
 use Rattle.perf_base.specs.Took.{took_by_places}
 use Rattle.perf_reader.specs.Meaning.{Meaning, meaning}
-use Rattle.perf_reader.specs.Reading.{Gives}
+use Rattle.perf_reader.specs.Reading.{AnswersRun}
 use Rattle.perf_records.specs.Bodies.{body, holds_a_list}
 use Rattle.perf_records.specs.RecordTypes.{type_of}
 use Rattle.perf_records.specs.Records.{RecordValue, record_value, IsBorrowed}
@@ -19,7 +19,7 @@ returns-in-Namespaces g c =
     let read = c.read_namespaces.ensures.call in
     let type : type_of c.args.ty ≡ Some Namespaces = sym c.of.ensures ∙ c.in-Some.is ∙ ap Some c.in-Namespaces.is in
     let list : holds_a_list c.args.ty ≡ true = holds_is c.args.ty Namespaces type in
-    let P : Parts RecordValue → Type 0 = λ p. Gives record_value (took_by_places old.order p old.source.left old.reads) (kinds c.read_namespaces.result) new in record {
+    let P : Parts RecordValue → Type 0 = λ p. AnswersRun record_value (took_by_places old.order p old.source.left old.reads) (kinds c.read_namespaces.result) new in record {
       call = record {
         config = read.config;
         whole = read.whole;

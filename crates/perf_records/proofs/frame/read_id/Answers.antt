@@ -1,7 +1,7 @@
 use Rattle.std.proofs.Common.{◌≡◌, ◌+◌, ◌<◌, ℕ, Bool, true, length, refl, sym, ◌∙◌, ap, if◌then◌else◌, arith}
 use Rattle.perf_base.specs.Configured.{configuration_of, endian_of}
 use Rattle.perf_base.specs.Layout.{Parts, done, value}
-use Rattle.perf_base.specs.Reads.{layout_reads}
+use Rattle.perf_base.specs.LayoutReads.{layout_reads}
 use Rattle.perf_reader.proofs.Paying.{keeps_none}
 use Rattle.perf_records.specs.Metadata.{carries_sample_id, id_of_type, id_length}
 use Rattle.perf_base.specs.Refusals.{refusal_kind}

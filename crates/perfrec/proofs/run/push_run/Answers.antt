@@ -4,7 +4,7 @@ use Rattle.perf_records.specs.Frames.{behind_frames}
 use Rattle.perf_reader.specs.Reading.{of_layout}
 use Rattle.perf_base.specs.Configured.{configuration_of, endian_of}
 use Rattle.perf_records.specs.Answers.{answers}
-use Rattle.perf_parser.specs.Runs.{pairs_said, EndsWith, end_refusal}
+use Rattle.perf_parser.specs.Runs.{seen_answers, EndsWith, end_refusal}
 use Rattle.perfrec.proofs.Batches.{behind_more}
 use Rattle.perfrec.proofs.Progress.{Listed, batch_more, all_listed, ends_alike}
 use Rattle.perfrec.proofs.Endings.{Made, if_ok_map, made_to_end, made_to_cut, made_to_fault, ends_early, fault_within}
@@ -27,7 +27,7 @@ returns-in-Done g c = λ told.
     let pairs = r.result.frames.items in
     let k : ℕ = length pairs in
     let t = i.told told in
-    let are = subst (λ p. pairs_said pairs ≡ take k (answers (configuration_of p) (g.E.Endian.order (endian_of p)) left)) i.config (r.ensures.answers t) in
+    let are = subst (λ p. seen_answers pairs ≡ take k (answers (configuration_of p) (g.E.Endian.order (endian_of p)) left)) i.config (r.ensures.answers t) in
     let ends = rw c.in-Done.is at (subst (λ p. EndsWith (g.E.Endian.order (endian_of p)) c.min-batch.result left k r.result.end (g.B.ParseBuf.source r.new.parser.reader.input.buf).left) i.config (r.ensures.end t)) in
     let listed = i.listed told in
     let within : n + c.min-batch.result ≤ c.args.limit = omega (arith, c.min-batch.ensures, c.loop-count-test.true) in
@@ -59,7 +59,7 @@ returns-in-CutHeader g c = λ told.
     let pairs = r.result.frames.items in
     let k : ℕ = length pairs in
     let t = i.told told in
-    let are = subst (λ p. pairs_said pairs ≡ take k (answers (configuration_of p) (g.E.Endian.order (endian_of p)) left)) i.config (r.ensures.answers t) in
+    let are = subst (λ p. seen_answers pairs ≡ take k (answers (configuration_of p) (g.E.Endian.order (endian_of p)) left)) i.config (r.ensures.answers t) in
     let ends = rw c.in-CutHeader.is at (subst (λ p. EndsWith (g.E.Endian.order (endian_of p)) c.min-batch.result left k r.result.end (g.B.ParseBuf.source r.new.parser.reader.input.buf).left) i.config (r.ensures.end t)) in
     let listed = i.listed told in
     let within : n + c.min-batch.result ≤ c.args.limit = omega (arith, c.min-batch.ensures, c.loop-count-test.true) in
@@ -91,7 +91,7 @@ returns-in-Fault g c = λ told.
     let pairs = r.result.frames.items in
     let k : ℕ = length pairs in
     let t = i.told told in
-    let are = subst (λ p. pairs_said pairs ≡ take k (answers (configuration_of p) (g.E.Endian.order (endian_of p)) left)) i.config (r.ensures.answers t) in
+    let are = subst (λ p. seen_answers pairs ≡ take k (answers (configuration_of p) (g.E.Endian.order (endian_of p)) left)) i.config (r.ensures.answers t) in
     let ends = rw c.in-Fault.is at (subst (λ p. EndsWith (g.E.Endian.order (endian_of p)) c.min-batch.result left k r.result.end (g.B.ParseBuf.source r.new.parser.reader.input.buf).left) i.config (r.ensures.end t)) in
     let listed = i.listed told in
     let within : n + c.min-batch.result ≤ c.args.limit = omega (arith, c.min-batch.ensures, c.loop-count-test.true) in
@@ -125,7 +125,7 @@ loop-count-preserved g c = record {
       let pairs = r.result.frames.items in
       let k : ℕ = length pairs in
       let t = i.told told in
-      let are = subst (λ p. pairs_said pairs ≡ take k (answers (configuration_of p) (g.E.Endian.order (endian_of p)) left)) i.config (r.ensures.answers t) in
+      let are = subst (λ p. seen_answers pairs ≡ take k (answers (configuration_of p) (g.E.Endian.order (endian_of p)) left)) i.config (r.ensures.answers t) in
       let ends = rw c.in-Limit.is at (subst (λ p. EndsWith (g.E.Endian.order (endian_of p)) c.min-batch.result left k r.result.end (g.B.ParseBuf.source r.new.parser.reader.input.buf).left) i.config (r.ensures.end t)) in
       ends.1 ∙ ap (λ xs. behind_frames order k xs) (i.left told) ∙ behind_more order n k bytes ∙ ap (λ j. behind_frames order (n + j) bytes) ends.0;
   listed = λ told.
@@ -143,7 +143,7 @@ loop-count-preserved g c = record {
       let pairs = r.result.frames.items in
       let k : ℕ = length pairs in
       let t = i.told told in
-      let are = subst (λ p. pairs_said pairs ≡ take k (answers (configuration_of p) (g.E.Endian.order (endian_of p)) left)) i.config (r.ensures.answers t) in
+      let are = subst (λ p. seen_answers pairs ≡ take k (answers (configuration_of p) (g.E.Endian.order (endian_of p)) left)) i.config (r.ensures.answers t) in
       let ends = rw c.in-Limit.is at (subst (λ p. EndsWith (g.E.Endian.order (endian_of p)) c.min-batch.result left k r.result.end (g.B.ParseBuf.source r.new.parser.reader.input.buf).left) i.config (r.ensures.end t)) in
       let listed = i.listed told in
       let within : n + c.min-batch.result ≤ c.args.limit = omega (arith, c.min-batch.ensures, c.loop-count-test.true) in

@@ -1,7 +1,7 @@
 use Rattle.std.proofs.Common.{ℕ, true, List, [], take, string_bytes, subst}
 use Rattle.std.specs.Io.KnownBytes.{Appends}
 use Rattle.perfrec.specs.declared.outcome.Outcome.TheVariants.{Stopped}
-use Rattle.perfrec.specs.Outcomes.{Says, Writes}
+use Rattle.perfrec.specs.Outcomes.{IsWritten, Writes}
 use Rattle.perfrec.specs.Text.{stream_of}
 use Rattle.perfrec.proofs.Known.{appends_nothing}
 use Rattle.perfrec.proofs.Endings.{if_some_all, if_some_map, says_nothing, says_beginning}
@@ -22,7 +22,7 @@ returns g c =
     let text : List ℕ = string_bytes c.in-Ok.text in
     let part = subst (λ bytes. (n : ℕ) × Appends old new (take n bytes)) c.as_bytes.ensures.value c.write_whole.ensures.part in
     if_some_map (g.R.Read.remaining c.args.reader)
-    (λ bytes. Says true order c.args.limit (stream_of c.args.with_attr order bytes) c.in-Ok.outcome text)
+    (λ bytes. IsWritten true order c.args.limit (stream_of c.args.with_attr order bytes) c.in-Ok.outcome text)
     (λ bytes. Writes order c.args.limit (stream_of c.args.with_attr order bytes) Stopped old new)
     (λ bytes says. (take part.0 text, part.1, says_beginning true order c.args.limit (stream_of c.args.with_attr order bytes) c.in-Ok.outcome text part.0 says))
     c.in-Ok.ensures

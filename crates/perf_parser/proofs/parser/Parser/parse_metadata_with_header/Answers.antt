@@ -11,7 +11,7 @@ use Rattle.perf_reader.specs.Meaning as reader
 use Rattle.perf_reader.specs.Meaning.{Meaning}
 use Rattle.perf_reader.specs.Reading.{Keeps}
 use Rattle.perf_reader.proofs.Paying.{keeps_none}
-use Rattle.perf_records.specs.Answers.{Tells, split_behind, split_reads, body_length}
+use Rattle.perf_records.specs.Answers.{AnswersExactly, split_behind, split_reads, body_length}
 use Rattle.perf_parser.specs.Calls.{Call}
 use Rattle.perf_parser.specs.Frames.{SplitsParser, parsed_parts}
 use Rattle.perf_parser.specs.Meaning.{meaning}

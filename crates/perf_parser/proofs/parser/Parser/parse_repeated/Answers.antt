@@ -1,7 +1,7 @@
 use Rattle.std.proofs.Common.{rules, ◌≡◌, ◌≤◌, length, List, [], ◌∷◌, ◌++◌, sym, ◌∙◌, subst, arith, inl, inr, Ok, Err}
 use Rattle.std.proofs.lemmas.List.{length-append}
 use Rattle.perf_parser.specs.Words.{Meaning, meaning, kind_of}
-use Rattle.perf_parser.specs.Repeats.{Step, Runs, StopsShort}
+use Rattle.perf_parser.specs.Repeats.{Step, ParsesInTurn, StopsShort}
 use Rattle.perf_parser.proofs.Repeating.{step_of, runs_on, runs_follow, short_follows, only}
 use Rattle.perf_parser.proofs.parser.Parser.parse_repeated.Goals as goal
 
@@ -50,7 +50,7 @@ loop-preserved g c =
     let step : Step g.P.Layout.parses g.P.Layout.counts b (Ok c.in-Ok-parse.item) d = step_of _ _ _ _ _ _ _ c.in-Ok-parse.ensures.call in
     let more = runs_on g.P.Layout.parses g.P.Layout.counts a b d c.loop.items.items c.in-Ok-parse.item c.loop.invariant.2 step in
     let pushed : c.push.new.self.items ≡ c.loop.items.items ++ c.in-Ok-parse.item ∷ [] = search rules in
-    (c.in-Ok-parse.ensures.call.config ∙ c.loop.invariant.0, search rules, subst (λ (xs : List _). Runs g.P.Layout.parses g.P.Layout.counts a xs d) (sym pushed) more)
+    (c.in-Ok-parse.ensures.call.config ∙ c.loop.invariant.0, search rules, subst (λ (xs : List _). ParsesInTurn g.P.Layout.parses g.P.Layout.counts a xs d) (sym pushed) more)
 
 pub returns-clause-call : goal.returns-clause-call
 returns-clause-call g c =

@@ -1,6 +1,6 @@
 use Rattle.std.proofs.Common.{◌≡◌, ◌∙◌, ap, ◌+◌, None, Some, refl, length}
 use Rattle.perf_base.specs.Cow.{cow_items}
-use Rattle.perf_base.specs.Reads.{one_if_any}
+use Rattle.perf_base.specs.LayoutReads.{one_if_any}
 use Rattle.perf_base.specs.Refusals.{refusal_kind}
 use Rattle.perf_reader.specs.Meaning.{Meaning, meaning}
 use Rattle.perf_reader.proofs.Paying.{rest_keeps, rest_fails}

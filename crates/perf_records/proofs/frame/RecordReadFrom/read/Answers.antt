@@ -7,7 +7,7 @@ use Rattle.perf_base.specs.declared.config.ParseConfig.{ParseConfig}
 use Rattle.perf_base.specs.declared.error.ErrorKind.{ErrorKind}
 use Rattle.perf_base.specs.declared.sys.perf_event_header.{perf_event_header}
 use Rattle.perf_reader.specs.Meaning.{Meaning, meaning}
-use Rattle.perf_records.specs.Answers.{Tells, body_length, answer_behind, reads_behind}
+use Rattle.perf_records.specs.Answers.{AnswersExactly, body_length, answer_behind, reads_behind}
 use Rattle.perf_records.specs.Bodies.{holds_a_list}
 use Rattle.perf_records.specs.Records.{record_value}
 use Rattle.perf_records.specs.declared.record.Record.{Record}
@@ -52,7 +52,7 @@ returns-in-Ok-read_behind g c =
     let read = c.in-Ok.ensures.call in
     let rest = c.in-Ok-read_behind.ensures.call in
     let behind = c.in-Ok-read_behind.ensures in
-    let P : ParseConfig g.row.E.Denot → Type 0 = λ k. Tells record_value (answer_behind (configuration_of k) (g.E.Endian.order (endian_of k)) header mid.source.left) (body_length header)
+    let P : ParseConfig g.row.E.Denot → Type 0 = λ k. AnswersExactly record_value (answer_behind (configuration_of k) (g.E.Endian.order (endian_of k)) header mid.source.left) (body_length header)
     (reads_behind (configuration_of k) (g.E.Endian.order (endian_of k)) header mid.source.left) mid seen new in record {
       call = record {
         config = rest.config ∙ read.config;
@@ -80,7 +80,7 @@ returns-in-Err-read_behind g c =
     let read = c.in-Ok.ensures.call in
     let rest = c.in-Err-read_behind.ensures.call in
     let behind = c.in-Err-read_behind.ensures in
-    let P : ParseConfig g.row.E.Denot → Type 0 = λ k. Tells record_value (answer_behind (configuration_of k) (g.E.Endian.order (endian_of k)) header mid.source.left) (body_length header)
+    let P : ParseConfig g.row.E.Denot → Type 0 = λ k. AnswersExactly record_value (answer_behind (configuration_of k) (g.E.Endian.order (endian_of k)) header mid.source.left) (body_length header)
     (reads_behind (configuration_of k) (g.E.Endian.order (endian_of k)) header mid.source.left) mid seen new in record {
       call = record {
         config = rest.config ∙ read.config;

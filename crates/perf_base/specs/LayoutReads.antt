@@ -3,7 +3,7 @@
 use Rattle.std.specs.Prelude.{ℕ, zero, suc, ◌+◌, ◌-◌, ◌/◌, true, false, List, [], ◌∷◌, length, take}
 use Rattle.std.specs.Prelude.{drop, Option, Some, None, nat_le}
 use Rattle.perf_base.specs.Order.{Order}
-use Rattle.perf_base.specs.Layout.{Shape, number, optional, run, words, padding, rest, answer_of}
+use Rattle.perf_base.specs.Layout.{Shape, number, optional, byte_string, words, padding, rest, answer_of}
 use Rattle.perf_base.specs.Layout.{size, Parts, done, part, check, Spot, takes, holds, spots}
 use Rattle.perf_base.specs.declared.error.ErrorKind.{ErrorKind}
 
@@ -17,7 +17,7 @@ one_if_any (suc n) = 1
 abbrev pub reads_of : Shape → ℕ → ℕ
 reads_of (number w) n = 1
 reads_of (optional b w) n = one_if_any n
-reads_of (run k) n = one_if_any n
+reads_of (byte_string k) n = one_if_any n
 reads_of (words k) n = k
 reads_of (padding k) n = one_if_any n
 reads_of rest n = one_if_any n
@@ -43,9 +43,9 @@ consumed len at (takes s n shape ∷ xs) =
 consumed len at (holds s t e ∷ xs) = elim t [ true ↦ consumed len s xs | false ↦ s ]
 
 -- one where there was a refusal
-abbrev pub one_if_fault : Option ErrorKind → ℕ
-one_if_fault None = 0
-one_if_fault (Some e) = 1
+abbrev pub one_if_refusal : Option ErrorKind → ℕ
+one_if_refusal None = 0
+one_if_refusal (Some e) = 1
 
 -- how many reads a layout takes
 abbrev pub layout_reads : {A : Type 0} → Order → Parts A → List ℕ → ℕ
