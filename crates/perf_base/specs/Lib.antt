@@ -8,6 +8,7 @@ pub mod Took
 pub mod Zeros
 pub mod FieldWords
 pub mod Header
+pub mod Misc
 pub mod Attribute
 pub mod Configuration
 pub mod Configured

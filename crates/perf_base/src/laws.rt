@@ -1,12 +1,16 @@
 //! Laws of equality and hashing: two orders, or two kinds of refusal, are equal exactly where they
-//! are the same one, and hash as its number does, whatever the hash function.
+//! are the same one, and hash as its number does, whatever the hash function. And a law of the bits
+//! that `sys` names.
 
+ghost use Rattle.std.specs.Prelude.{◌≡◌, ◌^◌};
 ghost use Rattle.std.specs.Hash as fed;
 ghost use Rattle.perf_words.specs.Alike.{IsByNumber, number_hash};
 ghost use Rattle.perf_base.specs.Alike.{order_number, kind_number};
+ghost use Rattle.perf_base.specs.Misc.{switch_out_bit, build_id_bit};
 
 use crate::endian::Dynamic;
 use crate::error::ErrorKind;
+use crate::sys::{PERF_RECORD_MISC_MMAP_BUILD_ID, PERF_RECORD_MISC_SWITCH_OUT};
 use perf_words::laws::Compared;
 use std::hash::BuildHasher;
 
@@ -40,4 +44,13 @@ pub fn error_kind_by_number<S: BuildHasher>(
         first_hash: hashing.hash_one(first),
         second_hash: hashing.hash_one(second),
     }
+}
+
+/// The two bits of a header's `misc` that say how its record is read: that of a switch away from a
+/// task, and that of a mapping whose file is named by a build id.
+pub fn misc_bits() -> (u16, u16)
+    ensures switch_out { result.0 ≡ 2 ^ switch_out_bit }
+    ensures build_id { result.1 ≡ 2 ^ build_id_bit }
+{
+    (PERF_RECORD_MISC_SWITCH_OUT, PERF_RECORD_MISC_MMAP_BUILD_ID)
 }

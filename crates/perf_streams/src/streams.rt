@@ -1,8 +1,9 @@
 //! Whole streams.
 
-use crate::buffers::check_everywhere;
-use perf_event_data::endian::{Big, Dynamic, Little, Native};
-use perf_event_data::parse::{ParseBuf, ParseConfig, Parser};
+use crate::buffers::{Check, check_everywhere, check_under};
+use perf_event_data::endian::{Big, Dynamic, Endian, Little, Native};
+use perf_event_data::parse::{ErrorKind, ParseBuf, ParseConfig, Parser};
+use perf_event_data::sys::perf_event_attr;
 use perf_event_data::{CowSlice, PieceBuf, Record, RunEnd, read_records};
 use std::alloc::Global;
 use std::io::BufReader;
@@ -151,6 +152,42 @@ fn a_claimed_size_past_the_end_takes_all_that_is_left(rt: HostRuntime) -> Result
         let mut bytes = header.to_vec(rt.alloc())?;
         bytes.resize(108, 115)?;
         check_everywhere(&rt, rt.alloc(), bytes.as_slice(), Little, &[10], want)?;
+    }
+    Ok(())
+}
+
+// One frame that claims more bytes than there are, and nothing behind it.
+struct OneUnfinished;
+
+impl<'p, B: ParseBuf<'p>> Check<'p, B> for OneUnfinished {
+    fn check<E: Endian>(rt: &impl Abort, parser: &mut Parser<B, E>) -> Result<(), Fail> {
+        let run = read_records(parser, 10);
+        assert!(rt; matches!(run.end, RunEnd::Done));
+        assert_eq!(rt; run.frames.len(), 1);
+        for (_, answer) in run.frames.iter() {
+            assert!(rt; matches!(answer, Err(error) if error.kind() == ErrorKind::Eof));
+        }
+        Ok(())
+    }
+}
+
+#[test]
+fn a_claimed_size_takes_all_also_where_every_flag_is_set(rt: HostRuntime) -> Result<(), Fail> {
+    let config = ParseConfig::<Little>::from(perf_event_attr {
+        sample_type: (1 << 25) - 1,
+        read_format: 1 << 3,
+        flags: 1 << 18,
+        ..Default::default()
+    });
+    for header in [
+        [255, 255, 255, 255, 255, 255, 255, 255],
+        [255, 255, 255, 1, 0, 0, 0, 255],
+        [0, 115, 115, 122, 115, 115, 115, 255],
+        [0, 0, 0, 115, 16, 115, 123, 255],
+    ] {
+        let mut bytes = header.to_vec(rt.alloc())?;
+        bytes.resize(108, 115)?;
+        check_under::<OneUnfinished>(&rt, rt.alloc(), bytes.as_slice(), &config)?;
     }
     Ok(())
 }

@@ -1,6 +1,7 @@
--- The flags of a sample type and of a read format, as sets of them answer.
+-- The flags of a sample type and of a read format, as sets of them answer, and bits of misc.
 use Rattle.std.proofs.Common.{◌≡◌, ℕ, ◌==◌}
 use Rattle.std.specs.Int.RustNames.{bit_and}
+use Rattle.perf_base.specs.Misc.{switch_out_bit, build_id_bit}
 use Rattle.perf_words.specs.Bits.{has_bit}
 use Rattle.perf_words.proofs.Contained.{contains_bit}
 
@@ -40,3 +41,11 @@ pub contains_counter_lost : (word : ℕ) → (bit_and word 16 == 16) ≡ has_bit
 contains_counter_lost word = contains_bit word 4
 
 pub ruleset read_flags = (contains_time_enabled, contains_time_running, contains_counter_id, contains_group, contains_counter_lost)
+
+pub contains_switch_out : (word : ℕ) → (bit_and word 8192 == 8192) ≡ has_bit word switch_out_bit
+contains_switch_out word = contains_bit word 13
+
+pub contains_build_id : (word : ℕ) → (bit_and word 16384 == 16384) ≡ has_bit word build_id_bit
+contains_build_id word = contains_bit word 14
+
+pub ruleset misc_bits = (contains_switch_out, contains_build_id)

@@ -1,6 +1,7 @@
 -- The 24 bytes of PERF_RECORD_MMAP2 that say which file was mapped: an inode, or a build id.
 use Rattle.std.specs.Prelude.{ℕ, Bool, true, List, take, Option, Some, None, nat_le, if◌then◌else◌}
 use Rattle.perf_base.specs.Configuration.{Configuration}
+use Rattle.perf_base.specs.Misc.{build_id_bit}
 use Rattle.perf_words.specs.Bits.{has_bit}
 use Rattle.perf_base.specs.Layout.{Parts, done, ◌>>=◌, ◌>>◌}
 use Rattle.perf_base.specs.FieldWords.{u8, u32, u64, bytes, ignored, require}
@@ -71,6 +72,6 @@ build_id = do
   require (nat_le len 20) InvalidRecord
   done (build_id_is (take len id))
 
--- Which of both it is: bit 14 of misc, PERF_RECORD_MISC_MMAP_BUILD_ID.
+-- Which of both it is: misc has the bit PERF_RECORD_MISC_MMAP_BUILD_ID, or not.
 abbrev pub mmap_detail : Configuration → Parts DetailValue
-mmap_detail c = if has_bit c.misc 14 then build_id else inode
+mmap_detail c = if has_bit c.misc build_id_bit then build_id else inode

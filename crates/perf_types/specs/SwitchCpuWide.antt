@@ -2,6 +2,7 @@
 -- way the switch went.
 use Rattle.std.specs.Prelude.{ℕ, if◌then◌else◌}
 use Rattle.perf_base.specs.Configuration.{Configuration}
+use Rattle.perf_base.specs.Misc.{switch_out_bit}
 use Rattle.perf_words.specs.Bits.{has_bit}
 use Rattle.perf_base.specs.Layout.{Parts, done, ◌>>=◌}
 use Rattle.perf_base.specs.FieldWords.{u32}
@@ -18,9 +19,9 @@ abbrev pub other_tid : SwitchCpuWide → ℕ
 other_tid (switch.In pid tid) = tid
 other_tid (switch.Out pid tid) = tid
 
--- Away from the task where misc has bit 13, PERF_RECORD_MISC_SWITCH_OUT, else to it.
+-- Away from the task where misc has the bit PERF_RECORD_MISC_SWITCH_OUT, else to it.
 abbrev pub switch_cpu_wide : Configuration → Parts SwitchCpuWide
 switch_cpu_wide c = do
   pid ← u32
   tid ← u32
-  done (if has_bit c.misc 13 then switch.Out pid tid else switch.In pid tid)
+  done (if has_bit c.misc switch_out_bit then switch.Out pid tid else switch.In pid tid)

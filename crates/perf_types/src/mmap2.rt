@@ -2,6 +2,7 @@
 #![tactic(auto, using(perf_reader::proofs::Paying::chain))]
 
 ghost use Rattle.std.specs.Prelude.{◌≡◌, IsTrue, IfOk, option_map};
+ghost use Rattle.perf_base.specs.Misc.{build_id_bit};
 ghost use Rattle.perf_types.specs.MmapDetail as file;
 ghost use Rattle.perf_types.specs.Words.{Call, Reads, ReadsPlain, ReadsLent, TakesNoMemory, kinds};
 ghost use Rattle.perf_types.specs.Words.{cow_items, is_borrowed, text_of, has_bit};
@@ -12,6 +13,7 @@ use perf_base::cow::CowSlice;
 use perf_base::endian::Endian;
 use perf_base::error::ParseResult;
 use perf_base::refusal::{ReadResult, Refusal};
+use perf_base::sys::PERF_RECORD_MISC_MMAP_BUILD_ID;
 use perf_buffers::input::Input;
 use perf_reader::read::{Meant, ReadFrom};
 use perf_reader::reader::Reader;
@@ -284,10 +286,11 @@ const BUILD_ID_SIZE_MAX: u8 = 20;
 
 // Whether the record whose `misc` this is names its file by a build id.
 #[inline]
+#[tactic(auto, using(crate::proofs::Flags::misc_bits))]
 fn has_build_id(misc: u16) -> bool
-    ensures { result ≡ has_bit misc 14 }
+    ensures { result ≡ has_bit misc build_id_bit }
 {
-    (misc >> 14) % 2 == 1
+    misc & PERF_RECORD_MISC_MMAP_BUILD_ID == PERF_RECORD_MISC_MMAP_BUILD_ID
 }
 
 #[inline]

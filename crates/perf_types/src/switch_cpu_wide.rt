@@ -4,10 +4,12 @@
 ghost use Rattle.std.specs.Prelude.{◌≡◌};
 ghost use Rattle.perf_reader.specs.Words.{ReadsPlain};
 ghost use Rattle.perf_types.specs.SwitchCpuWide.{other_pid, other_tid, switch_cpu_wide};
+ghost use Rattle.perf_base.specs.Misc.{switch_out_bit};
 ghost use Rattle.perf_words.specs.Bits.{has_bit};
 
 use perf_base::endian::Endian;
 use perf_base::refusal::ReadResult;
+use perf_base::sys::PERF_RECORD_MISC_SWITCH_OUT;
 use perf_buffers::input::Input;
 use perf_reader::read::{Meant, ReadFrom};
 use perf_reader::reader::Reader;
@@ -57,10 +59,11 @@ impl SwitchCpuWide {
 
 // Whether the record whose `misc` this is says that a task left its CPU.
 #[inline]
+#[tactic(auto, using(crate::proofs::Flags::misc_bits))]
 fn is_switch_out(misc: u16) -> bool
-    ensures { result ≡ has_bit misc 13 }
+    ensures { result ≡ has_bit misc switch_out_bit }
 {
-    (misc >> 13) % 2 == 1
+    misc & PERF_RECORD_MISC_SWITCH_OUT == PERF_RECORD_MISC_SWITCH_OUT
 }
 
 impl Meant for SwitchCpuWide {
