@@ -18,12 +18,15 @@ wrapped n = n % 2 ^ 64
 
 -- ---- what a record adds to the checksum
 
+-- a mapping: its numbers, and how long its path is
 abbrev pub mmap_sum : MmapValue → ℕ
 mmap_sum r = sum (r.pid ∷ r.tid ∷ r.addr ∷ r.len ∷ r.pgoff ∷ length r.filename ∷ [])
 
+-- the same numbers of an MMAP2, and no others
 abbrev pub mmap2_sum : Mmap2Value → ℕ
 mmap2_sum r = sum (r.pid ∷ r.tid ∷ r.addr ∷ r.len ∷ r.pgoff ∷ length r.filename ∷ [])
 
+-- a name that a task got: whose it is, and how long it is
 abbrev pub comm_sum : CommValue → ℕ
 comm_sum r = sum (r.pid ∷ r.tid ∷ length r.comm ∷ [])
 
@@ -31,6 +34,7 @@ comm_sum r = sum (r.pid ∷ r.tid ∷ length r.comm ∷ [])
 abbrev pub task_sum : Exit → ℕ
 task_sum r = sum (r.pid ∷ r.ppid ∷ r.tid ∷ r.ptid ∷ r.time ∷ [])
 
+-- records that were lost: of which event, and how many
 abbrev pub lost_sum : Lost → ℕ
 lost_sum r = sum (r.id ∷ r.lost ∷ [])
 

@@ -37,5 +37,6 @@ abbrev pub end_with : ℕ → StreamEnd
 end_with zero = done
 end_with (suc n) = cut_header
 
+-- how a stream ends, by what is left behind its last frame
 abbrev pub stream_end : Order → List ℕ → StreamEnd
 stream_end o bytes = end_with (length (behind_frames o (length (frames o bytes)) bytes))

@@ -64,14 +64,17 @@ namespace entry = decimal entry.dev ++ (codes ":" ++ hex entry.inode)
 abbrev pub line : (what : List ℕ) (pid tid : ℕ) (says : List ℕ) → List ℕ
 line what pid tid says = spaced (what ∷ decimal pid ∷ decimal tid ∷ says ∷ [])
 
+-- a task got a name
 abbrev pub comm_line : CommValue → List ℕ
 comm_line r = line (codes "comm") r.pid r.tid (utf8_lossy r.comm)
 
+-- something was mapped: where it lies, and its name
 abbrev pub mmap_line : MmapValue → List ℕ
 mmap_line r =
     line (codes "mmap") r.pid r.tid
     (spaced (place r.addr r.len r.pgoff ∷ utf8_lossy r.filename ∷ []))
 
+-- the same, with which file it is and how its memory may be used
 abbrev pub mmap2_line : Mmap2Value → List ℕ
 mmap2_line r =
     line (codes "mmap2") r.pid r.tid
@@ -82,6 +85,7 @@ mmap2_line r =
 abbrev pub task_line : List ℕ → Exit → List ℕ
 task_line what r = line what r.pid r.tid (spaced (decimal r.ppid ∷ decimal r.ptid ∷ []))
 
+-- the namespaces of a task, with a comma between each two
 abbrev pub namespaces_line : NamespacesValue → List ℕ
 namespaces_line r =
     line (codes "namespaces") r.pid r.tid (join_by namespace (codes ",") r.namespaces)

@@ -3,10 +3,8 @@
 ghost use Rattle.std.specs.Prelude.{◌≡◌, ◌+◌, ◌<◌, ◌^◌, ◌++◌, codes, length, string_bytes, OnOk};
 ghost use Rattle.std.specs.Prelude.{IfOk, IfErr};
 ghost use Rattle.perf_base.specs.Errors.{kind_of};
-ghost use Rattle.perf_parser.specs.Runs.{seen_answer};
-ghost use Rattle.perf_parser.specs.Runs.{seen_answers};
-ghost use Rattle.perfrec.specs.Text.{spaced, kind_name, answer_words, line, ended, lines_from};
-ghost use Rattle.perfrec.specs.Text.{end_line, attr_line};
+ghost use Rattle.perf_parser.specs.Runs.{seen_answer, seen_answers};
+ghost use Rattle.perfrec.specs.Text as shown;
 
 use crate::fields::push_number;
 use crate::records::push_record;
@@ -24,7 +22,7 @@ pub fn line_of(
     answer: &ParseResult<Record>,
 ) -> ParseResult<String>
     ensures ok { IfOk result (λ text.
-        string_bytes text ≡ line index header.now (seen_answer answer.now)) }
+        string_bytes text ≡ shown.line index header.now (seen_answer answer.now)) }
     ensures err { IfErr result (λ e. kind_of e ≡ ErrorKind.OutOfMemory) }
 {
     let mut text = String::new(alloc);
@@ -40,7 +38,7 @@ pub fn push_lines(
 ) -> Result<(), AllocError>
     ensures { first + length frames.now < 2 ^ 64 → OnOk result
         (string_bytes text.new
-        ≡ string_bytes text.old ++ lines_from first (seen_answers frames.now)) }
+        ≡ string_bytes text.old ++ shown.lines_from first (seen_answers frames.now)) }
 {
     let mut index = first;
     for (header, answer) in frames {
@@ -53,7 +51,8 @@ pub fn push_lines(
 
 /// Appends the line that says how reading ended.
 pub fn push_end(text: &mut String, how: &str) -> Result<(), AllocError>
-    ensures { OnOk result (string_bytes text.new ≡ string_bytes text.old ++ end_line how.now) }
+    ensures { OnOk result (string_bytes text.new
+        ≡ string_bytes text.old ++ shown.end_line how.now) }
 {
     text.push_str("end ")?;
     text.push_str(how)?;
@@ -63,14 +62,14 @@ pub fn push_end(text: &mut String, how: &str) -> Result<(), AllocError>
 /// Appends the line of a run that a fault ended.
 pub fn push_fault(text: &mut String, kind: ErrorKind) -> Result<(), AllocError>
     ensures { OnOk result (string_bytes text.new
-        ≡ string_bytes text.old ++ end_line (codes "fault " ++ kind_name kind)) }
+        ≡ string_bytes text.old ++ shown.end_line (codes "fault " ++ shown.kind_name kind)) }
 {
     push_kind(text, "end fault ", kind)
 }
 
 /// Appends the line of a refused attribute.
 pub fn push_attr_refused(text: &mut String, kind: ErrorKind) -> Result<(), AllocError>
-    ensures { OnOk result (string_bytes text.new ≡ string_bytes text.old ++ attr_line kind) }
+    ensures { OnOk result (string_bytes text.new ≡ string_bytes text.old ++ shown.attr_line kind) }
 {
     push_kind(text, "attr refused ", kind)
 }
@@ -78,7 +77,7 @@ pub fn push_attr_refused(text: &mut String, kind: ErrorKind) -> Result<(), Alloc
 // Appends a line that a kind ends.
 fn push_kind(text: &mut String, before: &str, kind: ErrorKind) -> Result<(), AllocError>
     ensures { OnOk result (string_bytes text.new
-        ≡ string_bytes text.old ++ ended (before.now ++ kind_name kind)) }
+        ≡ string_bytes text.old ++ shown.ended (before.now ++ shown.kind_name kind)) }
 {
     text.push_str(before)?;
     text.push_str(kind_name(kind))?;
@@ -92,7 +91,7 @@ fn push_line(
     answer: &ParseResult<Record>,
 ) -> Result<(), AllocError>
     ensures { OnOk result (string_bytes text.new
-        ≡ string_bytes text.old ++ line index header.now (seen_answer answer.now)) }
+        ≡ string_bytes text.old ++ shown.line index header.now (seen_answer answer.now)) }
 {
     push_number(text, "", index as u64)?;
     push_number(text, " ", u64::from(header.type_))?;
@@ -103,7 +102,7 @@ fn push_line(
 
 fn push_answer(text: &mut String, answer: &ParseResult<Record>) -> Result<(), AllocError>
     ensures { OnOk result (string_bytes text.new
-        ≡ string_bytes text.old ++ spaced (answer_words (seen_answer answer.now))) }
+        ≡ string_bytes text.old ++ shown.spaced (shown.answer_words (seen_answer answer.now))) }
 {
     match answer {
         Ok(record) => push_record(text, record),
@@ -115,7 +114,7 @@ fn push_answer(text: &mut String, answer: &ParseResult<Record>) -> Result<(), Al
 }
 
 fn kind_name(kind: ErrorKind) -> &'static str
-    ensures { result.now ≡ kind_name kind }
+    ensures { result.now ≡ shown.kind_name kind }
 {
     match kind {
         ErrorKind::Eof => "Eof",
