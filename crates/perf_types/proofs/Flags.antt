@@ -33,7 +33,10 @@ contains_time_running word = contains_bit word 1
 pub contains_counter_id : (word : ℕ) → (bit_and word 4 == 4) ≡ has_bit word 2
 contains_counter_id word = contains_bit word 2
 
+pub contains_group : (word : ℕ) → (bit_and word 8 == 8) ≡ has_bit word 3
+contains_group word = contains_bit word 3
+
 pub contains_counter_lost : (word : ℕ) → (bit_and word 16 == 16) ≡ has_bit word 4
 contains_counter_lost word = contains_bit word 4
 
-pub ruleset read_flags = (contains_time_enabled, contains_time_running, contains_counter_id, contains_counter_lost)
+pub ruleset read_flags = (contains_time_enabled, contains_time_running, contains_counter_id, contains_group, contains_counter_lost)

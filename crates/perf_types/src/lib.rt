@@ -21,6 +21,7 @@ pub mod mmap;
 pub mod mmap2;
 pub mod namespaces;
 pub mod read;
+mod read_format;
 pub mod read_group;
 pub mod read_value;
 pub mod sample_id;

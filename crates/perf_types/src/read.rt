@@ -1,6 +1,15 @@
 //! READ.
+#![tactic(auto, using(perf_reader::proofs::Paying::chain))]
+
+ghost use Rattle.perf_reader.specs.Words.{ReadsPlain};
+ghost use Rattle.perf_types.specs.Read.{read, task_read};
 
 use crate::read_value::ReadValue;
+use perf_base::endian::Endian;
+use perf_base::refusal::ReadResult;
+use perf_buffers::input::Input;
+use perf_reader::read::{Meant, ReadFrom};
+use perf_reader::reader::Reader;
 
 /// The kernel read a counter of a task (`PERF_RECORD_READ`), as it does where the attribute has
 /// `inherit_stat`.
@@ -12,4 +21,19 @@ pub struct Read {
     pub tid: u32,
     /// What was read.
     pub values: ReadValue,
+}
+
+impl Meant for Read {
+    ghost says = { ReadsPlain read task_read };
+}
+
+impl<'p, I: Input<'p>> ReadFrom<'p, I> for Read {
+    #[inline]
+    fn read<E: Endian>(reader: &mut Reader<I, E>) -> ReadResult<Self> {
+        Ok(Read {
+            pid: reader.read_u32()?,
+            tid: reader.read_u32()?,
+            values: reader.read()?,
+        })
+    }
 }

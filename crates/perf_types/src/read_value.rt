@@ -3,12 +3,18 @@
 ghost use Rattle.std.specs.Prelude.{◌≡◌, option_map, Some};
 ghost use Rattle.std.specs.Result.{result_ok};
 ghost use Rattle.perf_words.specs.SetBits.{read_format_bits};
-ghost use Rattle.perf_types.specs.ReadValue.{single_read, read_with, not_one_text};
+ghost use Rattle.perf_types.specs.ReadValue.{single_read, read_with, read_value, not_one_text};
 ghost use Rattle.perf_types.specs.ReadGroup.{group_read, single_of, only_entry, wanted};
 
 use crate::group_entry::GroupEntry;
+use crate::read_format::is_known;
 use crate::read_group::ReadGroup;
 use bitflags::Flags;
+use perf_base::endian::Endian;
+use perf_base::refusal::{ReadResult, Refusal};
+use perf_buffers::input::Input;
+use perf_reader::read::{Meant, ReadFrom};
+use perf_reader::reader::Reader;
 use perf_words::ReadFormat;
 use std::fmt;
 
@@ -113,6 +119,35 @@ impl ReadValue {
         ensures { result ≡ (single_read self.now).lost }
     {
         self.lost
+    }
+}
+
+impl Meant for ReadValue {
+    ghost use Rattle.perf_reader.specs.Words.{ReadsPlain};
+
+    ghost says = { ReadsPlain read_value single_read };
+}
+
+/// A read format that asks for a group is [`Refusal::SingleRead`], and one with flags that are not
+/// known is [`Refusal::ReadFormat`], both before the first number.
+impl<'p, I: Input<'p>> ReadFrom<'p, I> for ReadValue {
+    #[inline]
+    #[tactic(auto, using(crate::proofs::Flags::read_flags, perf_reader::proofs::Paying::chain))]
+    fn read<E: Endian>(reader: &mut Reader<I, E>) -> ReadResult<Self> {
+        let read_format = reader.config().read_format();
+        if read_format.contains(ReadFormat::GROUP) {
+            return Err(Refusal::SingleRead);
+        }
+        if !is_known(read_format) {
+            return Err(Refusal::ReadFormat);
+        }
+        Ok(ReadValue {
+            value: reader.read_u64()?,
+            time_enabled: reader.read_u64_if(read_format.contains(ReadFormat::TOTAL_TIME_ENABLED))?,
+            time_running: reader.read_u64_if(read_format.contains(ReadFormat::TOTAL_TIME_RUNNING))?,
+            id: reader.read_u64_if(read_format.contains(ReadFormat::ID))?,
+            lost: reader.read_u64_if(read_format.contains(ReadFormat::LOST))?,
+        })
     }
 }
 
