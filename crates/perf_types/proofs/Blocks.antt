@@ -37,6 +37,13 @@ whole_blocks false true n is = omega (arith, is)
 whole_blocks true false n is = omega (arith, is)
 whole_blocks true true n is = omega (arith, is)
 
+-- `count` blocks are a list of whole blocks
+pub counted_blocks : (i l : Bool) (count : ℕ) → count * block_len i l % block_len i l ≡ 0
+counted_blocks false false count = omega arith
+counted_blocks false true count = omega arith
+counted_blocks true false count = omega arith
+counted_blocks true true count = omega arith
+
 -- a list of `count` blocks has as many entries
 counted : (i l : Bool) (n count : ℕ) → n ≡ count * block_len i l → n / block_len i l ≡ count
 counted false false n count is = omega (arith, is)

@@ -1,6 +1,7 @@
 pub mod Blocks
 pub mod Entries
 pub mod Flags
+mod Lacking
 pub mod Nth
 mod Poked
 pub mod SampleIdLength

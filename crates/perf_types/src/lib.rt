@@ -20,6 +20,7 @@ pub mod lost_samples;
 pub mod mmap;
 pub mod mmap2;
 pub mod namespaces;
+mod numbers;
 pub mod read;
 mod read_format;
 pub mod read_group;

@@ -6,10 +6,17 @@ ghost use Rattle.perf_types.specs.GroupEntry.{block_len};
 
 use crate::group_entry::{GroupEntry, block_len};
 use crate::group_iter::GroupIter;
+use crate::numbers::read_numbers;
+use crate::read_format::is_known;
 use crate::read_value::ReadValue;
 use bitflags::Flags;
 use perf_base::cow::CowSlice;
+use perf_base::endian::Endian;
 use perf_base::error::{ErrorKind, ParseResult};
+use perf_base::refusal::{ReadResult, Refusal};
+use perf_buffers::input::Input;
+use perf_reader::read::{Meant, ReadFrom};
+use perf_reader::reader::Reader;
 use perf_words::ReadFormat;
 use std::alloc::Global;
 
@@ -191,6 +198,49 @@ impl<'a> ReadGroup<'a> {
             with_id: self.with_id,
             with_lost: self.with_lost,
             words,
+        })
+    }
+}
+
+impl Meant for ReadGroup<'_> {
+    ghost use Rattle.perf_reader.specs.Words.{Reads};
+    ghost use Rattle.perf_types.specs.ReadGroup.{read_group, group_read};
+
+    ghost says = { Reads read_group group_read };
+}
+
+/// A read format that asks for no group is [`Refusal::GroupRead`], and one with flags that are not
+/// known is [`Refusal::ReadFormat`], both before the count. A list of more numbers than can be
+/// counted is [`Refusal::GroupLength`], behind the times. The list is made once, and takes no
+/// memory where the input says that it has fewer numbers.
+impl<'p, I: Input<'p>> ReadFrom<'p, I> for ReadGroup<'p> {
+    #[tactic(auto, using(crate::proofs::Flags::read_flags, crate::proofs::Blocks::counted_blocks, perf_reader::proofs::Paying::chain))]
+    fn read<E: Endian>(reader: &mut Reader<I, E>) -> ReadResult<Self> {
+        let read_format = reader.config().read_format();
+        if !read_format.contains(ReadFormat::GROUP) {
+            return Err(Refusal::GroupRead);
+        }
+        if !is_known(read_format) {
+            return Err(Refusal::ReadFormat);
+        }
+        let count = reader.read_u64()? as usize;
+        let time_enabled = reader.read_u64_if(read_format.contains(
+            ReadFormat::TOTAL_TIME_ENABLED,
+        ))?;
+        let time_running = reader.read_u64_if(read_format.contains(
+            ReadFormat::TOTAL_TIME_RUNNING,
+        ))?;
+        let len = match count.checked_mul(read_format.element_len()) {
+            Some(len) => len,
+            None => return Err(Refusal::GroupLength),
+        };
+        let words = read_numbers(reader, len)?;
+        Ok(ReadGroup {
+            time_enabled,
+            time_running,
+            with_id: read_format.contains(ReadFormat::ID),
+            with_lost: read_format.contains(ReadFormat::LOST),
+            words: CowSlice::Owned(words),
         })
     }
 }

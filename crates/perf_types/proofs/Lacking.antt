@@ -1,0 +1,38 @@
+-- Numbers that are read in a row out of an input that has fewer.
+use Rattle.std.proofs.Common.{ℕ, ◌*◌, ◌<◌, List, length, arith}
+use Rattle.std.specs.Prelude.{Err, None, Some, IsTrue}
+use Rattle.perf_base.specs.Configured.{endian_of}
+use Rattle.perf_base.specs.Layout.{words}
+use Rattle.perf_base.specs.Order.{Order}
+use Rattle.perf_base.specs.declared.error.ErrorKind.TheVariants.{Eof}
+use Rattle.perf_base.proofs.Took.{took_no}
+use Rattle.perf_buffers.specs.Buffer.{Source}
+use Rattle.perf_reader.specs.Calls.{Call}
+use Rattle.perf_reader.specs.Meaning.{Meaning}
+use Rattle.perf_reader.specs.Reading.{ReadsOne, Keeps}
+use Rattle.perf_reader.specs.declared.reader.Reader.{Reader}
+use Rattle.perf_reader.proofs.InRow.{InRow}
+
+lacking : (start m : Meaning) → Keeps start None m → Keeps start (Some Eof) m
+lacking start m h = record {
+  buffer = (h.buffer.0, h.buffer.1, h.buffer.2, h.buffer.3);
+  fault = λ x. cc;
+  cost = λ t. let c = h.cost t in (c.0, omega (arith, c.1));
+  place = h.place;
+}
+
+module _ {I E : Type 0} (source : I → Source) (order : E → Order) where
+  -- all of them cannot have been read, where the input tells its bytes
+  pub row_lacks : (k : ℕ) (a b : Reader I E) (ys : List ℕ) →
+      (IsTrue (source a.input).told → length (source a.input).left < 8 * k) →
+      InRow source order k a ys b →
+      Call {X = List ℕ} source order (ReadsOne (words k) (λ ys. ys)) a (Err Eof) b
+  row_lacks k a b ys short p = record {
+    config = p.config;
+    whole = p.whole;
+    told = p.told;
+    answer = λ t kind.
+        let o : Order = order (endian_of a.config) in
+        absurd (cc (took_no o (words k) (source a.input).left a.reads (short t), p.answer t));
+    keeps = λ start h. lacking start _ (p.keeps start h);
+  }

@@ -1,0 +1,70 @@
+//! Counted lists of numbers. No claimed count makes room for them.
+
+ghost use Rattle.std.specs.Prelude.{◌≡◌, ◌≢◌, ◌<◌, ◌*◌, true, length, Err, IsTrue, IfOk};
+ghost use Rattle.perf_buffers.specs.Room.{falls_short};
+ghost use Rattle.perf_reader.specs.Words.{input_of, refusal_kind, OutOfMemory};
+ghost use Rattle.perf_types.specs.Words.{Call, ReadsOne, TakesNoMemory, kinds, words};
+
+use perf_base::endian::Endian;
+use perf_base::refusal::{ReadResult, Refusal};
+use perf_buffers::input::Input;
+use perf_reader::reader::Reader;
+
+// Whether the input says that it has fewer numbers than so many.
+#[inline]
+fn lacks<'p, I: Input<'p>, E: Endian>(reader: &Reader<I, E>, count: usize) -> bool
+    ensures is { result ≡ falls_short (I.hint (input_of reader.now)) (8 * count) }
+    ensures exact { IsTrue result → IsTrue (I.source (input_of reader.now)).told →
+        length (I.source (input_of reader.now)).left < 8 * count }
+{
+    match reader.input().remaining_hint() {
+        Some(left) => left / 8 < count,
+        None => false,
+    }
+}
+
+// Reads so many numbers, of which the input has fewer, up to its end. None of them is kept.
+fn read_to_the_end<'p, I: Input<'p>, E: Endian>(reader: &mut Reader<I, E>, count: usize) -> Refusal
+    requires { IsTrue (I.source (input_of reader.old)).told →
+        length (I.source (input_of reader.old)).left < 8 * count }
+    ensures memory { refusal_kind result ≢ OutOfMemory }
+    ensures call { Call I.source E.order (ReadsOne (words count) (λ numbers. numbers))
+        reader.old (Err (refusal_kind result)) reader.new }
+{
+    for _ in 0..count {
+        if let Err(refusal) = reader.read_u64() {
+            return refusal;
+        }
+    }
+    Refusal::Eof
+}
+
+// So many numbers. A list that does not fit takes no memory where the input says what it has.
+pub(crate) fn read_numbers<'p, I: Input<'p>, E: Endian>(
+    reader: &mut Reader<I, E>,
+    count: usize,
+) -> ReadResult<Vec<u64>>
+    ensures length { IfOk result (λ v. length v.items ≡ count) }
+    ensures short { falls_short (I.hint (input_of reader.old)) (8 * count) ≡ true →
+        TakesNoMemory (kinds result) × IfOk result (λ v. ⊥) }
+    ensures call { Call I.source E.order (ReadsOne (words count) (λ v. v.items))
+        reader.old (kinds result) reader.new }
+{
+    if lacks(reader, count) {
+        return Err(read_to_the_end(reader, count));
+    }
+    let mut numbers = match Vec::with_capacity(reader.alloc(), reader.room_for(count)) {
+        Ok(numbers) => numbers,
+        Err(_) => return Err(Refusal::OutOfMemory),
+    };
+    for _ in 0..count {
+        let number = match reader.read_u64() {
+            Ok(number) => number,
+            Err(refusal) => return Err(refusal),
+        };
+        if numbers.push(number).is_err() {
+            return Err(Refusal::OutOfMemory);
+        }
+    }
+    Ok(numbers)
+}
