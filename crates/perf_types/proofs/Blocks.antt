@@ -7,6 +7,8 @@ use Rattle.std.proofs.lemmas.List.{length-map, length-drop, map-append, drop-dro
 use Rattle.std.proofs.lemmas.List.{take_all, take-append-le, drop-append-le}
 use Rattle.std.proofs.Math.Nat.{mul-le-mul_right, div-mul-le_self}
 use Rattle.std.proofs.lemmas.Option.{slice_get-map, slice_get_past}
+use Rattle.perf_reader.proofs.Paying.{chain}
+use Rattle.perf_types.proofs.Flags.{read_flags}
 use Rattle.perf_types.specs.GroupEntry.{blocks, block_len, entry_of, entries_of, entry_with_id}
 use Rattle.perf_types.specs.ReadGroup.{all_entries}
 use Rattle.perf_types.specs.GroupIter.{entries_left}
@@ -43,6 +45,9 @@ counted_blocks false false count = omega arith
 counted_blocks false true count = omega arith
 counted_blocks true false count = omega arith
 counted_blocks true true count = omega arith
+
+-- what the reading of a group needs
+pub ruleset group_reads = (read_flags, counted_blocks, chain)
 
 -- a list of `count` blocks has as many entries
 counted : (i l : Bool) (n count : ℕ) → n ≡ count * block_len i l → n / block_len i l ≡ count

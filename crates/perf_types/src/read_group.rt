@@ -211,26 +211,22 @@ impl Meant for ReadGroup<'_> {
 
 /// A read format that asks for no group is [`Refusal::GroupRead`], and one with flags that are not
 /// known is [`Refusal::ReadFormat`], both before the count. A list of more numbers than can be
-/// counted is [`Refusal::GroupLength`], behind the times. The list is made once, and takes no
-/// memory where the input says that it has fewer numbers.
+/// counted is [`Refusal::GroupLength`], behind the times. No claimed count makes room for numbers,
+/// and a list takes no memory where the input says that it has fewer.
 impl<'p, I: Input<'p>> ReadFrom<'p, I> for ReadGroup<'p> {
-    #[tactic(auto, using(crate::proofs::Flags::read_flags, crate::proofs::Blocks::counted_blocks, perf_reader::proofs::Paying::chain))]
+    #[tactic(auto, using(crate::proofs::Blocks::group_reads))]
     fn read<E: Endian>(reader: &mut Reader<I, E>) -> ReadResult<Self> {
-        let read_format = reader.config().read_format();
-        if !read_format.contains(ReadFormat::GROUP) {
+        let format = reader.config().read_format();
+        if !format.contains(ReadFormat::GROUP) {
             return Err(Refusal::GroupRead);
         }
-        if !is_known(read_format) {
+        if !is_known(format) {
             return Err(Refusal::ReadFormat);
         }
         let count = reader.read_u64()? as usize;
-        let time_enabled = reader.read_u64_if(read_format.contains(
-            ReadFormat::TOTAL_TIME_ENABLED,
-        ))?;
-        let time_running = reader.read_u64_if(read_format.contains(
-            ReadFormat::TOTAL_TIME_RUNNING,
-        ))?;
-        let len = match count.checked_mul(read_format.element_len()) {
+        let time_enabled = reader.read_u64_if(format.contains(ReadFormat::TOTAL_TIME_ENABLED))?;
+        let time_running = reader.read_u64_if(format.contains(ReadFormat::TOTAL_TIME_RUNNING))?;
+        let len = match count.checked_mul(format.element_len()) {
             Some(len) => len,
             None => return Err(Refusal::GroupLength),
         };
@@ -238,8 +234,8 @@ impl<'p, I: Input<'p>> ReadFrom<'p, I> for ReadGroup<'p> {
         Ok(ReadGroup {
             time_enabled,
             time_running,
-            with_id: read_format.contains(ReadFormat::ID),
-            with_lost: read_format.contains(ReadFormat::LOST),
+            with_id: format.contains(ReadFormat::ID),
+            with_lost: format.contains(ReadFormat::LOST),
             words: CowSlice::Owned(words),
         })
     }

@@ -134,19 +134,19 @@ impl<'p, I: Input<'p>> ReadFrom<'p, I> for ReadValue {
     #[inline]
     #[tactic(auto, using(crate::proofs::Flags::read_flags, perf_reader::proofs::Paying::chain))]
     fn read<E: Endian>(reader: &mut Reader<I, E>) -> ReadResult<Self> {
-        let read_format = reader.config().read_format();
-        if read_format.contains(ReadFormat::GROUP) {
+        let format = reader.config().read_format();
+        if format.contains(ReadFormat::GROUP) {
             return Err(Refusal::SingleRead);
         }
-        if !is_known(read_format) {
+        if !is_known(format) {
             return Err(Refusal::ReadFormat);
         }
         Ok(ReadValue {
             value: reader.read_u64()?,
-            time_enabled: reader.read_u64_if(read_format.contains(ReadFormat::TOTAL_TIME_ENABLED))?,
-            time_running: reader.read_u64_if(read_format.contains(ReadFormat::TOTAL_TIME_RUNNING))?,
-            id: reader.read_u64_if(read_format.contains(ReadFormat::ID))?,
-            lost: reader.read_u64_if(read_format.contains(ReadFormat::LOST))?,
+            time_enabled: reader.read_u64_if(format.contains(ReadFormat::TOTAL_TIME_ENABLED))?,
+            time_running: reader.read_u64_if(format.contains(ReadFormat::TOTAL_TIME_RUNNING))?,
+            id: reader.read_u64_if(format.contains(ReadFormat::ID))?,
+            lost: reader.read_u64_if(format.contains(ReadFormat::LOST))?,
         })
     }
 }
