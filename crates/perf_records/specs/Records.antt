@@ -10,6 +10,7 @@ use Rattle.perf_types.specs.declared.switch_cpu_wide.SwitchCpuWide.{SwitchCpuWid
 use Rattle.perf_types.specs.declared.aux_output_hw_id.AuxOutputHwId.{AuxOutputHwId}
 use Rattle.perf_types.specs.Mmap.{mmap_value, MmapValue, IsBorrowedMmap}
 use Rattle.perf_types.specs.Comm.{comm_value, CommValue, IsBorrowedComm}
+use Rattle.perf_types.specs.Read.{TaskRead, task_read}
 use Rattle.perf_types.specs.Mmap2.{mmap2_value, Mmap2Value, IsBorrowedMmap2}
 use Rattle.perf_types.specs.Aux.{aux_value, AuxValue}
 use Rattle.perf_types.specs.Namespaces.{namespaces_value, NamespacesValue}
@@ -29,6 +30,7 @@ pub data RecordValue : Type 0 where
   throttle_is : Throttle → RecordValue
   unthrottle_is : Throttle → RecordValue
   fork_is : Exit → RecordValue
+  read_is : TaskRead → RecordValue
   mmap2_is : Mmap2Value → RecordValue
   aux_is : AuxValue → RecordValue
   itrace_start_is : ITraceStart → RecordValue
@@ -53,6 +55,7 @@ record_value (record_of.Exit r) = exit_is r
 record_value (record_of.Throttle r) = throttle_is r
 record_value (record_of.Unthrottle r) = unthrottle_is r
 record_value (record_of.Fork r) = fork_is r
+record_value (record_of.Read r) = read_is (task_read r)
 record_value (record_of.Mmap2 r) = mmap2_is (mmap2_value r)
 record_value (record_of.Aux r) = aux_is (aux_value r)
 record_value (record_of.ITraceStart r) = itrace_start_is r
@@ -76,6 +79,7 @@ IsBorrowed (record_of.Exit r) = Unit {0}
 IsBorrowed (record_of.Throttle r) = Unit {0}
 IsBorrowed (record_of.Unthrottle r) = Unit {0}
 IsBorrowed (record_of.Fork r) = Unit {0}
+IsBorrowed (record_of.Read r) = Unit {0}
 IsBorrowed (record_of.Mmap2 r) = IsBorrowedMmap2 r
 IsBorrowed (record_of.Aux r) = Unit {0}
 IsBorrowed (record_of.ITraceStart r) = Unit {0}
