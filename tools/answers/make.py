@@ -28,7 +28,7 @@ LIMIT = 1000
 SIZES = [64, 72, 80, 96, 104, 112, 120, 128, 136, 137, 144, 160]
 
 # Types whose answers a later list will hold.
-LATER = {8, 9}
+LATER = {9}
 
 TID, TIME, ID, CPU, STREAM_ID, IDENTIFIER = 1 << 1, 1 << 2, 1 << 6, 1 << 7, 1 << 9, 1 << 16
 ALL_SIX = TID | TIME | ID | CPU | STREAM_ID | IDENTIFIER
@@ -205,7 +205,7 @@ class Bodies:
             add(type_, lambda type_=type_: (misc(), draw.bytes(1 + draw.below(24))))
             add(type_, lambda type_=type_: (misc(), draw.bytes(8) + bytes(draw.below(9))))
 
-        # READ and SAMPLE, for the later list: eight bytes for each number that the format can ask for.
+        # READ, and SAMPLE for the later list: eight bytes for each number that the format can ask for.
         for count in range(7):
             add(8, lambda count=count: (misc(), self.some("II" + "Q" * count)))
             add(9, lambda count=count: (misc(), self.some("Q" * 2 * count)))
@@ -352,6 +352,25 @@ def attributes():
     return found
 
 
+def reads():
+    """READ under read formats for one number and for more, for a group, and for what isn't known."""
+    found = []
+    for order in ["little", "big"]:
+        for at, read_format in enumerate([1, 2, 3, 4, 0x10, 0x13, 0x14, 0x17, 8, 0x1F, 0x20, 0x41]):
+            config = Config(TID, True, read_format)
+            draw = Draw(2 * read_format + (order == "big"))
+            frames, stream = Frames(order, draw, config), b""
+            whole = "II" + "Q" * (1 + bin(read_format & 0x17).count("1"))
+            for change in [0, 3, -1, -8]:
+                body = frames.bodies.some(whole)
+                stream += frames.with_id(8, 0, body + draw.bytes(change) if change > 0 else body[: len(body) + change])
+            stream += frames.with_id(8, 0, frames.bodies.some("II")) + frames.with_id(8, 0, draw.bytes(7))
+            name = "read_format_%d_%s" % (read_format, order)
+            head = attribute(order, draw, SIZES[at % 9], config)
+            found.append(Case(name, order, LIMIT, config, True, head + stream))
+    return found
+
+
 def words_of(case):
     return [case.order, str(case.limit)] + ["attr"] * case.attr
 
@@ -364,7 +383,7 @@ def said(program, case):
 def compare(program):
     """Prints each line on which the program and the page differ, also where the list leaves the frame out."""
     differ = collections.Counter()
-    for case in cases(everything=True) + attributes():
+    for case in cases(everything=True) + reads() + attributes():
         by_program, by_page = said(program, case), page.text(case.stream, *words_of(case))
         if by_program == by_page:
             continue
@@ -419,8 +438,9 @@ class Tally:
                 self.ends[line] += 1
 
     def __str__(self):
-        refusals = ["Eof", "InvalidRecord"]
-        rows = ["| Type | Accepted | `Eof` | `InvalidRecord` |", "|---|---|---|---|"]
+        refusals = ["Eof", "InvalidRecord", "UnsupportedConfig"]
+        heads = ["Type", "Accepted"] + ["`%s`" % kind for kind in refusals]
+        rows = ["| %s |" % " | ".join(heads), "|---" * len(heads) + "|"]
         for type_ in sorted({type_ for type_, _ in self.frames}):
             name = {kind for at, kind in self.frames if at == type_} - set(refusals)
             cells = [type_, *sorted(name)], *([self.frames[type_, kind]] for kind in sorted(name) + refusals)
@@ -432,7 +452,7 @@ class Tally:
 def main(words):
     if words and words[0] == "--page":
         return compare(words[1:])
-    listed, tally, first, later, marked = cases() + attributes(), Tally(), [], [], 0
+    listed, tally, first, later, marked = cases() + reads() + attributes(), Tally(), [], [], 0
     for case in listed:
         text, status = page.text(case.stream, *words_of(case))
         if words != ["--streams"]:

@@ -1,6 +1,6 @@
 """The text of a run as docs/FORMATS.md has it, written from that page and from no program.
 
-READ and SAMPLE aren't here: a list that holds them has to add them.
+SAMPLE isn't here: a list that holds it has to add it.
 """
 
 
@@ -34,6 +34,7 @@ FIELDS = {
     5: ("Throttle", "time:Q id:Q stream_id:Q"),
     6: ("Unthrottle", "time:Q id:Q stream_id:Q"),
     7: ("Fork", "pid:I ppid:I tid:I ptid:I time:Q"),
+    8: ("Read", "pid:I tid:I :values"),
     10: ("Mmap2", "pid:I tid:I addr:Q len:Q pgoff:Q :detail prot:I flags:I filename:name"),
     11: ("Aux", "aux_offset:Q aux_size:Q flags:Q"),
     12: ("ITraceStart", "pid:I tid:I"),
@@ -49,7 +50,12 @@ FIELDS = {
 }
 
 
-def words_of_field(name, kind, misc, reader):
+# What a single read has, each with the bit of the read format by which it is there: the value always is.
+SINGLE_READ = [("value", None), ("time_enabled", 0), ("time_running", 1), ("id", 2), ("lost", 4)]
+GROUP, KNOWN_BITS = 3, 5
+
+
+def words_of_field(name, kind, misc, read_format, reader):
     if kind in WIDTHS:
         return ["%s=%d" % (name, reader.number(WIDTHS[kind]))]
     if kind == "name":
@@ -66,6 +72,11 @@ def words_of_field(name, kind, misc, reader):
         if bytes_[0] > 20:
             raise Refused("InvalidRecord")
         return ["build_id=" + bytes_[4 : 4 + bytes_[0]].hex()]
+    if kind == "values":
+        if read_format >> GROUP & 1 or read_format >> KNOWN_BITS:
+            raise Refused("UnsupportedConfig")
+        parts = [part for part, bit in SINGLE_READ if bit is None or read_format >> bit & 1]
+        return ["%s=%d" % (part, reader.number(8)) for part in parts]
     if kind == "namespaces":
         count = reader.number(8)
         if count > len(reader.left) // 16:
@@ -78,21 +89,21 @@ def words_of_field(name, kind, misc, reader):
     return ["old_bytes=" + run[:old].hex(), "new_bytes=" + run[old : old + new].hex()]
 
 
-def answer(type_, misc, body, order):
+def answer(type_, misc, read_format, body, order):
     reader = Reader(body, order)
-    if type_ in (8, 9):
+    if type_ == 9:
         return "not on this page yet"
     if type_ not in FIELDS:
         return "Unknown data=" + body.hex()
     record, fields = FIELDS[type_]
     words = [record]
     for field in fields.split():
-        words += words_of_field(*field.split(":"), misc, reader)
+        words += words_of_field(*field.split(":"), misc, read_format, reader)
     return " ".join(words)
 
 
 def attribute(reader):
-    """The length of a sample id under the attribute that the reader begins with."""
+    """The length of a sample id and the read format, under the attribute that the reader begins with."""
     reader.number(4)
     size = reader.number(4)
     if size not in (64, 72, 80, 96, 104, 112, 120, 128, 136) and size <= 136:
@@ -101,18 +112,18 @@ def attribute(reader):
     if any(rest[128:]):
         raise Refused("UnsupportedData")
     fields = Reader(rest, reader.order)
-    _, _, sample_type, _, flags = [fields.number(8) for _ in range(5)]
+    _, _, sample_type, read_format, flags = [fields.number(8) for _ in range(5)]
     if flags >> 18 & 1 == 0:
-        return 0
-    return 8 * sum(sample_type >> bit & 1 for bit in (1, 2, 6, 7, 9, 16))
+        return 0, read_format
+    return 8 * sum(sample_type >> bit & 1 for bit in (1, 2, 6, 7, 9, 16)), read_format
 
 
 def text(stream, order, limit, attr=None):
     """The text of a run, and the program's status."""
-    reader, lines, id_length = Reader(stream, order), [], 0
+    reader, lines, id_length, read_format = Reader(stream, order), [], 0, 0
     if attr:
         try:
-            id_length = attribute(reader)
+            id_length, read_format = attribute(reader)
         except Refused as refused:
             return "attr refused %s\n" % refused, 2
     end = "limit"
@@ -131,7 +142,7 @@ def text(stream, order, limit, attr=None):
             own_id = 0 if type_ == 9 or type_ >= 64 else id_length
             if own_id > len(body):
                 raise Refused("InvalidRecord")
-            said = answer(type_, misc, body[: len(body) - own_id], order)
+            said = answer(type_, misc, read_format, body[: len(body) - own_id], order)
         except Refused as refused:
             said = "refused %s" % refused
         lines.append("%d %d %d %d %s" % (len(lines), type_, misc, size, said))

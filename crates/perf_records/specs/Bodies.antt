@@ -8,7 +8,7 @@ use Rattle.perf_reader.specs.Reading.{Says, Reads, ReadsLent}
 use Rattle.perf_records.specs.RecordTypes.{type_of, type_holds_a_list}
 use Rattle.perf_records.specs.Records.{RecordValue, record_value, IsBorrowed, mmap_is, lost_is}
 use Rattle.perf_records.specs.Records.{comm_is, exit_is, throttle_is, unthrottle_is, fork_is}
-use Rattle.perf_records.specs.Records.{mmap2_is, aux_is, itrace_start_is, lost_samples_is}
+use Rattle.perf_records.specs.Records.{read_is, mmap2_is, aux_is, itrace_start_is, lost_samples_is}
 use Rattle.perf_records.specs.Records.{switch_is, switch_cpu_wide_is, namespaces_is, ksymbol_is}
 use Rattle.perf_records.specs.Records.{bpf_event_is, cgroup_is, text_poke_is, aux_output_hw_id_is}
 use Rattle.perf_records.specs.Records.{unknown_is}
@@ -20,6 +20,7 @@ use Rattle.perf_types.specs.Lost.{lost}
 use Rattle.perf_types.specs.Comm.{comm}
 use Rattle.perf_types.specs.Exit.{exit}
 use Rattle.perf_types.specs.Throttle.{throttle}
+use Rattle.perf_types.specs.Read.{read}
 use Rattle.perf_types.specs.Mmap2.{mmap2}
 use Rattle.perf_types.specs.Aux.{aux}
 use Rattle.perf_types.specs.ITraceStart.{itrace_start}
@@ -45,7 +46,7 @@ body_of c ty type.Exit = mapped exit_is exit
 body_of c ty type.Throttle = mapped throttle_is throttle
 body_of c ty type.Unthrottle = mapped unthrottle_is throttle
 body_of c ty type.Fork = mapped fork_is exit
-body_of c ty type.Read = unread ty
+body_of c ty type.Read = mapped read_is (read c)
 body_of c ty type.Sample = unread ty
 body_of c ty type.Mmap2 = mapped mmap2_is (mmap2 c)
 body_of c ty type.Aux = mapped aux_is aux

@@ -12,6 +12,8 @@ pub use Rattle.perf_types.specs.Mmap.{mmap_value}
 use Rattle.perf_types.specs.Mmap.{MmapValue, IsBorrowedMmap}
 pub use Rattle.perf_types.specs.Comm.{comm_value}
 use Rattle.perf_types.specs.Comm.{CommValue, IsBorrowedComm}
+pub use Rattle.perf_types.specs.Read.{task_read}
+use Rattle.perf_types.specs.Read.{TaskRead}
 pub use Rattle.perf_types.specs.Mmap2.{mmap2_value}
 use Rattle.perf_types.specs.Mmap2.{Mmap2Value, IsBorrowedMmap2}
 pub use Rattle.perf_types.specs.Aux.{aux_value}
@@ -38,6 +40,7 @@ pub data RecordValue : Type 0 where
   throttle_is : Throttle → RecordValue
   unthrottle_is : Throttle → RecordValue
   fork_is : Exit → RecordValue
+  read_is : TaskRead → RecordValue
   mmap2_is : Mmap2Value → RecordValue
   aux_is : AuxValue → RecordValue
   itrace_start_is : ITraceStart → RecordValue
@@ -62,6 +65,7 @@ record_value (record_of.Exit r) = exit_is r
 record_value (record_of.Throttle r) = throttle_is r
 record_value (record_of.Unthrottle r) = unthrottle_is r
 record_value (record_of.Fork r) = fork_is r
+record_value (record_of.Read r) = read_is (task_read r)
 record_value (record_of.Mmap2 r) = mmap2_is (mmap2_value r)
 record_value (record_of.Aux r) = aux_is (aux_value r)
 record_value (record_of.ITraceStart r) = itrace_start_is r
@@ -85,6 +89,7 @@ IsBorrowed (record_of.Exit r) = Unit {0}
 IsBorrowed (record_of.Throttle r) = Unit {0}
 IsBorrowed (record_of.Unthrottle r) = Unit {0}
 IsBorrowed (record_of.Fork r) = Unit {0}
+IsBorrowed (record_of.Read r) = Unit {0}
 IsBorrowed (record_of.Mmap2 r) = IsBorrowedMmap2 r
 IsBorrowed (record_of.Aux r) = Unit {0}
 IsBorrowed (record_of.ITraceStart r) = Unit {0}

@@ -9,11 +9,12 @@ ghost use Rattle.perf_records.specs.Words.{mapped, Call, Reads, kinds, SaysBody,
 ghost use Rattle.perf_records.specs.Words.{record_value, IsBorrowed, aux_is, aux_output_hw_id_is};
 ghost use Rattle.perf_records.specs.Words.{bpf_event_is, cgroup_is, comm_is, exit_is, fork_is};
 ghost use Rattle.perf_records.specs.Words.{itrace_start_is, ksymbol_is, lost_is, lost_samples_is};
-ghost use Rattle.perf_records.specs.Words.{mmap2_is, mmap_is, namespaces_is, switch_cpu_wide_is};
-ghost use Rattle.perf_records.specs.Words.{text_poke_is, throttle_is, unthrottle_is, aux};
-ghost use Rattle.perf_records.specs.Words.{aux_output_hw_id, bpf_event, cgroup, comm, exit};
-ghost use Rattle.perf_records.specs.Words.{itrace_start, ksymbol, lost, lost_samples, mmap, mmap2};
-ghost use Rattle.perf_records.specs.Words.{namespaces, switch_cpu_wide, text_poke, throttle};
+ghost use Rattle.perf_records.specs.Words.{mmap2_is, mmap_is, namespaces_is, read_is};
+ghost use Rattle.perf_records.specs.Words.{switch_cpu_wide_is, text_poke_is, throttle_is};
+ghost use Rattle.perf_records.specs.Words.{unthrottle_is, aux, aux_output_hw_id, bpf_event, cgroup};
+ghost use Rattle.perf_records.specs.Words.{comm, exit, itrace_start, ksymbol, lost, lost_samples};
+ghost use Rattle.perf_records.specs.Words.{mmap, mmap2, namespaces, read, switch_cpu_wide};
+ghost use Rattle.perf_records.specs.Words.{text_poke, throttle};
 
 use crate::record::Record;
 use crate::record_type::RecordType;
@@ -34,6 +35,7 @@ use perf_types::lost_samples::LostSamples;
 use perf_types::mmap::Mmap;
 use perf_types::mmap2::Mmap2;
 use perf_types::namespaces::Namespaces;
+use perf_types::read::Read;
 use perf_types::switch_cpu_wide::SwitchCpuWide;
 use perf_types::text_poke::TextPoke;
 use perf_types::throttle::Throttle;
@@ -102,6 +104,14 @@ fn read_fork<'p, I: Input<'p>, E: Endian>(reader: &mut Reader<I, E>) -> ReadResu
         reader.old (kinds result) reader.new }
 {
     held!(reader, Exit => Fork)
+}
+
+#[inline(never)]
+fn read_read<'p, I: Input<'p>, E: Endian>(reader: &mut Reader<I, E>) -> ReadResult<Record<'p>>
+    ensures call { Call I.source E.order (SaysLent (λ c. mapped read_is (read c)))
+        reader.old (kinds result) reader.new }
+{
+    held!(reader, Read => Read)
 }
 
 #[inline(never)]
@@ -238,7 +248,8 @@ pub fn read_body<'p, I: Input<'p>, E: Endian>(
         RecordType::Throttle => read_throttle(reader),
         RecordType::Unthrottle => read_unthrottle(reader),
         RecordType::Fork => read_fork(reader),
-        RecordType::Read | RecordType::Sample => read_unread(reader, ty),
+        RecordType::Read => read_read(reader),
+        RecordType::Sample => read_unread(reader, ty),
         RecordType::Mmap2 => read_mmap2(reader),
         RecordType::Aux => read_aux(reader),
         RecordType::ITraceStart => read_itrace_start(reader),

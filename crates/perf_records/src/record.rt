@@ -14,6 +14,7 @@ use perf_types::lost_samples::LostSamples;
 use perf_types::mmap::Mmap;
 use perf_types::mmap2::Mmap2;
 use perf_types::namespaces::Namespaces;
+use perf_types::read::Read;
 use perf_types::switch_cpu_wide::SwitchCpuWide;
 use perf_types::text_poke::TextPoke;
 use perf_types::throttle::Throttle;
@@ -35,6 +36,8 @@ pub enum Record<'a> {
     Unthrottle(Throttle),
     /// A task was made.
     Fork(Fork),
+    /// A counter of a task was read.
+    Read(Read),
     /// A file was mapped, with which file it is.
     Mmap2(Mmap2<'a>),
     /// There is new data in the AUX buffer.
@@ -98,6 +101,17 @@ impl<'a> From<Comm<'a>> for Record<'a> {
 
     fn from(held: Comm<'a>) -> Self {
         Record::Comm(held)
+    }
+}
+
+impl From<Read> for Record<'_> {
+    ghost use Rattle.std.specs.Prelude.{◌≡◌};
+    ghost use Rattle.perf_records.specs.declared.record.Record.TheVariants as record_of;
+
+    ghost from_gives = { λ held r. r ≡ record_of.Read held };
+
+    fn from(held: Read) -> Self {
+        Record::Read(held)
     }
 }
 

@@ -3,7 +3,8 @@
 use bitflags::Flags;
 use perf_event_data::endian::{Endian, Little, Native};
 use perf_event_data::parse::{ParseBuf, ParseConfig, Parser};
-use perf_event_data::{Mmap2, PieceBuf, Record, Run, RunEnd, SwitchCpuWide, read_records};
+use perf_event_data::sys::perf_event_attr;
+use perf_event_data::{Mmap2, PieceBuf, Read, Record, Run, RunEnd, SwitchCpuWide, read_records};
 use std::alloc::{AllocError, Global};
 use std::io::BufReader;
 use std::process::Abort;
@@ -15,6 +16,14 @@ fn name_of(bytes: &[u8]) -> &str {
         Ok(name) => name,
         Err(_) => "(not UTF-8)",
     }
+}
+
+fn tell_read(text: &mut String, r: &Read) -> Result<(), AllocError> {
+    write!(text, "Read {} {} {}", r.pid, r.tid, r.values.value())?;
+    let (enabled, running) = (r.values.time_enabled(), r.values.time_running());
+    write!(text, " {enabled:?} {running:?}")?;
+    let (id, lost) = (r.values.id(), r.values.lost());
+    write!(text, " {id:?} {lost:?}")
 }
 
 fn tell_mmap2(text: &mut String, r: &Mmap2<'_>) -> Result<(), AllocError> {
@@ -68,6 +77,7 @@ fn tell_record(text: &mut String, record: &Record<'_>) -> Result<(), AllocError>
             "Fork {} {} {} {} {}",
             r.pid, r.ppid, r.tid, r.ptid, r.time
         ),
+        Record::Read(r) => tell_read(text, r),
         Record::Mmap2(r) => tell_mmap2(text, r),
         Record::Aux(r) => {
             let flags = r.flags.bits();
@@ -139,7 +149,18 @@ pub fn tell<'p, B: ParseBuf<'p> + Drop, E: Endian>(
     endian: E,
     limits: &[usize],
 ) -> Result<String, AllocError> {
-    let config = ParseConfig::<Native>::default().with_endian(endian);
+    tell_under(alloc, buf, endian, perf_event_attr::default(), limits)
+}
+
+// The same behind an attribute.
+fn tell_under<'p, B: ParseBuf<'p> + Drop, E: Endian>(
+    alloc: Global,
+    buf: B,
+    endian: E,
+    attr: perf_event_attr,
+    limits: &[usize],
+) -> Result<String, AllocError> {
+    let config = ParseConfig::<Native>::from(attr).with_endian(endian);
     let mut parser = Parser::new(alloc, buf, config);
     let mut text = String::new(alloc);
     for limit in limits {
@@ -161,16 +182,31 @@ pub fn check_everywhere<E: Endian + Copy>(
     limits: &[usize],
     want: &str,
 ) -> Result<(), Fail> {
-    let text = tell(alloc, bytes, endian, limits)?;
+    let attr = perf_event_attr::default();
+    check_everywhere_behind(rt, alloc, bytes, endian, attr, limits, want)
+}
+
+/// The same behind an attribute.
+pub fn check_everywhere_behind<E: Endian + Copy>(
+    rt: &impl Abort,
+    alloc: Global,
+    bytes: &[u8],
+    endian: E,
+    attr: perf_event_attr,
+    limits: &[usize],
+    want: &str,
+) -> Result<(), Fail> {
+    let text = tell_under(alloc, bytes, endian, attr, limits)?;
     assert_eq!(rt; text.as_str(), want, "a slice");
     for capacity in [1, 7, 8192] {
         let reader = BufReader::with_capacity(alloc, capacity, bytes)?;
-        let text = tell(alloc, reader, endian, limits)?;
+        let text = tell_under(alloc, reader, endian, attr, limits)?;
         assert_eq!(rt; text.as_str(), want, "a reader of {capacity}");
     }
     for most in [1, 3, 64] {
         for lasting in [true, false] {
-            let text = tell(alloc, PieceBuf::new(bytes, most, lasting), endian, limits)?;
+            let pieces = PieceBuf::new(bytes, most, lasting);
+            let text = tell_under(alloc, pieces, endian, attr, limits)?;
             assert_eq!(rt; text.as_str(), want, "pieces of {most}, lasting: {lasting}");
         }
     }

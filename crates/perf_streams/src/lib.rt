@@ -30,6 +30,8 @@ mod parser_calls;
 #[cfg(test)]
 mod pokes;
 #[cfg(test)]
+mod reads;
+#[cfg(test)]
 mod side_band;
 #[cfg(test)]
 mod streams;

@@ -25,6 +25,7 @@ use Rattle.perf_types.specs.declared.aux_output_hw_id.AuxOutputHwId.{AuxOutputHw
 use Rattle.perf_types.specs.Mmap.{MmapValue}
 use Rattle.perf_types.specs.Comm.{CommValue}
 use Rattle.perf_types.specs.MmapDetail.{DetailValue, inode_is, build_id_is}
+use Rattle.perf_types.specs.Read.{TaskRead}
 use Rattle.perf_types.specs.Mmap2.{Mmap2Value}
 use Rattle.perf_types.specs.Aux.{AuxValue}
 use Rattle.perf_types.specs.SwitchCpuWide.{other_pid, other_tid}
@@ -34,8 +35,9 @@ use Rattle.perf_types.specs.BpfEvent.{BpfEventValue}
 use Rattle.perf_types.specs.CGroup.{CGroupValue}
 use Rattle.perf_types.specs.TextPoke.{TextPokeValue}
 use Rattle.perf_records.specs.Records.{RecordValue, mmap_is, lost_is, comm_is, exit_is, throttle_is}
-use Rattle.perf_records.specs.Records.{unthrottle_is, fork_is, mmap2_is, aux_is, itrace_start_is}
-use Rattle.perf_records.specs.Records.{lost_samples_is, switch_is, switch_cpu_wide_is}
+use Rattle.perf_records.specs.Records.{unthrottle_is, fork_is, read_is, mmap2_is, aux_is}
+use Rattle.perf_records.specs.Records.{itrace_start_is, lost_samples_is, switch_is}
+use Rattle.perf_records.specs.Records.{switch_cpu_wide_is}
 use Rattle.perf_records.specs.Records.{namespaces_is, ksymbol_is, bpf_event_is, cgroup_is}
 use Rattle.perf_records.specs.Records.{text_poke_is, aux_output_hw_id_is, unknown_is}
 use Rattle.perf_records.specs.Frames.{StreamEnd, done, cut_header, stream_end}
@@ -67,6 +69,11 @@ number name n = field name (decimal n)
 abbrev pub present : (ℕ → List ℕ) → Option ℕ → List ℕ
 present written (Some n) = written n
 present written None = []
+
+-- the same as a word of its own
+abbrev pub word_of : List ℕ → Option ℕ → List (List ℕ)
+word_of name (Some n) = number name n ∷ []
+word_of name None = []
 
 -- items with commas in between
 abbrev pub listed : {X : Type 0} → (X → List ℕ) → List X → List ℕ
@@ -104,6 +111,14 @@ abbrev pub throttle_fields : Throttle → List (List ℕ)
 throttle_fields r =
     number (codes "time") r.time ∷ number (codes "id") r.id
     ∷ number (codes "stream_id") r.stream_id ∷ []
+
+abbrev pub read_words : TaskRead → List (List ℕ)
+read_words r =
+    codes "Read" ∷ number (codes "pid") r.pid ∷ number (codes "tid") r.tid
+    ∷ number (codes "value") r.values.value
+    ∷ (word_of (codes "time_enabled") r.values.time_enabled
+    ++ (word_of (codes "time_running") r.values.time_running
+    ++ (word_of (codes "id") r.values.id ++ word_of (codes "lost") r.values.lost)))
 
 -- which file an MMAP2 has: the numbers of its inode, or its build id
 abbrev pub detail_words : DetailValue → List (List ℕ)
@@ -188,6 +203,7 @@ record_words (exit_is r) = codes "Exit" ∷ exit_fields r
 record_words (throttle_is r) = codes "Throttle" ∷ throttle_fields r
 record_words (unthrottle_is r) = codes "Unthrottle" ∷ throttle_fields r
 record_words (fork_is r) = codes "Fork" ∷ exit_fields r
+record_words (read_is r) = read_words r
 record_words (mmap2_is r) = mmap2_words r
 record_words (aux_is r) = aux_words r
 record_words (itrace_start_is r) = itrace_start_words r

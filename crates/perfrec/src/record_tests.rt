@@ -12,8 +12,8 @@ use perf_event_data::parse::ParseResult;
 use perf_event_data::sys::perf_event_header;
 use perf_event_data::{
     Aux, AuxFlags, AuxOutputHwId, BpfEvent, BpfEventType, CGroup, Comm, CowSlice, ITraceStart,
-    KSymbol, KSymbolFlags, KSymbolType, Mmap, Mmap2, MmapDetail, NamespaceEntry, Namespaces,
-    Record, SwitchCpuWide, TextPoke, Throttle,
+    KSymbol, KSymbolFlags, KSymbolType, Mmap, Mmap2, MmapDetail, NamespaceEntry, Namespaces, Read,
+    ReadFormat, ReadValue, Record, SwitchCpuWide, TextPoke, Throttle,
 };
 use std::alloc::AllocError;
 use std::process::Abort;
@@ -117,6 +117,39 @@ fn both_ends_of_a_throttle_have_the_same_fields(rt: HostRuntime) -> ParseResult<
     check_line(&rt, Record::Throttle(throttle()), text)?;
     let text = "Unthrottle time=30 id=20 stream_id=10";
     check_line(&rt, Record::Unthrottle(throttle()), text)
+}
+
+// A read of the numbers from 3 to 7 in a format.
+fn read(read_format: u64) -> Record<'static> {
+    let read_format = ReadFormat::from_bits_retain(read_format);
+    let values = ReadValue::from_parts(read_format, 3, 4, 5, 6, 7);
+    Record::Read(Read {
+        pid: 1,
+        tid: 2,
+        values,
+    })
+}
+
+#[test]
+fn numbers_that_a_read_lacks_are_left_out(rt: HostRuntime) -> ParseResult<()> {
+    for (read_format, text) in [
+        (0, "Read pid=1 tid=2 value=3"),
+        (1, "Read pid=1 tid=2 value=3 time_enabled=4"),
+        (2, "Read pid=1 tid=2 value=3 time_running=5"),
+        (4, "Read pid=1 tid=2 value=3 id=6"),
+        (0x10, "Read pid=1 tid=2 value=3 lost=7"),
+        (
+            0x13,
+            "Read pid=1 tid=2 value=3 time_enabled=4 time_running=5 lost=7",
+        ),
+        (
+            0x17,
+            "Read pid=1 tid=2 value=3 time_enabled=4 time_running=5 id=6 lost=7",
+        ),
+    ] {
+        check_line(&rt, read(read_format), text)?;
+    }
+    Ok(())
 }
 
 #[test]

@@ -3,6 +3,7 @@
 ghost use Rattle.std.specs.Prelude.{◌≡◌, ◌++◌, string_bytes, OnOk};
 ghost use Rattle.perf_types.specs.Mmap.{mmap_value};
 ghost use Rattle.perf_types.specs.Comm.{comm_value};
+ghost use Rattle.perf_types.specs.Read.{task_read};
 ghost use Rattle.perf_types.specs.Mmap2.{mmap2_value};
 ghost use Rattle.perf_types.specs.Aux.{aux_value};
 ghost use Rattle.perf_types.specs.Namespaces.{namespaces_value};
@@ -12,8 +13,8 @@ ghost use Rattle.perf_types.specs.CGroup.{cgroup_value};
 ghost use Rattle.perf_types.specs.TextPoke.{text_poke_value};
 ghost use Rattle.perf_records.specs.Records.{record_value};
 ghost use Rattle.perfrec.specs.Text.{spaced, listed, namespace_item, mmap_words, lost_words};
-ghost use Rattle.perfrec.specs.Text.{comm_words, exit_fields, throttle_fields, mmap2_words};
-ghost use Rattle.perfrec.specs.Text.{detail_words, aux_words, itrace_start_words};
+ghost use Rattle.perfrec.specs.Text.{comm_words, exit_fields, throttle_fields, read_words};
+ghost use Rattle.perfrec.specs.Text.{mmap2_words, detail_words, aux_words, itrace_start_words};
 ghost use Rattle.perfrec.specs.Text.{lost_samples_words, out_of, switch_cpu_wide_words};
 ghost use Rattle.perfrec.specs.Text.{namespaces_words, ksymbol_words, bpf_event_words};
 ghost use Rattle.perfrec.specs.Text.{cgroup_words, text_poke_words, aux_output_hw_id_words};
@@ -23,7 +24,7 @@ use crate::fields::{push_fields, push_hex, push_number, push_present};
 use bitflags::Flags;
 use perf_event_data::{
     Aux, AuxOutputHwId, BpfEvent, CGroup, Comm, Exit, ITraceStart, KSymbol, Lost, LostSamples,
-    Mmap, Mmap2, NamespaceEntry, Namespaces, Record, SwitchCpuWide, TextPoke, Throttle,
+    Mmap, Mmap2, NamespaceEntry, Namespaces, Read, Record, SwitchCpuWide, TextPoke, Throttle,
 };
 use std::alloc::AllocError;
 
@@ -39,6 +40,7 @@ pub(crate) fn push_record(text: &mut String, found: &Record) -> Result<(), Alloc
         Record::Throttle(throttle) => push_throttle(text, " Throttle", throttle),
         Record::Unthrottle(throttle) => push_throttle(text, " Unthrottle", throttle),
         Record::Fork(fork) => push_exit(text, " Fork", fork),
+        Record::Read(read) => push_read(text, read),
         Record::Mmap2(mapped) => push_mmap2(text, mapped),
         Record::Aux(aux) => push_aux(text, aux),
         Record::ITraceStart(start) => push_itrace_start(text, start),
@@ -115,6 +117,22 @@ fn push_throttle(text: &mut String, name: &str, throttle: &Throttle) -> Result<(
         (" stream_id=", throttle.stream_id),
     ];
     push_fields(text, name, &fields)
+}
+
+fn push_read(text: &mut String, read: &Read) -> Result<(), AllocError>
+    ensures { OnOk result (string_bytes text.new
+        ≡ string_bytes text.old ++ spaced (read_words (task_read read.now))) }
+{
+    let fields = [
+        (" pid=", u64::from(read.pid)),
+        (" tid=", u64::from(read.tid)),
+        (" value=", read.values.value()),
+    ];
+    push_fields(text, " Read", &fields)?;
+    push_present(text, " time_enabled=", read.values.time_enabled())?;
+    push_present(text, " time_running=", read.values.time_running())?;
+    push_present(text, " id=", read.values.id())?;
+    push_present(text, " lost=", read.values.lost())
 }
 
 fn push_mmap2(text: &mut String, mapped: &Mmap2) -> Result<(), AllocError>
