@@ -5,16 +5,10 @@
 #![tactic(auto, using(perf_reader::proofs::Paying::chain))]
 
 ghost use Rattle.std.specs.Prelude.{IfOk};
+ghost use Rattle.perf_records.specs.Records as value;
+ghost use Rattle.perf_records.specs.Words as table;
 ghost use Rattle.perf_records.specs.Words.{mapped, Call, Reads, kinds, SaysBody, SaysLent, unread};
-ghost use Rattle.perf_records.specs.Words.{record_value, IsBorrowed, aux_is, aux_output_hw_id_is};
-ghost use Rattle.perf_records.specs.Words.{bpf_event_is, cgroup_is, comm_is, exit_is, fork_is};
-ghost use Rattle.perf_records.specs.Words.{itrace_start_is, ksymbol_is, lost_is, lost_samples_is};
-ghost use Rattle.perf_records.specs.Words.{mmap2_is, mmap_is, namespaces_is, read_is};
-ghost use Rattle.perf_records.specs.Words.{switch_cpu_wide_is, text_poke_is, throttle_is};
-ghost use Rattle.perf_records.specs.Words.{unthrottle_is, aux, aux_output_hw_id, bpf_event, cgroup};
-ghost use Rattle.perf_records.specs.Words.{comm, exit, itrace_start, ksymbol, lost, lost_samples};
-ghost use Rattle.perf_records.specs.Words.{mmap, mmap2, namespaces, read, switch_cpu_wide};
-ghost use Rattle.perf_records.specs.Words.{text_poke, throttle};
+ghost use Rattle.perf_records.specs.Words.{record_value, IsBorrowed};
 
 use crate::record::Record;
 use crate::record_type::RecordType;
@@ -52,7 +46,7 @@ macro_rules! held {
 
 #[inline(never)]
 fn read_mmap<'p, I: Input<'p>, E: Endian>(reader: &mut Reader<I, E>) -> ReadResult<Record<'p>>
-    ensures call { Call I.source E.order (SaysLent (λ _. mapped mmap_is mmap))
+    ensures call { Call I.source E.order (SaysLent (λ _. mapped value.mmap_is table.mmap))
         reader.old (kinds result) reader.new }
 {
     held!(reader, Mmap<'p> => Mmap)
@@ -60,7 +54,7 @@ fn read_mmap<'p, I: Input<'p>, E: Endian>(reader: &mut Reader<I, E>) -> ReadResu
 
 #[inline(never)]
 fn read_lost<'p, I: Input<'p>, E: Endian>(reader: &mut Reader<I, E>) -> ReadResult<Record<'p>>
-    ensures call { Call I.source E.order (SaysLent (λ _. mapped lost_is lost))
+    ensures call { Call I.source E.order (SaysLent (λ _. mapped value.lost_is table.lost))
         reader.old (kinds result) reader.new }
 {
     held!(reader, Lost => Lost)
@@ -68,7 +62,7 @@ fn read_lost<'p, I: Input<'p>, E: Endian>(reader: &mut Reader<I, E>) -> ReadResu
 
 #[inline(never)]
 fn read_comm<'p, I: Input<'p>, E: Endian>(reader: &mut Reader<I, E>) -> ReadResult<Record<'p>>
-    ensures call { Call I.source E.order (SaysLent (λ _. mapped comm_is comm))
+    ensures call { Call I.source E.order (SaysLent (λ _. mapped value.comm_is table.comm))
         reader.old (kinds result) reader.new }
 {
     held!(reader, Comm<'p> => Comm)
@@ -76,7 +70,7 @@ fn read_comm<'p, I: Input<'p>, E: Endian>(reader: &mut Reader<I, E>) -> ReadResu
 
 #[inline(never)]
 fn read_exit<'p, I: Input<'p>, E: Endian>(reader: &mut Reader<I, E>) -> ReadResult<Record<'p>>
-    ensures call { Call I.source E.order (SaysLent (λ _. mapped exit_is exit))
+    ensures call { Call I.source E.order (SaysLent (λ _. mapped value.exit_is table.exit))
         reader.old (kinds result) reader.new }
 {
     held!(reader, Exit => Exit)
@@ -84,7 +78,7 @@ fn read_exit<'p, I: Input<'p>, E: Endian>(reader: &mut Reader<I, E>) -> ReadResu
 
 #[inline(never)]
 fn read_throttle<'p, I: Input<'p>, E: Endian>(reader: &mut Reader<I, E>) -> ReadResult<Record<'p>>
-    ensures call { Call I.source E.order (SaysLent (λ _. mapped throttle_is throttle))
+    ensures call { Call I.source E.order (SaysLent (λ _. mapped value.throttle_is table.throttle))
         reader.old (kinds result) reader.new }
 {
     held!(reader, Throttle => Throttle)
@@ -92,7 +86,7 @@ fn read_throttle<'p, I: Input<'p>, E: Endian>(reader: &mut Reader<I, E>) -> Read
 
 #[inline(never)]
 fn read_unthrottle<'p, I: Input<'p>, E: Endian>(reader: &mut Reader<I, E>) -> ReadResult<Record<'p>>
-    ensures call { Call I.source E.order (SaysLent (λ _. mapped unthrottle_is throttle))
+    ensures call { Call I.source E.order (SaysLent (λ _. mapped value.unthrottle_is table.throttle))
         reader.old (kinds result) reader.new }
 {
     held!(reader, Throttle => Unthrottle)
@@ -100,7 +94,7 @@ fn read_unthrottle<'p, I: Input<'p>, E: Endian>(reader: &mut Reader<I, E>) -> Re
 
 #[inline(never)]
 fn read_fork<'p, I: Input<'p>, E: Endian>(reader: &mut Reader<I, E>) -> ReadResult<Record<'p>>
-    ensures call { Call I.source E.order (SaysLent (λ _. mapped fork_is exit))
+    ensures call { Call I.source E.order (SaysLent (λ _. mapped value.fork_is table.exit))
         reader.old (kinds result) reader.new }
 {
     held!(reader, Exit => Fork)
@@ -108,7 +102,7 @@ fn read_fork<'p, I: Input<'p>, E: Endian>(reader: &mut Reader<I, E>) -> ReadResu
 
 #[inline(never)]
 fn read_read<'p, I: Input<'p>, E: Endian>(reader: &mut Reader<I, E>) -> ReadResult<Record<'p>>
-    ensures call { Call I.source E.order (SaysLent (λ c. mapped read_is (read c)))
+    ensures call { Call I.source E.order (SaysLent (λ c. mapped value.read_is (table.read c)))
         reader.old (kinds result) reader.new }
 {
     held!(reader, Read => Read)
@@ -116,7 +110,7 @@ fn read_read<'p, I: Input<'p>, E: Endian>(reader: &mut Reader<I, E>) -> ReadResu
 
 #[inline(never)]
 fn read_mmap2<'p, I: Input<'p>, E: Endian>(reader: &mut Reader<I, E>) -> ReadResult<Record<'p>>
-    ensures call { Call I.source E.order (SaysLent (λ c. mapped mmap2_is (mmap2 c)))
+    ensures call { Call I.source E.order (SaysLent (λ c. mapped value.mmap2_is (table.mmap2 c)))
         reader.old (kinds result) reader.new }
 {
     held!(reader, Mmap2<'p> => Mmap2)
@@ -124,7 +118,7 @@ fn read_mmap2<'p, I: Input<'p>, E: Endian>(reader: &mut Reader<I, E>) -> ReadRes
 
 #[inline(never)]
 fn read_aux<'p, I: Input<'p>, E: Endian>(reader: &mut Reader<I, E>) -> ReadResult<Record<'p>>
-    ensures call { Call I.source E.order (SaysLent (λ _. mapped aux_is aux))
+    ensures call { Call I.source E.order (SaysLent (λ _. mapped value.aux_is table.aux))
         reader.old (kinds result) reader.new }
 {
     held!(reader, Aux => Aux)
@@ -134,7 +128,8 @@ fn read_aux<'p, I: Input<'p>, E: Endian>(reader: &mut Reader<I, E>) -> ReadResul
 fn read_itrace_start<'p, I: Input<'p>, E: Endian>(
     reader: &mut Reader<I, E>,
 ) -> ReadResult<Record<'p>>
-    ensures call { Call I.source E.order (SaysLent (λ _. mapped itrace_start_is itrace_start))
+    ensures call { Call I.source E.order
+        (SaysLent (λ _. mapped value.itrace_start_is table.itrace_start))
         reader.old (kinds result) reader.new }
 {
     held!(reader, ITraceStart => ITraceStart)
@@ -144,7 +139,8 @@ fn read_itrace_start<'p, I: Input<'p>, E: Endian>(
 fn read_lost_samples<'p, I: Input<'p>, E: Endian>(
     reader: &mut Reader<I, E>,
 ) -> ReadResult<Record<'p>>
-    ensures call { Call I.source E.order (SaysLent (λ _. mapped lost_samples_is lost_samples))
+    ensures call { Call I.source E.order
+        (SaysLent (λ _. mapped value.lost_samples_is table.lost_samples))
         reader.old (kinds result) reader.new }
 {
     held!(reader, LostSamples => LostSamples)
@@ -155,7 +151,7 @@ fn read_switch_cpu_wide<'p, I: Input<'p>, E: Endian>(
     reader: &mut Reader<I, E>,
 ) -> ReadResult<Record<'p>>
     ensures call { Call I.source E.order
-        (SaysLent (λ c. mapped switch_cpu_wide_is (switch_cpu_wide c)))
+        (SaysLent (λ c. mapped value.switch_cpu_wide_is (table.switch_cpu_wide c)))
         reader.old (kinds result) reader.new }
 {
     held!(reader, SwitchCpuWide => SwitchCpuWide)
@@ -164,7 +160,8 @@ fn read_switch_cpu_wide<'p, I: Input<'p>, E: Endian>(
 #[inline(never)]
 fn read_namespaces<'p, I: Input<'p>, E: Endian>(reader: &mut Reader<I, E>) -> ReadResult<Record<'p>>
     ensures borrowed { IfOk result (λ r. IsBorrowed r) }
-    ensures call { Call I.source E.order (Reads (λ _. mapped namespaces_is namespaces) record_value)
+    ensures call { Call I.source E.order
+        (Reads (λ _. mapped value.namespaces_is table.namespaces) record_value)
         reader.old (kinds result) reader.new }
 {
     held!(reader, Namespaces<'p> => Namespaces)
@@ -172,7 +169,7 @@ fn read_namespaces<'p, I: Input<'p>, E: Endian>(reader: &mut Reader<I, E>) -> Re
 
 #[inline(never)]
 fn read_ksymbol<'p, I: Input<'p>, E: Endian>(reader: &mut Reader<I, E>) -> ReadResult<Record<'p>>
-    ensures call { Call I.source E.order (SaysLent (λ _. mapped ksymbol_is ksymbol))
+    ensures call { Call I.source E.order (SaysLent (λ _. mapped value.ksymbol_is table.ksymbol))
         reader.old (kinds result) reader.new }
 {
     held!(reader, KSymbol<'p> => KSymbol)
@@ -180,7 +177,7 @@ fn read_ksymbol<'p, I: Input<'p>, E: Endian>(reader: &mut Reader<I, E>) -> ReadR
 
 #[inline(never)]
 fn read_bpf_event<'p, I: Input<'p>, E: Endian>(reader: &mut Reader<I, E>) -> ReadResult<Record<'p>>
-    ensures call { Call I.source E.order (SaysLent (λ _. mapped bpf_event_is bpf_event))
+    ensures call { Call I.source E.order (SaysLent (λ _. mapped value.bpf_event_is table.bpf_event))
         reader.old (kinds result) reader.new }
 {
     held!(reader, BpfEvent => BpfEvent)
@@ -188,7 +185,7 @@ fn read_bpf_event<'p, I: Input<'p>, E: Endian>(reader: &mut Reader<I, E>) -> Rea
 
 #[inline(never)]
 fn read_cgroup<'p, I: Input<'p>, E: Endian>(reader: &mut Reader<I, E>) -> ReadResult<Record<'p>>
-    ensures call { Call I.source E.order (SaysLent (λ _. mapped cgroup_is cgroup))
+    ensures call { Call I.source E.order (SaysLent (λ _. mapped value.cgroup_is table.cgroup))
         reader.old (kinds result) reader.new }
 {
     held!(reader, CGroup<'p> => CGroup)
@@ -196,7 +193,7 @@ fn read_cgroup<'p, I: Input<'p>, E: Endian>(reader: &mut Reader<I, E>) -> ReadRe
 
 #[inline(never)]
 fn read_text_poke<'p, I: Input<'p>, E: Endian>(reader: &mut Reader<I, E>) -> ReadResult<Record<'p>>
-    ensures call { Call I.source E.order (SaysLent (λ _. mapped text_poke_is text_poke))
+    ensures call { Call I.source E.order (SaysLent (λ _. mapped value.text_poke_is table.text_poke))
         reader.old (kinds result) reader.new }
 {
     held!(reader, TextPoke<'p> => TextPoke)
@@ -207,7 +204,7 @@ fn read_aux_output_hw_id<'p, I: Input<'p>, E: Endian>(
     reader: &mut Reader<I, E>,
 ) -> ReadResult<Record<'p>>
     ensures call { Call I.source E.order
-        (SaysLent (λ _. mapped aux_output_hw_id_is aux_output_hw_id))
+        (SaysLent (λ _. mapped value.aux_output_hw_id_is table.aux_output_hw_id))
         reader.old (kinds result) reader.new }
 {
     held!(reader, AuxOutputHwId => AuxOutputHwId)

@@ -3,7 +3,8 @@ pub use Rattle.std.specs.List.{flat_map}
 pub use Rattle.std.specs.Option.{option_copied}
 pub use Rattle.std.specs.Result.{result_ok}
 pub use Rattle.perf_words.specs.Bits.{has_bit}
-pub use Rattle.perf_words.specs.SetBits.{sample_flags_bits}
+pub use Rattle.perf_words.specs.SetBits.{sample_flags_bits, read_format_bits}
+pub use Rattle.perf_words.specs.Sets.{element_len}
 pub use Rattle.perf_base.specs.Configured.{configuration_of}
 pub use Rattle.perf_base.specs.Copies.{KeepsForm, IsClone, IsOwnedCopy}
 pub use Rattle.perf_base.specs.Cow.{cow_items, is_borrowed}
@@ -11,3 +12,6 @@ pub use Rattle.perf_base.specs.Errors.{kind_of}
 pub use Rattle.perf_reader.specs.Words.{Call, Reads, ReadsPlain, ReadsLent, ReadsOne}
 pub use Rattle.perf_reader.specs.Words.{TakesNoMemory, kinds, words}
 pub use Rattle.perf_types.specs.Text.{text_of}
+pub use Rattle.perf_types.specs.ReadValue.{single_read}
+pub use Rattle.perf_types.specs.GroupEntry.{entry_with_id}
+pub use Rattle.perf_types.specs.GroupIter.{entries_left}

@@ -34,15 +34,10 @@ pub struct ReadGroup<'a> {
 
 impl<'a> ReadGroup<'a> {
     ghost use Rattle.std.specs.Prelude.{IsTrue, IsOk, IfOk, IfErr, IsNone, ◌↔◌, slice_get, [], not};
-    ghost use Rattle.perf_base.specs.Cow.{is_borrowed};
-    ghost use Rattle.perf_base.specs.Errors.{kind_of};
-    ghost use Rattle.perf_words.specs.Sets.{element_len};
-    ghost use Rattle.perf_words.specs.SetBits.{read_format_bits};
-    ghost use Rattle.perf_types.specs.ReadValue.{single_read};
     ghost use Rattle.perf_types.specs.ReadGroup.{group_read, group_with, group_of};
     ghost use Rattle.perf_types.specs.ReadGroup.{is_borrowed_group};
-    ghost use Rattle.perf_types.specs.GroupEntry.{entry_with_id};
-    ghost use Rattle.perf_types.specs.GroupIter.{entries_left};
+    ghost use Rattle.perf_types.specs.Words.{is_borrowed, kind_of, element_len, read_format_bits};
+    ghost use Rattle.perf_types.specs.Words.{single_read, entry_with_id, entries_left};
 
     /// The group of these numbers: times, of which one whose flag the read format lacks is not
     /// looked at, and the entries' numbers one behind another, for each as many as

@@ -1,3 +1,4 @@
 pub mod Words
 pub mod Text
 pub mod Outcomes
+pub mod RunWords

@@ -1,24 +1,9 @@
 //! Records of each type, as a name and fields.
 
 ghost use Rattle.std.specs.Prelude.{◌≡◌, ◌++◌, string_bytes, OnOk};
-ghost use Rattle.perf_types.specs.Mmap.{mmap_value};
-ghost use Rattle.perf_types.specs.Comm.{comm_value};
-ghost use Rattle.perf_types.specs.Read.{task_read};
-ghost use Rattle.perf_types.specs.Mmap2.{mmap2_value};
-ghost use Rattle.perf_types.specs.Aux.{aux_value};
-ghost use Rattle.perf_types.specs.Namespaces.{namespaces_value};
-ghost use Rattle.perf_types.specs.KSymbol.{ksymbol_value};
-ghost use Rattle.perf_types.specs.BpfEvent.{bpf_event_value};
-ghost use Rattle.perf_types.specs.CGroup.{cgroup_value};
-ghost use Rattle.perf_types.specs.TextPoke.{text_poke_value};
-ghost use Rattle.perf_records.specs.Records.{record_value};
-ghost use Rattle.perfrec.specs.Text.{spaced, listed, namespace_item, mmap_words, lost_words};
-ghost use Rattle.perfrec.specs.Text.{comm_words, exit_fields, throttle_fields, read_words};
-ghost use Rattle.perfrec.specs.Text.{mmap2_words, detail_words, aux_words, itrace_start_words};
-ghost use Rattle.perfrec.specs.Text.{lost_samples_words, out_of, switch_cpu_wide_words};
-ghost use Rattle.perfrec.specs.Text.{namespaces_words, ksymbol_words, bpf_event_words};
-ghost use Rattle.perfrec.specs.Text.{cgroup_words, text_poke_words, aux_output_hw_id_words};
-ghost use Rattle.perfrec.specs.Text.{unknown_words, record_words};
+ghost use Rattle.perf_records.specs.Records as value;
+ghost use Rattle.perfrec.specs.Text as shown;
+ghost use Rattle.perfrec.specs.Text.{spaced, listed, namespace_item};
 
 use crate::fields::{push_fields, push_hex, push_number, push_present};
 use bitflags::Flags;
@@ -30,7 +15,7 @@ use std::alloc::AllocError;
 
 pub(crate) fn push_record(text: &mut String, found: &Record) -> Result<(), AllocError>
     ensures { OnOk result (string_bytes text.new
-        ≡ string_bytes text.old ++ spaced (record_words (record_value found.now))) }
+        ≡ string_bytes text.old ++ spaced (shown.record_words (value.record_value found.now))) }
 {
     match found {
         Record::Mmap(mapped) => push_mmap(text, mapped),
@@ -59,7 +44,7 @@ pub(crate) fn push_record(text: &mut String, found: &Record) -> Result<(), Alloc
 
 fn push_mmap(text: &mut String, mapped: &Mmap) -> Result<(), AllocError>
     ensures { OnOk result (string_bytes text.new
-        ≡ string_bytes text.old ++ spaced (mmap_words (mmap_value mapped.now))) }
+        ≡ string_bytes text.old ++ spaced (shown.mmap_words (value.mmap_value mapped.now))) }
 {
     let fields = [
         (" pid=", u64::from(mapped.pid)),
@@ -74,14 +59,14 @@ fn push_mmap(text: &mut String, mapped: &Mmap) -> Result<(), AllocError>
 
 fn push_lost(text: &mut String, lost: &Lost) -> Result<(), AllocError>
     ensures { OnOk result (string_bytes text.new
-        ≡ string_bytes text.old ++ spaced (lost_words lost.now)) }
+        ≡ string_bytes text.old ++ spaced (shown.lost_words lost.now)) }
 {
     push_fields(text, " Lost", &[(" id=", lost.id), (" lost=", lost.lost)])
 }
 
 fn push_comm(text: &mut String, comm: &Comm) -> Result<(), AllocError>
     ensures { OnOk result (string_bytes text.new
-        ≡ string_bytes text.old ++ spaced (comm_words (comm_value comm.now))) }
+        ≡ string_bytes text.old ++ spaced (shown.comm_words (value.comm_value comm.now))) }
 {
     let fields = [
         (" pid=", u64::from(comm.pid)),
@@ -94,7 +79,7 @@ fn push_comm(text: &mut String, comm: &Comm) -> Result<(), AllocError>
 // The name has a space in front, as an exit and a fork have the same fields.
 fn push_exit(text: &mut String, name: &str, exit: &Exit) -> Result<(), AllocError>
     ensures { OnOk result (string_bytes text.new
-        ≡ string_bytes text.old ++ (name.now ++ spaced (exit_fields exit.now))) }
+        ≡ string_bytes text.old ++ (name.now ++ spaced (shown.exit_fields exit.now))) }
 {
     let fields = [
         (" pid=", u64::from(exit.pid)),
@@ -109,7 +94,7 @@ fn push_exit(text: &mut String, name: &str, exit: &Exit) -> Result<(), AllocErro
 // The name has a space in front, as both ends of a throttle have the same fields.
 fn push_throttle(text: &mut String, name: &str, throttle: &Throttle) -> Result<(), AllocError>
     ensures { OnOk result (string_bytes text.new
-        ≡ string_bytes text.old ++ (name.now ++ spaced (throttle_fields throttle.now))) }
+        ≡ string_bytes text.old ++ (name.now ++ spaced (shown.throttle_fields throttle.now))) }
 {
     let fields = [
         (" time=", throttle.time),
@@ -121,7 +106,7 @@ fn push_throttle(text: &mut String, name: &str, throttle: &Throttle) -> Result<(
 
 fn push_read(text: &mut String, read: &Read) -> Result<(), AllocError>
     ensures { OnOk result (string_bytes text.new
-        ≡ string_bytes text.old ++ spaced (read_words (task_read read.now))) }
+        ≡ string_bytes text.old ++ spaced (shown.read_words (value.task_read read.now))) }
 {
     let fields = [
         (" pid=", u64::from(read.pid)),
@@ -137,7 +122,7 @@ fn push_read(text: &mut String, read: &Read) -> Result<(), AllocError>
 
 fn push_mmap2(text: &mut String, mapped: &Mmap2) -> Result<(), AllocError>
     ensures { OnOk result (string_bytes text.new
-        ≡ string_bytes text.old ++ spaced (mmap2_words (mmap2_value mapped.now))) }
+        ≡ string_bytes text.old ++ spaced (shown.mmap2_words (value.mmap2_value mapped.now))) }
 {
     let fields = [
         (" pid=", u64::from(mapped.pid)),
@@ -159,7 +144,8 @@ fn push_mmap2(text: &mut String, mapped: &Mmap2) -> Result<(), AllocError>
 // Appends the numbers of the inode, or the build id.
 fn push_detail(text: &mut String, mapped: &Mmap2) -> Result<(), AllocError>
     ensures { OnOk result (string_bytes text.new
-        ≡ string_bytes text.old ++ spaced (detail_words (mmap2_value mapped.now).detail)) }
+        ≡ string_bytes text.old
+        ++ spaced (shown.detail_words (value.mmap2_value mapped.now).detail)) }
 {
     push_present(text, " maj=", mapped.maj().map(u64::from))?;
     push_present(text, " min=", mapped.min().map(u64::from))?;
@@ -173,7 +159,7 @@ fn push_detail(text: &mut String, mapped: &Mmap2) -> Result<(), AllocError>
 
 fn push_aux(text: &mut String, aux: &Aux) -> Result<(), AllocError>
     ensures { OnOk result (string_bytes text.new
-        ≡ string_bytes text.old ++ spaced (aux_words (aux_value aux.now))) }
+        ≡ string_bytes text.old ++ spaced (shown.aux_words (value.aux_value aux.now))) }
 {
     let fields = [
         (" aux_offset=", aux.aux_offset),
@@ -185,7 +171,7 @@ fn push_aux(text: &mut String, aux: &Aux) -> Result<(), AllocError>
 
 fn push_itrace_start(text: &mut String, start: &ITraceStart) -> Result<(), AllocError>
     ensures { OnOk result (string_bytes text.new
-        ≡ string_bytes text.old ++ spaced (itrace_start_words start.now)) }
+        ≡ string_bytes text.old ++ spaced (shown.itrace_start_words start.now)) }
 {
     let fields = [
         (" pid=", u64::from(start.pid)),
@@ -196,14 +182,14 @@ fn push_itrace_start(text: &mut String, start: &ITraceStart) -> Result<(), Alloc
 
 fn push_lost_samples(text: &mut String, lost: &LostSamples) -> Result<(), AllocError>
     ensures { OnOk result (string_bytes text.new
-        ≡ string_bytes text.old ++ spaced (lost_samples_words lost.now)) }
+        ≡ string_bytes text.old ++ spaced (shown.lost_samples_words lost.now)) }
 {
     push_fields(text, " LostSamples", &[(" lost=", lost.lost)])
 }
 
 fn push_switch_cpu_wide(text: &mut String, switch: &SwitchCpuWide) -> Result<(), AllocError>
     ensures { OnOk result (string_bytes text.new
-        ≡ string_bytes text.old ++ spaced (switch_cpu_wide_words switch.now)) }
+        ≡ string_bytes text.old ++ spaced (shown.switch_cpu_wide_words switch.now)) }
 {
     let fields = [
         (" pid=", u64::from(switch.pid())),
@@ -214,7 +200,7 @@ fn push_switch_cpu_wide(text: &mut String, switch: &SwitchCpuWide) -> Result<(),
 }
 
 fn out_of(switch: &SwitchCpuWide) -> u64
-    ensures { result ≡ out_of switch.now }
+    ensures { result ≡ shown.out_of switch.now }
 {
     match switch {
         SwitchCpuWide::In { .. } => 0,
@@ -224,7 +210,8 @@ fn out_of(switch: &SwitchCpuWide) -> u64
 
 fn push_namespaces(text: &mut String, found: &Namespaces) -> Result<(), AllocError>
     ensures { OnOk result (string_bytes text.new
-        ≡ string_bytes text.old ++ spaced (namespaces_words (namespaces_value found.now))) }
+        ≡ string_bytes text.old
+        ++ spaced (shown.namespaces_words (value.namespaces_value found.now))) }
 {
     let fields = [
         (" pid=", u64::from(found.pid)),
@@ -265,7 +252,7 @@ fn push_entry(text: &mut String, before: &str, entry: &NamespaceEntry) -> Result
 
 fn push_ksymbol(text: &mut String, symbol: &KSymbol) -> Result<(), AllocError>
     ensures { OnOk result (string_bytes text.new
-        ≡ string_bytes text.old ++ spaced (ksymbol_words (ksymbol_value symbol.now))) }
+        ≡ string_bytes text.old ++ spaced (shown.ksymbol_words (value.ksymbol_value symbol.now))) }
 {
     let fields = [
         (" addr=", symbol.addr),
@@ -279,7 +266,8 @@ fn push_ksymbol(text: &mut String, symbol: &KSymbol) -> Result<(), AllocError>
 
 fn push_bpf_event(text: &mut String, event: &BpfEvent) -> Result<(), AllocError>
     ensures { OnOk result (string_bytes text.new
-        ≡ string_bytes text.old ++ spaced (bpf_event_words (bpf_event_value event.now))) }
+        ≡ string_bytes text.old
+        ++ spaced (shown.bpf_event_words (value.bpf_event_value event.now))) }
 {
     let fields = [
         (" ty=", u64::from(event.ty.get())),
@@ -292,7 +280,7 @@ fn push_bpf_event(text: &mut String, event: &BpfEvent) -> Result<(), AllocError>
 
 fn push_cgroup(text: &mut String, group: &CGroup) -> Result<(), AllocError>
     ensures { OnOk result (string_bytes text.new
-        ≡ string_bytes text.old ++ spaced (cgroup_words (cgroup_value group.now))) }
+        ≡ string_bytes text.old ++ spaced (shown.cgroup_words (value.cgroup_value group.now))) }
 {
     push_fields(text, " CGroup", &[(" id=", group.id)])?;
     push_hex(text, " path=", group.path.as_slice())
@@ -300,7 +288,8 @@ fn push_cgroup(text: &mut String, group: &CGroup) -> Result<(), AllocError>
 
 fn push_text_poke(text: &mut String, poke: &TextPoke) -> Result<(), AllocError>
     ensures { OnOk result (string_bytes text.new
-        ≡ string_bytes text.old ++ spaced (text_poke_words (text_poke_value poke.now))) }
+        ≡ string_bytes text.old
+        ++ spaced (shown.text_poke_words (value.text_poke_value poke.now))) }
 {
     push_fields(text, " TextPoke", &[(" addr=", poke.addr)])?;
     push_hex(text, " old_bytes=", poke.old_bytes.as_slice())?;
@@ -309,14 +298,14 @@ fn push_text_poke(text: &mut String, poke: &TextPoke) -> Result<(), AllocError>
 
 fn push_aux_output_hw_id(text: &mut String, output: &AuxOutputHwId) -> Result<(), AllocError>
     ensures { OnOk result (string_bytes text.new
-        ≡ string_bytes text.old ++ spaced (aux_output_hw_id_words output.now)) }
+        ≡ string_bytes text.old ++ spaced (shown.aux_output_hw_id_words output.now)) }
 {
     push_fields(text, " AuxOutputHwId", &[(" hw_id=", output.hw_id)])
 }
 
 fn push_unknown(text: &mut String, bytes: &[u8]) -> Result<(), AllocError>
     ensures { OnOk result (string_bytes text.new
-        ≡ string_bytes text.old ++ spaced (unknown_words bytes.now)) }
+        ≡ string_bytes text.old ++ spaced (shown.unknown_words bytes.now)) }
 {
     push_hex(text, " Unknown data=", bytes)
 }

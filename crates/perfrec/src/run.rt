@@ -2,14 +2,9 @@
 
 ghost use Rattle.std.specs.Prelude.{◌≡◌, ◌<◌, ◌++◌, List, ℕ, IsTrue, IfOk, IfErr, IfSome, is_err};
 ghost use Rattle.std.specs.Prelude.{codes, string_bytes, if◌then◌else◌, true};
-ghost use Rattle.std.specs.List.{list_any};
-ghost use Rattle.perf_base.specs.Configured.{configuration_of, endian_of};
-ghost use Rattle.perf_base.specs.Errors.{kind_of};
-ghost use Rattle.perf_parser.specs.Meaning.{buffer_of, config_of};
-ghost use Rattle.perf_reader.specs.Reading.{of_layout};
-ghost use Rattle.perfrec.specs.Text.{framed, without_frames, stream_of, behind_attribute};
-ghost use Rattle.perfrec.specs.Text.{attr_line, end_line, kind_name};
-ghost use Rattle.perfrec.specs.Outcomes.{IsWritten, Writes};
+ghost use Rattle.perfrec.specs.RunWords.{configuration_of, endian_of, kind_of, buffer_of};
+ghost use Rattle.perfrec.specs.RunWords.{config_of, of_layout, list_any, IsWritten, Writes};
+ghost use Rattle.perfrec.specs.Text as shown;
 
 use crate::line::{push_attr_refused, push_end, push_fault, push_lines};
 use crate::outcome::Outcome;
@@ -43,7 +38,7 @@ pub fn run<R: Read + Drop, W: Write, E: Endian>(
 
     // Where the reader tells its bytes, what is written is their text, as far as the outcome says.
     ensures { IfSome (R.remaining reader) (λ bytes.
-        Writes (E.order order) limit (stream_of with_attr (E.order order) bytes) result
+        Writes (E.order order) limit (shown.stream_of with_attr (E.order order) bytes) result
         (W.contents writer.old) (W.contents writer.new)) }
 {
     let Ok((text, outcome)) = text_of(alloc, reader, order, limit, with_attr, piece) else {
@@ -67,8 +62,8 @@ fn text_of<R: Read + Drop, E: Endian>(
 ) -> Result<(String, Outcome), AllocError>
     requires { 0 < piece }
     ensures { IfSome (R.remaining reader) (λ bytes. IfOk result (λ made.
-        IsWritten true (E.order order) limit (stream_of with_attr (E.order order) bytes) made.1
-        (string_bytes made.0))) }
+        IsWritten true (E.order order) limit (shown.stream_of with_attr (E.order order) bytes)
+        made.1 (string_bytes made.0))) }
 {
     let mut text = String::new(alloc);
     let Ok(buffer) = BufReader::with_capacity(alloc, piece, reader) else {
@@ -94,7 +89,7 @@ fn push_run_with_attr<'p, B: ParseBuf<'p> + Drop, E: Endian>(
     ensures { IsTrue (B.source (buffer_of parser)).told → IfOk result (λ outcome. (written : List ℕ)
         × (string_bytes text.new ≡ string_bytes text.old ++ written)
         × IsWritten (B.source (buffer_of parser)).can_fault (E.order (endian_of (config_of parser)))
-        limit (behind_attribute (E.order (endian_of (config_of parser)))
+        limit (shown.behind_attribute (E.order (endian_of (config_of parser)))
         (B.source (buffer_of parser)).left) outcome written) }
 {
     match parse_attr(parser) {
@@ -117,12 +112,14 @@ fn parse_attr<'p, B: ParseBuf<'p> + Drop, E: Endian>(
     ensures order { IfOk result (λ behind.
         E.order (endian_of (config_of behind)) ≡ E.order (endian_of (config_of parser))) }
     ensures read { IsTrue (B.source (buffer_of parser)).told → IfOk result (λ behind.
-        behind_attribute (E.order (endian_of (config_of parser))) (B.source (buffer_of parser)).left
-        ≡ framed (configuration_of (config_of behind)) (B.source (buffer_of behind)).left) }
+        shown.behind_attribute (E.order (endian_of (config_of parser)))
+        (B.source (buffer_of parser)).left
+        ≡ shown.framed (configuration_of (config_of behind)) (B.source (buffer_of behind)).left) }
     ensures refused { IsTrue (B.source (buffer_of parser)).told → IfErr result (λ e.
         IsTrue (of_layout (kind_of e)) →
-        behind_attribute (E.order (endian_of (config_of parser))) (B.source (buffer_of parser)).left
-        ≡ without_frames (kind_of e)) }
+        shown.behind_attribute (E.order (endian_of (config_of parser)))
+        (B.source (buffer_of parser)).left
+        ≡ shown.without_frames (kind_of e)) }
 {
     let attr = match parser.parse::<perf_event_attr>() {
         Ok(attr) => attr,
@@ -139,11 +136,11 @@ fn parse_attr<'p, B: ParseBuf<'p> + Drop, E: Endian>(
 // Appends the only line of a run whose attribute could not be read.
 fn push_refusal(text: &mut String, kind: ErrorKind) -> Result<Outcome, AllocError>
     ensures refused { IsTrue (of_layout kind) → IfOk result (λ outcome.
-        (string_bytes text.new ≡ string_bytes text.old ++ attr_line kind)
+        (string_bytes text.new ≡ string_bytes text.old ++ shown.attr_line kind)
         × (outcome ≡ Outcome.BadAttr)) }
     ensures fault { (IsTrue (of_layout kind) → ⊥) → IfOk result (λ outcome.
         (string_bytes text.new
-        ≡ string_bytes text.old ++ end_line (codes "fault " ++ kind_name kind))
+        ≡ string_bytes text.old ++ shown.end_line (codes "fault " ++ shown.kind_name kind))
         × (outcome ≡ Outcome.Faulted)) }
 {
     match kind {
@@ -172,7 +169,8 @@ fn push_run<'p, B: ParseBuf<'p>, E: Endian>(
         × (string_bytes text.new ≡ string_bytes text.old ++ written)
         × IsWritten (B.source (buffer_of parser.old)).can_fault
         (E.order (endian_of (config_of parser.old))) limit
-        (framed (configuration_of (config_of parser.old)) (B.source (buffer_of parser.old)).left)
+        (shown.framed (configuration_of (config_of parser.old))
+        (B.source (buffer_of parser.old)).left)
         outcome written) }
 {
     let mut count = 0;
@@ -203,7 +201,7 @@ fn has_refusal(frames: &[(perf_event_header, ParseResult<Record>)]) -> bool
 
 fn push_last(text: &mut String, how: &str, refused: bool) -> Result<Outcome, AllocError>
     ensures { IfOk result (λ outcome.
-        (string_bytes text.new ≡ string_bytes text.old ++ end_line how.now)
+        (string_bytes text.new ≡ string_bytes text.old ++ shown.end_line how.now)
         × (outcome ≡ (if refused then Outcome.Refused else Outcome.Clean))) }
 {
     push_end(text, how)?;
