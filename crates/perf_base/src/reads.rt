@@ -68,13 +68,3 @@ impl ReadCounter {
         self.made = Snapshot::of(&Steps::Sum(before, made));
     }
 }
-
-#[cfg(test)]
-mod tests {
-    use super::ReadCounter;
-
-    #[test]
-    fn takes_no_bytes(rt: HostRuntime) {
-        assert_eq!(rt; std::mem::size_of::<ReadCounter>(), 0);
-    }
-}

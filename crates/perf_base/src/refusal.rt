@@ -150,13 +150,3 @@ impl Kept {
         }
     }
 }
-
-#[cfg(test)]
-mod tests {
-    use super::Refusal;
-
-    #[test]
-    fn takes_two_bytes(rt: HostRuntime) {
-        assert_eq!(rt; std::mem::size_of::<Refusal>(), 2);
-    }
-}

@@ -1,3 +1,5 @@
+//! Reads of counters and groups of them.
+
 use bitflags::Flags;
 use perf_base::cow::CowSlice;
 use perf_types::group_entry::GroupEntry;

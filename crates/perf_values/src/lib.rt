@@ -7,4 +7,6 @@ mod groups;
 #[cfg(test)]
 mod records;
 #[cfg(test)]
+mod sizes;
+#[cfg(test)]
 mod words;

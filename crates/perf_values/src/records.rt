@@ -1,3 +1,5 @@
+//! Records: copies, texts, defaults and what their calls say.
+
 use perf_base::cow::CowSlice;
 use perf_base::endian::Dynamic;
 use perf_base::error::ErrorKind;
