@@ -8,6 +8,7 @@ use Rattle.perf_base.specs.FieldWords.{u32, u64, name}
 use Rattle.perf_types.specs.Mmap.{MmapValue}
 use Rattle.perf_types.specs.MmapDetail.{DetailValue, detail_value, mmap_detail}
 use Rattle.perf_types.specs.declared.mmap2.Mmap2.{Mmap2}
+use Rattle.perf_types.specs.declared.mmap2.Place.{Place}
 
 -- an MMAP2 record in plain numbers and bytes
 pub record Mmap2Value : Type 0 where
@@ -72,6 +73,37 @@ mmap2 c = do
     addr = addr;
     len = len;
     pgoff = pgoff;
+    detail = detail;
+    prot = prot;
+    flags = flags;
+    filename = filename;
+  })
+
+-- ---- in two groups, as it is read; `proofs/Places` shows that they are the body
+
+-- the task, and what it mapped where
+abbrev pub place : Parts Place
+place = do
+  pid ← u32
+  tid ← u32
+  addr ← u64
+  len ← u64
+  pgoff ← u64
+  done (record { pid = pid; tid = tid; addr = addr; len = len; pgoff = pgoff })
+
+-- what stands behind it
+abbrev pub behind_place : Place → Configuration → Parts Mmap2Value
+behind_place p c = do
+  detail ← mmap_detail c
+  prot ← u32
+  flags ← u32
+  filename ← name
+  done (record {
+    pid = p.pid;
+    tid = p.tid;
+    addr = p.addr;
+    len = p.len;
+    pgoff = p.pgoff;
     detail = detail;
     prot = prot;
     flags = flags;

@@ -355,6 +355,63 @@ impl<'p, I: Input<'p>> ReadFrom<'p, I> for MmapDetail {
     }
 }
 
+// The task, and what it mapped where.
+#[derive(Copy, Clone)]
+struct Place {
+    pid: u32,
+    tid: u32,
+    addr: u64,
+    len: u64,
+    pgoff: u64,
+}
+
+impl Place {
+    ghost use Rattle.perf_types.specs.Mmap2.{place};
+
+    #[inline]
+    fn read<'p, I: Input<'p>, E: Endian>(reader: &mut Reader<I, E>) -> ReadResult<Place>
+        ensures memory { TakesNoMemory (kinds result) }
+        ensures call { Call I.source E.order (Reads (λ _. place) (λ p. p))
+            reader.old (kinds result) reader.new }
+    {
+        Ok(Place {
+            pid: reader.read_u32()?,
+            tid: reader.read_u32()?,
+            addr: reader.read_u64()?,
+            len: reader.read_u64()?,
+            pgoff: reader.read_u64()?,
+        })
+    }
+}
+
+impl<'p> Mmap2<'p> {
+    ghost use Rattle.perf_types.specs.Mmap2.{mmap2_value, IsBorrowedMmap2, behind_place};
+
+    // What stands behind the place.
+    #[inline]
+    fn read_behind<I: Input<'p>, E: Endian>(
+        reader: &mut Reader<I, E>,
+        place: Place,
+    ) -> ReadResult<Mmap2<'p>>
+        ensures call { Call I.source E.order
+            (ReadsLent (behind_place place) mmap2_value IsBorrowedMmap2)
+            reader.old (kinds result) reader.new }
+    {
+        let detail = read_detail(reader)?;
+        let prot = reader.read_u32()?;
+        let flags = reader.read_u32()?;
+        let filename = reader.read_rest_trim_nul()?;
+        let Place {
+            pid,
+            tid,
+            addr,
+            len,
+            pgoff,
+        } = place;
+        Ok(Mmap2::from_parts(pid, tid, addr, len, pgoff, prot, flags, filename, detail))
+    }
+}
+
 impl Meant for Mmap2<'_> {
     ghost use Rattle.perf_types.specs.Mmap2.{mmap2, mmap2_value, IsBorrowedMmap2};
 
@@ -363,16 +420,11 @@ impl Meant for Mmap2<'_> {
 
 impl<'p, I: Input<'p>> ReadFrom<'p, I> for Mmap2<'p> {
     #[inline]
+    #[tactic(auto)]
     fn read<E: Endian>(reader: &mut Reader<I, E>) -> ReadResult<Self> {
-        let pid = reader.read_u32()?;
-        let tid = reader.read_u32()?;
-        let addr = reader.read_u64()?;
-        let len = reader.read_u64()?;
-        let pgoff = reader.read_u64()?;
-        let detail = read_detail(reader)?;
-        let prot = reader.read_u32()?;
-        let flags = reader.read_u32()?;
-        let filename = reader.read_rest_trim_nul()?;
-        Ok(Mmap2::from_parts(pid, tid, addr, len, pgoff, prot, flags, filename, detail))
+        match Place::read(reader) {
+            Ok(place) => Mmap2::read_behind(reader, place),
+            Err(refusal) => Err(refusal),
+        }
     }
 }

@@ -1,0 +1,60 @@
+-- The two groups in which an MMAP2 record is read are its body.
+use Rattle.std.proofs.Common.{◌≡◌, refl, sym, subst}
+use Rattle.std.specs.Prelude.{Result, Ok, Err, IsTrue}
+use Rattle.perf_base.specs.Configuration.{Configuration}
+use Rattle.perf_base.specs.Layout.{◌>>=◌}
+use Rattle.perf_base.specs.Order.{Order}
+use Rattle.perf_base.specs.Refusals.{TakesNoMemory}
+use Rattle.perf_base.specs.declared.error.ErrorKind.{ErrorKind}
+use Rattle.perf_buffers.specs.Buffer.{Source}
+use Rattle.perf_reader.proofs.Behind.{call_behind, call_stops}
+use Rattle.perf_reader.specs.Calls.{Call}
+use Rattle.perf_reader.specs.Reading.{Reads, ReadsLent}
+use Rattle.perf_reader.specs.declared.reader.Reader.{Reader}
+use Rattle.perf_types.specs.Mmap2.{mmap2, mmap2_value, IsBorrowedMmap2, place, behind_place}
+use Rattle.perf_types.specs.declared.mmap2.Mmap2.{Mmap2}
+use Rattle.perf_types.specs.declared.mmap2.Place.{Place}
+
+groups_are_it : (c : Configuration) → (place >>= λ p. behind_place p c) ≡ mmap2 c
+groups_are_it c = refl
+
+module _ {I E : Type 0} {source : I → Source} {order : E → Order} where
+  -- the second group was read behind the first
+  pub places_read : {a b c : Reader I E} {p : Place} {seen : Result Mmap2 ErrorKind} →
+      Call source order (Reads (λ _. place) (λ p. p)) a (Ok p) b →
+      Call source order (ReadsLent (behind_place p) mmap2_value IsBorrowedMmap2) b seen c →
+      Call source order (ReadsLent mmap2 mmap2_value IsBorrowedMmap2) a seen c
+  places_read {a} {b} {c} {p} {seen} first next =
+      let all : Call source order (Reads mmap2 mmap2_value) a seen c =
+      call_behind (λ _. place) (λ s p. behind_place p s) first (record {
+        config = next.config;
+        whole = next.whole;
+        told = next.told;
+        answer = λ t. (next.answer t).0;
+        keeps = next.keeps;
+      }) in record {
+        config = all.config;
+        whole = all.whole;
+        told = all.told;
+        answer = λ t. (
+          all.answer t,
+          λ w.
+              (next.answer (first.told t)).1 (subst IsTrue (sym first.whole) w),
+        );
+        keeps = all.keeps;
+      }
+
+  -- the first was refused
+  pub place_stops : {a b : Reader I E} {e : ErrorKind} →
+      TakesNoMemory {A = Place} (Err e) →
+      Call source order (Reads (λ _. place) (λ p. p)) a (Err e) b →
+      Call source order (ReadsLent mmap2 mmap2_value IsBorrowedMmap2) a (Err e) b
+  place_stops {a} {b} {e} memory first =
+      let all : Call source order (Reads mmap2 mmap2_value) a (Err e) b =
+      call_stops (λ _. place) (λ s p. behind_place p s) first in record {
+        config = all.config;
+        whole = all.whole;
+        told = all.told;
+        answer = λ t. (all.answer t, λ w. (tt, memory));
+        keeps = all.keeps;
+      }
