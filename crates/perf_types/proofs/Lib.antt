@@ -3,6 +3,7 @@ pub mod Entries
 pub mod Flags
 mod Lacking
 pub mod Nth
+mod Origins
 mod Places
 mod Poked
 pub mod SampleIdLength

@@ -3,7 +3,7 @@
 
 ghost use Rattle.std.specs.Prelude.{◌≡◌, ◌*◌, if◌then◌else◌};
 ghost use Rattle.perf_types.specs.SampleId as ids;
-ghost use Rattle.perf_types.specs.SampleIdFields.{fields_of, TakesOrLacks};
+ghost use Rattle.perf_types.specs.SampleIdFields.{fields_of, origin, behind_origin, TakesOrLacks};
 ghost use Rattle.perf_types.specs.Words.{Call, ReadsPlain, kinds, configuration_of};
 ghost use Rattle.perf_types.specs.Words.{sample_flags_bits};
 
@@ -214,7 +214,51 @@ fn four_if(flag: bool) -> usize
     if flag { 4 } else { 0 }
 }
 
+// The task, the time and the id.
+#[derive(Copy, Clone)]
+struct Origin {
+    pid: Option<u32>,
+    tid: Option<u32>,
+    time: Option<u64>,
+    id: Option<u64>,
+}
+
 #[inline]
+fn read_origin<'p, I: Input<'p>, E: Endian>(
+    reader: &mut Reader<I, E>,
+    has: Present,
+) -> ReadResult<Origin>
+    ensures call { Call I.source E.order (ReadsPlain (λ _. origin has) (λ o. o))
+        reader.old (kinds result) reader.new }
+{
+    Ok(Origin {
+        pid: reader.read_u32_if(has.tid)?,
+        tid: reader.read_u32_if(has.tid)?,
+        time: reader.read_u64_if(has.time)?,
+        id: reader.read_u64_if(has.id)?,
+    })
+}
+
+// What stands behind them.
+#[inline]
+fn read_behind<'p, I: Input<'p>, E: Endian>(
+    reader: &mut Reader<I, E>,
+    has: Present,
+    origin: Origin,
+) -> ReadResult<SampleId>
+    ensures call { Call I.source E.order (ReadsPlain (λ _. behind_origin has origin) (λ s. s))
+        reader.old (kinds result) reader.new }
+{
+    let stream_id = reader.read_u64_if(has.stream_id)?;
+    let cpu = reader.read_u32_if(has.cpu)?;
+    reader.skip(four_if(has.cpu))?;
+    let identifier = reader.read_u64_if(has.identifier)?;
+    let Origin { pid, tid, time, id } = origin;
+    Ok(SampleId::from_parts(pid, tid, time, id.or(identifier), stream_id, cpu))
+}
+
+#[inline]
+#[tactic(auto)]
 fn read_fields<'p, I: Input<'p>, E: Endian>(
     reader: &mut Reader<I, E>,
     has: Present,
@@ -222,15 +266,10 @@ fn read_fields<'p, I: Input<'p>, E: Endian>(
     ensures call { Call I.source E.order (ReadsPlain (λ _. fields_of has) (λ s. s))
         reader.old (kinds result) reader.new }
 {
-    let pid = reader.read_u32_if(has.tid)?;
-    let tid = reader.read_u32_if(has.tid)?;
-    let time = reader.read_u64_if(has.time)?;
-    let id = reader.read_u64_if(has.id)?;
-    let stream_id = reader.read_u64_if(has.stream_id)?;
-    let cpu = reader.read_u32_if(has.cpu)?;
-    reader.skip(four_if(has.cpu))?;
-    let identifier = reader.read_u64_if(has.identifier)?;
-    Ok(SampleId::from_parts(pid, tid, time, id.or(identifier), stream_id, cpu))
+    match read_origin(reader, has) {
+        Ok(origin) => read_behind(reader, has, origin),
+        Err(refusal) => Err(refusal),
+    }
 }
 
 impl Meant for SampleId {
