@@ -1,5 +1,6 @@
 //! What an error says, and lists that may be borrowed.
 
+use crate::metadata::with_ids;
 use anyhow::anyhow;
 use perf_base::config::ParseConfig;
 use perf_base::cow::CowSlice;
@@ -112,25 +113,52 @@ fn an_input_error_is_an_early_end_or_external(rt: HostRuntime) -> Result<(), Fai
     Ok(())
 }
 
-#[test]
-fn a_size_too_small_says_so(rt: HostRuntime) -> Result<(), Fail> {
-    let bytes: &[u8] = b"\x02\0\0\0\0\0\x07\0";
-    let mut parser = Parser::new(rt.alloc(), bytes, ParseConfig::<Little>::default());
+// What is said of the first frame of these bytes, which is refused as a record that is not valid.
+fn check_says(
+    rt: &impl Abort,
+    alloc: Global,
+    bytes: &[u8],
+    config: ParseConfig<Little>,
+    message: &str,
+) -> Result<(), Fail> {
+    let mut parser = Parser::new(alloc, bytes, config);
     let run = read_records(&mut parser, 1);
     assert_eq!(rt; run.frames.len(), 1);
     let (_, Err(error)) = &run.frames[0] else {
         panic!(rt; "not refused");
     };
-    assert_eq!(rt;
-        error.message(),
-        Some("header size was too small to be valid")
-    );
-    let text = error.to_string(rt.alloc())?;
-    assert_eq!(rt;
-        text.as_str(),
-        "invalid record: header size was too small to be valid"
-    );
+    assert_eq!(rt; error.kind(), ErrorKind::InvalidRecord);
+    assert_eq!(rt; error.message(), Some(message));
+    let text = error.to_string(alloc)?;
+    let want = format!(in alloc; "invalid record: {message}")?;
+    assert_eq!(rt; text.as_str(), want.as_str());
     Ok(())
+}
+
+#[test]
+fn a_size_too_small_says_so(rt: HostRuntime) -> Result<(), Fail> {
+    let message = "header size was too small to be valid";
+    let bytes = b"\x02\0\0\0\0\0\x07\0";
+    check_says(&rt, rt.alloc(), bytes, ParseConfig::default(), message)
+}
+
+#[test]
+fn a_frame_without_room_for_its_sample_id_says_so(rt: HostRuntime) -> Result<(), Fail> {
+    let message = "config has sample_id_all bit set but record does not have enough data to \
+        store the sample_id";
+    let bytes = b"\x0D\0\0\0\0\0\x0C\0\xAA\xAA\xAA\xAA";
+    check_says(&rt, rt.alloc(), bytes, with_ids(1 << 2), message)
+}
+
+// The mapping of a file whose build id has 21 bytes.
+#[test]
+fn a_build_id_too_long_says_so(rt: HostRuntime) -> Result<(), Fail> {
+    let bytes = b"\x0A\0\0\0\0\x40\x40\0\x01\0\0\0\x02\0\0\0\
+        \0\x10\0\0\0\0\0\0\0\x20\0\0\0\0\0\0\0\0\0\0\0\0\0\0\
+        \x15\0\0\0\x01\x02\x03\x04\x05\x06\x07\x08\x09\x0A\x0B\x0C\x0D\x0E\x0F\x10\
+        \x11\x12\x13\x14";
+    let message = "build_id had invalid length";
+    check_says(&rt, rt.alloc(), bytes, ParseConfig::default(), message)
 }
 
 #[test]

@@ -3,7 +3,7 @@
 ghost use Rattle.std.specs.Prelude.{◌++◌, take, drop, true, false};
 ghost use Rattle.std.specs.Int.{w16, w32, w64, from_le_bytes};
 
-use crate::buffers::check_everywhere;
+use crate::buffers::{check_everywhere, tell};
 use perf_base::config::ParseConfig;
 use perf_base::endian::{Big, Dynamic, Endian, Little, Native};
 use perf_base::error::{ErrorKind, ParseError, ParseResult};
@@ -11,6 +11,7 @@ use perf_base::sys::perf_event_header;
 use perf_event_data::PieceBuf;
 use perf_event_data::parse::{ParseBuf, Parser};
 use std::alloc::Global;
+use std::cell::Cell;
 use std::io::BufReader;
 use std::process::Abort;
 use std::test::Fail;
@@ -108,6 +109,39 @@ impl Endian for Single {
     }
 }
 
+// The lowest byte first. It counts how many numbers of eight bytes it is asked for.
+#[derive(Copy, Clone)]
+struct Counting<'a> {
+    calls: &'a Cell<u64>,
+}
+
+impl Endian for Counting<'_> {
+    ghost order = { λ _. record {
+      two = from_le_bytes w16;
+      four = from_le_bytes w32;
+      eight = from_le_bytes w64;
+    } };
+
+    ghost may_refuse = { λ _. false };
+
+    fn convert_u16(&self, bytes: [u8; 2]) -> u16 {
+        u16::from_le_bytes(bytes)
+    }
+
+    fn convert_u32(&self, bytes: [u8; 4]) -> u32 {
+        u32::from_le_bytes(bytes)
+    }
+
+    fn convert_u64(&self, bytes: [u8; 8]) -> u64 {
+        self.calls.set(self.calls.get().saturating_add(1));
+        u64::from_le_bytes(bytes)
+    }
+
+    fn duplicate(&self) -> ParseResult<Self> {
+        Ok(*self)
+    }
+}
+
 #[test]
 fn an_order_of_eights_has_frames_of_eight_bytes(rt: HostRuntime) -> Result<(), Fail> {
     let want = "0 8 8 Unknown 0 []; 0 8 8 Unknown 0 []; done";
@@ -179,6 +213,45 @@ fn a_refused_duplicate_refuses_the_configuration(rt: HostRuntime) {
     let config = ParseConfig::<Little>::default().with_endian(Single);
     let refused = config.duplicate().map_err(|error| error.kind());
     assert!(rt; matches!(refused, Err(ErrorKind::OutOfMemory)));
+}
+
+// A frame of NAMESPACES that says it has 2^63 of them, and has so many numbers instead.
+fn check_calls<'p, B: ParseBuf<'p> + Drop>(
+    rt: &impl Abort,
+    alloc: Global,
+    buf: B,
+    size: u8,
+    numbers: u64,
+) -> Result<(), Fail> {
+    let calls = Cell::new(0);
+    let text = tell(alloc, buf, Counting { calls: &calls }, &[1])?;
+    let want = format!(in alloc; "16 0 {size} Eof; limit")?;
+    assert_eq!(rt; text.as_str(), want.as_str());
+    assert!(rt;
+        calls.get() >= 1 && calls.get() <= numbers,
+        "{numbers} numbers"
+    );
+    Ok(())
+}
+
+// The count itself is the first number of eight bytes.
+#[test]
+fn a_hostile_count_converts_no_more_than_the_numbers_of_its_body(
+    rt: HostRuntime,
+) -> Result<(), Fail> {
+    for (size, numbers) in [(24, 1), (32, 2), (40, 3), (47, 3), (48, 4)] {
+        let mut bytes = b"\x10\0\0\0\0\0\0\0\x01\0\0\0\x02\0\0\0".to_vec(rt.alloc())?;
+        bytes[6] = size;
+        bytes.extend_from_slice(&(1u64 << 63).to_le_bytes())?;
+        bytes.resize(usize::from(size), 1)?;
+        let bytes = bytes.as_slice();
+        check_calls(&rt, rt.alloc(), bytes, size, numbers)?;
+        let reader = BufReader::with_capacity(rt.alloc(), 1, bytes)?;
+        check_calls(&rt, rt.alloc(), reader, size, numbers)?;
+        let pieces = PieceBuf::new(bytes, 1, false);
+        check_calls(&rt, rt.alloc(), pieces, size, numbers)?;
+    }
+    Ok(())
 }
 
 // Asserts what an order makes of the bytes 1 to 8.
