@@ -3,6 +3,7 @@
 ghost use Rattle.std.specs.Prelude.{◌≡◌, ◌+◌, None, ⊤};
 
 use crate::buffers::{Check, check_through};
+use perf_event_data::CowSlice;
 use perf_event_data::endian::Endian;
 use perf_event_data::parse::{ErrorKind, Layout, Parse, ParseBuf, ParseResult, Parser};
 use std::process::Abort;
@@ -135,12 +136,33 @@ impl<'p, B: ParseBuf<'p>> Parse<'p, B> for OwnList {
     }
 }
 
+// The same as a list that is owned.
+#[derive(Drop)]
+struct OwnSlice<'a> {
+    numbers: CowSlice<'a, u64>,
+}
+
+impl Layout for OwnSlice<'_> {
+    ghost parses = { λ old seen new. ⊤ };
+}
+
+impl<'p, B: ParseBuf<'p>> Parse<'p, B> for OwnSlice<'p> {
+    #[tactic(auto, using(perf_parser::proofs::InRow::items))]
+    fn parse<E: Endian>(parser: &mut Parser<B, E>) -> ParseResult<Self> {
+        let count = parser.parse::<u64>()?;
+        let numbers = parser.parse_slice::<u64>(count as usize)?;
+        Ok(OwnSlice { numbers })
+    }
+}
+
 struct ByList;
 
 impl<'p, B: ParseBuf<'p>> Check<'p, B> for ByList {
     fn check<E: Endian>(rt: &impl Abort, parser: &mut Parser<B, E>) -> Result<(), Fail> {
         let list = parser.parse::<OwnList>()?;
         assert_eq!(rt; list.numbers.as_slice(), [7, 8].as_slice());
+        let list = parser.parse::<OwnSlice>()?;
+        assert_eq!(rt; list.numbers.as_slice(), [9].as_slice());
         let refused = parser.parse::<OwnList>().map_err(|error| error.kind());
         assert!(rt; matches!(refused, Err(ErrorKind::Eof)));
         Ok(())
@@ -151,6 +173,7 @@ impl<'p, B: ParseBuf<'p>> Check<'p, B> for ByList {
 #[test]
 fn a_list_of_ones_own_counts_as_all_that_is_parsed(rt: HostRuntime) -> Result<(), Fail> {
     let bytes = b"\x02\0\0\0\0\0\0\0\x07\0\0\0\0\0\0\0\x08\0\0\0\0\0\0\0\
+        \x01\0\0\0\0\0\0\0\x09\0\0\0\0\0\0\0\
         \x02\0\0\0\0\0\0\0\x01\0\0\0\0\0\0\0";
     check_through::<ByList>(&rt, rt.alloc(), bytes)
 }
