@@ -8,30 +8,11 @@
 //! where reading or writing failed or memory was refused.
 #![tactic(auto)]
 
-#[cfg(test)]
-mod answers;
-#[cfg(test)]
-mod answers_first;
-mod command;
-#[cfg(test)]
-mod failing;
-mod fields;
-mod line;
-mod outcome;
-mod output;
-#[cfg(test)]
-mod record_tests;
-mod records;
-#[cfg(test)]
-mod replay;
-mod run;
-#[cfg(test)]
-mod tests;
-mod words;
-
-use crate::command::{Command, OrderName};
-use crate::outcome::Outcome;
 use perf_event_data::endian::{Big, Endian, Little, Native};
+use perf_lines::command::{Command, OrderName};
+use perf_lines::outcome::Outcome;
+use perf_lines::run::run;
+use perf_lines::words::command;
 use std::process::ExitCode;
 use std::{env, io};
 
@@ -45,7 +26,7 @@ fn main(rt: HostRuntime) -> ExitCode {
     let Ok(words) = words_of(&rt) else {
         return ExitCode::from(Outcome::Faulted.status());
     };
-    let Some(command) = words::command(&words) else {
+    let Some(command) = command(&words) else {
         // Where standard error fails, the status alone says it.
         let _ = rt.eprintln(USAGE);
         return ExitCode::from(Outcome::BadAttr.status());
@@ -72,7 +53,7 @@ fn run_command<E: Endian>(rt: &HostRuntime, order: E, command: Command) -> Outco
         with_attr,
         ..
     } = command;
-    run::run(
+    run(
         rt.alloc(),
         rt.stdin(),
         &mut output,

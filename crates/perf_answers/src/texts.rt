@@ -1,0 +1,470 @@
+//! Texts and statuses of streams whose answers are known.
+
+ghost use Rattle.std.specs.Prelude.{◌<◌};
+
+use perf_lines::command::{Command, OrderName};
+use perf_lines::line::line_of;
+use perf_lines::outcome::Outcome;
+use perf_lines::run::run;
+use perf_lines::words::command;
+use perf_event_data::endian::{Big, Endian, Little};
+use perf_event_data::parse::{ErrorKind, ParseError, ParseResult};
+use perf_event_data::sys::perf_event_header;
+use perf_event_data::{LostSamples, Record};
+use std::alloc::{AllocError, Global};
+use std::process::Abort;
+
+// Five lost samples, the lowest byte first.
+pub(crate) const FIVE_LOST: [u8; 16] = [13, 0, 0, 0, 0, 0, 16, 0, 5, 0, 0, 0, 0, 0, 0, 0];
+
+// The text and the outcome of an input that is read in pieces, with an attribute in front or
+// without.
+fn check_pieces<E: Endian>(
+    rt: &(impl AllocGlobal + Abort),
+    order: E,
+    limit: usize,
+    with_attr: bool,
+    input: &[u8],
+    text: &str,
+    outcome: Outcome,
+    piece: usize,
+)
+    requires { 0 < piece }
+{
+    let mut written = Vec::new(rt.alloc());
+    let ended = run(
+        rt.alloc(),
+        input,
+        &mut written,
+        order,
+        limit,
+        with_attr,
+        piece,
+    );
+    assert_eq!(rt; written.as_slice(), text.as_bytes(), "in pieces of {piece}");
+    assert_eq!(rt; ended, outcome, "in pieces of {piece}");
+}
+
+// The same in pieces of one byte, of seven and of more than there are.
+pub(crate) fn check_all<E: Endian + Copy>(
+    rt: &(impl AllocGlobal + Abort),
+    order: E,
+    limit: usize,
+    with_attr: bool,
+    input: &[u8],
+    text: &str,
+    outcome: Outcome,
+) {
+    check_pieces(rt, order, limit, with_attr, input, text, outcome, 1);
+    check_pieces(rt, order, limit, with_attr, input, text, outcome, 7);
+    check_pieces(rt, order, limit, with_attr, input, text, outcome, 8192);
+}
+
+pub(crate) fn check<E: Endian + Copy>(
+    rt: &(impl AllocGlobal + Abort),
+    order: E,
+    limit: usize,
+    input: &[u8],
+    text: &str,
+    outcome: Outcome,
+) {
+    check_all(rt, order, limit, false, input, text, outcome);
+}
+
+// The same with an attribute in front, the lowest byte first.
+fn check_attr(
+    rt: &(impl AllocGlobal + Abort),
+    limit: usize,
+    input: &[u8],
+    text: &str,
+    outcome: Outcome,
+) {
+    check_all(rt, Little, limit, true, input, text, outcome);
+}
+
+// A frame and then five lost samples.
+fn with_five_lost(alloc: Global, frame: &[u8]) -> Result<Vec<u8>, AllocError> {
+    let mut input = Vec::from_slice(alloc, frame)?;
+    input.extend_from_slice(&FIVE_LOST)?;
+    Ok(input)
+}
+
+#[test]
+fn no_input_is_done(rt: HostRuntime) {
+    check(&rt, Little, 10, &[], "end done\n", Outcome::Clean);
+}
+
+#[test]
+fn three_bytes_are_a_cut_header(rt: HostRuntime) {
+    check(&rt, Little, 10, &[13, 0, 0], "end cut\n", Outcome::Refused);
+}
+
+#[test]
+fn a_size_below_the_headers_costs_eight_bytes(rt: HostRuntime) -> Result<(), AllocError> {
+    let input = with_five_lost(rt.alloc(), &[2, 0, 0, 0, 0, 0, 7, 0])?;
+    let text = "0 2 0 7 refused InvalidRecord\n1 13 0 16 LostSamples lost=5\nend done\n";
+    check(&rt, Little, 10, &input, text, Outcome::Refused);
+    Ok(())
+}
+
+#[test]
+fn a_body_that_is_too_short_costs_its_frame(rt: HostRuntime) -> Result<(), AllocError> {
+    let input = with_five_lost(
+        rt.alloc(),
+        &[2, 0, 0, 0, 0, 0, 16, 0, 1, 0, 0, 0, 0, 0, 0, 0],
+    )?;
+    let text = "0 2 0 16 refused Eof\n1 13 0 16 LostSamples lost=5\nend done\n";
+    check(&rt, Little, 10, &input, text, Outcome::Refused);
+    Ok(())
+}
+
+#[test]
+fn an_unfinished_frame_is_the_last(rt: HostRuntime) {
+    let input = [13, 0, 0, 0, 0, 0, 24, 0, 5, 0, 0, 0, 0, 0, 0, 0];
+    check(
+        &rt,
+        Little,
+        10,
+        &input,
+        "0 13 0 24 refused Eof\nend done\n",
+        Outcome::Refused,
+    );
+}
+
+#[test]
+fn other_types_are_unknown(rt: HostRuntime) {
+    let input = [0, 0, 0, 0, 0, 0, 8, 0, 22, 0, 0, 0, 0, 0, 8, 0];
+    let text = "0 0 0 8 Unknown data=\n1 22 0 8 Unknown data=\nend done\n";
+    check(&rt, Little, 10, &input, text, Outcome::Clean);
+}
+
+#[test]
+fn bytes_are_printed_in_lower_case(rt: HostRuntime) {
+    let input = [22, 0, 0, 0, 0, 64, 13, 0, 0, 9, 0xab, 0xcd, 0xff];
+    check(
+        &rt,
+        Little,
+        10,
+        &input,
+        "0 22 16384 13 Unknown data=0009abcdff\nend done\n",
+        Outcome::Clean,
+    );
+}
+
+#[test]
+fn a_limit_ends_the_text(rt: HostRuntime) {
+    check(&rt, Little, 0, &FIVE_LOST, "end limit\n", Outcome::Clean);
+    check(
+        &rt,
+        Little,
+        1,
+        &FIVE_LOST,
+        "0 13 0 16 LostSamples lost=5\nend limit\n",
+        Outcome::Clean,
+    );
+    check(
+        &rt,
+        Little,
+        2,
+        &FIVE_LOST,
+        "0 13 0 16 LostSamples lost=5\nend done\n",
+        Outcome::Clean,
+    );
+}
+
+#[test]
+fn the_highest_byte_may_come_first(rt: HostRuntime) {
+    let input = [0, 0, 0, 13, 0, 0, 0, 16, 0, 0, 0, 0, 0, 0, 0, 5];
+    check(
+        &rt,
+        Big,
+        10,
+        &input,
+        "0 13 0 16 LostSamples lost=5\nend done\n",
+        Outcome::Clean,
+    );
+}
+
+#[test]
+fn exit_and_fork_have_the_same_fields(rt: HostRuntime) -> Result<(), AllocError> {
+    let body = [
+        16, 16, 0, 0, 0, 5, 0, 0, 1, 0, 0, 0, 2, 0, 0, 0, 3, 0, 0, 0, 4, 0, 0, 0,
+    ];
+    let mut input = Vec::from_slice(rt.alloc(), &[4, 0, 0, 0, 0, 0, 32, 0])?;
+    input.extend_from_slice(&body)?;
+    input.extend_from_slice(&[7, 0, 0, 0, 0, 0, 32, 0])?;
+    input.extend_from_slice(&body)?;
+    let text = "0 4 0 32 Exit pid=4112 ppid=1280 tid=1 ptid=2 time=17179869187\n\
+        1 7 0 32 Fork pid=4112 ppid=1280 tid=1 ptid=2 time=17179869187\nend done\n";
+    check(&rt, Little, 10, &input, text, Outcome::Clean);
+    Ok(())
+}
+
+#[test]
+fn both_numbers_of_a_lost_are_printed(rt: HostRuntime) {
+    let input = [
+        2, 0, 0, 0, 0, 0, 24, 0, 16, 0, 153, 0, 0, 0, 0, 0, 0, 175, 0, 0, 0, 123, 0, 0,
+    ];
+    check(
+        &rt,
+        Little,
+        10,
+        &input,
+        "0 2 0 24 Lost id=10027024 lost=135239930261248\nend done\n",
+        Outcome::Clean,
+    );
+}
+
+// Frames of a header alone, more than are held at a time, and the text for a limit.
+fn check_many(
+    rt: &(impl AllocGlobal + Abort),
+    count: usize,
+    limit: usize,
+    end: &str,
+) -> Result<(), AllocError> {
+    let mut input = Vec::new(rt.alloc());
+    let mut text = String::new(rt.alloc());
+    for index in 0..count {
+        input.extend_from_slice(&[22, 0, 0, 0, 0, 0, 8, 0])?;
+        if index < limit {
+            writeln(&mut text, rt.alloc(), index)?;
+        }
+    }
+    text.push_str(end)?;
+    check(rt, Little, limit, &input, &text, Outcome::Clean);
+    Ok(())
+}
+
+fn writeln(text: &mut String, alloc: Global, index: usize) -> Result<(), AllocError> {
+    let line = format!(in alloc; "{index} 22 0 8 Unknown data=\n")?;
+    text.push_str(&line)
+}
+
+#[test]
+fn frames_are_numbered_on_from_batch_to_batch(rt: HostRuntime) -> Result<(), AllocError> {
+    check_many(&rt, 256, 256, "end limit\n")?;
+    check_many(&rt, 256, 257, "end done\n")?;
+    check_many(&rt, 257, 256, "end limit\n")?;
+    check_many(&rt, 600, 1000, "end done\n")?;
+    check_many(&rt, 600, 513, "end limit\n")
+}
+
+// The first bytes of an attribute that says nothing but its size, but for one byte.
+pub(crate) fn attr_bytes(
+    alloc: Global,
+    size: u8,
+    count: usize,
+    place: usize,
+    value: u8,
+) -> Result<Vec<u8>, AllocError> {
+    let mut bytes = Vec::new(alloc);
+    for at in 0..count {
+        let byte = if at == 4 { size } else { 0 };
+        bytes.push(if at == place { value } else { byte })?;
+    }
+    Ok(bytes)
+}
+
+// The whole of an attribute that says nothing but its size.
+pub(crate) fn plain_attr(alloc: Global, size: u8) -> Result<Vec<u8>, AllocError> {
+    attr_bytes(alloc, size, size as usize, 0, 0)
+}
+
+#[test]
+fn records_stand_behind_the_size_of_the_attribute(rt: HostRuntime) -> Result<(), AllocError> {
+    let text = "0 13 0 16 LostSamples lost=5\nend done\n";
+    for size in [64, 72, 136, 137] {
+        let mut input = plain_attr(rt.alloc(), size)?;
+        check_attr(&rt, 10, &input, "end done\n", Outcome::Clean);
+        check_attr(&rt, 0, &input, "end limit\n", Outcome::Clean);
+        input.extend_from_slice(&FIVE_LOST)?;
+        check_attr(&rt, 10, &input, text, Outcome::Clean);
+        check_attr(&rt, 0, &input, "end limit\n", Outcome::Clean);
+    }
+    Ok(())
+}
+
+#[test]
+fn a_refused_attribute_is_the_only_line(rt: HostRuntime) -> Result<(), AllocError> {
+    let line = "attr refused InvalidRecord\n";
+    let mut input = plain_attr(rt.alloc(), 100)?;
+    check_attr(&rt, 10, &input, line, Outcome::BadAttr);
+    input.extend_from_slice(&FIVE_LOST)?;
+    check_attr(&rt, 10, &input, line, Outcome::BadAttr);
+    check_attr(&rt, 0, &input, line, Outcome::BadAttr);
+    let mut input = attr_bytes(rt.alloc(), 137, 137, 136, 1)?;
+    input.extend_from_slice(&FIVE_LOST)?;
+    check_attr(
+        &rt,
+        10,
+        &input,
+        "attr refused UnsupportedData\n",
+        Outcome::BadAttr,
+    );
+    Ok(())
+}
+
+#[test]
+fn an_attribute_that_is_cut_off_is_refused(rt: HostRuntime) -> Result<(), AllocError> {
+    let line = "attr refused Eof\n";
+    check_attr(&rt, 10, &[], line, Outcome::BadAttr);
+    check_attr(&rt, 0, &[], line, Outcome::BadAttr);
+    for count in [7, 8, 64, 71] {
+        let input = attr_bytes(rt.alloc(), 72, count, 0, 0)?;
+        check_attr(&rt, 10, &input, line, Outcome::BadAttr);
+    }
+    Ok(())
+}
+
+#[test]
+fn a_field_of_the_attribute_is_no_record(rt: HostRuntime) -> Result<(), AllocError> {
+    let mut input = attr_bytes(rt.alloc(), 72, 72, 64, 7)?;
+    check_attr(&rt, 10, &input, "end done\n", Outcome::Clean);
+    input.extend_from_slice(&FIVE_LOST)?;
+    let text = "0 13 0 16 LostSamples lost=5\nend done\n";
+    check_attr(&rt, 10, &input, text, Outcome::Clean);
+    Ok(())
+}
+
+#[test]
+fn an_attribute_has_the_order_of_the_records(rt: HostRuntime) -> Result<(), AllocError> {
+    let mut input = Vec::from_slice(rt.alloc(), &[0, 0, 0, 0, 0, 0, 0, 64])?;
+    for _ in 8..64 {
+        input.push(0)?;
+    }
+    input.extend_from_slice(&[0, 0, 0, 13, 0, 0, 0, 16, 0, 0, 0, 0, 0, 0, 0, 5])?;
+    let text = "0 13 0 16 LostSamples lost=5\nend done\n";
+    check_all(&rt, Big, 10, true, &input, text, Outcome::Clean);
+    // The other way round it is a size of 2^30, for which bytes are lacking.
+    let line = "attr refused Eof\n";
+    check_attr(&rt, 10, &input, line, Outcome::BadAttr);
+    Ok(())
+}
+
+#[test]
+fn a_line_has_no_line_feed(rt: HostRuntime) -> ParseResult<()> {
+    let header = perf_event_header {
+        type_: 13,
+        misc: 0,
+        size: 16,
+    };
+    let found: ParseResult<Record> = Ok(Record::LostSamples(LostSamples { lost: 5 }));
+    let line = line_of(rt.alloc(), 0, &header, &found)?;
+    assert_eq!(rt; line.as_str(), "0 13 0 16 LostSamples lost=5");
+    Ok(())
+}
+
+#[test]
+fn each_kind_has_its_name(rt: HostRuntime) -> ParseResult<()> {
+    let kinds = [
+        (ErrorKind::Eof, "7 1 2 3 refused Eof"),
+        (ErrorKind::InvalidRecord, "7 1 2 3 refused InvalidRecord"),
+        (
+            ErrorKind::UnsupportedConfig,
+            "7 1 2 3 refused UnsupportedConfig",
+        ),
+        (
+            ErrorKind::UnsupportedData,
+            "7 1 2 3 refused UnsupportedData",
+        ),
+        (ErrorKind::External, "7 1 2 3 refused External"),
+        (ErrorKind::OutOfMemory, "7 1 2 3 refused OutOfMemory"),
+    ];
+    for (kind, text) in kinds {
+        let header = perf_event_header {
+            type_: 1,
+            misc: 2,
+            size: 3,
+        };
+        let refused: ParseResult<Record> = Err(ParseError::custom(kind, "why"));
+        let line = line_of(rt.alloc(), 7, &header, &refused)?;
+        assert_eq!(rt; line.as_str(), text);
+    }
+    Ok(())
+}
+
+// What words ask for.
+fn asked(rt: &(impl AllocGlobal + Abort), words: &[&str]) -> Result<Option<Command>, AllocError> {
+    let mut owned = Vec::new(rt.alloc());
+    for word in words {
+        owned.push(String::from_str(rt.alloc(), word)?)?;
+    }
+    Ok(command(&owned))
+}
+
+#[test]
+fn an_order_and_a_limit_are_a_command(rt: HostRuntime) -> Result<(), AllocError> {
+    let table = [
+        ("little", "10", OrderName::Little, 10),
+        ("big", "0", OrderName::Big, 0),
+        ("native", "007", OrderName::Native, 7),
+        (
+            "little",
+            "18446744073709551615",
+            OrderName::Little,
+            usize::MAX,
+        ),
+        ("little", "00000000000000000000000001", OrderName::Little, 1),
+    ];
+    for (name, digits, order, limit) in table {
+        let wanted = Command {
+            order,
+            limit,
+            with_attr: false,
+        };
+        assert_eq!(rt; asked(&rt, &[name, digits])?, Some(wanted));
+        let wanted = Command {
+            with_attr: true,
+            ..wanted
+        };
+        assert_eq!(rt; asked(&rt, &[name, digits, "attr"])?, Some(wanted));
+    }
+    Ok(())
+}
+
+#[test]
+fn other_words_are_no_command(rt: HostRuntime) -> Result<(), AllocError> {
+    for name in ["middle", "Little", "", "little "] {
+        assert_eq!(rt; asked(&rt, &[name, "3"])?, None);
+    }
+    for digits in [
+        "",
+        "+1",
+        "-1",
+        "1 ",
+        "1x",
+        "0x1",
+        "18446744073709551616",
+        "99999999999999999999",
+    ] {
+        assert_eq!(rt; asked(&rt, &["little", digits])?, None);
+    }
+    assert_eq!(rt; asked(&rt, &[])?, None);
+    assert_eq!(rt; asked(&rt, &["little"])?, None);
+    assert_eq!(rt; asked(&rt, &["attr"])?, None);
+    assert_eq!(rt; asked(&rt, &["little", "attr"])?, None);
+    assert_eq!(rt; asked(&rt, &["little", "attr", "3"])?, None);
+    assert_eq!(rt; asked(&rt, &["attr", "little", "3"])?, None);
+    for third in ["", "Attr", "attr ", "attrs", "att", "3"] {
+        assert_eq!(rt; asked(&rt, &["little", "3", third])?, None);
+    }
+    assert_eq!(rt; asked(&rt, &["little", "3", "attr", "attr"])?, None);
+    assert_eq!(rt; asked(&rt, &["little", "3", "attr", ""])?, None);
+    assert_eq!(rt; asked(&rt, &["big", "x", "attr"])?, None);
+    assert_eq!(rt; asked(&rt, &["attr", "3", "attr"])?, None);
+    Ok(())
+}
+
+#[test]
+fn each_outcome_has_its_status(rt: HostRuntime) {
+    let statuses = [
+        (Outcome::Clean, 0),
+        (Outcome::Refused, 1),
+        (Outcome::BadAttr, 2),
+        (Outcome::Faulted, 3),
+        (Outcome::Stopped, 3),
+    ];
+    for (outcome, status) in statuses {
+        assert_eq!(rt; outcome.status(), status);
+    }
+}

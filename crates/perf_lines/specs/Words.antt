@@ -1,0 +1,40 @@
+-- What the words of a command line ask for.
+use Rattle.std.specs.Prelude.{ℕ, ◌^◌, Bool, true, false, List, [], ◌∷◌, length, codes, ◌&&◌, nat_lt}
+use Rattle.std.specs.Prelude.{Option, Some, None, if◌then◌else◌, option_and_then, option_map}
+use Rattle.std.specs.Char.{is_ascii_digit}
+use Rattle.std.specs.List.{list_all}
+use Rattle.std.specs.Str.{bytes_eq}
+use Rattle.std.specs.Str.Parse.{digits_value}
+use Rattle.perf_lines.specs.declared.command.Command.{Command}
+use Rattle.perf_lines.specs.declared.command.OrderName.{OrderName}
+use Rattle.perf_lines.specs.declared.command.OrderName.TheVariants.{Little, Big, Native}
+
+-- the order that a word names
+abbrev pub order_named : List ℕ → Option OrderName
+order_named word =
+    if bytes_eq word (codes "little") then Some Little
+    else (if bytes_eq word (codes "big") then Some Big
+    else (if bytes_eq word (codes "native") then Some Native else None))
+
+-- a limit: decimal digits, at least one, whose value fits 64 bits
+abbrev pub limit_named : List ℕ → Option ℕ
+limit_named word =
+    if (nat_lt 0 (length word) && list_all is_ascii_digit word)
+    && nat_lt (digits_value 10 word) (2 ^ 64) then Some (digits_value 10 word)
+    else None
+
+-- what an order's name and a limit ask for
+abbrev pub asked : Bool → List ℕ → List ℕ → Option Command
+asked with_attr order limit =
+    option_and_then
+    (λ name. option_map (λ most. record { order = name; limit = most; with_attr = with_attr })
+    (limit_named limit)) (order_named order)
+
+-- what the words behind the program's name ask for, if they ask for anything
+abbrev pub command_of : List (List ℕ) → Option Command
+command_of [] = None
+command_of (order ∷ []) = None
+command_of (order ∷ limit ∷ []) = asked false order limit
+command_of (order ∷ limit ∷ third ∷ []) =
+    if bytes_eq third (codes "attr") then asked true order limit else None
+command_of (order ∷ limit ∷ third ∷ fourth ∷ more) = None

@@ -1,0 +1,103 @@
+//! Fields of a line.
+
+ghost use Rattle.std.specs.Prelude.{◌≡◌, ◌*◌, ◌<◌, ◌≤◌, ◌++◌, length, take, decimal, string_bytes};
+ghost use Rattle.std.specs.Prelude.{OnOk};
+ghost use Rattle.std.specs.List.{flat_map};
+ghost use Rattle.perf_lines.specs.Text.{hex_digit, hex, present};
+
+use std::alloc::AllocError;
+
+// How many bytes become digits at a time.
+const PIECE: usize = 64;
+
+// How many digits those have.
+const PIECE_DIGITS: usize = 2 * PIECE;
+
+// Appends a name, and numbers behind what stands in front of each.
+pub(crate) fn push_fields(
+    text: &mut String,
+    name: &str,
+    fields: &[(&str, u64)],
+) -> Result<(), AllocError>
+    ensures { OnOk result (string_bytes text.new
+        ≡ string_bytes text.old
+        ++ (name.now ++ flat_map (λ field. field.0.now ++ decimal field.1) fields.now)) }
+{
+    text.push_str(name)?;
+    for (before, number) in fields {
+        push_number(text, before, *number)?;
+    }
+    Ok(())
+}
+
+// Appends a number behind what stands in front of it.
+pub(crate) fn push_number(text: &mut String, before: &str, number: u64) -> Result<(), AllocError>
+    ensures { OnOk result (string_bytes text.new
+        ≡ string_bytes text.old ++ (before.now ++ decimal number)) }
+{
+    let mut buffer = itoa::Buffer::new();
+    text.push_str(before)?;
+    text.push_str(buffer.format(number))
+}
+
+// Appends a number that is there behind what stands in front of it.
+pub(crate) fn push_present(
+    text: &mut String,
+    before: &str,
+    number: Option<u64>,
+) -> Result<(), AllocError>
+    ensures { OnOk result (string_bytes text.new
+        ≡ string_bytes text.old ++ present (λ n. before.now ++ decimal n) number) }
+{
+    match number {
+        Some(number) => push_number(text, before, number),
+        None => Ok(()),
+    }
+}
+
+// Appends the digits of bytes behind what stands in front of them.
+pub(crate) fn push_hex(text: &mut String, before: &str, bytes: &[u8]) -> Result<(), AllocError>
+    ensures { OnOk result (string_bytes text.new
+        ≡ string_bytes text.old ++ (before.now ++ hex bytes.now)) }
+{
+    text.push_str(before)?;
+    for piece in bytes.chunks(PIECE) {
+        push_digits(text, piece)?;
+    }
+    Ok(())
+}
+
+// Appends the digits of at most as many bytes as a piece has.
+fn push_digits(text: &mut String, bytes: &[u8]) -> Result<(), AllocError>
+    requires { length bytes.now ≤ PIECE }
+    ensures { OnOk result (string_bytes text.new ≡ string_bytes text.old ++ hex bytes.now) }
+{
+    let mut digits = [0; PIECE_DIGITS];
+    write_digits(&mut digits, bytes);
+    let Ok(written) = str::from_utf8(&digits[..2 * bytes.len()]) else {
+        unreachable!();
+    };
+    text.push_str(written)
+}
+
+// Writes two digits for each byte.
+fn write_digits(digits: &mut [u8; PIECE_DIGITS], bytes: &[u8])
+    requires { length bytes.now ≤ PIECE }
+    ensures { take (2 * length bytes.now) digits.new ≡ hex bytes.now }
+{
+    for (i, byte) in bytes.iter().enumerate() {
+        digits[2 * i] = hex_digit(*byte / 16);
+        digits[2 * i + 1] = hex_digit(*byte % 16);
+    }
+}
+
+fn hex_digit(number: u8) -> u8
+    requires { number < 16 }
+    ensures { result ≡ hex_digit number }
+{
+    if number < 10 {
+        b'0' + number
+    } else {
+        b'a' + (number - 10)
+    }
+}

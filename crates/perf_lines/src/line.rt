@@ -1,0 +1,127 @@
+//! Lines of the text.
+
+ghost use Rattle.std.specs.Prelude.{◌≡◌, ◌+◌, ◌<◌, ◌^◌, ◌++◌, codes, length, string_bytes, OnOk};
+ghost use Rattle.std.specs.Prelude.{IfOk, IfErr};
+ghost use Rattle.perf_base.specs.Errors.{kind_of};
+ghost use Rattle.perf_parser.specs.Runs.{seen_answer, seen_answers};
+ghost use Rattle.perf_lines.specs.Text as shown;
+
+use crate::fields::push_number;
+use crate::records::push_record;
+use perf_event_data::Record;
+use perf_event_data::parse::{ErrorKind, ParseResult};
+use perf_event_data::sys::perf_event_header;
+use std::alloc::{AllocError, Global};
+
+/// The line of one frame, without the line feed that ends it: its number, what its header says, and
+/// its answer.
+pub fn line_of(
+    alloc: Global,
+    index: usize,
+    header: &perf_event_header,
+    answer: &ParseResult<Record>,
+) -> ParseResult<String>
+    ensures ok { IfOk result (λ text.
+        string_bytes text ≡ shown.line index header.now (seen_answer answer.now)) }
+    ensures err { IfErr result (λ e. kind_of e ≡ ErrorKind.OutOfMemory) }
+{
+    let mut text = String::new(alloc);
+    push_line(&mut text, index, header, answer)?;
+    Ok(text)
+}
+
+/// Appends the lines of frames, of which the first has the number `first`.
+pub fn push_lines(
+    text: &mut String,
+    first: usize,
+    frames: &[(perf_event_header, ParseResult<Record>)],
+) -> Result<(), AllocError>
+    ensures { first + length frames.now < 2 ^ 64 → OnOk result
+        (string_bytes text.new
+        ≡ string_bytes text.old ++ shown.lines_from first (seen_answers frames.now)) }
+{
+    let mut index = first;
+    for (header, answer) in frames {
+        push_line(text, index, header, answer)?;
+        text.push_str("\n")?;
+        index = index.saturating_add(1);
+    }
+    Ok(())
+}
+
+/// Appends the line that says how reading ended.
+pub fn push_end(text: &mut String, how: &str) -> Result<(), AllocError>
+    ensures { OnOk result (string_bytes text.new
+        ≡ string_bytes text.old ++ shown.end_line how.now) }
+{
+    text.push_str("end ")?;
+    text.push_str(how)?;
+    text.push_str("\n")
+}
+
+/// Appends the line of a run that a fault ended.
+pub fn push_fault(text: &mut String, kind: ErrorKind) -> Result<(), AllocError>
+    ensures { OnOk result (string_bytes text.new
+        ≡ string_bytes text.old ++ shown.end_line (codes "fault " ++ shown.kind_name kind)) }
+{
+    push_kind(text, "end fault ", kind)
+}
+
+/// Appends the line of a refused attribute.
+pub fn push_attr_refused(text: &mut String, kind: ErrorKind) -> Result<(), AllocError>
+    ensures { OnOk result (string_bytes text.new ≡ string_bytes text.old ++ shown.attr_line kind) }
+{
+    push_kind(text, "attr refused ", kind)
+}
+
+// Appends a line that a kind ends.
+fn push_kind(text: &mut String, before: &str, kind: ErrorKind) -> Result<(), AllocError>
+    ensures { OnOk result (string_bytes text.new
+        ≡ string_bytes text.old ++ shown.ended (before.now ++ shown.kind_name kind)) }
+{
+    text.push_str(before)?;
+    text.push_str(kind_name(kind))?;
+    text.push_str("\n")
+}
+
+fn push_line(
+    text: &mut String,
+    index: usize,
+    header: &perf_event_header,
+    answer: &ParseResult<Record>,
+) -> Result<(), AllocError>
+    ensures { OnOk result (string_bytes text.new
+        ≡ string_bytes text.old ++ shown.line index header.now (seen_answer answer.now)) }
+{
+    push_number(text, "", index as u64)?;
+    push_number(text, " ", u64::from(header.type_))?;
+    push_number(text, " ", u64::from(header.misc))?;
+    push_number(text, " ", u64::from(header.size))?;
+    push_answer(text, answer)
+}
+
+fn push_answer(text: &mut String, answer: &ParseResult<Record>) -> Result<(), AllocError>
+    ensures { OnOk result (string_bytes text.new
+        ≡ string_bytes text.old ++ shown.spaced (shown.answer_words (seen_answer answer.now))) }
+{
+    match answer {
+        Ok(record) => push_record(text, record),
+        Err(error) => {
+            text.push_str(" refused ")?;
+            text.push_str(kind_name(error.kind()))
+        }
+    }
+}
+
+fn kind_name(kind: ErrorKind) -> &'static str
+    ensures { result.now ≡ shown.kind_name kind }
+{
+    match kind {
+        ErrorKind::Eof => "Eof",
+        ErrorKind::InvalidRecord => "InvalidRecord",
+        ErrorKind::UnsupportedConfig => "UnsupportedConfig",
+        ErrorKind::UnsupportedData => "UnsupportedData",
+        ErrorKind::External => "External",
+        ErrorKind::OutOfMemory => "OutOfMemory",
+    }
+}

@@ -1,0 +1,213 @@
+//! The engine: what a reader gives in, its text out.
+
+ghost use Rattle.std.specs.Prelude.{◌≡◌, ◌<◌, ◌++◌, List, ℕ, IsTrue, IfOk, IfErr, IfSome, is_err};
+ghost use Rattle.std.specs.Prelude.{codes, string_bytes, if◌then◌else◌, true};
+ghost use Rattle.perf_lines.specs.RunWords.{configuration_of, endian_of, kind_of, buffer_of};
+ghost use Rattle.perf_lines.specs.RunWords.{config_of, of_layout, list_any, IsWritten, Writes};
+ghost use Rattle.perf_lines.specs.Text as shown;
+
+use crate::line::{push_attr_refused, push_end, push_fault, push_lines};
+use crate::outcome::Outcome;
+use crate::output::write_whole;
+use perf_event_data::endian::{Endian, Native};
+use perf_event_data::parse::{ErrorKind, ParseBuf, ParseConfig, ParseResult, Parser};
+use perf_event_data::sys::{perf_event_attr, perf_event_header};
+use perf_event_data::{Record, RunEnd, read_records};
+use std::alloc::{AllocError, Global};
+use std::io::{BufReader, Read, Write};
+
+// How many answers are held at a time.
+const BATCH: usize = 256;
+
+/// Reads records in pieces of at most `piece` bytes, at most `limit` of them, and writes a line for
+/// each and a last one that says how reading ended. Nothing is written before all is read, and only
+/// the text is held meanwhile.
+///
+/// With `with_attr` an attribute comes first. Its configuration holds for the records behind it;
+/// where it is refused, the only line says so, and the outcome is `BadAttr`.
+pub fn run<R: Read + Drop, W: Write, E: Endian>(
+    alloc: Global,
+    reader: R,
+    writer: &mut W,
+    order: E,
+    limit: usize,
+    with_attr: bool,
+    piece: usize,
+) -> Outcome
+    requires { 0 < piece }
+
+    // Where the reader tells its bytes, what is written is their text, as far as the outcome says.
+    ensures { IfSome (R.remaining reader) (λ bytes.
+        Writes (E.order order) limit (shown.stream_of with_attr (E.order order) bytes) result
+        (W.contents writer.old) (W.contents writer.new)) }
+{
+    let Ok((text, outcome)) = text_of(alloc, reader, order, limit, with_attr, piece) else {
+        return Outcome::Stopped;
+    };
+    if write_whole(writer, text.as_bytes()) {
+        outcome
+    } else {
+        Outcome::Stopped
+    }
+}
+
+// The text of a run, and its outcome if that can be written.
+fn text_of<R: Read + Drop, E: Endian>(
+    alloc: Global,
+    reader: R,
+    order: E,
+    limit: usize,
+    with_attr: bool,
+    piece: usize,
+) -> Result<(String, Outcome), AllocError>
+    requires { 0 < piece }
+    ensures { IfSome (R.remaining reader) (λ bytes. IfOk result (λ made.
+        IsWritten true (E.order order) limit (shown.stream_of with_attr (E.order order) bytes)
+        made.1 (string_bytes made.0))) }
+{
+    let mut text = String::new(alloc);
+    let Ok(buffer) = BufReader::with_capacity(alloc, piece, reader) else {
+        push_fault(&mut text, ErrorKind::OutOfMemory)?;
+        return Ok((text, Outcome::Faulted));
+    };
+    let config = ParseConfig::<Native>::default().with_endian(order);
+    let mut parser = Parser::new(alloc, buffer, config);
+    if with_attr {
+        let outcome = push_run_with_attr(&mut text, parser, limit)?;
+        return Ok((text, outcome));
+    }
+    let outcome = push_run(&mut text, &mut parser, limit)?;
+    Ok((text, outcome))
+}
+
+// Appends the text of what a parser reads, the attribute first.
+fn push_run_with_attr<'p, B: ParseBuf<'p> + Drop, E: Endian>(
+    text: &mut String,
+    parser: Parser<B, E>,
+    limit: usize,
+) -> Result<Outcome, AllocError>
+    ensures { IsTrue (B.source (buffer_of parser)).told → IfOk result (λ outcome. (written : List ℕ)
+        × (string_bytes text.new ≡ string_bytes text.old ++ written)
+        × IsWritten (B.source (buffer_of parser)).can_fault (E.order (endian_of (config_of parser)))
+        limit (shown.behind_attribute (E.order (endian_of (config_of parser)))
+        (B.source (buffer_of parser)).left) outcome written) }
+{
+    match parse_attr(parser) {
+        Ok(mut behind) => push_run(text, &mut behind, limit),
+        Err(error) => push_refusal(text, error.kind()),
+    }
+}
+
+// Reads the attribute: the parser of what comes behind it, under its configuration and the same
+// order.
+fn parse_attr<'p, B: ParseBuf<'p> + Drop, E: Endian>(
+    mut parser: Parser<B, E>,
+) -> ParseResult<Parser<B, E>>
+    ensures told { IsTrue (B.source (buffer_of parser)).told → IfOk result (λ behind.
+        IsTrue (B.source (buffer_of behind)).told) }
+    ensures can_fault { IfOk result (λ behind. IsTrue (B.source (buffer_of behind)).can_fault →
+        IsTrue (B.source (buffer_of parser)).can_fault) }
+    ensures fault { IfErr result (λ e. kind_of e ≡ ErrorKind.External →
+        IsTrue (B.source (buffer_of parser)).can_fault) }
+    ensures order { IfOk result (λ behind.
+        E.order (endian_of (config_of behind)) ≡ E.order (endian_of (config_of parser))) }
+    ensures read { IsTrue (B.source (buffer_of parser)).told → IfOk result (λ behind.
+        shown.behind_attribute (E.order (endian_of (config_of parser)))
+        (B.source (buffer_of parser)).left
+        ≡ shown.framed (configuration_of (config_of behind)) (B.source (buffer_of behind)).left) }
+    ensures refused { IsTrue (B.source (buffer_of parser)).told → IfErr result (λ e.
+        IsTrue (of_layout (kind_of e)) →
+        shown.behind_attribute (E.order (endian_of (config_of parser)))
+        (B.source (buffer_of parser)).left
+        ≡ shown.without_frames (kind_of e)) }
+{
+    let attr = match parser.parse::<perf_event_attr>() {
+        Ok(attr) => attr,
+        Err(error) => return Err(error),
+    };
+    let order = match parser.endian().duplicate() {
+        Ok(order) => order,
+        Err(error) => return Err(error),
+    };
+    let config = ParseConfig::<Native>::from(attr).with_endian(order);
+    Ok(parser.reconfigure(config))
+}
+
+// Appends the only line of a run whose attribute could not be read.
+fn push_refusal(text: &mut String, kind: ErrorKind) -> Result<Outcome, AllocError>
+    ensures refused { IsTrue (of_layout kind) → IfOk result (λ outcome.
+        (string_bytes text.new ≡ string_bytes text.old ++ shown.attr_line kind)
+        × (outcome ≡ Outcome.BadAttr)) }
+    ensures fault { (IsTrue (of_layout kind) → ⊥) → IfOk result (λ outcome.
+        (string_bytes text.new
+        ≡ string_bytes text.old ++ shown.end_line (codes "fault " ++ shown.kind_name kind))
+        × (outcome ≡ Outcome.Faulted)) }
+{
+    match kind {
+        ErrorKind::External | ErrorKind::OutOfMemory => {
+            push_fault(text, kind)?;
+            Ok(Outcome::Faulted)
+        }
+        ErrorKind::Eof
+        | ErrorKind::InvalidRecord
+        | ErrorKind::UnsupportedConfig
+        | ErrorKind::UnsupportedData => {
+            push_attr_refused(text, kind)?;
+            Ok(Outcome::BadAttr)
+        }
+    }
+}
+
+// Appends the text of what a parser reads, batch by batch.
+fn push_run<'p, B: ParseBuf<'p>, E: Endian>(
+    text: &mut String,
+    parser: &mut Parser<B, E>,
+    limit: usize,
+) -> Result<Outcome, AllocError>
+    ensures { IsTrue (B.source (buffer_of parser.old)).told → IfOk result (λ outcome.
+        (written : List ℕ)
+        × (string_bytes text.new ≡ string_bytes text.old ++ written)
+        × IsWritten (B.source (buffer_of parser.old)).can_fault
+        (E.order (endian_of (config_of parser.old))) limit
+        (shown.framed (configuration_of (config_of parser.old))
+        (B.source (buffer_of parser.old)).left)
+        outcome written) }
+{
+    let mut count = 0;
+    let mut refused = false;
+    while count < limit {
+        let batch = (limit - count).min(BATCH);
+        let run = read_records(parser, batch);
+        push_lines(text, count, &run.frames)?;
+        refused |= has_refusal(&run.frames);
+        match run.end {
+            RunEnd::Limit => count += batch,
+            RunEnd::Done => return push_last(text, "done", refused),
+            RunEnd::CutHeader => return push_last(text, "cut", true),
+            RunEnd::Fault(error) => {
+                push_fault(text, error.kind())?;
+                return Ok(Outcome::Faulted);
+            }
+        }
+    }
+    push_last(text, "limit", refused)
+}
+
+fn has_refusal(frames: &[(perf_event_header, ParseResult<Record>)]) -> bool
+    ensures { result ≡ list_any (λ pair. is_err pair.1) frames.now }
+{
+    frames.iter().any(|frame| frame.1.is_err())
+}
+
+fn push_last(text: &mut String, how: &str, refused: bool) -> Result<Outcome, AllocError>
+    ensures { IfOk result (λ outcome.
+        (string_bytes text.new ≡ string_bytes text.old ++ shown.end_line how.now)
+        × (outcome ≡ (if refused then Outcome.Refused else Outcome.Clean))) }
+{
+    push_end(text, how)?;
+    Ok(if refused {
+        Outcome::Refused
+    } else {
+        Outcome::Clean
+    })
+}

@@ -1,0 +1,59 @@
+//! The words of the command line.
+
+ghost use Rattle.std.specs.Prelude.{◌≡◌, map, string_bytes};
+ghost use Rattle.std.specs.Char.{is_ascii_digit};
+ghost use Rattle.std.specs.List.{list_all};
+ghost use Rattle.perf_lines.specs.Words.{order_named, limit_named, asked, command_of};
+
+use crate::command::{Command, OrderName};
+
+/// What the words behind the program's name ask for: an order's name, a limit in digits alone, and
+/// then `attr`, where the input begins with an attribute. Other words ask for nothing.
+pub fn command(words: &[String]) -> Option<Command>
+    ensures { result ≡ command_of (map string_bytes words.now) }
+{
+    match words {
+        [order, limit] => asked(order.as_str(), limit.as_str(), false),
+        [order, limit, third] if third.as_str() == "attr" => {
+            asked(order.as_str(), limit.as_str(), true)
+        }
+        _ => None,
+    }
+}
+
+fn asked(order: &str, limit: &str, with_attr: bool) -> Option<Command>
+    ensures { result ≡ asked with_attr order.now limit.now }
+{
+    Some(Command {
+        order: order_named(order)?,
+        limit: limit_named(limit)?,
+        with_attr,
+    })
+}
+
+fn order_named(word: &str) -> Option<OrderName>
+    ensures { result ≡ order_named word.now }
+{
+    match word {
+        "little" => Some(OrderName::Little),
+        "big" => Some(OrderName::Big),
+        "native" => Some(OrderName::Native),
+        _ => None,
+    }
+}
+
+// `parse` alone would take a sign too.
+fn limit_named(word: &str) -> Option<usize>
+    ensures { result ≡ limit_named word.now }
+{
+    if !is_number(word) {
+        return None;
+    }
+    word.parse().ok()
+}
+
+fn is_number(word: &str) -> bool
+    ensures { result ≡ list_all is_ascii_digit word.now }
+{
+    word.as_bytes().iter().all(|byte| byte.is_ascii_digit())
+}

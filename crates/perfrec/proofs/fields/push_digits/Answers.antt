@@ -1,9 +1,0 @@
-use Rattle.std.proofs.Common.{arith}
-use Rattle.std.proofs.lemmas.Str.{IsUtf8-from_ascii}
-use Rattle.perfrec.proofs.Digits.{IsAscii-hex}
-use Rattle.perfrec.proofs.fields.push_digits.Goals as goal
-
-pub unreachable-requires : goal.unreachable-requires
-unreachable-requires c =
-    let text = IsUtf8-from_ascii _ (IsAscii-hex c.args.bytes.now (λ k. omega (arith, c.type_inv.bytes k))) in
-    c.in_default.ensures.cases.0 (rw c.write_digits.ensures text)

@@ -1,6 +1,0 @@
-use Rattle.std.proofs.Common.{◌∙◌, refl}
-use Rattle.std.proofs.lemmas.Result.{on_ok_weaker}
-use Rattle.perfrec.proofs.records.push_aux.Goals as goal
-
-pub returns : goal.returns
-returns c = on_ok_weaker c.push_fields.result (λ grown. grown ∙ rw (c.bits.ensures tt) refl) c.push_fields.ensures
