@@ -1,5 +1,5 @@
 #!/usr/bin/env python3
-"""Makes the list of answers that crates/perfrec replays: see README.md beside this file.
+"""Makes the list of answers that crates/perf_answers replays: see README.md beside this file.
 
     make.py --streams            lists the cases and counts their frames; runs nothing
     make.py --page PROGRAM WORD.. compares what PROGRAM prints with page.py, also for what the list leaves out
@@ -21,7 +21,7 @@ sys.dont_write_bytecode = True
 import page  # noqa: E402
 
 HERE = os.path.dirname(os.path.abspath(__file__))
-SOURCES = os.path.join(HERE, "..", "..", "crates", "perfrec", "src")
+SOURCES = os.path.join(HERE, "..", "..", "crates", "perf_answers", "src")
 LIMIT = 1000
 
 # The sizes of an attribute, one behind another.
