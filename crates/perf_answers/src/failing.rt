@@ -3,12 +3,12 @@
 ghost use Rattle.std.specs.Prelude.{◌<◌, true};
 ghost use Rattle.std.specs.Int.{w16, w32, w64, from_le_bytes};
 
-use perf_lines::outcome::Outcome;
-use perf_lines::output::write_whole;
-use perf_lines::run::run;
 use crate::texts::{FIVE_LOST, attr_bytes, check, check_all, plain_attr};
 use perf_event_data::endian::{Endian, Little};
 use perf_event_data::parse::{ParseError, ParseResult};
+use perf_lines::outcome::Outcome;
+use perf_lines::output::write_whole;
+use perf_lines::run::run;
 use std::alloc::AllocError;
 use std::cell::Cell;
 use std::io;

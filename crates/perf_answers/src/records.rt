@@ -3,8 +3,6 @@
 ghost use Rattle.std.specs.Prelude.{IsTrue};
 ghost use Rattle.perf_types.specs.MmapDetail.{has_fitting_id};
 
-use perf_lines::line::line_of;
-use perf_lines::outcome::Outcome;
 use crate::texts::check;
 use bitflags::Flags;
 use perf_event_data::endian::Little;
@@ -15,6 +13,8 @@ use perf_event_data::{
     KSymbol, KSymbolFlags, KSymbolType, Mmap, Mmap2, MmapDetail, NamespaceEntry, Namespaces, Read,
     ReadFormat, ReadValue, Record, SwitchCpuWide, TextPoke, Throttle,
 };
+use perf_lines::line::line_of;
+use perf_lines::outcome::Outcome;
 use std::alloc::AllocError;
 use std::process::Abort;
 

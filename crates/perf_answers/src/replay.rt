@@ -2,11 +2,11 @@
 
 ghost use Rattle.std.specs.Prelude.{◌<◌};
 
+use crate::{answers, answers_first};
+use perf_event_data::endian::{Big, Endian, Little, Native};
 use perf_lines::command::{Command, OrderName};
 use perf_lines::run::run;
 use perf_lines::words::command;
-use crate::{answers, answers_first};
-use perf_event_data::endian::{Big, Endian, Little, Native};
 use std::alloc::{AllocError, Global};
 use std::process::Abort;
 use std::test::Fail;
