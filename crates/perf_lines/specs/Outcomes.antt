@@ -25,6 +25,7 @@ status_of Stopped = 3
 
 -- ---- a text without a fault
 
+-- the frames end inside a header
 abbrev pub is_cut : StreamEnd → Bool
 is_cut done = false
 is_cut cut_header = true

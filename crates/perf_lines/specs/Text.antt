@@ -86,15 +86,19 @@ spaced words = flat_map (λ word. codes " " ++ word) words
 
 -- ---- records
 
+-- a mapping: the task, where it lies in its memory, how long it is, where it begins in the file,
+-- and the file
 abbrev pub mmap_words : MmapValue → List (List ℕ)
 mmap_words r =
     codes "Mmap" ∷ number (codes "pid") r.pid ∷ number (codes "tid") r.tid
     ∷ number (codes "addr") r.addr ∷ number (codes "len") r.len ∷ number (codes "pgoff") r.pgoff
     ∷ field (codes "filename") (hex r.filename) ∷ []
 
+-- how many records an event lost
 abbrev pub lost_words : Lost → List (List ℕ)
 lost_words r = codes "Lost" ∷ number (codes "id") r.id ∷ number (codes "lost") r.lost ∷ []
 
+-- the new name of a task
 abbrev pub comm_words : CommValue → List (List ℕ)
 comm_words r =
     codes "Comm" ∷ number (codes "pid") r.pid ∷ number (codes "tid") r.tid
@@ -112,6 +116,7 @@ throttle_fields r =
     number (codes "time") r.time ∷ number (codes "id") r.id
     ∷ number (codes "stream_id") r.stream_id ∷ []
 
+-- a counter of a task, with those of its numbers that are there
 abbrev pub read_words : TaskRead → List (List ℕ)
 read_words r =
     codes "Read" ∷ number (codes "pid") r.pid ∷ number (codes "tid") r.tid
@@ -127,6 +132,7 @@ detail_words (inode_is maj min ino ino_generation) =
     ∷ number (codes "ino") ino ∷ number (codes "ino_generation") ino_generation ∷ []
 detail_words (build_id_is id) = field (codes "build_id") (hex id) ∷ []
 
+-- a mapping, which file it has and how the memory may be used
 abbrev pub mmap2_words : Mmap2Value → List (List ℕ)
 mmap2_words r =
     codes "Mmap2" ∷ number (codes "pid") r.pid ∷ number (codes "tid") r.tid
@@ -135,15 +141,18 @@ mmap2_words r =
     ++ (number (codes "prot") r.prot ∷ number (codes "flags") r.flags
     ∷ field (codes "filename") (hex r.filename) ∷ []))
 
+-- new data in the AUX area: where it begins, how long it is, and its flags
 abbrev pub aux_words : AuxValue → List (List ℕ)
 aux_words r =
     codes "Aux" ∷ number (codes "aux_offset") r.aux_offset ∷ number (codes "aux_size") r.aux_size
     ∷ number (codes "flags") r.flags ∷ []
 
+-- a trace of instructions begins, of that task
 abbrev pub itrace_start_words : ITraceStart → List (List ℕ)
 itrace_start_words r =
     codes "ITraceStart" ∷ number (codes "pid") r.pid ∷ number (codes "tid") r.tid ∷ []
 
+-- how many samples were lost
 abbrev pub lost_samples_words : LostSamples → List (List ℕ)
 lost_samples_words r = codes "LostSamples" ∷ number (codes "lost") r.lost ∷ []
 
@@ -152,6 +161,7 @@ abbrev pub out_of : SwitchCpuWide → ℕ
 out_of (switch.In pid tid) = 0
 out_of (switch.Out pid tid) = 1
 
+-- the other task of a switch, and which way it went
 abbrev pub switch_cpu_wide_words : SwitchCpuWide → List (List ℕ)
 switch_cpu_wide_words r =
     codes "SwitchCpuWide" ∷ number (codes "pid") (other_pid r) ∷ number (codes "tid") (other_tid r)
@@ -161,31 +171,37 @@ switch_cpu_wide_words r =
 abbrev pub namespace_item : NamespaceEntry → List ℕ
 namespace_item e = decimal e.dev ++ (codes ":" ++ decimal e.inode)
 
+-- the namespaces of a task
 abbrev pub namespaces_words : NamespacesValue → List (List ℕ)
 namespaces_words r =
     codes "Namespaces" ∷ number (codes "pid") r.pid ∷ number (codes "tid") r.tid
     ∷ field (codes "namespaces") (listed namespace_item r.namespaces) ∷ []
 
+-- a symbol of the kernel: where it lies, how long it is, its type, flags and name
 abbrev pub ksymbol_words : KSymbolValue → List (List ℕ)
 ksymbol_words r =
     codes "KSymbol" ∷ number (codes "addr") r.addr ∷ number (codes "len") r.len
     ∷ number (codes "ksym_type") r.ksym_type ∷ number (codes "flags") r.flags
     ∷ field (codes "name") (hex r.name) ∷ []
 
+-- a BPF program: what happened to it, flags, its id and its tag
 abbrev pub bpf_event_words : BpfEventValue → List (List ℕ)
 bpf_event_words r =
     codes "BpfEvent" ∷ number (codes "ty") r.ty ∷ number (codes "flags") r.flags
     ∷ number (codes "id") r.id ∷ field (codes "tag") (hex r.tag) ∷ []
 
+-- a control group: its id and its path
 abbrev pub cgroup_words : CGroupValue → List (List ℕ)
 cgroup_words r =
     codes "CGroup" ∷ number (codes "id") r.id ∷ field (codes "path") (hex r.path) ∷ []
 
+-- a change of the kernel's code: where it begins, the bytes before and those after it
 abbrev pub text_poke_words : TextPokeValue → List (List ℕ)
 text_poke_words r =
     codes "TextPoke" ∷ number (codes "addr") r.addr ∷ field (codes "old_bytes") (hex r.old_bytes)
     ∷ field (codes "new_bytes") (hex r.new_bytes) ∷ []
 
+-- the id that hardware gave an event
 abbrev pub aux_output_hw_id_words : AuxOutputHwId → List (List ℕ)
 aux_output_hw_id_words r =
     codes "AuxOutputHwId" ∷ number (codes "hw_id") r.hw_id ∷ []
@@ -220,6 +236,7 @@ record_words (unknown_is ty bytes) = unknown_words bytes
 
 -- ---- lines
 
+-- the name of a kind of refusal, as `ErrorKind` has it
 abbrev pub kind_name : ErrorKind → List ℕ
 kind_name Eof = codes "Eof"
 kind_name InvalidRecord = codes "InvalidRecord"
@@ -265,6 +282,7 @@ printed c o limit bytes = take limit (answers c o bytes)
 abbrev pub is_at_limit : Configuration → Order → ℕ → List ℕ → Bool
 is_at_limit c o limit bytes = nat_le limit (length (answers c o bytes))
 
+-- how the frames of a stream end: behind one, or inside a header
 abbrev pub end_name : StreamEnd → List ℕ
 end_name done = codes "done"
 end_name cut_header = codes "cut"

@@ -7,12 +7,15 @@ use Rattle.perf_types.specs.declared.group_entry.GroupEntry.{GroupEntry}
 
 -- ---- what an entry has
 
+-- the counter's value
 abbrev pub entry_value : GroupEntry → ℕ
 entry_value e = e.value
 
+-- the kernel's own number of its event, if it has one
 abbrev pub entry_id : GroupEntry → Option ℕ
 entry_id e = e.id
 
+-- how many samples of it were lost, if that is told
 abbrev pub entry_lost : GroupEntry → Option ℕ
 entry_lost e = e.lost
 

@@ -7,6 +7,7 @@ use Rattle.perf_types.specs.SampleId.{SampleIdValue, first_of}
 use Rattle.perf_types.specs.declared.sample_id.Present.{Present}
 use Rattle.perf_types.specs.declared.sample_id.Origin.{Origin}
 
+-- the fields that are there, one behind another
 abbrev pub fields_of : Present → Parts SampleIdValue
 fields_of has = do
   pid ← u32_if has.tid
