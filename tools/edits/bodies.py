@@ -13,6 +13,7 @@ from pathlib import Path
 
 FUNCTION = re.compile(r"\bfn\s+(\w+)")
 NOTE = re.compile(r"note: (?:\./)?(src/\S+?):(\d+):(\d+): (it is not proved .*)")
+GAVE_UP = re.compile(r"note: what antt said of .*?: (?:\./)?(src/\S+?):(\d+):(\d+): error: (.*)")
 UNREAD = re.compile(r"(?:\./)?src/\S+?:\d+:\d+: error: [^`].*")
 ERROR = re.compile(r"(?:\./)?proofs/(\S+?)/(\w+)\.antt:\d+:\d+: error: (.*)")
 # The answers of a proof name what the edit, or the refusal of a callee, took away.
@@ -130,7 +131,7 @@ def joined(bodies):
 def refusal(body, path, output):
     """What the prover says at the function of a body, or nothing."""
     for line in output:
-        note = NOTE.match(line)
+        note = NOTE.match(line) or GAVE_UP.match(line)
         if note and note[1] == path and body.first <= int(note[2]) <= body.last:
             return f"{body.at(int(note[2]), int(note[3]))}: {note[4]}"
         error = ERROR.match(line)
