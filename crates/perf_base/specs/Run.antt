@@ -6,7 +6,6 @@ use Rattle.std.specs.Prelude.{Result, Ok, Err, nat_le}
 use Rattle.perf_base.specs.Order.{Order}
 use Rattle.perf_base.specs.Layout.{Shape, Answer, answer_of, Parts, done, part, check, size, Spot}
 use Rattle.perf_base.specs.Layout.{takes, holds, stands, spots, ending, value, first_refusal}
-use Rattle.perf_base.specs.Table.{slot, table}
 use Rattle.perf_base.specs.declared.error.ErrorKind.{ErrorKind}
 use Rattle.perf_base.specs.declared.error.ErrorKind.TheVariants.{Eof}
 
@@ -62,27 +61,3 @@ judged o body s p =
 -- The layout and what it leaves, said by places alone. It is opened only where a proof asks for it.
 unfoldable pub by_places : {A : Type 0} → Order → Parts A → List ℕ → Ran A
 by_places o p body = judged o body 0 p
-
--- ---- tables
-
--- one field of a table, opened only where a proof asks for it
-unfoldable pub field_run : {A : Type 0} → Order → Option (Parts A) → List ℕ → Ran (Option A)
-field_run o field bytes = run_parts o (slot field) bytes
-
--- a value before those that follow
-abbrev pub behind_it : {A : Type 0} → Option A → Ran (List (Option A)) → Ran (List (Option A))
-behind_it v (ran vs left) = ran (v ∷ vs) left
-behind_it v (stopped e left) = stopped e left
-
--- the fields of a table, one after another
-abbrev pub run_table : {A : Type 0} → Order → List (Option (Parts A)) → List ℕ →
-    Ran (List (Option A))
-run_table o [] bytes = ran [] bytes
-run_table o (field ∷ fields) bytes =
-    elim (field_run o field bytes)
-    [ ran v left ↦ behind_it v (run_table o fields left) | stopped e left ↦ stopped e left ]
-
--- A table and what it leaves, said by places alone. It is opened only where a proof asks for it.
-unfoldable pub table_by_places : {A : Type 0} → Order → List (Option (Parts A)) → List ℕ →
-    Ran (List (Option A))
-table_by_places o fields body = judged o body 0 (table fields)

@@ -1,8 +1,13 @@
 -- Tables: fields one behind another, each there or absent, as the sample type of perf_event_open(2)
 -- says it of a SAMPLE.
-use Rattle.std.specs.Prelude.{ℕ, List, [], ◌∷◌, take, Option, Some, None}
+use Rattle.std.specs.Prelude.{ℕ, Bool, true, false, List, [], ◌∷◌, take, Option, Some, None}
 use Rattle.perf_base.specs.Order.{Order}
 use Rattle.perf_base.specs.Layout.{Parts, done, ◌>>=◌, ending}
+
+-- a field that is there, or not
+abbrev pub present_if : {A : Type 0} → Bool → Parts A → Option (Parts A)
+present_if true p = Some p
+present_if false p = None
 
 -- the parts of a field, none where it is absent
 abbrev pub slot : {A : Type 0} → Option (Parts A) → Parts (Option A)

@@ -19,7 +19,8 @@ pub then_same : {A B : Type 0} (f g : A → List ℕ → ℕ → Took B) → ((v
 then_same f g same (took v left m) = same v left m
 then_same f g same (quit e left m) = refl
 
-take_behind : {A B : Type 0} (o : Order) (p : Parts A) (f : A → Parts B) (bytes : List ℕ) (n : ℕ) →
+-- parts, and then those that follow from their value, one behind another
+pub take_behind : {A B : Type 0} (o : Order) (p : Parts A) (f : A → Parts B) (bytes : List ℕ) (n : ℕ) →
     take_parts o (p >>= f) bytes n ≡ then_take (λ v left m. take_parts o (f v) left m) (take_parts o p bytes n)
 take_behind o (done v) f bytes n = refl
 take_behind o (check true e p) f bytes n = take_behind o p f bytes n

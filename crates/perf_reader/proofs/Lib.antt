@@ -3,5 +3,6 @@ pub mod Paying
 pub mod Steps
 pub mod Trimming
 pub mod Behind
+pub mod TableRuns
 pub mod ZeroTails
 pub mod Attributes

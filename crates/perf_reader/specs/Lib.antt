@@ -1,5 +1,6 @@
 pub mod Meaning
 pub mod Reading
+pub mod TableRuns
 pub mod Calls
 pub mod Room
 pub mod Words

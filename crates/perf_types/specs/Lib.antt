@@ -20,6 +20,9 @@ pub mod Read
 pub mod ReadFormat
 pub mod ReadGroup
 pub mod ReadValue
+pub mod Registers
+pub mod Sample
+pub mod SampleWords
 pub mod SampleId
 pub mod SampleIdFields
 pub mod SwitchCpuWide

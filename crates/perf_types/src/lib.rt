@@ -23,6 +23,8 @@ pub mod read;
 mod read_format;
 pub mod read_group;
 pub mod read_value;
+pub mod registers;
+mod sample_field;
 pub mod sample_id;
 pub mod switch_cpu_wide;
 mod text;
