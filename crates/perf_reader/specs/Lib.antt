@@ -1,6 +1,7 @@
 pub mod Meaning
 pub mod Reading
 pub mod TableRuns
+pub mod BranchEntry
 pub mod Calls
 pub mod Room
 pub mod Words

@@ -3,7 +3,8 @@
 
 ghost use Rattle.perf_base.specs.FieldWords.{u16, u64};
 ghost use Rattle.perf_reader.specs.Words.{ReadsPlain};
-ghost use Rattle.perf_words.specs.SetBits.{aux_flags_bits, ksymbol_flags_bits};
+ghost use Rattle.perf_reader.specs.BranchEntry.{branch};
+ghost use Rattle.perf_words.specs.SetBits.{aux_flags_bits, ksymbol_flags_bits, txn_bits};
 
 use crate::read::{Meant, ReadFrom};
 use crate::reader::Reader;
@@ -11,7 +12,8 @@ use bitflags::Flags;
 use perf_base::endian::Endian;
 use perf_base::refusal::ReadResult;
 use perf_buffers::input::Input;
-use perf_words::{AuxFlags, BpfEventType, KSymbolFlags, KSymbolType};
+use perf_words::{AuxFlags, BpfEventType, BranchEntry, DataSource, KSymbolFlags, KSymbolType};
+use perf_words::{SampleRegsAbi, Txn};
 
 impl Meant for AuxFlags {
     ghost says = { ReadsPlain (λ _. u64) aux_flags_bits };
@@ -54,5 +56,52 @@ impl<'p, I: Input<'p>> ReadFrom<'p, I> for KSymbolFlags {
     #[inline]
     fn read<E: Endian>(reader: &mut Reader<I, E>) -> ReadResult<Self> {
         Ok(KSymbolFlags::from_bits_retain(reader.read_u16()?))
+    }
+}
+
+impl Meant for BranchEntry {
+    ghost says = { ReadsPlain (λ _. branch) (λ entry. entry) };
+}
+
+impl<'p, I: Input<'p>> ReadFrom<'p, I> for BranchEntry {
+    #[inline]
+    fn read<E: Endian>(reader: &mut Reader<I, E>) -> ReadResult<Self> {
+        let from = reader.read_u64()?;
+        let to = reader.read_u64()?;
+        let word = reader.read_u64()?;
+        Ok(BranchEntry::from_words(from, to, word))
+    }
+}
+
+impl Meant for DataSource {
+    ghost says = { ReadsPlain (λ _. u64) (λ word. word) };
+}
+
+impl<'p, I: Input<'p>> ReadFrom<'p, I> for DataSource {
+    #[inline]
+    fn read<E: Endian>(reader: &mut Reader<I, E>) -> ReadResult<Self> {
+        Ok(DataSource::from_word(reader.read_u64()?))
+    }
+}
+
+impl Meant for SampleRegsAbi {
+    ghost says = { ReadsPlain (λ _. u64) (λ number. number) };
+}
+
+impl<'p, I: Input<'p>> ReadFrom<'p, I> for SampleRegsAbi {
+    #[inline]
+    fn read<E: Endian>(reader: &mut Reader<I, E>) -> ReadResult<Self> {
+        Ok(SampleRegsAbi::new(reader.read_u64()?))
+    }
+}
+
+impl Meant for Txn {
+    ghost says = { ReadsPlain (λ _. u64) txn_bits };
+}
+
+impl<'p, I: Input<'p>> ReadFrom<'p, I> for Txn {
+    #[inline]
+    fn read<E: Endian>(reader: &mut Reader<I, E>) -> ReadResult<Self> {
+        Ok(Txn::from_bits_retain(reader.read_u64()?))
     }
 }

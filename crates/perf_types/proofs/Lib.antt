@@ -1,4 +1,5 @@
 pub mod Blocks
+pub mod BranchLists
 pub mod Entries
 pub mod Flags
 mod Lacking

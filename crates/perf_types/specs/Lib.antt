@@ -2,6 +2,7 @@ pub mod Alike
 pub mod Aux
 pub mod AuxOutputHwId
 pub mod BpfEvent
+pub mod Branches
 pub mod CGroup
 pub mod Comm
 pub mod EntryCalls
@@ -22,6 +23,7 @@ pub mod ReadGroup
 pub mod ReadValue
 pub mod Registers
 pub mod Sample
+pub mod SampleParts
 pub mod SampleWords
 pub mod SampleId
 pub mod SampleIdFields

@@ -8,6 +8,7 @@ use Rattle.perf_base.specs.Layout.{Parts, done, mapped, ◌>>=◌, ◌>>◌}
 use Rattle.perf_base.specs.Table.{present_if, table}
 use Rattle.perf_base.specs.declared.error.ErrorKind.TheVariants.{InvalidRecord}
 use Rattle.perf_reader.specs.TableRuns.{joined}
+use Rattle.perf_types.specs.Branches.{branches_of}
 use Rattle.perf_types.specs.ReadFormat.{has_group}
 use Rattle.perf_types.specs.ReadGroup.{GroupRead, read_group, group_of}
 use Rattle.perf_types.specs.ReadValue.{read_value}
@@ -79,12 +80,6 @@ raw = do
   contents ← bytes length
   ignored (raw_padding length)
   done (bytes_are contents)
-
--- numbers, three and three
-abbrev pub branches_of : List ℕ → List Branch
-branches_of (from ∷ to ∷ word ∷ words) =
-    record { from = from; to = to; word = word } ∷ branches_of words
-branches_of _ = []
 
 -- a count, the hardware's index where the configuration says that there is one, and as many
 -- branches of three numbers

@@ -4,6 +4,7 @@
 pub mod aux_output_hw_id;
 pub mod aux_record;
 pub mod bpf_event;
+mod branches;
 pub mod cgroup;
 pub mod comm;
 pub mod exit;
@@ -26,6 +27,7 @@ pub mod read_value;
 pub mod registers;
 mod sample_field;
 pub mod sample_id;
+mod sample_parts;
 pub mod switch_cpu_wide;
 mod text;
 pub mod text_poke;

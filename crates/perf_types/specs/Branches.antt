@@ -1,0 +1,14 @@
+-- The numbers of a branch stack, three of each branch: where it came from, where it went, and a word
+-- of bit fields.
+use Rattle.std.specs.Prelude.{ℕ, List, [], ◌∷◌}
+use Rattle.perf_words.specs.Branch.{Branch}
+
+-- numbers, three and three
+abbrev pub branches_of : List ℕ → List Branch
+branches_of (from ∷ to ∷ word ∷ words) =
+    record { from = from; to = to; word = word } ∷ branches_of words
+branches_of _ = []
+
+-- the numbers of a branch
+abbrev pub branch_numbers : Branch → List ℕ
+branch_numbers b = b.from ∷ b.to ∷ b.word ∷ []
