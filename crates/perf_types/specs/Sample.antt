@@ -55,8 +55,9 @@ cpu = do
   ignored 4
   done (number_is number)
 
--- a read of the group, or of one counter, which is a group of one
-abbrev pub values : Configuration → Parts FieldValue
+-- A read of the group, or of one counter, which is a group of one. Like the other fields that hang on
+-- the configuration it is opened only where a proof asks for it.
+unfoldable pub values : Configuration → Parts FieldValue
 values c =
     if has_group c.read_format
     then mapped group_is (read_group c)
@@ -83,7 +84,7 @@ raw = do
 
 -- a count, the hardware's index where the configuration says that there is one, and as many
 -- branches of three numbers
-abbrev pub branch_stack : Configuration → Parts FieldValue
+unfoldable pub branch_stack : Configuration → Parts FieldValue
 branch_stack c = do
   count ← u64
   hw_index ← u64_if c.branch_hw_index
@@ -91,7 +92,7 @@ branch_stack c = do
   done (branches_are hw_index (Some (branches_of words)))
 
 -- the registers of a mask
-abbrev pub registers : ℕ → Parts FieldValue
+unfoldable pub registers : ℕ → Parts FieldValue
 registers mask = mapped registers_are (registers_of mask)
 
 -- A size, as many bytes of the stack, and where there are any, how many of them the kernel used: no

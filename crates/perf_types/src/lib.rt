@@ -26,6 +26,7 @@ pub mod read_group;
 pub mod read_value;
 pub mod registers;
 mod sample_field;
+mod sample_groups;
 pub mod sample_id;
 mod sample_parts;
 pub mod switch_cpu_wide;

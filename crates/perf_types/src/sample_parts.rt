@@ -156,7 +156,7 @@ impl SampleField for Branches<'_> {
 
 impl<'p, I: Input<'p>> ReadField<'p, I> for Branches<'p> {
     #[inline]
-    #[tactic(auto, using(crate::proofs::BranchLists::branches_flat, perf_reader::proofs::Paying::chain))]
+    #[tactic(auto, using(crate::proofs::BranchLists::branches_flat, perf_reader::proofs::Paying::chain), unfolding(crate::specs::Sample::branch_stack))]
     fn read_field<E: Endian>(reader: &mut Reader<I, E>) -> ReadResult<Self> {
         let count = reader.read_u64()?;
         let with_index = reader.config().branch_hw_index();
@@ -230,6 +230,7 @@ impl SampleField for UserRegisters<'_> {
 
 impl<'p, I: Input<'p>> ReadField<'p, I> for UserRegisters<'p> {
     #[inline]
+    #[tactic(auto, using(perf_reader::proofs::Paying::chain), unfolding(crate::specs::Sample::registers))]
     fn read_field<E: Endian>(reader: &mut Reader<I, E>) -> ReadResult<Self> {
         let mask = reader.config().regs_user();
         match Registers::read_by(reader, mask) {
@@ -253,6 +254,7 @@ impl SampleField for InterruptRegisters<'_> {
 
 impl<'p, I: Input<'p>> ReadField<'p, I> for InterruptRegisters<'p> {
     #[inline]
+    #[tactic(auto, using(perf_reader::proofs::Paying::chain), unfolding(crate::specs::Sample::registers))]
     fn read_field<E: Endian>(reader: &mut Reader<I, E>) -> ReadResult<Self> {
         let mask = reader.config().regs_intr();
         match Registers::read_by(reader, mask) {
@@ -271,7 +273,7 @@ impl SampleField for ReadGroup<'_> {
 }
 
 impl<'p, I: Input<'p>> ReadField<'p, I> for ReadGroup<'p> {
-    #[tactic(auto, using(crate::proofs::Flags::read_flags, perf_reader::proofs::Paying::chain))]
+    #[tactic(auto, using(crate::proofs::Flags::read_flags, perf_reader::proofs::Paying::chain), unfolding(crate::specs::Sample::values))]
     fn read_field<E: Endian>(reader: &mut Reader<I, E>) -> ReadResult<Self> {
         if reader.config().read_format().contains(ReadFormat::GROUP) {
             return match ReadGroup::read(reader) {
