@@ -1,6 +1,7 @@
 -- The branches of a list of numbers, and the numbers of a list of branches.
 use Rattle.std.proofs.Common.{◌≡◌, ℕ, List, [], ◌∷◌, ◌++◌, refl, ap}
 use Rattle.std.specs.List.{flat_map}
+use Rattle.perf_reader.proofs.Paying.{chain}
 use Rattle.perf_types.specs.Branches.{branches_of, branch_numbers}
 use Rattle.perf_words.specs.Branch.{Branch}
 
@@ -15,3 +16,6 @@ pub branches_more : (xs : List Branch) (from to word : ℕ) →
 branches_more [] from to word = refl
 branches_more (x ∷ xs) from to word =
     ap (λ (ys : List ℕ). x.from ∷ x.to ∷ x.word ∷ ys) (branches_more xs from to word)
+
+-- what the reading of a branch stack needs
+pub ruleset branch_reads = (branches_flat, chain)

@@ -3,6 +3,7 @@ use Rattle.std.proofs.Common.{◌≡◌, ℕ, ◌==◌, Bool, true, false, ◌||
 use Rattle.std.specs.Int.RustNames.{bit_and}
 use Rattle.perf_base.specs.Misc.{switch_out_bit, build_id_bit}
 use Rattle.perf_words.specs.Bits.{has_bit}
+use Rattle.perf_reader.proofs.TableRuns.{fields_in_row}
 use Rattle.perf_words.proofs.Contained.{contains_bit}
 
 pub contains_tid : (word : ℕ) → (bit_and word 2 == 2) ≡ has_bit word 1
@@ -114,12 +115,12 @@ pub only_flag : (flag : Bool) → (flag || false) ≡ flag
 only_flag true = refl
 only_flag false = refl
 
-pub ruleset moment_flags = (contains_identifier, contains_ip, contains_tid, contains_time, contains_addr, contains_id, only_flag)
+pub ruleset moment_flags = (contains_identifier, contains_ip, contains_tid, contains_time, contains_addr, contains_id, only_flag, fields_in_row)
 
-pub ruleset count_flags = (contains_stream_id, contains_cpu, contains_period, contains_sample_read, contains_call_chain, only_flag)
+pub ruleset count_flags = (contains_stream_id, contains_cpu, contains_period, contains_sample_read, contains_call_chain, only_flag, fields_in_row)
 
-pub ruleset state_flags = (contains_raw, contains_branch_stack, contains_regs_user, contains_stack_user, only_flag)
+pub ruleset state_flags = (contains_raw, contains_branch_stack, contains_regs_user, contains_stack_user, only_flag, fields_in_row)
 
-pub ruleset cost_flags = (contains_weight, contains_weight_struct, contains_data_src, contains_transaction, contains_regs_intr, only_flag)
+pub ruleset cost_flags = (contains_weight, contains_weight_struct, contains_data_src, contains_transaction, contains_regs_intr, only_flag, fields_in_row)
 
-pub ruleset memory_flags = (contains_phys_addr, contains_cgroup, contains_data_page_size, contains_code_page_size, contains_aux, only_flag)
+pub ruleset memory_flags = (contains_phys_addr, contains_cgroup, contains_data_page_size, contains_code_page_size, contains_aux, only_flag, fields_in_row)

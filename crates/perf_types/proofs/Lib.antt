@@ -7,6 +7,8 @@ pub mod Nth
 mod Origins
 mod Places
 mod Poked
+pub mod SampleGetters
+pub mod SampleTable
 pub mod SampleIdLength
 pub mod SampleIds
 mod Worked

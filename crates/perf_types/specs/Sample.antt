@@ -218,6 +218,6 @@ groups_under c groups = map (fields_under c) groups
 abbrev pub SampleValue : Type 0
 SampleValue = List (Option FieldValue)
 
--- the body
-abbrev pub sample : Configuration → Parts SampleValue
+-- the body; it is opened only where a proof asks for it
+unfoldable pub sample : Configuration → Parts SampleValue
 sample c = table (fields_under c sample_fields)

@@ -8,6 +8,7 @@ use Rattle.perf_types.specs.declared.sample_groups.Counts.{Counts}
 use Rattle.perf_types.specs.declared.sample_groups.State.{State}
 use Rattle.perf_types.specs.declared.sample_groups.Costs.{Costs}
 use Rattle.perf_types.specs.declared.sample_groups.Memory.{Memory}
+use Rattle.perf_types.specs.declared.sample.Sample.{Sample}
 
 -- what happened when and where
 abbrev pub moment_value : Moment → SampleValue
@@ -44,7 +45,7 @@ abbrev pub costs_value : Costs → SampleValue
 costs_value c =
     option_map number_is c.weight ∷
     option_map number_is c.data_src ∷
-    option_map number_is c.transaction ∷
+    option_map parts.transaction_value c.transaction ∷
     option_map parts.interrupt_value c.regs_intr ∷
     []
 
@@ -67,3 +68,16 @@ IsBorrowedState s =
 -- no byte of the AUX area was copied
 abbrev pub IsBorrowedMemory : Memory → Type 0
 IsBorrowedMemory m = IfSome m.aux (λ aux. IsTrue (is_borrowed aux.0))
+
+-- ---- a whole sample
+
+-- the fields of all groups
+abbrev pub sample_value : Sample → SampleValue
+sample_value s =
+    moment_value s.moment
+    ++ (counts_value s.counts
+    ++ (state_value s.state ++ (costs_value s.costs ++ (memory_value s.memory ++ []))))
+
+-- no byte of it was copied
+abbrev pub IsBorrowedSample : Sample → Type 0
+IsBorrowedSample s = IsBorrowedState s.state × IsBorrowedMemory s.memory

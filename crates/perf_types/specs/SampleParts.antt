@@ -5,6 +5,8 @@ use Rattle.perf_types.specs.ReadGroup.{group_read}
 use Rattle.perf_types.specs.Registers.{registers_value}
 use Rattle.perf_types.specs.Sample.{FieldValue, number_is, task_is, group_is, numbers_are, bytes_are}
 use Rattle.perf_types.specs.Sample.{branches_are, registers_are}
+use Rattle.perf_words.specs.SetBits.{txn_bits}
+use Rattle.perf_words.specs.declared.data_source.Txn.{Txn}
 use Rattle.perf_types.specs.declared.read_group.ReadGroup.{ReadGroup}
 use Rattle.perf_types.specs.declared.sample_parts.Task.{Task}
 use Rattle.perf_types.specs.declared.sample_parts.Cpu.{Cpu}
@@ -23,6 +25,10 @@ task_value t = task_is t.pid t.tid
 -- a processor
 abbrev pub cpu_value : Cpu → FieldValue
 cpu_value c = number_is c.0
+
+-- what a memory transaction did
+abbrev pub transaction_value : Txn → FieldValue
+transaction_value t = number_is (txn_bits t)
 
 -- a read of counters
 abbrev pub group_value : ReadGroup → FieldValue

@@ -36,7 +36,10 @@ pub(crate) fn read_branches<'p, I: Input<'p>, E: Endian>(
             Ok(word) => word,
             Err(refusal) => return Err(refusal),
         };
-        if entries.push(BranchEntry::from_words(from, to, word)).is_err() {
+        if entries
+            .push(BranchEntry::from_words(from, to, word))
+            .is_err()
+        {
             return Err(Refusal::OutOfMemory);
         }
     }

@@ -3,14 +3,13 @@
 ghost use Rattle.std.specs.Prelude.{◌≡◌};
 ghost use Rattle.perf_types.specs.Registers as shown;
 
+use crate::numbers::read_numbers;
 use perf_base::cow::CowSlice;
 use perf_base::endian::Endian;
 use perf_base::refusal::ReadResult;
 use perf_buffers::input::Input;
 use perf_reader::reader::Reader;
 use perf_words::SampleRegsAbi;
-
-use crate::numbers::read_numbers;
 
 /// The registers of a task when an event happened, those of its own code (`PERF_SAMPLE_REGS_USER`)
 /// or those that the processor had at the interrupt (`PERF_SAMPLE_REGS_INTR`).

@@ -40,7 +40,7 @@ pub(crate) fn read_field_if<'p, I: Input<'p>, E: Endian, T: ReadField<'p, I>>(
 ) -> ReadResult<Option<T>>
     ensures call { Call I.source E.order
         (ReadsField (λ c. present_if present (T.parts (sample.settings_of c)))
-            (option_map T.value) (λ x. IfSome x T.borrowed))
+        (option_map T.value) (λ x. IfSome x T.borrowed))
         reader.old (kinds result) reader.new }
 {
     if !present {

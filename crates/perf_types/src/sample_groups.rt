@@ -7,14 +7,15 @@ ghost use Rattle.perf_types.specs.SampleWords.{Call, ReadsTable, kinds};
 
 use crate::read_group::ReadGroup;
 use crate::sample_field::read_field_if;
-use crate::sample_parts::{AuxBytes, Branches, CallChain, Cpu, InterruptRegisters, RawData};
-use crate::sample_parts::{Stack, Task, UserRegisters};
+use crate::sample_parts::{
+    AuxBytes, Branches, CallChain, Cpu, InterruptRegisters, RawData, Stack, Task, UserRegisters,
+};
 use bitflags::Flags;
 use perf_base::endian::Endian;
 use perf_base::refusal::ReadResult;
 use perf_buffers::input::Input;
 use perf_reader::reader::Reader;
-use perf_words::SampleFlags;
+use perf_words::{DataSource, SampleFlags, Txn};
 
 // What happened when and where.
 #[derive(Debug, Drop)]
@@ -29,13 +30,11 @@ pub(crate) struct Moment {
 
 impl Moment {
     #[inline]
-    #[tactic(auto, using(crate::proofs::Flags::moment_flags, perf_reader::proofs::TableRuns::fields_in_row))]
-    pub(crate) fn read<'p, I: Input<'p>, E: Endian>(
-        reader: &mut Reader<I, E>,
-    ) -> ReadResult<Moment>
+    #[tactic(auto, using(crate::proofs::Flags::moment_flags))]
+    pub(crate) fn read<'p, I: Input<'p>, E: Endian>(reader: &mut Reader<I, E>) -> ReadResult<Moment>
         ensures call { Call I.source E.order
             (ReadsTable (λ c. sample.fields_under c sample.moment_fields) groups.moment_value
-                (λ _. ⊤))
+            (λ _. ⊤))
             reader.old (kinds result) reader.new }
     {
         let flags = reader.config().sample_type();
@@ -62,13 +61,11 @@ pub(crate) struct Counts<'a> {
 
 impl<'p> Counts<'p> {
     #[inline]
-    #[tactic(auto, using(crate::proofs::Flags::count_flags, perf_reader::proofs::TableRuns::fields_in_row))]
-    pub(crate) fn read<I: Input<'p>, E: Endian>(
-        reader: &mut Reader<I, E>,
-    ) -> ReadResult<Counts<'p>>
+    #[tactic(auto, using(crate::proofs::Flags::count_flags))]
+    pub(crate) fn read<I: Input<'p>, E: Endian>(reader: &mut Reader<I, E>) -> ReadResult<Counts<'p>>
         ensures call { Call I.source E.order
             (ReadsTable (λ c. sample.fields_under c sample.count_fields) groups.counts_value
-                (λ _. ⊤))
+            (λ _. ⊤))
             reader.old (kinds result) reader.new }
     {
         let flags = reader.config().sample_type();
@@ -93,13 +90,11 @@ pub(crate) struct State<'a> {
 
 impl<'p> State<'p> {
     #[inline]
-    #[tactic(auto, using(crate::proofs::Flags::state_flags, perf_reader::proofs::TableRuns::fields_in_row))]
-    pub(crate) fn read<I: Input<'p>, E: Endian>(
-        reader: &mut Reader<I, E>,
-    ) -> ReadResult<State<'p>>
+    #[tactic(auto, using(crate::proofs::Flags::state_flags))]
+    pub(crate) fn read<I: Input<'p>, E: Endian>(reader: &mut Reader<I, E>) -> ReadResult<State<'p>>
         ensures call { Call I.source E.order
             (ReadsTable (λ c. sample.fields_under c sample.state_fields) groups.state_value
-                groups.IsBorrowedState)
+            groups.IsBorrowedState)
             reader.old (kinds result) reader.new }
     {
         let flags = reader.config().sample_type();
@@ -116,25 +111,23 @@ impl<'p> State<'p> {
 #[derive(Debug, Drop)]
 pub(crate) struct Costs<'a> {
     pub(crate) weight: Option<u64>,
-    pub(crate) data_src: Option<u64>,
-    pub(crate) transaction: Option<u64>,
+    pub(crate) data_src: Option<DataSource>,
+    pub(crate) transaction: Option<Txn>,
     pub(crate) regs_intr: Option<InterruptRegisters<'a>>,
 }
 
 impl<'p> Costs<'p> {
     #[inline]
-    #[tactic(auto, using(crate::proofs::Flags::cost_flags, perf_reader::proofs::TableRuns::fields_in_row))]
-    pub(crate) fn read<I: Input<'p>, E: Endian>(
-        reader: &mut Reader<I, E>,
-    ) -> ReadResult<Costs<'p>>
+    #[tactic(auto, using(crate::proofs::Flags::cost_flags))]
+    pub(crate) fn read<I: Input<'p>, E: Endian>(reader: &mut Reader<I, E>) -> ReadResult<Costs<'p>>
         ensures call { Call I.source E.order
             (ReadsTable (λ c. sample.fields_under c sample.cost_fields) groups.costs_value
-                (λ _. ⊤))
+            (λ _. ⊤))
             reader.old (kinds result) reader.new }
     {
         let flags = reader.config().sample_type();
-        let weighed =
-            flags.contains(SampleFlags::WEIGHT) || flags.contains(SampleFlags::WEIGHT_STRUCT);
+        let weighed = flags.contains(SampleFlags::WEIGHT)
+            || flags.contains(SampleFlags::WEIGHT_STRUCT);
         Ok(Costs {
             weight: read_field_if(reader, weighed)?,
             data_src: read_field_if(reader, flags.contains(SampleFlags::DATA_SRC))?,
@@ -156,13 +149,11 @@ pub(crate) struct Memory<'a> {
 
 impl<'p> Memory<'p> {
     #[inline]
-    #[tactic(auto, using(crate::proofs::Flags::memory_flags, perf_reader::proofs::TableRuns::fields_in_row))]
-    pub(crate) fn read<I: Input<'p>, E: Endian>(
-        reader: &mut Reader<I, E>,
-    ) -> ReadResult<Memory<'p>>
+    #[tactic(auto, using(crate::proofs::Flags::memory_flags))]
+    pub(crate) fn read<I: Input<'p>, E: Endian>(reader: &mut Reader<I, E>) -> ReadResult<Memory<'p>>
         ensures call { Call I.source E.order
             (ReadsTable (λ c. sample.fields_under c sample.memory_fields) groups.memory_value
-                groups.IsBorrowedMemory)
+            groups.IsBorrowedMemory)
             reader.old (kinds result) reader.new }
     {
         let flags = reader.config().sample_type();

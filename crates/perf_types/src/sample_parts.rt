@@ -12,14 +12,14 @@ use crate::read_group::ReadGroup;
 use crate::read_value::ReadValue;
 use crate::registers::Registers;
 use crate::sample_field::{ReadField, SampleField};
+use bitflags::Flags;
 use perf_base::cow::CowSlice;
 use perf_base::endian::Endian;
 use perf_base::refusal::{ReadResult, Refusal};
 use perf_buffers::input::Input;
 use perf_reader::read::ReadFrom;
 use perf_reader::reader::Reader;
-use perf_words::{BranchEntry, ReadFormat};
-use bitflags::Flags;
+use perf_words::{BranchEntry, DataSource, ReadFormat, Txn};
 
 impl SampleField for u64 {
     ghost parts = { λ _. sample.plain };
@@ -34,6 +34,42 @@ impl<'p, I: Input<'p>> ReadField<'p, I> for u64 {
     fn read_field<E: Endian>(reader: &mut Reader<I, E>) -> ReadResult<Self> {
         match reader.read_u64() {
             Ok(number) => Ok(number),
+            Err(refusal) => Err(refusal),
+        }
+    }
+}
+
+impl SampleField for DataSource {
+    ghost parts = { λ _. sample.plain };
+
+    ghost value = { sample.number_is };
+
+    ghost borrowed = { λ _. ⊤ };
+}
+
+impl<'p, I: Input<'p>> ReadField<'p, I> for DataSource {
+    #[inline]
+    fn read_field<E: Endian>(reader: &mut Reader<I, E>) -> ReadResult<Self> {
+        match reader.read_u64() {
+            Ok(word) => Ok(DataSource::from_word(word)),
+            Err(refusal) => Err(refusal),
+        }
+    }
+}
+
+impl SampleField for Txn {
+    ghost parts = { λ _. sample.plain };
+
+    ghost value = { parts.transaction_value };
+
+    ghost borrowed = { λ _. ⊤ };
+}
+
+impl<'p, I: Input<'p>> ReadField<'p, I> for Txn {
+    #[inline]
+    fn read_field<E: Endian>(reader: &mut Reader<I, E>) -> ReadResult<Self> {
+        match reader.read_u64() {
+            Ok(word) => Ok(Txn::from_bits_retain(word)),
             Err(refusal) => Err(refusal),
         }
     }
@@ -156,7 +192,7 @@ impl SampleField for Branches<'_> {
 
 impl<'p, I: Input<'p>> ReadField<'p, I> for Branches<'p> {
     #[inline]
-    #[tactic(auto, using(crate::proofs::BranchLists::branches_flat, perf_reader::proofs::Paying::chain), unfolding(crate::specs::Sample::branch_stack))]
+    #[tactic(auto, using(crate::proofs::BranchLists::branch_reads), unfolding(crate::specs::Sample::branch_stack))]
     fn read_field<E: Endian>(reader: &mut Reader<I, E>) -> ReadResult<Self> {
         let count = reader.read_u64()?;
         let with_index = reader.config().branch_hw_index();
