@@ -4,9 +4,11 @@
 ghost use Rattle.std.specs.Prelude.{◌≡◌, ◌*◌, if◌then◌else◌};
 ghost use Rattle.perf_types.specs.SampleId as ids;
 ghost use Rattle.perf_types.specs.SampleIdFields.{fields_of, origin, behind_origin, TakesOrLacks};
+ghost use Rattle.perf_types.specs.SampleWords as shown;
 ghost use Rattle.perf_types.specs.Words.{Call, ReadsPlain, kinds, configuration_of};
 ghost use Rattle.perf_types.specs.Words.{sample_flags_bits};
 
+use crate::sample::Sample;
 use bitflags::Flags;
 use perf_base::config::ParseConfig;
 use perf_base::endian::Endian;
@@ -68,6 +70,22 @@ impl Default for SampleId {
     }
 }
 
+impl From<Sample<'_>> for SampleId {
+    ghost from_gives = { λ sample id. id ≡ shown.sample_id_of (shown.sample_value sample) };
+
+    fn from(sample: Sample<'_>) -> SampleId {
+        SampleId::from_sample(&sample)
+    }
+}
+
+impl From<&Sample<'_>> for SampleId {
+    ghost from_gives = { λ sample id. id ≡ shown.sample_id_of (shown.sample_value sample.now) };
+
+    fn from(sample: &Sample<'_>) -> SampleId {
+        SampleId::from_sample(sample)
+    }
+}
+
 #[inline]
 fn eight_if(flag: bool) -> usize
     ensures { result ≡ 8 * ids.one_if flag }
@@ -102,6 +120,20 @@ impl SampleId {
             id,
             stream_id,
             cpu,
+        }
+    }
+
+    /// The sample id that says the same as a sample. It takes no memory.
+    pub fn from_sample(sample: &Sample<'_>) -> SampleId
+        ensures { result ≡ shown.sample_id_of (shown.sample_value sample.now) }
+    {
+        SampleId {
+            pid: sample.pid(),
+            tid: sample.tid(),
+            time: sample.time(),
+            id: sample.id(),
+            stream_id: sample.stream_id(),
+            cpu: sample.cpu(),
         }
     }
 
