@@ -12,3 +12,4 @@ pub mod SampleTable
 pub mod SampleIdLength
 pub mod SampleIds
 mod Worked
+mod WorkedSamples

@@ -1,7 +1,7 @@
 -- What the groups of a sample of the code say, field by field.
-use Rattle.std.specs.Prelude.{List, [], ◌∷◌, ◌++◌, Option, option_map, IfSome, IsTrue}
+use Rattle.std.specs.Prelude.{[], ◌∷◌, ◌++◌, option_map, IfSome, IsTrue}
 use Rattle.perf_base.specs.Cow.{is_borrowed}
-use Rattle.perf_types.specs.Sample.{FieldValue, number_is, SampleValue}
+use Rattle.perf_types.specs.Sample.{number_is, SampleValue}
 use Rattle.perf_types.specs.SampleParts as parts
 use Rattle.perf_types.specs.declared.sample_groups.Moment.{Moment}
 use Rattle.perf_types.specs.declared.sample_groups.Counts.{Counts}

@@ -1,5 +1,5 @@
 -- What a field of a sample of the code says, wherever its bytes and numbers lie.
-use Rattle.std.specs.Prelude.{ℕ, option_map}
+use Rattle.std.specs.Prelude.{option_map}
 use Rattle.perf_base.specs.Cow.{cow_items}
 use Rattle.perf_types.specs.ReadGroup.{group_read}
 use Rattle.perf_types.specs.Registers.{registers_value}

@@ -1,9 +1,8 @@
-use Rattle.std.proofs.Common.{rules, ◌≡◌, ℕ, suc, ◌+◌, ◌*◌, List, [], ◌∷◌, ◌++◌, refl, sym, ◌∙◌, ap, arith, Vec, Global}
+use Rattle.std.proofs.Common.{rules, ◌≡◌, ℕ, suc, ◌+◌, ◌*◌, List, [], ◌∷◌, ◌++◌, refl, sym, ◌∙◌, ap, arith}
 use Rattle.std.specs.List.{flat_map}
 use Rattle.perf_base.specs.Refusals.{refusal_kind}
-use Rattle.perf_reader.proofs.InRow.{row_none, row_cast, row_more, row_stops, row_starves, row_gives}
+use Rattle.perf_reader.proofs.InRow.{row_none, row_cast, row_more, row_stops}
 use Rattle.perf_types.specs.Branches.{branch_numbers}
-use Rattle.perf_words.specs.Branch.{Branch}
 use Rattle.perf_words.specs.declared.branch.BranchEntry.{BranchEntry}
 use Rattle.perf_types.proofs.BranchLists.{branches_more}
 use Rattle.perf_types.proofs.branches.read_branches.Goals as goal
