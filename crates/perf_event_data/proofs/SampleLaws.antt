@@ -13,7 +13,7 @@ use Rattle.perf_base.proofs.Algebra.{then_inv}
 use Rattle.perf_base.proofs.Tables.{splice_fields, cut_fields, tables_inv, cons_inv, layout_run}
 use Rattle.perf_types.specs.Sample.{FieldValue, number_is, SampleValue, sample, sample_fields, settings_of, field_under, fields_under, plain}
 use Rattle.perf_types.specs.SampleId.{first_of}
-use Rattle.perf_event_data.specs.SampleLaws.{no_field, field_at, flags_of, parts_of, is_there, with_flag, without_field, spliced, without_bytes, said, number_in, said_id, said_identifier, ChangesField, KeepsId, SpliceLaw, CutLaw}
+use Rattle.perf_event_data.specs.SampleLaws.{no_field, field_at, id_field, flags_of, parts_of, is_there, with_flag, without_field, spliced, without_bytes, said, number_in, said_id, said_identifier, ChangesField, KeepsId, SpliceLaw, CutLaw}
 use Rattle.perf_event_data.proofs.Closed.{sample_ended, front_closed, one_closed}
 use Rattle.perf_event_data.proofs.Flags.{with_fields, without_fields, under_true, under_false}
 
@@ -64,12 +64,12 @@ plain_says o v front back e =
     (first.0, sym same)
 
 -- ID says a number where it is there
-id_says : (c : Configuration) (o : Order) (body : List ℕ) (vs : SampleValue) → is_there c 5 ≡ true → layout o (sample c) body ≡ Ok vs →
+id_says : (c : Configuration) (o : Order) (body : List ℕ) (vs : SampleValue) → is_there c id_field ≡ true → layout o (sample c) body ≡ Ok vs →
     (n : ℕ) × (said_id vs ≡ Some n)
 id_says c o body vs there e =
-    let at = said_at o (under c) 5 body _ vs (within c 5 (omega arith)) (layout_run o (table (under c)) body vs e) in
-    let is_plain : get_or (under c) 5 None ≡ Some plain = field_there c 5 (omega arith) ∙ under_true c (field_at 5) there in
-    let says = plain_says o (said vs 5) at.0 at.1 (ap (λ t. run_parts o (slot t) at.0) (sym is_plain) ∙ at.2) in
+    let at = said_at o (under c) id_field body _ vs (within c id_field (omega arith)) (layout_run o (table (under c)) body vs e) in
+    let is_plain : get_or (under c) id_field None ≡ Some plain = field_there c id_field (omega arith) ∙ under_true c (field_at id_field) there in
+    let says = plain_says o (said vs id_field) at.0 at.1 (ap (λ t. run_parts o (slot t) at.0) (sym is_plain) ∙ at.2) in
     (says.0, ap number_in says.1)
 
 -- ---- one field changed
@@ -77,8 +77,8 @@ id_says c o body vs there e =
 changed : (vs : SampleValue) (f : ℕ) (v : Option FieldValue) → f < length vs → ChangesField vs (set vs f v) f v
 changed vs f v h = record { field = get_or-set_same vs f v None h; others = λ g ne. get_or-set_other vs f g v None ne }
 
-keeps : (c : Configuration) (o : Order) (body : List ℕ) (vs us : SampleValue) → is_there c 5 ≡ true → layout o (sample c) body ≡ Ok vs →
-    said us 5 ≡ said vs 5 → KeepsId vs us
+keeps : (c : Configuration) (o : Order) (body : List ℕ) (vs us : SampleValue) → is_there c id_field ≡ true → layout o (sample c) body ≡ Ok vs →
+    said us id_field ≡ said vs id_field → KeepsId vs us
 keeps c o body vs us there e same =
     let says = id_says c o body vs there e in record {
       was = ap (λ t. first_of t (said_identifier vs)) says.1 ∙ sym says.1;
@@ -108,7 +108,7 @@ sample_splice c body w f h o flag vs absent has s e =
       set vs f v,
       spliced_layout c o f flag body w vs h absent has s e,
       only,
-      λ there. keeps c o body vs (set vs f v) there e (only.others 5 (λ is. absurd (let both : is_there c f ≡ true = ap (is_there c) (sym is) ∙ there in cc))),
+      λ there. keeps c o body vs (set vs f v) there e (only.others id_field (λ is. absurd (let both : is_there c f ≡ true = ap (is_there c) (sym is) ∙ there in cc))),
     )
 
 pub sample_cut : (c : Configuration) (body : List ℕ) (f : ℕ) → f < 24 → CutLaw c body f

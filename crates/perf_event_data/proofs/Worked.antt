@@ -80,6 +80,11 @@ time_is_cut_out = refl
 time_was_bit_2 : without_field (of_type 0x47) 3 ≡ three
 time_was_bit_2 = refl
 
+-- by the flag of the next field, ADDR, its bytes are that field's
+said_by_bit_3 : layout little (sample (with_flag three 3)) (spliced three little of_three 3 time) ≡
+    Ok (None ∷ Some (number_is 0x2010) ∷ Some (task_is (Some 1) (Some 2)) ∷ None ∷ Some (number_is 0x1000000000007) ∷ Some (number_is 9) ∷ absent 18)
+said_by_bit_3 = refl
+
 -- ---- RAW put in behind ID, with the bytes that fill it up
 
 abbrev raw : List ℕ
@@ -125,6 +130,11 @@ tid_was_bit_1 = refl
 said_without_tid : layout little (sample (without_field three 2)) (without_bytes three little of_three 2) ≡
     Ok (None ∷ Some (number_is 0x2010) ∷ None ∷ None ∷ None ∷ Some (number_is 9) ∷ absent 18)
 said_without_tid = refl
+
+-- where its bytes are left, ID says them
+said_with_tid_left : layout little (sample (without_field three 2)) of_three ≡
+    Ok (None ∷ Some (number_is 0x2010) ∷ None ∷ None ∷ None ∷ Some (number_is 0x200000001) ∷ absent 18)
+said_with_tid_left = refl
 
 -- ---- the id: ID says it, and where ID is lacking IDENTIFIER
 

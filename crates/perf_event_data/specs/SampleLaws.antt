@@ -25,6 +25,14 @@ no_field = record { flags = []; parts = λ c. plain }
 abbrev pub field_at : ℕ → Field
 field_at f = get_or sample_fields f no_field
 
+-- the number of IDENTIFIER
+abbrev pub identifier_field : ℕ
+identifier_field = 0
+
+-- the number of ID
+abbrev pub id_field : ℕ
+id_field = 5
+
 -- the flags of field f, by their bits
 abbrev pub flags_of : ℕ → List ℕ
 flags_of f = (field_at f).flags
@@ -81,21 +89,21 @@ abbrev pub number_in : Option FieldValue → Option ℕ
 number_in (Some (number_is n)) = Some n
 number_in _ = None
 
--- the number that field 5 says, ID
+-- the number that ID says
 abbrev pub said_id : SampleValue → Option ℕ
-said_id sample = number_in (said sample 5)
+said_id sample = number_in (said sample id_field)
 
--- the number that field 0 says, IDENTIFIER
+-- the number that IDENTIFIER says
 abbrev pub said_identifier : SampleValue → Option ℕ
-said_identifier sample = number_in (said sample 0)
+said_identifier sample = number_in (said sample identifier_field)
 
 -- the id of a sample: what ID says, or else IDENTIFIER
 abbrev pub id_of : SampleValue → Option ℕ
 id_of sample = first_of (said_id sample) (said_identifier sample)
 
--- Field f now says this, and each other field says what it said before.
-pub record ChangesField (before after : SampleValue) (f : ℕ) (now : Option FieldValue) : Type 0 where
-  pub field : said after f ≡ now
+-- Afterwards field f says v, and each other field says what it said before.
+pub record ChangesField (before after : SampleValue) (f : ℕ) (v : Option FieldValue) : Type 0 where
+  pub field : said after f ≡ v
   pub others : (g : ℕ) → g ≢ f → said after g ≡ said before g
 
 -- What ID said is the id of both samples.
@@ -116,7 +124,7 @@ SpliceLaw c body f w =
     (after : SampleValue)
     × (layout o (sample (with_flag c flag)) (spliced c o body f w) ≡ Ok after)
     × ChangesField before after f (Some (value o w 0 (parts_of c f)))
-    × (is_there c 5 ≡ true → KeepsId before after)
+    × (is_there c id_field ≡ true → KeepsId before after)
 
 -- Where a body is a sample with field f, the body without the field's bytes is a sample under the
 -- configuration without the field's flags. The field is absent, each other says what it said.
@@ -128,5 +136,5 @@ CutLaw c body f =
     (after : SampleValue)
     × (layout o (sample (without_field c f)) (without_bytes c o body f) ≡ Ok after)
     × ChangesField before after f None
-    × (f ≢ 5 → is_there c 5 ≡ true → KeepsId before after)
-    × (f ≡ 5 → id_of after ≡ said_identifier before)
+    × (f ≢ id_field → is_there c id_field ≡ true → KeepsId before after)
+    × (f ≡ id_field → id_of after ≡ said_identifier before)

@@ -31,7 +31,7 @@ pub fn splice_law<E>(config: &ParseConfig<E>, body: &[u8], f: usize, w: &[u8])
 /// and a field `f` that is there, in whichever byte order. Cut the field's bytes out, and clear all
 /// of its flags in the sample type: the new body is a sample, in which the field is absent and each
 /// other field says what it said. Where ID is there and another field is cut out, the sample's id
-/// stays what ID says; where ID itself is cut out, the id is what IDENTIFIER says, if that is there.
+/// stays what ID says; where ID itself is cut out, the id is what IDENTIFIER says, if it is there.
 ///
 /// `f` counts fields as for [`splice_law`].
 ///
