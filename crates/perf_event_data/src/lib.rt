@@ -4,6 +4,8 @@
 //! in pieces. [`read_records`] answers every frame of a stream, a refused one by its error.
 #![tactic(auto)]
 
+pub mod laws;
+
 pub use perf_base::cow::CowSlice;
 pub use perf_base::{endian, sys};
 pub use perf_buffers::pieces::PieceBuf;

@@ -1,0 +1,84 @@
+-- The fields of a SAMPLE end by themselves, so that bytes may follow them.
+use Rattle.std.proofs.Common.{ℕ, zero, suc, true, false, List, [], ◌∷◌, ◌++◌, take}
+use Rattle.std.specs.Prelude.{if◌then◌else◌}
+use Rattle.perf_base.specs.Configuration.{Configuration}
+use Rattle.perf_base.specs.Layout.{mapped}
+use Rattle.perf_base.specs.Splice.{Closed, IsClosed, AllClosed}
+use Rattle.perf_base.specs.Table.{present_if}
+use Rattle.perf_types.specs.ReadFormat.{has_group}
+use Rattle.perf_types.specs.ReadGroup.{read_group, group_of}
+use Rattle.perf_types.specs.ReadValue.{read_value}
+use Rattle.perf_types.specs.Sample.{Field, FieldValue, group_is, values, plain, settings_of, is_present, field_under, fields_under, sample_fields, sample_groups, moment_fields, count_fields, state_fields, cost_fields, memory_fields}
+use Rattle.perf_event_data.proofs.Flags.{field_of}
+
+-- ---- each field
+
+abbrev pub AreEnded : List Field → Type 0
+AreEnded [] = Unit {0}
+AreEnded (g ∷ gs) = ((c : Configuration) → Closed (g.parts c)) × AreEnded gs
+
+values_end : (c : Configuration) → Closed (values c)
+values_end c =
+    elim (has_group c.read_format) as (λ b. Closed {A = FieldValue} (if b then mapped group_is (read_group c) else mapped (λ one. group_is (group_of one)) (read_value c))) [
+      | true ↦ (tt, λ count. (tt, λ enabled. (tt, λ running. (tt, λ words. tt))))
+      | false ↦ (tt, λ value. (tt, λ enabled. (tt, λ running. (tt, λ id. (tt, λ lost. tt)))))
+    ]
+
+word_ends : (c : Configuration) → Closed plain
+word_ends c = (tt, λ n. tt)
+
+moment_ended : AreEnded moment_fields
+moment_ended = (word_ends, (word_ends, (λ c. (tt, λ pid. (tt, λ tid. tt)), (word_ends, (word_ends, (word_ends, tt))))))
+
+count_ended : AreEnded count_fields
+count_ended = (word_ends, (λ c. (tt, λ number. (tt, λ u. tt)), (word_ends, (values_end, (λ c. (tt, λ count. (tt, λ addresses. tt)), tt)))))
+
+state_ended : AreEnded state_fields
+state_ended = (
+  λ c. (tt, λ length. (tt, λ contents. (tt, λ u. tt))),
+  (
+    λ c. (tt, λ count. (tt, λ hw_index. (tt, λ words. tt))),
+    (λ c. (tt, λ abi. (tt, λ regs. tt)), (λ c. (tt, λ size. (tt, λ contents. (tt, λ used. tt))), tt)),
+  ),
+)
+
+cost_ended : AreEnded cost_fields
+cost_ended = (word_ends, (word_ends, (word_ends, (λ c. (tt, λ abi. (tt, λ regs. tt)), tt))))
+
+memory_ended : AreEnded memory_fields
+memory_ended = (word_ends, (word_ends, (word_ends, (word_ends, (λ c. (tt, λ size. (tt, λ contents. tt)), tt)))))
+
+-- ---- all of them
+
+both_ended : (xs ys : List Field) → AreEnded xs → AreEnded ys → AreEnded (xs ++ ys)
+both_ended [] ys a b = b
+both_ended (x ∷ xs) ys a b = (a.0, both_ended xs ys a.1 b)
+
+abbrev GroupsEnded : List (List Field) → Type 0
+GroupsEnded [] = Unit {0}
+GroupsEnded (fields ∷ groups) = AreEnded fields × GroupsEnded groups
+
+abbrev in_a_row : List (List Field) → List Field
+in_a_row [] = []
+in_a_row (fields ∷ groups) = fields ++ in_a_row groups
+
+groups_ended : (groups : List (List Field)) → GroupsEnded groups → AreEnded (in_a_row groups)
+groups_ended [] ends = tt
+groups_ended (fields ∷ groups) ends = both_ended fields (in_a_row groups) ends.0 (groups_ended groups ends.1)
+
+pub sample_ended : AreEnded sample_fields
+sample_ended = groups_ended sample_groups (moment_ended, (count_ended, (state_ended, (cost_ended, (memory_ended, tt)))))
+
+closed_field : (c : Configuration) (g : Field) → ((c : Configuration) → Closed (g.parts c)) → IsClosed (field_under c g)
+closed_field c g ends = elim (is_present c g) as (λ b. IsClosed {A = FieldValue} (present_if b (g.parts (settings_of c)))) [ true ↦ ends (settings_of c) | false ↦ tt ]
+
+-- the fields in front of one
+pub front_closed : (fields : List Field) (c : Configuration) (i : ℕ) → AreEnded fields → AllClosed (take i (fields_under c fields))
+front_closed fields c zero ends = tt
+front_closed [] c (suc i) ends = tt
+front_closed (g ∷ gs) c (suc i) ends = (closed_field c g ends.0, front_closed gs c i ends.1)
+
+pub one_closed : (fields : List Field) (i : ℕ) → AreEnded fields → (c : Configuration) → Closed ((field_of fields i).parts c)
+one_closed [] i ends c = (tt, λ n. tt)
+one_closed (g ∷ gs) zero ends c = ends.0 c
+one_closed (g ∷ gs) (suc i) ends c = one_closed gs i ends.1 c

@@ -1,0 +1,4 @@
+mod Flags
+mod Closed
+pub mod SampleLaws
+mod Worked

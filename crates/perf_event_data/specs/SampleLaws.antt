@@ -1,0 +1,140 @@
+-- How the body of a SAMPLE changes with its sample type. Where the sample type gets a flag, the
+-- bytes of that flag's field are put in at their place; where it loses a field's flags, the field's
+-- bytes are cut out. All else stays. It is one law over the table of the fields, with no case for
+-- any of them. Fields are counted from 0, in the order of the table.
+use Rattle.std.specs.Prelude.{◌≡◌, ◌≢◌, ℕ, suc, ◌-◌, ◌^◌, Bool, true, false, List, [], ◌∷◌}
+use Rattle.std.specs.Prelude.{get_or, Option, Some, None, Ok, bit_or, if◌then◌else◌}
+use Rattle.std.specs.List.{Contains}
+use Rattle.perf_base.specs.Configuration.{Configuration, under_sample_type}
+use Rattle.perf_base.specs.Layout.{Parts, layout, value}
+use Rattle.perf_base.specs.Order.{Order}
+use Rattle.perf_base.specs.Splice.{Spells, put_in, take_out}
+use Rattle.perf_base.specs.Table.{place_of}
+use Rattle.perf_types.specs.Sample.{Field, FieldValue, number_is, SampleValue, sample}
+use Rattle.perf_types.specs.Sample.{sample_fields, fields_under, is_present, settings_of, plain}
+use Rattle.perf_types.specs.SampleId.{first_of}
+use Rattle.perf_words.specs.Bits.{has_bit}
+
+-- ---- fields by their numbers
+
+-- a field that is never there
+abbrev pub no_field : Field
+no_field = record { flags = []; parts = λ c. plain }
+
+-- field f of the table
+abbrev pub field_at : ℕ → Field
+field_at f = get_or sample_fields f no_field
+
+-- the number of IDENTIFIER
+abbrev pub identifier_field : ℕ
+identifier_field = 0
+
+-- the number of ID
+abbrev pub id_field : ℕ
+id_field = 5
+
+-- the flags of field f, by their bits
+abbrev pub flags_of : ℕ → List ℕ
+flags_of f = (field_at f).flags
+
+-- what bytes field f takes
+abbrev pub parts_of : Configuration → ℕ → Parts FieldValue
+parts_of c f = (field_at f).parts (settings_of c)
+
+-- field f is there
+abbrev pub is_there : Configuration → ℕ → Bool
+is_there c f = is_present c (field_at f)
+
+-- the place that field f has in a body, or would have
+abbrev pub field_place : Configuration → Order → List ℕ → ℕ → ℕ
+field_place c o body f = place_of o body (fields_under c sample_fields) f
+
+-- ---- configurations
+
+-- the configuration with one flag more, as `with_sample_type` of `ParseConfig` makes it
+abbrev pub with_flag : Configuration → ℕ → Configuration
+with_flag c flag = under_sample_type (bit_or c.sample_type (2 ^ flag)) c
+
+-- a number without one bit: 2 ^ bit less where it has that bit
+abbrev pub without_bit : (n bit : ℕ) → ℕ
+without_bit n bit = if has_bit n bit then n - 2 ^ bit else n
+
+-- a number without any of these bits
+abbrev pub without_bits : ℕ → List ℕ → ℕ
+without_bits n [] = n
+without_bits n (bit ∷ bits) = without_bit (without_bits n bits) bit
+
+-- the configuration without the flags of field f
+abbrev pub without_field : Configuration → ℕ → Configuration
+without_field c f = under_sample_type (without_bits c.sample_type (flags_of f)) c
+
+-- ---- bodies
+
+-- the body with w put in at the place of field f
+abbrev pub spliced : Configuration → Order → List ℕ → ℕ → List ℕ → List ℕ
+spliced c o body f w = put_in body (field_place c o body f) w
+
+-- the body without the bytes of field f, which end where the next field begins
+abbrev pub without_bytes : Configuration → Order → List ℕ → ℕ → List ℕ
+without_bytes c o body f = take_out body (field_place c o body f) (field_place c o body (suc f))
+
+-- ---- samples
+
+-- what field f says in a sample, None where it is absent
+abbrev pub said : SampleValue → ℕ → Option FieldValue
+said sample f = get_or sample f None
+
+-- the number that a field says
+abbrev pub number_in : Option FieldValue → Option ℕ
+number_in (Some (number_is n)) = Some n
+number_in _ = None
+
+-- the number that ID says
+abbrev pub said_id : SampleValue → Option ℕ
+said_id sample = number_in (said sample id_field)
+
+-- the number that IDENTIFIER says
+abbrev pub said_identifier : SampleValue → Option ℕ
+said_identifier sample = number_in (said sample identifier_field)
+
+-- the id of a sample: what ID says, or else IDENTIFIER
+abbrev pub id_of : SampleValue → Option ℕ
+id_of sample = first_of (said_id sample) (said_identifier sample)
+
+-- Afterwards field f says v, and each other field says what it said before.
+pub record ChangesField (before after : SampleValue) (f : ℕ) (v : Option FieldValue) : Type 0 where
+  pub field : said after f ≡ v
+  pub others : (g : ℕ) → g ≢ f → said after g ≡ said before g
+
+-- What ID said is the id of both samples.
+pub record KeepsId (before after : SampleValue) : Type 0 where
+  pub was : id_of before ≡ said_id before
+  pub stays : id_of after ≡ said_id before
+
+-- ---- the law, in both directions
+
+-- Where a body is a sample without field f, and w spells that field, the body with w put in is a
+-- sample under the configuration with any one of the field's flags. The field says what w says, and
+-- each other what it said. Where ID is there, the id stays what ID says, even if IDENTIFIER comes.
+abbrev pub SpliceLaw : Configuration → List ℕ → ℕ → List ℕ → Type 0
+SpliceLaw c body f w =
+    (o : Order) (flag : ℕ) (before : SampleValue) →
+    is_there c f ≡ false → Contains (flags_of f) flag → Spells o (parts_of c f) w →
+    layout o (sample c) body ≡ Ok before →
+    (after : SampleValue)
+    × (layout o (sample (with_flag c flag)) (spliced c o body f w) ≡ Ok after)
+    × ChangesField before after f (Some (value o w 0 (parts_of c f)))
+    × (is_there c id_field ≡ true → KeepsId before after)
+
+-- Where a body is a sample with field f, the body without the field's bytes is a sample under the
+-- configuration without the field's flags. The field is absent, each other says what it said.
+-- Where ID stays there, so does the id; where ID itself is cut out, the id is what IDENTIFIER says.
+abbrev pub CutLaw : Configuration → List ℕ → ℕ → Type 0
+CutLaw c body f =
+    (o : Order) (before : SampleValue) →
+    is_there c f ≡ true → layout o (sample c) body ≡ Ok before →
+    (after : SampleValue)
+    × (layout o (sample (without_field c f)) (without_bytes c o body f) ≡ Ok after)
+    × ChangesField before after f None
+    × (f ≢ id_field → is_there c id_field ≡ true → KeepsId before after)
+    × (f ≡ id_field → id_of after ≡ said_identifier before)
