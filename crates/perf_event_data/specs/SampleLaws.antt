@@ -10,9 +10,9 @@ use Rattle.perf_base.specs.Layout.{Parts, layout, value}
 use Rattle.perf_base.specs.Order.{Order}
 use Rattle.perf_base.specs.Splice.{Spells, put_in, take_out}
 use Rattle.perf_base.specs.Table.{place_of}
-use Rattle.perf_types.specs.Sample.{Field, FieldValue, number_is, SampleValue, sample}
+use Rattle.perf_types.specs.Sample.{Field, FieldValue, SampleValue, sample}
 use Rattle.perf_types.specs.Sample.{sample_fields, fields_under, is_present, settings_of, plain}
-use Rattle.perf_types.specs.SampleId.{first_of}
+use Rattle.perf_types.specs.SampleGetters.{said, number_in, id_of}
 use Rattle.perf_words.specs.Bits.{has_bit}
 
 -- ---- fields by their numbers
@@ -80,15 +80,6 @@ without_bytes c o body f = take_out body (field_place c o body f) (field_place c
 
 -- ---- samples
 
--- what field f says in a sample, None where it is absent
-abbrev pub said : SampleValue → ℕ → Option FieldValue
-said sample f = get_or sample f None
-
--- the number that a field says
-abbrev pub number_in : Option FieldValue → Option ℕ
-number_in (Some (number_is n)) = Some n
-number_in _ = None
-
 -- the number that ID says
 abbrev pub said_id : SampleValue → Option ℕ
 said_id sample = number_in (said sample id_field)
@@ -96,10 +87,6 @@ said_id sample = number_in (said sample id_field)
 -- the number that IDENTIFIER says
 abbrev pub said_identifier : SampleValue → Option ℕ
 said_identifier sample = number_in (said sample identifier_field)
-
--- the id of a sample: what ID says, or else IDENTIFIER
-abbrev pub id_of : SampleValue → Option ℕ
-id_of sample = first_of (said_id sample) (said_identifier sample)
 
 -- Afterwards field f says v, and each other field says what it said before.
 pub record ChangesField (before after : SampleValue) (f : ℕ) (v : Option FieldValue) : Type 0 where
