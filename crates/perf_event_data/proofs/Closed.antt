@@ -8,7 +8,7 @@ use Rattle.perf_base.specs.Table.{present_if}
 use Rattle.perf_types.specs.ReadFormat.{has_group}
 use Rattle.perf_types.specs.ReadGroup.{read_group, group_of}
 use Rattle.perf_types.specs.ReadValue.{read_value}
-use Rattle.perf_types.specs.Sample.{Field, FieldValue, group_is, values, plain, settings_of, is_present, field_under, fields_under, sample_fields, sample_groups, moment_fields, count_fields, state_fields, cost_fields, memory_fields}
+use Rattle.perf_types.specs.Sample.{Field, FieldValue, group_is, values, branch_stack, registers, plain, settings_of, is_present, field_under, fields_under, sample_fields, sample_groups, moment_fields, count_fields, state_fields, cost_fields, memory_fields}
 use Rattle.perf_event_data.proofs.Flags.{field_of}
 
 -- ---- each field
@@ -18,11 +18,20 @@ AreEnded [] = Unit {0}
 AreEnded (g ∷ gs) = ((c : Configuration) → Closed (g.parts c)) × AreEnded gs
 
 values_end : (c : Configuration) → Closed (values c)
+unfolding values
 values_end c =
     elim (has_group c.read_format) as (λ b. Closed {A = FieldValue} (if b then mapped group_is (read_group c) else mapped (λ one. group_is (group_of one)) (read_value c))) [
       | true ↦ (tt, λ count. (tt, λ enabled. (tt, λ running. (tt, λ words. tt))))
       | false ↦ (tt, λ value. (tt, λ enabled. (tt, λ running. (tt, λ id. (tt, λ lost. tt)))))
     ]
+
+branches_end : (c : Configuration) → Closed (branch_stack c)
+unfolding branch_stack
+branches_end c = (tt, λ count. (tt, λ hw_index. (tt, λ words. tt)))
+
+registers_end : (mask : ℕ) → Closed (registers mask)
+unfolding registers
+registers_end mask = (tt, λ abi. (tt, λ regs. tt))
 
 word_ends : (c : Configuration) → Closed plain
 word_ends c = (tt, λ n. tt)
@@ -36,14 +45,11 @@ count_ended = (word_ends, (λ c. (tt, λ number. (tt, λ u. tt)), (word_ends, (v
 state_ended : AreEnded state_fields
 state_ended = (
   λ c. (tt, λ length. (tt, λ contents. (tt, λ u. tt))),
-  (
-    λ c. (tt, λ count. (tt, λ hw_index. (tt, λ words. tt))),
-    (λ c. (tt, λ abi. (tt, λ regs. tt)), (λ c. (tt, λ size. (tt, λ contents. (tt, λ used. tt))), tt)),
-  ),
+  (branches_end, (λ c. registers_end c.regs_user, (λ c. (tt, λ size. (tt, λ contents. (tt, λ used. tt))), tt))),
 )
 
 cost_ended : AreEnded cost_fields
-cost_ended = (word_ends, (word_ends, (word_ends, (λ c. (tt, λ abi. (tt, λ regs. tt)), tt))))
+cost_ended = (word_ends, (word_ends, (word_ends, (λ c. registers_end c.regs_intr, tt))))
 
 memory_ended : AreEnded memory_fields
 memory_ended = (word_ends, (word_ends, (word_ends, (word_ends, (λ c. (tt, λ size. (tt, λ contents. tt)), tt)))))

@@ -5,7 +5,8 @@ use Rattle.perf_base.specs.Layout.{layout}
 use Rattle.perf_base.specs.Order.{little, big}
 use Rattle.perf_base.specs.Splice.{Spells}
 use Rattle.perf_types.specs.Sample.{number_is, task_is, bytes_are, SampleValue, sample}
-use Rattle.perf_event_data.specs.SampleLaws.{flags_of, parts_of, is_there, with_flag, without_field, spliced, without_bytes, id_of}
+use Rattle.perf_types.specs.SampleGetters.{getters_of}
+use Rattle.perf_event_data.specs.SampleLaws.{flags_of, parts_of, is_there, with_flag, without_field, spliced, without_bytes}
 
 -- ---- the fields by their numbers
 
@@ -46,6 +47,7 @@ absent (suc n) = None ∷ absent n
 
 said_by_three : layout little (sample three) of_three ≡
     Ok (None ∷ Some (number_is 0x2010) ∷ Some (task_is (Some 1) (Some 2)) ∷ None ∷ None ∷ Some (number_is 9) ∷ absent 18)
+unfolding sample
 said_by_three = refl
 
 -- ---- TIME put in, between TID and ID
@@ -67,10 +69,22 @@ time_is_put_in = refl
 
 said_with_time : layout little (sample (with_flag three 2)) (spliced three little of_three 3 time) ≡
     Ok (None ∷ Some (number_is 0x2010) ∷ Some (task_is (Some 1) (Some 2)) ∷ Some (number_is 0x1000000000007) ∷ None ∷ Some (number_is 9) ∷ absent 18)
+unfolding sample
 said_with_time = refl
+
+-- the calls answer the same but for the time
+calls_with_time : (before after : SampleValue) → layout little (sample three) of_three ≡ Ok before →
+    layout little (sample (with_flag three 2)) (spliced three little of_three 3 time) ≡ Ok after →
+    getters_of after ≡ record (getters_of before) { time = Some 0x1000000000007 }
+unfolding sample
+calls_with_time before after e f =
+    let was : before ≡ None ∷ Some (number_is 0x2010) ∷ Some (task_is (Some 1) (Some 2)) ∷ None ∷ None ∷ Some (number_is 9) ∷ absent 18 = cc in
+    let is : after ≡ None ∷ Some (number_is 0x2010) ∷ Some (task_is (Some 1) (Some 2)) ∷ Some (number_is 0x1000000000007) ∷ None ∷ Some (number_is 9) ∷ absent 18 = cc in
+    rw (was, is) refl
 
 said_with_time_in_big : layout big (sample (with_flag three 2)) (spliced three big of_three 3 time) ≡
     Ok (None ∷ Some (number_is 0x1020000000000000) ∷ Some (task_is (Some 0x1000000) (Some 0x2000000)) ∷ Some (number_is 0x700000000000100) ∷ None ∷ Some (number_is 0x900000000000000) ∷ absent 18)
+unfolding sample
 said_with_time_in_big = refl
 
 -- TIME cut out again
@@ -83,6 +97,7 @@ time_was_bit_2 = refl
 -- by the flag of the next field, ADDR, its bytes are that field's
 said_by_bit_3 : layout little (sample (with_flag three 3)) (spliced three little of_three 3 time) ≡
     Ok (None ∷ Some (number_is 0x2010) ∷ Some (task_is (Some 1) (Some 2)) ∷ None ∷ Some (number_is 0x1000000000007) ∷ Some (number_is 9) ∷ absent 18)
+unfolding sample
 said_by_bit_3 = refl
 
 -- ---- RAW put in behind ID, with the bytes that fill it up
@@ -98,6 +113,7 @@ raw_is_put_in = refl
 
 said_with_raw : layout little (sample (with_flag three 10)) (spliced three little of_three 11 raw) ≡
     Ok (None ∷ Some (number_is 0x2010) ∷ Some (task_is (Some 1) (Some 2)) ∷ None ∷ None ∷ Some (number_is 9) ∷ None ∷ None ∷ None ∷ None ∷ None ∷ Some (bytes_are (0xAA ∷ 0xBB ∷ [])) ∷ absent 12)
+unfolding sample
 said_with_raw = refl
 
 -- ---- WEIGHT, by either of its flags
@@ -110,9 +126,11 @@ said_with_weight =
     None ∷ Some (number_is 0x2010) ∷ Some (task_is (Some 1) (Some 2)) ∷ None ∷ None ∷ Some (number_is 9) ∷ absent 9 ++ Some (number_is 0x7788556611223344) ∷ absent 8
 
 said_by_bit_14 : layout little (sample (with_flag three 14)) (spliced three little of_three 15 weight) ≡ Ok said_with_weight
+unfolding sample
 said_by_bit_14 = refl
 
 said_by_bit_24 : layout little (sample (with_flag three 24)) (spliced three little of_three 15 weight) ≡ Ok said_with_weight
+unfolding sample
 said_by_bit_24 = refl
 
 -- both flags go with the field
@@ -129,11 +147,13 @@ tid_was_bit_1 = refl
 
 said_without_tid : layout little (sample (without_field three 2)) (without_bytes three little of_three 2) ≡
     Ok (None ∷ Some (number_is 0x2010) ∷ None ∷ None ∷ None ∷ Some (number_is 9) ∷ absent 18)
+unfolding sample
 said_without_tid = refl
 
 -- where its bytes are left, ID says them
 said_with_tid_left : layout little (sample (without_field three 2)) of_three ≡
     Ok (None ∷ Some (number_is 0x2010) ∷ None ∷ None ∷ None ∷ Some (number_is 0x200000001) ∷ absent 18)
+unfolding sample
 said_with_tid_left = refl
 
 -- ---- the id: ID says it, and where ID is lacking IDENTIFIER
@@ -148,9 +168,10 @@ abbrev said_with_both : SampleValue
 said_with_both = Some (number_is 5) ∷ Some (number_is 0x2010) ∷ Some (task_is (Some 1) (Some 2)) ∷ None ∷ None ∷ Some (number_is 9) ∷ absent 18
 
 said_by_both : layout little (sample (with_flag three 16)) (spliced three little of_three 0 identifier) ≡ Ok said_with_both
+unfolding sample
 said_by_both = refl
 
-id_stays : id_of said_with_both ≡ Some 9
+id_stays : (getters_of said_with_both).id ≡ Some 9
 id_stays = refl
 
 id_is_cut_out : without_bytes (of_type 0x10043) little (identifier ++ ip ++ tid ++ id) 5 ≡ identifier ++ ip ++ tid
@@ -160,7 +181,8 @@ abbrev said_with_identifier : SampleValue
 said_with_identifier = Some (number_is 5) ∷ Some (number_is 0x2010) ∷ Some (task_is (Some 1) (Some 2)) ∷ absent 21
 
 said_by_identifier : layout little (sample (without_field (of_type 0x10043) 5)) (without_bytes (of_type 0x10043) little (identifier ++ ip ++ tid ++ id) 5) ≡ Ok said_with_identifier
+unfolding sample
 said_by_identifier = refl
 
-id_is_the_identifier : id_of said_with_identifier ≡ Some 5
+id_is_the_identifier : (getters_of said_with_identifier).id ≡ Some 5
 id_is_the_identifier = refl
