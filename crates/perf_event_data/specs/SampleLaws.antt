@@ -82,11 +82,11 @@ without_bytes c o body f = take_out body (field_place c o body f) (field_place c
 
 -- the number that ID says
 abbrev pub said_id : SampleValue → Option ℕ
-said_id sample = number_in (field_at sample id_field)
+said_id fields = number_in (field_at fields id_field)
 
 -- the number that IDENTIFIER says
 abbrev pub said_identifier : SampleValue → Option ℕ
-said_identifier sample = number_in (field_at sample identifier_field)
+said_identifier fields = number_in (field_at fields identifier_field)
 
 -- Afterwards field f says v, and each other field says what it said before.
 pub record ChangesField (before after : SampleValue) (f : ℕ) (v : Option FieldValue) : Type 0 where
