@@ -25,6 +25,14 @@ values_end c =
       | false ↦ (tt, λ value. (tt, λ enabled. (tt, λ running. (tt, λ id. (tt, λ lost. tt)))))
     ]
 
+branches_end : (c : Configuration) → Closed (branch_stack c)
+unfolding branch_stack
+branches_end c = (tt, λ count. (tt, λ hw_index. (tt, λ words. tt)))
+
+registers_end : (mask : ℕ) → Closed (registers mask)
+unfolding registers
+registers_end mask = (tt, λ abi. (tt, λ regs. tt))
+
 word_ends : (c : Configuration) → Closed plain
 word_ends c = (tt, λ n. tt)
 
@@ -35,18 +43,13 @@ count_ended : AreEnded count_fields
 count_ended = (word_ends, (λ c. (tt, λ number. (tt, λ u. tt)), (word_ends, (values_end, (λ c. (tt, λ count. (tt, λ addresses. tt)), tt)))))
 
 state_ended : AreEnded state_fields
-unfolding branch_stack registers
 state_ended = (
   λ c. (tt, λ length. (tt, λ contents. (tt, λ u. tt))),
-  (
-    λ c. (tt, λ count. (tt, λ hw_index. (tt, λ words. tt))),
-    (λ c. (tt, λ abi. (tt, λ regs. tt)), (λ c. (tt, λ size. (tt, λ contents. (tt, λ used. tt))), tt)),
-  ),
+  (branches_end, (λ c. registers_end c.regs_user, (λ c. (tt, λ size. (tt, λ contents. (tt, λ used. tt))), tt))),
 )
 
 cost_ended : AreEnded cost_fields
-unfolding registers
-cost_ended = (word_ends, (word_ends, (word_ends, (λ c. (tt, λ abi. (tt, λ regs. tt)), tt))))
+cost_ended = (word_ends, (word_ends, (word_ends, (λ c. registers_end c.regs_intr, tt))))
 
 memory_ended : AreEnded memory_fields
 memory_ended = (word_ends, (word_ends, (word_ends, (word_ends, (λ c. (tt, λ size. (tt, λ contents. tt)), tt)))))

@@ -12,9 +12,9 @@ use Rattle.perf_base.specs.Table.{slot, table}
 use Rattle.perf_base.proofs.Algebra.{then_inv}
 use Rattle.perf_base.proofs.Tables.{splice_fields, cut_fields, tables_inv, cons_inv, layout_run}
 use Rattle.perf_types.specs.Sample.{FieldValue, number_is, SampleValue, sample, sample_fields, settings_of, field_under, fields_under, plain}
+use Rattle.perf_types.specs.SampleGetters.{field_at, number_in}
 use Rattle.perf_types.specs.SampleId.{first_of}
-use Rattle.perf_types.specs.SampleGetters.{said, number_in}
-use Rattle.perf_event_data.specs.SampleLaws.{no_field, field_at, id_field, flags_of, parts_of, is_there, with_flag, without_field, spliced, without_bytes, said_id, said_identifier, ChangesField, KeepsId, SpliceLaw, CutLaw}
+use Rattle.perf_event_data.specs.SampleLaws.{no_field, table_field, id_field, flags_of, parts_of, is_there, with_flag, without_field, spliced, without_bytes, said_id, said_identifier, ChangesField, KeepsId, SpliceLaw, CutLaw}
 use Rattle.perf_event_data.proofs.Closed.{sample_ended, front_closed, one_closed}
 use Rattle.perf_event_data.proofs.Flags.{with_fields, without_fields, under_true, under_false}
 
@@ -23,7 +23,7 @@ use Rattle.perf_event_data.proofs.Flags.{with_fields, without_fields, under_true
 abbrev under : Configuration → List (Option (Parts FieldValue))
 under c = fields_under c sample_fields
 
-field_there : (c : Configuration) (f : ℕ) → f < 24 → get_or (under c) f None ≡ field_under c (field_at f)
+field_there : (c : Configuration) (f : ℕ) → f < 24 → get_or (under c) f None ≡ field_under c (table_field f)
 field_there c f h = get_or-map (field_under c) sample_fields f no_field None h
 
 within : (c : Configuration) (f : ℕ) → f < 24 → f < length (under c)
@@ -71,8 +71,8 @@ id_says : (c : Configuration) (o : Order) (body : List ℕ) (vs : SampleValue) �
 unfolding sample
 id_says c o body vs there e =
     let at = said_at o (under c) id_field body _ vs (within c id_field (omega arith)) (layout_run o (table (under c)) body vs e) in
-    let is_plain : get_or (under c) id_field None ≡ Some plain = field_there c id_field (omega arith) ∙ under_true c (field_at id_field) there in
-    let says = plain_says o (said vs id_field) at.0 at.1 (ap (λ t. run_parts o (slot t) at.0) (sym is_plain) ∙ at.2) in
+    let is_plain : get_or (under c) id_field None ≡ Some plain = field_there c id_field (omega arith) ∙ under_true c (table_field id_field) there in
+    let says = plain_says o (field_at vs id_field) at.0 at.1 (ap (λ t. run_parts o (slot t) at.0) (sym is_plain) ∙ at.2) in
     (says.0, ap number_in says.1)
 
 -- ---- one field changed
@@ -81,7 +81,7 @@ changed : (vs : SampleValue) (f : ℕ) (v : Option FieldValue) → f < length vs
 changed vs f v h = record { field = get_or-set_same vs f v None h; others = λ g ne. get_or-set_other vs f g v None ne }
 
 keeps : (c : Configuration) (o : Order) (body : List ℕ) (vs us : SampleValue) → is_there c id_field ≡ true → layout o (sample c) body ≡ Ok vs →
-    said us id_field ≡ said vs id_field → KeepsId vs us
+    field_at us id_field ≡ field_at vs id_field → KeepsId vs us
 keeps c o body vs us there e same =
     let says = id_says c o body vs there e in record {
       was = ap (λ t. first_of t (said_identifier vs)) says.1 ∙ sym says.1;
@@ -95,7 +95,7 @@ spliced_layout : (c : Configuration) (o : Order) (f flag : ℕ) (body w : List �
     layout o (sample (with_flag c flag)) (spliced c o body f w) ≡ Ok (set vs f (Some (value o w 0 (parts_of c f))))
 unfolding sample
 spliced_layout c o f flag body w vs h absent has s e =
-    let none : get_or (under c) f None ≡ None = field_there c f h ∙ under_false c (field_at f) absent in
+    let none : get_or (under c) f None ≡ None = field_there c f h ∙ under_false c (table_field f) absent in
     ap (λ t. layout o (table t) (spliced c o body f w)) (with_fields sample_fields c f flag refl refl h has)
     ∙ splice_fields o (under c) f (parts_of c f) body w vs (within c f h) none (front_closed sample_fields c f sample_ended) (one_closed sample_fields f sample_ended (settings_of c)) e s
 
@@ -124,5 +124,5 @@ sample_cut c body f h o vs there e =
       cut_layout c o f body vs h e,
       only,
       λ other id. keeps c o body vs us id e (only.others 5 (λ is. other (sym is))),
-      λ is. ap (λ t. first_of t (said_identifier us)) (ap number_in (ap (said us) (sym is) ∙ only.field)) ∙ ap number_in (only.others 0 (omega arith)),
+      λ is. ap (λ t. first_of t (said_identifier us)) (ap number_in (ap (field_at us) (sym is) ∙ only.field)) ∙ ap number_in (only.others 0 (omega arith)),
     )

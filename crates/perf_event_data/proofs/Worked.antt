@@ -5,8 +5,8 @@ use Rattle.perf_base.specs.Layout.{layout}
 use Rattle.perf_base.specs.Order.{little, big}
 use Rattle.perf_base.specs.Splice.{Spells}
 use Rattle.perf_types.specs.Sample.{number_is, task_is, bytes_are, SampleValue, sample}
+use Rattle.perf_types.specs.SampleGetters.{getters_of}
 use Rattle.perf_event_data.specs.SampleLaws.{flags_of, parts_of, is_there, with_flag, without_field, spliced, without_bytes}
-use Rattle.perf_types.specs.SampleGetters.{id_of}
 
 -- ---- the fields by their numbers
 
@@ -71,6 +71,16 @@ said_with_time : layout little (sample (with_flag three 2)) (spliced three littl
     Ok (None ∷ Some (number_is 0x2010) ∷ Some (task_is (Some 1) (Some 2)) ∷ Some (number_is 0x1000000000007) ∷ None ∷ Some (number_is 9) ∷ absent 18)
 unfolding sample
 said_with_time = refl
+
+-- the calls answer the same but for the time
+calls_with_time : (before after : SampleValue) → layout little (sample three) of_three ≡ Ok before →
+    layout little (sample (with_flag three 2)) (spliced three little of_three 3 time) ≡ Ok after →
+    getters_of after ≡ record (getters_of before) { time = Some 0x1000000000007 }
+unfolding sample
+calls_with_time before after e f =
+    let was : before ≡ None ∷ Some (number_is 0x2010) ∷ Some (task_is (Some 1) (Some 2)) ∷ None ∷ None ∷ Some (number_is 9) ∷ absent 18 = cc in
+    let is : after ≡ None ∷ Some (number_is 0x2010) ∷ Some (task_is (Some 1) (Some 2)) ∷ Some (number_is 0x1000000000007) ∷ None ∷ Some (number_is 9) ∷ absent 18 = cc in
+    rw (was, is) refl
 
 said_with_time_in_big : layout big (sample (with_flag three 2)) (spliced three big of_three 3 time) ≡
     Ok (None ∷ Some (number_is 0x1020000000000000) ∷ Some (task_is (Some 0x1000000) (Some 0x2000000)) ∷ Some (number_is 0x700000000000100) ∷ None ∷ Some (number_is 0x900000000000000) ∷ absent 18)
@@ -161,7 +171,7 @@ said_by_both : layout little (sample (with_flag three 16)) (spliced three little
 unfolding sample
 said_by_both = refl
 
-id_stays : id_of said_with_both ≡ Some 9
+id_stays : (getters_of said_with_both).id ≡ Some 9
 id_stays = refl
 
 id_is_cut_out : without_bytes (of_type 0x10043) little (identifier ++ ip ++ tid ++ id) 5 ≡ identifier ++ ip ++ tid
@@ -174,5 +184,5 @@ said_by_identifier : layout little (sample (without_field (of_type 0x10043) 5)) 
 unfolding sample
 said_by_identifier = refl
 
-id_is_the_identifier : id_of said_with_identifier ≡ Some 5
+id_is_the_identifier : (getters_of said_with_identifier).id ≡ Some 5
 id_is_the_identifier = refl

@@ -12,7 +12,7 @@ use Rattle.perf_base.specs.Splice.{Spells, put_in, take_out}
 use Rattle.perf_base.specs.Table.{place_of}
 use Rattle.perf_types.specs.Sample.{Field, FieldValue, SampleValue, sample}
 use Rattle.perf_types.specs.Sample.{sample_fields, fields_under, is_present, settings_of, plain}
-use Rattle.perf_types.specs.SampleGetters.{said, number_in, id_of}
+use Rattle.perf_types.specs.SampleGetters.{field_at, number_in, getters_of}
 use Rattle.perf_words.specs.Bits.{has_bit}
 
 -- ---- fields by their numbers
@@ -22,8 +22,8 @@ abbrev pub no_field : Field
 no_field = record { flags = []; parts = λ c. plain }
 
 -- field f of the table
-abbrev pub field_at : ℕ → Field
-field_at f = get_or sample_fields f no_field
+abbrev pub table_field : ℕ → Field
+table_field f = get_or sample_fields f no_field
 
 -- the number of IDENTIFIER
 abbrev pub identifier_field : ℕ
@@ -35,15 +35,15 @@ id_field = 5
 
 -- the flags of field f, by their bits
 abbrev pub flags_of : ℕ → List ℕ
-flags_of f = (field_at f).flags
+flags_of f = (table_field f).flags
 
 -- what bytes field f takes
 abbrev pub parts_of : Configuration → ℕ → Parts FieldValue
-parts_of c f = (field_at f).parts (settings_of c)
+parts_of c f = (table_field f).parts (settings_of c)
 
 -- field f is there
 abbrev pub is_there : Configuration → ℕ → Bool
-is_there c f = is_present c (field_at f)
+is_there c f = is_present c (table_field f)
 
 -- the place that field f has in a body, or would have
 abbrev pub field_place : Configuration → Order → List ℕ → ℕ → ℕ
@@ -82,21 +82,21 @@ without_bytes c o body f = take_out body (field_place c o body f) (field_place c
 
 -- the number that ID says
 abbrev pub said_id : SampleValue → Option ℕ
-said_id sample = number_in (said sample id_field)
+said_id fields = number_in (field_at fields id_field)
 
 -- the number that IDENTIFIER says
 abbrev pub said_identifier : SampleValue → Option ℕ
-said_identifier sample = number_in (said sample identifier_field)
+said_identifier fields = number_in (field_at fields identifier_field)
 
 -- Afterwards field f says v, and each other field says what it said before.
 pub record ChangesField (before after : SampleValue) (f : ℕ) (v : Option FieldValue) : Type 0 where
-  pub field : said after f ≡ v
-  pub others : (g : ℕ) → g ≢ f → said after g ≡ said before g
+  pub field : field_at after f ≡ v
+  pub others : (g : ℕ) → g ≢ f → field_at after g ≡ field_at before g
 
 -- What ID said is the id of both samples.
 pub record KeepsId (before after : SampleValue) : Type 0 where
-  pub was : id_of before ≡ said_id before
-  pub stays : id_of after ≡ said_id before
+  pub was : (getters_of before).id ≡ said_id before
+  pub stays : (getters_of after).id ≡ said_id before
 
 -- ---- the law, in both directions
 
@@ -124,4 +124,4 @@ CutLaw c body f =
     × (layout o (sample (without_field c f)) (without_bytes c o body f) ≡ Ok after)
     × ChangesField before after f None
     × (f ≢ id_field → is_there c id_field ≡ true → KeepsId before after)
-    × (f ≡ id_field → id_of after ≡ said_identifier before)
+    × (f ≡ id_field → (getters_of after).id ≡ said_identifier before)

@@ -88,42 +88,42 @@ registers_in _ = None
 
 -- ---- the calls
 
--- what field i says in a sample, None where it is absent
-abbrev pub said : SampleValue → ℕ → Option FieldValue
-said vs i = get_or vs i None
+-- what field i says, None where it is absent
+abbrev pub field_at : SampleValue → ℕ → Option FieldValue
+field_at vs i = get_or vs i None
 
 -- the value of ID, where that is there, else of IDENTIFIER
 abbrev pub id_of : SampleValue → Option ℕ
-id_of vs = first_of (number_in (said vs 5)) (number_in (said vs 0))
+id_of vs = first_of (number_in (field_at vs 5)) (number_in (field_at vs 0))
 
 -- what the calls answer of a sample
 abbrev pub getters_of : SampleValue → Getters
 getters_of vs = record {
-  ip = number_in (said vs 1);
-  pid = pid_in (said vs 2);
-  tid = tid_in (said vs 2);
-  time = number_in (said vs 3);
-  addr = number_in (said vs 4);
+  ip = number_in (field_at vs 1);
+  pid = pid_in (field_at vs 2);
+  tid = tid_in (field_at vs 2);
+  time = number_in (field_at vs 3);
+  addr = number_in (field_at vs 4);
   id = id_of vs;
-  stream_id = number_in (said vs 6);
-  cpu = number_in (said vs 7);
-  period = number_in (said vs 8);
-  values = group_in (said vs 9);
-  callchain = numbers_in (said vs 10);
-  raw = bytes_in (said vs 11);
-  lbr_hw_index = hw_index_in (said vs 12);
-  lbr = branches_in (said vs 12);
-  regs_user = registers_in (said vs 13);
-  stack_user = bytes_in (said vs 14);
-  weight = number_in (said vs 15);
-  data_src = number_in (said vs 16);
-  transaction = number_in (said vs 17);
-  regs_intr = registers_in (said vs 18);
-  phys_addr = number_in (said vs 19);
-  aux = bytes_in (said vs 23);
-  cgroup = number_in (said vs 20);
-  data_page_size = number_in (said vs 21);
-  code_page_size = number_in (said vs 22);
+  stream_id = number_in (field_at vs 6);
+  cpu = number_in (field_at vs 7);
+  period = number_in (field_at vs 8);
+  values = group_in (field_at vs 9);
+  callchain = numbers_in (field_at vs 10);
+  raw = bytes_in (field_at vs 11);
+  lbr_hw_index = hw_index_in (field_at vs 12);
+  lbr = branches_in (field_at vs 12);
+  regs_user = registers_in (field_at vs 13);
+  stack_user = bytes_in (field_at vs 14);
+  weight = number_in (field_at vs 15);
+  data_src = number_in (field_at vs 16);
+  transaction = number_in (field_at vs 17);
+  regs_intr = registers_in (field_at vs 18);
+  phys_addr = number_in (field_at vs 19);
+  aux = bytes_in (field_at vs 23);
+  cgroup = number_in (field_at vs 20);
+  data_page_size = number_in (field_at vs 21);
+  code_page_size = number_in (field_at vs 22);
 }
 
 -- the sample id that says the same
