@@ -14,4 +14,6 @@ mod records;
 #[cfg(test)]
 mod replay;
 #[cfg(test)]
+mod samples;
+#[cfg(test)]
 mod texts;

@@ -3,7 +3,7 @@ use Rattle.std.proofs.Common.{ℕ, suc, ◌/◌, ◌%◌, ◌<◌, List, [], ◌
 use Rattle.std.specs.Str.{IsAscii}
 use Rattle.std.proofs.lemmas.Bool.Decides.{nat_tests}
 use Rattle.std.proofs.lemmas.Str.Ascii.{IsAscii-nil, IsAscii-cons}
-use Rattle.perf_lines.specs.Text.{hex_digit, hex}
+use Rattle.perf_lines.specs.Fields.{hex_digit, hex}
 
 digit_is_ascii : (n : ℕ) → n < 16 → hex_digit n < 128
 digit_is_ascii n small = grind (arith, nat_tests)

@@ -1,8 +1,11 @@
 -- Words one behind another.
-use Rattle.std.proofs.Common.{◌≡◌, ℕ, List, [], ◌∷◌, ◌++◌, Result, OnOk, sym, ap, ◌∙◌, append-nil, append_assoc, codes}
+use Rattle.std.proofs.Common.{◌≡◌, ℕ, List, [], ◌∷◌, ◌++◌, Option, Some, None, Result, OnOk, refl, sym, ap, ◌∙◌, append-nil, append_assoc, codes, decimal}
 use Rattle.std.proofs.lemmas.Result.{on_ok_weaker}
 use Rattle.std.proofs.lemmas.Grind.{flat_map-append}
-use Rattle.perf_lines.specs.Text.{spaced}
+use Rattle.std.specs.List.{flat_map}
+use Rattle.perf_types.specs.Registers.{RegistersValue}
+use Rattle.perf_lines.specs.Fields.{spaced, present, word_as, words_of, listed}
+use Rattle.perf_lines.specs.SampleText.{register_words}
 
 -- a text that grew by words, and then by words once more
 pub words_more : (words others : List (List ℕ)) (old middle new : List ℕ) → middle ≡ old ++ spaced words → new ≡ middle ++ spaced others → new ≡ old ++ spaced (words ++ others)
@@ -18,3 +21,27 @@ last_word result words word old middle new first grown =
     on_ok_weaker result
     (λ last. words_more words (word ∷ []) old middle new first (last ∙ ap (λ rest. middle ++ rest) (sym (append-nil (codes " " ++ word)))))
     grown
+
+-- numbers that may be absent are written as words of their own
+pub spaced-words_of : (fields : List (List ℕ × Option ℕ)) → flat_map (λ f. present (λ n. codes " " ++ (f.0 ++ (codes "=" ++ decimal n))) f.1) fields ≡ spaced (words_of fields)
+spaced-words_of [] = refl
+spaced-words_of ((name, None) ∷ fields) = spaced-words_of fields
+spaced-words_of ((name, Some n) ∷ fields) = ap (λ rest. (codes " " ++ (name ++ (codes "=" ++ decimal n))) ++ rest) (spaced-words_of fields)
+
+-- and so is what else may be absent
+pub spaced-word_as : {X : Type 0} (name : List ℕ) (written : X → List ℕ) (x : Option X) → present (λ there. codes " " ++ (name ++ (codes "=" ++ written there))) x ≡ spaced (word_as name written x)
+spaced-word_as name written None = refl
+spaced-word_as name written (Some there) = sym (append-nil (codes " " ++ (name ++ (codes "=" ++ written there))))
+
+-- and registers, under two names
+pub spaced-registers : (abi regs : List ℕ) (r : Option RegistersValue) → present (λ there. (codes " " ++ (abi ++ codes "=")) ++ (decimal there.abi ++ ((codes " " ++ (regs ++ codes "=")) ++ listed decimal there.regs))) r ≡ spaced (register_words abi regs r)
+spaced-registers abi regs None = refl
+spaced-registers abi regs (Some r) = simp (append_assoc, append-nil)
+
+-- a list that an iterator gives: its first item is written, and then each other behind a comma, until none is left
+pub listed_to_end : {X : Type 0} (item : X → List ℕ) (old before pushed first_text text : List ℕ) (x : X) (left rest items : List X) → pushed ≡ old ++ before → first_text ≡ pushed ++ item x → text ++ flat_map (λ other. codes "," ++ item other) left ≡ first_text ++ flat_map (λ other. codes "," ++ item other) rest → left ≡ [] → items ≡ x ∷ rest → text ≡ old ++ (before ++ listed item items)
+listed_to_end {X} item old before pushed first_text text x left rest items named first others none all =
+    sym (append-nil text)
+    ∙ ap (λ last. text ++ flat_map (λ (other : X). codes "," ++ item other) last) (sym none)
+    ∙ others
+    ∙ rw (first, named, all) (simp append_assoc)

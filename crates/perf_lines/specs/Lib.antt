@@ -1,4 +1,6 @@
 pub mod Words
+pub mod Fields
+pub mod SampleText
 pub mod Text
 pub mod Outcomes
 pub mod RunWords

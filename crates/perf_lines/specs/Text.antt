@@ -1,8 +1,7 @@
 -- The text that the program writes: a line for each frame, and a last one that says how reading
 -- ended.
-use Rattle.std.specs.Prelude.{ℕ, ◌+◌, ◌-◌, ◌/◌, ◌%◌, Bool, true, false, List, [], ◌∷◌, ◌++◌, length}
-use Rattle.std.specs.Prelude.{take, drop, nat_lt, nat_le, codes, decimal, Option, Some, None}
-use Rattle.std.specs.Prelude.{Result, Ok, Err, if◌then◌else◌}
+use Rattle.std.specs.Prelude.{ℕ, Bool, true, false, List, [], ◌∷◌, ◌++◌, length, take, drop}
+use Rattle.std.specs.Prelude.{nat_le, codes, decimal, Result, Ok, Err, if◌then◌else◌}
 use Rattle.std.specs.List.{flat_map, enumerate_from}
 use Rattle.perf_base.specs.Order.{Order}
 use Rattle.perf_base.specs.Configuration.{Configuration, plain, configured_by}
@@ -34,55 +33,17 @@ use Rattle.perf_types.specs.KSymbol.{KSymbolValue}
 use Rattle.perf_types.specs.BpfEvent.{BpfEventValue}
 use Rattle.perf_types.specs.CGroup.{CGroupValue}
 use Rattle.perf_types.specs.TextPoke.{TextPokeValue}
+use Rattle.perf_types.specs.SampleGetters.{getters_of}
 use Rattle.perf_records.specs.Records.{RecordValue, mmap_is, lost_is, comm_is, exit_is, throttle_is}
-use Rattle.perf_records.specs.Records.{unthrottle_is, fork_is, read_is, mmap2_is, aux_is}
+use Rattle.perf_records.specs.Records.{unthrottle_is, fork_is, read_is, sample_is, mmap2_is, aux_is}
 use Rattle.perf_records.specs.Records.{itrace_start_is, lost_samples_is, switch_is}
 use Rattle.perf_records.specs.Records.{switch_cpu_wide_is}
 use Rattle.perf_records.specs.Records.{namespaces_is, ksymbol_is, bpf_event_is, cgroup_is}
 use Rattle.perf_records.specs.Records.{text_poke_is, aux_output_hw_id_is, unknown_is}
 use Rattle.perf_records.specs.Frames.{StreamEnd, done, cut_header, stream_end}
 use Rattle.perf_records.specs.Answers.{answers}
-
--- ---- words
-
--- the digit of a number below sixteen: 48 is `0`, and 97 is `a`
-abbrev pub hex_digit : ℕ → ℕ
-hex_digit n = if nat_lt n 10 then 48 + n else 97 + (n - 10)
-
--- the two digits of a byte
-abbrev pub hex_byte : ℕ → List ℕ
-hex_byte b = hex_digit (b / 16) ∷ hex_digit (b % 16) ∷ []
-
--- a byte string
-abbrev pub hex : List ℕ → List ℕ
-hex bytes = flat_map hex_byte bytes
-
--- a name, `=` and what it has
-abbrev pub field : List ℕ → List ℕ → List ℕ
-field name has = name ++ (codes "=" ++ has)
-
--- the same of a number
-abbrev pub number : List ℕ → ℕ → List ℕ
-number name n = field name (decimal n)
-
--- a number that may be absent, as it is written, or nothing
-abbrev pub present : (ℕ → List ℕ) → Option ℕ → List ℕ
-present written (Some n) = written n
-present written None = []
-
--- the same as a word of its own
-abbrev pub word_of : List ℕ → Option ℕ → List (List ℕ)
-word_of name (Some n) = number name n ∷ []
-word_of name None = []
-
--- items with commas in between
-abbrev pub listed : {X : Type 0} → (X → List ℕ) → List X → List ℕ
-listed item [] = []
-listed item (x ∷ xs) = item x ++ flat_map (λ other. codes "," ++ item other) xs
-
--- each word with a space in front
-abbrev pub spaced : List (List ℕ) → List ℕ
-spaced words = flat_map (λ word. codes " " ++ word) words
+use Rattle.perf_lines.specs.Fields.{field, number, word_of, hex, listed, spaced}
+use Rattle.perf_lines.specs.SampleText.{sample_words}
 
 -- ---- records
 
@@ -220,6 +181,7 @@ record_words (throttle_is r) = codes "Throttle" ∷ throttle_fields r
 record_words (unthrottle_is r) = codes "Unthrottle" ∷ throttle_fields r
 record_words (fork_is r) = codes "Fork" ∷ exit_fields r
 record_words (read_is r) = read_words r
+record_words (sample_is r) = sample_words (getters_of r)
 record_words (mmap2_is r) = mmap2_words r
 record_words (aux_is r) = aux_words r
 record_words (itrace_start_is r) = itrace_start_words r

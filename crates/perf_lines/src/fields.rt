@@ -1,9 +1,9 @@
 //! Fields of a line.
 
 ghost use Rattle.std.specs.Prelude.{◌≡◌, ◌*◌, ◌<◌, ◌≤◌, ◌++◌, length, take, decimal, string_bytes};
-ghost use Rattle.std.specs.Prelude.{OnOk};
+ghost use Rattle.std.specs.Prelude.{OnOk, option_map};
 ghost use Rattle.std.specs.List.{flat_map};
-ghost use Rattle.perf_lines.specs.Text.{hex_digit, hex, present};
+ghost use Rattle.perf_lines.specs.Fields.{hex_digit, hex, listed, present};
 
 use std::alloc::AllocError;
 
@@ -51,6 +51,75 @@ pub(crate) fn push_present(
 {
     match number {
         Some(number) => push_number(text, before, number),
+        None => Ok(()),
+    }
+}
+
+// Appends those numbers that are there, each behind what stands in front of it.
+pub(crate) fn push_numbers(
+    text: &mut String,
+    numbers: &[(&str, Option<u64>)],
+) -> Result<(), AllocError>
+    ensures { OnOk result (string_bytes text.new
+        ≡ string_bytes text.old
+        ++ flat_map (λ field. present (λ n. field.0.now ++ decimal n) field.1) numbers.now) }
+{
+    for (before, number) in numbers {
+        push_present(text, before, *number)?;
+    }
+    Ok(())
+}
+
+// Appends a list that is there, with commas between its numbers, behind what stands in front of it.
+pub(crate) fn push_list(
+    text: &mut String,
+    before: &str,
+    numbers: Option<&[u64]>,
+) -> Result<(), AllocError>
+    ensures { OnOk result (string_bytes text.new
+        ≡ string_bytes text.old
+        ++ present (λ items. before.now ++ listed decimal items)
+        (option_map (λ items. items.now) numbers.entry)) }
+{
+    match numbers {
+        Some(numbers) => push_items(text, before, numbers),
+        None => Ok(()),
+    }
+}
+
+// Appends numbers, with commas in between, behind what stands in front of them.
+pub(crate) fn push_items(
+    text: &mut String,
+    before: &str,
+    numbers: &[u64],
+) -> Result<(), AllocError>
+    ensures { OnOk result (string_bytes text.new
+        ≡ string_bytes text.old ++ (before.now ++ listed decimal numbers.now)) }
+{
+    text.push_str(before)?;
+    let Some((first, rest)) = numbers.split_first() else {
+        return Ok(());
+    };
+    push_number(text, "", *first)?;
+    for number in rest {
+        push_number(text, ",", *number)?;
+    }
+    Ok(())
+}
+
+// Appends the digits of bytes that are there behind what stands in front of them.
+pub(crate) fn push_bytes(
+    text: &mut String,
+    before: &str,
+    bytes: Option<&[u8]>,
+) -> Result<(), AllocError>
+    ensures { OnOk result (string_bytes text.new
+        ≡ string_bytes text.old
+        ++ present (λ items. before.now ++ hex items)
+        (option_map (λ items. items.now) bytes.entry)) }
+{
+    match bytes {
+        Some(bytes) => push_hex(text, before, bytes),
         None => Ok(()),
     }
 }

@@ -9,4 +9,5 @@ pub mod outcome;
 pub mod output;
 mod records;
 pub mod run;
+mod sample;
 pub mod words;

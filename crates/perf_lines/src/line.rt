@@ -4,6 +4,7 @@ ghost use Rattle.std.specs.Prelude.{◌≡◌, ◌+◌, ◌<◌, ◌^◌, ◌++�
 ghost use Rattle.std.specs.Prelude.{IfOk, IfErr};
 ghost use Rattle.perf_base.specs.Errors.{kind_of};
 ghost use Rattle.perf_parser.specs.Runs.{seen_answer, seen_answers};
+ghost use Rattle.perf_lines.specs.Fields.{spaced};
 ghost use Rattle.perf_lines.specs.Text as shown;
 
 use crate::fields::push_number;
@@ -102,7 +103,7 @@ fn push_line(
 
 fn push_answer(text: &mut String, answer: &ParseResult<Record>) -> Result<(), AllocError>
     ensures { OnOk result (string_bytes text.new
-        ≡ string_bytes text.old ++ shown.spaced (shown.answer_words (seen_answer answer.now))) }
+        ≡ string_bytes text.old ++ spaced (shown.answer_words (seen_answer answer.now))) }
 {
     match answer {
         Ok(record) => push_record(text, record),

@@ -3,9 +3,11 @@
 ghost use Rattle.std.specs.Prelude.{◌≡◌, ◌++◌, string_bytes, OnOk};
 ghost use Rattle.perf_records.specs.Records as value;
 ghost use Rattle.perf_lines.specs.Text as shown;
-ghost use Rattle.perf_lines.specs.Text.{spaced, listed, namespace_item};
+ghost use Rattle.perf_lines.specs.Text.{namespace_item};
+ghost use Rattle.perf_lines.specs.Fields.{spaced, listed};
 
 use crate::fields::{push_fields, push_hex, push_number, push_present};
+use crate::sample::push_sample;
 use bitflags::Flags;
 use perf_event_data::{
     Aux, AuxOutputHwId, BpfEvent, CGroup, Comm, Exit, ITraceStart, KSymbol, Lost, LostSamples,
@@ -26,6 +28,7 @@ pub(crate) fn push_record(text: &mut String, found: &Record) -> Result<(), Alloc
         Record::Unthrottle(throttle) => push_throttle(text, " Unthrottle", throttle),
         Record::Fork(fork) => push_exit(text, " Fork", fork),
         Record::Read(read) => push_read(text, read),
+        Record::Sample(sample) => push_sample(text, sample),
         Record::Mmap2(mapped) => push_mmap2(text, mapped),
         Record::Aux(aux) => push_aux(text, aux),
         Record::ITraceStart(start) => push_itrace_start(text, start),

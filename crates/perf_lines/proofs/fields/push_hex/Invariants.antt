@@ -1,6 +1,6 @@
 use Rattle.std.proofs.Common.{◌≡◌, ◌++◌, string_bytes}
 use Rattle.std.specs.Slice.Iter.{chunks_rest, chunks_size}
-use Rattle.perf_lines.specs.Text.{hex}
+use Rattle.perf_lines.specs.Fields.{hex}
 use Rattle.perf_lines.proofs.fields.push_hex.Given as goal
 
 abbrev pub invariant-loop-piece : goal.invariant-loop-piece

@@ -1,5 +1,5 @@
 use Rattle.std.proofs.Common.{◌≡◌, ◌*◌, take}
-use Rattle.perf_lines.specs.Text.{hex}
+use Rattle.perf_lines.specs.Fields.{hex}
 use Rattle.perf_lines.proofs.fields.write_digits.Given as goal
 
 abbrev pub invariant-loop-i : goal.invariant-loop-i

@@ -1,5 +1,5 @@
 use Rattle.std.proofs.Common.{◌≡◌, ◌++◌, ◌∙◌, ◌∷◌, [], List, ℕ, codes, string_bytes, refl}
-use Rattle.perf_lines.specs.Text.{spaced, number, field, hex}
+use Rattle.perf_lines.specs.Fields.{spaced, number, field, hex}
 use Rattle.perf_lines.proofs.Spaced.{last_word}
 use Rattle.perf_lines.proofs.records.push_ksymbol.Goals as goal
 

@@ -1,7 +1,8 @@
 use Rattle.std.proofs.Common.{◌≡◌, ◌++◌, ◌∙◌, ◌∷◌, [], List, ℕ, codes, string_bytes, refl, ap, append_assoc}
 use Rattle.std.proofs.lemmas.Result.{on_ok_weaker}
 use Rattle.perf_types.specs.MmapDetail.{detail_value}
-use Rattle.perf_lines.specs.Text.{spaced, detail_words, number, field, hex}
+use Rattle.perf_lines.specs.Fields.{spaced, number, field, hex}
+use Rattle.perf_lines.specs.Text.{detail_words}
 use Rattle.perf_lines.proofs.Spaced.{words_more, last_word}
 use Rattle.perf_lines.proofs.records.push_mmap2.Goals as goal
 

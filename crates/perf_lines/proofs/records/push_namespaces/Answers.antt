@@ -1,5 +1,6 @@
 use Rattle.std.proofs.Common.{◌≡◌, ◌++◌, ◌∙◌, ◌∷◌, [], List, ℕ, codes, string_bytes, refl}
-use Rattle.perf_lines.specs.Text.{spaced, number, field, listed, namespace_item}
+use Rattle.perf_lines.specs.Fields.{spaced, number, field, listed}
+use Rattle.perf_lines.specs.Text.{namespace_item}
 use Rattle.perf_lines.proofs.Spaced.{last_word}
 use Rattle.perf_lines.proofs.records.push_namespaces.Goals as goal
 

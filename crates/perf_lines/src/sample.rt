@@ -1,0 +1,232 @@
+//! A sample, as a name and fields.
+
+ghost use Rattle.std.specs.Prelude.{◌≡◌, ◌++◌, string_bytes, OnOk, option_map, codes, decimal};
+ghost use Rattle.perf_types.specs.SampleWords.{getters_of, sample_value, group_read};
+ghost use Rattle.perf_types.specs.SampleWords.{registers_value, txn_bits};
+ghost use Rattle.perf_lines.specs.Fields.{spaced, listed, present};
+ghost use Rattle.perf_lines.specs.SampleText as shown;
+
+use crate::fields::{
+    push_bytes, push_fields, push_items, push_list, push_number, push_numbers, push_present,
+};
+use bitflags::Flags;
+use perf_event_data::{BranchEntry, DataSource, GroupEntry, ReadGroup, Txn};
+use perf_types::registers::Registers;
+use perf_types::sample::Sample;
+use std::alloc::AllocError;
+
+pub(crate) fn push_sample(text: &mut String, sample: &Sample) -> Result<(), AllocError>
+    ensures { OnOk result (string_bytes text.new
+        ≡ string_bytes text.old
+        ++ spaced (shown.sample_words (getters_of (sample_value sample.now)))) }
+{
+    text.push_str(" Sample")?;
+    push_moment(text, sample)?;
+    push_counts(text, sample)?;
+    push_state(text, sample)?;
+    push_costs(text, sample)?;
+    push_memory(text, sample)
+}
+
+fn push_moment(text: &mut String, sample: &Sample) -> Result<(), AllocError>
+    ensures { OnOk result (string_bytes text.new
+        ≡ string_bytes text.old
+        ++ spaced (shown.moment_words (getters_of (sample_value sample.now)))) }
+{
+    let fields = [
+        (" ip=", sample.ip()),
+        (" pid=", wide(sample.pid())),
+        (" tid=", wide(sample.tid())),
+        (" time=", sample.time()),
+        (" addr=", sample.addr()),
+        (" id=", sample.id()),
+    ];
+    push_numbers(text, &fields)
+}
+
+fn push_counts(text: &mut String, sample: &Sample) -> Result<(), AllocError>
+    ensures { OnOk result (string_bytes text.new
+        ≡ string_bytes text.old
+        ++ spaced (shown.count_words (getters_of (sample_value sample.now)))) }
+{
+    let fields = [
+        (" stream_id=", sample.stream_id()),
+        (" cpu=", wide(sample.cpu())),
+        (" period=", sample.period()),
+    ];
+    push_numbers(text, &fields)?;
+    push_group(text, sample.values())?;
+    push_list(text, " callchain=", sample.callchain())
+}
+
+fn push_state(text: &mut String, sample: &Sample) -> Result<(), AllocError>
+    ensures { OnOk result (string_bytes text.new
+        ≡ string_bytes text.old
+        ++ spaced (shown.state_words (getters_of (sample_value sample.now)))) }
+{
+    push_bytes(text, " raw=", sample.raw())?;
+    push_present(text, " lbr_hw_index=", sample.lbr_hw_index())?;
+    push_branches(text, sample.lbr())?;
+    push_registers(text, " regs_user_abi=", " regs_user=", sample.regs_user())?;
+    push_bytes(text, " stack_user=", sample.stack_user())
+}
+
+fn push_costs(text: &mut String, sample: &Sample) -> Result<(), AllocError>
+    ensures { OnOk result (string_bytes text.new
+        ≡ string_bytes text.old
+        ++ spaced (shown.cost_words (getters_of (sample_value sample.now)))) }
+{
+    let fields = [
+        (" weight=", sample.weight()),
+        (" data_src=", source_bits(sample.data_src())),
+        (" transaction=", transaction_bits(sample.transaction())),
+    ];
+    push_numbers(text, &fields)?;
+    push_registers(text, " regs_intr_abi=", " regs_intr=", sample.regs_intr())
+}
+
+fn push_memory(text: &mut String, sample: &Sample) -> Result<(), AllocError>
+    ensures { OnOk result (string_bytes text.new
+        ≡ string_bytes text.old
+        ++ spaced (shown.memory_words (getters_of (sample_value sample.now)))) }
+{
+    push_present(text, " phys_addr=", sample.phys_addr())?;
+    push_bytes(text, " aux=", sample.aux())?;
+    let fields = [
+        (" cgroup=", sample.cgroup()),
+        (" data_page_size=", sample.data_page_size()),
+        (" code_page_size=", sample.code_page_size()),
+    ];
+    push_numbers(text, &fields)
+}
+
+// The same number, in eight bytes.
+fn wide(number: Option<u32>) -> Option<u64>
+    ensures { result ≡ number }
+{
+    number.map(u64::from)
+}
+
+// The whole word of a data source.
+fn source_bits(source: Option<DataSource>) -> Option<u64>
+    ensures { result ≡ source }
+{
+    match source {
+        Some(source) => Some(source.bits()),
+        None => None,
+    }
+}
+
+// The whole word of what a memory transaction did.
+fn transaction_bits(transaction: Option<Txn>) -> Option<u64>
+    ensures { result ≡ option_map txn_bits transaction }
+{
+    match transaction {
+        Some(transaction) => Some(transaction.bits()),
+        None => None,
+    }
+}
+
+// Appends a read of counters that is there: its times, and its counters.
+fn push_group(text: &mut String, group: Option<&ReadGroup>) -> Result<(), AllocError>
+    ensures { OnOk result (string_bytes text.new
+        ≡ string_bytes text.old
+        ++ spaced (shown.group_words (option_map (λ group. group_read group.now) group.entry))) }
+{
+    let Some(group) = group else {
+        return Ok(());
+    };
+    let times = [
+        (" time_enabled=", group.time_enabled()),
+        (" time_running=", group.time_running()),
+    ];
+    push_numbers(text, &times)?;
+    push_counters(text, " values=", group)
+}
+
+// Appends the counters of a group, with commas in between, behind what stands in front of them.
+fn push_counters(text: &mut String, before: &str, group: &ReadGroup) -> Result<(), AllocError>
+    ensures { OnOk result (string_bytes text.new
+        ≡ string_bytes text.old
+        ++ (before.now ++ listed shown.counter_item (group_read group.now).entries)) }
+{
+    text.push_str(before)?;
+    let mut entries = group.entries();
+    let Some(first) = entries.next() else {
+        return Ok(());
+    };
+    push_counter(text, "", &first)?;
+    for entry in entries {
+        push_counter(text, ",", &entry)?;
+    }
+    Ok(())
+}
+
+// Appends one counter behind what stands in front of it.
+fn push_counter(text: &mut String, before: &str, entry: &GroupEntry) -> Result<(), AllocError>
+    ensures { OnOk result (string_bytes text.new
+        ≡ string_bytes text.old ++ (before.now ++ shown.counter_item entry.now)) }
+{
+    push_number(text, before, entry.value())?;
+    push_present(text, ":", entry.id())?;
+    push_present(text, ":", entry.lost())
+}
+
+// Appends branches that are there, with commas in between, behind their name.
+fn push_branches(text: &mut String, branches: Option<&[BranchEntry]>) -> Result<(), AllocError>
+    ensures { OnOk result (string_bytes text.new
+        ≡ string_bytes text.old
+        ++ present (λ items. codes " lbr=" ++ listed shown.branch_item items)
+        (option_map (λ items. items.now) branches.entry)) }
+{
+    let Some(branches) = branches else {
+        return Ok(());
+    };
+    text.push_str(" lbr=")?;
+    let Some((first, rest)) = branches.split_first() else {
+        return Ok(());
+    };
+    push_branch(text, "", first)?;
+    for branch in rest {
+        push_branch(text, ",", branch)?;
+    }
+    Ok(())
+}
+
+// Appends one branch behind what stands in front of it.
+fn push_branch(text: &mut String, before: &str, branch: &BranchEntry) -> Result<(), AllocError>
+    ensures { OnOk result (string_bytes text.new
+        ≡ string_bytes text.old ++ (before.now ++ shown.branch_item branch.now)) }
+{
+    let fields = [
+        (":", branch.to()),
+        (":", u64::from(branch.mispred())),
+        (":", u64::from(branch.predicted())),
+        (":", u64::from(branch.in_tx())),
+        (":", u64::from(branch.abort())),
+        (":", u64::from(branch.cycles())),
+        (":", u64::from(branch.ty().get())),
+    ];
+    push_number(text, before, branch.from())?;
+    push_fields(text, "", &fields)
+}
+
+// Appends registers that are there: the kind of task and what they held, each behind what stands
+// in front of it.
+fn push_registers(
+    text: &mut String,
+    abi: &str,
+    regs: &str,
+    registers: Option<&Registers>,
+) -> Result<(), AllocError>
+    ensures { OnOk result (string_bytes text.new
+        ≡ string_bytes text.old
+        ++ present (λ r. abi.now ++ (decimal r.abi ++ (regs.now ++ listed decimal r.regs)))
+        (option_map (λ registers. registers_value registers.now) registers.entry)) }
+{
+    let Some(registers) = registers else {
+        return Ok(());
+    };
+    push_number(text, abi, registers.abi.get())?;
+    push_items(text, regs, registers.regs.as_slice())
+}
