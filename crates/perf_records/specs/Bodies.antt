@@ -10,9 +10,9 @@ use Rattle.perf_records.specs.RecordTypes.{type_of, type_wants_memory}
 use Rattle.perf_records.specs.Records.{RecordValue, record_value, IsBorrowed, mmap_is, lost_is}
 use Rattle.perf_records.specs.Records.{comm_is, exit_is, throttle_is, unthrottle_is, fork_is}
 use Rattle.perf_records.specs.Records.{read_is, sample_is, mmap2_is, aux_is, itrace_start_is}
-use Rattle.perf_records.specs.Records.{lost_samples_is, switch_is, switch_cpu_wide_is, namespaces_is}
-use Rattle.perf_records.specs.Records.{ksymbol_is, bpf_event_is, cgroup_is, text_poke_is}
-use Rattle.perf_records.specs.Records.{aux_output_hw_id_is, unknown_is}
+use Rattle.perf_records.specs.Records.{lost_samples_is, switch_is, switch_cpu_wide_is}
+use Rattle.perf_records.specs.Records.{namespaces_is, ksymbol_is, bpf_event_is, cgroup_is}
+use Rattle.perf_records.specs.Records.{text_poke_is, aux_output_hw_id_is, unknown_is}
 use Rattle.perf_records.specs.declared.record.Record.{Record}
 use Rattle.perf_records.specs.declared.record_type.RecordType.{RecordType}
 use Rattle.perf_records.specs.declared.record_type.RecordType.TheVariants as type
