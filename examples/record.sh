@@ -42,3 +42,9 @@ grep -v ' context-switches: ' all.txt > recording.script.txt
 rm all.txt
 clean perf report -i perf.data --stats > recording.stats.txt
 awk -f "$here/expected.awk" recording.script.txt > recording.expected
+
+# What perf read in each sample, without the bytes and without what it concludes from them.
+clean perf report -i perf.data -D > all.txt
+awk '/: PERF_RECORD_SAMPLE\(/ { keep = 1 } /^ \.\.\. thread: / { keep = 0 } keep' all.txt > recording.dump.txt
+rm all.txt
+awk -v absent=period,addr -f "$here/samples.awk" recording.dump.txt > recording.samples
