@@ -1,5 +1,6 @@
 pub mod Paying
 pub mod Lifting
+pub mod Masks
 pub mod Repeating
 pub mod InRow
 pub mod Metadata

@@ -16,8 +16,9 @@ pub use Rattle.perf_reader.specs.Meaning.{Meaning}
 pub use Rattle.perf_reader.specs.Reading.{Says, Reads, ReadsPlain, ReadsLent, ReadsOne, ReadsNumber}
 pub use Rattle.perf_reader.specs.Reading.{Keeps, of_layout}
 pub use Rattle.perf_records.specs.Answers.{SaysBehind, answers, body_length, LeavesAllOrBehind}
-pub use Rattle.perf_records.specs.Bodies.{holds_a_list}
+pub use Rattle.perf_records.specs.Bodies.{wants_memory}
 pub use Rattle.perf_records.specs.Records.{IsBorrowed}
+pub use Rattle.perf_types.specs.Registers.{RegistersValue, registers_of, registers_value}
 pub use Rattle.perf_parser.specs.Calls.{Follows, Counts, KeepsOn, Call, CallAs, CallOnly}
 pub use Rattle.perf_parser.specs.Frames.{SplitsParser, SplitsFrame}
 pub use Rattle.perf_parser.specs.Meaning.{reader_of, buffer_of, config_of, reads_of, meaning}

@@ -33,7 +33,7 @@ impl<'p, B: ParseBuf<'p>> ParseRecord<'p, B> for Record<'p> {
         ensures borrowed { IsTrue (B.source (buffer_of parser.old)).whole →
             IfOk result (λ r. words.IsBorrowed r) }
         ensures whole_memory { IsTrue (B.source (buffer_of parser.old)).whole →
-            words.holds_a_list header.type_ ≡ false → TakesNoMemory (error_kinds result) }
+            words.wants_memory header.type_ ≡ false → TakesNoMemory (error_kinds result) }
 
         // A size that does not count the header is refused before anything else.
         ensures small { header.size < 8 → (error_kinds result ≡ Err ErrorKind.InvalidRecord)
@@ -42,7 +42,7 @@ impl<'p, B: ParseBuf<'p>> ParseRecord<'p, B> for Record<'p> {
         // Memory is taken by the rules of a cut, and by what the body takes. Where memory for the
         // frame is refused, nothing is taken if all room was made first; where it is refused for
         // the body, exactly the frame is.
-        ensures nothing { body_length header ≡ 0 → words.holds_a_list header.type_ ≡ false →
+        ensures nothing { body_length header ≡ 0 → words.wants_memory header.type_ ≡ false →
             TakesNoMemory (error_kinds result) }
         ensures short { words.falls_short (B.hint (buffer_of parser.old))
             (body_length header) ≡ true →

@@ -3,7 +3,8 @@
 ghost use Rattle.std.specs.Prelude.{IsTrue};
 ghost use Rattle.perf_base.specs.declared.sys.perf_event_header.{perf_event_header};
 ghost use Rattle.perf_parser.specs.Words.{Says, Counts, KeepsOn, Call, CallAs, buffer_of};
-ghost use Rattle.perf_parser.specs.Words.{error_kinds, body_length, MovesWithin};
+ghost use Rattle.perf_parser.specs.Words.{error_kinds, body_length, MovesWithin, Reads};
+ghost use Rattle.perf_parser.specs.Words.{RegistersValue, registers_of, registers_value};
 
 pub use crate::parser::Parser;
 pub use perf_base::config::ParseConfig;
@@ -14,6 +15,7 @@ pub use perf_buffers::cursor::ParseBufCursor;
 use perf_buffers::outer::Outer;
 pub use perf_buffers::parsebuf::{ParseBuf, ParseBufChunk};
 use perf_reader::read::{Meant, ReadFrom};
+use perf_types::registers::Registers;
 
 /// What the parse of a type means.
 pub trait Layout: Sized {
@@ -81,4 +83,49 @@ pub trait ParseRecord<'p, B: ParseBuf<'p>>: FrameLayout {
             (B.source (buffer_of parser.new)) }
         ensures call { Call B.source E.order (Self.says_behind header)
             parser.old (error_kinds result) parser.new };
+}
+
+/// What registers are in plain numbers.
+pub trait RegistersLayout: Sized {
+    // their kind of task, their mask, and a number for each
+    ghost shown: { Self → RegistersValue };
+}
+
+/// Registers, which are parsed by a mask of the configuration.
+pub trait ParseRegisters<'p, B: ParseBuf<'p>>: RegistersLayout {
+    /// Parses the registers that a task had in its own code, those of the configuration's
+    /// `regs_user`.
+    fn parse_user<E: Endian>(parser: &mut Parser<B, E>) -> ParseResult<Self>
+        ensures call { Call B.source E.order (Reads (λ c. registers_of c.regs_user) Self.shown)
+            parser.old (error_kinds result) parser.new };
+
+    /// Parses the registers that the processor had at an interrupt, those of the configuration's
+    /// `regs_intr`.
+    fn parse_intr<E: Endian>(parser: &mut Parser<B, E>) -> ParseResult<Self>
+        ensures call { Call B.source E.order (Reads (λ c. registers_of c.regs_intr) Self.shown)
+            parser.old (error_kinds result) parser.new };
+}
+
+impl RegistersLayout for Registers<'_> {
+    ghost shown = { registers_value };
+}
+
+impl<'p, B: ParseBuf<'p>> ParseRegisters<'p, B> for Registers<'p> {
+    #[inline]
+    fn parse_user<E: Endian>(parser: &mut Parser<B, E>) -> ParseResult<Self> {
+        let mask = parser.config().regs_user();
+        match Registers::read_by(&mut parser.reader, mask) {
+            Ok(registers) => Ok(registers),
+            Err(refusal) => Err(parser.reader.answer(refusal)),
+        }
+    }
+
+    #[inline]
+    fn parse_intr<E: Endian>(parser: &mut Parser<B, E>) -> ParseResult<Self> {
+        let mask = parser.config().regs_intr();
+        match Registers::read_by(&mut parser.reader, mask) {
+            Ok(registers) => Ok(registers),
+            Err(refusal) => Err(parser.reader.answer(refusal)),
+        }
+    }
 }

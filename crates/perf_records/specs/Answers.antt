@@ -20,7 +20,7 @@ use Rattle.perf_buffers.specs.Taking.{MovesWithin}
 use Rattle.perf_buffers.specs.declared.cursor.ParseBufCursor.{ParseBufCursor}
 use Rattle.perf_reader.specs.Meaning.{Meaning}
 use Rattle.perf_reader.specs.Reading.{Says, of_layout, is_external}
-use Rattle.perf_records.specs.Bodies.{body, holds_a_list}
+use Rattle.perf_records.specs.Bodies.{body, wants_memory}
 use Rattle.perf_records.specs.Frames.{frame_length, frames}
 use Rattle.perf_records.specs.Metadata.{MetadataValue, id_of_type, id_length}
 use Rattle.perf_records.specs.Records.{RecordValue, record_value, IsBorrowed}
@@ -153,7 +153,7 @@ SaysBehind h old seen new =
 
 -- What the reading of a frame means, with its header: what its bytes say, and exactly they are
 -- taken. Where it is refused otherwise, but by a fault, a beginning of them is taken. Of a whole
--- buffer no byte is copied, and memory is taken for a list alone.
+-- buffer no byte is copied, and memory is taken for a list or a box alone.
 abbrev pub SaysFrame : Says Record
 SaysFrame old seen new =
     let c = old.settings in let o = old.order in let bytes = old.source.left in
@@ -163,7 +163,7 @@ SaysFrame old seen new =
     MovesWithin old.source (frame_length o bytes) new.source)
     × (IsTrue old.source.whole →
     IfOk seen IsBorrowed
-    × (holds_a_list (header_of o bytes).type_ ≡ false → TakesNoMemory seen))
+    × (wants_memory (header_of o bytes).type_ ≡ false → TakesNoMemory seen))
 
 -- nothing was taken, or exactly n bytes were
 abbrev pub LeavesAllOrBehind : Source → ℕ → Source → Type 0

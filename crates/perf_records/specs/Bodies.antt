@@ -5,13 +5,14 @@ use Rattle.perf_base.specs.FieldWords.{all_left}
 use Rattle.perf_base.specs.Layout.{Parts, done, mapped}
 use Rattle.perf_base.specs.Refusals.{TakesNoMemory}
 use Rattle.perf_reader.specs.Reading.{Says, Reads, ReadsLent}
-use Rattle.perf_records.specs.RecordTypes.{type_of, type_holds_a_list}
+use Rattle.perf_reader.specs.TableRuns.{ReadsBorrowed}
+use Rattle.perf_records.specs.RecordTypes.{type_of, type_wants_memory}
 use Rattle.perf_records.specs.Records.{RecordValue, record_value, IsBorrowed, mmap_is, lost_is}
 use Rattle.perf_records.specs.Records.{comm_is, exit_is, throttle_is, unthrottle_is, fork_is}
-use Rattle.perf_records.specs.Records.{read_is, mmap2_is, aux_is, itrace_start_is, lost_samples_is}
-use Rattle.perf_records.specs.Records.{switch_is, switch_cpu_wide_is, namespaces_is, ksymbol_is}
-use Rattle.perf_records.specs.Records.{bpf_event_is, cgroup_is, text_poke_is, aux_output_hw_id_is}
-use Rattle.perf_records.specs.Records.{unknown_is}
+use Rattle.perf_records.specs.Records.{read_is, sample_is, mmap2_is, aux_is, itrace_start_is}
+use Rattle.perf_records.specs.Records.{lost_samples_is, switch_is, switch_cpu_wide_is}
+use Rattle.perf_records.specs.Records.{namespaces_is, ksymbol_is, bpf_event_is, cgroup_is}
+use Rattle.perf_records.specs.Records.{text_poke_is, aux_output_hw_id_is, unknown_is}
 use Rattle.perf_records.specs.declared.record.Record.{Record}
 use Rattle.perf_records.specs.declared.record_type.RecordType.{RecordType}
 use Rattle.perf_records.specs.declared.record_type.RecordType.TheVariants as type
@@ -21,6 +22,7 @@ use Rattle.perf_types.specs.Comm.{comm}
 use Rattle.perf_types.specs.Exit.{exit}
 use Rattle.perf_types.specs.Throttle.{throttle}
 use Rattle.perf_types.specs.Read.{read}
+use Rattle.perf_types.specs.Sample.{sample}
 use Rattle.perf_types.specs.Mmap2.{mmap2}
 use Rattle.perf_types.specs.Aux.{aux}
 use Rattle.perf_types.specs.ITraceStart.{itrace_start}
@@ -47,7 +49,7 @@ body_of c ty type.Throttle = mapped throttle_is throttle
 body_of c ty type.Unthrottle = mapped unthrottle_is throttle
 body_of c ty type.Fork = mapped fork_is exit
 body_of c ty type.Read = mapped read_is (read c)
-body_of c ty type.Sample = unread ty
+body_of c ty type.Sample = mapped sample_is (sample c)
 body_of c ty type.Mmap2 = mapped mmap2_is (mmap2 c)
 body_of c ty type.Aux = mapped aux_is aux
 body_of c ty type.ITraceStart = mapped itrace_start_is itrace_start
@@ -65,18 +67,22 @@ body_of c ty type.AuxOutputHwId = mapped aux_output_hw_id_is aux_output_hw_id
 abbrev pub body : Configuration → ℕ → Parts RecordValue
 body c ty = elim (type_of ty) [ Some type ↦ body_of c ty type | None ↦ unread ty ]
 
--- a number whose records hold a list, for which memory is taken
-abbrev pub holds_a_list : ℕ → Bool
-holds_a_list ty = elim (type_of ty) [ Some type ↦ type_holds_a_list type | None ↦ false ]
+-- a number whose records take memory, also where a whole buffer lends its bytes
+abbrev pub wants_memory : ℕ → Bool
+wants_memory ty = elim (type_of ty) [ Some type ↦ type_wants_memory type | None ↦ false ]
 
 -- What the reading of a body means: its layout, of which no byte is copied out of a whole buffer;
--- memory is taken there for a list alone.
+-- memory is taken there for a list or a box alone.
 abbrev pub SaysBody : ℕ → Says Record
 SaysBody ty old seen new =
     Reads (λ c. body c ty) record_value old seen new
     × (IsTrue old.source.whole →
-    IfOk seen IsBorrowed × (holds_a_list ty ≡ false → TakesNoMemory seen))
+    IfOk seen IsBorrowed × (wants_memory ty ≡ false → TakesNoMemory seen))
 
 -- the same of a type that is known
 abbrev pub SaysLent : (Configuration → Parts RecordValue) → Says Record
 SaysLent parts = ReadsLent parts record_value IsBorrowed
+
+-- the same of one whose reading may want memory
+abbrev pub SaysBorrowed : (Configuration → Parts RecordValue) → Says Record
+SaysBorrowed parts = ReadsBorrowed parts record_value IsBorrowed

@@ -30,7 +30,8 @@ type_of ty =
     else (if ty == 21 then Some type.AuxOutputHwId
     else None))))))))))))))))))))
 
--- records of it hold a list, for which memory is taken
-abbrev pub type_holds_a_list : RecordType → Bool
-type_holds_a_list type.Namespaces = true
-type_holds_a_list _ = false
+-- Records of it take memory, also where a whole buffer lends its bytes: for a list, or for a box.
+abbrev pub type_wants_memory : RecordType → Bool
+type_wants_memory type.Sample = true
+type_wants_memory type.Namespaces = true
+type_wants_memory _ = false

@@ -1,5 +1,5 @@
 -- What a record is in plain numbers and lists.
-use Rattle.std.specs.Prelude.{ℕ, List, IsTrue}
+use Rattle.std.specs.Prelude.{ℕ, List, IsTrue, ◌≡◌}
 use Rattle.perf_base.specs.Cow.{cow_items, is_borrowed}
 use Rattle.perf_types.specs.declared.lost.Lost.{Lost}
 use Rattle.perf_types.specs.declared.exit.Exit.{Exit}
@@ -14,6 +14,10 @@ pub use Rattle.perf_types.specs.Comm.{comm_value}
 use Rattle.perf_types.specs.Comm.{CommValue, IsBorrowedComm}
 pub use Rattle.perf_types.specs.Read.{task_read}
 use Rattle.perf_types.specs.Read.{TaskRead}
+use Rattle.perf_types.specs.Sample.{SampleValue}
+pub use Rattle.perf_types.specs.SampleGroups.{sample_value}
+use Rattle.perf_types.specs.SampleGroups.{IsBorrowedSample}
+use Rattle.perf_types.specs.declared.sample.Sample.{Sample}
 pub use Rattle.perf_types.specs.Mmap2.{mmap2_value}
 use Rattle.perf_types.specs.Mmap2.{Mmap2Value, IsBorrowedMmap2}
 pub use Rattle.perf_types.specs.Aux.{aux_value}
@@ -41,6 +45,7 @@ pub data RecordValue : Type 0 where
   unthrottle_is : Throttle → RecordValue
   fork_is : Exit → RecordValue
   read_is : TaskRead → RecordValue
+  sample_is : SampleValue → RecordValue
   mmap2_is : Mmap2Value → RecordValue
   aux_is : AuxValue → RecordValue
   itrace_start_is : ITraceStart → RecordValue
@@ -66,6 +71,7 @@ record_value (record_of.Throttle r) = throttle_is r
 record_value (record_of.Unthrottle r) = unthrottle_is r
 record_value (record_of.Fork r) = fork_is r
 record_value (record_of.Read r) = read_is (task_read r)
+record_value (record_of.Sample r) = sample_is (sample_value r.value)
 record_value (record_of.Mmap2 r) = mmap2_is (mmap2_value r)
 record_value (record_of.Aux r) = aux_is (aux_value r)
 record_value (record_of.ITraceStart r) = itrace_start_is r
@@ -90,6 +96,7 @@ IsBorrowed (record_of.Throttle r) = Unit {0}
 IsBorrowed (record_of.Unthrottle r) = Unit {0}
 IsBorrowed (record_of.Fork r) = Unit {0}
 IsBorrowed (record_of.Read r) = Unit {0}
+IsBorrowed (record_of.Sample r) = IsBorrowedSample r.value
 IsBorrowed (record_of.Mmap2 r) = IsBorrowedMmap2 r
 IsBorrowed (record_of.Aux r) = Unit {0}
 IsBorrowed (record_of.ITraceStart r) = Unit {0}
@@ -103,3 +110,8 @@ IsBorrowed (record_of.CGroup r) = IsBorrowedCGroup r
 IsBorrowed (record_of.TextPoke r) = IsBorrowedTextPoke r
 IsBorrowed (record_of.AuxOutputHwId r) = Unit {0}
 IsBorrowed (record_of.Unknown ty bytes) = IsTrue (is_borrowed bytes)
+
+-- it is that very sample, in a box
+abbrev pub HoldsSample : Sample → Record → Type 0
+HoldsSample sample (record_of.Sample r) = r.value ≡ sample
+HoldsSample sample _ = ⊥

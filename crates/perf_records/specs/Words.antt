@@ -23,17 +23,19 @@ pub use Rattle.perf_types.specs.Mmap.{mmap}
 pub use Rattle.perf_types.specs.Mmap2.{mmap2}
 pub use Rattle.perf_types.specs.Namespaces.{namespaces}
 pub use Rattle.perf_types.specs.Read.{read}
+pub use Rattle.perf_types.specs.Sample.{sample}
 pub use Rattle.perf_types.specs.SwitchCpuWide.{switch_cpu_wide}
 pub use Rattle.perf_types.specs.TextPoke.{text_poke}
 pub use Rattle.perf_types.specs.Throttle.{throttle}
 pub use Rattle.perf_records.specs.Answers.{SplitsBehind, SaysBehind, SaysFrame, Finishes}
 pub use Rattle.perf_records.specs.Answers.{body_length, answered_parts, parts_of, id_reads}
 pub use Rattle.perf_records.specs.Answers.{LeavesAllOrBehind}
-pub use Rattle.perf_records.specs.Bodies.{SaysBody, SaysLent, unread, body, holds_a_list}
+pub use Rattle.perf_records.specs.Bodies.{SaysBody, SaysLent, SaysBorrowed, unread, body}
+pub use Rattle.perf_records.specs.Bodies.{wants_memory}
 pub use Rattle.perf_records.specs.Metadata.{carries_sample_id, id_of_type, id_length}
 pub use Rattle.perf_records.specs.Records.{record_value, IsBorrowed, aux_is, aux_output_hw_id_is}
 pub use Rattle.perf_records.specs.Records.{bpf_event_is, cgroup_is, comm_is, exit_is, fork_is}
 pub use Rattle.perf_records.specs.Records.{itrace_start_is, ksymbol_is, lost_is, lost_samples_is}
 pub use Rattle.perf_records.specs.Records.{mmap2_is, mmap_is, namespaces_is, read_is}
-pub use Rattle.perf_records.specs.Records.{switch_cpu_wide_is, text_poke_is, throttle_is}
-pub use Rattle.perf_records.specs.Records.{unthrottle_is}
+pub use Rattle.perf_records.specs.Records.{sample_is, switch_cpu_wide_is, text_poke_is}
+pub use Rattle.perf_records.specs.Records.{throttle_is, unthrottle_is}

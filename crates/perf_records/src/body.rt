@@ -8,12 +8,12 @@ ghost use Rattle.std.specs.Prelude.{IfOk};
 ghost use Rattle.perf_records.specs.Records as value;
 ghost use Rattle.perf_records.specs.Words as table;
 ghost use Rattle.perf_records.specs.Words.{mapped, Call, Reads, kinds, SaysBody, SaysLent, unread};
-ghost use Rattle.perf_records.specs.Words.{record_value, IsBorrowed};
+ghost use Rattle.perf_records.specs.Words.{SaysBorrowed, record_value, IsBorrowed};
 
 use crate::record::Record;
 use crate::record_type::RecordType;
 use perf_base::endian::Endian;
-use perf_base::refusal::ReadResult;
+use perf_base::refusal::{ReadResult, Refusal};
 use perf_buffers::input::Input;
 use perf_reader::reader::Reader;
 use perf_types::aux_output_hw_id::AuxOutputHwId;
@@ -30,9 +30,11 @@ use perf_types::mmap::Mmap;
 use perf_types::mmap2::Mmap2;
 use perf_types::namespaces::Namespaces;
 use perf_types::read::Read;
+use perf_types::sample::Sample;
 use perf_types::switch_cpu_wide::SwitchCpuWide;
 use perf_types::text_poke::TextPoke;
 use perf_types::throttle::Throttle;
+use std::boxed::Box;
 
 // Reads a type, as the variant that holds it.
 macro_rules! held {
@@ -106,6 +108,23 @@ fn read_read<'p, I: Input<'p>, E: Endian>(reader: &mut Reader<I, E>) -> ReadResu
         reader.old (kinds result) reader.new }
 {
     held!(reader, Read => Read)
+}
+
+// A sample goes into a box, so that a record of another type has no room for one.
+#[inline(never)]
+fn read_sample<'p, I: Input<'p>, E: Endian>(reader: &mut Reader<I, E>) -> ReadResult<Record<'p>>
+    ensures call { Call I.source E.order
+        (SaysBorrowed (λ c. mapped value.sample_is (table.sample c)))
+        reader.old (kinds result) reader.new }
+{
+    let sample = match reader.read::<Sample<'p>>() {
+        Ok(sample) => sample,
+        Err(refusal) => return Err(refusal),
+    };
+    match Box::new(reader.alloc(), sample) {
+        Ok(sample) => Ok(Record::Sample(sample)),
+        Err(_) => Err(Refusal::OutOfMemory),
+    }
 }
 
 #[inline(never)]
@@ -246,7 +265,7 @@ pub fn read_body<'p, I: Input<'p>, E: Endian>(
         RecordType::Unthrottle => read_unthrottle(reader),
         RecordType::Fork => read_fork(reader),
         RecordType::Read => read_read(reader),
-        RecordType::Sample => read_unread(reader, ty),
+        RecordType::Sample => read_sample(reader),
         RecordType::Mmap2 => read_mmap2(reader),
         RecordType::Aux => read_aux(reader),
         RecordType::ITraceStart => read_itrace_start(reader),

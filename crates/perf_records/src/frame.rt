@@ -187,7 +187,7 @@ fn finish<'p, E: Endian>(
         (cursor_left bytes.entry) (kinds result.0) result.1 }
     ensures borrowed { IsTrue (words.cursor_lent bytes.entry) →
         IfOk result.0 (λ r. words.IsBorrowed r) }
-    ensures whole_memory { IsTrue (words.cursor_lent bytes.entry) → words.holds_a_list ty ≡ false →
+    ensures whole_memory { IsTrue (words.cursor_lent bytes.entry) → words.wants_memory ty ≡ false →
         words.TakesNoMemory (kinds result.0) }
     ensures faults { words.is_external (words.refused (kinds result.0)) ≡ false }
     ensures cost { result.1
@@ -216,7 +216,7 @@ pub fn read_behind<'p, I: Input<'p>, E: Endian>(
     ensures borrowed { IsTrue (I.source (input_of reader.old)).whole →
         IfOk result (λ r. words.IsBorrowed r) }
     ensures whole_memory { IsTrue (I.source (input_of reader.old)).whole →
-        words.holds_a_list header.type_ ≡ false → words.TakesNoMemory (kinds result) }
+        words.wants_memory header.type_ ≡ false → words.TakesNoMemory (kinds result) }
 
     // A size that does not count the header is refused before anything else.
     ensures small { header.size < 8 → (kinds result ≡ Err words.InvalidRecord)
@@ -225,7 +225,7 @@ pub fn read_behind<'p, I: Input<'p>, E: Endian>(
     // Memory is taken by the rules of a cut, and by what the body takes. Where memory for the frame
     // is refused, nothing is taken if all room was made first; where it is refused for the body,
     // exactly the frame is.
-    ensures nothing { body_length header ≡ 0 → words.holds_a_list header.type_ ≡ false →
+    ensures nothing { body_length header ≡ 0 → words.wants_memory header.type_ ≡ false →
         words.TakesNoMemory (kinds result) }
     ensures short { words.falls_short (I.hint (input_of reader.old)) (body_length header) ≡ true →
         words.TakesNoMemory (kinds result) }

@@ -1,6 +1,11 @@
 //! Any record.
 
+ghost use Rattle.std.specs.Prelude.{◌≡◌, IfOk, IfErr};
+ghost use Rattle.perf_base.specs.Errors.{kind_of};
+ghost use Rattle.perf_records.specs.Records.{HoldsSample};
+
 use perf_base::cow::CowSlice;
+use perf_base::error::{ErrorKind, ParseResult};
 use perf_types::aux_output_hw_id::AuxOutputHwId;
 use perf_types::aux_record::Aux;
 use perf_types::bpf_event::BpfEvent;
@@ -15,9 +20,12 @@ use perf_types::mmap::Mmap;
 use perf_types::mmap2::Mmap2;
 use perf_types::namespaces::Namespaces;
 use perf_types::read::Read;
+use perf_types::sample::Sample;
 use perf_types::switch_cpu_wide::SwitchCpuWide;
 use perf_types::text_poke::TextPoke;
 use perf_types::throttle::Throttle;
+use std::alloc::Global;
+use std::boxed::Box;
 
 /// A record of any type, as perf_event_open(2) names them.
 #[derive(Debug, Drop)]
@@ -38,6 +46,8 @@ pub enum Record<'a> {
     Fork(Fork),
     /// A counter of a task was read.
     Read(Read),
+    /// An event happened.
+    Sample(Box<Sample<'a>>),
     /// A file was mapped, with which file it is.
     Mmap2(Mmap2<'a>),
     /// There is new data in the AUX buffer.
@@ -112,6 +122,17 @@ impl From<Read> for Record<'_> {
 
     fn from(held: Read) -> Self {
         Record::Read(held)
+    }
+}
+
+impl<'a> Record<'a> {
+    /// A sample as a record, which is a box of the same sample. Where there is no memory for the
+    /// box, `OutOfMemory`, the sample is given up.
+    pub fn from_sample(alloc: Global, sample: Sample<'a>) -> ParseResult<Record<'a>>
+        ensures same { IfOk result (λ r. HoldsSample sample.entry r) }
+        ensures refused { IfErr result (λ e. kind_of e ≡ ErrorKind.OutOfMemory) }
+    {
+        Ok(Record::Sample(Box::new(alloc, sample)?))
     }
 }
 

@@ -4,11 +4,11 @@ use Rattle.perf_base.specs.Refusals.{kinds}
 use Rattle.perf_base.specs.Took.{took_by_places}
 use Rattle.perf_reader.specs.Meaning.{Meaning, meaning}
 use Rattle.perf_reader.specs.Reading.{AnswersRun}
-use Rattle.perf_records.specs.Bodies.{body, holds_a_list}
+use Rattle.perf_records.specs.Bodies.{body, wants_memory}
 use Rattle.perf_records.specs.RecordTypes.{type_of}
 use Rattle.perf_records.specs.Records.{RecordValue, record_value, IsBorrowed}
 use Rattle.perf_records.specs.declared.record_type.RecordType.TheVariants.{Namespaces}
-use Rattle.perf_records.proofs.Bodies.{body_is, holds_is, seen_ok}
+use Rattle.perf_records.proofs.Bodies.{body_is, wants_is, seen_ok}
 use Rattle.perf_records.proofs.body.read_body.Goals as goal
 
 -- a list of namespaces
@@ -18,7 +18,7 @@ returns-in-Namespaces g c =
     let new : Meaning = meaning g.I.Input.source g.E.Endian.order c.read_namespaces.new.reader in
     let read = c.read_namespaces.ensures.call in
     let type : type_of c.args.ty ≡ Some Namespaces = sym c.of.ensures ∙ c.in-Some.is ∙ ap Some c.in-Namespaces.is in
-    let list : holds_a_list c.args.ty ≡ true = holds_is c.args.ty Namespaces type in
+    let list : wants_memory c.args.ty ≡ true = wants_is c.args.ty Namespaces type in
     let P : Parts RecordValue → Type 0 = λ p. AnswersRun record_value (took_by_places old.order p old.source.left old.reads) (kinds c.read_namespaces.result) new in record {
       call = record {
         config = read.config;

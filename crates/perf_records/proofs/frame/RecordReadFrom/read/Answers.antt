@@ -8,7 +8,7 @@ use Rattle.perf_base.specs.declared.error.ErrorKind.{ErrorKind}
 use Rattle.perf_base.specs.declared.sys.perf_event_header.{perf_event_header}
 use Rattle.perf_reader.specs.Meaning.{Meaning, meaning}
 use Rattle.perf_records.specs.Answers.{AnswersExactly, body_length, answer_behind, reads_behind}
-use Rattle.perf_records.specs.Bodies.{holds_a_list}
+use Rattle.perf_records.specs.Bodies.{wants_memory}
 use Rattle.perf_records.specs.Records.{record_value}
 use Rattle.perf_records.specs.declared.record.Record.{Record}
 use Rattle.perf_records.proofs.Headers.{header_read, header_unread, tells_frame, tells_no_header, no_header_within, frame_within}
@@ -63,7 +63,7 @@ returns-in-Ok-read_behind g c =
             let h = header_read old.order old.source.left mid.source.left header q.0 in (
               tells_frame record_value (answer_behind old.settings old.order) (reads_behind old.settings old.order) old mid new header seen h.0 h.1 h.2 q.1 (subst P read.config (rest.answer (read.told told))),
               (λ inside. frame_within old.order old.source mid.source new.source header h.0 h.1 h.2 (behind.within (read.told told))),
-              (λ whole. let still = subst IsTrue (sym read.whole) whole in (behind.borrowed still, (λ none. behind.whole_memory still (ap (λ (k : perf_event_header). holds_a_list k.type_) h.1 ∙ none)))),
+              (λ whole. let still = subst IsTrue (sym read.whole) whole in (behind.borrowed still, (λ none. behind.whole_memory still (ap (λ (k : perf_event_header). wants_memory k.type_) h.1 ∙ none)))),
             );
         keeps = λ start p. rest.keeps start (read.keeps start p);
       };
@@ -91,7 +91,7 @@ returns-in-Err-read_behind g c =
             let h = header_read old.order old.source.left mid.source.left header q.0 in (
               tells_frame record_value (answer_behind old.settings old.order) (reads_behind old.settings old.order) old mid new header seen h.0 h.1 h.2 q.1 (subst P read.config (rest.answer (read.told told))),
               (λ inside. frame_within old.order old.source mid.source new.source header h.0 h.1 h.2 (behind.within (read.told told))),
-              (λ whole. let still = subst IsTrue (sym read.whole) whole in (tt, (λ none. behind.whole_memory still (ap (λ (k : perf_event_header). holds_a_list k.type_) h.1 ∙ none)))),
+              (λ whole. let still = subst IsTrue (sym read.whole) whole in (tt, (λ none. behind.whole_memory still (ap (λ (k : perf_event_header). wants_memory k.type_) h.1 ∙ none)))),
             );
         keeps = λ start p. rest.keeps start (read.keeps start p);
       };
