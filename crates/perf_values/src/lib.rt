@@ -7,6 +7,8 @@ mod groups;
 #[cfg(test)]
 mod records;
 #[cfg(test)]
+mod samples;
+#[cfg(test)]
 mod sizes;
 #[cfg(test)]
 mod words;

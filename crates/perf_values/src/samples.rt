@@ -1,0 +1,282 @@
+//! Samples that are made of their fields.
+
+use bitflags::Flags;
+use perf_base::cow::CowSlice;
+use perf_types::read_group::ReadGroup;
+use perf_types::registers::Registers;
+use perf_types::sample::Sample;
+use perf_types::sample_fields::SampleFields;
+use perf_types::sample_id::SampleId;
+use perf_words::{BranchEntry, DataSource, ReadFormat, SampleRegsAbi, Txn};
+use std::alloc::AllocError;
+use std::fmt::Debug;
+use std::process::Abort;
+
+fn check_same<T: PartialEq + Debug + Drop>(rt: &impl Abort, what: &str, value: T, want: T) {
+    assert_eq!(rt; value, want, "{what}");
+}
+
+fn wide(number: Option<u32>) -> Option<u64> {
+    match number {
+        Some(number) => Some(u64::from(number)),
+        None => None,
+    }
+}
+
+fn word_of(source: Option<DataSource>) -> Option<u64> {
+    match source {
+        Some(source) => Some(source.bits()),
+        None => None,
+    }
+}
+
+fn bits_of(transaction: Option<Txn>) -> Option<u64> {
+    match transaction {
+        Some(transaction) => Some(transaction.bits()),
+        None => None,
+    }
+}
+
+// Which task, when and of which event, as the numbers that the calls answer.
+fn origin_of(sample: &Sample<'_>) -> [Option<u64>; 9] {
+    [
+        sample.ip(),
+        wide(sample.pid()),
+        wide(sample.tid()),
+        sample.time(),
+        sample.addr(),
+        sample.id(),
+        sample.stream_id(),
+        wide(sample.cpu()),
+        sample.period(),
+    ]
+}
+
+// The other numbers.
+fn numbers_of(sample: &Sample<'_>) -> [Option<u64>; 8] {
+    [
+        sample.lbr_hw_index(),
+        sample.weight(),
+        word_of(sample.data_src()),
+        bits_of(sample.transaction()),
+        sample.phys_addr(),
+        sample.cgroup(),
+        sample.data_page_size(),
+        sample.code_page_size(),
+    ]
+}
+
+// Writes the value of each entry of a group, if there is one.
+fn tell_group(text: &mut String, group: Option<&ReadGroup<'_>>) -> Result<(), AllocError> {
+    let Some(group) = group else {
+        return text.push_str("None");
+    };
+    for entry in group.entries() {
+        write!(text, "{} ", entry.value())?;
+    }
+    write!(text, "of {}", group.len())
+}
+
+// Writes the addresses and cycles of each branch, if there are branches.
+fn tell_branches(text: &mut String, branches: Option<&[BranchEntry]>) -> Result<(), AllocError> {
+    let Some(branches) = branches else {
+        return text.push_str("None");
+    };
+    for branch in branches {
+        write!(
+            text,
+            "{} {} {} ",
+            branch.from(),
+            branch.to(),
+            branch.cycles()
+        )?;
+    }
+    write!(text, "of {}", branches.len())
+}
+
+// Writes which words registers have, their mask and their values, if there are any.
+fn tell_registers(text: &mut String, registers: Option<&Registers<'_>>) -> Result<(), AllocError> {
+    let Some(registers) = registers else {
+        return text.push_str("None");
+    };
+    let (abi, values) = (registers.abi.get(), registers.regs.as_slice());
+    write!(text, "{abi} {} {values:?}", registers.mask)
+}
+
+// Writes what the calls for lists answer.
+fn tell_lists(text: &mut String, sample: &Sample<'_>) -> Result<(), AllocError> {
+    tell_group(text, sample.values())?;
+    write!(text, ", {:?}, {:?}, ", sample.callchain(), sample.raw())?;
+    tell_branches(text, sample.lbr())?;
+    text.push_str(", ")?;
+    tell_registers(text, sample.regs_user())?;
+    write!(text, ", {:?}, ", sample.stack_user())?;
+    tell_registers(text, sample.regs_intr())?;
+    write!(text, ", {:?}", sample.aux())
+}
+
+// Asserts what lists a sample has.
+fn check_lists(rt: &(impl AllocGlobal + Abort), sample: &Sample<'_>, want: &str) {
+    let mut text = String::new(rt.alloc());
+    match tell_lists(&mut text, sample) {
+        Ok(()) => assert_eq!(rt; text.as_str(), want),
+        Err(_) => panic!(rt; "no memory"),
+    }
+}
+
+// Registers 0 and 2 of a task of 64 bits, with these values.
+fn registers(values: &[u64]) -> Registers<'_> {
+    Registers {
+        abi: SampleRegsAbi::ABI_64,
+        mask: 5,
+        regs: CowSlice::Borrowed(values),
+    }
+}
+
+// A branch of 117 cycles.
+fn branch() -> BranchEntry {
+    BranchEntry::from_words(115, 116, 117 << 4)
+}
+
+// Each field says something else, the branches these.
+fn every_field(branches: &[BranchEntry]) -> SampleFields<'_> {
+    let words = CowSlice::Borrowed(&[110]);
+    SampleFields {
+        ip: Some(101),
+        pid: Some(102),
+        tid: Some(103),
+        time: Some(104),
+        addr: Some(105),
+        id: Some(106),
+        stream_id: Some(107),
+        cpu: Some(108),
+        period: Some(109),
+        values: Some(ReadGroup::from_parts(ReadFormat::GROUP, 0, 0, words)),
+        callchain: Some(CowSlice::Borrowed(&[111, 112])),
+        raw: Some(CowSlice::Borrowed(&[113])),
+        lbr_hw_index: Some(114),
+        lbr: Some(CowSlice::Borrowed(branches)),
+        regs_user: Some(registers(&[118, 119])),
+        stack_user: Some(CowSlice::Borrowed(&[120, 121])),
+        weight: Some(122),
+        data_src: Some(DataSource::from_word(123)),
+        transaction: Some(Txn::from_bits_retain(124)),
+        regs_intr: Some(registers(&[125, 126])),
+        phys_addr: Some(127),
+        aux: Some(CowSlice::Borrowed(&[128, 129, 130])),
+        cgroup: Some(131),
+        data_page_size: Some(132),
+        code_page_size: Some(133),
+    }
+}
+
+const NO_LISTS: &str = "None, None, None, None, None, None, None, None";
+
+// Asserts what a sample of these fields answers.
+fn check_sample(
+    rt: &(impl AllocGlobal + Abort),
+    fields: SampleFields<'_>,
+    origin: [Option<u64>; 9],
+    numbers: [Option<u64>; 8],
+    lists: &str,
+) {
+    let sample = Sample::from_fields(fields);
+    check_same(rt, "origin", origin_of(&sample), origin);
+    check_same(rt, "numbers", numbers_of(&sample), numbers);
+    check_lists(rt, &sample, lists);
+}
+
+// Asserts what a sample id says that is made of a sample.
+fn check_id(rt: &impl Abort, id: SampleId) {
+    let task = (id.pid(), id.tid(), id.cpu());
+    check_same(rt, "task", task, (Some(102), Some(103), Some(108)));
+    let event = (id.time(), id.id(), id.stream_id());
+    check_same(rt, "event", event, (Some(104), Some(106), Some(107)));
+}
+
+#[test]
+fn a_sample_answers_each_of_its_fields(rt: HostRuntime) {
+    let origin = [
+        Some(101),
+        Some(102),
+        Some(103),
+        Some(104),
+        Some(105),
+        Some(106),
+        Some(107),
+        Some(108),
+        Some(109),
+    ];
+    let numbers = [
+        Some(114),
+        Some(122),
+        Some(123),
+        Some(124),
+        Some(127),
+        Some(131),
+        Some(132),
+        Some(133),
+    ];
+    let lists = "110 of 1, Some([111, 112]), Some([113]), 115 116 117 of 1, 2 5 [118, 119], \
+        Some([120, 121]), 2 5 [125, 126], Some([128, 129, 130])";
+    let branches = [branch()];
+    check_sample(&rt, every_field(&branches), origin, numbers, lists);
+}
+
+#[test]
+fn a_sample_of_no_fields_answers_none(rt: HostRuntime) {
+    check_sample(&rt, SampleFields::default(), [None; 9], [None; 8], NO_LISTS);
+}
+
+#[test]
+fn a_process_needs_no_thread(rt: HostRuntime) {
+    let fields = SampleFields {
+        pid: Some(5),
+        ..SampleFields::default()
+    };
+    let mut origin = [None; 9];
+    origin[1] = Some(5);
+    check_sample(&rt, fields, origin, [None; 8], NO_LISTS);
+}
+
+#[test]
+fn a_thread_needs_no_process(rt: HostRuntime) {
+    let fields = SampleFields {
+        tid: Some(6),
+        ..SampleFields::default()
+    };
+    let mut origin = [None; 9];
+    origin[2] = Some(6);
+    check_sample(&rt, fields, origin, [None; 8], NO_LISTS);
+}
+
+#[test]
+fn an_index_needs_no_branches(rt: HostRuntime) {
+    let fields = SampleFields {
+        lbr_hw_index: Some(7),
+        ..SampleFields::default()
+    };
+    let mut numbers = [None; 8];
+    numbers[0] = Some(7);
+    check_sample(&rt, fields, [None; 9], numbers, NO_LISTS);
+}
+
+#[test]
+fn branches_need_no_index(rt: HostRuntime) {
+    let branches = [branch()];
+    let fields = SampleFields {
+        lbr: Some(CowSlice::Borrowed(&branches)),
+        ..SampleFields::default()
+    };
+    let lists = "None, None, None, 115 116 117 of 1, None, None, None, None";
+    check_sample(&rt, fields, [None; 9], [None; 8], lists);
+}
+
+#[test]
+fn a_sample_id_says_what_its_sample_does(rt: HostRuntime) {
+    let branches = [branch()];
+    let sample = Sample::from_fields(every_field(&branches));
+    check_id(&rt, SampleId::from_sample(&sample));
+    check_id(&rt, SampleId::from(&sample));
+    check_id(&rt, SampleId::from(sample));
+}
