@@ -1,5 +1,6 @@
 //! One stream through every buffer, told as text.
 
+use crate::told_samples::tell_sample;
 use bitflags::Flags;
 use perf_event_data::endian::{Endian, Little, Native};
 use perf_event_data::parse::{ParseBuf, ParseConfig, Parser};
@@ -78,6 +79,7 @@ fn tell_record(text: &mut String, record: &Record<'_>) -> Result<(), AllocError>
             r.pid, r.ppid, r.tid, r.ptid, r.time
         ),
         Record::Read(r) => tell_read(text, r),
+        Record::Sample(r) => tell_sample(text, r),
         Record::Mmap2(r) => tell_mmap2(text, r),
         Record::Aux(r) => {
             let flags = r.flags.bits();
