@@ -20,6 +20,8 @@ mod errors;
 #[cfg(test)]
 mod faults;
 #[cfg(test)]
+mod flags;
+#[cfg(test)]
 mod mappings;
 #[cfg(test)]
 mod metadata;
@@ -36,6 +38,20 @@ mod pokes;
 #[cfg(test)]
 mod reads;
 #[cfg(test)]
+mod sample_bytes;
+#[cfg(test)]
+mod sample_counts;
+#[cfg(test)]
+mod sample_fields;
+#[cfg(test)]
+mod sample_lists;
+#[cfg(test)]
+mod sample_parts;
+#[cfg(test)]
+mod sample_reads;
+#[cfg(test)]
+mod samples;
+#[cfg(test)]
 mod side_band;
 #[cfg(test)]
 mod streams;
@@ -43,5 +59,7 @@ mod streams;
 mod through_buffers;
 #[cfg(test)]
 mod told;
+#[cfg(test)]
+mod told_samples;
 #[cfg(test)]
 mod values;

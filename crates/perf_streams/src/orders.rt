@@ -110,10 +110,10 @@ impl Endian for Single {
     }
 }
 
-// The lowest byte first. It counts how many numbers of eight bytes it is asked for.
+/// The lowest byte first. It counts how many numbers of eight bytes it is asked for.
 #[derive(Copy, Clone)]
-struct Counting<'a> {
-    calls: &'a Cell<u64>,
+pub struct Counting<'a> {
+    pub calls: &'a Cell<u64>,
 }
 
 impl Endian for Counting<'_> {

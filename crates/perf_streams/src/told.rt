@@ -1,5 +1,6 @@
 //! Values as text.
 
+use crate::told_samples::tell_sample;
 use bitflags::Flags;
 use perf_event_data::parse::{ParseError, ParseResult};
 use perf_event_data::sys::{perf_event_attr, perf_event_header};
@@ -222,6 +223,7 @@ impl Tell for Record<'_> {
             Record::Unthrottle(r) => tell_after(text, "Unthrottle ", r),
             Record::Fork(r) => tell_after(text, "Fork ", r),
             Record::Read(r) => r.tell(text),
+            Record::Sample(r) => tell_sample(text, r),
             Record::Mmap2(r) => r.tell(text),
             Record::LostSamples(r) => r.tell(text),
             Record::Switch => text.push_str("Switch"),

@@ -1,0 +1,122 @@
+//! Samples that claim more than there is.
+
+use crate::flags::{ADDR, AUX, BRANCH_STACK, CALLCHAIN, CGROUP, RAW, READ, STACK_USER};
+use crate::orders::Counting;
+use crate::sample_bytes::Part::{self, Bytes, U32, U64};
+use crate::sample_bytes::{attribute, attribute_with_index, check_sample, frames_of};
+use perf_event_data::endian::Native;
+use perf_event_data::parse::{ParseBuf, ParseConfig, Parser};
+use perf_event_data::sys::perf_event_attr;
+use perf_event_data::{PieceBuf, read_records};
+use std::alloc::Global;
+use std::cell::Cell;
+use std::io::BufReader;
+use std::process::Abort;
+
+// Among them are counts whose product with 8 or with 24 is small modulo 2^64.
+const HOSTILE: [u64; 13] = [
+    4,
+    1 << 31,
+    1 << 32,
+    (1 << 61) - 1,
+    1 << 61,
+    (1 << 61) + 1,
+    u64::MAX / 3,
+    u64::MAX / 3 + 1,
+    u64::MAX / 24 + 1,
+    1 << 62,
+    1 << 63,
+    u64::MAX - 1,
+    u64::MAX,
+];
+
+#[test]
+fn a_call_chain_may_claim_more_than_there_is(rt: HostRuntime) {
+    for count in HOSTILE {
+        let body = [U64(count), U64(1), U64(2), U64(3)];
+        check_sample(&rt, attribute(CALLCHAIN, 0), &body, "Eof");
+        check_sample(&rt, attribute(CALLCHAIN | CGROUP, 0), &body, "Eof");
+    }
+}
+
+#[test]
+fn a_branch_stack_may_claim_more_than_there_is(rt: HostRuntime) {
+    for count in HOSTILE {
+        let body = [U64(count), U64(1), U64(2), U64(3), U64(4)];
+        check_sample(&rt, attribute(BRANCH_STACK, 0), &body, "Eof");
+        check_sample(&rt, attribute_with_index(BRANCH_STACK, 0), &body, "Eof");
+        check_sample(&rt, attribute(BRANCH_STACK | AUX, 0), &body, "Eof");
+    }
+}
+
+#[test]
+fn bytes_may_claim_to_be_more_than_there_are(rt: HostRuntime) {
+    for size in HOSTILE {
+        let body = [U64(size), Bytes(b"\x01\x02\x03")];
+        check_sample(&rt, attribute(STACK_USER, 0), &body, "Eof");
+        check_sample(&rt, attribute(AUX, 0), &body, "Eof");
+    }
+}
+
+// The length, and with it the four bytes that it takes itself and the padding, is near 2^32.
+#[test]
+fn raw_bytes_may_claim_to_be_more_than_there_are(rt: HostRuntime) {
+    for less in 0..17 {
+        let body = [U32(u32::MAX - less), Bytes(b"\x01\x02\x03\x04")];
+        check_sample(&rt, attribute(RAW, 0), &body, "Eof");
+        check_sample(
+            &rt,
+            attribute(RAW | ADDR, 0),
+            &[U64(1), body[0], body[1]],
+            "Eof",
+        );
+    }
+}
+
+// How many numbers of eight bytes are made of a run's first frame.
+fn conversions<'p, B: ParseBuf<'p> + Drop>(alloc: Global, buf: B, attr: perf_event_attr) -> u64 {
+    let calls = Cell::new(0);
+    let config = ParseConfig::<Native>::from(attr).with_endian(Counting { calls: &calls });
+    let mut parser = Parser::new(alloc, buf, config);
+    read_records(&mut parser, 1);
+    calls.get()
+}
+
+fn check_conversions(rt: &impl Abort, calls: u64, least: u64, most: u64) {
+    assert!(rt; calls >= least && calls <= most, "{calls} of {most}");
+}
+
+// Asserts that of a frame of this body at most so many numbers are made, and one at least where
+// there may be any.
+fn check_most(rt: &(impl AllocGlobal + Abort), attr: perf_event_attr, parts: &[Part], most: u64) {
+    let alloc = rt.alloc();
+    let Ok(bytes) = frames_of(alloc, parts) else {
+        panic!(rt; "no memory");
+    };
+    let Ok(reader) = BufReader::with_capacity(alloc, 1, bytes.as_slice()) else {
+        panic!(rt; "no memory");
+    };
+    let least = most.min(1);
+    check_conversions(rt, conversions(alloc, bytes.as_slice(), attr), least, most);
+    check_conversions(rt, conversions(alloc, reader, attr), least, most);
+    let pieces = PieceBuf::new(&bytes, 1, false);
+    check_conversions(rt, conversions(alloc, pieces, attr), least, most);
+}
+
+// Bytes are no numbers.
+#[test]
+fn a_hostile_count_converts_no_more_than_the_numbers_of_its_body(rt: HostRuntime) {
+    for count in HOSTILE {
+        let body = [U64(count), U64(1)];
+        check_most(&rt, attribute(CALLCHAIN, 0), &body, 2);
+        check_most(&rt, attribute(BRANCH_STACK, 0), &body, 2);
+        check_most(&rt, attribute_with_index(BRANCH_STACK, 0), &body, 2);
+        check_most(&rt, attribute(READ, 0x08), &body, 2);
+        check_most(&rt, attribute(STACK_USER, 0), &[U64(count), U32(1)], 1);
+        check_most(&rt, attribute(AUX, 0), &[U64(count), U32(1)], 1);
+        let body = [U64(count), U64(1), U64(2), U64(3), U32(4)];
+        check_most(&rt, attribute(CALLCHAIN, 0), &body, 4);
+        check_most(&rt, attribute(BRANCH_STACK, 0), &body, 4);
+    }
+    check_most(&rt, attribute(RAW, 0), &[U32(u32::MAX), U64(1), U64(2)], 0);
+}

@@ -1,0 +1,240 @@
+//! Registers and other parts of samples by themselves, samples as records, and what refused ones
+//! say.
+
+use crate::flags::{READ, STACK_USER};
+use crate::sample_bytes::Part::{self, Bytes, U64};
+use crate::sample_bytes::{attribute, put_parts};
+use crate::told_samples::{tell_branches, tell_registers, tell_sample};
+use bitflags::Flags;
+use perf_event_data::endian::{Big, Endian, Little, Native};
+use perf_event_data::parse::{ParseBuf, ParseConfig, ParseRegisters, ParseResult, Parser};
+use perf_event_data::sys::perf_event_attr;
+use perf_event_data::{
+    BranchEntry, DataSource, PieceBuf, ReadValue, Record, Registers, Sample, SampleFields,
+    SampleRegsAbi, Txn,
+};
+use std::alloc::{AllocError, Global};
+use std::io::BufReader;
+use std::process::Abort;
+
+// The registers of a user, those at an interrupt, a branch, and words that say something by their
+// bits.
+fn tell_parts<'p, B: ParseBuf<'p>, E: Endian>(
+    text: &mut String,
+    parser: &mut Parser<B, E>,
+) -> ParseResult<()> {
+    let user = Registers::parse_user(parser)?;
+    tell_registers(text, "user", Some(&user))?;
+    let interrupt = Registers::parse_intr(parser)?;
+    tell_registers(text, "interrupt", Some(&interrupt))?;
+    let branch = parser.parse::<BranchEntry>()?;
+    tell_branches(text, Some(&[branch]))?;
+    let source = parser.parse::<DataSource>()?.bits();
+    let transaction = parser.parse::<Txn>()?.bits();
+    let abi = parser.parse::<SampleRegsAbi>()?.get();
+    write!(text, " {source:#x} {transaction:#x} {abi:#x}")?;
+    Ok(())
+}
+
+// What is parsed, and why no more is.
+fn told_parts<'p, B: ParseBuf<'p> + Drop, E: Endian>(
+    alloc: Global,
+    buf: B,
+    endian: E,
+) -> Result<String, AllocError> {
+    let config = ParseConfig::<Native>::from(attribute(0, 0)).with_endian(endian);
+    let mut parser = Parser::new(alloc, buf, config);
+    let mut text = String::new(alloc);
+    match tell_parts(&mut text, &mut parser) {
+        Ok(()) => {}
+        Err(error) => write!(text, " {:?}", error.kind())?,
+    }
+    Ok(text)
+}
+
+fn check_text(rt: &impl Abort, answer: Result<String, AllocError>, want: &str) {
+    match answer {
+        Ok(text) => assert_eq!(rt; text.as_str(), want),
+        Err(_) => panic!(rt; "no memory"),
+    }
+}
+
+fn check_parts_in<E: Endian + Copy>(
+    rt: &(impl AllocGlobal + Abort),
+    endian: E,
+    bytes: &[u8],
+    want: &str,
+) {
+    let alloc = rt.alloc();
+    check_text(rt, told_parts(alloc, bytes, endian), want);
+    let Ok(reader) = BufReader::with_capacity(alloc, 7, bytes) else {
+        panic!(rt; "no memory");
+    };
+    check_text(rt, told_parts(alloc, reader, endian), want);
+    for lasting in [true, false] {
+        let pieces = PieceBuf::new(bytes, 3, lasting);
+        check_text(rt, told_parts(alloc, pieces, endian), want);
+    }
+}
+
+fn check_parts(rt: &(impl AllocGlobal + Abort), parts: &[Part], want: &str) {
+    for is_big in [false, true] {
+        let mut bytes = Vec::new(rt.alloc());
+        match put_parts(&mut bytes, is_big, parts) {
+            Ok(()) if is_big => check_parts_in(rt, Big, &bytes, want),
+            Ok(()) => check_parts_in(rt, Little, &bytes, want),
+            Err(_) => panic!(rt; "no memory"),
+        }
+    }
+}
+
+#[test]
+fn registers_and_words_by_themselves(rt: HostRuntime) {
+    let parts = [
+        U64(2),
+        U64(7),
+        U64(8),
+        U64(1),
+        U64(9),
+        U64(10),
+        U64(11),
+        U64(0x21),
+        U64(0x22),
+        U64(0x60_0051),
+        U64(0x31),
+        U64(0x32),
+        U64(0x33),
+    ];
+    let want = " user=2/0x3[7, 8] interrupt=1/0x15[9, 10, 11] lbr=1,0x21:0x22:1:0:0:0:5:6 \
+        0x31 0x32 0x33";
+    check_parts(&rt, &parts, want);
+    let want = " user=2/0x3[7, 8] interrupt=1/0x15[9, 10, 11] Eof";
+    check_parts(&rt, &parts[..9], want);
+    check_parts(&rt, &parts[..6], " user=2/0x3[7, 8] Eof");
+    check_parts(&rt, &parts[..2], " Eof");
+}
+
+#[test]
+fn registers_of_no_words_by_themselves(rt: HostRuntime) {
+    let parts = [
+        U64(0),
+        U64(0),
+        U64(7),
+        U64(8),
+        U64(9),
+        U64(4),
+        U64(5),
+        U64(6),
+    ];
+    let want = " user=0/0x3[] interrupt=0/0x15[] lbr=1,0x7:0x8:1:0:0:1:0:0 0x4 0x5 0x6";
+    check_parts(&rt, &parts, want);
+}
+
+// A slice is the parser's buffer.
+fn parser_of(alloc: Global, bytes: &[u8], attr: perf_event_attr) -> Parser<&[u8], Little> {
+    let config = ParseConfig::<Native>::from(attr).with_endian(Little);
+    Parser::new(alloc, bytes, config)
+}
+
+// The message of a refused sample, if it has one.
+fn told_message(
+    alloc: Global,
+    attr: perf_event_attr,
+    parts: &[Part],
+) -> Result<String, AllocError> {
+    let mut bytes = Vec::new(alloc);
+    put_parts(&mut bytes, false, parts)?;
+    match parser_of(alloc, &bytes, attr).parse::<Sample>() {
+        Ok(_) => format!(in alloc; "not refused"),
+        Err(error) => format!(in alloc; "{:?} {:?}", error.kind(), error.message()),
+    }
+}
+
+#[test]
+fn a_refused_sample_says_why(rt: HostRuntime) {
+    let eight = Bytes(b"\x01\x02\x03\x04\x05\x06\x07\x08");
+    for (attr, parts, want) in [
+        (
+            attribute(STACK_USER, 0),
+            [U64(8), eight, U64(9)].as_slice(),
+            "InvalidRecord Some(\"stack dyn_size was greater than the record size\")",
+        ),
+        (attribute(STACK_USER, 0), &[U64(8), eight], "Eof None"),
+        (
+            attribute(READ, 0x20),
+            &[U64(1)],
+            "UnsupportedConfig Some(\"read_format contains unsupported flags\")",
+        ),
+        (
+            attribute(READ, 0x28),
+            &[U64(1)],
+            "UnsupportedConfig Some(\"read_format contains unsupported flags\")",
+        ),
+        (
+            attribute(READ, 0x0C),
+            &[U64(u64::MAX)],
+            "InvalidRecord Some(\"number of elements in group read was too large for data type\")",
+        ),
+    ] {
+        check_text(&rt, told_message(rt.alloc(), attr, parts), want);
+    }
+}
+
+// What a sample's group says of the ids 2 and 3, and whether it is that of one counter.
+fn told_by_id(alloc: Global, bytes: &[u8]) -> ParseResult<String> {
+    let sample = parser_of(alloc, bytes, attribute(READ, 0x0C)).parse::<Sample>()?;
+    let mut text = String::new(alloc);
+    let Some(group) = sample.values() else {
+        return Ok(text);
+    };
+    for id in [1, 2, 3] {
+        match group.get_by_id(id) {
+            Some(entry) => write!(text, "{} ", entry.value())?,
+            None => text.push_str("none ")?,
+        }
+    }
+    match ReadValue::try_from(group.clone(alloc)?) {
+        Ok(_) => text.push_str("one")?,
+        Err(_) => text.push_str("not one")?,
+    }
+    Ok(text)
+}
+
+fn check_by_id(rt: &(impl AllocGlobal + Abort), bytes: &[u8], want: &str) {
+    match told_by_id(rt.alloc(), bytes) {
+        Ok(text) => check_text(rt, Ok(text), want),
+        Err(error) => panic!(rt; "{:?}", error.kind()),
+    }
+}
+
+#[test]
+fn the_entries_of_a_sample_have_ids(rt: HostRuntime) {
+    let two = b"\x02\0\0\0\0\0\0\0\x0A\0\0\0\0\0\0\0\x01\0\0\0\0\0\0\0\
+        \x14\0\0\0\0\0\0\0\x02\0\0\0\0\0\0\0";
+    check_by_id(&rt, two, "10 20 none not one");
+    let one = b"\x01\0\0\0\0\0\0\0\x0A\0\0\0\0\0\0\0\x01\0\0\0\0\0\0\0";
+    check_by_id(&rt, one, "10 none none one");
+    check_by_id(&rt, b"\0\0\0\0\0\0\0\0", "none none none not one");
+}
+
+fn told_record(alloc: Global, fields: SampleFields<'_>) -> ParseResult<String> {
+    let mut text = String::new(alloc);
+    match Record::from_sample(alloc, Sample::from_fields(fields))? {
+        Record::Sample(sample) => tell_sample(&mut text, &sample)?,
+        _ => text.push_str("not SAMPLE")?,
+    }
+    Ok(text)
+}
+
+#[test]
+fn a_sample_that_is_made_is_a_record(rt: HostRuntime) {
+    let fields = SampleFields {
+        pid: Some(5),
+        cpu: Some(6),
+        ..SampleFields::default()
+    };
+    match told_record(rt.alloc(), fields) {
+        Ok(text) => check_text(&rt, Ok(text), "Sample pid=0x5 cpu=0x6"),
+        Err(error) => panic!(rt; "{:?}", error.kind()),
+    }
+}
