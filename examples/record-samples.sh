@@ -43,3 +43,4 @@ awk '/: PERF_RECORD_SAMPLE\(/ { keep = 1 } /^ \.\.\. thread: / { keep = 0 } keep
 rm all.txt
 clean perf report -i perf.data --stats > samples.stats.txt
 awk -f "$here/samples.awk" samples.dump.txt > samples.expected
+awk -f "$here/sample-fields.awk" samples.dump.txt > samples.fields

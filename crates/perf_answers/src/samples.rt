@@ -8,6 +8,7 @@ use std::process::Abort;
 
 // What an attribute asks of samples: the sample type, the read format, the branch sample type and
 // the masks of the user and interrupt registers.
+#[derive(Copy, Clone)]
 struct Asked {
     sample_type: u64,
     read_format: u64,

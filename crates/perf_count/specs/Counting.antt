@@ -1,5 +1,5 @@
 -- What is counted of the answers to frames.
-use Rattle.std.specs.Prelude.{ℕ, ◌+◌, ◌%◌, ◌^◌, List, [], ◌∷◌, length, sum, sum_by, count_by}
+use Rattle.std.specs.Prelude.{ℕ, ◌+◌, ◌%◌, ◌^◌, List, [], ◌∷◌, length, sum, sum_by, count_by, unwrap_or}
 use Rattle.std.specs.Prelude.{Result, Ok, Err, is_err}
 use Rattle.perf_base.specs.declared.sys.perf_event_header.{perf_event_header}
 use Rattle.perf_base.specs.declared.error.ErrorKind.{ErrorKind}
@@ -9,7 +9,8 @@ use Rattle.perf_types.specs.Mmap.{MmapValue}
 use Rattle.perf_types.specs.Mmap2.{Mmap2Value}
 use Rattle.perf_types.specs.Comm.{CommValue}
 use Rattle.perf_records.specs.Records.{RecordValue, mmap_is, lost_is, comm_is, exit_is, fork_is}
-use Rattle.perf_records.specs.Records.{mmap2_is, lost_samples_is}
+use Rattle.perf_records.specs.Records.{mmap2_is, lost_samples_is, sample_is}
+use Rattle.perf_types.specs.SampleGetters.{Getters, getters_of}
 use Rattle.perf_count.specs.declared.counts.Counts.{Counts}
 
 -- a number as 64 bits hold it
@@ -38,6 +39,20 @@ task_sum r = sum (r.pid ∷ r.ppid ∷ r.tid ∷ r.ptid ∷ r.time ∷ [])
 abbrev pub lost_sum : Lost → ℕ
 lost_sum r = sum (r.id ∷ r.lost ∷ [])
 
+-- a sample: when and where it was, how many events it stands for, the numbers of its call chain, and
+-- how many raw bytes it has; what is absent adds nothing
+abbrev pub sample_sum : Getters → ℕ
+sample_sum g = sum (
+  unwrap_or g.ip 0 ∷
+  unwrap_or g.pid 0 ∷
+  unwrap_or g.tid 0 ∷
+  unwrap_or g.time 0 ∷
+  unwrap_or g.period 0 ∷
+  sum (unwrap_or g.callchain []) ∷
+  length (unwrap_or g.raw []) ∷
+  []
+)
+
 -- Records of other types add nothing.
 abbrev pub record_sum : RecordValue → ℕ
 record_sum (mmap_is r) = mmap_sum r
@@ -47,6 +62,7 @@ record_sum (exit_is r) = task_sum r
 record_sum (fork_is r) = task_sum r
 record_sum (mmap2_is r) = mmap2_sum r
 record_sum (lost_samples_is r) = r.lost
+record_sum (sample_is r) = sample_sum (getters_of r)
 record_sum _ = 0
 
 -- ---- what is counted of frames

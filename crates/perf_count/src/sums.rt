@@ -4,11 +4,13 @@ ghost use Rattle.std.specs.Prelude.{◌≡◌, sum};
 ghost use Rattle.perf_records.specs.Records.{record_value, comm_value, mmap_value, mmap2_value};
 ghost use Rattle.perf_parser.specs.Runs.{seen_answer};
 ghost use Rattle.perf_count.specs.Counting.{wrapped, mmap_sum, mmap2_sum, comm_sum, task_sum};
-ghost use Rattle.perf_count.specs.Counting.{lost_sum, record_sum, frame_sum};
+ghost use Rattle.perf_count.specs.Counting.{lost_sum, sample_sum, record_sum, frame_sum};
+ghost use Rattle.perf_types.specs.SampleGetters.{getters_of};
+ghost use Rattle.perf_types.specs.SampleGroups.{sample_value};
 
 use perf_event_data::parse::ParseResult;
 use perf_event_data::sys::perf_event_header;
-use perf_event_data::{Comm, Exit, Lost, Mmap, Mmap2, Record};
+use perf_event_data::{Comm, Exit, Lost, Mmap, Mmap2, Record, Sample};
 
 /// What a frame adds to the checksum: a refused one nothing, and another what its record adds, its
 /// type and its size.
@@ -36,6 +38,7 @@ fn record_sum(found: &Record) -> u64
         Record::Exit(task) => task_sum(task),
         Record::Fork(task) => task_sum(task),
         Record::Mmap2(mapped) => mmap2_sum(mapped),
+        Record::Sample(sample) => sample_sum(sample),
         Record::LostSamples(lost) => wrapping_sum(&[lost.lost]),
         _ => 0,
     }
@@ -94,6 +97,28 @@ fn lost_sum(lost: &Lost) -> u64
     ensures { result ≡ wrapped (lost_sum lost.now) }
 {
     wrapping_sum(&[lost.id, lost.lost])
+}
+
+fn sample_sum(sample: &Sample) -> u64
+    ensures { result ≡ wrapped (sample_sum (getters_of (sample_value sample.now))) }
+{
+    let chain = match sample.callchain() {
+        Some(addresses) => wrapping_sum(addresses),
+        None => 0,
+    };
+    let raw_len = match sample.raw() {
+        Some(bytes) => bytes.len() as u64,
+        None => 0,
+    };
+    wrapping_sum(&[
+        sample.ip().unwrap_or(0),
+        u64::from(sample.pid().unwrap_or(0)),
+        u64::from(sample.tid().unwrap_or(0)),
+        sample.time().unwrap_or(0),
+        sample.period().unwrap_or(0),
+        chain,
+        raw_len,
+    ])
 }
 
 // The sum of numbers, modulo 2^64.

@@ -10,9 +10,7 @@ use crate::fields::{
     push_bytes, push_fields, push_items, push_list, push_number, push_numbers, push_present,
 };
 use bitflags::Flags;
-use perf_event_data::{BranchEntry, DataSource, GroupEntry, ReadGroup, Txn};
-use perf_types::registers::Registers;
-use perf_types::sample::Sample;
+use perf_event_data::{BranchEntry, DataSource, GroupEntry, ReadGroup, Registers, Sample, Txn};
 use std::alloc::AllocError;
 
 pub(crate) fn push_sample(text: &mut String, sample: &Sample) -> Result<(), AllocError>

@@ -6,8 +6,7 @@ ghost use Rattle.perf_records.specs.Records as values;
 ghost use Rattle.perf_types.specs.SampleGetters.{getters_of};
 ghost use Rattle.perf_samples.specs.Lines as printed;
 
-use perf_event_data::Record;
-use perf_types::sample::Sample;
+use perf_event_data::{Record, Sample};
 use std::alloc::{AllocError, Global};
 use std::fmt;
 use std::fmt::Write;

@@ -1,8 +1,6 @@
 // What the recording has no sample of.
 use crate::lines::line_of;
-use perf_event_data::{CowSlice, Record};
-use perf_types::sample::Sample;
-use perf_types::sample_fields::SampleFields;
+use perf_event_data::{CowSlice, Record, Sample, SampleFields};
 use std::alloc::Global;
 use std::test::Fail;
 
