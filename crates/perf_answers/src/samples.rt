@@ -18,7 +18,7 @@ struct Asked {
 }
 
 // A sample type alone, with a read format.
-fn asked(sample_type: u64, read_format: u64) -> Asked {
+fn asking_for(sample_type: u64, read_format: u64) -> Asked {
     Asked {
         sample_type,
         read_format,
@@ -138,13 +138,18 @@ fn a_sample_has_every_field(rt: HostRuntime) -> Result<(), AllocError> {
 #[test]
 fn a_sample_may_have_no_fields(rt: HostRuntime) -> Result<(), AllocError> {
     let frame = [0x0008_0000_0000_0009];
-    check_frame(&rt, &asked(0, 0), &frame, "0 9 0 8 Sample")
+    check_frame(&rt, &asking_for(0, 0), &frame, "0 9 0 8 Sample")
 }
 
 #[test]
 fn raw_bytes_are_printed_without_their_padding(rt: HostRuntime) -> Result<(), AllocError> {
     let frame = [0x0010_0000_0000_0009, 0x0000_BBAA_0000_0002];
-    check_frame(&rt, &asked(0x400, 0), &frame, "0 9 0 16 Sample raw=aabb")
+    check_frame(
+        &rt,
+        &asking_for(0x400, 0),
+        &frame,
+        "0 9 0 16 Sample raw=aabb",
+    )
 }
 
 #[test]
@@ -158,7 +163,7 @@ fn lists_and_bytes_may_be_empty(rt: HostRuntime) -> Result<(), AllocError> {
     ];
     let frame = [0x0010_0000_0000_0009, 0];
     for (sample_type, line) in table {
-        check_frame(&rt, &asked(sample_type, 0), &frame, line)?;
+        check_frame(&rt, &asking_for(sample_type, 0), &frame, line)?;
     }
     Ok(())
 }
@@ -167,27 +172,32 @@ fn lists_and_bytes_may_be_empty(rt: HostRuntime) -> Result<(), AllocError> {
 fn a_read_has_items_and_times(rt: HostRuntime) -> Result<(), AllocError> {
     let group = [0x0030_0000_0000_0009, 2, 10, 1, 20, 2];
     let line = "0 9 0 48 Sample values=10:1,20:2";
-    check_frame(&rt, &asked(0x10, 0x0C), &group, line)?;
+    check_frame(&rt, &asking_for(0x10, 0x0C), &group, line)?;
     let losses = [0x0030_0000_0000_0009, 2, 10, 1, 20, 2];
-    check_frame(&rt, &asked(0x10, 0x18), &losses, line)?;
+    check_frame(&rt, &asking_for(0x10, 0x18), &losses, line)?;
     let empty = [0x0010_0000_0000_0009, 0];
-    check_frame(&rt, &asked(0x10, 0x08), &empty, "0 9 0 16 Sample values=")?;
+    check_frame(
+        &rt,
+        &asking_for(0x10, 0x08),
+        &empty,
+        "0 9 0 16 Sample values=",
+    )?;
     let times = [0x0020_0000_0000_0009, 0, 3, 4];
     let line = "0 9 0 32 Sample time_enabled=3 time_running=4 values=";
-    check_frame(&rt, &asked(0x10, 0x0B), &times, line)?;
+    check_frame(&rt, &asking_for(0x10, 0x0B), &times, line)?;
     let ran = [0x0018_0000_0000_0009, 5, 6];
     let line = "0 9 0 24 Sample time_running=6 values=5";
-    check_frame(&rt, &asked(0x10, 0x02), &ran, line)
+    check_frame(&rt, &asking_for(0x10, 0x02), &ran, line)
 }
 
 #[test]
 fn a_branch_has_eight_numbers(rt: HostRuntime) -> Result<(), AllocError> {
     let frame = [0x0028_0000_0000_0009, 1, 1, 2, 0x0060_0051];
     let line = "0 9 0 40 Sample lbr=1:2:1:0:0:0:5:6";
-    check_frame(&rt, &asked(0x800, 0), &frame, line)?;
+    check_frame(&rt, &asking_for(0x800, 0), &frame, line)?;
     let indexed = Asked {
         branch_sample_type: 1 << 17,
-        ..asked(0x800, 0)
+        ..asking_for(0x800, 0)
     };
     let frame = [0x0018_0000_0000_0009, 0, 7];
     let line = "0 9 0 24 Sample lbr_hw_index=7 lbr=";
@@ -198,14 +208,14 @@ fn a_branch_has_eight_numbers(rt: HostRuntime) -> Result<(), AllocError> {
 fn registers_have_two_fields(rt: HostRuntime) -> Result<(), AllocError> {
     let user = Asked {
         regs_user: 3,
-        ..asked(0x1000, 0)
+        ..asking_for(0x1000, 0)
     };
     let frame = [0x0010_0000_0000_0009, 0];
     let line = "0 9 0 16 Sample regs_user_abi=0 regs_user=";
     check_frame(&rt, &user, &frame, line)?;
     let interrupt = Asked {
         regs_intr: 3,
-        ..asked(0x0004_0000, 0)
+        ..asking_for(0x0004_0000, 0)
     };
     let frame = [0x0020_0000_0000_0009, 2, 7, 8];
     let line = "0 9 0 32 Sample regs_intr_abi=2 regs_intr=7,8";
@@ -216,8 +226,8 @@ fn registers_have_two_fields(rt: HostRuntime) -> Result<(), AllocError> {
 fn an_identifier_stands_for_the_id(rt: HostRuntime) -> Result<(), AllocError> {
     let frame = [0x0010_0000_0000_0009, 9];
     let line = "0 9 0 16 Sample id=9";
-    check_frame(&rt, &asked(0x0001_0000, 0), &frame, line)?;
+    check_frame(&rt, &asking_for(0x0001_0000, 0), &frame, line)?;
     let both = [0x0018_0000_0000_0009, 9, 7];
     let line = "0 9 0 24 Sample id=7";
-    check_frame(&rt, &asked(0x0001_0040, 0), &both, line)
+    check_frame(&rt, &asking_for(0x0001_0040, 0), &both, line)
 }

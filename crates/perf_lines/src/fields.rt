@@ -88,11 +88,7 @@ pub(crate) fn push_list(
 }
 
 // Appends numbers, with commas in between, behind what stands in front of them.
-pub(crate) fn push_items(
-    text: &mut String,
-    before: &str,
-    numbers: &[u64],
-) -> Result<(), AllocError>
+pub(crate) fn push_items(text: &mut String, before: &str, numbers: &[u64]) -> Result<(), AllocError>
     ensures { OnOk result (string_bytes text.new
         ≡ string_bytes text.old ++ (before.now ++ listed decimal numbers.now)) }
 {

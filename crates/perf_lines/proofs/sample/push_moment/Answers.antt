@@ -1,4 +1,4 @@
-use Rattle.std.proofs.Common.{◌≡◌, ◌++◌, ◌∙◌, ◌∷◌, [], List, ℕ, Option, codes, string_bytes, ap}
+use Rattle.std.proofs.Common.{◌++◌, ◌∙◌, ◌∷◌, [], List, ℕ, Option, codes, string_bytes, ap}
 use Rattle.std.proofs.lemmas.Result.{on_ok_weaker}
 use Rattle.perf_types.specs.SampleGetters.{Getters, getters_of}
 use Rattle.perf_types.specs.SampleGroups.{sample_value}
