@@ -105,7 +105,7 @@ fn wide(number: Option<u32>) -> Option<u64>
 // What stands in a call chain, if there is one.
 fn chain(alloc: Global, entries: Option<&[u64]>) -> Result<String, AllocError>
     ensures { IfOk result (λ text. string_bytes text
-        ≡ printed.chain (option_map (λ list. list.now) entries)) }
+        ≡ printed.chain (option_map (λ list. list.now) entries.entry)) }
 {
     let mut text = String::new(alloc);
     match entries {

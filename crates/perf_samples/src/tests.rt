@@ -14,7 +14,14 @@ fn absent_fields_are_dashes(rt: HostRuntime) -> Result<(), Fail> {
 #[test]
 fn marks_of_a_call_chain_are_words(rt: HostRuntime) -> Result<(), Fail> {
     // of the hypervisor, which has no word here, of the kernel, and of the program
-    let chain = [u64::MAX - 31, u64::MAX - 127, 0x10, u64::MAX - 511, 0, u64::MAX];
+    let chain = [
+        u64::MAX - 31,
+        u64::MAX - 127,
+        0x10,
+        u64::MAX - 511,
+        0,
+        u64::MAX,
+    ];
     let mut fields = SampleFields::default();
     fields.ip = Some(0x10);
     fields.pid = Some(u32::MAX);
