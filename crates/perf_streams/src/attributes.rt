@@ -1,11 +1,12 @@
 //! Attributes, and what comes behind them.
 
-use crate::buffers::{Check, check_through};
+use crate::asks::{Ask, check_asks};
+use crate::check;
 use bitflags::Flags;
-use perf_event_data::endian::{Endian, Little, Native};
-use perf_event_data::parse::{ErrorKind, ParseBuf, ParseConfig, ParseError, Parser};
+use perf_event_data::endian::{Little, Native};
+use perf_event_data::parse::{ParseBuf, ParseConfig, ParseError, Parser};
 use perf_event_data::sys::perf_event_attr;
-use perf_event_data::{PieceBuf, Record, RunEnd, read_records};
+use perf_event_data::{PieceBuf, Record, Run, RunEnd, read_records};
 use std::alloc::{AllocError, Global};
 use std::io::BufReader;
 use std::process::Abort;
@@ -48,18 +49,21 @@ fn check_behind<'p, B: ParseBuf<'p> + Drop>(
 ) -> Result<(), Fail> {
     let mut parser = Parser::new(alloc, buf, ParseConfig::<Little>::default());
     let attr = parser.parse::<perf_event_attr>()?;
-    assert_eq!(rt; attr.size, u32::from(size));
+    check!(rt; attr.size, u32::from(size));
     let config = ParseConfig::<Native>::from(attr).with_endian(Little);
     let mut parser = parser.reconfigure(config);
-    let run = read_records(&mut parser, 10);
-    assert_eq!(rt; run.frames.len(), 1);
-    assert!(rt; matches!(run.end, RunEnd::Done));
-    let (header, Ok(Record::LostSamples(lost))) = &run.frames[0] else {
+    check_five_lost(rt, &read_records(&mut parser, 10));
+    Ok(())
+}
+
+fn check_five_lost(rt: &impl Abort, run: &Run<'_>) {
+    check!(rt; run.frames.len(), 1);
+    check!(rt; matches!(run.end, RunEnd::Done));
+    let Some((header, Ok(Record::LostSamples(lost)))) = run.frames.first() else {
         panic!(rt; "not LOST_SAMPLES");
     };
-    assert_eq!(rt; (header.type_, header.misc, header.size), (13, 0, 16));
-    assert_eq!(rt; lost.lost, 5);
-    Ok(())
+    check!(rt; (header.type_, header.misc, header.size), (13, 0, 16));
+    check!(rt; lost.lost, 5);
 }
 
 #[test]
@@ -78,119 +82,57 @@ fn records_come_behind_the_size_of_an_attribute(rt: HostRuntime) -> Result<(), F
     Ok(())
 }
 
-// An attribute whose last field is config2.
-struct WithConfig2;
-
-impl<'p, B: ParseBuf<'p>> Check<'p, B> for WithConfig2 {
-    fn check<E: Endian>(rt: &impl Abort, parser: &mut Parser<B, E>) -> Result<(), Fail> {
-        let attr = parser.parse::<perf_event_attr>()?;
-        assert_eq!(rt; (attr.size, attr.config2), (72, 7));
-        assert_eq!(rt; attr.branch_sample_type, 0);
-        assert_eq!(rt; parser.parse_u8()?, 9);
-        Ok(())
-    }
-}
-
 #[test]
 fn fields_beyond_the_size_are_zero(rt: HostRuntime) -> Result<(), Fail> {
     let bytes = bytes_of(rt.alloc(), 72, 73, &[(64, 7), (72, 9)])?;
-    check_through::<WithConfig2>(&rt, rt.alloc(), &bytes)
-}
-
-// An attribute of which a byte is lacking.
-struct Cut;
-
-impl<'p, B: ParseBuf<'p>> Check<'p, B> for Cut {
-    fn check<E: Endian>(rt: &impl Abort, parser: &mut Parser<B, E>) -> Result<(), Fail> {
-        let refused = parser
-            .parse::<perf_event_attr>()
-            .map_err(|error| error.kind());
-        assert!(rt; matches!(refused, Err(ErrorKind::Eof)));
-        let rest = parser.parse_rest()?;
-        assert!(rt; rest.is_empty());
-        Ok(())
-    }
+    check_asks(
+        &rt,
+        &bytes,
+        &[Ask::Attribute, Ask::U8],
+        "size 72 config2 7 branch 0 clock 0 stack 0 0 aux 0 0 regs 0 sig 0 config3 0; 0x9",
+    );
+    Ok(())
 }
 
 #[test]
 fn an_attribute_that_is_cut_off_takes_all_that_was_left(rt: HostRuntime) -> Result<(), Fail> {
     for count in [0, 7, 8, 63, 71] {
         let bytes = bytes_of(rt.alloc(), 72, count, &[])?;
-        check_through::<Cut>(&rt, rt.alloc(), &bytes)?;
+        check_asks(&rt, &bytes, &[Ask::Attribute, Ask::Rest], "Eof; []");
     }
     Ok(())
-}
-
-// An attribute of a size that there is not, and a byte behind its first eight.
-struct NoSuchSize;
-
-impl<'p, B: ParseBuf<'p>> Check<'p, B> for NoSuchSize {
-    fn check<E: Endian>(rt: &impl Abort, parser: &mut Parser<B, E>) -> Result<(), Fail> {
-        let refused = parser
-            .parse::<perf_event_attr>()
-            .map_err(|error| error.kind());
-        assert!(rt; matches!(refused, Err(ErrorKind::InvalidRecord)));
-        assert_eq!(rt; parser.parse_u8()?, 9);
-        Ok(())
-    }
 }
 
 #[test]
-fn a_size_that_there_is_not_takes_eight_bytes(rt: HostRuntime) -> Result<(), Fail> {
+fn a_size_that_there_is_not_takes_eight_bytes(rt: HostRuntime) {
     for size in [0, 63, 65, 88, 100, 135] {
         let bytes = [0, 0, 0, 0, size, 0, 0, 0, 9, 8];
-        check_through::<NoSuchSize>(&rt, rt.alloc(), &bytes)?;
-    }
-    Ok(())
-}
-
-// An attribute of a newer kernel, whose new byte is zero.
-struct ZeroTail;
-
-impl<'p, B: ParseBuf<'p>> Check<'p, B> for ZeroTail {
-    fn check<E: Endian>(rt: &impl Abort, parser: &mut Parser<B, E>) -> Result<(), Fail> {
-        let attr = parser.parse::<perf_event_attr>()?;
-        assert_eq!(rt; (attr.size, attr.config3), (137, 3));
-        assert_eq!(rt; parser.parse_u8()?, 9);
-        Ok(())
-    }
-}
-
-// The same, where it is not.
-struct OtherTail;
-
-impl<'p, B: ParseBuf<'p>> Check<'p, B> for OtherTail {
-    fn check<E: Endian>(rt: &impl Abort, parser: &mut Parser<B, E>) -> Result<(), Fail> {
-        let refused = parser
-            .parse::<perf_event_attr>()
-            .map_err(|error| error.kind());
-        assert!(rt; matches!(refused, Err(ErrorKind::UnsupportedData)));
-        assert_eq!(rt; parser.parse_u8()?, 9);
-        Ok(())
+        check_asks(
+            &rt,
+            &bytes,
+            &[Ask::Attribute, Ask::U8],
+            "InvalidRecord; 0x9",
+        );
     }
 }
 
 #[test]
 fn bytes_behind_the_known_fields_must_be_zero(rt: HostRuntime) -> Result<(), Fail> {
     let zero = bytes_of(rt.alloc(), 137, 138, &[(128, 3), (137, 9)])?;
-    check_through::<ZeroTail>(&rt, rt.alloc(), &zero)?;
+    check_asks(
+        &rt,
+        &zero,
+        &[Ask::Attribute, Ask::U8],
+        "size 137 config2 0 branch 0 clock 0 stack 0 0 aux 0 0 regs 0 sig 0 config3 3; 0x9",
+    );
     let other = bytes_of(rt.alloc(), 137, 138, &[(136, 1), (137, 9)])?;
-    check_through::<OtherTail>(&rt, rt.alloc(), &other)
-}
-
-// An attribute whose last bytes are told apart.
-struct Late;
-
-impl<'p, B: ParseBuf<'p>> Check<'p, B> for Late {
-    fn check<E: Endian>(rt: &impl Abort, parser: &mut Parser<B, E>) -> Result<(), Fail> {
-        let attr = parser.parse::<perf_event_attr>()?;
-        assert_eq!(rt; attr.clockid, -1);
-        assert_eq!(rt; (attr.sample_stack_user, attr.sample_regs_intr), (2, 4));
-        assert_eq!(rt; (attr.aux_watermark, attr.sample_max_stack), (5, 6));
-        assert_eq!(rt; (attr.aux_sample_size, attr.sig_data), (7, 8));
-        assert_eq!(rt; attr.config3, 9);
-        Ok(())
-    }
+    check_asks(
+        &rt,
+        &other,
+        &[Ask::Attribute, Ask::U8],
+        "UnsupportedData; 0x9",
+    );
+    Ok(())
 }
 
 #[test]
@@ -212,7 +154,13 @@ fn a_clock_may_be_negative_and_some_bytes_say_nothing(rt: HostRuntime) -> Result
         (128, 9),
     ];
     let bytes = bytes_of(rt.alloc(), 136, 136, &marks)?;
-    check_through::<Late>(&rt, rt.alloc(), &bytes)
+    check_asks(
+        &rt,
+        &bytes,
+        &[Ask::Attribute],
+        "size 136 config2 0 branch 0 clock -1 stack 2 6 aux 5 7 regs 4 sig 8 config3 9",
+    );
+    Ok(())
 }
 
 #[test]
@@ -232,16 +180,16 @@ fn a_configuration_is_what_the_attribute_says(rt: HostRuntime) -> Result<(), Fai
         ParseConfig::<Little>::default(),
     );
     let config = ParseConfig::<Native>::from(parser.parse::<perf_event_attr>()?);
-    assert_eq!(rt; config.read_format().bits(), 0x21);
-    assert_eq!(rt; config.sample_type().bits(), 7);
-    assert!(rt; config.sample_id_all());
-    assert!(rt; config.branch_hw_index());
-    assert_eq!(rt; (config.regs_user(), config.regs_intr()), (0x0F, 0xF0));
-    assert_eq!(rt; config.misc(), 0);
+    check!(rt; config.read_format().bits(), 0x21);
+    check!(rt; config.sample_type().bits(), 7);
+    check!(rt; config.sample_id_all());
+    check!(rt; config.branch_hw_index());
+    check!(rt; (config.regs_user(), config.regs_intr()), (0x0F, 0xF0));
+    check!(rt; config.misc(), 0);
     let parser = parser.reconfigure(config);
-    assert!(rt; parser.config().sample_id_all());
+    check!(rt; parser.config().sample_id_all());
     let parser = parser.reconfigure(ParseConfig::<Little>::default());
-    assert!(rt; !parser.config().sample_id_all());
+    check!(rt; !parser.config().sample_id_all());
     Ok(())
 }
 
@@ -255,7 +203,7 @@ fn check_refusal(rt: &impl Abort, alloc: Global, bytes: &[u8], text: &str) -> Re
     let Some(error) = refusal(alloc, bytes) else {
         panic!(rt; "not refused");
     };
-    assert_eq!(rt; error.to_string(alloc)?.as_str(), text);
+    check!(rt; error.to_string(alloc)?.as_str(), text);
     Ok(())
 }
 

@@ -1,5 +1,6 @@
 //! What a configuration keeps where one thing in it changes.
 
+use crate::check;
 use bitflags::Flags;
 use perf_event_data::endian::{Dynamic, Little};
 use perf_event_data::parse::ParseConfig;
@@ -26,12 +27,12 @@ fn full() -> ParseConfig<Little> {
 
 fn check_said<E>(rt: &impl Abort, config: &ParseConfig<E>, want: Said) {
     let (read_format, sample_type, sample_id_all, branch_hw_index, user, intr, misc) = want;
-    assert_eq!(rt; config.read_format().bits(), read_format);
-    assert_eq!(rt; config.sample_type().bits(), sample_type);
-    assert_eq!(rt; config.sample_id_all(), sample_id_all);
-    assert_eq!(rt; config.branch_hw_index(), branch_hw_index);
-    assert_eq!(rt; (config.regs_user(), config.regs_intr()), (user, intr));
-    assert_eq!(rt; config.misc(), misc);
+    check!(rt; config.read_format().bits(), read_format);
+    check!(rt; config.sample_type().bits(), sample_type);
+    check!(rt; config.sample_id_all(), sample_id_all);
+    check!(rt; config.branch_hw_index(), branch_hw_index);
+    check!(rt; (config.regs_user(), config.regs_intr()), (user, intr));
+    check!(rt; config.misc(), misc);
 }
 
 #[test]
@@ -56,7 +57,7 @@ fn another_order_keeps_all_flags_and_masks(rt: HostRuntime) {
         &config,
         (read_format, sample_type, ids, index, user, intr, 3),
     );
-    assert_eq!(rt; *config.endian(), Dynamic::Big);
+    check!(rt; *config.endian(), Dynamic::Big);
 }
 
 #[test]

@@ -1,5 +1,6 @@
 //! The bytes of one frame.
 
+use crate::check;
 use perf_event_data::PieceBuf;
 use perf_event_data::parse::{ErrorKind, ParseBuf, ParseBufChunk, ParseBufCursor};
 use std::alloc::Global;
@@ -11,33 +12,33 @@ use std::test::Fail;
 fn a_cursor_over_a_slice_lends_it(rt: HostRuntime) -> Result<(), Fail> {
     let mut bytes: &[u8] = b"abcde";
     let mut cursor = ParseBufCursor::new(rt.alloc(), &mut bytes, 3)?;
-    assert_eq!(rt; bytes, b"de".as_slice());
-    assert_eq!(rt; cursor.as_slice(), Some(b"abc".as_slice()));
-    assert_eq!(rt; cursor.remaining_hint(), Some(3));
+    check!(rt; bytes, b"de".as_slice());
+    check!(rt; cursor.as_slice(), Some(b"abc".as_slice()));
+    check!(rt; cursor.remaining_hint(), Some(3));
     let shown = cursor.chunk()?.as_bytes().len();
-    assert_eq!(rt; shown, 3);
+    check!(rt; shown, 3);
     cursor.advance(2);
-    assert_eq!(rt; cursor.as_slice(), Some(b"c".as_slice()));
-    assert_eq!(rt; cursor.remaining_hint(), Some(1));
+    check!(rt; cursor.as_slice(), Some(b"c".as_slice()));
+    check!(rt; cursor.remaining_hint(), Some(1));
     Ok(())
 }
 
 // Three bytes of five out of a buffer whose bytes do not last, and then too many.
 fn check_own<'p, B: ParseBuf<'p>>(rt: &impl Abort, alloc: Global, buf: &mut B) -> Result<(), Fail> {
     let mut cursor = ParseBufCursor::new(alloc, buf, 3)?;
-    assert!(rt; cursor.as_slice().is_none());
-    assert_eq!(rt; cursor.remaining_hint(), Some(3));
-    assert_eq!(rt; cursor.chunk()?.as_bytes(), b"abc".as_slice());
+    check!(rt; cursor.as_slice().is_none());
+    check!(rt; cursor.remaining_hint(), Some(3));
+    check!(rt; cursor.chunk()?.as_bytes(), b"abc".as_slice());
     cursor.advance(2);
-    assert!(rt; cursor.as_slice().is_none());
-    assert_eq!(rt; cursor.remaining_hint(), Some(1));
-    assert_eq!(rt; cursor.chunk()?.as_bytes(), b"c".as_slice());
-    assert_eq!(rt; buf.chunk()?.as_bytes().first().copied(), Some(b'd'));
+    check!(rt; cursor.as_slice().is_none());
+    check!(rt; cursor.remaining_hint(), Some(1));
+    check!(rt; cursor.chunk()?.as_bytes(), b"c".as_slice());
+    check!(rt; buf.chunk()?.as_bytes().first().copied(), Some(b'd'));
     let refused = ParseBufCursor::new(alloc, buf, 3).map_err(|error| error.kind());
-    assert!(rt; matches!(refused, Err(ErrorKind::Eof)));
-    assert!(rt; buf.chunk().is_err());
+    check!(rt; matches!(refused, Err(ErrorKind::Eof)));
+    check!(rt; buf.chunk().is_err());
     let empty = ParseBufCursor::new(alloc, buf, 0)?;
-    assert!(rt; empty.as_slice().is_some_and(|bytes| bytes.is_empty()));
+    check!(rt; empty.as_slice().is_some_and(|bytes| bytes.is_empty()));
     Ok(())
 }
 
@@ -63,11 +64,11 @@ fn a_cursor_over_lasting_pieces_has_their_bytes(rt: HostRuntime) -> Result<(), F
     for n in [1, 3, 64] {
         let mut pieces = PieceBuf::new(bytes, n, true);
         let mut cursor = ParseBufCursor::new(rt.alloc(), &mut pieces, 3)?;
-        assert_eq!(rt; cursor.chunk()?.as_bytes(), b"abc".as_slice());
+        check!(rt; cursor.chunk()?.as_bytes(), b"abc".as_slice());
         if let Some(lent) = cursor.as_slice() {
-            assert_eq!(rt; lent, b"abc".as_slice());
+            check!(rt; lent, b"abc".as_slice());
         }
-        assert_eq!(rt; pieces.remaining_hint(), Some(2));
+        check!(rt; pieces.remaining_hint(), Some(2));
     }
     Ok(())
 }
@@ -75,27 +76,27 @@ fn a_cursor_over_lasting_pieces_has_their_bytes(rt: HostRuntime) -> Result<(), F
 #[test]
 fn pieces_last_where_they_are_told_to(rt: HostRuntime) -> Result<(), Fail> {
     let mut lasting = PieceBuf::new(b"abcde", 2, true);
-    assert!(rt; matches!(lasting.chunk()?, ParseBufChunk::External(b"ab")));
-    assert!(rt; matches!(lasting.chunk()?, ParseBufChunk::External(b"ab")));
+    check!(rt; matches!(lasting.chunk()?, ParseBufChunk::External(b"ab")));
+    check!(rt; matches!(lasting.chunk()?, ParseBufChunk::External(b"ab")));
     let mut fleeting = PieceBuf::new(b"abcde", 2, false);
-    assert!(rt; matches!(fleeting.chunk()?, ParseBufChunk::Temporary(b"ab")));
-    assert!(rt; matches!(fleeting.chunk()?, ParseBufChunk::Temporary(b"ab")));
+    check!(rt; matches!(fleeting.chunk()?, ParseBufChunk::Temporary(b"ab")));
+    check!(rt; matches!(fleeting.chunk()?, ParseBufChunk::Temporary(b"ab")));
     Ok(())
 }
 
 #[test]
 fn only_a_reader_does_not_say_how_many_bytes_are_left(rt: HostRuntime) -> Result<(), Fail> {
     let bytes: &[u8] = b"abcde";
-    assert_eq!(rt; ParseBuf::remaining_hint(&bytes), Some(5));
-    assert_eq!(rt;
+    check!(rt; ParseBuf::remaining_hint(&bytes), Some(5));
+    check!(rt;
         BufReader::with_capacity(rt.alloc(), 7, bytes)?.remaining_hint(),
         None
     );
     let mut pieces = PieceBuf::new(bytes, 3, true);
-    assert_eq!(rt; pieces.remaining_hint(), Some(5));
-    assert_eq!(rt; pieces.chunk()?.as_bytes(), b"abc".as_slice());
+    check!(rt; pieces.remaining_hint(), Some(5));
+    check!(rt; pieces.chunk()?.as_bytes(), b"abc".as_slice());
     pieces.advance(2);
-    assert_eq!(rt; pieces.remaining_hint(), Some(3));
-    assert_eq!(rt; pieces.chunk()?.as_bytes(), b"cde".as_slice());
+    check!(rt; pieces.remaining_hint(), Some(3));
+    check!(rt; pieces.chunk()?.as_bytes(), b"cde".as_slice());
     Ok(())
 }

@@ -1,5 +1,6 @@
 //! What an error says, and lists that may be borrowed.
 
+use crate::check;
 use crate::metadata::with_ids;
 use anyhow::anyhow;
 use perf_base::config::ParseConfig;
@@ -29,10 +30,10 @@ const KINDS: [(ErrorKind, &str); 6] = [
 fn an_error_is_written_with_its_message(rt: HostRuntime) -> Result<(), Fail> {
     for (kind, want) in KINDS {
         let error = ParseError::custom(kind, "why");
-        assert_eq!(rt; error.kind(), kind);
-        assert_eq!(rt; error.message(), Some("why"));
-        assert!(rt; error.cause().is_none());
-        assert_eq!(rt; error.to_string(rt.alloc())?.as_str(), want);
+        check!(rt; error.kind(), kind);
+        check!(rt; error.message(), Some("why"));
+        check!(rt; error.cause().is_none());
+        check!(rt; error.to_string(rt.alloc())?.as_str(), want);
     }
     Ok(())
 }
@@ -43,16 +44,16 @@ fn an_error_is_written_with_its_cause(rt: HostRuntime) -> Result<(), Fail> {
         ParseError::new(anyhow!("no disk")),
         ParseError::from(anyhow!("no disk")),
     ] {
-        assert_eq!(rt; error.kind(), ErrorKind::External);
-        assert!(rt; error.message().is_none());
-        assert_eq!(rt;
+        check!(rt; error.kind(), ErrorKind::External);
+        check!(rt; error.message().is_none());
+        check!(rt;
             error.to_string(rt.alloc())?.as_str(),
             "user-provided error: no disk"
         );
         let Some(cause) = error.cause() else {
             panic!(rt; "no cause");
         };
-        assert_eq!(rt; cause.to_string(rt.alloc())?.as_str(), "no disk");
+        check!(rt; cause.to_string(rt.alloc())?.as_str(), "no disk");
     }
     Ok(())
 }
@@ -64,9 +65,9 @@ fn check_plain(
     kind: ErrorKind,
     text: &str,
 ) -> Result<(), AllocError> {
-    assert_eq!(rt; error.kind(), kind);
-    assert!(rt; error.message().is_none() && error.cause().is_none());
-    assert_eq!(rt; error.to_string(alloc)?.as_str(), text);
+    check!(rt; error.kind(), kind);
+    check!(rt; error.message().is_none() && error.cause().is_none());
+    check!(rt; error.to_string(alloc)?.as_str(), text);
     Ok(())
 }
 
@@ -123,15 +124,24 @@ fn check_says(
 ) -> Result<(), Fail> {
     let mut parser = Parser::new(alloc, bytes, config);
     let run = read_records(&mut parser, 1);
-    assert_eq!(rt; run.frames.len(), 1);
-    let (_, Err(error)) = &run.frames[0] else {
+    check!(rt; run.frames.len(), 1);
+    let Some((_, Err(error))) = run.frames.first() else {
         panic!(rt; "not refused");
     };
-    assert_eq!(rt; error.kind(), ErrorKind::InvalidRecord);
-    assert_eq!(rt; error.message(), Some(message));
+    check_message(rt, alloc, error, message)
+}
+
+fn check_message(
+    rt: &impl Abort,
+    alloc: Global,
+    error: &ParseError,
+    message: &str,
+) -> Result<(), Fail> {
+    check!(rt; error.kind(), ErrorKind::InvalidRecord);
+    check!(rt; error.message(), Some(message));
     let text = error.to_string(alloc)?;
     let want = format!(in alloc; "invalid record: {message}")?;
-    assert_eq!(rt; text.as_str(), want.as_str());
+    check!(rt; text.as_str(), want.as_str());
     Ok(())
 }
 
@@ -168,17 +178,17 @@ fn a_list_reads_alike_borrowed_and_owned(rt: HostRuntime) -> Result<(), Fail> {
         CowSlice::Borrowed(items),
         CowSlice::Owned(items.to_vec(rt.alloc())?),
     ] {
-        assert_eq!(rt; list.as_slice(), items);
-        assert_eq!(rt; list.len(), 3);
-        assert!(rt; !list.is_empty());
+        check!(rt; list.as_slice(), items);
+        check!(rt; list.len(), 3);
+        check!(rt; !list.is_empty());
     }
     for list in [
         CowSlice::Borrowed(&[]),
         CowSlice::Owned(Vec::<u16>::new(rt.alloc())),
     ] {
-        assert_eq!(rt; list.as_slice(), [].as_slice());
-        assert_eq!(rt; list.len(), 0);
-        assert!(rt; list.is_empty());
+        check!(rt; list.as_slice(), [].as_slice());
+        check!(rt; list.len(), 0);
+        check!(rt; list.is_empty());
     }
     Ok(())
 }

@@ -3,6 +3,7 @@
 ghost use Rattle.std.specs.Prelude.{◌≡◌, true, false, None, Some, take, nat_lt};
 
 use crate::buffers::tell;
+use crate::check;
 use anyhow::anyhow;
 use perf_event_data::endian::Little;
 use perf_event_data::parse::{
@@ -106,8 +107,8 @@ fn a_fault_of_a_reader_has_it_as_its_cause(rt: HostRuntime) -> Result<(), Fail> 
     let RunEnd::Fault(error) = read_records(&mut parser, 10).end else {
         panic!(rt; "no fault");
     };
-    assert_eq!(rt; error.kind(), ErrorKind::External);
-    assert!(rt; error.cause().is_some());
+    check!(rt; error.kind(), ErrorKind::External);
+    check!(rt; error.cause().is_some());
     Ok(())
 }
 
@@ -218,6 +219,6 @@ fn a_fault_is_no_end_of_the_rest(rt: HostRuntime) {
         let Err(error) = parser.parse_rest() else {
             panic!(rt; "no fault after {before} bytes");
         };
-        assert_eq!(rt; error.kind(), ErrorKind::External);
+        check!(rt; error.kind(), ErrorKind::External);
     }
 }

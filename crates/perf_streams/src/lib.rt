@@ -4,9 +4,13 @@
 #![tactic(auto)]
 
 #[cfg(test)]
+mod asks;
+#[cfg(test)]
 mod attributes;
 #[cfg(test)]
 mod buffers;
+#[cfg(test)]
+mod checks;
 #[cfg(test)]
 mod configurations;
 #[cfg(test)]
@@ -37,5 +41,7 @@ mod side_band;
 mod streams;
 #[cfg(test)]
 mod through_buffers;
+#[cfg(test)]
+mod told;
 #[cfg(test)]
 mod values;

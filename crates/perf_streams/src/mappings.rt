@@ -1,67 +1,38 @@
 //! Mappings: MMAP and MMAP2.
 
-use crate::buffers::{Check, check_everywhere, check_through, check_under};
-use crate::metadata::with_ids;
-use perf_event_data::endian::{Endian, Little};
-use perf_event_data::parse::{ParseBuf, ParseConfig, Parser};
-use perf_event_data::{CowSlice, Mmap, Record, Run, RunEnd, read_records};
-use std::alloc::Global;
-use std::process::Abort;
+use crate::asks::{Ask, check_asks};
+use crate::buffers::{check_everywhere, check_everywhere_behind, check_lent};
+use crate::check;
+use crate::metadata::ids_attribute;
+use perf_event_data::endian::Little;
+use perf_event_data::parse::{ParseConfig, Parser};
+use perf_event_data::{Record, read_records};
+use std::alloc::{AllocError, Global};
 use std::test::Fail;
 
-// The body of MMAP.
-struct OfMmap;
-
-impl<'p, B: ParseBuf<'p>> Check<'p, B> for OfMmap {
-    fn check<E: Endian>(rt: &impl Abort, parser: &mut Parser<B, E>) -> Result<(), Fail> {
-        let map = parser.parse::<Mmap<'p>>()?;
-        assert_eq!(rt; (map.pid, map.tid), (25610, 25611));
-        assert_eq!(rt;
-            (map.addr, map.len, map.pgoff),
-            (0x7FBD8176A000, 4096, 0x7FBD8176A000)
-        );
-        assert_eq!(rt; map.filename_os(), Some("//anon"));
-        Ok(())
-    }
-}
-
+// The first and the last of the three numbers is 0x7FBD8176A000.
 #[test]
-fn a_mapping_is_its_numbers_and_a_name(rt: HostRuntime) -> Result<(), Fail> {
+fn a_mapping_is_its_numbers_and_a_name(rt: HostRuntime) {
     let bytes = b"\x0A\x64\0\0\x0B\x64\0\0\0\xA0\x76\x81\xBD\x7F\0\0\
         \0\x10\0\0\0\0\0\0\0\xA0\x76\x81\xBD\x7F\0\0\x2F\x2F\x61\x6E\x6F\x6E\0\0";
-    check_through::<OfMmap>(&rt, rt.alloc(), bytes)
+    let want = "Mmap 25610 25611 140451897581568 4096 140451897581568 //anon Some(\"//anon\")";
+    check_asks(&rt, bytes, &[Ask::Mmap], want);
 }
 
 const MMAP: &[u8] = b"\x01\0\0\0\0\0\x30\0\x16\x4C\x01\0\x17\x4C\x01\0\0\xA0\x48\x96\x4F\x7F\0\0\
     \0\x10\0\0\0\0\0\0\0\xA0\x48\x96\x4F\x7F\0\0\x2F\x2F\x61\x6E\x6F\x6E\0\0";
 
 #[test]
-fn a_mapping_as_a_frame(rt: HostRuntime) -> Result<(), Fail> {
+fn a_mapping_as_a_frame(rt: HostRuntime) {
     let want = "1 0 48 Mmap 85014 85015 139979800485888 4096 139979800485888 //anon; done";
-    check_everywhere(&rt, rt.alloc(), MMAP, Little, &[10], want)
+    check_everywhere(&rt, MMAP, Little, &[10], want);
 }
 
-// A run of one mapping, all of whose name is its sample id.
-struct WithoutName;
-
-impl<'p, B: ParseBuf<'p>> Check<'p, B> for WithoutName {
-    fn check<E: Endian>(rt: &impl Abort, parser: &mut Parser<B, E>) -> Result<(), Fail> {
-        let run = read_records(parser, 10);
-        assert!(rt; matches!(run.end, RunEnd::Done));
-        assert_eq!(rt; run.frames.len(), 1);
-        let (_, Ok(Record::Mmap(map))) = &run.frames[0] else {
-            panic!(rt; "not MMAP");
-        };
-        assert_eq!(rt; (map.pid, map.tid), (85014, 85015));
-        assert_eq!(rt; (map.addr, map.len), (139979800485888, 4096));
-        assert!(rt; map.filename.is_empty());
-        Ok(())
-    }
-}
-
+// All of its name is its sample id.
 #[test]
-fn the_sample_id_of_a_mapping_is_no_name(rt: HostRuntime) -> Result<(), Fail> {
-    check_under::<WithoutName>(&rt, rt.alloc(), MMAP, &with_ids(1 << 2))
+fn the_sample_id_of_a_mapping_is_no_name(rt: HostRuntime) {
+    let want = "1 0 48 Mmap 85014 85015 139979800485888 4096 139979800485888 ; done";
+    check_everywhere_behind(&rt, MMAP, Little, ids_attribute(1 << 2), &[10], want);
 }
 
 const BY_BUILD_ID: &[u8] = b"\x0A\0\0\0\0\x40\x50\0\x01\0\0\0\x02\0\0\0\
@@ -73,10 +44,10 @@ const BY_BUILD_ID: &[u8] = b"\x0A\0\0\0\0\x40\x50\0\x01\0\0\0\x02\0\0\0\
 const NEXT: &[u8] = b"\x0D\0\0\0\0\0\x10\0\x05\0\0\0\0\0\0\0";
 
 #[test]
-fn a_file_is_named_by_its_build_id(rt: HostRuntime) -> Result<(), Fail> {
+fn a_file_is_named_by_its_build_id(rt: HostRuntime) {
     let want = "10 16384 80 Mmap2 1 2 4096 8192 0 \
         [1, 2, 3, 4, 5, 6, 7, 8, 9, 10, 11, 12, 13, 14, 15, 16, 17, 18, 19, 20] 5 2 ab; done";
-    check_everywhere(&rt, rt.alloc(), BY_BUILD_ID, Little, &[10], want)
+    check_everywhere(&rt, BY_BUILD_ID, Little, &[10], want);
 }
 
 #[test]
@@ -84,10 +55,11 @@ fn a_short_build_id_is_the_first_bytes(rt: HostRuntime) -> Result<(), Fail> {
     let mut bytes = BY_BUILD_ID.to_vec(rt.alloc())?;
     bytes[40] = 3;
     let want = "10 16384 80 Mmap2 1 2 4096 8192 0 [1, 2, 3] 5 2 ab; done";
-    check_everywhere(&rt, rt.alloc(), bytes.as_slice(), Little, &[10], want)?;
+    check_everywhere(&rt, bytes.as_slice(), Little, &[10], want);
     bytes[40] = 0;
     let want = "10 16384 80 Mmap2 1 2 4096 8192 0 [] 5 2 ab; done";
-    check_everywhere(&rt, rt.alloc(), bytes.as_slice(), Little, &[10], want)
+    check_everywhere(&rt, bytes.as_slice(), Little, &[10], want);
+    Ok(())
 }
 
 #[test]
@@ -119,7 +91,7 @@ fn a_build_id_of_more_than_20_bytes_is_refused_behind_its_bytes(
         bytes[40] = len;
         bytes.truncate(usize::from(size));
         bytes.extend_from_slice(NEXT)?;
-        check_everywhere(&rt, rt.alloc(), bytes.as_slice(), Little, &[10], want)?;
+        check_everywhere(&rt, bytes.as_slice(), Little, &[10], want);
     }
     Ok(())
 }
@@ -130,33 +102,39 @@ const BY_INODE: &[u8] = b"\x0A\0\0\0\0\0\x50\0\x01\0\0\0\x02\0\0\0\
     \x05\0\0\0\x02\0\0\0\x61\x62\0\0\0\0\0\0";
 
 #[test]
-fn a_file_is_named_by_its_inode(rt: HostRuntime) -> Result<(), Fail> {
+fn a_file_is_named_by_its_inode(rt: HostRuntime) {
     let want = "10 0 80 Mmap2 1 2 4096 8192 0 8 1 99 3 5 2 ab; done";
-    check_everywhere(&rt, rt.alloc(), BY_INODE, Little, &[10], want)
+    check_everywhere(&rt, BY_INODE, Little, &[10], want);
 }
 
-// A run over a slice.
-fn run_over<'p>(alloc: Global, bytes: &'p [u8]) -> Run<'p> {
+// What both names of the file are, of the first record of a run over a slice.
+fn names_of(alloc: Global, bytes: &[u8]) -> Result<String, AllocError> {
     let mut parser = Parser::new(alloc, bytes, ParseConfig::<Little>::default());
-    read_records(&mut parser, 10)
+    let run = read_records(&mut parser, 10);
+    let mut text = String::new(alloc);
+    match run.frames.first() {
+        Some((_, Ok(record))) => tell_names(&mut text, record)?,
+        _ => text.push_str("no record")?,
+    }
+    Ok(text)
+}
+
+fn tell_names(text: &mut String, record: &Record<'_>) -> Result<(), AllocError> {
+    let Record::Mmap2(map) = record else {
+        return text.push_str("not MMAP2");
+    };
+    let length = map.build_id().map(|id| id.len());
+    write!(text, "{length:?} {:?} {:?}", map.maj(), map.min())?;
+    write!(text, " {:?} {:?}", map.ino(), map.ino_generation())
 }
 
 #[test]
-fn the_misc_says_which_of_both_names_a_file(rt: HostRuntime) {
-    let run = run_over(rt.alloc(), BY_BUILD_ID);
-    let Some((_, Ok(Record::Mmap2(map)))) = run.frames.first() else {
-        panic!(rt; "not MMAP2");
-    };
-    assert!(rt; map.build_id().is_some_and(|id| id.len() == 20));
-    assert_eq!(rt; (map.maj(), map.min()), (None, None));
-    assert_eq!(rt; (map.ino(), map.ino_generation()), (None, None));
-    assert!(rt; matches!(map.filename, CowSlice::Borrowed(b"ab")));
-    let run = run_over(rt.alloc(), BY_INODE);
-    let Some((_, Ok(Record::Mmap2(map)))) = run.frames.first() else {
-        panic!(rt; "not MMAP2");
-    };
-    assert!(rt; map.build_id().is_none());
-    assert_eq!(rt; (map.maj(), map.min()), (Some(8), Some(1)));
-    assert_eq!(rt; (map.ino(), map.ino_generation()), (Some(99), Some(3)));
-    assert!(rt; matches!(map.filename, CowSlice::Borrowed(b"ab")));
+fn the_misc_says_which_of_both_names_a_file(rt: HostRuntime) -> Result<(), Fail> {
+    let names = names_of(rt.alloc(), BY_BUILD_ID)?;
+    check!(rt; names.as_str(), "Some(20) None None None None");
+    check_lent(&rt, BY_BUILD_ID, "Mmap2 lent [97, 98]; ");
+    let names = names_of(rt.alloc(), BY_INODE)?;
+    check!(rt; names.as_str(), "None Some(8) Some(1) Some(99) Some(3)");
+    check_lent(&rt, BY_INODE, "Mmap2 lent [97, 98]; ");
+    Ok(())
 }

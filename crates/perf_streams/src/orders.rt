@@ -4,6 +4,7 @@ ghost use Rattle.std.specs.Prelude.{◌++◌, take, drop, true, false};
 ghost use Rattle.std.specs.Int.{w16, w32, w64, from_le_bytes};
 
 use crate::buffers::{check_everywhere, tell};
+use crate::check;
 use perf_base::config::ParseConfig;
 use perf_base::endian::{Big, Dynamic, Endian, Little, Native};
 use perf_base::error::{ErrorKind, ParseError, ParseResult};
@@ -143,30 +144,23 @@ impl Endian for Counting<'_> {
 }
 
 #[test]
-fn an_order_of_eights_has_frames_of_eight_bytes(rt: HostRuntime) -> Result<(), Fail> {
+fn an_order_of_eights_has_frames_of_eight_bytes(rt: HostRuntime) {
     let want = "0 8 8 Unknown 0 []; 0 8 8 Unknown 0 []; done";
-    check_everywhere(&rt, rt.alloc(), &[0; 16], Eights, &[10], want)
+    check_everywhere(&rt, &[0; 16], Eights, &[10], want);
 }
 
 #[test]
-fn an_order_of_words_reads_its_own_bytes(rt: HostRuntime) -> Result<(), Fail> {
+fn an_order_of_words_reads_its_own_bytes(rt: HostRuntime) {
     let bytes = b"\0\0\x0D\0\0\0\x10\0\0\0\0\0\0\0\x05\0";
-    check_everywhere(
-        &rt,
-        rt.alloc(),
-        bytes,
-        Words,
-        &[10],
-        "13 0 16 LostSamples 5; done",
-    )
+    check_everywhere(&rt, bytes, Words, &[10], "13 0 16 LostSamples 5; done");
 }
 
 // A run lends its order to each frame's body.
 #[test]
-fn a_run_asks_for_no_second_order(rt: HostRuntime) -> Result<(), Fail> {
+fn a_run_asks_for_no_second_order(rt: HostRuntime) {
     let bytes = b"\x02\0\0\0\0\0\x07\0\x0D\0\0\0\0\0\x10\0\x05\0\0\0\0\0\0\0";
     let want = "2 0 7 InvalidRecord; 13 0 16 LostSamples 5; done | done";
-    check_everywhere(&rt, rt.alloc(), bytes, Single, &[10, 10], want)
+    check_everywhere(&rt, bytes, Single, &[10, 10], want);
 }
 
 // The frame is taken, for whose body there is no parser, and the next one is read.
@@ -178,16 +172,16 @@ fn check_refused_body<'p, B: ParseBuf<'p> + Drop>(
     let config = ParseConfig::<Little>::default().with_endian(Single);
     let mut parser = Parser::new(alloc, buf, config);
     let refused = parser.parse_metadata().map_err(|error| error.kind());
-    assert!(rt; matches!(refused, Err(ErrorKind::OutOfMemory)));
+    check!(rt; matches!(refused, Err(ErrorKind::OutOfMemory)));
     let header = parser.parse::<perf_event_header>()?;
-    assert_eq!(rt; (header.type_, header.misc, header.size), (13, 0, 16));
+    check!(rt; (header.type_, header.misc, header.size), (13, 0, 16));
     let refused = parser
         .parse_metadata_with_header(header)
         .map_err(|error| error.kind());
-    assert!(rt; matches!(refused, Err(ErrorKind::OutOfMemory)));
-    assert_eq!(rt; parser.parse_u64()?, 7);
+    check!(rt; matches!(refused, Err(ErrorKind::OutOfMemory)));
+    check!(rt; parser.parse_u64()?, 7);
     let rest = parser.parse_rest()?;
-    assert!(rt; rest.is_empty());
+    check!(rt; rest.is_empty());
     Ok(())
 }
 
@@ -212,7 +206,7 @@ fn a_refused_duplicate_refuses_a_parser_of_the_body(rt: HostRuntime) -> Result<(
 fn a_refused_duplicate_refuses_the_configuration(rt: HostRuntime) {
     let config = ParseConfig::<Little>::default().with_endian(Single);
     let refused = config.duplicate().map_err(|error| error.kind());
-    assert!(rt; matches!(refused, Err(ErrorKind::OutOfMemory)));
+    check!(rt; matches!(refused, Err(ErrorKind::OutOfMemory)));
 }
 
 // A frame of NAMESPACES that says it has 2^63 of them, and has so many numbers instead.
@@ -226,7 +220,7 @@ fn check_calls<'p, B: ParseBuf<'p> + Drop>(
     let calls = Cell::new(0);
     let text = tell(alloc, buf, Counting { calls: &calls }, &[1])?;
     let want = format!(in alloc; "16 0 {size} Eof; limit")?;
-    assert_eq!(rt; text.as_str(), want.as_str());
+    check!(rt; text.as_str(), want.as_str());
     assert!(rt;
         calls.get() >= 1 && calls.get() <= numbers,
         "{numbers} numbers"
@@ -256,9 +250,9 @@ fn a_hostile_count_converts_no_more_than_the_numbers_of_its_body(
 
 // Asserts what an order makes of the bytes 1 to 8.
 fn check_order<E: Endian>(rt: &impl Abort, order: &E, two: u16, four: u32, eight: u64) {
-    assert_eq!(rt; order.convert_u16([1, 2]), two);
-    assert_eq!(rt; order.convert_u32([1, 2, 3, 4]), four);
-    assert_eq!(rt; order.convert_u64([1, 2, 3, 4, 5, 6, 7, 8]), eight);
+    check!(rt; order.convert_u16([1, 2]), two);
+    check!(rt; order.convert_u32([1, 2, 3, 4]), four);
+    check!(rt; order.convert_u64([1, 2, 3, 4, 5, 6, 7, 8]), eight);
 }
 
 #[test]
@@ -279,20 +273,20 @@ fn orders_convert_as_they_are_named(rt: HostRuntime) {
 
 #[test]
 fn the_little_orders_are_native(rt: HostRuntime) {
-    assert!(rt; Native.is_native() && Little.is_native() && Dynamic::Little.is_native());
-    assert!(rt; !Big.is_native() && !Dynamic::Big.is_native());
-    assert!(rt; !Eights.is_native() && !Words.is_native() && !Single.is_native());
+    check!(rt; Native.is_native() && Little.is_native() && Dynamic::Little.is_native());
+    check!(rt; !Big.is_native() && !Dynamic::Big.is_native());
+    check!(rt; !Eights.is_native() && !Words.is_native() && !Single.is_native());
 }
 
 #[test]
 fn a_configuration_keeps_its_order(rt: HostRuntime) -> Result<(), Fail> {
     let config = ParseConfig::<Native>::default().with_endian(Dynamic::Big);
-    assert_eq!(rt; *config.endian(), Dynamic::Big);
-    assert_eq!(rt; *config.duplicate()?.endian(), Dynamic::Big);
+    check!(rt; *config.endian(), Dynamic::Big);
+    check!(rt; *config.duplicate()?.endian(), Dynamic::Big);
     let mut parser = Parser::new(rt.alloc(), &b"\0\0\0\x0D\0\x01\0\x10"[..], config);
-    assert_eq!(rt; *parser.endian(), Dynamic::Big);
-    assert_eq!(rt; *parser.config().endian(), Dynamic::Big);
+    check!(rt; *parser.endian(), Dynamic::Big);
+    check!(rt; *parser.config().endian(), Dynamic::Big);
     let header = parser.parse::<perf_event_header>()?;
-    assert_eq!(rt; (header.type_, header.misc, header.size), (13, 1, 16));
+    check!(rt; (header.type_, header.misc, header.size), (13, 1, 16));
     Ok(())
 }

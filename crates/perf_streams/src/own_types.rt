@@ -3,6 +3,7 @@
 ghost use Rattle.std.specs.Prelude.{◌≡◌, ◌+◌, None, ⊤};
 
 use crate::buffers::{Check, check_through};
+use crate::check;
 use perf_event_data::CowSlice;
 use perf_event_data::endian::Endian;
 use perf_event_data::parse::{ErrorKind, Layout, Parse, ParseBuf, ParseResult, Parser};
@@ -64,13 +65,13 @@ impl<'p, B: ParseBuf<'p>> Parse<'p, B> for OwnSample {
 }
 
 fn check_sample(rt: &impl Abort, sample: &OwnSample) {
-    assert_eq!(rt; sample.ip, 0x3C2B_1A99_4833_1210);
-    assert_eq!(rt; (sample.task.pid, sample.task.tid), (2, 3));
-    assert_eq!(rt;
+    check!(rt; sample.ip, 0x3C2B_1A99_4833_1210);
+    check!(rt; (sample.task.pid, sample.task.tid), (2, 3));
+    check!(rt;
         sample.list.as_slice(),
         [0xF001, 0xF002, 0xF003, 0xF004].as_slice()
     );
-    assert_eq!(rt; sample.cgroup, 0xC940_6500_0065_40C9);
+    check!(rt; sample.cgroup, 0xC940_6500_0065_40C9);
 }
 
 // A frame whose body is parsed as a type of one's own.
@@ -79,14 +80,14 @@ struct ByType;
 impl<'p, B: ParseBuf<'p>> Check<'p, B> for ByType {
     fn check<E: Endian>(rt: &impl Abort, parser: &mut Parser<B, E>) -> Result<(), Fail> {
         let (mut inner, metadata) = parser.parse_metadata()?;
-        assert_eq!(rt; (metadata.ty(), metadata.misc()), (9, 0));
+        check!(rt; (metadata.ty(), metadata.misc()), (9, 0));
         let id = metadata.sample_id();
-        assert_eq!(rt; (id.pid(), id.tid(), id.time()), (None, None, None));
-        assert_eq!(rt; (id.id(), id.stream_id(), id.cpu()), (None, None, None));
+        check!(rt; (id.pid(), id.tid(), id.time()), (None, None, None));
+        check!(rt; (id.id(), id.stream_id(), id.cpu()), (None, None, None));
         let sample = inner.parse::<OwnSample>()?;
         check_sample(rt, &sample);
         let rest = inner.parse_rest()?;
-        assert!(rt; rest.is_empty());
+        check!(rt; rest.is_empty());
         Ok(())
     }
 }
@@ -97,7 +98,7 @@ struct ByClosure;
 impl<'p, B: ParseBuf<'p>> Check<'p, B> for ByClosure {
     fn check<E: Endian>(rt: &impl Abort, parser: &mut Parser<B, E>) -> Result<(), Fail> {
         let (mut inner, metadata) = parser.parse_metadata()?;
-        assert_eq!(rt; (metadata.ty(), metadata.misc()), (9, 0));
+        check!(rt; (metadata.ty(), metadata.misc()), (9, 0));
         let sample = inner.parse_with(|parser| {
             let ip = parser.parse_u64()?;
             let task = parser.parse::<Task>()?;
@@ -160,11 +161,11 @@ struct ByList;
 impl<'p, B: ParseBuf<'p>> Check<'p, B> for ByList {
     fn check<E: Endian>(rt: &impl Abort, parser: &mut Parser<B, E>) -> Result<(), Fail> {
         let list = parser.parse::<OwnList>()?;
-        assert_eq!(rt; list.numbers.as_slice(), [7, 8].as_slice());
+        check!(rt; list.numbers.as_slice(), [7, 8].as_slice());
         let list = parser.parse::<OwnSlice>()?;
-        assert_eq!(rt; list.numbers.as_slice(), [9].as_slice());
+        check!(rt; list.numbers.as_slice(), [9].as_slice());
         let refused = parser.parse::<OwnList>().map_err(|error| error.kind());
-        assert!(rt; matches!(refused, Err(ErrorKind::Eof)));
+        check!(rt; matches!(refused, Err(ErrorKind::Eof)));
         Ok(())
     }
 }

@@ -1,35 +1,21 @@
 //! Records of numbers and lists: what the kernel says beside the samples.
 
-use crate::buffers::{Check, check_everywhere, check_through};
-use perf_event_data::endian::{Endian, Little};
-use perf_event_data::parse::{ParseBuf, Parser};
-use perf_event_data::{NamespaceEntry, Record, SwitchCpuWide, Throttle, read_records};
-use std::process::Abort;
+use crate::asks::{Ask, check_asks};
+use crate::buffers::check_everywhere;
+use perf_event_data::endian::Little;
 use std::test::Fail;
 
-// The body of THROTTLE.
-struct OfThrottle;
-
-impl<'p, B: ParseBuf<'p>> Check<'p, B> for OfThrottle {
-    fn check<E: Endian>(rt: &impl Abort, parser: &mut Parser<B, E>) -> Result<(), Fail> {
-        let held = parser.parse::<Throttle>()?;
-        assert_eq!(rt;
-            (held.time, held.id, held.stream_id),
-            (0x8070605040302010, 0x00F0E0D0C0B0A090, 0xBEEFCAFEDEADBEEF)
-        );
-        Ok(())
-    }
-}
-
+// The numbers are 0x8070605040302010, 0x00F0E0D0C0B0A090 and 0xBEEFCAFEDEADBEEF.
 #[test]
-fn a_throttle_is_three_numbers(rt: HostRuntime) -> Result<(), Fail> {
+fn a_throttle_is_three_numbers(rt: HostRuntime) {
     let bytes = b"\x10\x20\x30\x40\x50\x60\x70\x80\x90\xA0\xB0\xC0\xD0\xE0\xF0\0\
         \xEF\xBE\xAD\xDE\xFE\xCA\xEF\xBE";
-    check_through::<OfThrottle>(&rt, rt.alloc(), bytes)
+    let want = "9255003132036915216 67801181601177744 13758438582646587119";
+    check_asks(&rt, bytes, &[Ask::Throttle], want);
 }
 
 #[test]
-fn records_of_numbers_alone(rt: HostRuntime) -> Result<(), Fail> {
+fn records_of_numbers_alone(rt: HostRuntime) {
     for (bytes, want) in [
         (
             b"\x05\0\0\0\0\0\x20\0\x01\0\0\0\0\0\0\0\x02\0\0\0\0\0\0\0\x03\0\0\0\0\0\0\0".as_slice(),
@@ -57,87 +43,51 @@ fn records_of_numbers_alone(rt: HostRuntime) -> Result<(), Fail> {
             "21 0 16 AuxOutputHwId 8589934593; done",
         ),
     ] {
-        check_everywhere(&rt, rt.alloc(), bytes, Little, &[10], want)?;
+        check_everywhere(&rt, bytes, Little, &[10], want);
     }
-    Ok(())
 }
 
 // Where a task went that left its CPU, by a run.
 const OUT: &[u8] = b"\x0F\0\0\0\0\x20\x10\0\x01\0\0\0\x02\0\0\0";
 
 #[test]
-fn the_misc_says_which_way_a_cpu_was_switched(rt: HostRuntime) -> Result<(), Fail> {
+fn the_misc_says_which_way_a_cpu_was_switched(rt: HostRuntime) {
     let want = "15 8192 16 Out 1 2; done";
-    check_everywhere(&rt, rt.alloc(), OUT, Little, &[10], want)?;
+    check_everywhere(&rt, OUT, Little, &[10], want);
     let bytes = b"\x0F\0\0\0\0\0\x10\0\x01\0\0\0\x02\0\0\0";
-    check_everywhere(
-        &rt,
-        rt.alloc(),
-        bytes,
-        Little,
-        &[10],
-        "15 0 16 In 1 2; done",
-    )?;
+    check_everywhere(&rt, bytes, Little, &[10], "15 0 16 In 1 2; done");
     let all_other_bits = b"\x0F\0\0\0\xFF\xDF\x10\0\x01\0\0\0\x02\0\0\0";
     let want = "15 57343 16 In 1 2; done";
-    check_everywhere(&rt, rt.alloc(), all_other_bits, Little, &[10], want)
+    check_everywhere(&rt, all_other_bits, Little, &[10], want);
 }
 
-// A body that is parsed by hand, under a configuration that knows no misc.
-struct ByHand;
-
-impl<'p, B: ParseBuf<'p>> Check<'p, B> for ByHand {
-    fn check<E: Endian>(rt: &impl Abort, parser: &mut Parser<B, E>) -> Result<(), Fail> {
-        let (mut inner, metadata) = parser.parse_metadata()?;
-        assert_eq!(rt; (metadata.ty(), metadata.misc()), (15, 0x2000));
-        let switched = inner.parse::<SwitchCpuWide>()?;
-        assert!(rt; matches!(switched, SwitchCpuWide::In { pid: 1, tid: 2 }));
-        Ok(())
-    }
-}
-
+// A body that is parsed by hand is under a configuration that knows no misc.
 #[test]
-fn a_body_by_hand_does_not_know_the_misc(rt: HostRuntime) -> Result<(), Fail> {
-    check_through::<ByHand>(&rt, rt.alloc(), OUT)
+fn a_body_by_hand_does_not_know_the_misc(rt: HostRuntime) {
+    let want = "15 8192 None None None None None None; In 1 2";
+    check_asks(&rt, OUT, &[Ask::Frame, Ask::SwitchCpuWide], want);
 }
 
 const NAMESPACES: &[u8] = b"\x10\0\0\0\0\0\x38\0\x01\0\0\0\x02\0\0\0\x02\0\0\0\0\0\0\0\
     \x03\0\0\0\0\0\0\0\x04\0\0\0\0\0\0\0\x05\0\0\0\0\0\0\0\x06\0\0\0\0\0\0\0";
 
-// A run of one record, NAMESPACES.
-struct OfNamespaces;
-
-impl<'p, B: ParseBuf<'p>> Check<'p, B> for OfNamespaces {
-    fn check<E: Endian>(rt: &impl Abort, parser: &mut Parser<B, E>) -> Result<(), Fail> {
-        let run = read_records(parser, 10);
-        assert_eq!(rt; run.frames.len(), 1);
-        let (_, Ok(Record::Namespaces(spaces))) = &run.frames[0] else {
-            panic!(rt; "not NAMESPACES");
-        };
-        assert_eq!(rt; (spaces.pid, spaces.tid), (1, 2));
-        let first = NamespaceEntry { dev: 3, inode: 4 };
-        let second = NamespaceEntry { dev: 5, inode: 6 };
-        assert_eq!(rt; spaces.namespaces.as_slice(), [first, second].as_slice());
-        assert_eq!(rt; spaces.network(), Some(&first));
-        assert_eq!(rt; spaces.uts(), Some(&second));
-        assert_eq!(rt; (spaces.ipc(), spaces.pid()), (None, None));
-        assert_eq!(rt; (spaces.user(), spaces.cgroup()), (None, None));
-        Ok(())
-    }
-}
-
 #[test]
 fn each_kind_of_namespace_has_its_place(rt: HostRuntime) -> Result<(), Fail> {
-    check_through::<OfNamespaces>(&rt, rt.alloc(), NAMESPACES)?;
+    let want = "Namespaces 1 2 3:4 5:6, \
+        network Some(NamespaceEntry { dev: 3, inode: 4 }), \
+        uts Some(NamespaceEntry { dev: 5, inode: 6 }), \
+        ipc None, pid None, user None, cgroup None";
+    check_asks(&rt, NAMESPACES, &[Ask::Spaces], want);
     let want = "16 0 56 Namespaces 1 2 3:4 5:6; done";
-    check_everywhere(&rt, rt.alloc(), NAMESPACES, Little, &[10], want)
+    check_everywhere(&rt, NAMESPACES, Little, &[10], want);
+    Ok(())
 }
 
 #[test]
-fn a_task_may_have_no_namespaces(rt: HostRuntime) -> Result<(), Fail> {
+fn a_task_may_have_no_namespaces(rt: HostRuntime) {
     let bytes = b"\x10\0\0\0\0\0\x18\0\x01\0\0\0\x02\0\0\0\0\0\0\0\0\0\0\0";
     let want = "16 0 24 Namespaces 1 2; done";
-    check_everywhere(&rt, rt.alloc(), bytes, Little, &[10], want)
+    check_everywhere(&rt, bytes, Little, &[10], want);
 }
 
 #[test]
@@ -149,7 +99,7 @@ fn more_namespaces_than_bytes_are_an_early_end(rt: HostRuntime) -> Result<(), Fa
         bytes.resize(0x37, 1)?;
         bytes.extend_from_slice(next)?;
         let want = "16 0 55 Eof; 13 0 16 LostSamples 5; done";
-        check_everywhere(&rt, rt.alloc(), bytes.as_slice(), Little, &[10], want)?;
+        check_everywhere(&rt, bytes.as_slice(), Little, &[10], want);
     }
     Ok(())
 }

@@ -1,117 +1,102 @@
 //! Whole streams.
 
-use crate::buffers::{Check, check_everywhere, check_under};
-use perf_event_data::endian::{Big, Dynamic, Endian, Little, Native};
-use perf_event_data::parse::{ErrorKind, ParseBuf, ParseConfig, Parser};
+use crate::buffers::{check_everywhere, check_everywhere_behind, check_lent};
+use crate::check;
+use perf_event_data::endian::{Big, Dynamic, Little, Native};
+use perf_event_data::parse::{ParseBuf, ParseConfig, Parser};
 use perf_event_data::sys::perf_event_attr;
-use perf_event_data::{CowSlice, PieceBuf, Record, RunEnd, read_records};
+use perf_event_data::{PieceBuf, Record, Run, RunEnd, read_records};
 use std::alloc::Global;
 use std::io::BufReader;
 use std::process::Abort;
 use std::test::Fail;
 
 #[test]
-fn an_empty_input_is_done_and_three_bytes_are_a_cut_header(rt: HostRuntime) -> Result<(), Fail> {
-    check_everywhere(&rt, rt.alloc(), b"", Little, &[10], "done")?;
-    check_everywhere(
-        &rt,
-        rt.alloc(),
-        b"\x0D\0\0",
-        Little,
-        &[10, 10],
-        "cut | done",
-    )
+fn an_empty_input_is_done_and_three_bytes_are_a_cut_header(rt: HostRuntime) {
+    check_everywhere(&rt, b"", Little, &[10], "done");
+    check_everywhere(&rt, b"\x0D\0\0", Little, &[10, 10], "cut | done");
 }
 
 #[test]
-fn a_size_of_seven_costs_one_answer(rt: HostRuntime) -> Result<(), Fail> {
+fn a_size_of_seven_costs_one_answer(rt: HostRuntime) {
     let bytes = b"\x02\0\0\0\0\0\x07\0\x0D\0\0\0\0\0\x10\0\x05\0\0\0\0\0\0\0";
     let want = "2 0 7 InvalidRecord; 13 0 16 LostSamples 5; done";
-    check_everywhere(&rt, rt.alloc(), bytes, Little, &[10], want)
+    check_everywhere(&rt, bytes, Little, &[10], want);
 }
 
 #[test]
-fn a_short_body_costs_one_answer(rt: HostRuntime) -> Result<(), Fail> {
+fn a_short_body_costs_one_answer(rt: HostRuntime) {
     let bytes = b"\x02\0\0\0\0\0\x10\0\x01\0\0\0\0\0\0\0\x0D\0\0\0\0\0\x10\0\x05\0\0\0\0\0\0\0";
     let want = "2 0 16 Eof; 13 0 16 LostSamples 5; done";
-    check_everywhere(&rt, rt.alloc(), bytes, Little, &[10], want)
+    check_everywhere(&rt, bytes, Little, &[10], want);
 }
 
 #[test]
-fn an_unfinished_frame_is_listed_as_eof(rt: HostRuntime) -> Result<(), Fail> {
+fn an_unfinished_frame_is_listed_as_eof(rt: HostRuntime) {
     let bytes = b"\x0D\0\0\0\0\0\x18\0\x05\0\0\0\0\0\0\0";
-    check_everywhere(&rt, rt.alloc(), bytes, Little, &[10], "13 0 24 Eof; done")
+    check_everywhere(&rt, bytes, Little, &[10], "13 0 24 Eof; done");
 }
 
 #[test]
-fn other_types_are_unknown(rt: HostRuntime) -> Result<(), Fail> {
+fn other_types_are_unknown(rt: HostRuntime) {
     let bytes = b"\0\0\0\0\0\0\x08\0\x16\0\0\0\0\0\x08\0";
     let want = "0 0 8 Unknown 0 []; 22 0 8 Unknown 22 []; done";
-    check_everywhere(&rt, rt.alloc(), bytes, Little, &[10], want)
+    check_everywhere(&rt, bytes, Little, &[10], want);
 }
 
 #[test]
 fn unknown_bytes_are_borrowed_over_a_slice(rt: HostRuntime) {
     let bytes: &[u8] = b"\0\0\0\0\0\0\x08\0\x16\0\0\0\0\0\x08\0\x16\0\0\0\0\0\x0A\0\x01\x02";
-    let mut parser = Parser::new(rt.alloc(), bytes, ParseConfig::<Little>::default());
-    let run = read_records(&mut parser, 10);
-    assert_eq!(rt; run.frames.len(), 3);
-    for (_, answer) in run.frames.iter() {
-        assert!(rt;
-            matches!(
-                answer,
-                Ok(Record::Unknown {
-                    bytes: CowSlice::Borrowed(_),
-                    ..
-                })
-            )
-        );
-    }
+    check_lent(
+        &rt,
+        bytes,
+        "Unknown lent []; Unknown lent []; Unknown lent [1, 2]; ",
+    );
 }
 
 #[test]
-fn a_limit_stops_before_anything_is_read(rt: HostRuntime) -> Result<(), Fail> {
+fn a_limit_stops_before_anything_is_read(rt: HostRuntime) {
     let bytes = b"\x0D\0\0\0\0\0\x10\0\x05\0\0\0\0\0\0\0\x0D\0\0\0\0\0\x10\0\x06\0\0\0\0\0\0\0";
     let want = "limit | 13 0 16 LostSamples 5; 13 0 16 LostSamples 6; done";
-    check_everywhere(&rt, rt.alloc(), bytes, Little, &[0, 10], want)?;
+    check_everywhere(&rt, bytes, Little, &[0, 10], want);
     let want = "13 0 16 LostSamples 5; limit | 13 0 16 LostSamples 6; limit | done";
-    check_everywhere(&rt, rt.alloc(), bytes, Little, &[1, 1, 1], want)
+    check_everywhere(&rt, bytes, Little, &[1, 1, 1], want);
 }
 
 #[test]
-fn every_order_reads_its_own_bytes(rt: HostRuntime) -> Result<(), Fail> {
+fn every_order_reads_its_own_bytes(rt: HostRuntime) {
     let want = "13 0 16 LostSamples 5; done";
     let little = b"\x0D\0\0\0\0\0\x10\0\x05\0\0\0\0\0\0\0";
-    check_everywhere(&rt, rt.alloc(), little, Little, &[10], want)?;
-    check_everywhere(&rt, rt.alloc(), little, Native, &[10], want)?;
-    check_everywhere(&rt, rt.alloc(), little, Dynamic::Little, &[10], want)?;
+    check_everywhere(&rt, little, Little, &[10], want);
+    check_everywhere(&rt, little, Native, &[10], want);
+    check_everywhere(&rt, little, Dynamic::Little, &[10], want);
     let big = b"\0\0\0\x0D\0\0\0\x10\0\0\0\0\0\0\0\x05";
-    check_everywhere(&rt, rt.alloc(), big, Big, &[10], want)?;
-    check_everywhere(&rt, rt.alloc(), big, Dynamic::Big, &[10], want)
+    check_everywhere(&rt, big, Big, &[10], want);
+    check_everywhere(&rt, big, Dynamic::Big, &[10], want);
 }
 
 #[test]
-fn exit_and_fork_have_one_layout(rt: HostRuntime) -> Result<(), Fail> {
+fn exit_and_fork_have_one_layout(rt: HostRuntime) {
     let exit =
         b"\x04\0\0\0\0\0\x20\0\x10\x10\0\0\0\x05\0\0\x01\0\0\0\x02\0\0\0\x03\0\0\0\x04\0\0\0";
     let want = "4 0 32 Exit 4112 1280 1 2 17179869187; done";
-    check_everywhere(&rt, rt.alloc(), exit, Little, &[10], want)?;
+    check_everywhere(&rt, exit, Little, &[10], want);
     let fork =
         b"\x07\0\0\0\0\0\x20\0\x10\x10\0\0\0\x05\0\0\x01\0\0\0\x02\0\0\0\x03\0\0\0\x04\0\0\0";
     let want = "7 0 32 Fork 4112 1280 1 2 17179869187; done";
-    check_everywhere(&rt, rt.alloc(), fork, Little, &[10], want)
+    check_everywhere(&rt, fork, Little, &[10], want);
 }
 
 #[test]
-fn the_misc_and_the_bytes_behind_a_record_do_not_matter(rt: HostRuntime) -> Result<(), Fail> {
+fn the_misc_and_the_bytes_behind_a_record_do_not_matter(rt: HostRuntime) {
     let bytes =
         b"\x0D\0\0\0\x02\x01\x13\0\x05\0\0\0\0\0\0\0\xAA\xBB\xCC\x16\0\0\0\0\0\x0A\0\xAA\xBB";
     let want = "13 258 19 LostSamples 5; 22 0 10 Unknown 22 [170, 187]; done";
-    check_everywhere(&rt, rt.alloc(), bytes, Little, &[10], want)
+    check_everywhere(&rt, bytes, Little, &[10], want);
 }
 
 #[test]
-fn a_false_size_costs_one_answer(rt: HostRuntime) -> Result<(), Fail> {
+fn a_false_size_costs_one_answer(rt: HostRuntime) {
     for (bytes, want) in [
         (b"\0\0\0\0\0\0\0\0".as_slice(), "0 0 0 InvalidRecord; done"),
         (b"\x16\0\0\0\0\0\xFF\xFF".as_slice(), "22 0 65535 Eof; done"),
@@ -124,70 +109,52 @@ fn a_false_size_costs_one_answer(rt: HostRuntime) -> Result<(), Fail> {
             "16 46080 17672 Eof; done",
         ),
     ] {
-        check_everywhere(&rt, rt.alloc(), bytes, Little, &[10], want)?;
+        check_everywhere(&rt, bytes, Little, &[10], want);
     }
-    Ok(())
 }
+
+// Headers that claim more bytes than there are, and what is said of them.
+const CLAIMS: [([u8; 8], &str); 4] = [
+    (
+        [255, 255, 255, 255, 255, 255, 255, 255],
+        "4294967295 65535 65535 Eof; done",
+    ),
+    (
+        [255, 255, 255, 1, 0, 0, 0, 255],
+        "33554431 0 65280 Eof; done",
+    ),
+    (
+        [0, 115, 115, 122, 115, 115, 115, 255],
+        "2054386432 29555 65395 Eof; done",
+    ),
+    (
+        [0, 0, 0, 115, 16, 115, 123, 255],
+        "1929379840 29456 65403 Eof; done",
+    ),
+];
 
 #[test]
 fn a_claimed_size_past_the_end_takes_all_that_is_left(rt: HostRuntime) -> Result<(), Fail> {
-    for (header, want) in [
-        (
-            [255, 255, 255, 255, 255, 255, 255, 255],
-            "4294967295 65535 65535 Eof; done",
-        ),
-        (
-            [255, 255, 255, 1, 0, 0, 0, 255],
-            "33554431 0 65280 Eof; done",
-        ),
-        (
-            [0, 115, 115, 122, 115, 115, 115, 255],
-            "2054386432 29555 65395 Eof; done",
-        ),
-        (
-            [0, 0, 0, 115, 16, 115, 123, 255],
-            "1929379840 29456 65403 Eof; done",
-        ),
-    ] {
+    for (header, want) in CLAIMS {
         let mut bytes = header.to_vec(rt.alloc())?;
         bytes.resize(108, 115)?;
-        check_everywhere(&rt, rt.alloc(), bytes.as_slice(), Little, &[10], want)?;
+        check_everywhere(&rt, bytes.as_slice(), Little, &[10], want);
     }
     Ok(())
-}
-
-// One frame that claims more bytes than there are, and nothing behind it.
-struct OneUnfinished;
-
-impl<'p, B: ParseBuf<'p>> Check<'p, B> for OneUnfinished {
-    fn check<E: Endian>(rt: &impl Abort, parser: &mut Parser<B, E>) -> Result<(), Fail> {
-        let run = read_records(parser, 10);
-        assert!(rt; matches!(run.end, RunEnd::Done));
-        assert_eq!(rt; run.frames.len(), 1);
-        for (_, answer) in run.frames.iter() {
-            assert!(rt; matches!(answer, Err(error) if error.kind() == ErrorKind::Eof));
-        }
-        Ok(())
-    }
 }
 
 #[test]
 fn a_claimed_size_takes_all_also_where_every_flag_is_set(rt: HostRuntime) -> Result<(), Fail> {
-    let config = ParseConfig::<Little>::from(perf_event_attr {
+    let attr = perf_event_attr {
         sample_type: (1 << 25) - 1,
         read_format: 1 << 3,
         flags: 1 << 18,
         ..Default::default()
-    });
-    for header in [
-        [255, 255, 255, 255, 255, 255, 255, 255],
-        [255, 255, 255, 1, 0, 0, 0, 255],
-        [0, 115, 115, 122, 115, 115, 115, 255],
-        [0, 0, 0, 115, 16, 115, 123, 255],
-    ] {
+    };
+    for (header, want) in CLAIMS {
         let mut bytes = header.to_vec(rt.alloc())?;
         bytes.resize(108, 115)?;
-        check_under::<OneUnfinished>(&rt, rt.alloc(), bytes.as_slice(), &config)?;
+        check_everywhere_behind(&rt, bytes.as_slice(), Little, attr, &[10], want);
     }
     Ok(())
 }
@@ -195,17 +162,26 @@ fn a_claimed_size_takes_all_also_where_every_flag_is_set(rt: HostRuntime) -> Res
 // A frame of type 22 of the greatest size, whose body is all `AB`.
 fn check_large<'p, B: ParseBuf<'p> + Drop>(rt: &impl Abort, alloc: Global, buf: B) {
     let mut parser = Parser::new(alloc, buf, ParseConfig::<Little>::default());
-    let run = read_records(&mut parser, 10);
-    assert!(rt; matches!(run.end, RunEnd::Done));
-    assert_eq!(rt; run.frames.len(), 1);
-    let (header, answer) = &run.frames[0];
-    assert_eq!(rt; (header.type_, header.misc, header.size), (22, 0, 65535));
-    let Ok(Record::Unknown { ty, bytes }) = answer else {
+    check_large_run(rt, &read_records(&mut parser, 10));
+}
+
+fn check_large_run(rt: &impl Abort, run: &Run<'_>) {
+    check!(rt; matches!(run.end, RunEnd::Done));
+    check!(rt; run.frames.len(), 1);
+    let Some((header, Ok(record))) = run.frames.first() else {
+        panic!(rt; "no record");
+    };
+    check!(rt; (header.type_, header.misc, header.size), (22, 0, 65535));
+    check_large_record(rt, record);
+}
+
+fn check_large_record(rt: &impl Abort, record: &Record<'_>) {
+    let Record::Unknown { ty, bytes } = record else {
         panic!(rt; "not unknown");
     };
-    assert_eq!(rt; *ty, 22);
-    assert_eq!(rt; bytes.len(), 65527);
-    assert!(rt; bytes.as_slice().iter().all(|byte| *byte == 0xAB));
+    check!(rt; *ty, 22);
+    check!(rt; bytes.len(), 65527);
+    check!(rt; bytes.as_slice().iter().all(|byte| *byte == 0xAB));
 }
 
 #[test]

@@ -1,14 +1,16 @@
 //! Values, frames and refusals, through slices, readers and pieces.
 
-use crate::buffers::{Check, check_through};
+use crate::asks::{Ask, check_asks, check_asks_under};
+use crate::check;
+use crate::told::{Tell, tell_lent};
+use perf_event_data::Record;
 use perf_event_data::endian::{Endian, Little};
 use perf_event_data::parse::{
-    ErrorKind, Layout, Parse, ParseBuf, ParseConfig, ParseError, ParseRecord, ParseResult, Parser,
+    ErrorKind, Layout, Parse, ParseBuf, ParseConfig, ParseError, ParseResult, Parser,
 };
-use perf_event_data::sys::{perf_event_attr, perf_event_header};
-use perf_event_data::{CowSlice, Record};
+use perf_event_data::sys::perf_event_attr;
+use std::alloc::{AllocError, Global};
 use std::io::{self, BufReader, Read};
-use std::process::Abort;
 use std::test::Fail;
 
 // LOST, SWITCH, COMM, an MMAP2 with a build id, and a type that the kernel does not have.
@@ -20,43 +22,22 @@ const FRAMES: &[u8] = b"\x02\0\0\0\0\0\x18\0\x07\0\0\0\0\0\0\0\x05\0\0\0\0\0\0\0
     \x05\0\0\0\x02\0\0\0\x2F\x61\0\0\0\0\0\0\
     \x63\0\0\0\0\0\x0B\0abc";
 
-struct Records;
-
-impl<'p, B: ParseBuf<'p>> Check<'p, B> for Records {
-    fn check<E: Endian>(rt: &impl Abort, parser: &mut Parser<B, E>) -> Result<(), Fail> {
-        let lost = parser.parse::<Record<'p>>()?;
-        assert!(rt; matches!(lost, Record::Lost(lost) if lost.id == 7 && lost.lost == 5));
-        let switch = parser.parse::<Record<'p>>()?;
-        assert!(rt; matches!(switch, Record::Switch));
-        let Record::Comm(comm) = parser.parse::<Record<'p>>()? else {
-            panic!(rt; "not COMM");
-        };
-        assert_eq!(rt; (comm.pid, comm.tid), (0x1010, 0x500));
-        assert_eq!(rt; comm.comm.as_slice(), b"test".as_slice());
-        let Record::Mmap2(map) = parser.parse::<Record<'p>>()? else {
-            panic!(rt; "not MMAP2");
-        };
-        assert_eq!(rt;
-            (map.pid, map.tid, map.addr, map.len),
-            (1, 2, 0x1000, 0x2000)
-        );
-        assert_eq!(rt; map.build_id(), Some([0xAA, 0xBB].as_slice()));
-        assert_eq!(rt; (map.prot, map.flags), (5, 2));
-        assert_eq!(rt; map.filename.as_slice(), b"/a".as_slice());
-        let Record::Unknown { ty, bytes } = parser.parse::<Record<'p>>()? else {
-            panic!(rt; "not unknown");
-        };
-        assert_eq!(rt; ty, 99);
-        assert_eq!(rt; bytes.as_slice(), b"abc".as_slice());
-        let end = parser.parse::<Record<'p>>().map_err(|error| error.kind());
-        assert!(rt; matches!(end, Err(ErrorKind::Eof)));
-        Ok(())
-    }
-}
-
 #[test]
-fn records_one_behind_another(rt: HostRuntime) -> Result<(), Fail> {
-    check_through::<Records>(&rt, rt.alloc(), FRAMES)
+fn records_one_behind_another(rt: HostRuntime) {
+    check_asks(
+        &rt,
+        FRAMES,
+        &[
+            Ask::Record,
+            Ask::Record,
+            Ask::Record,
+            Ask::Record,
+            Ask::Record,
+            Ask::Record,
+        ],
+        "Lost 7 5; Switch; Comm 4112 1280 test; Mmap2 1 2 4096 8192 0 [170, 187] 5 2 /a; \
+            Unknown 99 [97, 98, 99]; Eof",
+    );
 }
 
 // A frame of size 7, one whose LOST is cut short, and one that is whole.
@@ -64,111 +45,86 @@ const REFUSED: &[u8] = b"\x02\0\0\0\0\0\x07\0\
     \x02\0\0\0\0\0\x0C\0\x01\x02\x03\x04\
     \x0D\0\0\0\0\0\x10\0\x08\0\0\0\0\0\0\0";
 
-struct Refused;
-
-impl<'p, B: ParseBuf<'p>> Check<'p, B> for Refused {
-    fn check<E: Endian>(rt: &impl Abort, parser: &mut Parser<B, E>) -> Result<(), Fail> {
-        match parser.parse::<Record<'p>>() {
-            Err(error) => {
-                assert!(rt; matches!(error.kind(), ErrorKind::InvalidRecord));
-                let message = "header size was too small to be valid";
-                assert_eq!(rt; error.message(), Some(message));
-            }
-            Ok(_) => panic!(rt; "a size of 7"),
-        }
-        let short = parser.parse::<Record<'p>>().map_err(|error| error.kind());
-        assert!(rt; matches!(short, Err(ErrorKind::Eof)));
-        let whole = parser.parse::<Record<'p>>()?;
-        assert!(rt; matches!(whole, Record::LostSamples(lost) if lost.lost == 8));
-        Ok(())
-    }
+#[test]
+fn a_refused_frame_costs_that_one(rt: HostRuntime) {
+    check_asks(
+        &rt,
+        REFUSED,
+        &[Ask::RecordOrWhy, Ask::Record, Ask::Record],
+        "InvalidRecord Some(\"header size was too small to be valid\"); Eof; LostSamples 8",
+    );
 }
 
 #[test]
-fn a_refused_frame_costs_that_one(rt: HostRuntime) -> Result<(), Fail> {
-    check_through::<Refused>(&rt, rt.alloc(), REFUSED)
-}
-
-struct ByHand;
-
-impl<'p, B: ParseBuf<'p>> Check<'p, B> for ByHand {
-    fn check<E: Endian>(rt: &impl Abort, parser: &mut Parser<B, E>) -> Result<(), Fail> {
-        let (mut body, metadata) = parser.parse_metadata()?;
-        assert_eq!(rt; (metadata.ty(), metadata.misc()), (2, 0));
-        assert_eq!(rt; metadata.sample_id().time(), None);
-        assert_eq!(rt; body.parse_u64()?, 7);
-        let header = parser.parse::<perf_event_header>()?;
-        assert_eq!(rt; (header.type_, header.misc, header.size), (14, 0x2000, 8));
-        let (mut body, _) = parser.parse_metadata_with_header(header)?;
-        assert!(rt; body.parse_rest()?.is_empty());
-        let header = parser.parse::<perf_event_header>()?;
-        let comm = Record::parse_with_header(parser, header)?;
-        assert!(rt; matches!(comm, Record::Comm(_)));
-        Ok(())
-    }
+fn frames_are_taken_apart_by_hand(rt: HostRuntime) {
+    let parts: [&[Ask]; 3] = [
+        &[Ask::Frame, Ask::U64],
+        &[Ask::FrameBehindHeader, Ask::Rest],
+        &[Ask::RecordBehindHeader],
+    ];
+    let want = "2 0 None None None None None None; 0x7; \
+        14 8192 8; 14 8192 None None None None None None; []; 3 0 24 Comm 4112 1280 test";
+    check_asks_under(&rt, FRAMES, &ParseConfig::default(), &parts, want);
 }
 
 #[test]
-fn frames_are_taken_apart_by_hand(rt: HostRuntime) -> Result<(), Fail> {
-    check_through::<ByHand>(&rt, rt.alloc(), FRAMES)
-}
-
-struct Values;
-
-impl<'p, B: ParseBuf<'p>> Check<'p, B> for Values {
-    fn check<E: Endian>(rt: &impl Abort, parser: &mut Parser<B, E>) -> Result<(), Fail> {
-        assert_eq!(rt; parser.parse_u8()?, 1);
-        assert_eq!(rt; parser.parse_u16()?, 0x0302);
-        assert_eq!(rt; parser.parse_u32()?, 0x0706_0504);
-        assert_eq!(rt; parser.parse::<[u8; 2]>()?, [8, 9]);
-        assert_eq!(rt;
-            parser.parse_repeated::<u8>(2)?.as_slice(),
-            [10, 11].as_slice()
-        );
-        assert_eq!(rt; parser.parse_if::<u8>(false)?, None);
-        assert_eq!(rt; parser.parse_if::<u8>(true)?, Some(12));
-        assert_eq!(rt; parser.parse_bytes(2)?.as_slice(), [13, 14].as_slice());
-        assert_eq!(rt; parser.parse_rest_trim_nul()?.as_slice(), [15].as_slice());
-        let end = parser.parse_u64().map_err(|error| error.kind());
-        assert!(rt; matches!(end, Err(ErrorKind::Eof)));
-        Ok(())
-    }
-}
-
-#[test]
-fn values_one_behind_another(rt: HostRuntime) -> Result<(), Fail> {
+fn values_one_behind_another(rt: HostRuntime) {
     let bytes = b"\x01\x02\x03\x04\x05\x06\x07\x08\x09\x0A\x0B\x0C\x0D\x0E\x0F\0\0";
-    check_through::<Values>(&rt, rt.alloc(), bytes)
+    check_asks(
+        &rt,
+        bytes,
+        &[
+            Ask::U8,
+            Ask::U16,
+            Ask::U32,
+            Ask::TwoBytes,
+            Ask::Repeated8(2),
+            Ask::IfU8(false),
+            Ask::IfU8(true),
+            Ask::Bytes(2),
+            Ask::Name,
+            Ask::U64,
+        ],
+        "0x1; 0x302; 0x7060504; [8, 9]; [10, 11]; None; Some(12); [13, 14]; [15]; Eof",
+    );
+}
+
+// The kind and the message of a refusal, if it is one.
+fn why<T: Drop>(alloc: Global, answer: ParseResult<T>) -> Result<String, AllocError> {
+    match answer {
+        Ok(_) => "not refused".to_string(alloc),
+        Err(error) => format!(in alloc; "{:?} {:?}", error.kind(), error.message()),
+    }
 }
 
 #[test]
 fn an_attribute_of_another_size_is_refused(rt: HostRuntime) -> Result<(), Fail> {
     let bytes: &[u8] = b"\0\0\0\0\x41\0\0\0\x01";
     let mut parser = Parser::new(rt.alloc(), bytes, ParseConfig::<Little>::default());
-    match parser.parse::<perf_event_attr>() {
-        Err(error) => {
-            assert!(rt; matches!(error.kind(), ErrorKind::InvalidRecord));
-            let message = "not a valid size for a perf_event_attr struct";
-            assert_eq!(rt; error.message(), Some(message));
-        }
-        Ok(_) => panic!(rt; "a size of 65"),
-    }
-    assert_eq!(rt; parser.parse_u8()?, 1);
+    let refused = why(rt.alloc(), parser.parse::<perf_event_attr>())?;
+    let want = "InvalidRecord Some(\"not a valid size for a perf_event_attr struct\")";
+    check!(rt; refused.as_str(), want);
+    check!(rt; parser.parse_u8()?, 1);
     Ok(())
+}
+
+// The bytes of the record behind so many bytes of the frames over a slice, and the record.
+fn text_behind(alloc: Global, count: usize) -> Result<String, Fail> {
+    let mut parser = Parser::new(alloc, FRAMES, ParseConfig::<Little>::default());
+    parser.parse_bytes(count)?;
+    let record = parser.parse::<Record<'_>>()?;
+    let mut text = String::new(alloc);
+    tell_lent(&mut text, &record)?;
+    record.tell(&mut text)?;
+    Ok(text)
 }
 
 #[test]
 fn names_are_borrowed_over_a_slice(rt: HostRuntime) -> Result<(), Fail> {
-    let mut parser = Parser::new(rt.alloc(), FRAMES, ParseConfig::<Little>::default());
-    parser.parse_bytes(32)?;
-    let Record::Comm(comm) = parser.parse::<Record<'_>>()? else {
-        panic!(rt; "not COMM");
-    };
-    assert!(rt; matches!(comm.comm, CowSlice::Borrowed(_)));
-    let Record::Mmap2(map) = parser.parse::<Record<'_>>()? else {
-        panic!(rt; "not MMAP2");
-    };
-    assert!(rt; matches!(map.filename, CowSlice::Borrowed(_)));
+    let comm = text_behind(rt.alloc(), 32)?;
+    check!(rt; comm.as_str(), "Comm lent [116, 101, 115, 116]; Comm 4112 1280 test");
+    let map = text_behind(rt.alloc(), 56)?;
+    check!(rt; map.as_str().starts_with("Mmap2 lent [47, 97]; "));
     Ok(())
 }
 
@@ -188,8 +144,8 @@ fn a_fault_keeps_its_cause(rt: HostRuntime) -> Result<(), Fail> {
     let mut parser = Parser::new(rt.alloc(), reader, ParseConfig::<Little>::default());
     match parser.parse::<Record<'_>>() {
         Err(error) => {
-            assert!(rt; matches!(error.kind(), ErrorKind::External));
-            assert!(rt; error.cause().is_some());
+            check!(rt; matches!(error.kind(), ErrorKind::External));
+            check!(rt; error.cause().is_some());
         }
         Ok(_) => panic!(rt; "a record of a reader that fails"),
     }
@@ -224,21 +180,16 @@ fn a_type_of_ones_own_refuses_by_its_own_error(rt: HostRuntime) -> Result<(), Fa
     let bytes: &[u8] = &[4, 5];
     let mut parser = Parser::new(rt.alloc(), bytes, ParseConfig::<Little>::default());
     let Even(number) = parser.parse::<Even>()?;
-    assert_eq!(rt; number, 4);
-    match parser.parse::<Even>() {
-        Err(error) => assert_eq!(rt; error.message(), Some("odd")),
-        Ok(_) => panic!(rt; "an odd number"),
-    }
+    check!(rt; number, 4);
+    let refused = why(rt.alloc(), parser.parse::<Even>())?;
+    check!(rt; refused.as_str(), "InvalidRecord Some(\"odd\")");
     Ok(())
 }
 
 #[test]
 fn a_build_id_is_of_its_length(rt: HostRuntime) -> Result<(), Fail> {
-    let mut parser = Parser::new(rt.alloc(), FRAMES, ParseConfig::<Little>::default());
-    parser.parse_bytes(56)?;
-    let Record::Mmap2(map) = parser.parse::<Record<'_>>()? else {
-        panic!(rt; "not MMAP2");
-    };
-    assert_eq!(rt; map.maj(), None);
+    let map = text_behind(rt.alloc(), 56)?;
+    let want = "Mmap2 lent [47, 97]; Mmap2 1 2 4096 8192 0 [170, 187] 5 2 /a";
+    check!(rt; map.as_str(), want);
     Ok(())
 }
