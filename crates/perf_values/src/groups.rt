@@ -1,5 +1,6 @@
 //! Reads of counters and groups of them.
 
+use crate::check;
 use bitflags::Flags;
 use perf_base::cow::CowSlice;
 use perf_types::group_entry::GroupEntry;
@@ -101,11 +102,11 @@ fn mixtures_of_calls(rt: HostRuntime) -> Result<(), Fail> {
             let copy = Vec::from_slice(alloc, numbers.as_slice())?;
             assert_eq!(rt; copy.len() % format.element_len(), 0);
             let owned = ReadGroup::from_parts(format, 0, 0, CowSlice::Owned(copy));
-            assert_eq!(rt; owned.len(), count);
+            check!(rt; owned.len(), count);
             for code in 0..4096usize {
                 let calls = [code, code / 8, code / 64, code / 512];
-                assert!(rt; goes_as_a_list(borrowed.entries(), format, values, calls));
-                assert!(rt; goes_as_a_list(owned.entries(), format, values, calls));
+                check!(rt; goes_as_a_list(borrowed.entries(), format, values, calls));
+                check!(rt; goes_as_a_list(owned.entries(), format, values, calls));
             }
         }
     }
@@ -118,20 +119,20 @@ fn entries_from_both_ends(rt: HostRuntime) -> Result<(), Fail> {
     let words = CowSlice::Borrowed(&VALUES[..5]);
     let group = ReadGroup::from_parts(ReadFormat::GROUP, 0, 0, words);
     let mut entries = group.entries();
-    assert_eq!(rt; entries.nth(1).map(|entry| entry.value()), Some(2));
+    check!(rt; entries.nth(1).map(|entry| entry.value()), Some(2));
     let mut copy = entries.clone()?;
-    assert_eq!(rt; entries.next_back().map(|entry| entry.value()), Some(5));
-    assert_eq!(rt; entries.nth_back(1).map(|entry| entry.value()), Some(3));
-    assert_eq!(rt; entries.len(), 0);
-    assert!(rt; entries.next().is_none());
-    assert!(rt; entries.next_back().is_none());
-    assert_eq!(rt; copy.size_hint(), (3, Some(3)));
+    check!(rt; entries.next_back().map(|entry| entry.value()), Some(5));
+    check!(rt; entries.nth_back(1).map(|entry| entry.value()), Some(3));
+    check!(rt; entries.len(), 0);
+    check!(rt; entries.next().is_none());
+    check!(rt; entries.next_back().is_none());
+    check!(rt; copy.size_hint(), (3, Some(3)));
     let calls = [EntryCall::NthBack(1), EntryCall::Next, EntryCall::Next];
     let answers = entry_calls(alloc, &mut copy, &calls)?;
     let values: Vec<Option<u64>> = answers.iter().map(|e| e.map(|e| e.value())).collect(alloc)?;
-    assert_eq!(rt; values.as_slice(), [Some(4), Some(3), None].as_slice());
-    assert_eq!(rt; group.entries().count(), 5);
-    assert_eq!(rt; group.entries().last().map(|entry| entry.value()), Some(5));
+    check!(rt; values.as_slice(), [Some(4), Some(3), None].as_slice());
+    check!(rt; group.entries().count(), 5);
+    check!(rt; group.entries().last().map(|entry| entry.value()), Some(5));
     Ok(())
 }
 
@@ -140,19 +141,19 @@ fn entries_with_ids(rt: HostRuntime) -> Result<(), Fail> {
     let alloc = rt.alloc();
     let words = CowSlice::Borrowed(&[10u64, 1, 20, 2, 30, 2]);
     let group = ReadGroup::from_parts(ReadFormat::from_bits_retain(0x0c), 7, 8, words);
-    assert_eq!(rt; group.len(), 3);
-    assert!(rt; !group.is_empty());
-    assert_eq!(rt; group.time_enabled(), None);
-    assert_eq!(rt; group.time_running(), None);
-    assert_eq!(rt; group.get(2).and_then(|entry| entry.id()), Some(2));
-    assert_eq!(rt; group.get(2).map(|entry| entry.value()), Some(30));
-    assert!(rt; group.get(3).is_none());
-    assert!(rt; group.get(usize::MAX).is_none());
-    assert_eq!(rt; group.get_by_id(2).map(|entry| entry.value()), Some(20));
-    assert!(rt; group.get_by_id(3).is_none());
+    check!(rt; group.len(), 3);
+    check!(rt; !group.is_empty());
+    check!(rt; group.time_enabled(), None);
+    check!(rt; group.time_running(), None);
+    check!(rt; group.get(2).and_then(|entry| entry.id()), Some(2));
+    check!(rt; group.get(2).map(|entry| entry.value()), Some(30));
+    check!(rt; group.get(3).is_none());
+    check!(rt; group.get(usize::MAX).is_none());
+    check!(rt; group.get_by_id(2).map(|entry| entry.value()), Some(20));
+    check!(rt; group.get_by_id(3).is_none());
     let copy = group.clone(alloc)?;
-    assert_eq!(rt; copy.get(0).map(|entry| entry.value()), Some(10));
-    assert!(rt; ReadValue::try_from(group).is_err());
+    check!(rt; copy.get(0).map(|entry| entry.value()), Some(10));
+    check!(rt; ReadValue::try_from(group).is_err());
     Ok(())
 }
 
@@ -160,15 +161,15 @@ fn entries_with_ids(rt: HostRuntime) -> Result<(), Fail> {
 fn entries_without_ids(rt: HostRuntime) {
     let words = CowSlice::Borrowed(&[10u64, 1]);
     let group = ReadGroup::from_parts(ReadFormat::from_bits_retain(0x1b), 7, 8, words);
-    assert_eq!(rt; group.time_enabled(), Some(7));
-    assert_eq!(rt; group.time_running(), Some(8));
-    assert_eq!(rt; group.get(0).and_then(|entry| entry.lost()), Some(1));
-    assert!(rt; group.get_by_id(0).is_none());
-    assert!(rt; group.get_by_id(1).is_none());
+    check!(rt; group.time_enabled(), Some(7));
+    check!(rt; group.time_running(), Some(8));
+    check!(rt; group.get(0).and_then(|entry| entry.lost()), Some(1));
+    check!(rt; group.get_by_id(0).is_none());
+    check!(rt; group.get_by_id(1).is_none());
     let none = ReadGroup::from_parts(ReadFormat::GROUP, 0, 0, CowSlice::Borrowed(&[]));
-    assert!(rt; none.is_empty());
-    assert!(rt; none.get(0).is_none());
-    assert!(rt; ReadValue::try_from(none).is_err());
+    check!(rt; none.is_empty());
+    check!(rt; none.get(0).is_none());
+    check!(rt; ReadValue::try_from(none).is_err());
 }
 
 #[test]
@@ -182,25 +183,25 @@ fn single_reads(rt: HostRuntime) -> Result<(), Fail> {
         values,
     };
     let copy = read.clone()?.values;
-    assert_eq!(rt; read.tid, 2);
+    check!(rt; read.tid, 2);
     for value in [
         read.values,
         ReadValue::try_from(ReadGroup::from_value(alloc, copy)?)?,
     ] {
-        assert_eq!(rt; value.value(), 3);
-        assert_eq!(rt; value.time_enabled(), Some(4));
-        assert_eq!(rt; value.time_running(), Some(5));
-        assert_eq!(rt; value.id(), Some(6));
-        assert_eq!(rt; value.lost(), Some(7));
-        assert!(rt; through_a_group(alloc, value)?.is_ok());
+        check!(rt; value.value(), 3);
+        check!(rt; value.time_enabled(), Some(4));
+        check!(rt; value.time_running(), Some(5));
+        check!(rt; value.id(), Some(6));
+        check!(rt; value.lost(), Some(7));
+        check!(rt; through_a_group(alloc, value)?.is_ok());
     }
     let value = ReadValue::from_parts(ReadFormat::ID, 3, 4, 5, 6, 7);
-    assert_eq!(rt; value.time_enabled(), None);
-    assert_eq!(rt; value.time_running(), None);
-    assert_eq!(rt; value.lost(), None);
+    check!(rt; value.time_enabled(), None);
+    check!(rt; value.time_running(), None);
+    check!(rt; value.lost(), None);
     let group = ReadGroup::from_value(alloc, value)?;
-    assert_eq!(rt; group.get_by_id(6).map(|entry| entry.value()), Some(3));
-    assert_eq!(rt; group.len(), 1);
+    check!(rt; group.get_by_id(6).map(|entry| entry.value()), Some(3));
+    check!(rt; group.len(), 1);
     Ok(())
 }
 
@@ -211,17 +212,17 @@ fn entry_of_another_group(rt: HostRuntime) {
     let others = ReadGroup::from_parts(with_ids, 1, 2, CowSlice::Borrowed(&[8, 9]));
     let entry = values.get(0).expect(&rt, "an entry");
     let read = ReadValue::from_group_and_entry(&others, &entry);
-    assert_eq!(rt; read.value(), 5);
-    assert_eq!(rt; read.id(), Some(0));
-    assert_eq!(rt; read.lost(), None);
-    assert_eq!(rt; read.time_enabled(), None);
-    assert_eq!(rt; read.time_running(), None);
+    check!(rt; read.value(), 5);
+    check!(rt; read.id(), Some(0));
+    check!(rt; read.lost(), None);
+    check!(rt; read.time_enabled(), None);
+    check!(rt; read.time_running(), None);
     let entry = others.get(0).expect(&rt, "an entry");
-    assert_eq!(rt;
+    check!(rt;
         ReadValue::from_group_and_entry(&others, &entry).id(),
         Some(9)
     );
-    assert_eq!(rt; ReadValue::from_group_and_entry(&values, &entry).id(), None);
+    check!(rt; ReadValue::from_group_and_entry(&values, &entry).id(), None);
 }
 
 #[test]
@@ -229,10 +230,10 @@ fn texts(rt: HostRuntime) -> Result<(), Fail> {
     let alloc = rt.alloc();
     let none = ReadGroup::from_parts(ReadFormat::GROUP, 0, 0, CowSlice::Borrowed(&[]));
     match ReadValue::try_from(none) {
-        Ok(_) => assert!(rt; false),
+        Ok(_) => check!(rt; false),
         Err(error) => {
             let text = format!(in alloc; "{error}")?;
-            assert_eq!(rt;
+            check!(rt;
                 text.as_str(),
                 "can only convert groups with a single element to ReadValues"
             );
@@ -240,7 +241,7 @@ fn texts(rt: HostRuntime) -> Result<(), Fail> {
     }
     let value = ReadValue::from_parts(ReadFormat::ID, 3, 4, 5, 6, 7);
     let text = format!(in alloc; "{value:?}")?;
-    assert_eq!(rt;
+    check!(rt;
         text.as_str(),
         "ReadValue { value: 3, time_enabled: None, time_running: None, id: Some(6), lost: None }"
     );

@@ -1,5 +1,6 @@
 //! Records: copies, texts, defaults and what their calls say.
 
+use crate::check;
 use perf_base::cow::CowSlice;
 use perf_base::endian::Dynamic;
 use perf_base::error::ErrorKind;
@@ -34,21 +35,21 @@ fn items_are_cut_and_split(rt: HostRuntime) -> Result<(), Fail> {
     let alloc = rt.alloc();
     let mut borrowed = CowSlice::Borrowed(&[0u8, 1, 2, 3, 4, 5]);
     borrowed.truncate(4);
-    assert_eq!(rt; borrowed.as_slice(), [0u8, 1, 2, 3].as_slice());
+    check!(rt; borrowed.as_slice(), [0u8, 1, 2, 3].as_slice());
     borrowed.truncate(5);
-    assert_eq!(rt; borrowed.len(), 4);
+    check!(rt; borrowed.len(), 4);
     let (front, back) = borrowed.clone(alloc)?.split_at(alloc, 0)?;
-    assert!(rt; front.is_empty());
-    assert_eq!(rt; back.as_slice(), [0u8, 1, 2, 3].as_slice());
+    check!(rt; front.is_empty());
+    check!(rt; back.as_slice(), [0u8, 1, 2, 3].as_slice());
     let mut owned = CowSlice::Owned(Vec::from_slice(alloc, &[0u8, 1, 2, 3, 4, 5])?);
     owned.truncate(4);
-    assert_eq!(rt; owned.as_slice(), [0u8, 1, 2, 3].as_slice());
+    check!(rt; owned.as_slice(), [0u8, 1, 2, 3].as_slice());
     let (front, back) = owned.clone(alloc)?.split_at(alloc, 3)?;
-    assert_eq!(rt; front.as_slice(), [0u8, 1, 2].as_slice());
-    assert_eq!(rt; back.as_slice(), [3u8].as_slice());
+    check!(rt; front.as_slice(), [0u8, 1, 2].as_slice());
+    check!(rt; back.as_slice(), [3u8].as_slice());
     let (front, back) = owned.split_at(alloc, 4)?;
-    assert_eq!(rt; front.len(), 4);
-    assert!(rt; back.is_empty());
+    check!(rt; front.len(), 4);
+    check!(rt; back.is_empty());
     Ok(())
 }
 
@@ -60,16 +61,16 @@ fn names_as_text(rt: HostRuntime) -> Result<(), Fail> {
         tid: 0x500,
         comm: CowSlice::Borrowed(b"test"),
     };
-    assert_eq!(rt; comm.comm_os(), Some("test"));
+    check!(rt; comm.comm_os(), Some("test"));
     let copy = comm.clone(alloc)?;
-    assert_eq!(rt; copy.tid, 0x500);
-    assert_eq!(rt; copy.comm_os(), Some("test"));
+    check!(rt; copy.tid, 0x500);
+    check!(rt; copy.comm_os(), Some("test"));
     let group = CGroup {
         id: 7,
         path: CowSlice::Borrowed(&[0x2f, 0xff]),
     };
-    assert_eq!(rt; group.path_os(), None);
-    assert_eq!(rt; group.clone(alloc)?.id, 7);
+    check!(rt; group.path_os(), None);
+    check!(rt; group.clone(alloc)?.id, 7);
     let symbol = KSymbol {
         addr: 4096,
         len: 64,
@@ -77,7 +78,7 @@ fn names_as_text(rt: HostRuntime) -> Result<(), Fail> {
         flags: KSymbolFlags::UNREGISTER,
         name: CowSlice::Borrowed(b"bpf"),
     };
-    assert_eq!(rt; symbol.clone(alloc)?.name.as_slice(), b"bpf".as_slice());
+    check!(rt; symbol.clone(alloc)?.name.as_slice(), b"bpf".as_slice());
     Ok(())
 }
 
@@ -85,14 +86,14 @@ fn names_as_text(rt: HostRuntime) -> Result<(), Fail> {
 fn owned_items(rt: HostRuntime) -> Result<(), Fail> {
     let alloc = rt.alloc();
     let owned = CowSlice::Borrowed(&[3u64, 2, 1]).into_owned(alloc)?;
-    assert!(rt; matches!(&owned, CowSlice::Owned(_)));
-    assert_eq!(rt; owned.as_slice(), [3u64, 2, 1].as_slice());
+    check!(rt; matches!(&owned, CowSlice::Owned(_)));
+    check!(rt; owned.as_slice(), [3u64, 2, 1].as_slice());
     let again = owned.clone(alloc)?.into_owned(alloc)?;
-    assert!(rt; matches!(&again, CowSlice::Owned(_)));
-    assert_eq!(rt; again.as_slice(), [3u64, 2, 1].as_slice());
+    check!(rt; matches!(&again, CowSlice::Owned(_)));
+    check!(rt; again.as_slice(), [3u64, 2, 1].as_slice());
     let copy = CowSlice::Borrowed(&[3u64, 2, 1]).clone(alloc)?;
-    assert!(rt; matches!(&copy, CowSlice::Borrowed(_)));
-    assert_eq!(rt; copy.as_slice(), [3u64, 2, 1].as_slice());
+    check!(rt; matches!(&copy, CowSlice::Borrowed(_)));
+    check!(rt; copy.as_slice(), [3u64, 2, 1].as_slice());
     Ok(())
 }
 
@@ -125,18 +126,18 @@ fn owned_records_outlive_their_bytes(rt: HostRuntime) -> Result<(), Fail> {
         )
     };
     let comm = comm.clone(alloc)?.into_owned(alloc)?;
-    assert_eq!(rt; comm.pid, 0x1010);
-    assert_eq!(rt; comm.tid, 0x500);
-    assert_eq!(rt; comm.comm_os(), Some("//anon"));
+    check!(rt; comm.pid, 0x1010);
+    check!(rt; comm.tid, 0x500);
+    check!(rt; comm.comm_os(), Some("//anon"));
     let group = group.clone(alloc)?.into_owned(alloc)?;
-    assert_eq!(rt; group.id, 7);
-    assert_eq!(rt; group.path_os(), Some("//anon"));
+    check!(rt; group.id, 7);
+    check!(rt; group.path_os(), Some("//anon"));
     let symbol = symbol.clone(alloc)?.into_owned(alloc)?;
-    assert_eq!(rt; symbol.addr, 4096);
-    assert_eq!(rt; symbol.len, 64);
-    assert!(rt; symbol.ksym_type == KSymbolType::BPF);
-    assert!(rt; symbol.flags == KSymbolFlags::UNREGISTER);
-    assert_eq!(rt; symbol.name.as_slice(), b"//anon".as_slice());
+    check!(rt; symbol.addr, 4096);
+    check!(rt; symbol.len, 64);
+    check!(rt; symbol.ksym_type == KSymbolType::BPF);
+    check!(rt; symbol.flags == KSymbolFlags::UNREGISTER);
+    check!(rt; symbol.name.as_slice(), b"//anon".as_slice());
     Ok(())
 }
 
@@ -162,18 +163,18 @@ fn owned_mappings_outlive_their_bytes(rt: HostRuntime) -> Result<(), Fail> {
         (short.into_owned(alloc)?, long.into_owned(alloc)?)
     };
     let short = short.clone(alloc)?.into_owned(alloc)?;
-    assert_eq!(rt; short.pid, 1);
-    assert_eq!(rt; short.tid, 2);
-    assert_eq!(rt; short.addr, 4096);
-    assert_eq!(rt; short.len, 8192);
-    assert_eq!(rt; short.pgoff, 512);
-    assert_eq!(rt; short.filename_os(), Some("//anon"));
+    check!(rt; short.pid, 1);
+    check!(rt; short.tid, 2);
+    check!(rt; short.addr, 4096);
+    check!(rt; short.len, 8192);
+    check!(rt; short.pgoff, 512);
+    check!(rt; short.filename_os(), Some("//anon"));
     let long = long.clone(alloc)?.into_owned(alloc)?;
-    assert_eq!(rt; long.pgoff, 512);
-    assert_eq!(rt; long.prot, 5);
-    assert_eq!(rt; long.flags, 6);
-    assert_eq!(rt; long.build_id(), Some(&[1u8, 2][..]));
-    assert_eq!(rt; long.filename_os(), Some("//anon"));
+    check!(rt; long.pgoff, 512);
+    check!(rt; long.prot, 5);
+    check!(rt; long.flags, 6);
+    check!(rt; long.build_id(), Some(&[1u8, 2][..]));
+    check!(rt; long.filename_os(), Some("//anon"));
     Ok(())
 }
 
@@ -190,9 +191,9 @@ fn owned_code_outlives_its_bytes(rt: HostRuntime) -> Result<(), Fail> {
         poke.to_owned(alloc)?
     };
     let poke = poke.clone(alloc)?.to_owned(alloc)?;
-    assert_eq!(rt; poke.addr, 16);
-    assert_eq!(rt; poke.old_bytes.as_slice(), [0xaau8].as_slice());
-    assert_eq!(rt; poke.new_bytes.as_slice(), [0xbbu8, 0xcc].as_slice());
+    check!(rt; poke.addr, 16);
+    check!(rt; poke.old_bytes.as_slice(), [0xaau8].as_slice());
+    check!(rt; poke.new_bytes.as_slice(), [0xbbu8, 0xcc].as_slice());
     Ok(())
 }
 
@@ -206,9 +207,9 @@ fn owned_namespaces_are_cloned(rt: HostRuntime) -> Result<(), Fail> {
         namespaces: CowSlice::Borrowed(&entries).into_owned(alloc)?,
     };
     let copy = record.clone(alloc)?;
-    assert_eq!(rt; copy.pid, 1);
-    assert_eq!(rt; copy.tid, 2);
-    assert_eq!(rt; copy.namespaces.as_slice(), entries.as_slice());
+    check!(rt; copy.pid, 1);
+    check!(rt; copy.tid, 2);
+    check!(rt; copy.namespaces.as_slice(), entries.as_slice());
     Ok(())
 }
 
@@ -223,18 +224,18 @@ fn mapping_of_an_inode(rt: HostRuntime) -> Result<(), Fail> {
     };
     let filename = CowSlice::Borrowed(b"ab");
     let record = Mmap2::from_parts(1, 2, 4096, 8192, 0, 5, 2, filename, detail);
-    assert_eq!(rt; record.maj(), Some(8));
-    assert_eq!(rt; record.min(), Some(1));
-    assert_eq!(rt; record.ino(), Some(99));
-    assert_eq!(rt; record.ino_generation(), Some(3));
-    assert_eq!(rt; record.build_id(), None);
-    assert_eq!(rt; record.filename_os(), Some("ab"));
+    check!(rt; record.maj(), Some(8));
+    check!(rt; record.min(), Some(1));
+    check!(rt; record.ino(), Some(99));
+    check!(rt; record.ino_generation(), Some(3));
+    check!(rt; record.build_id(), None);
+    check!(rt; record.filename_os(), Some("ab"));
     let mapping = record.to_mmap(alloc)?.clone(alloc)?;
-    assert_eq!(rt; mapping.len, 8192);
-    assert_eq!(rt; mapping.filename_os(), Some("ab"));
+    check!(rt; mapping.len, 8192);
+    check!(rt; mapping.filename_os(), Some("ab"));
     let mapping = Mmap::from(record.clone(alloc)?);
-    assert_eq!(rt; mapping.addr, 4096);
-    assert_eq!(rt; record.into_mmap().tid, 2);
+    check!(rt; mapping.addr, 4096);
+    check!(rt; record.into_mmap().tid, 2);
     Ok(())
 }
 
@@ -247,15 +248,15 @@ fn mapping_of_a_build_id(rt: HostRuntime) -> Result<(), Fail> {
     };
     let filename = CowSlice::Owned(Vec::from_slice(alloc, b"ab")?);
     let record = Mmap2::from_parts(1, 2, 4096, 8192, 0, 5, 2, filename, whole);
-    assert_eq!(rt; record.build_id(), Some(&TWENTY[..]));
-    assert_eq!(rt; record.maj(), None);
+    check!(rt; record.build_id(), Some(&TWENTY[..]));
+    check!(rt; record.maj(), None);
     let short = MmapDetail::BuildId {
         build_id: TWENTY,
         len: 2,
     };
     let filename = CowSlice::Borrowed(b"ab");
     let record = Mmap2::from_parts(1, 2, 4096, 8192, 0, 5, 2, filename, short.clone()?);
-    assert_eq!(rt; record.build_id(), Some(&[1u8, 2][..]));
+    check!(rt; record.build_id(), Some(&[1u8, 2][..]));
     Ok(())
 }
 
@@ -270,18 +271,18 @@ fn namespaces_by_their_places(rt: HostRuntime) -> Result<(), Fail> {
         tid: 2,
         namespaces: CowSlice::Borrowed(&entries),
     };
-    assert_eq!(rt; record.network(), Some(&first));
-    assert_eq!(rt; record.uts(), Some(&second));
-    assert_eq!(rt; record.ipc(), None);
-    assert_eq!(rt; record.pid(), None);
-    assert_eq!(rt; record.user(), None);
-    assert_eq!(rt; record.cgroup(), None);
-    assert_eq!(rt; record.clone(alloc)?.uts(), Some(&second));
+    check!(rt; record.network(), Some(&first));
+    check!(rt; record.uts(), Some(&second));
+    check!(rt; record.ipc(), None);
+    check!(rt; record.pid(), None);
+    check!(rt; record.user(), None);
+    check!(rt; record.cgroup(), None);
+    check!(rt; record.clone(alloc)?.uts(), Some(&second));
     let hashing = BuildHasherDefault::<FoldHasher>::new();
-    assert!(rt; !namespace_entry_by_numbers(&hashing, first, second).equal);
+    check!(rt; !namespace_entry_by_numbers(&hashing, first, second).equal);
     let same = namespace_entry_by_numbers(&hashing, first, NamespaceEntry { dev: 3, inode: 4 });
-    assert!(rt; same.equal);
-    assert_eq!(rt; same.first_hash, same.second_hash);
+    check!(rt; same.equal);
+    check!(rt; same.first_hash, same.second_hash);
     Ok(())
 }
 
@@ -289,79 +290,79 @@ fn namespaces_by_their_places(rt: HostRuntime) -> Result<(), Fail> {
 fn orders_and_kinds_compare(rt: HostRuntime) {
     let hashing = BuildHasherDefault::<FoldHasher>::new();
     let orders = dynamic_by_number(&hashing, Dynamic::Big, Dynamic::Little);
-    assert!(rt; !orders.equal);
-    assert_ne!(rt; orders.first_hash, orders.second_hash);
-    assert!(rt; dynamic_by_number(&hashing, Dynamic::Big, Dynamic::Big).equal);
+    check!(rt; !orders.equal);
+    check!(rt; orders.first_hash != orders.second_hash);
+    check!(rt; dynamic_by_number(&hashing, Dynamic::Big, Dynamic::Big).equal);
     let kinds = error_kind_by_number(&hashing, ErrorKind::Eof, ErrorKind::External);
-    assert!(rt; !kinds.equal);
-    assert_ne!(rt; kinds.first_hash, kinds.second_hash);
+    check!(rt; !kinds.equal);
+    check!(rt; kinds.first_hash != kinds.second_hash);
     let same = error_kind_by_number(&hashing, ErrorKind::OutOfMemory, ErrorKind::OutOfMemory);
-    assert!(rt; same.equal);
-    assert_eq!(rt; same.first_hash, same.second_hash);
+    check!(rt; same.equal);
+    check!(rt; same.first_hash, same.second_hash);
 }
 
 #[test]
 fn defaults_are_zero(rt: HostRuntime) {
     let header = perf_event_header::default();
-    assert_eq!(rt; header.type_, 0);
-    assert_eq!(rt; header.misc, 0);
-    assert_eq!(rt; header.size, 0);
+    check!(rt; header.type_, 0);
+    check!(rt; header.misc, 0);
+    check!(rt; header.size, 0);
     let attr = perf_event_attr::default();
-    assert_eq!(rt; attr.size, 0);
-    assert_eq!(rt; attr.sample_type, 0);
-    assert_eq!(rt; attr.clockid, 0);
-    assert_eq!(rt; attr.config3, 0);
+    check!(rt; attr.size, 0);
+    check!(rt; attr.sample_type, 0);
+    check!(rt; attr.clockid, 0);
+    check!(rt; attr.config3, 0);
 }
 
 #[test]
 fn sample_ids(rt: HostRuntime) {
     let none = SampleId::default();
-    assert_eq!(rt; none.time(), None);
+    check!(rt; none.time(), None);
     let id = SampleId::from_parts(Some(3), Some(4), Some(5), Some(6), Some(7), Some(8));
-    assert_eq!(rt; id.pid(), Some(3));
-    assert_eq!(rt; id.tid(), Some(4));
-    assert_eq!(rt; id.time(), Some(5));
-    assert_eq!(rt; id.id(), Some(6));
-    assert_eq!(rt; id.stream_id(), Some(7));
-    assert_eq!(rt; id.cpu(), Some(8));
+    check!(rt; id.pid(), Some(3));
+    check!(rt; id.tid(), Some(4));
+    check!(rt; id.time(), Some(5));
+    check!(rt; id.id(), Some(6));
+    check!(rt; id.stream_id(), Some(7));
+    check!(rt; id.cpu(), Some(8));
 }
 
 #[test]
 fn plain_records(rt: HostRuntime) -> Result<(), Fail> {
     let alloc = rt.alloc();
     let switch = SwitchCpuWide::Out { pid: 1, tid: 2 };
-    assert_eq!(rt; switch.pid(), 1);
-    assert_eq!(rt; switch.tid(), 2);
-    assert_eq!(rt; SwitchCpuWide::In { pid: 1, tid: 2 }.tid(), 2);
+    check!(rt; switch.pid(), 1);
+    check!(rt; switch.tid(), 2);
+    check!(rt; SwitchCpuWide::In { pid: 1, tid: 2 }.tid(), 2);
     let throttle = Throttle {
         time: 0x8070605040302010,
         id: 0xf0e0d0c0b0a090,
         stream_id: 0xbeefcafedeadbeef,
     };
-    assert_eq!(rt; throttle.clone()?.id, 0xf0e0d0c0b0a090);
-    assert_eq!(rt; ITraceStart { pid: 1, tid: 2 }.clone()?.tid, 2);
+    check!(rt; throttle.clone()?.id, 0xf0e0d0c0b0a090);
+    check!(rt; ITraceStart { pid: 1, tid: 2 }.clone()?.tid, 2);
     let aux = Aux {
         aux_offset: 4096,
         aux_size: 64,
         flags: AuxFlags::PARTIAL,
     };
-    assert_eq!(rt; aux.clone()?.aux_size, 64);
-    assert_eq!(rt; AuxOutputHwId { hw_id: 9 }.hw_id, 9);
+    check!(rt; aux.clone()?.aux_size, 64);
+    check!(rt; AuxOutputHwId { hw_id: 9 }.hw_id, 9);
     let event = BpfEvent {
         ty: BpfEventType::PROG_LOAD,
         flags: 0,
         id: 7,
         tag: [1, 2, 3, 4, 5, 6, 7, 8],
     };
-    assert_eq!(rt; event.tag[7], 8);
+    check!(rt; event.tag[7], 8);
     let poke = TextPoke {
         addr: 16,
         old_bytes: CowSlice::Borrowed(&[]),
         new_bytes: CowSlice::Borrowed(&[0xaa]),
     };
     let copy = poke.clone(alloc)?;
-    assert!(rt; copy.old_bytes.is_empty());
-    assert_eq!(rt; copy.new_bytes.as_slice(), [0xaau8].as_slice());
+    check!(rt; copy.old_bytes.is_empty());
+    check!(rt; copy.new_bytes.as_slice(), [0xaau8].as_slice());
     Ok(())
 }
 
@@ -369,16 +370,16 @@ fn plain_records(rt: HostRuntime) -> Result<(), Fail> {
 fn debug_texts(rt: HostRuntime) -> Result<(), Fail> {
     let alloc = rt.alloc();
     let switch = format!(in alloc; "{:?}", SwitchCpuWide::In { pid: 1, tid: 2 })?;
-    assert_eq!(rt; switch.as_str(), "In { pid: 1, tid: 2 }");
+    check!(rt; switch.as_str(), "In { pid: 1, tid: 2 }");
     let entry = format!(in alloc; "{:?}", NamespaceEntry { dev: 3, inode: 4 })?;
-    assert_eq!(rt; entry.as_str(), "NamespaceEntry { dev: 3, inode: 4 }");
+    check!(rt; entry.as_str(), "NamespaceEntry { dev: 3, inode: 4 }");
     let comm = Comm {
         pid: 1,
         tid: 2,
         comm: CowSlice::Borrowed(&[97]),
     };
     let comm = format!(in alloc; "{comm:?}")?;
-    assert_eq!(rt;
+    check!(rt;
         comm.as_str(),
         "Comm { pid: 1, tid: 2, comm: Borrowed([97]) }"
     );
