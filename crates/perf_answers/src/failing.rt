@@ -3,6 +3,7 @@
 ghost use Rattle.std.specs.Prelude.{◌<◌, true};
 ghost use Rattle.std.specs.Int.{w16, w32, w64, from_le_bytes};
 
+use crate::check;
 use crate::texts::{FIVE_LOST, attr_bytes, check, check_all, plain_attr};
 use perf_event_data::endian::{Endian, Little};
 use perf_event_data::parse::{ParseError, ParseResult};
@@ -208,10 +209,10 @@ fn check_room(rt: &(impl AllocGlobal + Abort), most: usize, room: usize, fails: 
     let input: &[u8] = &REFUSED;
     let ended = run(rt.alloc(), input, &mut writer, Little, 10, false, 8192);
     assert_eq!(rt; writer.kept.as_slice(), kept, "room for {room}");
-    assert_eq!(rt; ended, Outcome::Stopped);
-    assert_eq!(rt; ended.status(), 3);
+    check!(rt; ended, Outcome::Stopped);
+    check!(rt; ended.status(), 3);
     let mut writer = failing_once(rt, most, room, fails);
-    assert!(rt; !write_whole(&mut writer, text));
+    check!(rt; !write_whole(&mut writer, text));
     assert_eq!(rt; writer.kept.as_slice(), kept, "room for {room}");
 }
 
@@ -231,8 +232,8 @@ fn a_writer_may_take_one_byte_a_write(rt: HostRuntime) {
         let mut writer = failing_once(&rt, most, REFUSED_TEXT.len(), true);
         let input: &[u8] = &REFUSED;
         let ended = run(rt.alloc(), input, &mut writer, Little, 10, false, 8192);
-        assert_eq!(rt; writer.kept.as_slice(), REFUSED_TEXT.as_bytes());
-        assert_eq!(rt; ended, Outcome::Refused);
+        check!(rt; writer.kept.as_slice(), REFUSED_TEXT.as_bytes());
+        check!(rt; ended, Outcome::Refused);
     }
 }
 
@@ -274,8 +275,8 @@ fn check_full(rt: &(impl AllocGlobal + Abort), calls: usize, fails: bool, kept: 
     };
     let input: &[u8] = &FIVE_LOST;
     let ended = run(rt.alloc(), input, &mut writer, Little, 10, false, 8192);
-    assert_eq!(rt; writer.kept.as_slice(), kept.as_bytes());
-    assert_eq!(rt; ended, Outcome::Stopped);
+    check!(rt; writer.kept.as_slice(), kept.as_bytes());
+    check!(rt; ended, Outcome::Stopped);
 }
 
 #[test]
@@ -352,8 +353,8 @@ fn check_order_of_calls(
     };
     let mut writer = LoggedWriter { log: &log };
     let _ = run(rt.alloc(), reader, &mut writer, Little, limit, false, piece);
-    assert_eq!(rt; log.reads.get(), reads);
-    assert_eq!(rt; log.before.get(), Some(reads));
+    check!(rt; log.reads.get(), reads);
+    check!(rt; log.before.get(), Some(reads));
 }
 
 // The read behind the last byte gives the end or a fault; a limit needs none.
@@ -409,7 +410,7 @@ fn a_refused_order_ends_the_text_for_want_of_memory(rt: HostRuntime) -> Result<(
     input.extend_from_slice(&FIVE_LOST)?;
     check_all(&rt, Single, 10, true, &input, line, Outcome::Faulted);
     check_all(&rt, Single, 0, true, &input, line, Outcome::Faulted);
-    assert_eq!(rt; Outcome::Faulted.status(), 3);
+    check!(rt; Outcome::Faulted.status(), 3);
     let line = "attr refused InvalidRecord\n";
     let input = plain_attr(rt.alloc(), 100)?;
     check_all(&rt, Single, 10, true, &input, line, Outcome::BadAttr);

@@ -3,6 +3,7 @@
 ghost use Rattle.std.specs.Prelude.{IsTrue};
 ghost use Rattle.perf_types.specs.MmapDetail.{has_fitting_id};
 
+use crate::check;
 use crate::texts::check;
 use bitflags::Flags;
 use perf_event_data::endian::Little;
@@ -27,7 +28,7 @@ fn check_line(rt: &(impl AllocGlobal + Abort), found: Record, text: &str) -> Par
     };
     let answer: ParseResult<Record> = Ok(found);
     let line = line_of(rt.alloc(), 0, &header, &answer)?;
-    assert_eq!(rt; line.as_str().strip_prefix("0 1 2 3 "), Some(text));
+    check!(rt; line.as_str().strip_prefix("0 1 2 3 "), Some(text));
     Ok(())
 }
 

@@ -2,6 +2,7 @@
 
 ghost use Rattle.std.specs.Prelude.{◌<◌};
 
+use crate::check;
 use perf_event_data::endian::{Big, Endian, Little};
 use perf_event_data::parse::{ErrorKind, ParseError, ParseResult};
 use perf_event_data::sys::perf_event_header;
@@ -350,7 +351,7 @@ fn a_line_has_no_line_feed(rt: HostRuntime) -> ParseResult<()> {
     };
     let found: ParseResult<Record> = Ok(Record::LostSamples(LostSamples { lost: 5 }));
     let line = line_of(rt.alloc(), 0, &header, &found)?;
-    assert_eq!(rt; line.as_str(), "0 13 0 16 LostSamples lost=5");
+    check!(rt; line.as_str(), "0 13 0 16 LostSamples lost=5");
     Ok(())
 }
 
@@ -378,7 +379,7 @@ fn each_kind_has_its_name(rt: HostRuntime) -> ParseResult<()> {
         };
         let refused: ParseResult<Record> = Err(ParseError::custom(kind, "why"));
         let line = line_of(rt.alloc(), 7, &header, &refused)?;
-        assert_eq!(rt; line.as_str(), text);
+        check!(rt; line.as_str(), text);
     }
     Ok(())
 }
@@ -412,12 +413,12 @@ fn an_order_and_a_limit_are_a_command(rt: HostRuntime) -> Result<(), AllocError>
             limit,
             with_attr: false,
         };
-        assert_eq!(rt; asked(&rt, &[name, digits])?, Some(wanted));
+        check!(rt; asked(&rt, &[name, digits])?, Some(wanted));
         let wanted = Command {
             with_attr: true,
             ..wanted
         };
-        assert_eq!(rt; asked(&rt, &[name, digits, "attr"])?, Some(wanted));
+        check!(rt; asked(&rt, &[name, digits, "attr"])?, Some(wanted));
     }
     Ok(())
 }
@@ -425,7 +426,7 @@ fn an_order_and_a_limit_are_a_command(rt: HostRuntime) -> Result<(), AllocError>
 #[test]
 fn other_words_are_no_command(rt: HostRuntime) -> Result<(), AllocError> {
     for name in ["middle", "Little", "", "little "] {
-        assert_eq!(rt; asked(&rt, &[name, "3"])?, None);
+        check!(rt; asked(&rt, &[name, "3"])?, None);
     }
     for digits in [
         "",
@@ -437,21 +438,21 @@ fn other_words_are_no_command(rt: HostRuntime) -> Result<(), AllocError> {
         "18446744073709551616",
         "99999999999999999999",
     ] {
-        assert_eq!(rt; asked(&rt, &["little", digits])?, None);
+        check!(rt; asked(&rt, &["little", digits])?, None);
     }
-    assert_eq!(rt; asked(&rt, &[])?, None);
-    assert_eq!(rt; asked(&rt, &["little"])?, None);
-    assert_eq!(rt; asked(&rt, &["attr"])?, None);
-    assert_eq!(rt; asked(&rt, &["little", "attr"])?, None);
-    assert_eq!(rt; asked(&rt, &["little", "attr", "3"])?, None);
-    assert_eq!(rt; asked(&rt, &["attr", "little", "3"])?, None);
+    check!(rt; asked(&rt, &[])?, None);
+    check!(rt; asked(&rt, &["little"])?, None);
+    check!(rt; asked(&rt, &["attr"])?, None);
+    check!(rt; asked(&rt, &["little", "attr"])?, None);
+    check!(rt; asked(&rt, &["little", "attr", "3"])?, None);
+    check!(rt; asked(&rt, &["attr", "little", "3"])?, None);
     for third in ["", "Attr", "attr ", "attrs", "att", "3"] {
-        assert_eq!(rt; asked(&rt, &["little", "3", third])?, None);
+        check!(rt; asked(&rt, &["little", "3", third])?, None);
     }
-    assert_eq!(rt; asked(&rt, &["little", "3", "attr", "attr"])?, None);
-    assert_eq!(rt; asked(&rt, &["little", "3", "attr", ""])?, None);
-    assert_eq!(rt; asked(&rt, &["big", "x", "attr"])?, None);
-    assert_eq!(rt; asked(&rt, &["attr", "3", "attr"])?, None);
+    check!(rt; asked(&rt, &["little", "3", "attr", "attr"])?, None);
+    check!(rt; asked(&rt, &["little", "3", "attr", ""])?, None);
+    check!(rt; asked(&rt, &["big", "x", "attr"])?, None);
+    check!(rt; asked(&rt, &["attr", "3", "attr"])?, None);
     Ok(())
 }
 
@@ -465,6 +466,6 @@ fn each_outcome_has_its_status(rt: HostRuntime) {
         (Outcome::Stopped, 3),
     ];
     for (outcome, status) in statuses {
-        assert_eq!(rt; outcome.status(), status);
+        check!(rt; outcome.status(), status);
     }
 }
