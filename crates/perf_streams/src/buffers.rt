@@ -43,8 +43,8 @@ pub fn tell<'p, B: ParseBuf<'p> + Drop, E: Endian>(
     tell_under(alloc, buf, endian, perf_event_attr::default(), limits)
 }
 
-// The same behind an attribute.
-fn tell_under<'p, B: ParseBuf<'p> + Drop, E: Endian>(
+/// The same behind an attribute.
+pub fn tell_under<'p, B: ParseBuf<'p> + Drop, E: Endian>(
     alloc: Global,
     buf: B,
     endian: E,

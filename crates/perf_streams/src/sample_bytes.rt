@@ -1,15 +1,16 @@
 //! Bodies of samples, written in both byte orders and read through every buffer.
 
 use crate::buffers::check_everywhere_behind;
+use crate::checks::check_same;
+use crate::told::tell_error;
 use crate::told_samples::tell_sample;
 use perf_event_data::endian::{Big, Endian, Little, Native};
-use perf_event_data::parse::{ParseBuf, ParseConfig, ParseResult, Parser};
+use perf_event_data::parse::{ParseBuf, ParseConfig, Parser};
 use perf_event_data::sys::perf_event_attr;
 use perf_event_data::{PieceBuf, Sample};
 use std::alloc::{AllocError, Global};
 use std::io::BufReader;
 use std::process::Abort;
-use std::test::Fail;
 
 /// A part of a body.
 #[derive(Copy, Clone)]
@@ -49,59 +50,68 @@ pub fn attribute_with_index(sample_type: u64, read_format: u64) -> perf_event_at
     }
 }
 
-// Appends a number, of whose bytes the lowest comes first.
-fn put(bytes: &mut Vec<u8>, is_big: bool, number: &[u8]) -> Result<(), AllocError> {
-    if !is_big {
-        return bytes.extend_from_slice(number);
-    }
-    for byte in number.iter().rev() {
-        bytes.push(*byte)?;
-    }
-    Ok(())
-}
-
 /// Appends the bytes of a body.
 pub fn put_parts(bytes: &mut Vec<u8>, is_big: bool, parts: &[Part]) -> Result<(), AllocError> {
     for part in parts {
         match part {
-            Part::U16(number) => put(bytes, is_big, &number.to_le_bytes())?,
-            Part::U32(number) => put(bytes, is_big, &number.to_le_bytes())?,
-            Part::U64(number) => put(bytes, is_big, &number.to_le_bytes())?,
+            Part::U16(number) if is_big => bytes.extend_from_slice(&number.to_be_bytes())?,
+            Part::U16(number) => bytes.extend_from_slice(&number.to_le_bytes())?,
+            Part::U32(number) if is_big => bytes.extend_from_slice(&number.to_be_bytes())?,
+            Part::U32(number) => bytes.extend_from_slice(&number.to_le_bytes())?,
+            Part::U64(number) if is_big => bytes.extend_from_slice(&number.to_be_bytes())?,
+            Part::U64(number) => bytes.extend_from_slice(&number.to_le_bytes())?,
             Part::Bytes(some) => bytes.extend_from_slice(some)?,
         }
     }
     Ok(())
 }
 
-// What a parser says of a body: the sample, or the kind of the refusal. Behind a sample stand so
-// many bytes, or it says how many.
+// The next sample, or the kind of the refusal.
+fn tell_next<'p, B: ParseBuf<'p>, E: Endian>(
+    text: &mut String,
+    parser: &mut Parser<B, E>,
+) -> Result<(), AllocError> {
+    match parser.parse::<Sample<'p>>() {
+        Ok(sample) => tell_sample(text, &sample),
+        Err(error) => tell_error(text, &error),
+    }
+}
+
+// How many bytes are left, where these are not as many as they should be.
+fn tell_left<'p, B: ParseBuf<'p>, E: Endian>(
+    text: &mut String,
+    parser: &mut Parser<B, E>,
+    left: usize,
+) -> Result<(), AllocError> {
+    match parser.parse_rest() {
+        Ok(rest) if rest.len() == left => Ok(()),
+        Ok(rest) => write!(text, ", {} left", rest.len()),
+        Err(error) => tell_error(text, &error),
+    }
+}
+
+// What a parser says of a body. Behind a sample so many bytes are left.
 fn told<'p, B: ParseBuf<'p> + Drop, E: Endian>(
     alloc: Global,
     buf: B,
     endian: E,
     attr: perf_event_attr,
     left: usize,
-) -> ParseResult<String> {
+) -> Result<String, AllocError> {
     let config = ParseConfig::<Native>::from(attr).with_endian(endian);
     let mut parser = Parser::new(alloc, buf, config);
     let mut text = String::new(alloc);
-    match parser.parse::<Sample<'p>>() {
-        Ok(sample) => {
-            tell_sample(&mut text, &sample)?;
-            let found = parser.parse_rest()?.len();
-            if found != left {
-                write!(text, ", {found} left")?;
-            }
-        }
-        Err(error) => write!(text, "{:?}", error.kind())?,
+    tell_next(&mut text, &mut parser)?;
+    if text.starts_with("Sample") {
+        tell_left(&mut text, &mut parser, left)?;
     }
     Ok(text)
 }
 
-fn check_told(rt: &impl Abort, answer: ParseResult<String>, want: &str, buffer: &str) {
+fn check_told(rt: &impl Abort, answer: Result<String, AllocError>, want: &str, buffer: &str) {
     match answer {
-        Ok(text) => assert_eq!(rt; text.as_str(), want, "{buffer}"),
-        Err(error) => panic!(rt; "{:?}", error.kind()),
+        Ok(text) => check_same(rt, buffer, text.as_str(), want),
+        Err(_) => panic!(rt; "no memory"),
     }
 }
 
@@ -175,7 +185,7 @@ fn check_frames<E: Endian + Copy>(
     (endian, is_big): (E, bool),
     body: &[u8],
     want: &str,
-) -> Result<(), Fail> {
+) -> Result<(), AllocError> {
     let alloc = rt.alloc();
     let bytes = frames(alloc, is_big, body)?;
     let size = body.len().saturating_add(8);

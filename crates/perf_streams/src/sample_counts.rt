@@ -1,14 +1,14 @@
 //! Samples that claim more than there is.
 
+use crate::buffers::tell_under;
+use crate::checks::check_that;
 use crate::flags::{ADDR, AUX, BRANCH_STACK, CALLCHAIN, CGROUP, RAW, READ, STACK_USER};
 use crate::orders::Counting;
 use crate::sample_bytes::Part::{self, Bytes, U32, U64};
 use crate::sample_bytes::{attribute, attribute_with_index, check_sample, frames_of};
-use perf_event_data::endian::Native;
-use perf_event_data::parse::{ParseBuf, ParseConfig, Parser};
+use perf_event_data::PieceBuf;
+use perf_event_data::parse::ParseBuf;
 use perf_event_data::sys::perf_event_attr;
-use perf_event_data::{PieceBuf, read_records};
-use std::alloc::Global;
 use std::cell::Cell;
 use std::io::BufReader;
 use std::process::Abort;
@@ -30,32 +30,32 @@ const HOSTILE: [u64; 13] = [
     u64::MAX,
 ];
 
+// Asserts that a body is refused that begins with any such count.
+fn check_hostile(rt: &(impl AllocGlobal + Abort), attr: perf_event_attr, behind: &[u8]) {
+    for count in HOSTILE {
+        check_sample(rt, attr, &[U64(count), Bytes(behind)], "Eof");
+    }
+}
+
+const THREE_NUMBERS: &[u8] = b"\x01\0\0\0\0\0\0\0\x02\0\0\0\0\0\0\0\x03\0\0\0\0\0\0\0";
+
 #[test]
 fn a_call_chain_may_claim_more_than_there_is(rt: HostRuntime) {
-    for count in HOSTILE {
-        let body = [U64(count), U64(1), U64(2), U64(3)];
-        check_sample(&rt, attribute(CALLCHAIN, 0), &body, "Eof");
-        check_sample(&rt, attribute(CALLCHAIN | CGROUP, 0), &body, "Eof");
-    }
+    check_hostile(&rt, attribute(CALLCHAIN, 0), THREE_NUMBERS);
+    check_hostile(&rt, attribute(CALLCHAIN | CGROUP, 0), THREE_NUMBERS);
 }
 
 #[test]
 fn a_branch_stack_may_claim_more_than_there_is(rt: HostRuntime) {
-    for count in HOSTILE {
-        let body = [U64(count), U64(1), U64(2), U64(3), U64(4)];
-        check_sample(&rt, attribute(BRANCH_STACK, 0), &body, "Eof");
-        check_sample(&rt, attribute_with_index(BRANCH_STACK, 0), &body, "Eof");
-        check_sample(&rt, attribute(BRANCH_STACK | AUX, 0), &body, "Eof");
-    }
+    check_hostile(&rt, attribute(BRANCH_STACK, 0), THREE_NUMBERS);
+    check_hostile(&rt, attribute(BRANCH_STACK | AUX, 0), THREE_NUMBERS);
+    check_hostile(&rt, attribute_with_index(BRANCH_STACK, 0), THREE_NUMBERS);
 }
 
 #[test]
 fn bytes_may_claim_to_be_more_than_there_are(rt: HostRuntime) {
-    for size in HOSTILE {
-        let body = [U64(size), Bytes(b"\x01\x02\x03")];
-        check_sample(&rt, attribute(STACK_USER, 0), &body, "Eof");
-        check_sample(&rt, attribute(AUX, 0), &body, "Eof");
-    }
+    check_hostile(&rt, attribute(STACK_USER, 0), b"\x01\x02\x03");
+    check_hostile(&rt, attribute(AUX, 0), b"\x01\x02\x03");
 }
 
 // The length, and with it the four bytes that it takes itself and the padding, is near 2^32.
@@ -73,17 +73,27 @@ fn raw_bytes_may_claim_to_be_more_than_there_are(rt: HostRuntime) {
     }
 }
 
-// How many numbers of eight bytes are made of a run's first frame.
-fn conversions<'p, B: ParseBuf<'p> + Drop>(alloc: Global, buf: B, attr: perf_event_attr) -> u64 {
+// How many numbers of eight bytes are made of a run's first frame, which is refused.
+fn conversions<'p, B: ParseBuf<'p> + Drop>(
+    rt: &(impl AllocGlobal + Abort),
+    buf: B,
+    attr: perf_event_attr,
+) -> u64 {
     let calls = Cell::new(0);
-    let config = ParseConfig::<Native>::from(attr).with_endian(Counting { calls: &calls });
-    let mut parser = Parser::new(alloc, buf, config);
-    read_records(&mut parser, 1);
+    match tell_under(rt.alloc(), buf, Counting { calls: &calls }, attr, &[1]) {
+        Ok(text) => check_that(rt, text.as_str(), text.ends_with(" Eof; limit")),
+        Err(_) => panic!(rt; "no memory"),
+    }
     calls.get()
 }
 
-fn check_conversions(rt: &impl Abort, calls: u64, least: u64, most: u64) {
-    assert!(rt; calls >= least && calls <= most, "{calls} of {most}");
+fn check_conversions(rt: &impl Abort, calls: u64, most: u64) {
+    check_that(
+        rt,
+        "at least one, where there may be any",
+        calls >= most.min(1),
+    );
+    check_that(rt, "at most as many as there are", calls <= most);
 }
 
 // Asserts that of a frame of this body at most so many numbers are made, and one at least where
@@ -96,11 +106,10 @@ fn check_most(rt: &(impl AllocGlobal + Abort), attr: perf_event_attr, parts: &[P
     let Ok(reader) = BufReader::with_capacity(alloc, 1, bytes.as_slice()) else {
         panic!(rt; "no memory");
     };
-    let least = most.min(1);
-    check_conversions(rt, conversions(alloc, bytes.as_slice(), attr), least, most);
-    check_conversions(rt, conversions(alloc, reader, attr), least, most);
+    check_conversions(rt, conversions(rt, bytes.as_slice(), attr), most);
+    check_conversions(rt, conversions(rt, reader, attr), most);
     let pieces = PieceBuf::new(&bytes, 1, false);
-    check_conversions(rt, conversions(alloc, pieces, attr), least, most);
+    check_conversions(rt, conversions(rt, pieces, attr), most);
 }
 
 // Bytes are no numbers.
@@ -112,8 +121,18 @@ fn a_hostile_count_converts_no_more_than_the_numbers_of_its_body(rt: HostRuntime
         check_most(&rt, attribute(BRANCH_STACK, 0), &body, 2);
         check_most(&rt, attribute_with_index(BRANCH_STACK, 0), &body, 2);
         check_most(&rt, attribute(READ, 0x08), &body, 2);
-        check_most(&rt, attribute(STACK_USER, 0), &[U64(count), U32(1)], 1);
-        check_most(&rt, attribute(AUX, 0), &[U64(count), U32(1)], 1);
+        check_most(
+            &rt,
+            attribute(STACK_USER, 0),
+            &[U64(count), Bytes(b"\x01\x02\x03")],
+            1,
+        );
+        check_most(
+            &rt,
+            attribute(AUX, 0),
+            &[U64(count), Bytes(b"\x01\x02\x03")],
+            1,
+        );
         let body = [U64(count), U64(1), U64(2), U64(3), U32(4)];
         check_most(&rt, attribute(CALLCHAIN, 0), &body, 4);
         check_most(&rt, attribute(BRANCH_STACK, 0), &body, 4);
