@@ -43,15 +43,15 @@ lost_sum r = sum (r.id ∷ r.lost ∷ [])
 -- how many raw bytes it has; what is absent adds nothing
 abbrev pub sample_sum : Getters → ℕ
 sample_sum g = sum (
-  unwrap_or g.ip 0 ∷
-  unwrap_or g.pid 0 ∷
-  unwrap_or g.tid 0 ∷
-  unwrap_or g.time 0 ∷
-  unwrap_or g.period 0 ∷
-  sum (unwrap_or g.callchain []) ∷
-  length (unwrap_or g.raw []) ∷
-  []
-)
+    unwrap_or g.ip 0 ∷
+    unwrap_or g.pid 0 ∷
+    unwrap_or g.tid 0 ∷
+    unwrap_or g.time 0 ∷
+    unwrap_or g.period 0 ∷
+    sum (unwrap_or g.callchain []) ∷
+    length (unwrap_or g.raw []) ∷
+    []
+    )
 
 -- Records of other types add nothing.
 abbrev pub record_sum : RecordValue → ℕ

@@ -77,7 +77,7 @@ abbrev pub ReadsTable : {X A : Type 0} → (Configuration → List (Option (Part
     (X → List (Option A)) → (X → Type 0) → Says X
 ReadsTable fields view borrowed old seen new =
     AnswersRun view
-        (table_by_places old.order (fields old.settings) old.source.left old.reads) seen new
+    (table_by_places old.order (fields old.settings) old.source.left old.reads) seen new
     × (IsTrue old.source.whole → IfOk seen borrowed)
 
 -- the same of groups of fields
@@ -85,5 +85,5 @@ abbrev pub ReadsGroups : {X A : Type 0} → (Configuration → List (List (Optio
     (X → List (Option A)) → (X → Type 0) → Says X
 ReadsGroups groups view borrowed old seen new =
     AnswersRun view
-        (groups_by_places old.order (groups old.settings) old.source.left old.reads) seen new
+    (groups_by_places old.order (groups old.settings) old.source.left old.reads) seen new
     × (IsTrue old.source.whole → IfOk seen borrowed)

@@ -12,8 +12,9 @@ use bitflags::Flags;
 use perf_base::endian::Endian;
 use perf_base::refusal::ReadResult;
 use perf_buffers::input::Input;
-use perf_words::{AuxFlags, BpfEventType, BranchEntry, DataSource, KSymbolFlags, KSymbolType};
-use perf_words::{SampleRegsAbi, Txn};
+use perf_words::{
+    AuxFlags, BpfEventType, BranchEntry, DataSource, KSymbolFlags, KSymbolType, SampleRegsAbi, Txn,
+};
 
 impl Meant for AuxFlags {
     ghost says = { ReadsPlain (λ _. u64) aux_flags_bits };

@@ -51,31 +51,31 @@ plain_body =
 
 order_of_plain_fields : layout little (sample (typed plain_flags)) plain_body ≡
     Ok (
-      Some (number_is 1) ∷
-      Some (number_is 2) ∷
-      Some (task_is (Some 3) (Some 4)) ∷
-      Some (number_is 5) ∷
-      Some (number_is 6) ∷
-      Some (number_is 7) ∷
-      Some (number_is 8) ∷
-      Some (number_is 9) ∷
-      Some (number_is 10) ∷
-      None ∷
-      None ∷
-      None ∷
-      None ∷
-      None ∷
-      None ∷
-      Some (number_is 11) ∷
-      Some (number_is 12) ∷
-      Some (number_is 13) ∷
-      None ∷
-      Some (number_is 14) ∷
-      Some (number_is 15) ∷
-      Some (number_is 16) ∷
-      Some (number_is 17) ∷
-      None ∷
-      []
+    Some (number_is 1) ∷
+    Some (number_is 2) ∷
+    Some (task_is (Some 3) (Some 4)) ∷
+    Some (number_is 5) ∷
+    Some (number_is 6) ∷
+    Some (number_is 7) ∷
+    Some (number_is 8) ∷
+    Some (number_is 9) ∷
+    Some (number_is 10) ∷
+    None ∷
+    None ∷
+    None ∷
+    None ∷
+    None ∷
+    None ∷
+    Some (number_is 11) ∷
+    Some (number_is 12) ∷
+    Some (number_is 13) ∷
+    None ∷
+    Some (number_is 14) ∷
+    Some (number_is 15) ∷
+    Some (number_is 16) ∷
+    Some (number_is 17) ∷
+    None ∷
+    []
     )
 unfolding sample
 order_of_plain_fields = refl
