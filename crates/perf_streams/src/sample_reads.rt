@@ -99,7 +99,7 @@ fn a_group_may_have_no_entry(rt: HostRuntime) {
 // It is refused at READ, whatever follows: for lack of bytes where the address is not there.
 #[test]
 fn an_unknown_read_format_is_refused_at_the_read(rt: HostRuntime) {
-    for bit in 5..64 {
+    for bit in 5..64u32 {
         for group in [0, GROUP] {
             let attr = attribute(ADDR | READ | CGROUP, group | 1 << bit);
             let body = [U64(7), U64(1), U64(2), U64(3)];

@@ -30,7 +30,7 @@ fn no_field_takes_no_bytes(rt: HostRuntime) {
 // Bits of a sample type that are no field's.
 #[test]
 fn a_flag_above_bit_24_is_no_field(rt: HostRuntime) {
-    for bit in 25..64 {
+    for bit in 25..64u32 {
         let attr = attribute(ADDR | 1 << bit, 0);
         check_sample_before(&rt, attr, &[U64(7), U64(8)], 8, "Sample addr=0x7");
     }
