@@ -372,7 +372,8 @@ def reads():
     return found
 
 
-# The flags of a sample whose field is more than a number of eight bytes, by their bits; all that the list asks for.
+# The bits of a sample type: those whose fields may have any length, all but WEIGHT_STRUCT, and these in the order of
+# their bytes.
 READ, CALLCHAIN, RAW, BRANCHES, REGS_USER, STACK_USER, REGS_INTR, AUX = 4, 5, 10, 11, 12, 13, 18, 20
 LISTS = [READ, CALLCHAIN, RAW, BRANCHES, REGS_USER, STACK_USER, REGS_INTR, AUX]
 FLAGS = range(24)
@@ -481,8 +482,10 @@ def sample_case(name, order, size, config, make, last=b""):
     for at, number in [(72, branch_sample_type), (80, config.user), (96, config.interrupt)]:
         if at + 8 <= size:
             head[at : at + 8] = number.to_bytes(8, order)
-    within = config._replace(user=config.user if size >= 96 else 0, hw_index=config.hw_index if size >= 80 else 0)
-    frames, stream = Samples(order, draw, within._replace(interrupt=config.interrupt if size >= 104 else 0)), b""
+    # An attribute that is too short for them doesn't ask for them.
+    within = config._replace(hw_index=config.hw_index if size >= 80 else 0, user=config.user if size >= 96 else 0,
+                             interrupt=config.interrupt if size >= 104 else 0)
+    frames, stream = Samples(order, draw, within), b""
     for body in make(frames):
         stream += frames.frame(9, draw.one_of([0, 1, 2, 0x4002]), body)
         stream += frames.with_id(13, 0, frames.some("Q") + bytes(-len(stream) % 8))
