@@ -1,9 +1,9 @@
 #!/usr/bin/env python3
-"""Makes the list of answers that crates/perf_answers replays: see README.md beside this file.
+"""Makes the lists of answers that crates/perf_answers replays: see README.md beside this file.
 
     make.py --streams            lists the cases and counts their frames; runs nothing
-    make.py --page PROGRAM WORD.. compares what PROGRAM prints with page.py, also for what the list leaves out
-    make.py PROGRAM WORD..       writes the list
+    make.py --page PROGRAM WORD.. compares what PROGRAM prints with page.py, also for what the lists leave out
+    make.py PROGRAM WORD..       writes the lists
 
 PROGRAM is the original under a program that prints perfrec's lines. It takes perfrec's words (order, limit, and `attr`
 where the stream begins with an attribute), and in front of them the WORDs, which ask it to hide what README.md calls
@@ -27,8 +27,8 @@ LIMIT = 1000
 # The sizes of an attribute, one behind another.
 SIZES = [64, 72, 80, 96, 104, 112, 120, 128, 136, 137, 144, 160]
 
-# Types whose answers a later list will hold.
-LATER = {9}
+# Types that stand in a list of their own.
+APART = {9}
 
 TID, TIME, ID, CPU, STREAM_ID, IDENTIFIER = 1 << 1, 1 << 2, 1 << 6, 1 << 7, 1 << 9, 1 << 16
 ALL_SIX = TID | TIME | ID | CPU | STREAM_ID | IDENTIFIER
@@ -61,7 +61,8 @@ class Draw:
         return bytes(self.below(256) for _ in range(count))
 
 
-Config = collections.namedtuple("Config", "sample_type all_ids read_format")
+PARTS = "sample_type all_ids read_format hw_index user interrupt"
+Config = collections.namedtuple("Config", PARTS, defaults=(0, 0, 0))
 PLAIN = Config(0, False, 0)
 
 
@@ -70,8 +71,8 @@ def id_length(config):
 
 
 def agreed(config, type_):
-    """Whether the list has this type under this configuration; README.md says why others are left out."""
-    if type_ in LATER:
+    """Whether the lists of all types have this one under this configuration; README.md says what they leave out."""
+    if type_ in APART:
         return False
     return id_length(config) == 0 or (type_ != 1 and type_ < 64)
 
@@ -205,7 +206,7 @@ class Bodies:
             add(type_, lambda type_=type_: (misc(), draw.bytes(1 + draw.below(24))))
             add(type_, lambda type_=type_: (misc(), draw.bytes(8) + bytes(draw.below(9))))
 
-        # READ, and SAMPLE for the later list: eight bytes for each number that the format can ask for.
+        # READ, and SAMPLE where the lists are compared: eight bytes for each number that the format can ask for.
         for count in range(7):
             add(8, lambda count=count: (misc(), self.some("II" + "Q" * count)))
             add(9, lambda count=count: (misc(), self.some("Q" * 2 * count)))
@@ -371,6 +372,171 @@ def reads():
     return found
 
 
+# The bits of a sample type: those whose fields may have any length, all but WEIGHT_STRUCT, and these in the order of
+# their bytes.
+READ, CALLCHAIN, RAW, BRANCHES, REGS_USER, STACK_USER, REGS_INTR, AUX = 4, 5, 10, 11, 12, 13, 18, 20
+LISTS = [READ, CALLCHAIN, RAW, BRANCHES, REGS_USER, STACK_USER, REGS_INTR, AUX]
+FLAGS = range(24)
+IN_ORDER = [16, 0, 1, 2, 3, 6, 9, 7, 8, READ, CALLCHAIN, RAW, BRANCHES, REGS_USER, STACK_USER, 14, 15, 17, REGS_INTR]
+IN_ORDER += [19, 21, 22, 23, AUX]
+
+
+def of_flags(*bits):
+    """A sample type of these bits."""
+    return sum(1 << bit for bit in bits)
+
+
+class Samples(Frames):
+    """Bodies of samples under one configuration, whole and not."""
+
+    def some(self, form):
+        return self.bodies.some(form)
+
+    def counted(self, count, form, there=None):
+        """A count, and so many items, or another number of them."""
+        return self.bodies.pack("Q", count) + self.some(form * (count if there is None else there))
+
+    def read(self, count, there=None):
+        """A read of a group, or where the format asks for none, of one event."""
+        read_format = self.config.read_format
+        times, entry = "Q" * bin(read_format & 3).count("1"), "Q" * (1 + bin(read_format & 0x14).count("1"))
+        if read_format & 8 == 0:
+            return self.some(times + entry)
+        return self.bodies.pack("Q", count) + self.some(times + entry * (count if there is None else there))
+
+    def raw(self, length):
+        return self.bodies.pack("I", length) + self.draw.bytes(length + -(length + 4) % 8)
+
+    def branches(self, count, there=None):
+        index = self.some("Q") if self.config.hw_index else b""
+        return self.bodies.pack("Q", count) + index + self.some("QQQ" * (count if there is None else there))
+
+    def registers(self, bit, abi):
+        mask = self.config.user if bit == REGS_USER else self.config.interrupt
+        return self.bodies.pack("Q", abi) + self.some("Q" * bin(mask).count("1"))
+
+    def stack(self, size, used):
+        return self.bodies.pack("Q", size) + self.draw.bytes(size) + (self.bodies.pack("Q", used) if size else b"")
+
+    def field(self, bit):
+        """A field as a kernel could write it; the lists are short."""
+        makers = {
+            READ: lambda: self.read(2),
+            CALLCHAIN: lambda: self.counted(self.draw.below(4), "Q"),
+            RAW: lambda: self.raw(self.draw.below(14)),
+            BRANCHES: lambda: self.branches(self.draw.below(3)),
+            REGS_USER: lambda: self.registers(bit, 1 + self.draw.below(2)),
+            STACK_USER: lambda: self.stack(16, self.draw.below(17)),
+            REGS_INTR: lambda: self.registers(bit, 1 + self.draw.below(2)),
+            AUX: lambda: self.counted(8, "") + self.draw.bytes(8),
+        }
+        return makers[bit]() if bit in makers else self.some("II" if bit in (1, 7) else "Q")
+
+    def whole(self):
+        return b"".join(self.field(bit) for bit in IN_ORDER if self.config.sample_type >> bit & 1)
+
+    def over(self):
+        return self.whole() + self.draw.bytes(1 + self.draw.below(12))
+
+    def cut(self):
+        whole = self.whole()
+        return whole[: len(whole) - 1 - self.draw.below(max(1, len(whole) - 1))]
+
+    def of_lists(self, bit):
+        """Bodies for the one flag: counts and sizes that fit, that leave bytes over, and that no body can hold."""
+        pack, draw = self.bodies.pack, self.draw
+        if bit == READ:
+            if self.config.read_format & 8 == 0:
+                return [self.whole(), self.over(), self.whole()[:-1]]
+            held = [(0, 0), (3, 3), (2, 1), (2**63, 1)]
+            if self.config.read_format in (8, 0x1F):
+                held += [(1, 1), (1, 2), (2**61, 1), (2**64 - 1, 0)]
+            return [self.read(*pair) for pair in held if self.config.read_format < 0x20 or pair[0] == 3]
+        if bit == CALLCHAIN:
+            held = [(0, 0), (1, 1), (7, 7), (2, 3), (3, 2), (2**32, 1), (2**61, 2), (2**64 - 1, 0)]
+            return [self.counted(count, "Q", there) for count, there in held] + [self.cut()]
+        if bit == RAW:
+            bodies = [self.raw(length) for length in [0, 1, 3, 4, 5, 8, 20]]
+            bodies += [self.raw(9)[:-1], self.raw(5)[:-7], self.raw(4) + draw.bytes(3), self.raw(2)[:3]]
+            return bodies + [pack("I", 2**32 - 1) + draw.bytes(12)]
+        if bit == BRANCHES:
+            held = [(0, 0), (3, 3), (1, 2), (2, 1), (2**64 // 24 + 1, 1)]
+            held += [] if self.config.hw_index else [(1, 1), (2**63, 0)]
+            return [self.branches(*pair) for pair in held] + [self.branches(1)[:-1]]
+        if bit in (REGS_USER, REGS_INTR):
+            bodies = [self.registers(bit, abi) for abi in [1, 2, 2**64 - 1]]
+            return bodies + [self.registers(bit, 2) + draw.bytes(5), self.registers(bit, 1)[:-1]]
+        if bit == STACK_USER:
+            used = [(0, 0), (8, 0), (8, 3), (8, 8), (8, 9), (5, 4), (24, 2**64 - 1)]
+            bodies = [self.stack(*pair) for pair in used] + [self.stack(0, 0) + draw.bytes(8), self.stack(8, 8)[:-8]]
+            return bodies + [self.counted(size, "QQ", 1) for size in [17, 2**32, 2**63, 2**64 - 1]]
+        sizes = [(0, 0), (0, 8), (1, 1), (8, 8), (19, 24), (9, 8), (2**32, 8), (2**64 - 1, 3)]
+        return [pack("Q", size) + draw.bytes(there) for size, there in sizes] + [self.some("Q")[:-1]]
+
+
+def sample_case(name, order, size, config, make, last=b""):
+    """A stream of the samples that are made, each with a LOST_SAMPLES behind it that ends at a multiple of eight."""
+    draw = Draw(sum(name.encode()) * 2**20 + len(name) * 2**10 + (order == "big"))
+    head = bytearray(attribute(order, draw, size, config))
+    branch_sample_type = draw.number(64) & ~(1 << 17) | (config.hw_index << 17)
+    for at, number in [(72, branch_sample_type), (80, config.user), (96, config.interrupt)]:
+        if at + 8 <= size:
+            head[at : at + 8] = number.to_bytes(8, order)
+    # An attribute that is too short for them doesn't ask for them.
+    within = config._replace(hw_index=config.hw_index if size >= 80 else 0, user=config.user if size >= 96 else 0,
+                             interrupt=config.interrupt if size >= 104 else 0)
+    frames, stream = Samples(order, draw, within), b""
+    for body in make(frames):
+        stream += frames.frame(9, draw.one_of([0, 1, 2, 0x4002]), body)
+        stream += frames.with_id(13, 0, frames.some("Q") + bytes(-len(stream) % 8))
+    return Case("%s_%s" % (name, order), order, LIMIT, config, True, bytes(head) + stream + last)
+
+
+def samples():
+    """SAMPLE under each flag alone, under several read formats and masks, and under many flags at once."""
+    found = []
+    for order in ["little", "big"]:
+        big = order == "big"
+
+        def add(name, size, config, make, last=b""):
+            found.append(sample_case("sample_" + name, order, size, config, make, last))
+
+        def three(frames):
+            return [frames.whole(), frames.over(), frames.cut()]
+
+        # The flags of one number in one order each, TID and CPU in both.
+        for at, bit in enumerate(bit for bit in FLAGS if bit not in LISTS):
+            if bit in (1, 7) or at % 2 == big:
+                config = Config(1 << bit, at // 2 % 2 == 0, 0)
+                add("flag_%d" % bit, 64, config, lambda frames: [frames.over(), frames.cut()])
+        for read_format in [1, 0x10, 0x13, 8, 0x1F, 0x1A, 0x48] if big else [0, 4, 0x17, 8, 0x1F, 0x0C, 0x20]:
+            config = Config(of_flags(READ), False, read_format)
+            add("read_format_%d" % read_format, 64, config, lambda frames: frames.of_lists(READ))
+        asking = [(CALLCHAIN, {}), (RAW, {}), (STACK_USER, {}), (AUX, {}), (BRANCHES, {}), (BRANCHES, {"hw_index": 1})]
+        asking += [(REGS_USER, {"user": 0xB, "interrupt": 1}), (REGS_INTR, {"user": 7, "interrupt": 2**32 + 1})]
+        asking += [(REGS_USER, {"user": 2**63 + 2**31}) if big else (REGS_INTR, {"user": 1})]
+        for bit, more in asking:
+            name = "_".join(["flag_%d" % bit] + ["%s_%x" % pair for pair in more.items()])
+            config = Config(1 << bit, True, 0, **more)
+            add(name, 136 if big else 104, config, lambda frames, bit=bit: frames.of_lists(bit))
+
+        add("recorded", 112, Config(of_flags(0, 1, 2, 5, 7, 8, 16), True, 0x14), three)
+        add("numbers", 120, Config(of_flags(*(bit for bit in FLAGS if bit not in LISTS)), False, 0), three)
+        unfinished = Frames(order, Draw(3), PLAIN).frame(9, 0, b"\1" * 20, 29)
+        add("bits_above", 128, Config(of_flags(RAW, STACK_USER, AUX, 25, 39, 40, 63), True, 0), three, unfinished)
+        asked = {"hw_index": 1, "user": 0x31, "interrupt": 0x82}
+        for size in [80, 104] if big else [72, 96]:
+            config = Config(of_flags(BRANCHES, REGS_USER, REGS_INTR, 23), False, 0, **asked)
+            add("attribute_of_%d" % size, size, config, three)
+        add("all", 144, Config(of_flags(*FLAGS), True, 0x1F, **asked), three)
+        if big:
+            add("all_single", 136, Config(of_flags(*FLAGS), False, 0x17, **asked), three)
+            add("no_flags", 72, Config(0, True, 0x1F), three, Frames(order, Draw(3), PLAIN).frame(9, 0, b"", 7))
+        else:
+            add("ids", 64, Config(of_flags(6, 16), True, 0), three, bytes(7))
+    return found
+
+
 def words_of(case):
     return [case.order, str(case.limit)] + ["attr"] * case.attr
 
@@ -383,7 +549,7 @@ def said(program, case):
 def compare(program):
     """Prints each line on which the program and the page differ, also where the list leaves the frame out."""
     differ = collections.Counter()
-    for case in cases(everything=True) + reads() + attributes():
+    for case in cases(everything=True) + reads() + attributes() + samples():
         by_program, by_page = said(program, case), page.text(case.stream, *words_of(case))
         if by_program == by_page:
             continue
@@ -392,7 +558,8 @@ def compare(program):
                 type_ = one.split()[1]
                 group = type_ if int(type_) < 64 else "64 or more"
                 why = "type %s under ids of %d bytes" % (group, id_length(case.config))
-                if one.split()[1:4] != other.split()[1:4] or agreed(case.config, int(type_)):
+                expected = int(type_) not in APART and not agreed(case.config, int(type_))
+                if one.split()[1:4] != other.split()[1:4] or not expected:
                     why = "NOT EXPECTED"
                 differ[why] += 1
                 print("%s: %s\n    the program  %s\n    the page     %s" % (case.name, why, one, other))
@@ -449,27 +616,37 @@ class Tally:
         return "\n".join(rows + ["%d frames" % sum(self.frames.values())])
 
 
-def main(words):
-    if words and words[0] == "--page":
-        return compare(words[1:])
-    listed, tally, first, later, marked = cases() + reads() + attributes(), Tally(), [], [], 0
+def answers(words, listed):
+    """The blocks of the cases, by the program that the words name, and their tally. Without words nothing is run."""
+    blocks, tally, marked = [], Tally(), 0
     for case in listed:
         text, status = page.text(case.stream, *words_of(case))
-        if words != ["--streams"]:
+        if words:
             by_program = said(words, case)
             if by_program != (text, status):
                 sys.exit("%s: the program and docs/FORMATS.md differ; --page shows where" % case.name)
             text, status = by_program
-        alone = said(words[:1], case)[0] if words != ["--streams"] else text
         tally.add(text)
-        block = block_of(case, text, status, alone)
+        block = block_of(case, text, status, said(words[:1], case)[0] if words else text)
         marked += block.count("\n~ ")
-        (later if case.attr else first).append((case.name, block))
-    if words != ["--streams"]:
+        blocks.append((case.name, block))
+    print("%s, %d cases; at %d lines the original alone says something else" % (tally, len(listed), marked))
+    return blocks
+
+
+def main(words):
+    if words and words[0] == "--page":
+        return compare(words[1:])
+    words = [] if words == ["--streams"] else words
+    listed = cases() + reads() + attributes()
+    blocks, of_samples = answers(words, listed), answers(words, samples())
+    if words:
+        first = [block for case, block in zip(listed, blocks) if not case.attr]
+        later = [block for case, block in zip(listed, blocks) if case.attr]
         about = "Answers for streams without an attribute, of the types that were read first."
         source(SOURCES, "answers_first.rt", about, first)
         source(SOURCES, "answers.rt", "Answers for streams that begin with an attribute.", later)
-    print("%s, %d cases; at %d lines the original alone says something else" % (tally, len(listed), marked))
+        source(SOURCES, "answers_samples.rt", "Answers for samples, each with a record behind it.", of_samples)
 
 
 if __name__ == "__main__":

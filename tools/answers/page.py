@@ -1,7 +1,6 @@
-"""The text of a run as docs/FORMATS.md has it, written from that page and from no program.
+"""The text of a run as docs/FORMATS.md has it, written from that page and from no program."""
 
-SAMPLE isn't here: a list that holds it has to add it.
-"""
+import collections
 
 
 class Refused(Exception):
@@ -89,21 +88,126 @@ def words_of_field(name, kind, misc, read_format, reader):
     return ["old_bytes=" + run[:old].hex(), "new_bytes=" + run[old : old + new].hex()]
 
 
-def answer(type_, misc, read_format, body, order):
+# What an attribute says of the frames behind it; without one everything is 0.
+Asked = collections.namedtuple("Asked", "id_length read_format sample_type hw_index user interrupt")
+
+# The flags of a sample, by the names of their fields, and the fields that are one number of eight bytes.
+FLAGS = "ip tid time addr values callchain id cpu period stream_id raw lbr regs_user stack_user weight data_src"
+FLAGS += " identifier transaction regs_intr phys_addr aux cgroup data_page_size code_page_size weight_struct"
+BYTES = "identifier ip tid time addr id stream_id cpu period values callchain raw lbr regs_user stack_user weight"
+BYTES += " data_src transaction regs_intr phys_addr cgroup data_page_size code_page_size aux"
+LINE = "ip pid tid time addr id stream_id cpu period time_enabled time_running values callchain raw lbr_hw_index lbr"
+LINE += " regs_user_abi regs_user stack_user weight data_src transaction regs_intr_abi regs_intr phys_addr aux cgroup"
+LINE += " data_page_size code_page_size"
+
+
+class SampleReader(Reader):
+    """Reads the fields of a sample that aren't one number; each answers the words of its line by their names."""
+
+    def __init__(self, data, order, asked):
+        super().__init__(data, order)
+        self.asked = asked
+
+    def numbers(self, count):
+        if count > len(self.left) // 8:
+            raise Refused("Eof")
+        return [self.number(8) for _ in range(count)]
+
+    def tid(self):
+        return {"pid": self.number(4), "tid": self.number(4)}
+
+    def cpu(self):
+        return {"cpu": self.number(4), "": self.number(4)}
+
+    def values(self):
+        read_format = self.asked.read_format
+        if read_format >> KNOWN_BITS:
+            raise Refused("UnsupportedConfig")
+        entry = 1 + (read_format >> 2 & 1) + (read_format >> 4 & 1)
+        grouped = read_format >> GROUP & 1
+        first = self.number(8)
+        times = {part: self.number(8) for part, bit in SINGLE_READ[1:3] if read_format >> bit & 1}
+        if not grouped:
+            items = [[first] + self.numbers(entry - 1)]
+        elif first * entry >= 2**64:
+            raise Refused("InvalidRecord")
+        else:
+            run = self.numbers(first * entry)
+            items = [run[at : at + entry] for at in range(0, len(run), entry)]
+        return times | {"values": ",".join(":".join(map(str, item)) for item in items)}
+
+    def callchain(self):
+        return {"callchain": ",".join(map(str, self.numbers(self.number(8))))}
+
+    def raw(self):
+        length = self.number(4)
+        bytes_ = self.take(length)
+        self.take(-(4 + length) % 8)
+        return {"raw": bytes_.hex()}
+
+    def lbr(self):
+        count, said = self.number(8), {}
+        if self.asked.hw_index:
+            said["lbr_hw_index"] = self.number(8)
+        run, items = self.numbers(3 * count), []
+        for at in range(0, len(run), 3):
+            word = run[at + 2]
+            bits = [word >> bit & 1 for bit in range(4)] + [word >> 4 & 0xFFFF, word >> 20 & 15]
+            items.append(":".join(map(str, run[at : at + 2] + bits)))
+        return said | {"lbr": ",".join(items)}
+
+    def registers(self, name, mask):
+        abi = self.number(8)
+        values = self.numbers(bin(mask).count("1") if abi else 0)
+        return {name + "_abi": abi, name: ",".join(map(str, values))}
+
+    def regs_user(self):
+        return self.registers("regs_user", self.asked.user)
+
+    def regs_intr(self):
+        return self.registers("regs_intr", self.asked.interrupt)
+
+    def stack_user(self):
+        size = self.number(8)
+        bytes_ = self.take(size)
+        used = self.number(8) if size else 0
+        if used > size:
+            raise Refused("InvalidRecord")
+        return {"stack_user": bytes_[:used].hex()}
+
+    def aux(self):
+        return {"aux": self.take(self.number(8)).hex()}
+
+
+def sample(asked, body, order):
+    reader, said = SampleReader(body, order, asked), {}
+    there = {name for bit, name in enumerate(FLAGS.split()) if asked.sample_type >> bit & 1}
+    if "weight_struct" in there:
+        there.add("weight")
+    for name in BYTES.split():
+        if name in there:
+            more = getattr(reader, name, None)
+            said |= more() if more else {name: reader.number(8)}
+    said.setdefault("id", said.get("identifier"))
+    words = ["%s=%s" % (name, said[name]) for name in LINE.split() if said.get(name) is not None]
+    return " ".join(["Sample"] + words)
+
+
+def answer(type_, misc, asked, body, order):
     reader = Reader(body, order)
     if type_ == 9:
-        return "not on this page yet"
+        return sample(asked, body, order)
     if type_ not in FIELDS:
         return "Unknown data=" + body.hex()
     record, fields = FIELDS[type_]
     words = [record]
     for field in fields.split():
-        words += words_of_field(*field.split(":"), misc, read_format, reader)
+        words += words_of_field(*field.split(":"), misc, asked.read_format, reader)
     return " ".join(words)
 
 
 def attribute(reader):
-    """The length of a sample id and the read format, under the attribute that the reader begins with."""
+    """What the attribute says that the reader begins with."""
     reader.number(4)
     size = reader.number(4)
     if size not in (64, 72, 80, 96, 104, 112, 120, 128, 136) and size <= 136:
@@ -111,19 +215,21 @@ def attribute(reader):
     rest = reader.take(size - 8)
     if any(rest[128:]):
         raise Refused("UnsupportedData")
-    fields = Reader(rest, reader.order)
+    # Fields beyond the size are 0; two of 4 bytes before config1, and two behind the mask of user registers.
+    fields = Reader(rest + bytes(128), reader.order)
     _, _, sample_type, read_format, flags = [fields.number(8) for _ in range(5)]
-    if flags >> 18 & 1 == 0:
-        return 0, read_format
-    return 8 * sum(sample_type >> bit & 1 for bit in (1, 2, 6, 7, 9, 16)), read_format
+    fields.take(8 + 8 + 8)
+    branch_sample_type, user, _, interrupt = [fields.number(8) for _ in range(4)]
+    id_length = 8 * sum(sample_type >> bit & 1 for bit in (1, 2, 6, 7, 9, 16)) if flags >> 18 & 1 else 0
+    return Asked(id_length, read_format, sample_type, branch_sample_type >> 17 & 1, user, interrupt)
 
 
 def text(stream, order, limit, attr=None):
     """The text of a run, and the program's status."""
-    reader, lines, id_length, read_format = Reader(stream, order), [], 0, 0
+    reader, lines, asked = Reader(stream, order), [], Asked(0, 0, 0, 0, 0, 0)
     if attr:
         try:
-            id_length, read_format = attribute(reader)
+            asked = attribute(reader)
         except Refused as refused:
             return "attr refused %s\n" % refused, 2
     end = "limit"
@@ -139,10 +245,10 @@ def text(stream, order, limit, attr=None):
                 reader.rest()
                 raise Refused("Eof")
             body = reader.take(size - 8)
-            own_id = 0 if type_ == 9 or type_ >= 64 else id_length
+            own_id = 0 if type_ == 9 or type_ >= 64 else asked.id_length
             if own_id > len(body):
                 raise Refused("InvalidRecord")
-            said = answer(type_, misc, read_format, body[: len(body) - own_id], order)
+            said = answer(type_, misc, asked, body[: len(body) - own_id], order)
         except Refused as refused:
             said = "refused %s" % refused
         lines.append("%d %d %d %d %s" % (len(lines), type_, misc, size, said))

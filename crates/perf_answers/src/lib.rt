@@ -8,6 +8,8 @@ mod answers;
 #[cfg(test)]
 mod answers_first;
 #[cfg(test)]
+mod answers_samples;
+#[cfg(test)]
 mod checks;
 #[cfg(test)]
 mod failing;

@@ -2,7 +2,7 @@
 
 ghost use Rattle.std.specs.Prelude.{◌<◌};
 
-use crate::{answers, answers_first};
+use crate::{answers, answers_first, answers_samples};
 use perf_event_data::endian::{Big, Endian, Little, Native};
 use perf_lines::command::{Command, OrderName};
 use perf_lines::run::run;
@@ -130,4 +130,9 @@ fn streams_without_an_attribute_are_answered_as_by_the_original(
 #[test]
 fn streams_with_an_attribute_are_answered_as_by_the_original(rt: HostRuntime) -> Result<(), Fail> {
     replay_all(&rt, &answers::cases())
+}
+
+#[test]
+fn samples_are_answered_as_by_the_original(rt: HostRuntime) -> Result<(), Fail> {
+    replay_all(&rt, &answers_samples::cases())
 }
