@@ -10,8 +10,8 @@
 //! was not refused, and of what its record has: of MMAP and MMAP2 `pid`, `tid`, `addr`, `len`,
 //! `pgoff` and the length of the file's name; of COMM `pid`, `tid` and the length of the name; of
 //! EXIT and FORK `pid`, `ppid`, `tid`, `ptid` and `time`; of LOST `id` and `lost`; of LOST_SAMPLES
-//! `lost`. Other records add nothing of their own, nor does SAMPLE, which is read as a record of
-//! unknown type.
+//! `lost`; of SAMPLE, as far as they are there, `ip`, `pid`, `tid`, `time`, `period`, the numbers of
+//! the call chain and the length of the raw bytes. Other records add nothing of their own.
 //!
 //! The exit status is 0 where no frame was refused and the input ended behind one, and else 1. Why
 //! the attribute was refused, or what kept the input from being read to its end, goes to standard

@@ -65,6 +65,24 @@ fn batches_add_up(rt: HostRuntime) {
     check(&rt, Little, false, input, want);
 }
 
+// An attribute of 64 bytes: `sample_type` is IP and CALLCHAIN (33). The sample was at 7, and its
+// call chain has 10 and 20: it adds 9 + 40 + 7 + 10 + 20 = 86.
+#[test]
+fn a_sample_adds_its_numbers(rt: HostRuntime) {
+    let input: &[u8] = &[
+        0, 0, 0, 0, 64, 0, 0, 0, 0, 0, 0, 0, 0, 0, 0, 0, 0, 0, 0, 0, 0, 0, 0, 0, 33, 0, 0, 0, 0, 0,
+        0, 0, 0, 0, 0, 0, 0, 0, 0, 0, 0, 0, 0, 0, 0, 0, 0, 0, 0, 0, 0, 0, 0, 0, 0, 0, 0, 0, 0, 0,
+        0, 0, 0, 0, 9, 0, 0, 0, 0, 0, 40, 0, 7, 0, 0, 0, 0, 0, 0, 0, 2, 0, 0, 0, 0, 0, 0, 0, 10, 0,
+        0, 0, 0, 0, 0, 0, 20, 0, 0, 0, 0, 0, 0, 0,
+    ];
+    let want = Counts {
+        records: 1,
+        refused: 0,
+        checksum: 86,
+    };
+    check(&rt, Little, true, input, want);
+}
+
 // An attribute of 64 bytes: `sample_type` is TIME (4) and `sample_id_all` is set (bit 18 of the
 // flags). So the last eight bytes of the COMM are its sample id, and its name is `sh`: it adds 3 +
 // 32 + 5 + 6 + 2 = 48.
