@@ -1,5 +1,6 @@
 pub mod Metadata
 pub mod Records
+pub mod RecordForms
 pub mod RecordTypes
 pub mod Bodies
 pub mod Frames

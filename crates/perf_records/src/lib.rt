@@ -5,4 +5,5 @@ pub mod body;
 pub mod frame;
 pub mod metadata;
 pub mod record;
+mod record_clone;
 pub mod record_type;

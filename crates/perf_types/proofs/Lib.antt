@@ -2,6 +2,7 @@ pub mod Blocks
 pub mod BranchLists
 pub mod Entries
 pub mod Flags
+pub mod Forms
 mod Lacking
 pub mod Nth
 mod Origins

@@ -23,6 +23,7 @@ pub mod ReadGroup
 pub mod ReadValue
 pub mod Registers
 pub mod Sample
+pub mod SampleForms
 pub mod SampleGetters
 pub mod SampleGroups
 pub mod SampleParts

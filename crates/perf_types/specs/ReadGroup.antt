@@ -4,7 +4,7 @@ use Rattle.std.specs.Prelude.{ℕ, ◌*◌, ◌/◌, ◌^◌, nat_lt, Bool, true
 use Rattle.std.specs.Prelude.{Option, Some, None, is_some, unwrap_or}
 use Rattle.std.specs.Bool.{then_some}
 use Rattle.perf_base.specs.Configuration.{Configuration}
-use Rattle.perf_base.specs.Cow.{cow_items, is_borrowed}
+use Rattle.perf_base.specs.Cow.{cow_items, is_borrowed, cow_form}
 use Rattle.perf_base.specs.Layout.{Parts, done, ◌>>=◌, ◌>>◌}
 use Rattle.perf_base.specs.FieldWords.{u64, u64_if, numbers, require}
 use Rattle.perf_base.specs.declared.error.ErrorKind.TheVariants as kind
@@ -54,6 +54,10 @@ group_with read_format time_enabled time_running words = record {
 -- no number of it was copied
 abbrev pub is_borrowed_group : ReadGroup → Bool
 is_borrowed_group g = is_borrowed g.words
+
+-- whether its numbers are borrowed
+abbrev pub read_group_form : ReadGroup → List Bool
+read_group_form g = cow_form g.words
 
 -- ---- single reads and groups
 

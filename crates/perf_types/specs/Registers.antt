@@ -1,7 +1,7 @@
 -- The registers of a task in a SAMPLE, `struct { u64 abi; u64 regs[weight(mask)]; }` of
 -- perf_event_open(2).
-use Rattle.std.specs.Prelude.{ℕ, zero, suc, List, count_ones}
-use Rattle.perf_base.specs.Cow.{cow_items}
+use Rattle.std.specs.Prelude.{ℕ, zero, suc, Bool, List, count_ones}
+use Rattle.perf_base.specs.Cow.{cow_items, cow_form}
 use Rattle.perf_base.specs.FieldWords.{u64, numbers}
 use Rattle.perf_base.specs.Layout.{Parts, done, ◌>>=◌}
 use Rattle.perf_types.specs.declared.registers.Registers.{Registers}
@@ -15,6 +15,10 @@ pub record RegistersValue : Type 0 where
 -- the value of registers of the code, wherever their numbers lie
 abbrev pub registers_value : Registers → RegistersValue
 registers_value r = record { abi = r.abi; mask = r.mask; regs = cow_items r.regs }
+
+-- whether their numbers are borrowed
+abbrev pub registers_form : Registers → List Bool
+registers_form r = cow_form r.regs
 
 -- How many registers there are: one for each bit of the mask, but none where the kind of task says
 -- that there are none.

@@ -26,6 +26,7 @@ pub mod read_group;
 pub mod read_value;
 pub mod registers;
 pub mod sample;
+mod sample_clone;
 mod sample_field;
 pub mod sample_fields;
 mod sample_groups;

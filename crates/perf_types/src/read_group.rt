@@ -35,8 +35,9 @@ pub struct ReadGroup<'a> {
 impl<'a> ReadGroup<'a> {
     ghost use Rattle.std.specs.Prelude.{IsTrue, IsOk, IfOk, IfErr, IsNone, ◌↔◌, slice_get, [], not};
     ghost use Rattle.perf_types.specs.ReadGroup.{group_read, group_with, group_of};
-    ghost use Rattle.perf_types.specs.ReadGroup.{is_borrowed_group};
+    ghost use Rattle.perf_types.specs.ReadGroup.{is_borrowed_group, read_group_form};
     ghost use Rattle.perf_types.specs.Words.{is_borrowed, kind_of, element_len, read_format_bits};
+    ghost use Rattle.perf_types.specs.Words.{IsClone, IsOwnedCopy};
     ghost use Rattle.perf_types.specs.Words.{single_read, entry_with_id, entries_left};
 
     /// The group of these numbers: times, of which one whose flag the read format lacks is not
@@ -181,12 +182,25 @@ impl<'a> ReadGroup<'a> {
 
     /// The same group. It takes no memory where its numbers are borrowed.
     pub fn clone(&self, alloc: Global) -> ParseResult<ReadGroup<'a>>
-        ensures same { IfOk result (λ copy. group_read copy ≡ group_read self.now) }
-        ensures form { IfOk result (λ copy. is_borrowed_group copy ≡ is_borrowed_group self.now) }
-        ensures refused { IfErr result (λ e. kind_of e ≡ ErrorKind.OutOfMemory) }
-        ensures no_memory { IsTrue (is_borrowed_group self.now) → IsOk result }
+        ensures { IsClone group_read read_group_form self.now result }
     {
         let words = self.words.clone(alloc)?;
+        Ok(ReadGroup {
+            time_enabled: self.time_enabled,
+            time_running: self.time_running,
+            with_id: self.with_id,
+            with_lost: self.with_lost,
+            words,
+        })
+    }
+
+    /// The same group with its numbers in memory of its own, so that it lasts as long as one likes.
+    /// It takes no memory where it owns them already. Where it is refused, `OutOfMemory`, the group
+    /// is given up.
+    pub fn into_owned<'b>(self, alloc: Global) -> ParseResult<ReadGroup<'b>>
+        ensures { IsOwnedCopy group_read read_group_form self.entry result }
+    {
+        let words = self.words.into_owned(alloc)?;
         Ok(ReadGroup {
             time_enabled: self.time_enabled,
             time_running: self.time_running,

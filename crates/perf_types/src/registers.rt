@@ -6,10 +6,12 @@ ghost use Rattle.perf_types.specs.Registers as shown;
 use crate::numbers::read_numbers;
 use perf_base::cow::CowSlice;
 use perf_base::endian::Endian;
+use perf_base::error::ParseResult;
 use perf_base::refusal::ReadResult;
 use perf_buffers::input::Input;
 use perf_reader::reader::Reader;
 use perf_words::SampleRegsAbi;
+use std::alloc::Global;
 
 /// The registers of a task when an event happened, those of its own code (`PERF_SAMPLE_REGS_USER`)
 /// or those that the processor had at the interrupt (`PERF_SAMPLE_REGS_INTR`).
@@ -28,8 +30,8 @@ pub struct Registers<'a> {
 }
 
 impl<'p> Registers<'p> {
-    ghost use Rattle.perf_types.specs.Registers.{registers_of, registers_value};
-    ghost use Rattle.perf_types.specs.Words.{Call, Reads, kinds};
+    ghost use Rattle.perf_types.specs.Registers.{registers_of, registers_value, registers_form};
+    ghost use Rattle.perf_types.specs.Words.{Call, Reads, kinds, IsClone};
 
     /// Reads registers of a mask.
     #[inline]
@@ -48,6 +50,17 @@ impl<'p> Registers<'p> {
             abi: SampleRegsAbi::new(abi),
             mask,
             regs: CowSlice::Owned(regs),
+        })
+    }
+
+    /// The same registers. They take no memory where their numbers are borrowed.
+    pub fn clone(&self, alloc: Global) -> ParseResult<Registers<'p>>
+        ensures { IsClone registers_value registers_form self.now result }
+    {
+        Ok(Registers {
+            abi: self.abi,
+            mask: self.mask,
+            regs: self.regs.clone(alloc)?,
         })
     }
 }

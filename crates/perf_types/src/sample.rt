@@ -16,11 +16,13 @@ use crate::sample_made::{
 };
 use crate::sample_parts::Branches;
 use perf_base::endian::Endian;
+use perf_base::error::ParseResult;
 use perf_base::refusal::ReadResult;
 use perf_buffers::input::Input;
 use perf_reader::read::{Meant, ReadFrom};
 use perf_reader::reader::Reader;
 use perf_words::{BranchEntry, DataSource, Txn};
+use std::alloc::Global;
 
 /// An event happened, and this was true then (`PERF_RECORD_SAMPLE`). A field is there where the
 /// sample type has its flag.
@@ -359,6 +361,24 @@ impl<'a> Sample<'a> {
             (shown.getters_of (shown.sample_value self.now)).code_page_size }
     {
         self.memory.code_page_size
+    }
+
+    /// The same sample. It takes no memory where no list of it is owned.
+    #[tactic(auto, using(crate::proofs::Forms::parts_of_a_form))]
+    pub fn clone(&self, alloc: Global) -> ParseResult<Sample<'a>>
+        ensures { shown.IsClone shown.sample_value shown.sample_form self.now result }
+    {
+        let memory = self.memory.clone(alloc)?;
+        let costs = self.costs.clone(alloc)?;
+        let state = self.state.clone(alloc)?;
+        let counts = self.counts.clone(alloc)?;
+        Ok(Sample {
+            moment: self.moment.copied(),
+            counts,
+            state,
+            costs,
+            memory,
+        })
     }
 }
 

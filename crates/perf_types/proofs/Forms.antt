@@ -1,0 +1,13 @@
+-- Lists that are all borrowed, or all owned: those in front and those behind.
+use Rattle.std.proofs.Common.{Bool, List, [], ◌∷◌, ◌++◌}
+use Rattle.perf_base.specs.Copies.{AllAre}
+
+pub all_front : (borrowed : Bool) (xs ys : List Bool) → AllAre borrowed (xs ++ ys) → AllAre borrowed xs
+all_front borrowed [] ys all = tt
+all_front borrowed (x ∷ xs) ys (one, more) = (one, all_front borrowed xs ys more)
+
+pub all_back : (borrowed : Bool) (xs ys : List Bool) → AllAre borrowed (xs ++ ys) → AllAre borrowed ys
+all_back borrowed [] ys all = all
+all_back borrowed (x ∷ xs) ys (one, more) = all_back borrowed xs ys more
+
+pub ruleset parts_of_a_form = (all_front, all_back)
