@@ -200,13 +200,19 @@ impl<'a> ReadGroup<'a> {
     pub fn into_owned<'b>(self, alloc: Global) -> ParseResult<ReadGroup<'b>>
         ensures { IsOwnedCopy group_read read_group_form self.entry result }
     {
-        let words = self.words.into_owned(alloc)?;
-        Ok(ReadGroup {
-            time_enabled: self.time_enabled,
-            time_running: self.time_running,
-            with_id: self.with_id,
-            with_lost: self.with_lost,
+        let ReadGroup {
+            time_enabled,
+            time_running,
+            with_id,
+            with_lost,
             words,
+        } = self;
+        Ok(ReadGroup {
+            time_enabled,
+            time_running,
+            with_id,
+            with_lost,
+            words: words.into_owned(alloc)?,
         })
     }
 }

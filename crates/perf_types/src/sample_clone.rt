@@ -9,13 +9,11 @@ ghost use Rattle.perf_types.specs.SampleGroups as groups;
 ghost use Rattle.perf_types.specs.SampleParts as parts;
 ghost use Rattle.perf_types.specs.ReadGroup.{group_read, read_group_form};
 ghost use Rattle.perf_types.specs.Registers.{registers_value, registers_form};
-ghost use Rattle.perf_types.specs.SampleGetters.{fields_getters};
 ghost use Rattle.perf_types.specs.Words.{IsClone, cow_items};
 ghost use Rattle.perf_base.specs.Cow.{cow_form};
 
 use crate::read_group::ReadGroup;
 use crate::registers::Registers;
-use crate::sample_fields::SampleFields;
 use crate::sample_groups::{Costs, Counts, Memory, Moment, State};
 use crate::sample_parts::{
     AuxBytes, Branches, CallChain, InterruptRegisters, RawData, Stack, UserRegisters,
@@ -131,7 +129,7 @@ fn clone_field_if<T: CloneField>(field: &Option<T>, alloc: Global) -> ParseResul
 }
 
 // A list where it is there.
-fn clone_list<'a, T: Copy>(
+pub(crate) fn clone_list<'a, T: Copy>(
     list: &Option<CowSlice<'a, T>>,
     alloc: Global,
 ) -> ParseResult<Option<CowSlice<'a, T>>>
@@ -144,7 +142,7 @@ fn clone_list<'a, T: Copy>(
 }
 
 // A read of counters where it is there.
-fn clone_group<'a>(
+pub(crate) fn clone_group<'a>(
     group: &Option<ReadGroup<'a>>,
     alloc: Global,
 ) -> ParseResult<Option<ReadGroup<'a>>>
@@ -157,7 +155,7 @@ fn clone_group<'a>(
 }
 
 // Registers where they are there.
-fn clone_registers<'a>(
+pub(crate) fn clone_registers<'a>(
     registers: &Option<Registers<'a>>,
     alloc: Global,
 ) -> ParseResult<Option<Registers<'a>>>
@@ -247,49 +245,6 @@ impl<'a> Memory<'a> {
             data_page_size: self.data_page_size,
             code_page_size: self.code_page_size,
             aux,
-        })
-    }
-}
-
-impl<'a> SampleFields<'a> {
-    /// The same fields. They take no memory where no list of them is owned.
-    pub fn clone(&self, alloc: Global) -> ParseResult<SampleFields<'a>>
-        ensures { IsClone fields_getters forms.fields_form self.now result }
-    {
-        let values = clone_group(&self.values, alloc)?;
-        let callchain = clone_list(&self.callchain, alloc)?;
-        let raw = clone_list(&self.raw, alloc)?;
-        let lbr = clone_list(&self.lbr, alloc)?;
-        let regs_user = clone_registers(&self.regs_user, alloc)?;
-        let stack_user = clone_list(&self.stack_user, alloc)?;
-        let regs_intr = clone_registers(&self.regs_intr, alloc)?;
-        let aux = clone_list(&self.aux, alloc)?;
-        Ok(SampleFields {
-            ip: self.ip,
-            pid: self.pid,
-            tid: self.tid,
-            time: self.time,
-            addr: self.addr,
-            id: self.id,
-            stream_id: self.stream_id,
-            cpu: self.cpu,
-            period: self.period,
-            values,
-            callchain,
-            raw,
-            lbr_hw_index: self.lbr_hw_index,
-            lbr,
-            regs_user,
-            stack_user,
-            weight: self.weight,
-            data_src: self.data_src,
-            transaction: self.transaction,
-            regs_intr,
-            phys_addr: self.phys_addr,
-            aux,
-            cgroup: self.cgroup,
-            data_page_size: self.data_page_size,
-            code_page_size: self.code_page_size,
         })
     }
 }

@@ -1,12 +1,17 @@
 //! The fields of a sample by their names.
 
 ghost use Rattle.std.specs.Prelude.{◌≡◌};
+ghost use Rattle.perf_base.specs.Copies.{IsClone};
+ghost use Rattle.perf_types.specs.SampleForms.{fields_form};
 ghost use Rattle.perf_types.specs.SampleGetters.{fields_getters, no_getters};
 
 use crate::read_group::ReadGroup;
 use crate::registers::Registers;
+use crate::sample_clone::{clone_group, clone_list, clone_registers};
 use perf_base::cow::CowSlice;
+use perf_base::error::ParseResult;
 use perf_words::{BranchEntry, DataSource, Txn};
+use std::alloc::Global;
 
 /// What a sample says, field by field, for a sample that is made and not read
 /// ([`Sample::from_fields`](crate::sample::Sample::from_fields)).
@@ -63,6 +68,50 @@ pub struct SampleFields<'a> {
     pub data_page_size: Option<u64>,
     /// How many bytes the page of `ip` has.
     pub code_page_size: Option<u64>,
+}
+
+impl<'a> SampleFields<'a> {
+    /// The same fields. They take no memory where no list of them is owned.
+    #[tactic(auto, using(crate::proofs::Forms::parts_of_a_form))]
+    pub fn clone(&self, alloc: Global) -> ParseResult<SampleFields<'a>>
+        ensures { IsClone fields_getters fields_form self.now result }
+    {
+        let values = clone_group(&self.values, alloc)?;
+        let callchain = clone_list(&self.callchain, alloc)?;
+        let raw = clone_list(&self.raw, alloc)?;
+        let lbr = clone_list(&self.lbr, alloc)?;
+        let regs_user = clone_registers(&self.regs_user, alloc)?;
+        let stack_user = clone_list(&self.stack_user, alloc)?;
+        let regs_intr = clone_registers(&self.regs_intr, alloc)?;
+        let aux = clone_list(&self.aux, alloc)?;
+        Ok(SampleFields {
+            ip: self.ip,
+            pid: self.pid,
+            tid: self.tid,
+            time: self.time,
+            addr: self.addr,
+            id: self.id,
+            stream_id: self.stream_id,
+            cpu: self.cpu,
+            period: self.period,
+            values,
+            callchain,
+            raw,
+            lbr_hw_index: self.lbr_hw_index,
+            lbr,
+            regs_user,
+            stack_user,
+            weight: self.weight,
+            data_src: self.data_src,
+            transaction: self.transaction,
+            regs_intr,
+            phys_addr: self.phys_addr,
+            aux,
+            cgroup: self.cgroup,
+            data_page_size: self.data_page_size,
+            code_page_size: self.code_page_size,
+        })
+    }
 }
 
 /// No field is there.
