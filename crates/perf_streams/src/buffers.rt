@@ -5,19 +5,41 @@ use crate::told::{Tell, tell_error, tell_lent};
 use perf_event_data::endian::{Endian, Little, Native};
 use perf_event_data::parse::{ParseBuf, ParseConfig, Parser};
 use perf_event_data::sys::perf_event_attr;
-use perf_event_data::{PieceBuf, Run, RunEnd, read_records};
+use perf_event_data::{PieceBuf, Record, Run, RunEnd, read_records};
 use std::alloc::{AllocError, Global};
 use std::io::BufReader;
 use std::process::Abort;
 use std::test::Fail;
 
+// Writes what a record says, and where its clone says something else, that too.
+fn tell_with_clone(
+    alloc: Global,
+    text: &mut String,
+    record: &Record<'_>,
+) -> Result<(), AllocError> {
+    let mut told = String::new(alloc);
+    record.tell(&mut told)?;
+    text.push_str(told.as_str())?;
+    match record.clone(alloc) {
+        Ok(copy) => {
+            let mut again = String::new(alloc);
+            copy.tell(&mut again)?;
+            if again != told {
+                write!(text, " and not {again}")?;
+            }
+            Ok(())
+        }
+        Err(error) => tell_error(text, &error),
+    }
+}
+
 // Writes each frame of a run as `type misc size answer; `, and then how the run ended.
-fn tell_run(text: &mut String, run: &Run<'_>) -> Result<(), AllocError> {
+fn tell_run(alloc: Global, text: &mut String, run: &Run<'_>) -> Result<(), AllocError> {
     for (header, answer) in run.frames.iter() {
         header.tell(text)?;
         text.push_str(" ")?;
         match answer {
-            Ok(record) => record.tell(text)?,
+            Ok(record) => tell_with_clone(alloc, text, record)?,
             Err(error) => tell_error(text, error)?,
         }
         text.push_str("; ")?;
@@ -59,7 +81,7 @@ pub fn tell_under<'p, B: ParseBuf<'p> + Drop, E: Endian>(
         if !text.is_empty() {
             text.push_str(" | ")?;
         }
-        tell_run(&mut text, &run)?;
+        tell_run(alloc, &mut text, &run)?;
     }
     Ok(text)
 }

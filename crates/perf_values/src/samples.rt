@@ -2,13 +2,14 @@
 
 use bitflags::Flags;
 use perf_base::cow::CowSlice;
+use perf_base::error::ParseResult;
 use perf_types::read_group::ReadGroup;
 use perf_types::registers::Registers;
 use perf_types::sample::Sample;
 use perf_types::sample_fields::SampleFields;
 use perf_types::sample_id::SampleId;
 use perf_words::{BranchEntry, DataSource, ReadFormat, SampleRegsAbi, Txn};
-use std::alloc::AllocError;
+use std::alloc::{AllocError, Global};
 use std::fmt::Debug;
 use std::process::Abort;
 
@@ -172,7 +173,25 @@ fn every_field(branches: &[BranchEntry]) -> SampleFields<'_> {
 
 const NO_LISTS: &str = "None, None, None, None, None, None, None, None";
 
-// Asserts what a sample of these fields answers.
+// Asserts what a sample answers.
+fn check_answers(
+    rt: &(impl AllocGlobal + Abort),
+    sample: &Sample<'_>,
+    origin: [Option<u64>; 9],
+    numbers: [Option<u64>; 8],
+    lists: &str,
+) {
+    check_same(rt, "origin", origin_of(sample), origin);
+    check_same(rt, "numbers", numbers_of(sample), numbers);
+    check_lists(rt, sample, lists);
+}
+
+// A sample of a clone of these fields.
+fn sample_of_a_clone<'a>(alloc: Global, fields: &SampleFields<'a>) -> ParseResult<Sample<'a>> {
+    Ok(Sample::from_fields(fields.clone(alloc)?))
+}
+
+// Asserts what a sample of these fields answers, the same of a clone of them, and its clone.
 fn check_sample(
     rt: &(impl AllocGlobal + Abort),
     fields: SampleFields<'_>,
@@ -180,10 +199,15 @@ fn check_sample(
     numbers: [Option<u64>; 8],
     lists: &str,
 ) {
+    let cloned = sample_of_a_clone(rt.alloc(), &fields);
     let sample = Sample::from_fields(fields);
-    check_same(rt, "origin", origin_of(&sample), origin);
-    check_same(rt, "numbers", numbers_of(&sample), numbers);
-    check_lists(rt, &sample, lists);
+    check_answers(rt, &sample, origin, numbers, lists);
+    for copy in [cloned, sample.clone(rt.alloc())] {
+        match copy {
+            Ok(copy) => check_answers(rt, &copy, origin, numbers, lists),
+            Err(_) => panic!(rt; "no memory"),
+        }
+    }
 }
 
 // Asserts what a sample id says that is made of a sample.
@@ -194,33 +218,90 @@ fn check_id(rt: &impl Abort, id: SampleId) {
     check_same(rt, "event", event, (Some(104), Some(106), Some(107)));
 }
 
+// The origin, the numbers and the lists of a sample of every field.
+const ORIGIN: [Option<u64>; 9] = [
+    Some(101),
+    Some(102),
+    Some(103),
+    Some(104),
+    Some(105),
+    Some(106),
+    Some(107),
+    Some(108),
+    Some(109),
+];
+
+const NUMBERS: [Option<u64>; 8] = [
+    Some(114),
+    Some(122),
+    Some(123),
+    Some(124),
+    Some(127),
+    Some(131),
+    Some(132),
+    Some(133),
+];
+
+const LISTS: &str = "110 of 1, Some([111, 112]), Some([113]), 115 116 117 of 1, 2 5 [118, 119], \
+    Some([120, 121]), 2 5 [125, 126], Some([128, 129, 130])";
+
 #[test]
 fn a_sample_answers_each_of_its_fields(rt: HostRuntime) {
-    let origin = [
-        Some(101),
-        Some(102),
-        Some(103),
-        Some(104),
-        Some(105),
-        Some(106),
-        Some(107),
-        Some(108),
-        Some(109),
-    ];
-    let numbers = [
-        Some(114),
-        Some(122),
-        Some(123),
-        Some(124),
-        Some(127),
-        Some(131),
-        Some(132),
-        Some(133),
-    ];
-    let lists = "110 of 1, Some([111, 112]), Some([113]), 115 116 117 of 1, 2 5 [118, 119], \
-        Some([120, 121]), 2 5 [125, 126], Some([128, 129, 130])";
     let branches = [branch()];
-    check_sample(&rt, every_field(&branches), origin, numbers, lists);
+    check_sample(&rt, every_field(&branches), ORIGIN, NUMBERS, LISTS);
+}
+
+// The same list in memory of its own.
+fn owned<'a, T: Copy>(
+    alloc: Global,
+    list: Option<CowSlice<'a, T>>,
+) -> ParseResult<Option<CowSlice<'a, T>>> {
+    match list {
+        Some(list) => Ok(Some(list.into_owned(alloc)?)),
+        None => Ok(None),
+    }
+}
+
+// Registers 0 and 2 of a task of 64 bits, with these values in memory of their own.
+fn owned_registers(alloc: Global, values: &[u64]) -> ParseResult<Option<Registers<'_>>> {
+    Ok(Some(Registers {
+        abi: SampleRegsAbi::ABI_64,
+        mask: 5,
+        regs: CowSlice::Borrowed(values).into_owned(alloc)?,
+    }))
+}
+
+// Every field, with its lists in memory of their own.
+fn every_field_owned(alloc: Global, branches: &[BranchEntry]) -> ParseResult<SampleFields<'_>> {
+    let words = CowSlice::Borrowed(&[110]);
+    let group = ReadGroup::from_parts(ReadFormat::GROUP, 0, 0, words).into_owned(alloc)?;
+    let callchain = owned(alloc, Some(CowSlice::Borrowed(&[111, 112])))?;
+    let raw = owned(alloc, Some(CowSlice::Borrowed(&[113])))?;
+    let lbr = owned(alloc, Some(CowSlice::Borrowed(branches)))?;
+    let stack_user = owned(alloc, Some(CowSlice::Borrowed(&[120, 121])))?;
+    let aux = owned(alloc, Some(CowSlice::Borrowed(&[128, 129, 130])))?;
+    let regs_user = owned_registers(alloc, &[118, 119])?;
+    let regs_intr = owned_registers(alloc, &[125, 126])?;
+    Ok(SampleFields {
+        values: Some(group),
+        callchain,
+        raw,
+        lbr,
+        regs_user,
+        stack_user,
+        regs_intr,
+        aux,
+        ..every_field(branches)
+    })
+}
+
+#[test]
+fn a_sample_that_owns_its_lists_is_copied(rt: HostRuntime) {
+    let branches = [branch()];
+    match every_field_owned(rt.alloc(), &branches) {
+        Ok(fields) => check_sample(&rt, fields, ORIGIN, NUMBERS, LISTS),
+        Err(_) => panic!(rt; "no memory"),
+    }
 }
 
 #[test]
