@@ -1,0 +1,225 @@
+//! Records that are parsed over a slice.
+
+use perf_event_data::Record;
+use perf_event_data::endian::Little;
+use perf_event_data::parse::{ParseConfig, ParseResult, Parser};
+use perf_event_data::sys::{perf_event_attr, perf_event_header};
+use perf_lines::line::line_of;
+use std::alloc::Global;
+use std::process::Abort;
+
+// TID and TIME of a sample type.
+const TID: u64 = 1 << 1;
+
+const TIME: u64 = 1 << 2;
+
+// RAW of a sample type.
+const RAW: u64 = 1 << 10;
+
+// The attribute of an event whose frames end with a sample id of this sample type.
+fn with_ids(sample_type: u64) -> perf_event_attr {
+    perf_event_attr {
+        sample_type,
+        flags: 1 << 18,
+        ..Default::default()
+    }
+}
+
+// The record of a frame over a slice.
+fn record_of<'a>(alloc: Global, bytes: &'a [u8], attr: perf_event_attr) -> ParseResult<Record<'a>> {
+    Parser::new(alloc, bytes, ParseConfig::<Little>::from(attr)).parse::<Record<'a>>()
+}
+
+// Its line, with its header and the number 0.
+fn line(alloc: Global, bytes: &[u8], answer: &ParseResult<Record<'_>>) -> ParseResult<String> {
+    let config = ParseConfig::<Little>::default();
+    let header = Parser::new(alloc, bytes, config).parse::<perf_event_header>()?;
+    line_of(alloc, 0, &header, answer)
+}
+
+// Whether a request for memory is granted.
+fn is_granted(alloc: Global) -> bool {
+    Vec::from_slice(alloc, &[0u8]).is_ok()
+}
+
+// Asserts the line of a frame. Its record is parsed first: where it asks for no memory, a first
+// request that is refused is the one behind it.
+fn check_line(rt: &(impl AllocGlobal + Abort), bytes: &[u8], attr: perf_event_attr, want: &str) {
+    let answer = record_of(rt.alloc(), bytes, attr);
+    is_granted(rt.alloc());
+    match line(rt.alloc(), bytes, &answer) {
+        Ok(line) => assert_eq!(rt; line.as_str(), want),
+        Err(_) => panic!(rt; "no memory"),
+    }
+}
+
+// The same under the default configuration.
+fn check_plain(rt: &(impl AllocGlobal + Abort), bytes: &[u8], want: &str) {
+    check_line(rt, bytes, perf_event_attr::default(), want);
+}
+
+#[test]
+fn a_mapping(rt: HostRuntime) {
+    let bytes = b"\x01\0\0\0\0\0\x30\0\x16\x4C\x01\0\x17\x4C\x01\0\0\xA0\x48\x96\x4F\x7F\0\0\0\x10\
+        \0\0\0\0\0\0\0\xA0\x48\x96\x4F\x7F\0\0\x2F\x2F\x61\x6E\x6F\x6E\0\0";
+    let want = "0 1 0 48 Mmap pid=85014 tid=85015 addr=139979800485888 len=4096 \
+        pgoff=139979800485888 filename=2f2f616e6f6e";
+    check_plain(&rt, bytes, want);
+}
+
+#[test]
+fn a_frame_of_seven_bytes(rt: HostRuntime) {
+    let bytes = b"\x02\0\0\0\0\0\x07\0";
+    let want = "0 2 0 7 refused InvalidRecord";
+    check_plain(&rt, bytes, want);
+}
+
+#[test]
+fn a_body_that_is_cut_short(rt: HostRuntime) {
+    let bytes = b"\x02\0\0\0\0\0\x10\0\x01\0\0\0\0\0\0\0";
+    let want = "0 2 0 16 refused Eof";
+    check_plain(&rt, bytes, want);
+}
+
+#[test]
+fn a_switch(rt: HostRuntime) {
+    let bytes = b"\x0E\0\0\0\0\0\x08\0";
+    let want = "0 14 0 8 Switch";
+    check_plain(&rt, bytes, want);
+}
+
+#[test]
+fn a_switch_without_its_sample_id(rt: HostRuntime) {
+    let bytes = b"\x0E\0\0\0\0\0\x08\0";
+    let want = "0 14 0 8 refused InvalidRecord";
+    check_line(&rt, bytes, with_ids(TID), want);
+}
+
+#[test]
+fn new_code(rt: HostRuntime) {
+    let bytes = b"\x14\0\0\0\0\0\x18\0\x10\0\0\0\0\0\0\0\0\0\x01\0\xAA\0\0\0";
+    let want = "0 20 0 24 TextPoke addr=16 old_bytes= new_bytes=aa";
+    check_plain(&rt, bytes, want);
+}
+
+#[test]
+fn changed_code(rt: HostRuntime) {
+    let bytes = b"\x14\0\0\0\0\0\x18\0\x10\0\0\0\0\0\0\0\x01\0\x01\0\xAA\xBB\0\0";
+    let want = "0 20 0 24 TextPoke addr=16 old_bytes=aa new_bytes=bb";
+    check_plain(&rt, bytes, want);
+}
+
+#[test]
+fn a_mapping_with_a_build_id(rt: HostRuntime) {
+    let bytes = b"\x0A\0\0\0\0\x40\x50\0\x01\0\0\0\x02\0\0\0\0\x10\0\0\0\0\0\0\0\x20\0\0\0\0\0\0\0\
+        \0\0\0\0\0\0\0\x14\0\0\0\x01\x02\x03\x04\x05\x06\x07\x08\x09\x0A\x0B\x0C\x0D\x0E\
+        \x0F\x10\x11\x12\x13\x14\x05\0\0\0\x02\0\0\0\x61\x62\0\0\0\0\0\0";
+    let want = "0 10 16384 80 Mmap2 pid=1 tid=2 addr=4096 len=8192 pgoff=0 \
+        build_id=0102030405060708090a0b0c0d0e0f1011121314 prot=5 flags=2 \
+        filename=6162";
+    check_plain(&rt, bytes, want);
+}
+
+#[test]
+fn a_build_id_that_is_too_long(rt: HostRuntime) {
+    let bytes = b"\x0A\0\0\0\0\x40\x40\0\x01\0\0\0\x02\0\0\0\0\x10\0\0\0\0\0\0\0\x20\0\0\0\0\0\0\0\
+        \0\0\0\0\0\0\0\x15\0\0\0\x01\x02\x03\x04\x05\x06\x07\x08\x09\x0A\x0B\x0C\x0D\x0E\
+        \x0F\x10\x11\x12\x13\x14";
+    let want = "0 10 16384 64 refused InvalidRecord";
+    check_plain(&rt, bytes, want);
+}
+
+#[test]
+fn a_build_id_that_is_cut_short(rt: HostRuntime) {
+    let bytes = b"\x0A\0\0\0\0\x40\x2B\0\x01\0\0\0\x02\0\0\0\0\x10\0\0\0\0\0\0\0\x20\0\0\0\0\0\0\0\
+        \0\0\0\0\0\0\0\x15\0\0";
+    let want = "0 10 16384 43 refused Eof";
+    check_plain(&rt, bytes, want);
+}
+
+#[test]
+fn a_type_below_all(rt: HostRuntime) {
+    let bytes = b"\0\0\0\0\0\0\x08\0";
+    let want = "0 0 0 8 Unknown data=";
+    check_plain(&rt, bytes, want);
+}
+
+#[test]
+fn a_type_above_all(rt: HostRuntime) {
+    let bytes = b"\x16\0\0\0\0\0\x08\0";
+    let want = "0 22 0 8 Unknown data=";
+    check_plain(&rt, bytes, want);
+}
+
+#[test]
+fn lost_events_with_a_sample_id(rt: HostRuntime) {
+    let bytes = b"\x02\0\0\0\0\0\x28\0\x01\0\0\0\0\0\0\0\x02\0\0\0\0\0\0\0\x03\0\0\0\x04\0\0\0\x05\
+        \0\0\0\0\0\0\0";
+    let want = "0 2 0 40 Lost id=1 lost=2";
+    check_line(&rt, bytes, with_ids(TID | TIME), want);
+}
+
+#[test]
+fn a_symbol(rt: HostRuntime) {
+    let bytes = b"\x11\0\0\0\0\0\x20\0\0\x10\0\0\0\0\0\0\x40\0\0\0\x01\0\x01\0\x62\x70\x66\0\0\0\0\
+        \0";
+    let want = "0 17 0 32 KSymbol addr=4096 len=64 ksym_type=1 flags=1 name=627066";
+    check_plain(&rt, bytes, want);
+}
+
+#[test]
+fn a_program_in_the_kernel(rt: HostRuntime) {
+    let bytes = b"\x12\0\0\0\0\0\x18\0\x01\0\0\0\x07\0\0\0\x01\x02\x03\x04\x05\x06\x07\x08";
+    let want = "0 18 0 24 BpfEvent ty=1 flags=0 id=7 tag=0102030405060708";
+    check_plain(&rt, bytes, want);
+}
+
+#[test]
+fn a_mapping_with_an_inode(rt: HostRuntime) {
+    let bytes = b"\x0A\0\0\0\0\0\x50\0\x01\0\0\0\x02\0\0\0\0\x10\0\0\0\0\0\0\0\x20\0\0\0\0\0\0\0\0\
+        \0\0\0\0\0\0\x08\0\0\0\x01\0\0\0\x63\0\0\0\0\0\0\0\x03\0\0\0\0\0\0\0\x05\0\0\0\
+        \x02\0\0\0\x61\x62\0\0\0\0\0\0";
+    let want = "0 10 0 80 Mmap2 pid=1 tid=2 addr=4096 len=8192 pgoff=0 maj=8 min=1 \
+        ino=99 ino_generation=3 prot=5 flags=2 filename=6162";
+    check_plain(&rt, bytes, want);
+}
+
+#[test]
+fn longer_changed_code(rt: HostRuntime) {
+    let bytes = b"\x14\0\0\0\0\0\x20\0\x10\0\0\0\0\0\0\0\x03\0\x02\0\xA1\xA2\xA3\xB1\xB2\0\0\0\0\0\
+        \0\0";
+    let want = "0 20 0 32 TextPoke addr=16 old_bytes=a1a2a3 new_bytes=b1b2";
+    check_plain(&rt, bytes, want);
+}
+
+// What is told of a sample of raw bytes alone: its line or why it is refused, and whether two
+// requests behind it are granted.
+fn tell_raw(alloc: Global) -> ParseResult<String> {
+    let bytes = b"\x09\0\0\0\0\0\x10\0\x02\0\0\0\xAA\xBB\0\0";
+    let attr = perf_event_attr {
+        sample_type: RAW,
+        ..Default::default()
+    };
+    let answer = record_of(alloc, bytes, attr);
+    let granted = [is_granted(alloc), is_granted(alloc)];
+    let line = line(alloc, bytes, &answer)?;
+    Ok(format!(in alloc; "{line}, then {granted:?}")?)
+}
+
+// Prints what is told, so that it can be compared with which request was refused.
+#[test]
+fn a_sample_of_raw_bytes(rt: HostRuntime) {
+    let told = match tell_raw(rt.alloc()) {
+        Ok(told) => told,
+        Err(_) => panic!(rt; "no memory"),
+    };
+    let _ = println!(rt; "{told}");
+    let is_one_of_these = matches!(
+        told.as_str(),
+        "0 9 0 16 refused OutOfMemory, then [true, true]"
+            | "0 9 0 16 Sample raw=aabb, then [false, true]"
+            | "0 9 0 16 Sample raw=aabb, then [true, false]"
+            | "0 9 0 16 Sample raw=aabb, then [true, true]"
+    );
+    assert!(rt; is_one_of_these, "{told}");
+}
