@@ -1,4 +1,4 @@
-use Rattle.std.proofs.Common.{rules, ◌≡◌, suc, ℕ, List, ◌+◌, ◌≤◌, ◌++◌, ◌∷◌, [], length, ap, refl, sym, ◌∙◌, arith}
+use Rattle.std.proofs.Common.{rules, ◌≡◌, suc, ℕ, List, ◌+◌, ◌++◌, ◌∷◌, [], length, ap, refl, sym, ◌∙◌, arith}
 use Rattle.std.proofs.lemmas.List.{length-append}
 use Rattle.perf_base.specs.Refusals.{refusal_kind}
 use Rattle.perf_reader.proofs.InRow.{row_none, row_cast, row_more, row_further, row_stops, row_ceases, row_starves, row_gives}
