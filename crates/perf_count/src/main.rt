@@ -35,19 +35,24 @@ use perf_event_data::endian::{Big, Little, Native};
 use perf_event_data::parse::ParseResult;
 use std::alloc::Global;
 use std::env;
-use std::io::Read;
+use std::io::{ErrorKind, Read};
 use std::process::ExitCode;
 
 // What is said where the words ask for nothing.
 const USAGE: &str = "usage: perf_count little|big|native [attr]";
+
+// Room for the input that is made before its first byte is read. More is made without a copy.
+const FIRST_ROOM: usize = 1 << 18;
+
+// How many bytes are read at a time, and copied behind the others.
+const PIECE: usize = 4096;
 
 fn main(rt: HostRuntime) -> Result<ExitCode> {
     let words: Vec<String> = env::args(&rt)?.skip(1).collect(rt.alloc())?;
     let Some(command) = words::command(&words) else {
         bail!("{USAGE}");
     };
-    let mut input = Vec::new(rt.alloc());
-    rt.stdin().read_to_end(&mut input)?;
+    let input = read_input(rt.alloc(), &mut rt.stdin())?;
     let (counts, end) = count_command(rt.alloc(), &input, command)?;
     let Counts {
         records,
@@ -70,4 +75,22 @@ fn count_command(alloc: Global, input: &[u8], command: Command) -> ParseResult<(
         OrderName::Big => count_stream(alloc, input, Big, command.with_attr),
         OrderName::Native => count_stream(alloc, input, Native, command.with_attr),
     }
+}
+
+// All bytes of an input.
+fn read_input<R: Read>(alloc: Global, input: &mut R) -> Result<Vec<u8>> {
+    let mut bytes = Vec::with_capacity(alloc, FIRST_ROOM)?;
+    let mut piece = [0; PIECE];
+    for _ in 0..u64::MAX {
+        match input.read(&mut piece) {
+            Ok(0) => break,
+            Ok(len) => bytes.extend_from_slice(&piece[..len])?,
+            Err(error) => {
+                if error.kind() != ErrorKind::Interrupted {
+                    return Err(error.into());
+                }
+            }
+        }
+    }
+    Ok(bytes)
 }

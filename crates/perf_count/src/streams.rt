@@ -8,7 +8,7 @@ use perf_event_data::{RunEnd, read_records};
 use std::alloc::Global;
 
 // How many answers are held at a time.
-const BATCH: usize = 256;
+const BATCH: usize = 64;
 
 /// Counts the frames of a stream, and says how it ended. With `with_attr` an attribute comes first,
 /// and its configuration holds for the records behind it; where it is refused, nothing is counted.

@@ -69,6 +69,17 @@ words_last o (suc k) bytes =
     let behind : drop (8 * k) (drop 8 bytes) ≡ drop (8 * suc k) bytes = drop-drop (8 * k) 8 bytes ∙ ap (λ i. drop i bytes) m in
     ap (λ (ys : List ℕ). o.eight (take 8 bytes) ∷ ys) (words_last o k (drop 8 bytes) ∙ ap (λ (b : List ℕ). words_of o k (drop 8 bytes) ++ o.eight (take 8 b) ∷ []) behind)
 
+words_join : (o : Order) (k j : ℕ) (bytes : List ℕ) → words_of o (k + j) bytes ≡ words_of o k bytes ++ words_of o j (drop (8 * k) bytes)
+words_join o zero j bytes =
+    let m : zero + j ≡ j = omega arith in
+    let n : 8 * zero ≡ 0 = omega arith in
+    ap (λ i. words_of o i bytes) m ∙ sym (ap (λ i. words_of o j (drop i bytes)) n)
+words_join o (suc k) j bytes =
+    let m : 8 + 8 * k ≡ 8 * suc k = omega arith in
+    let n : suc k + j ≡ suc (k + j) = omega arith in
+    let behind : drop (8 * k) (drop 8 bytes) ≡ drop (8 * suc k) bytes = drop-drop (8 * k) 8 bytes ∙ ap (λ i. drop i bytes) m in
+    ap (λ i. words_of o i bytes) n ∙ ap (λ (ys : List ℕ). o.eight (take 8 bytes) ∷ ys) (words_join o k j (drop 8 bytes) ∙ ap (λ (b : List ℕ). words_of o k (drop 8 bytes) ++ words_of o j b) behind)
+
 words_none : (o : Order) (bytes : List ℕ) (n : ℕ) → one_took o (words 0) bytes n ≡ took [] bytes n
 words_none o bytes n = took_yes o (words 0) bytes n (omega arith) ∙ ap (took [] bytes) (omega arith)
 
@@ -88,10 +99,51 @@ words_more o k a b c ys x n m i p q =
     let count : n + suc k ≡ i = omega (arith, s.reads_are, t.reads_are) in
     took_yes o (words (suc k)) a n fits ∙ rw (value, behind, count) refl
 
+-- the same of several at once
+words_further : (o : Order) (k j : ℕ) (a b c ys zs : List ℕ) (n m i : ℕ) → one_took o (words k) a n ≡ took ys b m → one_took o (words j) b m ≡ took zs c i → one_took o (words (k + j)) a n ≡ took (ys ++ zs) c i
+words_further o k j a b c ys zs n m i p q =
+    let s = stood o (words k) a n ys b m p in
+    let t = stood o (words j) b m zs c i q in
+    let l : length b ≡ length a - 8 * k = ap length s.left_is ∙ length-drop (8 * k) a in
+    let fits : 8 * (k + j) ≤ length a = omega (arith, s.fits, t.fits, l) in
+    let e : 8 * k + 8 * j ≡ 8 * (k + j) = omega arith in
+    let value : words_of o (k + j) (take (8 * (k + j)) a) ≡ ys ++ zs =
+    words_take o (k + j) a fits ∙ words_join o k j a
+    ∙ ap (λ (us : List ℕ). us ++ words_of o j (drop (8 * k) a)) (sym (words_take o k a s.fits) ∙ sym s.value_is)
+    ∙ ap (λ (w : List ℕ). ys ++ words_of o j w) (sym s.left_is)
+    ∙ ap (λ (us : List ℕ). ys ++ us) (sym (words_take o j b t.fits) ∙ sym t.value_is) in
+    let behind : drop (8 * (k + j)) a ≡ c = ap (λ i. drop i a) (sym e ∙ omega arith) ∙ sym (drop-drop (8 * j) (8 * k) a) ∙ ap (drop (8 * j)) (sym s.left_is) ∙ sym t.left_is in
+    let count : n + (k + j) ≡ i = omega (arith, s.reads_are, t.reads_are) in
+    took_yes o (words (k + j)) a n fits ∙ rw (value, behind, count) refl
+
 words_stop : (o : Order) (k all : ℕ) (a b c ys : List ℕ) (n m i : ℕ) (e : ErrorKind) → k < all → one_took o (words k) a n ≡ took ys b m → one_took o (number w8) b m ≡ quit e c i → one_took o (words all) a n ≡ quit e c i
 words_stop o k all a b c ys n m i e more p q =
     let s = stood o (words k) a n ys b m p in
     let t = fell o b m e c i q in
+    let l : length b ≡ length a - 8 * k = ap length s.left_is ∙ length-drop (8 * k) a in
+    let short : length a < 8 * all = omega (arith, more, s.fits, t.short, l) in
+    let count : n + (length a / 8 + 1) ≡ i = omega (arith, s.fits, t.short, l, s.reads_are, t.reads_are) in
+    took_no o (words all) a n short ∙ rw (t.kind_is, t.left_is, count) refl
+
+-- of several
+record FellShort (j : ℕ) (bytes : List ℕ) (n : ℕ) (e : ErrorKind) (left : List ℕ) (m : ℕ) : Type 0 where
+  short : length bytes < 8 * j
+  kind_is : e ≡ Eof
+  left_is : left ≡ []
+  reads_are : m ≡ n + (length bytes / 8 + 1)
+
+fell_short : (o : Order) (j : ℕ) (bytes : List ℕ) (n : ℕ) (e : ErrorKind) (left : List ℕ) (m : ℕ) → one_took o (words j) bytes n ≡ quit e left m → FellShort j bytes n e left m
+fell_short o j bytes n e left m h = elim (cases_lt (length bytes) (8 * j)) [
+  | inr fits ↦ absurd (cc (took_yes o (words j) bytes n fits))
+  | inl short ↦
+      let both : ◌≡◌ {A = Took (List ℕ)} (quit Eof [] (n + (length bytes / 8 + 1))) (quit e left m) = sym (took_no o (words j) bytes n short) ∙ h in
+      record { short = short; kind_is = cc; left_is = cc; reads_are = cc }
+]
+
+words_cease : (o : Order) (k j all : ℕ) (a b c ys : List ℕ) (n m i : ℕ) (e : ErrorKind) → k + j ≤ all → one_took o (words k) a n ≡ took ys b m → one_took o (words j) b m ≡ quit e c i → one_took o (words all) a n ≡ quit e c i
+words_cease o k j all a b c ys n m i e more p q =
+    let s = stood o (words k) a n ys b m p in
+    let t = fell_short o j b m e c i q in
     let l : length b ≡ length a - 8 * k = ap length s.left_is ∙ length-drop (8 * k) a in
     let short : length a < 8 * all = omega (arith, more, s.fits, t.short, l) in
     let count : n + (length a / 8 + 1) ≡ i = omega (arith, s.fits, t.short, l, s.reads_are, t.reads_are) in
@@ -134,6 +186,35 @@ module _ {I E : Type 0} (source : I → Source) (order : E → Order) where
         let same : one_took o (number w8) (source b.input).left b.reads ≡ took x (source c.input).left c.reads =
         ap (λ (k : ParseConfig E). one_took (order (endian_of k)) (number w8) (source b.input).left b.reads) (sym p.config) ∙ q.answer (p.told t) in
         words_more o k (source a.input).left (source b.input).left (source c.input).left ys x a.reads b.reads c.reads (p.answer t) same;
+    keeps = λ start h. q.keeps start (p.keeps start h);
+  }
+
+  -- several more at once
+  pub row_further : (k j : ℕ) (a b c : Reader I E) (ys zs : List ℕ) → InRow k a ys b → InRow j b zs c → InRow (k + j) a (ys ++ zs) c
+  row_further k j a b c ys zs p q = record {
+    config = q.config ∙ p.config;
+    whole = q.whole ∙ p.whole;
+    told = λ t. q.told (p.told t);
+    answer = λ t.
+        let o : Order = order (endian_of a.config) in
+        let same : one_took o (words j) (source b.input).left b.reads ≡ took zs (source c.input).left c.reads =
+        ap (λ (k : ParseConfig E). one_took (order (endian_of k)) (words j) (source b.input).left b.reads) (sym p.config) ∙ q.answer (p.told t) in
+        words_further o k j (source a.input).left (source b.input).left (source c.input).left ys zs a.reads b.reads c.reads (p.answer t) same;
+    keeps = λ start h. q.keeps start (p.keeps start h);
+  }
+
+  -- several further ones were refused, so all of them are
+  pub row_ceases : {X Y : Type 0} (view : X → List ℕ) (show : Y → List ℕ) (k j all : ℕ) (a b c : Reader I E) (ys : List ℕ) (e : ErrorKind) → k + j ≤ all → InRow k a ys b → Call {X = Y} source order (ReadsOne (words j) show) b (Err e) c →
+      Call {X = X} source order (ReadsOne (words all) view) a (Err e) c
+  row_ceases view show k j all a b c ys e more p q = record {
+    config = q.config ∙ p.config;
+    whole = q.whole ∙ p.whole;
+    told = λ t. q.told (p.told t);
+    answer = λ t kind.
+        let o : Order = order (endian_of a.config) in
+        let same : one_took o (words j) (source b.input).left b.reads ≡ quit e (source c.input).left c.reads =
+        ap (λ (k : ParseConfig E). one_took (order (endian_of k)) (words j) (source b.input).left b.reads) (sym p.config) ∙ q.answer (p.told t) kind in
+        words_cease o k j all (source a.input).left (source b.input).left (source c.input).left ys a.reads b.reads c.reads e more (p.answer t) same;
     keeps = λ start h. q.keeps start (p.keeps start h);
   }
 

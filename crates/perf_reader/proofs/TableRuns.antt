@@ -5,7 +5,7 @@ use Rattle.perf_base.specs.Order.{Order}
 use Rattle.perf_base.specs.Table.{present_if, slot, table}
 use Rattle.perf_base.specs.Took.{Took, took, quit, take_parts, took_by_places}
 use Rattle.perf_base.proofs.Took.{places_took, then_take}
-use Rattle.perf_reader.proofs.Behind.{take_behind, then_same}
+use Rattle.perf_reader.proofs.Behind.{take_behind}
 use Rattle.perf_reader.specs.TableRuns.{field_took, before, table_took, table_by_places, joined, ahead, groups_took, groups_by_places}
 
 -- ---- one field

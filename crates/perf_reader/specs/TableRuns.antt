@@ -79,11 +79,3 @@ ReadsTable fields view borrowed old seen new =
     AnswersRun view
     (table_by_places old.order (fields old.settings) old.source.left old.reads) seen new
     × (IsTrue old.source.whole → IfOk seen borrowed)
-
--- the same of groups of fields
-abbrev pub ReadsGroups : {X A : Type 0} → (Configuration → List (List (Option (Parts A)))) →
-    (X → List (Option A)) → (X → Type 0) → Says X
-ReadsGroups groups view borrowed old seen new =
-    AnswersRun view
-    (groups_by_places old.order (groups old.settings) old.source.left old.reads) seen new
-    × (IsTrue old.source.whole → IfOk seen borrowed)

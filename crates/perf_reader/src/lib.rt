@@ -3,6 +3,7 @@
 
 mod attribute;
 mod bytes;
+mod eight;
 mod flags;
 mod frame;
 mod header;

@@ -10,6 +10,9 @@ use perf_base::refusal::{ReadResult, Refusal};
 use perf_buffers::input::Input;
 use perf_reader::reader::Reader;
 
+// How many numbers are taken at once.
+const EIGHT: usize = 8;
+
 // Whether the input says that it has fewer numbers than so many.
 #[inline]
 fn lacks<'p, I: Input<'p>, E: Endian>(reader: &Reader<I, E>, count: usize) -> bool
@@ -39,7 +42,7 @@ fn read_to_the_end<'p, I: Input<'p>, E: Endian>(reader: &mut Reader<I, E>, count
     Refusal::Eof
 }
 
-// So many numbers. A list that does not fit takes no memory where the input says what it has.
+// So many numbers, eight at once where the input has them. A list that does not fit takes no memory where the input says what it has.
 pub(crate) fn read_numbers<'p, I: Input<'p>, E: Endian>(
     reader: &mut Reader<I, E>,
     count: usize,
@@ -57,7 +60,16 @@ pub(crate) fn read_numbers<'p, I: Input<'p>, E: Endian>(
         Ok(numbers) => numbers,
         Err(_) => return Err(Refusal::OutOfMemory),
     };
-    for _ in 0..count {
+    while EIGHT <= count - numbers.len() && reader.has_eight() {
+        let eight = match reader.read_eight() {
+            Ok(eight) => eight,
+            Err(refusal) => return Err(refusal),
+        };
+        if numbers.extend_from_slice(&eight).is_err() {
+            return Err(Refusal::OutOfMemory);
+        }
+    }
+    for _ in numbers.len()..count {
         let number = match reader.read_u64() {
             Ok(number) => number,
             Err(refusal) => return Err(refusal),

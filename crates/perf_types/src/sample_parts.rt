@@ -50,8 +50,8 @@ impl SampleField for DataSource {
 impl<'p, I: Input<'p>> ReadField<'p, I> for DataSource {
     #[inline]
     fn read_field<E: Endian>(reader: &mut Reader<I, E>) -> ReadResult<Self> {
-        match reader.read_u64() {
-            Ok(word) => Ok(DataSource::from_word(word)),
+        match reader.read::<DataSource>() {
+            Ok(source) => Ok(source),
             Err(refusal) => Err(refusal),
         }
     }
@@ -68,8 +68,8 @@ impl SampleField for Txn {
 impl<'p, I: Input<'p>> ReadField<'p, I> for Txn {
     #[inline]
     fn read_field<E: Endian>(reader: &mut Reader<I, E>) -> ReadResult<Self> {
-        match reader.read_u64() {
-            Ok(word) => Ok(Txn::from_bits_retain(word)),
+        match reader.read::<Txn>() {
+            Ok(transaction) => Ok(transaction),
             Err(refusal) => Err(refusal),
         }
     }

@@ -1,4 +1,4 @@
-use Rattle.std.proofs.Common.{None, Some, refl, ◌<◌, arith}
+use Rattle.std.proofs.Common.{None, refl, ◌<◌, arith}
 use Rattle.std.proofs.lemmas.Bool.Decides.{nat_tests}
 use Rattle.perf_base.specs.Refusals.{refusal_kind}
 use Rattle.perf_reader.specs.Meaning.{Meaning, meaning}

@@ -1,4 +1,4 @@
-use Rattle.std.proofs.Common.{◌≡◌, ◌∙◌, ap, ◌+◌, None, Some, refl, length}
+use Rattle.std.proofs.Common.{◌≡◌, ◌∙◌, ap, ◌+◌, refl, length}
 use Rattle.perf_base.specs.Cow.{cow_items}
 use Rattle.perf_base.specs.LayoutReads.{one_if_any}
 use Rattle.perf_base.specs.Refusals.{refusal_kind}
