@@ -180,11 +180,3 @@ FailsToCut old h UnsupportedConfig new = ⊥
 FailsToCut old h UnsupportedData new = ⊥
 FailsToCut old h External new = MovesWithin old (body_length h) new
 FailsToCut old h OutOfMemory new = MovesWithin old (body_length h) new
-
--- The reading of all of a body: its layout, with the reads that makes. Of want of memory this says
--- nothing.
-abbrev pub Finishes : Order → Parts RecordValue → List ℕ → Result Record ErrorKind → ℕ → Type 0
-Finishes o p bytes (Ok r) k =
-    (layout o p bytes ≡ Ok (record_value r)) × (k ≡ layout_reads o p bytes)
-Finishes o p bytes (Err e) k =
-    IsTrue (of_layout e) → (layout o p bytes ≡ Err e) × (k ≡ layout_reads o p bytes)

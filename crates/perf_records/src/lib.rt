@@ -1,8 +1,11 @@
-//! One value for every record that the kernel writes.
+//! One value for every record that the kernel writes, and visits of records.
 #![tactic(auto)]
 
 pub mod body;
 pub mod frame;
 pub mod metadata;
 pub mod record;
+mod record_maker;
 pub mod record_type;
+pub mod record_visitor;
+pub mod visitor;
