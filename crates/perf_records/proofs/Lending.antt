@@ -1,5 +1,5 @@
 -- Values of which no byte was copied.
-use Rattle.std.proofs.Common.{◌≡◌, Bool, true, refl}
+use Rattle.std.proofs.Common.{Bool, true, refl}
 use Rattle.std.specs.Prelude.{Option, Some, None, IfSome, IsTrue, ◌&&◌}
 use Rattle.perf_base.specs.Cow.{is_borrowed}
 use Rattle.perf_types.specs.SampleGroups.{IsBorrowedSample}

@@ -1,11 +1,11 @@
 -- What was read by places is what the layout says, with as many reads.
-use Rattle.std.proofs.Common.{◌≡◌, ℕ, ◌+◌, List, length, drop, arith}
-use Rattle.std.specs.Prelude.{Option, None, Some, Result, Ok, Err, IsTrue}
+use Rattle.std.proofs.Common.{◌≡◌, ℕ, ◌+◌, List, length, drop}
+use Rattle.std.specs.Prelude.{Option, None, Some, Result, Ok, Err}
 use Rattle.perf_base.specs.Layout.{Parts, spots, first_refusal, ending, value, layout}
 use Rattle.perf_base.specs.Order.{Order}
 use Rattle.perf_base.specs.LayoutReads.{layout_reads}
 use Rattle.perf_base.specs.Run.{Ran, ran, stopped, left_at, by_places}
-use Rattle.perf_base.specs.Took.{Took, took, quit, with_reads, took_by_places}
+use Rattle.perf_base.specs.Took.{took, quit, with_reads, took_by_places}
 use Rattle.perf_base.specs.declared.error.ErrorKind.{ErrorKind}
 
 -- the layout, by its first fault

@@ -1,31 +1,21 @@
 -- Visits of bodies, and of frames.
-use Rattle.std.proofs.Common.{◌≡◌, ℕ, ◌+◌, ◌≤◌, List, length, drop, Bool, arith, sym, ◌∙◌, ap, subst}
-use Rattle.std.specs.Prelude.{Option, Result, Ok, Err, IsTrue}
-use Rattle.perf_base.specs.Configuration.{Configuration, under_misc}
+use Rattle.std.proofs.Common.{◌≡◌, ◌+◌, ◌≤◌, length, drop, Bool, arith, sym, ◌∙◌, ap, subst}
+use Rattle.std.specs.Prelude.{Result, Ok, Err, IsTrue}
+use Rattle.perf_base.specs.Configuration.{Configuration}
 use Rattle.perf_base.specs.Header.{header, header_of}
-use Rattle.perf_base.specs.Layout.{layout}
 use Rattle.perf_base.specs.LayoutReads.{layout_reads}
 use Rattle.perf_base.specs.Order.{Order}
 use Rattle.perf_base.specs.declared.error.ErrorKind.{ErrorKind}
 use Rattle.perf_base.specs.declared.sys.perf_event_header.{perf_event_header}
-use Rattle.perf_reader.specs.Calls.{Call}
 use Rattle.perf_reader.specs.Meaning.{Meaning}
-use Rattle.perf_reader.specs.declared.reader.Reader.{Reader}
-use Rattle.perf_records.specs.Answers.{FrameParts, split_behind, split_reads, record_in, record_reads, body_length, answer_behind, reads_behind, split_of_frame, answer_of_frame, frame_reads}
+use Rattle.perf_records.specs.Answers.{split_behind, body_length, answer_behind, reads_behind, split_of_frame, answer_of_frame, frame_reads}
 use Rattle.perf_records.specs.Bodies.{body}
 use Rattle.perf_records.specs.Frames.{frame_length}
 use Rattle.perf_records.specs.Metadata.{MetadataValue}
-use Rattle.perf_records.specs.RecordTypes.{type_of}
 use Rattle.perf_records.specs.Records.{RecordValue}
-use Rattle.perf_records.specs.Visits.{Event, VisitsOf, VisitsBody, VisitsAll, VisitsExactly, VisitsBehind}
-use Rattle.perf_records.specs.declared.record_type.RecordType.{RecordType}
+use Rattle.perf_records.specs.Visits.{Event, VisitsBody, VisitsAll, VisitsExactly}
 use Rattle.perf_records.proofs.Saying.{took_says, quit_says}
 use Rattle.perf_records.proofs.Headers.{tells_frame, frame_whole}
-
--- a visit of a type is that of the number that names it
-pub known : {I E O : Type 0} (source : I → Source) (order : E → Order) (gives : Event → O → Type 0) (m : MetadataValue) (t : Option RecordType) (old new : Reader I E) (seen : Result O ErrorKind) →
-    type_of m.ty ≡ t → Call source order (VisitsOf gives m t) old seen new → Call source order (VisitsBody gives m) old seen new
-known source order gives m t old new seen e call = subst (λ (k : Option RecordType). Call source order (VisitsOf gives m k) old seen new) (sym e) call
 
 -- the visit of all of a body
 pub visits_all : {O : Type 0} (gives : Event → O → Type 0) (m : MetadataValue) (seen : Result O ErrorKind) (old new : Meaning) (from : Bool) →
@@ -39,26 +29,6 @@ visits_all gives m (Err e) old new from none lends v = (
   (λ is. v.1 (lends is)),
 )
 
--- the visit of a frame that fell apart
-pub visits_split : {O : Type 0} (gives : Event → O → Type 0) (h : perf_event_header) (old mid new : Meaning) (parts : FrameParts) (from : Bool) (seen : Result O ErrorKind) (k : ℕ) →
-    let c = old.settings in let o = old.order in let bytes = old.source.left in
-    split_behind c o h bytes ≡ Ok parts → parts.metadata.ty ≡ h.type_ → (IsTrue old.source.whole → IsTrue from) →
-    mid.source.left ≡ drop (body_length h) bytes → mid.reads ≡ old.reads + split_reads c o h bytes →
-    new.source.left ≡ mid.source.left → new.reads ≡ mid.reads + k → VisitsAll gives parts.metadata o (body (under_misc h.misc c) parts.metadata.ty) parts.body from seen k → VisitsBehind gives h old seen new
-visits_split gives h old mid new parts from (Ok output) k e named lends left reads same more says =
-    let c : Configuration = old.settings in let o : Order = old.order in let bytes : List ℕ = old.source.left in
-    let laid : layout o (body (under_misc h.misc c) h.type_) parts.body ≡ Ok says.0 = ap (λ (ty : ℕ). layout o (body (under_misc h.misc c) ty) parts.body) (sym named) ∙ says.3 in
-    let count : layout_reads o (body (under_misc h.misc c) h.type_) parts.body ≡ k = ap (λ (ty : ℕ). layout_reads o (body (under_misc h.misc c) ty) parts.body) (sym named) ∙ sym says.4 in
-    let made : record_reads c o h (split_behind c o h bytes) ≡ k = ap (record_reads c o h) e ∙ count in
-    (says.0, says.1, parts, says.2, e, (λ whole. says.5 (lends whole)), ap (record_in c o h) e ∙ laid, same ∙ left, omega (arith, more, reads, made))
-visits_split gives h old mid new parts from (Err x) k e named lends left reads same more says = λ kind.
-    let c : Configuration = old.settings in let o : Order = old.order in let bytes : List ℕ = old.source.left in
-    let s = says.0 kind in
-    let laid : layout o (body (under_misc h.misc c) h.type_) parts.body ≡ Err x = ap (λ (ty : ℕ). layout o (body (under_misc h.misc c) ty) parts.body) (sym named) ∙ s.0 in
-    let count : layout_reads o (body (under_misc h.misc c) h.type_) parts.body ≡ k = ap (λ (ty : ℕ). layout_reads o (body (under_misc h.misc c) ty) parts.body) (sym named) ∙ sym s.1 in
-    let made : record_reads c o h (split_behind c o h bytes) ≡ k = ap (record_reads c o h) e ∙ count in
-    (ap (record_in c o h) e ∙ laid, same ∙ left, omega (arith, more, reads, made))
-
 -- the visit of a frame whose header was read in front of it
 pub visits_frame : {O : Type 0} (gives : Event → O → Type 0) (old mid new : Meaning) (h : perf_event_header) (seen : Result O ErrorKind) →
     8 ≤ length old.source.left → h ≡ header_of old.order old.source.left → mid.source.left ≡ drop 8 old.source.left → mid.reads ≡ old.reads + layout_reads old.order header old.source.left →
@@ -68,9 +38,9 @@ pub visits_frame : {O : Type 0} (gives : Event → O → Type 0) (old mid new : 
     VisitsExactly gives (split_of_frame c o bytes) (answer_of_frame c o bytes) (frame_length o bytes) (frame_reads (reads_behind c o) o bytes) old seen new)
 visits_frame gives old mid new h (Ok output) fits e m n whole v =
     let c : Configuration = old.settings in let o : Order = old.order in
-    let t = tells_frame (λ (x : RecordValue). x) (answer_behind c o) (reads_behind c o) old mid new h (Ok v.0) fits e m n (v.6, v.7, v.8) in
+    let t = tells_frame (λ (x : RecordValue). x) (answer_behind c o) (reads_behind c o) old mid new h (Ok v.0) fits e m n v.6 in
     let split : split_of_frame c o old.source.left ≡ Ok v.2 =
     frame_whole (split_behind c o) o old.source.left fits ∙ ap (λ k. split_behind c o k (drop 8 old.source.left)) (sym e) ∙ ap (split_behind c o h) (sym m) ∙ v.4 in
-    (v.0, v.1, v.2, v.3, split, (λ is. v.5 (subst IsTrue (sym whole) is)), t.0, t.1, t.2)
+    (v.0, v.1, v.2, v.3, split, (λ is. v.5 (subst IsTrue (sym whole) is)), t)
 visits_frame gives old mid new h (Err x) fits e m n whole v =
     tells_frame (λ (x : RecordValue). x) (answer_behind old.settings old.order) (reads_behind old.settings old.order) old mid new h (Err x) fits e m n v

@@ -5,7 +5,7 @@ use Rattle.std.specs.Prelude.{length}
 use Rattle.std.specs.Prelude.{take, drop, IsTrue, IfOk, false, nat_lt, if◌then◌else◌}
 use Rattle.perf_base.specs.Configuration.{Configuration, under_misc}
 use Rattle.perf_base.specs.Header.{header, header_of}
-use Rattle.perf_base.specs.Layout.{Parts, layout, value}
+use Rattle.perf_base.specs.Layout.{layout, value}
 use Rattle.perf_base.specs.Order.{Order}
 use Rattle.perf_base.specs.LayoutReads.{layout_reads}
 use Rattle.perf_base.specs.Refusals.{refused, TakesNoMemory}
@@ -18,7 +18,6 @@ use Rattle.perf_buffers.specs.Buffer.{Source}
 use Rattle.perf_buffers.specs.Cursor.{cursor_left}
 use Rattle.perf_buffers.specs.Taking.{MovesWithin}
 use Rattle.perf_buffers.specs.declared.cursor.ParseBufCursor.{ParseBufCursor}
-use Rattle.perf_reader.specs.Meaning.{Meaning}
 use Rattle.perf_reader.specs.Reading.{Says, of_layout, is_external}
 use Rattle.perf_records.specs.Bodies.{body, wants_memory}
 use Rattle.perf_records.specs.Frames.{frame_length, frames}

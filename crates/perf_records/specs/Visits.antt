@@ -21,7 +21,7 @@ use Rattle.perf_records.specs.Frames.{frame_length}
 use Rattle.perf_records.specs.Metadata.{MetadataValue}
 use Rattle.perf_records.specs.RecordTypes.{type_of}
 use Rattle.perf_records.specs.Records.{RecordValue, record_value, IsBorrowed, sample_is, mmap_is}
-use Rattle.perf_records.specs.Records.{mmap2_is}
+use Rattle.perf_records.specs.Records.{mmap2_is, sample_value}
 use Rattle.perf_records.specs.declared.record.Record.{Record}
 use Rattle.perf_records.specs.declared.record_type.RecordType.{RecordType}
 use Rattle.perf_types.specs.Mmap2.{mapping_of}
@@ -59,11 +59,22 @@ IsSample _ = ⊥
 
 -- ---- what a visitor of records gives
 
--- the record of that value, of which nothing was copied if the event's was not; or there was no
--- memory for the box of a sample
-abbrev pub GivesRecord : Event → Result Record ErrorKind → Type 0
+-- The record of that value, of which nothing was copied if the event's was not; or there was no
+-- memory for the box of a sample. It is opened only where a proof asks for it.
+unfoldable pub GivesRecord : Event → Result Record ErrorKind → Type 0
 GivesRecord seen (Ok r) = (record_value r ≡ seen.value) × (IsTrue seen.lent → IsBorrowed r)
 GivesRecord seen (Err e) = (e ≡ OutOfMemory) × IsSample seen.value
+
+-- what a record is answered by belongs to each event that it is the record of
+abbrev pub MakesRecord : {O : Type 0} → (Event → O → Type 0) → Record → O → Type 0
+MakesRecord gives r output =
+    (seen : Event) → record_value r ≡ seen.value → (IsTrue seen.lent → IsBorrowed r) →
+    gives seen output
+
+-- what a sample is answered by belongs to its event, whatever the metadata
+abbrev pub MakesSample : {O : Type 0} → (Event → O → Type 0) → Sample → O → Type 0
+MakesSample gives s output =
+    (m : MetadataValue) → gives (event (sample_is (sample_value s)) (is_lent_sample s) m) output
 
 -- ---- what a visitor gives that leaves records out
 

@@ -9,7 +9,7 @@ ghost use Rattle.perf_records.specs.Words as words;
 use crate::body::visit_body;
 use crate::metadata::RecordMetadata;
 use crate::record::Record;
-use crate::record_maker::RecordMaker;
+use crate::record_visitor::Recording;
 use crate::visitor::Visitor;
 use perf_base::config::ParseConfig;
 use perf_base::endian::Endian;
@@ -259,6 +259,7 @@ pub fn visit_behind<'p, I: Input<'p>, E: Endian, V: Visitor<'p>>(
 /// The record of a frame whose header was read. Exactly the frame is taken, also where it is
 /// refused; after a fault, and where memory for the frame was refused, a beginning of it.
 #[inline]
+#[tactic(auto, unfolding(crate::specs::Visits::GivesRecord))]
 pub fn read_behind<'p, I: Input<'p>, E: Endian>(
     reader: &mut Reader<I, E>,
     header: perf_event_header,
@@ -295,8 +296,8 @@ pub fn read_behind<'p, I: Input<'p>, E: Endian>(
     ensures call { Call I.source E.order (words.SaysBehind header)
         reader.old (kinds result) reader.new }
 {
-    let maker = RecordMaker::new(reader.alloc());
-    match visit_behind(reader, header, maker) {
+    let visitor = Recording::small(reader.alloc());
+    match visit_behind(reader, header, visitor) {
         Ok(Ok(record)) => Ok(record),
         Ok(Err(refusal)) => Err(refusal),
         Err(refusal) => Err(refusal),

@@ -5,7 +5,6 @@ pub mod body;
 pub mod frame;
 pub mod metadata;
 pub mod record;
-mod record_maker;
 pub mod record_type;
 pub mod record_visitor;
 pub mod visitor;

@@ -1,5 +1,5 @@
-use Rattle.std.proofs.Common.{◌≡◌, ◌+◌, ◌≤◌, List, ℕ, length, true, false, Ok, Err, None, Some, arith, subst, refl, sym, ◌∙◌, ap}
-use Rattle.std.specs.Prelude.{IsTrue, Result}
+use Rattle.std.proofs.Common.{◌≡◌, List, ℕ, length, true, false, None, subst, refl, sym, ◌∙◌, ap}
+use Rattle.std.specs.Prelude.{IsTrue}
 use Rattle.perf_base.specs.Configured.{configuration_of, endian_of}
 use Rattle.perf_base.specs.Refusals.{kinds, refused}
 use Rattle.perf_base.specs.declared.config.ParseConfig.{ParseConfig}
