@@ -18,6 +18,7 @@ pub use Rattle.perf_reader.specs.Reading.{Keeps, of_layout}
 pub use Rattle.perf_records.specs.Answers.{SaysBehind, answers, body_length, LeavesAllOrBehind}
 pub use Rattle.perf_records.specs.Bodies.{wants_memory}
 pub use Rattle.perf_records.specs.Records.{IsBorrowed}
+pub use Rattle.perf_records.specs.Visits.{VisitsBehind, VisitsFrame, BelongsTo}
 pub use Rattle.perf_types.specs.Registers.{RegistersValue, registers_of, registers_value}
 pub use Rattle.perf_parser.specs.Calls.{Follows, Counts, KeepsOn, Call, CallAs, CallOnly}
 pub use Rattle.perf_parser.specs.Frames.{SplitsParser, SplitsFrame}

@@ -11,5 +11,6 @@ mod numbers;
 pub mod parse;
 mod parser;
 mod runs;
+mod visits;
 
 pub use crate::runs::{Run, RunEnd, read_records};

@@ -1,5 +1,6 @@
-pub mod Bodies
 pub mod Saying
 pub mod Keeping
 pub mod Splitting
 pub mod Headers
+pub mod Lending
+pub mod Visiting

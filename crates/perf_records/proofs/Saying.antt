@@ -1,17 +1,12 @@
 -- What was read by places is what the layout says, with as many reads.
-use Rattle.std.proofs.Common.{◌≡◌, ℕ, ◌+◌, List, length, drop, arith}
-use Rattle.std.specs.Prelude.{Option, None, Some, Result, Ok, Err, IsTrue}
+use Rattle.std.proofs.Common.{◌≡◌, ℕ, ◌+◌, List, length, drop}
+use Rattle.std.specs.Prelude.{Option, None, Some, Result, Ok, Err}
 use Rattle.perf_base.specs.Layout.{Parts, spots, first_refusal, ending, value, layout}
 use Rattle.perf_base.specs.Order.{Order}
 use Rattle.perf_base.specs.LayoutReads.{layout_reads}
 use Rattle.perf_base.specs.Run.{Ran, ran, stopped, left_at, by_places}
-use Rattle.perf_base.specs.Took.{Took, took, quit, with_reads, took_by_places}
+use Rattle.perf_base.specs.Took.{took, quit, with_reads, took_by_places}
 use Rattle.perf_base.specs.declared.error.ErrorKind.{ErrorKind}
-use Rattle.perf_reader.specs.Meaning.{Meaning}
-use Rattle.perf_reader.specs.Reading.{AnswersRun}
-use Rattle.perf_records.specs.Answers.{Finishes}
-use Rattle.perf_records.specs.Records.{RecordValue, record_value}
-use Rattle.perf_records.specs.declared.record.Record.{Record}
 
 -- the layout, by its first fault
 abbrev laid : {A : Type 0} → Option ErrorKind → A → Result A ErrorKind
@@ -46,14 +41,6 @@ unfolding took_by_places
 quit_says o p body left n m e h =
     let s = stopped_of (first_refusal (length body) (spots o body 0 p)) (value o body 0 p) e (drop (ending o body 0 p) body) (left_at body (spots o body 0 p)) left (n + layout_reads o p body) m h in
     (s.0, s.2)
-
--- the reading of all of a body
-pub finishes : (r : Result Record ErrorKind) (o : Order) (p : Parts RecordValue) (bytes : List ℕ) (n : ℕ) (new : Meaning) → n ≡ 0 →
-    AnswersRun record_value (took_by_places o p bytes n) r new → Finishes o p bytes r new.reads
-finishes (Ok r) o p bytes n new none h =
-    let s = took_says o p bytes new.source.left n new.reads (record_value r) h in (s.0, omega (arith, none, s.2))
-finishes (Err e) o p bytes n new none h = λ kind.
-    let s = quit_says o p bytes new.source.left n new.reads e (h kind) in (s.0, omega (arith, none, s.1))
 
 -- ---- by places alone
 

@@ -1,23 +1,18 @@
 -- How a frame falls apart.
-use Rattle.std.proofs.Common.{◌≡◌, ℕ, ◌<◌, ◌≤◌, List, [], length, take, drop, arith, refl, sym, ◌∙◌, ap, true, false, nat_lt, subst, inl, inr, ◌+◌, ◌-◌}
+use Rattle.std.proofs.Common.{◌≡◌, ℕ, ◌<◌, ◌≤◌, List, length, take, drop, arith, refl, sym, ◌∙◌, ap, true, false, nat_lt}
 use Rattle.std.specs.Prelude.{Ok, Err, IsTrue, Result}
-use Rattle.std.proofs.lemmas.Bool.{cases_lt, lt-ltb, le-ltb}
+use Rattle.std.proofs.lemmas.Bool.{lt-ltb, le-ltb}
 use Rattle.std.proofs.lemmas.List.{drop_all, length-take-le}
-use Rattle.perf_base.specs.Configuration.{Configuration, under_misc}
-use Rattle.perf_base.specs.Layout.{layout}
+use Rattle.perf_base.specs.Configuration.{Configuration}
 use Rattle.perf_base.specs.Order.{Order}
-use Rattle.perf_base.specs.LayoutReads.{layout_reads}
 use Rattle.perf_base.specs.declared.error.ErrorKind.{ErrorKind}
 use Rattle.perf_base.specs.declared.error.ErrorKind.TheVariants.{Eof, InvalidRecord, UnsupportedConfig, UnsupportedData, External, OutOfMemory}
 use Rattle.perf_base.specs.declared.sys.perf_event_header.{perf_event_header}
 use Rattle.perf_buffers.specs.Buffer.{Source}
 use Rattle.perf_buffers.specs.Taking.{FailsToKeep}
-use Rattle.perf_reader.specs.Meaning.{Meaning}
 use Rattle.perf_reader.specs.Reading.{of_layout}
-use Rattle.perf_records.specs.Answers.{body_length, FrameParts, parts_of, split_behind, split_reads, id_reads, record_in, record_reads, answer_behind, reads_behind, SaysBehind, SplitsBehind, Finishes}
-use Rattle.perf_records.specs.Bodies.{body}
+use Rattle.perf_records.specs.Answers.{body_length, FrameParts, parts_of, split_behind, split_reads, id_reads}
 use Rattle.perf_records.specs.Metadata.{id_length}
-use Rattle.perf_records.specs.declared.record.Record.{Record}
 
 -- ---- the four cases
 pub split_small : (c : Configuration) (o : Order) (h : perf_event_header) (bytes : List ℕ) → h.size < 8 → split_behind c o h bytes ≡ Err InvalidRecord
@@ -80,30 +75,3 @@ split_made c o h bytes frame parts sized fits cut room are =
     let long : length frame ≡ body_length h = ap length cut ∙ length-take-le (body_length h) bytes fits in
     let whole : split_behind c o h bytes ≡ Ok parts = split_whole c o h bytes sized fits (omega arith) ∙ ap Ok (sym (are ∙ ap (parts_of c o h) cut)) in
     (whole, ap (λ (r : Result FrameParts ErrorKind). elim r [ Ok parts ↦ id_reads c o h (take (body_length h) bytes) | Err e ↦ 0 ]) whole ∙ sym (ap (id_reads c o h) cut))
-
--- ---- what is said of a frame
-
--- one that was refused
-pub says_unsplit : (h : perf_event_header) (old new : Meaning) (e : ErrorKind) → SplitsBehind h old (Err e) new → SaysBehind h old (Err e) new
-says_unsplit h old new e p = λ kind.
-    let c : Configuration = old.settings in let o : Order = old.order in let bytes : List ℕ = old.source.left in
-    let q = p kind in (
-      ap (record_in c o h) q.0,
-      q.1,
-      q.2 ∙ ap (λ (n : ℕ). old.reads + n) (sym (ap (λ (r : Result FrameParts ErrorKind). split_reads c o h bytes + record_reads c o h r) q.0 ∙ omega arith)),
-    )
-
--- one that fell apart
-pub says_split : (h : perf_event_header) (old mid new : Meaning) (parts : FrameParts) (seen : Result Record ErrorKind) (k : ℕ) →
-    let c = old.settings in let o = old.order in let bytes = old.source.left in
-    split_behind c o h bytes ≡ Ok parts → mid.source.left ≡ drop (body_length h) bytes → mid.reads ≡ old.reads + split_reads c o h bytes →
-    new.source.left ≡ mid.source.left → new.reads ≡ mid.reads + k → Finishes o (body (under_misc h.misc c) h.type_) parts.body seen k → SaysBehind h old seen new
-says_split h old mid new parts (Ok r) k e left reads same more says =
-    let c : Configuration = old.settings in let o : Order = old.order in let bytes : List ℕ = old.source.left in
-    let made : record_reads c o h (split_behind c o h bytes) ≡ k = ap (record_reads c o h) e ∙ sym says.1 in
-    (ap (record_in c o h) e ∙ says.0, same ∙ left, omega (arith, more, reads, made))
-says_split h old mid new parts (Err x) k e left reads same more says = λ kind.
-    let c : Configuration = old.settings in let o : Order = old.order in let bytes : List ℕ = old.source.left in
-    let s = says kind in
-    let made : record_reads c o h (split_behind c o h bytes) ≡ k = ap (record_reads c o h) e ∙ sym s.1 in
-    (ap (record_in c o h) e ∙ s.0, same ∙ left, omega (arith, more, reads, made))

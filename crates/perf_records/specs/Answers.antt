@@ -5,7 +5,7 @@ use Rattle.std.specs.Prelude.{length}
 use Rattle.std.specs.Prelude.{take, drop, IsTrue, IfOk, false, nat_lt, if◌then◌else◌}
 use Rattle.perf_base.specs.Configuration.{Configuration, under_misc}
 use Rattle.perf_base.specs.Header.{header, header_of}
-use Rattle.perf_base.specs.Layout.{Parts, layout, value}
+use Rattle.perf_base.specs.Layout.{layout, value}
 use Rattle.perf_base.specs.Order.{Order}
 use Rattle.perf_base.specs.LayoutReads.{layout_reads}
 use Rattle.perf_base.specs.Refusals.{refused, TakesNoMemory}
@@ -18,7 +18,6 @@ use Rattle.perf_buffers.specs.Buffer.{Source}
 use Rattle.perf_buffers.specs.Cursor.{cursor_left}
 use Rattle.perf_buffers.specs.Taking.{MovesWithin}
 use Rattle.perf_buffers.specs.declared.cursor.ParseBufCursor.{ParseBufCursor}
-use Rattle.perf_reader.specs.Meaning.{Meaning}
 use Rattle.perf_reader.specs.Reading.{Says, of_layout, is_external}
 use Rattle.perf_records.specs.Bodies.{body, wants_memory}
 use Rattle.perf_records.specs.Frames.{frame_length, frames}
@@ -180,11 +179,3 @@ FailsToCut old h UnsupportedConfig new = ⊥
 FailsToCut old h UnsupportedData new = ⊥
 FailsToCut old h External new = MovesWithin old (body_length h) new
 FailsToCut old h OutOfMemory new = MovesWithin old (body_length h) new
-
--- The reading of all of a body: its layout, with the reads that makes. Of want of memory this says
--- nothing.
-abbrev pub Finishes : Order → Parts RecordValue → List ℕ → Result Record ErrorKind → ℕ → Type 0
-Finishes o p bytes (Ok r) k =
-    (layout o p bytes ≡ Ok (record_value r)) × (k ≡ layout_reads o p bytes)
-Finishes o p bytes (Err e) k =
-    IsTrue (of_layout e) → (layout o p bytes ≡ Err e) × (k ≡ layout_reads o p bytes)

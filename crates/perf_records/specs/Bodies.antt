@@ -1,19 +1,15 @@
 -- What stands between a record's header and its sample id, by its type.
-use Rattle.std.specs.Prelude.{ℕ, Bool, false, Option, Some, None, IsTrue, IfOk, ◌≡◌}
+use Rattle.std.specs.Prelude.{ℕ, Bool, false, Option, Some, None}
 use Rattle.perf_base.specs.Configuration.{Configuration}
 use Rattle.perf_base.specs.FieldWords.{all_left}
 use Rattle.perf_base.specs.Layout.{Parts, done, mapped}
-use Rattle.perf_base.specs.Refusals.{TakesNoMemory}
-use Rattle.perf_reader.specs.Reading.{Says, Reads, ReadsLent}
-use Rattle.perf_reader.specs.TableRuns.{ReadsBorrowed}
 use Rattle.perf_records.specs.RecordTypes.{type_of, type_wants_memory}
-use Rattle.perf_records.specs.Records.{RecordValue, record_value, IsBorrowed, mmap_is, lost_is}
+use Rattle.perf_records.specs.Records.{RecordValue, mmap_is, lost_is}
 use Rattle.perf_records.specs.Records.{comm_is, exit_is, throttle_is, unthrottle_is, fork_is}
 use Rattle.perf_records.specs.Records.{read_is, sample_is, mmap2_is, aux_is, itrace_start_is}
 use Rattle.perf_records.specs.Records.{lost_samples_is, switch_is, switch_cpu_wide_is}
 use Rattle.perf_records.specs.Records.{namespaces_is, ksymbol_is, bpf_event_is, cgroup_is}
 use Rattle.perf_records.specs.Records.{text_poke_is, aux_output_hw_id_is, unknown_is}
-use Rattle.perf_records.specs.declared.record.Record.{Record}
 use Rattle.perf_records.specs.declared.record_type.RecordType.{RecordType}
 use Rattle.perf_records.specs.declared.record_type.RecordType.TheVariants as type
 use Rattle.perf_types.specs.Mmap.{mmap}
@@ -63,26 +59,18 @@ body_of c ty type.CGroup = mapped cgroup_is cgroup
 body_of c ty type.TextPoke = mapped text_poke_is text_poke
 body_of c ty type.AuxOutputHwId = mapped aux_output_hw_id_is aux_output_hw_id
 
+-- the same of a type, or of none
+abbrev pub body_of_type : Configuration → ℕ → Option RecordType → Parts RecordValue
+body_of_type c ty type = elim type [ Some type ↦ body_of c ty type | None ↦ unread ty ]
+
 -- the same by the number in its header
 abbrev pub body : Configuration → ℕ → Parts RecordValue
-body c ty = elim (type_of ty) [ Some type ↦ body_of c ty type | None ↦ unread ty ]
+body c ty = body_of_type c ty (type_of ty)
 
--- a number whose records take memory, also where a whole buffer lends its bytes
+-- a type whose records take memory, also where a whole buffer lends its bytes
+abbrev pub wants_memory_of_type : Option RecordType → Bool
+wants_memory_of_type type = elim type [ Some type ↦ type_wants_memory type | None ↦ false ]
+
+-- the same by its number
 abbrev pub wants_memory : ℕ → Bool
-wants_memory ty = elim (type_of ty) [ Some type ↦ type_wants_memory type | None ↦ false ]
-
--- What the reading of a body means: its layout, of which no byte is copied out of a whole buffer;
--- memory is taken there for a list or a box alone.
-abbrev pub SaysBody : ℕ → Says Record
-SaysBody ty old seen new =
-    Reads (λ c. body c ty) record_value old seen new
-    × (IsTrue old.source.whole →
-    IfOk seen IsBorrowed × (wants_memory ty ≡ false → TakesNoMemory seen))
-
--- the same of a type that is known
-abbrev pub SaysLent : (Configuration → Parts RecordValue) → Says Record
-SaysLent parts = ReadsLent parts record_value IsBorrowed
-
--- the same of one whose reading may want memory
-abbrev pub SaysBorrowed : (Configuration → Parts RecordValue) → Says Record
-SaysBorrowed parts = ReadsBorrowed parts record_value IsBorrowed
+wants_memory ty = wants_memory_of_type (type_of ty)

@@ -5,4 +5,5 @@ pub mod RecordTypes
 pub mod Bodies
 pub mod Frames
 pub mod Answers
+pub mod Visits
 pub mod Words

@@ -1,19 +1,17 @@
-//! The records of a type, out of the bytes between header and sample id.
+//! Visits of the record of a type, out of the bytes between header and sample id.
 //!
 //! Each type is read in a function of its own, so that a call has no more on its stack than that
 //! type wants.
 #![tactic(auto, using(perf_reader::proofs::Paying::chain))]
 
-ghost use Rattle.std.specs.Prelude.{IfOk};
-ghost use Rattle.perf_records.specs.Records as value;
-ghost use Rattle.perf_records.specs.Words as table;
-ghost use Rattle.perf_records.specs.Words.{mapped, Call, Reads, kinds, SaysBody, SaysLent, unread};
-ghost use Rattle.perf_records.specs.Words.{SaysBorrowed, record_value, IsBorrowed};
+ghost use Rattle.perf_records.specs.Words.{Call, VisitsBody, VisitsType, VisitsUnread, kinds};
+ghost use Rattle.perf_records.specs.Words as words;
 
-use crate::record::Record;
+use crate::metadata::RecordMetadata;
 use crate::record_type::RecordType;
+use crate::visitor::Visitor;
 use perf_base::endian::Endian;
-use perf_base::refusal::{ReadResult, Refusal};
+use perf_base::refusal::ReadResult;
 use perf_buffers::input::Input;
 use perf_reader::reader::Reader;
 use perf_types::aux_output_hw_id::AuxOutputHwId;
@@ -34,249 +32,308 @@ use perf_types::sample::Sample;
 use perf_types::switch_cpu_wide::SwitchCpuWide;
 use perf_types::text_poke::TextPoke;
 use perf_types::throttle::Throttle;
-use std::boxed::Box;
 
-// Reads a type, as the variant that holds it.
-macro_rules! held {
-    ($reader:ident, $type:ty => $variant:ident) => {
+// Reads a type, and hands it to its call.
+macro_rules! visited {
+    ($reader:ident, $metadata:ident, $visitor:ident, $type:ty => $visit:ident) => {
         match $reader.read::<$type>() {
-            Ok(held) => Ok(Record::$variant(held)),
+            Ok(held) => Ok($visitor.$visit(held, $metadata)),
             Err(refusal) => Err(refusal),
         }
     };
 }
 
 #[inline(never)]
-fn read_mmap<'p, I: Input<'p>, E: Endian>(reader: &mut Reader<I, E>) -> ReadResult<Record<'p>>
-    ensures call { Call I.source E.order (SaysLent (λ _. mapped value.mmap_is table.mmap))
-        reader.old (kinds result) reader.new }
-{
-    held!(reader, Mmap<'p> => Mmap)
-}
-
-#[inline(never)]
-fn read_lost<'p, I: Input<'p>, E: Endian>(reader: &mut Reader<I, E>) -> ReadResult<Record<'p>>
-    ensures call { Call I.source E.order (SaysLent (λ _. mapped value.lost_is table.lost))
-        reader.old (kinds result) reader.new }
-{
-    held!(reader, Lost => Lost)
-}
-
-#[inline(never)]
-fn read_comm<'p, I: Input<'p>, E: Endian>(reader: &mut Reader<I, E>) -> ReadResult<Record<'p>>
-    ensures call { Call I.source E.order (SaysLent (λ _. mapped value.comm_is table.comm))
-        reader.old (kinds result) reader.new }
-{
-    held!(reader, Comm<'p> => Comm)
-}
-
-#[inline(never)]
-fn read_exit<'p, I: Input<'p>, E: Endian>(reader: &mut Reader<I, E>) -> ReadResult<Record<'p>>
-    ensures call { Call I.source E.order (SaysLent (λ _. mapped value.exit_is table.exit))
-        reader.old (kinds result) reader.new }
-{
-    held!(reader, Exit => Exit)
-}
-
-#[inline(never)]
-fn read_throttle<'p, I: Input<'p>, E: Endian>(reader: &mut Reader<I, E>) -> ReadResult<Record<'p>>
-    ensures call { Call I.source E.order (SaysLent (λ _. mapped value.throttle_is table.throttle))
-        reader.old (kinds result) reader.new }
-{
-    held!(reader, Throttle => Throttle)
-}
-
-#[inline(never)]
-fn read_unthrottle<'p, I: Input<'p>, E: Endian>(reader: &mut Reader<I, E>) -> ReadResult<Record<'p>>
-    ensures call { Call I.source E.order (SaysLent (λ _. mapped value.unthrottle_is table.throttle))
-        reader.old (kinds result) reader.new }
-{
-    held!(reader, Throttle => Unthrottle)
-}
-
-#[inline(never)]
-fn read_fork<'p, I: Input<'p>, E: Endian>(reader: &mut Reader<I, E>) -> ReadResult<Record<'p>>
-    ensures call { Call I.source E.order (SaysLent (λ _. mapped value.fork_is table.exit))
-        reader.old (kinds result) reader.new }
-{
-    held!(reader, Exit => Fork)
-}
-
-#[inline(never)]
-fn read_read<'p, I: Input<'p>, E: Endian>(reader: &mut Reader<I, E>) -> ReadResult<Record<'p>>
-    ensures call { Call I.source E.order (SaysLent (λ c. mapped value.read_is (table.read c)))
-        reader.old (kinds result) reader.new }
-{
-    held!(reader, Read => Read)
-}
-
-// A sample goes into a box, so that a record of another type has no room for one.
-#[inline(never)]
-fn read_sample<'p, I: Input<'p>, E: Endian>(reader: &mut Reader<I, E>) -> ReadResult<Record<'p>>
-    ensures call { Call I.source E.order
-        (SaysBorrowed (λ c. mapped value.sample_is (table.sample c)))
-        reader.old (kinds result) reader.new }
-{
-    let sample = match reader.read::<Sample<'p>>() {
-        Ok(sample) => sample,
-        Err(refusal) => return Err(refusal),
-    };
-    match Box::new(reader.alloc(), sample) {
-        Ok(sample) => Ok(Record::Sample(sample)),
-        Err(_) => Err(Refusal::OutOfMemory),
-    }
-}
-
-#[inline(never)]
-fn read_mmap2<'p, I: Input<'p>, E: Endian>(reader: &mut Reader<I, E>) -> ReadResult<Record<'p>>
-    ensures call { Call I.source E.order (SaysLent (λ c. mapped value.mmap2_is (table.mmap2 c)))
-        reader.old (kinds result) reader.new }
-{
-    held!(reader, Mmap2<'p> => Mmap2)
-}
-
-#[inline(never)]
-fn read_aux<'p, I: Input<'p>, E: Endian>(reader: &mut Reader<I, E>) -> ReadResult<Record<'p>>
-    ensures call { Call I.source E.order (SaysLent (λ _. mapped value.aux_is table.aux))
-        reader.old (kinds result) reader.new }
-{
-    held!(reader, Aux => Aux)
-}
-
-#[inline(never)]
-fn read_itrace_start<'p, I: Input<'p>, E: Endian>(
+fn visit_mmap<'p, I: Input<'p>, E: Endian, V: Visitor<'p>>(
     reader: &mut Reader<I, E>,
-) -> ReadResult<Record<'p>>
-    ensures call { Call I.source E.order
-        (SaysLent (λ _. mapped value.itrace_start_is table.itrace_start))
+    metadata: RecordMetadata,
+    visitor: V,
+) -> ReadResult<V::Output>
+    ensures call { Call I.source E.order (VisitsType V.gives metadata RecordType.Mmap)
         reader.old (kinds result) reader.new }
 {
-    held!(reader, ITraceStart => ITraceStart)
+    visited!(reader, metadata, visitor, Mmap<'p> => visit_mmap)
 }
 
 #[inline(never)]
-fn read_lost_samples<'p, I: Input<'p>, E: Endian>(
+fn visit_lost<'p, I: Input<'p>, E: Endian, V: Visitor<'p>>(
     reader: &mut Reader<I, E>,
-) -> ReadResult<Record<'p>>
-    ensures call { Call I.source E.order
-        (SaysLent (λ _. mapped value.lost_samples_is table.lost_samples))
+    metadata: RecordMetadata,
+    visitor: V,
+) -> ReadResult<V::Output>
+    ensures call { Call I.source E.order (VisitsType V.gives metadata RecordType.Lost)
         reader.old (kinds result) reader.new }
 {
-    held!(reader, LostSamples => LostSamples)
+    visited!(reader, metadata, visitor, Lost => visit_lost)
 }
 
 #[inline(never)]
-fn read_switch_cpu_wide<'p, I: Input<'p>, E: Endian>(
+fn visit_comm<'p, I: Input<'p>, E: Endian, V: Visitor<'p>>(
     reader: &mut Reader<I, E>,
-) -> ReadResult<Record<'p>>
-    ensures call { Call I.source E.order
-        (SaysLent (λ c. mapped value.switch_cpu_wide_is (table.switch_cpu_wide c)))
+    metadata: RecordMetadata,
+    visitor: V,
+) -> ReadResult<V::Output>
+    ensures call { Call I.source E.order (VisitsType V.gives metadata RecordType.Comm)
         reader.old (kinds result) reader.new }
 {
-    held!(reader, SwitchCpuWide => SwitchCpuWide)
+    visited!(reader, metadata, visitor, Comm<'p> => visit_comm)
 }
 
 #[inline(never)]
-fn read_namespaces<'p, I: Input<'p>, E: Endian>(reader: &mut Reader<I, E>) -> ReadResult<Record<'p>>
-    ensures borrowed { IfOk result (λ r. IsBorrowed r) }
-    ensures call { Call I.source E.order
-        (Reads (λ _. mapped value.namespaces_is table.namespaces) record_value)
-        reader.old (kinds result) reader.new }
-{
-    held!(reader, Namespaces<'p> => Namespaces)
-}
-
-#[inline(never)]
-fn read_ksymbol<'p, I: Input<'p>, E: Endian>(reader: &mut Reader<I, E>) -> ReadResult<Record<'p>>
-    ensures call { Call I.source E.order (SaysLent (λ _. mapped value.ksymbol_is table.ksymbol))
-        reader.old (kinds result) reader.new }
-{
-    held!(reader, KSymbol<'p> => KSymbol)
-}
-
-#[inline(never)]
-fn read_bpf_event<'p, I: Input<'p>, E: Endian>(reader: &mut Reader<I, E>) -> ReadResult<Record<'p>>
-    ensures call { Call I.source E.order (SaysLent (λ _. mapped value.bpf_event_is table.bpf_event))
-        reader.old (kinds result) reader.new }
-{
-    held!(reader, BpfEvent => BpfEvent)
-}
-
-#[inline(never)]
-fn read_cgroup<'p, I: Input<'p>, E: Endian>(reader: &mut Reader<I, E>) -> ReadResult<Record<'p>>
-    ensures call { Call I.source E.order (SaysLent (λ _. mapped value.cgroup_is table.cgroup))
-        reader.old (kinds result) reader.new }
-{
-    held!(reader, CGroup<'p> => CGroup)
-}
-
-#[inline(never)]
-fn read_text_poke<'p, I: Input<'p>, E: Endian>(reader: &mut Reader<I, E>) -> ReadResult<Record<'p>>
-    ensures call { Call I.source E.order (SaysLent (λ _. mapped value.text_poke_is table.text_poke))
-        reader.old (kinds result) reader.new }
-{
-    held!(reader, TextPoke<'p> => TextPoke)
-}
-
-#[inline(never)]
-fn read_aux_output_hw_id<'p, I: Input<'p>, E: Endian>(
+fn visit_exit<'p, I: Input<'p>, E: Endian, V: Visitor<'p>>(
     reader: &mut Reader<I, E>,
-) -> ReadResult<Record<'p>>
-    ensures call { Call I.source E.order
-        (SaysLent (λ _. mapped value.aux_output_hw_id_is table.aux_output_hw_id))
+    metadata: RecordMetadata,
+    visitor: V,
+) -> ReadResult<V::Output>
+    ensures call { Call I.source E.order (VisitsType V.gives metadata RecordType.Exit)
         reader.old (kinds result) reader.new }
 {
-    held!(reader, AuxOutputHwId => AuxOutputHwId)
+    visited!(reader, metadata, visitor, Exit => visit_exit)
+}
+
+#[inline(never)]
+fn visit_throttle<'p, I: Input<'p>, E: Endian, V: Visitor<'p>>(
+    reader: &mut Reader<I, E>,
+    metadata: RecordMetadata,
+    visitor: V,
+) -> ReadResult<V::Output>
+    ensures call { Call I.source E.order (VisitsType V.gives metadata RecordType.Throttle)
+        reader.old (kinds result) reader.new }
+{
+    visited!(reader, metadata, visitor, Throttle => visit_throttle)
+}
+
+#[inline(never)]
+fn visit_unthrottle<'p, I: Input<'p>, E: Endian, V: Visitor<'p>>(
+    reader: &mut Reader<I, E>,
+    metadata: RecordMetadata,
+    visitor: V,
+) -> ReadResult<V::Output>
+    ensures call { Call I.source E.order (VisitsType V.gives metadata RecordType.Unthrottle)
+        reader.old (kinds result) reader.new }
+{
+    visited!(reader, metadata, visitor, Throttle => visit_unthrottle)
+}
+
+#[inline(never)]
+fn visit_fork<'p, I: Input<'p>, E: Endian, V: Visitor<'p>>(
+    reader: &mut Reader<I, E>,
+    metadata: RecordMetadata,
+    visitor: V,
+) -> ReadResult<V::Output>
+    ensures call { Call I.source E.order (VisitsType V.gives metadata RecordType.Fork)
+        reader.old (kinds result) reader.new }
+{
+    visited!(reader, metadata, visitor, Exit => visit_fork)
+}
+
+#[inline(never)]
+fn visit_read<'p, I: Input<'p>, E: Endian, V: Visitor<'p>>(
+    reader: &mut Reader<I, E>,
+    metadata: RecordMetadata,
+    visitor: V,
+) -> ReadResult<V::Output>
+    ensures call { Call I.source E.order (VisitsType V.gives metadata RecordType.Read)
+        reader.old (kinds result) reader.new }
+{
+    visited!(reader, metadata, visitor, Read => visit_read)
+}
+
+#[inline(never)]
+fn visit_sample<'p, I: Input<'p>, E: Endian, V: Visitor<'p>>(
+    reader: &mut Reader<I, E>,
+    metadata: RecordMetadata,
+    visitor: V,
+) -> ReadResult<V::Output>
+    ensures call { Call I.source E.order (VisitsType V.gives metadata RecordType.Sample)
+        reader.old (kinds result) reader.new }
+{
+    visited!(reader, metadata, visitor, Sample<'p> => visit_sample)
+}
+
+#[inline(never)]
+fn visit_mmap2<'p, I: Input<'p>, E: Endian, V: Visitor<'p>>(
+    reader: &mut Reader<I, E>,
+    metadata: RecordMetadata,
+    visitor: V,
+) -> ReadResult<V::Output>
+    ensures call { Call I.source E.order (VisitsType V.gives metadata RecordType.Mmap2)
+        reader.old (kinds result) reader.new }
+{
+    visited!(reader, metadata, visitor, Mmap2<'p> => visit_mmap2)
+}
+
+#[inline(never)]
+fn visit_aux<'p, I: Input<'p>, E: Endian, V: Visitor<'p>>(
+    reader: &mut Reader<I, E>,
+    metadata: RecordMetadata,
+    visitor: V,
+) -> ReadResult<V::Output>
+    ensures call { Call I.source E.order (VisitsType V.gives metadata RecordType.Aux)
+        reader.old (kinds result) reader.new }
+{
+    visited!(reader, metadata, visitor, Aux => visit_aux)
+}
+
+#[inline(never)]
+fn visit_itrace_start<'p, I: Input<'p>, E: Endian, V: Visitor<'p>>(
+    reader: &mut Reader<I, E>,
+    metadata: RecordMetadata,
+    visitor: V,
+) -> ReadResult<V::Output>
+    ensures call { Call I.source E.order (VisitsType V.gives metadata RecordType.ITraceStart)
+        reader.old (kinds result) reader.new }
+{
+    visited!(reader, metadata, visitor, ITraceStart => visit_itrace_start)
+}
+
+#[inline(never)]
+fn visit_lost_samples<'p, I: Input<'p>, E: Endian, V: Visitor<'p>>(
+    reader: &mut Reader<I, E>,
+    metadata: RecordMetadata,
+    visitor: V,
+) -> ReadResult<V::Output>
+    ensures call { Call I.source E.order (VisitsType V.gives metadata RecordType.LostSamples)
+        reader.old (kinds result) reader.new }
+{
+    visited!(reader, metadata, visitor, LostSamples => visit_lost_samples)
+}
+
+#[inline(never)]
+fn visit_switch_cpu_wide<'p, I: Input<'p>, E: Endian, V: Visitor<'p>>(
+    reader: &mut Reader<I, E>,
+    metadata: RecordMetadata,
+    visitor: V,
+) -> ReadResult<V::Output>
+    ensures call { Call I.source E.order (VisitsType V.gives metadata RecordType.SwitchCpuWide)
+        reader.old (kinds result) reader.new }
+{
+    visited!(reader, metadata, visitor, SwitchCpuWide => visit_switch_cpu_wide)
+}
+
+#[inline(never)]
+fn visit_namespaces<'p, I: Input<'p>, E: Endian, V: Visitor<'p>>(
+    reader: &mut Reader<I, E>,
+    metadata: RecordMetadata,
+    visitor: V,
+) -> ReadResult<V::Output>
+    ensures call { Call I.source E.order (VisitsType V.gives metadata RecordType.Namespaces)
+        reader.old (kinds result) reader.new }
+{
+    visited!(reader, metadata, visitor, Namespaces<'p> => visit_namespaces)
+}
+
+#[inline(never)]
+fn visit_ksymbol<'p, I: Input<'p>, E: Endian, V: Visitor<'p>>(
+    reader: &mut Reader<I, E>,
+    metadata: RecordMetadata,
+    visitor: V,
+) -> ReadResult<V::Output>
+    ensures call { Call I.source E.order (VisitsType V.gives metadata RecordType.KSymbol)
+        reader.old (kinds result) reader.new }
+{
+    visited!(reader, metadata, visitor, KSymbol<'p> => visit_ksymbol)
+}
+
+#[inline(never)]
+fn visit_bpf_event<'p, I: Input<'p>, E: Endian, V: Visitor<'p>>(
+    reader: &mut Reader<I, E>,
+    metadata: RecordMetadata,
+    visitor: V,
+) -> ReadResult<V::Output>
+    ensures call { Call I.source E.order (VisitsType V.gives metadata RecordType.BpfEvent)
+        reader.old (kinds result) reader.new }
+{
+    visited!(reader, metadata, visitor, BpfEvent => visit_bpf_event)
+}
+
+#[inline(never)]
+fn visit_cgroup<'p, I: Input<'p>, E: Endian, V: Visitor<'p>>(
+    reader: &mut Reader<I, E>,
+    metadata: RecordMetadata,
+    visitor: V,
+) -> ReadResult<V::Output>
+    ensures call { Call I.source E.order (VisitsType V.gives metadata RecordType.CGroup)
+        reader.old (kinds result) reader.new }
+{
+    visited!(reader, metadata, visitor, CGroup<'p> => visit_cgroup)
+}
+
+#[inline(never)]
+fn visit_text_poke<'p, I: Input<'p>, E: Endian, V: Visitor<'p>>(
+    reader: &mut Reader<I, E>,
+    metadata: RecordMetadata,
+    visitor: V,
+) -> ReadResult<V::Output>
+    ensures call { Call I.source E.order (VisitsType V.gives metadata RecordType.TextPoke)
+        reader.old (kinds result) reader.new }
+{
+    visited!(reader, metadata, visitor, TextPoke<'p> => visit_text_poke)
+}
+
+#[inline(never)]
+fn visit_aux_output_hw_id<'p, I: Input<'p>, E: Endian, V: Visitor<'p>>(
+    reader: &mut Reader<I, E>,
+    metadata: RecordMetadata,
+    visitor: V,
+) -> ReadResult<V::Output>
+    ensures call { Call I.source E.order (VisitsType V.gives metadata RecordType.AuxOutputHwId)
+        reader.old (kinds result) reader.new }
+{
+    visited!(reader, metadata, visitor, AuxOutputHwId => visit_aux_output_hw_id)
 }
 
 // All bytes, of a type that has no table.
 #[inline(never)]
-fn read_unread<'p, I: Input<'p>, E: Endian>(
+fn visit_unread<'p, I: Input<'p>, E: Endian, V: Visitor<'p>>(
     reader: &mut Reader<I, E>,
-    ty: u32,
-) -> ReadResult<Record<'p>>
-    ensures call { Call I.source E.order (SaysLent (λ _. unread ty))
+    metadata: RecordMetadata,
+    visitor: V,
+) -> ReadResult<V::Output>
+    ensures call { Call I.source E.order (VisitsUnread V.gives metadata)
         reader.old (kinds result) reader.new }
 {
     match reader.read_rest() {
-        Ok(bytes) => Ok(Record::Unknown { ty, bytes }),
+        Ok(bytes) => Ok(visitor.visit_unknown(bytes, metadata)),
         Err(refusal) => Err(refusal),
     }
 }
 
-/// The record of a type, out of the bytes of its body. Those that are left behind the record do not
-/// matter.
+/// Visits the record of the type that the metadata names, out of the bytes of its body. Those that
+/// are left behind the record do not matter. A body that is refused is not visited.
 #[inline]
-pub fn read_body<'p, I: Input<'p>, E: Endian>(
+pub fn visit_body<'p, I: Input<'p>, E: Endian, V: Visitor<'p>>(
     reader: &mut Reader<I, E>,
-    ty: u32,
-) -> ReadResult<Record<'p>>
-    ensures call { Call I.source E.order (SaysBody ty) reader.old (kinds result) reader.new }
+    metadata: RecordMetadata,
+    visitor: V,
+) -> ReadResult<V::Output>
+    ensures call { Call I.source E.order (VisitsBody V.gives metadata)
+        reader.old (kinds result) reader.new }
 {
-    let Some(kind) = RecordType::of(ty) else {
-        return read_unread(reader, ty);
+    let Some(kind) = RecordType::of(metadata.ty()) else {
+        return visit_unread(reader, metadata, visitor);
     };
     match kind {
-        RecordType::Mmap => read_mmap(reader),
-        RecordType::Lost => read_lost(reader),
-        RecordType::Comm => read_comm(reader),
-        RecordType::Exit => read_exit(reader),
-        RecordType::Throttle => read_throttle(reader),
-        RecordType::Unthrottle => read_unthrottle(reader),
-        RecordType::Fork => read_fork(reader),
-        RecordType::Read => read_read(reader),
-        RecordType::Sample => read_sample(reader),
-        RecordType::Mmap2 => read_mmap2(reader),
-        RecordType::Aux => read_aux(reader),
-        RecordType::ITraceStart => read_itrace_start(reader),
-        RecordType::LostSamples => read_lost_samples(reader),
-        RecordType::Switch => Ok(Record::Switch),
-        RecordType::SwitchCpuWide => read_switch_cpu_wide(reader),
-        RecordType::Namespaces => read_namespaces(reader),
-        RecordType::KSymbol => read_ksymbol(reader),
-        RecordType::BpfEvent => read_bpf_event(reader),
-        RecordType::CGroup => read_cgroup(reader),
-        RecordType::TextPoke => read_text_poke(reader),
-        RecordType::AuxOutputHwId => read_aux_output_hw_id(reader),
+        RecordType::Mmap => visit_mmap(reader, metadata, visitor),
+        RecordType::Lost => visit_lost(reader, metadata, visitor),
+        RecordType::Comm => visit_comm(reader, metadata, visitor),
+        RecordType::Exit => visit_exit(reader, metadata, visitor),
+        RecordType::Throttle => visit_throttle(reader, metadata, visitor),
+        RecordType::Unthrottle => visit_unthrottle(reader, metadata, visitor),
+        RecordType::Fork => visit_fork(reader, metadata, visitor),
+        RecordType::Read => visit_read(reader, metadata, visitor),
+        RecordType::Sample => visit_sample(reader, metadata, visitor),
+        RecordType::Mmap2 => visit_mmap2(reader, metadata, visitor),
+        RecordType::Aux => visit_aux(reader, metadata, visitor),
+        RecordType::ITraceStart => visit_itrace_start(reader, metadata, visitor),
+        RecordType::LostSamples => visit_lost_samples(reader, metadata, visitor),
+        RecordType::Switch => Ok(visitor.visit_switch(metadata)),
+        RecordType::SwitchCpuWide => visit_switch_cpu_wide(reader, metadata, visitor),
+        RecordType::Namespaces => visit_namespaces(reader, metadata, visitor),
+        RecordType::KSymbol => visit_ksymbol(reader, metadata, visitor),
+        RecordType::BpfEvent => visit_bpf_event(reader, metadata, visitor),
+        RecordType::CGroup => visit_cgroup(reader, metadata, visitor),
+        RecordType::TextPoke => visit_text_poke(reader, metadata, visitor),
+        RecordType::AuxOutputHwId => visit_aux_output_hw_id(reader, metadata, visitor),
     }
 }

@@ -6,9 +6,11 @@ ghost use Rattle.perf_records.specs.Words.{configuration_of, endian_of, input_of
 ghost use Rattle.perf_records.specs.Words.{reads_of, kinds, refusal_kind, cursor_left, body_length};
 ghost use Rattle.perf_records.specs.Words as words;
 
-use crate::body::read_body;
+use crate::body::visit_body;
 use crate::metadata::RecordMetadata;
 use crate::record::Record;
+use crate::record_visitor::Recording;
+use crate::visitor::Visitor;
 use perf_base::config::ParseConfig;
 use perf_base::endian::Endian;
 use perf_base::reads::ReadCounter;
@@ -124,6 +126,8 @@ pub fn split<'p, I: Input<'p>, E: Endian>(
     ensures within { IsTrue (I.source (input_of reader.old)).told →
         words.MovesWithin (I.source (input_of reader.old)) (body_length header)
         (I.source (input_of reader.new)) }
+    ensures named { IfOk result (λ parts.
+        (parts.1.ty ≡ header.type_) × (parts.1.misc ≡ header.misc)) }
     ensures whole { IsTrue (I.source (input_of reader.old)).whole →
         IfOk result (λ parts. IsTrue (words.cursor_lent parts.0)) }
     ensures whole_memory { IsTrue (I.source (input_of reader.old)).whole →
@@ -173,39 +177,89 @@ pub fn split<'p, I: Input<'p>, E: Endian>(
     }
 }
 
-// The record that the bytes of a body are, and how many reads it took. Bytes behind the record do
-// not matter.
+// What a visitor makes of the record that the bytes of a body are, and how many reads that took.
+// Bytes behind the record do not matter.
 #[inline]
-fn finish<'p, E: Endian>(
+fn finish<'p, E: Endian, V: Visitor<'p>>(
     alloc: Global,
     bytes: ParseBufCursor<'p>,
     config: ParseConfig<E>,
-    ty: u32,
-) -> (ReadResult<Record<'p>>, ReadCounter)
-    ensures answer { words.Finishes (E.order (endian_of config))
-        (words.body (configuration_of config) ty)
-        (cursor_left bytes.entry) (kinds result.0) result.1 }
-    ensures borrowed { IsTrue (words.cursor_lent bytes.entry) →
-        IfOk result.0 (λ r. words.IsBorrowed r) }
-    ensures whole_memory { IsTrue (words.cursor_lent bytes.entry) → words.wants_memory ty ≡ false →
-        words.TakesNoMemory (kinds result.0) }
+    metadata: RecordMetadata,
+    visitor: V,
+) -> (ReadResult<V::Output>, ReadCounter)
+    ensures answer { words.VisitsAll V.gives metadata (E.order (endian_of config))
+        (words.body (configuration_of config) metadata.ty) (cursor_left bytes.entry)
+        (words.cursor_lent bytes.entry) (kinds result.0) result.1 }
     ensures faults { words.is_external (words.refused (kinds result.0)) ≡ false }
     ensures cost { result.1
         ≤ length (cursor_left bytes.entry) + words.one_if_refused (words.refused (kinds result.0)) }
 {
     if let Some(bytes) = bytes.as_slice() {
         let mut reader = Reader::new(alloc, bytes, config);
-        let record = read_body(&mut reader, ty);
-        return (record, reader.into_reads());
+        let output = visit_body(&mut reader, metadata, visitor);
+        return (output, reader.into_reads());
     }
     let mut reader = Reader::new(alloc, bytes, config);
-    let record = read_body(&mut reader, ty);
-    (record, reader.into_reads())
+    let output = visit_body(&mut reader, metadata, visitor);
+    (output, reader.into_reads())
+}
+
+/// What a visitor makes of the record of a frame whose header was read. Exactly the frame is taken,
+/// also where it is refused, and then nothing is visited; after a fault, and where memory for the
+/// frame was refused, a beginning of it.
+#[inline]
+pub fn visit_behind<'p, I: Input<'p>, E: Endian, V: Visitor<'p>>(
+    reader: &mut Reader<I, E>,
+    header: perf_event_header,
+    visitor: V,
+) -> ReadResult<V::Output>
+    ensures within { IsTrue (I.source (input_of reader.old)).told →
+        words.MovesWithin (I.source (input_of reader.old)) (body_length header)
+        (I.source (input_of reader.new)) }
+    ensures event { IfOk result (λ output. words.BelongsTo V.gives header
+        (I.source (input_of reader.old)).whole output) }
+    ensures whole_memory { IsTrue (I.source (input_of reader.old)).whole →
+        words.wants_memory header.type_ ≡ false → words.TakesNoMemory (kinds result) }
+
+    // A size that does not count the header is refused before anything else.
+    ensures small { header.size < 8 → (kinds result ≡ Err words.InvalidRecord)
+        × (I.source (input_of reader.new) ≡ I.source (input_of reader.old)) }
+
+    // Memory is taken by the rules of a cut, and by what the body takes. Where memory for the frame
+    // is refused, nothing is taken if all room was made first; where it is refused for the body,
+    // exactly the frame is.
+    ensures nothing { body_length header ≡ 0 → words.wants_memory header.type_ ≡ false →
+        words.TakesNoMemory (kinds result) }
+    ensures short { words.falls_short (I.hint (input_of reader.old)) (body_length header) ≡ true →
+        words.TakesNoMemory (kinds result) × IfOk result (λ output. ⊥) }
+    ensures beforehand { IsTrue (I.source (input_of reader.old)).told →
+        words.is_made_beforehand (I.hint (input_of reader.old)) (body_length header) ≡ true →
+        IfErr result (λ e. refusal_kind e ≡ words.OutOfMemory →
+        words.LeavesAllOrBehind (I.source (input_of reader.old)) (body_length header)
+        (I.source (input_of reader.new))) }
+    ensures spent { IsTrue (I.source (input_of reader.old)).told →
+        IsTrue (I.source (input_of reader.old)).whole →
+        IfErr result (λ e. refusal_kind e ≡ words.OutOfMemory →
+        (I.source (input_of reader.new)).left
+        ≡ drop (body_length header) (I.source (input_of reader.old)).left) }
+    ensures call { Call I.source E.order (words.VisitsBehind V.gives header)
+        reader.old (kinds result) reader.new }
+{
+    let (bytes, metadata) = match split(reader, header) {
+        Ok(parts) => parts,
+        Err(refusal) => return Err(refusal),
+    };
+    let mut config = reader.config().lent();
+    config.set_misc(header.misc);
+    let (output, made) = finish(reader.alloc(), bytes, config, metadata, visitor);
+    reader.count(made);
+    output
 }
 
 /// The record of a frame whose header was read. Exactly the frame is taken, also where it is
 /// refused; after a fault, and where memory for the frame was refused, a beginning of it.
 #[inline]
+#[tactic(auto, unfolding(crate::specs::Visits::GivesRecord))]
 pub fn read_behind<'p, I: Input<'p>, E: Endian>(
     reader: &mut Reader<I, E>,
     header: perf_event_header,
@@ -242,15 +296,12 @@ pub fn read_behind<'p, I: Input<'p>, E: Endian>(
     ensures call { Call I.source E.order (words.SaysBehind header)
         reader.old (kinds result) reader.new }
 {
-    let (bytes, _) = match split(reader, header) {
-        Ok(parts) => parts,
-        Err(refusal) => return Err(refusal),
-    };
-    let mut config = reader.config().lent();
-    config.set_misc(header.misc);
-    let (record, made) = finish(reader.alloc(), bytes, config, header.type_);
-    reader.count(made);
-    record
+    let visitor = Recording::small(reader.alloc());
+    match visit_behind(reader, header, visitor) {
+        Ok(Ok(record)) => Ok(record),
+        Ok(Err(refusal)) => Err(refusal),
+        Err(refusal) => Err(refusal),
+    }
 }
 
 impl Meant for Record<'_> {

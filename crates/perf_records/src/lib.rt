@@ -1,4 +1,4 @@
-//! One value for every record that the kernel writes.
+//! One value for every record that the kernel writes, and visits of records.
 #![tactic(auto)]
 
 pub mod body;
@@ -7,3 +7,5 @@ pub mod metadata;
 pub mod record;
 mod record_clone;
 pub mod record_type;
+pub mod record_visitor;
+pub mod visitor;

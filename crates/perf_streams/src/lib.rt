@@ -63,3 +63,5 @@ mod told;
 mod told_samples;
 #[cfg(test)]
 mod values;
+#[cfg(test)]
+mod visits;

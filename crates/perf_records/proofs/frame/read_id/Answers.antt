@@ -1,13 +1,13 @@
-use Rattle.std.proofs.Common.{◌≡◌, ◌+◌, ◌<◌, ℕ, Bool, true, length, refl, sym, ◌∙◌, ap, if◌then◌else◌, arith}
+use Rattle.std.proofs.Common.{◌≡◌, ◌+◌, Bool, true, length, refl, sym, ◌∙◌, ap, if◌then◌else◌, arith}
 use Rattle.perf_base.specs.Configured.{configuration_of, endian_of}
-use Rattle.perf_base.specs.Layout.{Parts, done, value}
+use Rattle.perf_base.specs.Layout.{done, value}
 use Rattle.perf_base.specs.LayoutReads.{layout_reads}
 use Rattle.perf_reader.proofs.Paying.{keeps_none}
-use Rattle.perf_records.specs.Metadata.{carries_sample_id, id_of_type, id_length}
+use Rattle.perf_records.specs.Metadata.{carries_sample_id}
 use Rattle.perf_base.specs.Refusals.{refusal_kind}
 use Rattle.perf_records.proofs.Keeping.{never_refused}
 use Rattle.perf_records.proofs.Saying.{took_says}
-use Rattle.perf_types.specs.SampleId.{SampleIdValue, no_sample_id, sample_id, sample_id_length}
+use Rattle.perf_types.specs.SampleId.{no_sample_id, sample_id, sample_id_length}
 use Rattle.perf_records.proofs.frame.read_id.Goals as goal
 
 pub returns-in-Ok-clause-id : goal.returns-in-Ok-clause-id

@@ -1,4 +1,4 @@
-use Rattle.std.proofs.Common.{◌≡◌, Ok, Err, Some, false, sym, ◌∙◌, ap, subst}
+use Rattle.std.proofs.Common.{Ok, Err, sym, ◌∙◌, ap, subst}
 use Rattle.std.specs.Prelude.{Result, IsTrue}
 use Rattle.perf_base.specs.Configured.{configuration_of, endian_of}
 use Rattle.perf_base.specs.Header.{header as header_parts}

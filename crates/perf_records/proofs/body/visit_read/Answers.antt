@@ -6,7 +6,7 @@ use Rattle.perf_reader.specs.Meaning.{Meaning, meaning}
 use Rattle.perf_reader.proofs.Behind.{places_behind}
 use Rattle.perf_records.specs.Records.{read_is}
 use Rattle.perf_types.specs.Read.{read}
-use Rattle.perf_records.proofs.body.read_read.Goals as goal
+use Rattle.perf_records.proofs.body.visit_read.Goals as goal
 
 -- a refused READ is a refused body
 pub returns-in-Err : goal.returns-in-Err
@@ -20,7 +20,7 @@ returns-in-Err g c =
         answer = λ told. let says = call.answer told in (
           (λ kind. places_behind old.order (read old.settings) (λ v. done (read_is v)) old.source.left old.reads
               ∙ ap (then_take (λ v left m. took_by_places old.order (done (read_is v)) left m)) (says.0 kind)),
-          (λ whole. (tt, says.1)),
+          (λ whole no. says.1),
         );
         keeps = call.keeps;
       };

@@ -1,0 +1,10 @@
+use Rattle.perf_parser.proofs.Lifting.{lifted, answered}
+use Rattle.perf_parser.proofs.visits.Parser.parse_record_with_header.Goals as goal
+
+pub returns-in-Ok-clause-call : goal.returns-in-Ok-clause-call
+returns-in-Ok-clause-call g c = lifted _ _ _ _ _ _ c.in-Ok.ensures.call
+
+pub returns-in-Err-clause-call : goal.returns-in-Err-clause-call
+returns-in-Err-clause-call g c =
+    let same = c.answer.ensures in
+    answered _ _ _ _ _ c.visit_behind.new.reader _ _ c.in-Err.ensures.call same.error.kind_is same.buf same.config same.reads

@@ -1,0 +1,177 @@
+-- Which outputs of a visitor belong to a record.
+use Rattle.std.specs.Prelude.{ℕ, List, Bool, true, false, Option, Some, None, Result}
+use Rattle.std.specs.Prelude.{Ok, Err, ◌≡◌, ◌≢◌, ◌&&◌, ◌⊎◌, IsTrue}
+use Rattle.perf_base.specs.Configuration.{Configuration}
+use Rattle.perf_base.specs.Cow.{is_borrowed}
+use Rattle.perf_base.specs.Layout.{Parts, layout}
+use Rattle.perf_base.specs.LayoutReads.{layout_reads}
+use Rattle.perf_base.specs.Order.{Order}
+use Rattle.perf_base.specs.Took.{took, quit, took_by_places}
+use Rattle.perf_base.specs.declared.error.ErrorKind.{ErrorKind}
+use Rattle.perf_base.specs.declared.error.ErrorKind.TheVariants.{OutOfMemory}
+use Rattle.perf_base.specs.declared.sys.perf_event_header.{perf_event_header}
+use Rattle.perf_base.specs.Refusals.{refused}
+use Rattle.perf_buffers.specs.Taking.{MovesWithin}
+use Rattle.perf_reader.specs.Reading.{Says, of_layout, is_external}
+use Rattle.perf_records.specs.Answers.{FrameParts, AnswersExactly, split_behind, answer_behind}
+use Rattle.perf_records.specs.Answers.{reads_behind, body_length, split_of_frame, answer_of_frame}
+use Rattle.perf_records.specs.Answers.{frame_reads}
+use Rattle.perf_records.specs.Bodies.{body_of_type, wants_memory_of_type, wants_memory}
+use Rattle.perf_records.specs.Frames.{frame_length}
+use Rattle.perf_records.specs.Metadata.{MetadataValue}
+use Rattle.perf_records.specs.RecordTypes.{type_of}
+use Rattle.perf_records.specs.Records.{RecordValue, record_value, IsBorrowed, sample_is, mmap_is}
+use Rattle.perf_records.specs.Records.{mmap2_is, sample_value}
+use Rattle.perf_records.specs.declared.record.Record.{Record}
+use Rattle.perf_records.specs.declared.record_type.RecordType.{RecordType}
+use Rattle.perf_types.specs.Mmap2.{mapping_of}
+use Rattle.perf_types.specs.declared.sample.Sample.{Sample}
+use Rattle.perf_types.specs.declared.text_poke.TextPoke.{TextPoke}
+
+-- ---- what is visited
+
+-- What a visitor sees of a record: its value, whether none of its byte strings was copied, and what
+-- is known beside it.
+pub record Event : Type 0 where
+  pub value : RecordValue
+  pub lent : Bool
+  pub metadata : MetadataValue
+
+-- the event of these
+abbrev pub event : RecordValue → Bool → MetadataValue → Event
+event v l m = record { value = v; lent = l; metadata = m }
+
+-- no byte of it was copied
+abbrev pub is_lent_text_poke : TextPoke → Bool
+is_lent_text_poke r = is_borrowed r.old_bytes && is_borrowed r.new_bytes
+
+-- no byte of it was copied
+abbrev pub is_lent_sample : Sample → Bool
+is_lent_sample s =
+    elim s.state.raw [ Some raw ↦ is_borrowed raw.0 | None ↦ true ]
+    && (elim s.state.stack_user [ Some stack ↦ is_borrowed stack.0 | None ↦ true ]
+    && elim s.memory.aux [ Some aux ↦ is_borrowed aux.0 | None ↦ true ])
+
+-- it is a sample, which a record holds in a box
+abbrev pub IsSample : RecordValue → Type 0
+IsSample (sample_is s) = Unit {0}
+IsSample _ = ⊥
+
+-- ---- what a visitor of records gives
+
+-- The record of that value, of which nothing was copied if the event's was not; or there was no
+-- memory for the box of a sample. It is opened only where a proof asks for it.
+unfoldable pub GivesRecord : Event → Result Record ErrorKind → Type 0
+GivesRecord seen (Ok r) = (record_value r ≡ seen.value) × (IsTrue seen.lent → IsBorrowed r)
+GivesRecord seen (Err e) = (e ≡ OutOfMemory) × IsSample seen.value
+
+-- what a record is answered by belongs to each event that it is the record of
+abbrev pub MakesRecord : {O : Type 0} → (Event → O → Type 0) → Record → O → Type 0
+MakesRecord gives r output =
+    (seen : Event) → record_value r ≡ seen.value → (IsTrue seen.lent → IsBorrowed r) →
+    gives seen output
+
+-- what a sample is answered by belongs to its event, whatever the metadata
+abbrev pub MakesSample : {O : Type 0} → (Event → O → Type 0) → Sample → O → Type 0
+MakesSample gives s output =
+    (m : MetadataValue) → gives (event (sample_is (sample_value s)) (is_lent_sample s) m) output
+
+-- ---- what a visitor gives that leaves records out
+
+-- the record of the same mapping without which file it is, of MMAP2, and else the record itself
+abbrev pub mapping_in : RecordValue → RecordValue
+mapping_in (mmap2_is m) = mmap_is (mapping_of m)
+mapping_in v = v
+
+-- the output belongs to the event, to that of its mapping, or to a record that is left out
+abbrev pub GivesOrLeavesOut : {O : Type 0} → (Event → O → Type 0) → (MetadataValue → O → Type 0) →
+    Event → O → Type 0
+GivesOrLeavesOut gives left_out seen output =
+    gives seen output
+    ⊎ (gives (event (mapping_in seen.value) seen.lent seen.metadata) output
+    ⊎ left_out seen.metadata output)
+
+-- ---- what a visit of a body says
+
+-- The output belongs to what the parts say, with that metadata. Of a whole buffer nothing is copied,
+-- and memory is taken only where the type wants it.
+abbrev pub Visits : {O : Type 0} → (Event → O → Type 0) → MetadataValue →
+    (Configuration → Parts RecordValue) → Bool → Says O
+Visits gives m parts wants old (Ok output) new =
+    (value : RecordValue) × (lent : Bool) × gives (event value lent m) output
+    × (took_by_places old.order (parts old.settings) old.source.left old.reads
+    ≡ took value new.source.left new.reads)
+    × (IsTrue old.source.whole → IsTrue lent) × (IsSample value → wants ≡ true)
+Visits gives m parts wants old (Err e) new =
+    (IsTrue (of_layout e) →
+    took_by_places old.order (parts old.settings) old.source.left old.reads
+    ≡ quit e new.source.left new.reads)
+    × (IsTrue old.source.whole → wants ≡ false → e ≢ OutOfMemory)
+
+-- the same of a type that is known, or has no table
+abbrev pub VisitsOf : {O : Type 0} → (Event → O → Type 0) → MetadataValue → Option RecordType →
+    Says O
+VisitsOf gives m type = Visits gives m (λ c. body_of_type c m.ty type) (wants_memory_of_type type)
+
+-- the same of a type
+abbrev pub VisitsType : {O : Type 0} → (Event → O → Type 0) → MetadataValue → RecordType → Says O
+VisitsType gives m type = VisitsOf gives m (Some type)
+
+-- the same of all bytes
+abbrev pub VisitsUnread : {O : Type 0} → (Event → O → Type 0) → MetadataValue → Says O
+VisitsUnread gives m = VisitsOf gives m None
+
+-- the same of the type that the metadata names
+abbrev pub VisitsBody : {O : Type 0} → (Event → O → Type 0) → MetadataValue → Says O
+VisitsBody gives m = VisitsOf gives m (type_of m.ty)
+
+-- The visit of all of a body, whose bytes were lent or not: its layout, with the reads that makes.
+abbrev pub VisitsAll : {O : Type 0} → (Event → O → Type 0) → MetadataValue → Order →
+    Parts RecordValue → List ℕ → Bool → Result O ErrorKind → ℕ → Type 0
+VisitsAll gives m o p bytes from (Ok output) k =
+    (value : RecordValue) × (lent : Bool) × gives (event value lent m) output
+    × (layout o p bytes ≡ Ok value) × (k ≡ layout_reads o p bytes)
+    × (IsTrue from → IsTrue lent) × (IsSample value → wants_memory m.ty ≡ true)
+VisitsAll gives m o p bytes from (Err e) k =
+    (IsTrue (of_layout e) → (layout o p bytes ≡ Err e) × (k ≡ layout_reads o p bytes))
+    × (IsTrue from → wants_memory m.ty ≡ false → e ≢ OutOfMemory)
+
+-- ---- what a visit of a frame says
+
+-- The output belongs to the record that a definition says and to its metadata, and of a whole buffer
+-- nothing was copied; or the refusal is the definition's. n bytes are taken, or all that were left
+-- where that is less, and k reads are made.
+abbrev pub VisitsExactly : {O : Type 0} → (Event → O → Type 0) → Result FrameParts ErrorKind →
+    Result RecordValue ErrorKind → (n k : ℕ) → Says O
+VisitsExactly gives split says n k old (Ok output) new =
+    (value : RecordValue) × (lent : Bool) × (parts : FrameParts)
+    × gives (event value lent parts.metadata) output
+    × (split ≡ Ok parts) × (IsTrue old.source.whole → IsTrue lent)
+    × AnswersExactly (λ v. v) says n k old (Ok value) new
+VisitsExactly gives split says n k old (Err e) new =
+    AnswersExactly (λ (v : RecordValue). v) says n k old (Err e) new
+
+-- what a frame says behind its header; exactly its body and its sample id are taken
+abbrev pub VisitsBehind : {O : Type 0} → (Event → O → Type 0) → perf_event_header → Says O
+VisitsBehind gives h old seen new =
+    let c = old.settings in let o = old.order in let bytes = old.source.left in
+    VisitsExactly gives (split_behind c o h bytes) (answer_behind c o h bytes) (body_length h)
+    (reads_behind c o h bytes) old seen new
+
+-- The same of a frame with its header. Where it is refused otherwise, but by a fault, a beginning of
+-- the frame is taken.
+abbrev pub VisitsFrame : {O : Type 0} → (Event → O → Type 0) → Says O
+VisitsFrame gives old seen new =
+    let c = old.settings in let o = old.order in let bytes = old.source.left in
+    VisitsExactly gives (split_of_frame c o bytes) (answer_of_frame c o bytes) (frame_length o bytes)
+    (frame_reads (reads_behind c o) o bytes) old seen new
+    × (is_external (refused seen) ≡ false →
+    MovesWithin old.source (frame_length o bytes) new.source)
+
+-- What is known of an output also where a buffer does not tell its bytes: the type and the misc of
+-- its event are those of the header, and of a whole buffer nothing was copied.
+abbrev pub BelongsTo : {O : Type 0} → (Event → O → Type 0) → perf_event_header → Bool → O → Type 0
+BelongsTo gives h whole output =
+    (seen : Event) × gives seen output
+    × (seen.metadata.ty ≡ h.type_) × (seen.metadata.misc ≡ h.misc)
+    × (IsTrue whole → IsTrue seen.lent) × (IsSample seen.value → wants_memory h.type_ ≡ true)

@@ -1,0 +1,262 @@
+//! The visitor that makes the record itself.
+
+ghost use Rattle.perf_records.specs.Words as words;
+ghost use Rattle.perf_records.specs.Words.{Event, event, MakesRecord, MakesSample};
+
+use crate::metadata::RecordMetadata;
+use crate::record::Record;
+use crate::visitor::Visitor;
+use perf_base::cow::CowSlice;
+use perf_base::error::{ParseError, ParseResult};
+use perf_base::refusal::{ReadResult, Refusal};
+use perf_types::aux_output_hw_id::AuxOutputHwId;
+use perf_types::aux_record::Aux;
+use perf_types::bpf_event::BpfEvent;
+use perf_types::cgroup::CGroup;
+use perf_types::comm::Comm;
+use perf_types::exit::{Exit, Fork};
+use perf_types::itrace_start::ITraceStart;
+use perf_types::ksymbol::KSymbol;
+use perf_types::lost::Lost;
+use perf_types::lost_samples::LostSamples;
+use perf_types::mmap::Mmap;
+use perf_types::mmap2::Mmap2;
+use perf_types::namespaces::Namespaces;
+use perf_types::read::Read;
+use perf_types::sample::Sample;
+use perf_types::switch_cpu_wide::SwitchCpuWide;
+use perf_types::text_poke::TextPoke;
+use perf_types::throttle::Throttle;
+use std::alloc::Global;
+use std::boxed::Box;
+
+/// How the records that were visited are answered.
+pub trait Answer<'a>: Drop {
+    /// The answer.
+    type Output;
+
+    // which answers belong to an event
+    ghost gives: { Event → Self.Output → Type 0 };
+
+    /// The answer of a record.
+    fn record(self, held: Record<'a>) -> Self::Output
+        ensures { MakesRecord gives held.entry result };
+
+    /// The answer of a sample, which a record holds in a box.
+    fn sample(self, held: Sample<'a>) -> Self::Output
+        ensures { MakesSample gives held.entry result };
+}
+
+/// Answers a record, or an error.
+#[derive(Copy, Clone)]
+pub struct OrError {
+    alloc: Global,
+}
+
+impl<'a> Answer<'a> for OrError {
+    type Output = ParseResult<Record<'a>>;
+
+    ghost gives = { λ seen output. words.GivesRecord seen (words.error_kinds output) };
+
+    #[inline]
+    #[tactic(auto, unfolding(crate::specs::Visits::GivesRecord))]
+    fn record(self, held: Record<'a>) -> Self::Output {
+        Ok(held)
+    }
+
+    #[inline]
+    #[tactic(auto, unfolding(crate::specs::Visits::GivesRecord))]
+    fn sample(self, held: Sample<'a>) -> Self::Output {
+        match Box::new(self.alloc, held) {
+            Ok(held) => Ok(Record::Sample(held)),
+            Err(error) => Err(ParseError::from(error)),
+        }
+    }
+}
+
+/// Answers a record, or a small refusal, for what reads records by the thousand.
+#[derive(Copy, Clone)]
+pub struct OrRefusal {
+    alloc: Global,
+}
+
+impl<'a> Answer<'a> for OrRefusal {
+    type Output = ReadResult<Record<'a>>;
+
+    ghost gives = { λ seen output. words.GivesRecord seen (words.kinds output) };
+
+    #[inline]
+    #[tactic(auto, unfolding(crate::specs::Visits::GivesRecord))]
+    fn record(self, held: Record<'a>) -> Self::Output {
+        Ok(held)
+    }
+
+    #[inline]
+    #[tactic(auto, unfolding(crate::specs::Visits::GivesRecord))]
+    fn sample(self, held: Sample<'a>) -> Self::Output {
+        match Box::new(self.alloc, held) {
+            Ok(held) => Ok(Record::Sample(held)),
+            Err(_) => Err(Refusal::OutOfMemory),
+        }
+    }
+}
+
+/// Makes the record itself of what it visits.
+#[derive(Drop)]
+pub struct Recording<A> {
+    answer: A,
+}
+
+/// Makes the record itself of what it visits. A sample goes into a box: where there is no memory for
+/// that, the output is `OutOfMemory`.
+pub type RecordVisitor = Recording<OrError>;
+
+impl Recording<OrError> {
+    /// A visitor whose boxes are in the memory of `alloc`.
+    #[inline]
+    pub fn new(alloc: Global) -> Recording<OrError> {
+        Recording {
+            answer: OrError { alloc },
+        }
+    }
+}
+
+impl Recording<OrRefusal> {
+    /// The same with small refusals.
+    #[inline]
+    pub fn small(alloc: Global) -> Recording<OrRefusal> {
+        Recording {
+            answer: OrRefusal { alloc },
+        }
+    }
+}
+
+impl<'a, A: Answer<'a>> Visitor<'a> for Recording<A> {
+    type Output = A::Output;
+
+    ghost gives = { λ seen output. A.gives seen output };
+
+    // nothing calls it
+    #[inline]
+    fn visit_unimplemented(self, metadata: RecordMetadata) -> Self::Output {
+        self.answer.record(Record::Unknown {
+            ty: metadata.ty(),
+            bytes: CowSlice::Borrowed(&[]),
+        })
+    }
+
+    #[inline]
+    fn visit_mmap(self, held: Mmap<'a>, _metadata: RecordMetadata) -> Self::Output {
+        self.answer.record(Record::Mmap(held))
+    }
+
+    #[inline]
+    fn visit_lost(self, held: Lost, _metadata: RecordMetadata) -> Self::Output {
+        self.answer.record(Record::Lost(held))
+    }
+
+    #[inline]
+    fn visit_comm(self, held: Comm<'a>, _metadata: RecordMetadata) -> Self::Output {
+        self.answer.record(Record::Comm(held))
+    }
+
+    #[inline]
+    fn visit_exit(self, held: Exit, _metadata: RecordMetadata) -> Self::Output {
+        self.answer.record(Record::Exit(held))
+    }
+
+    #[inline]
+    fn visit_throttle(self, held: Throttle, _metadata: RecordMetadata) -> Self::Output {
+        self.answer.record(Record::Throttle(held))
+    }
+
+    #[inline]
+    fn visit_unthrottle(self, held: Throttle, _metadata: RecordMetadata) -> Self::Output {
+        self.answer.record(Record::Unthrottle(held))
+    }
+
+    #[inline]
+    fn visit_fork(self, held: Fork, _metadata: RecordMetadata) -> Self::Output {
+        self.answer.record(Record::Fork(held))
+    }
+
+    #[inline]
+    fn visit_read(self, held: Read, _metadata: RecordMetadata) -> Self::Output {
+        self.answer.record(Record::Read(held))
+    }
+
+    #[inline]
+    fn visit_sample(self, held: Sample<'a>, _metadata: RecordMetadata) -> Self::Output {
+        self.answer.sample(held)
+    }
+
+    #[inline]
+    fn visit_mmap2(self, held: Mmap2<'a>, _metadata: RecordMetadata) -> Self::Output {
+        self.answer.record(Record::Mmap2(held))
+    }
+
+    #[inline]
+    fn visit_aux(self, held: Aux, _metadata: RecordMetadata) -> Self::Output {
+        self.answer.record(Record::Aux(held))
+    }
+
+    #[inline]
+    fn visit_itrace_start(self, held: ITraceStart, _metadata: RecordMetadata) -> Self::Output {
+        self.answer.record(Record::ITraceStart(held))
+    }
+
+    #[inline]
+    fn visit_lost_samples(self, held: LostSamples, _metadata: RecordMetadata) -> Self::Output {
+        self.answer.record(Record::LostSamples(held))
+    }
+
+    #[inline]
+    fn visit_switch(self, _metadata: RecordMetadata) -> Self::Output {
+        self.answer.record(Record::Switch)
+    }
+
+    #[inline]
+    fn visit_switch_cpu_wide(self, held: SwitchCpuWide, _metadata: RecordMetadata) -> Self::Output {
+        self.answer.record(Record::SwitchCpuWide(held))
+    }
+
+    #[inline]
+    fn visit_namespaces(self, held: Namespaces<'a>, _metadata: RecordMetadata) -> Self::Output {
+        self.answer.record(Record::Namespaces(held))
+    }
+
+    #[inline]
+    fn visit_ksymbol(self, held: KSymbol<'a>, _metadata: RecordMetadata) -> Self::Output {
+        self.answer.record(Record::KSymbol(held))
+    }
+
+    #[inline]
+    fn visit_bpf_event(self, held: BpfEvent, _metadata: RecordMetadata) -> Self::Output {
+        self.answer.record(Record::BpfEvent(held))
+    }
+
+    #[inline]
+    fn visit_cgroup(self, held: CGroup<'a>, _metadata: RecordMetadata) -> Self::Output {
+        self.answer.record(Record::CGroup(held))
+    }
+
+    #[inline]
+    fn visit_text_poke(self, held: TextPoke<'a>, _metadata: RecordMetadata) -> Self::Output {
+        self.answer.record(Record::TextPoke(held))
+    }
+
+    #[inline]
+    fn visit_aux_output_hw_id(
+        self,
+        held: AuxOutputHwId,
+        _metadata: RecordMetadata,
+    ) -> Self::Output {
+        self.answer.record(Record::AuxOutputHwId(held))
+    }
+
+    #[inline]
+    fn visit_unknown(self, bytes: CowSlice<'a, u8>, metadata: RecordMetadata) -> Self::Output {
+        let ty = metadata.ty();
+        self.answer.record(Record::Unknown { ty, bytes })
+    }
+}
