@@ -1,5 +1,5 @@
 -- A run's list against the answers of all bytes.
-use Rattle.std.proofs.Common.{◌≡◌, ℕ, zero, suc, ◌+◌, ◌<◌, ◌≤◌, List, [], ◌∷◌, ◌++◌, length, take, drop, map, arith, refl, sym, ◌∙◌, ap, subst, true, false, nat_lt, Ok, Err, inl, inr}
+use Rattle.std.proofs.Common.{◌≡◌, ℕ, zero, suc, ◌+◌, ◌<◌, ◌≤◌, List, [], ◌∷◌, ◌++◌, length, take, drop, map, arith, refl, sym, ◌∙◌, ap, subst, true, false, nat_lt, inl, inr}
 use Rattle.std.specs.Prelude.{Result, IsTrue, sum_by}
 use Rattle.std.proofs.lemmas.Bool.{cases_lt, lt-ltb, le-ltb}
 use Rattle.std.proofs.lemmas.List.{length-append, length-drop, take-map}
@@ -21,7 +21,6 @@ use Rattle.perf_records.proofs.Headers.{header_alone, answer_alone, reads_alone}
 use Rattle.perf_parser.specs.Runs.{Pairs, seen_answer, seen_answers, listed_reads, first_reads, CountsReads}
 use Rattle.perf_parser.specs.Runs.{is_borrowed_answer, AllBorrowed, LeavesWithin, StopsAt, IsEndOf, EndsWith}
 use Rattle.perf_parser.specs.declared.runs.RunEnd.{RunEnd}
-use Rattle.perf_parser.specs.declared.runs.RunEnd.TheVariants as end
 use Rattle.perf_parser.specs.declared.runs.Stop.{Stop}
 use Rattle.perf_parser.specs.declared.runs.Stop.TheVariants as stop
 

@@ -1,14 +1,12 @@
 -- A frame that fell apart, and a parser of its body.
-use Rattle.std.proofs.Common.{◌≡◌, ℕ, ◌+◌, ◌≤◌, length, true, false, Ok, Err, None, Some, arith, refl, sym, ◌∙◌, ap}
-use Rattle.std.specs.Prelude.{IsTrue, Result}
-use Rattle.perf_base.specs.declared.error.ErrorKind.{ErrorKind}
+use Rattle.std.proofs.Common.{◌≡◌, Ok, Err, None, Some, arith, sym, ◌∙◌, ap}
 use Rattle.perf_base.specs.declared.error.ErrorKind.TheVariants.{OutOfMemory}
 use Rattle.perf_base.specs.declared.sys.perf_event_header.{perf_event_header}
 use Rattle.perf_buffers.specs.Cursor.{cursor_left}
 use Rattle.perf_buffers.specs.declared.cursor.ParseBufCursor.{ParseBufCursor}
 use Rattle.perf_reader.specs.Meaning.{Meaning}
 use Rattle.perf_reader.specs.Reading.{Keeps}
-use Rattle.perf_records.specs.Answers.{SplitsBehind, FrameParts}
+use Rattle.perf_records.specs.Answers.{SplitsBehind}
 use Rattle.perf_records.specs.Metadata.{MetadataValue}
 use Rattle.perf_parser.specs.Frames.{SplitsParser}
 use Rattle.perf_parser.specs.Meaning.{buffer_of}

@@ -1,6 +1,6 @@
 -- What a run over a stream lists, how it ends, what it leaves, and how many elementary reads it
 -- makes.
-use Rattle.std.specs.Prelude.{Option, Some, None, Result, Ok, Err, Bool, true, false, IsTrue, ◌≡◌}
+use Rattle.std.specs.Prelude.{Option, Some, None, Result, Ok, Err, true, IsTrue, ◌≡◌}
 use Rattle.std.specs.Prelude.{ℕ, ◌+◌, ◌<◌, ◌≤◌, min, List, [], ◌∷◌, ◌++◌, map, length, drop, sum_by}
 use Rattle.perf_base.specs.Configuration.{Configuration}
 use Rattle.perf_base.specs.Errors.{kind_of}

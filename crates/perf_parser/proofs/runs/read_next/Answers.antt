@@ -1,4 +1,4 @@
-use Rattle.std.proofs.Common.{rules, arith, ◌≡◌, ◌+◌, [], ◌∷◌, ◌++◌, length, sym, ◌∙◌, ap, subst, Err, Some}
+use Rattle.std.proofs.Common.{rules, ◌≡◌, ◌+◌, [], ◌∷◌, ◌++◌, sym, ◌∙◌, ap, subst, Err, Some}
 use Rattle.std.specs.Prelude.{Option}
 use Rattle.perf_base.specs.Configured.{configuration_of, endian_of}
 use Rattle.perf_buffers.specs.declared.outer.Outer.{Outer}
@@ -9,8 +9,6 @@ use Rattle.perf_base.specs.declared.refusal.Refusal.TheVariants as why
 use Rattle.perf_reader.specs.Meaning.{Meaning, meaning}
 use Rattle.perf_reader.proofs.Paying.{keeps_none}
 use Rattle.perf_parser.specs.Runs.{Pairs, KeepsRun, refused_count, stopped_by}
-use Rattle.perf_parser.specs.declared.runs.Stop.{Stop}
-use Rattle.perf_parser.specs.declared.runs.Stop.TheVariants as stop
 use Rattle.perf_parser.proofs.Ending.{stops_behind, stops_without_memory, run_more, run_stops, run_lists, said_frame}
 use Rattle.perf_parser.proofs.runs.read_next.Goals as goal
 

@@ -1,5 +1,5 @@
-use Rattle.std.proofs.Common.{◌≡◌, Ok, Err, Some, false, sym, ◌∙◌, ap, subst}
-use Rattle.std.specs.Prelude.{Result, IsTrue}
+use Rattle.std.proofs.Common.{Ok, Err, ◌∙◌, subst}
+use Rattle.std.specs.Prelude.{Result}
 use Rattle.perf_base.specs.Configured.{configuration_of, endian_of}
 use Rattle.perf_base.specs.Errors.{kind_of}
 use Rattle.perf_base.specs.Header.{header as header_parts}

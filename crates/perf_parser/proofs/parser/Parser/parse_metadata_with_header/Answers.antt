@@ -1,19 +1,10 @@
-use Rattle.std.proofs.Common.{◌≡◌, Ok, Err, None, Some, refl, sym, ◌∙◌, ap, subst}
-use Rattle.std.specs.Prelude.{IsTrue, Result}
+use Rattle.std.proofs.Common.{◌≡◌, Err, None, sym, subst}
 use Rattle.perf_base.specs.Errors.{kind_of}
-use Rattle.perf_base.specs.Refusals.{refusal_kind}
-use Rattle.perf_base.specs.declared.error.ErrorKind.{ErrorKind}
 use Rattle.perf_base.specs.declared.error.ErrorKind.TheVariants.{OutOfMemory}
-use Rattle.perf_buffers.specs.Buffer.{Source}
-use Rattle.perf_buffers.specs.declared.cursor.ParseBufCursor.{ParseBufCursor}
-use Rattle.perf_reader.specs.Calls as reader_calls
-use Rattle.perf_reader.specs.Meaning as reader
 use Rattle.perf_reader.specs.Meaning.{Meaning}
-use Rattle.perf_reader.specs.Reading.{Keeps}
 use Rattle.perf_reader.proofs.Paying.{keeps_none}
-use Rattle.perf_records.specs.Answers.{AnswersExactly, split_behind, split_reads, body_length}
 use Rattle.perf_parser.specs.Calls.{Call}
-use Rattle.perf_parser.specs.Frames.{SplitsParser, parsed_parts}
+use Rattle.perf_parser.specs.Frames.{SplitsParser}
 use Rattle.perf_parser.specs.Meaning.{meaning}
 use Rattle.perf_parser.proofs.Lifting.{answered, keeps_follows}
 use Rattle.perf_parser.proofs.Metadata.{split_parsed, split_unparsed, keeps_unparsed}

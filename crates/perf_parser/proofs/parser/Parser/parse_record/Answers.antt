@@ -1,5 +1,5 @@
-use Rattle.std.proofs.Common.{◌≡◌, Ok, Err, Some, false, sym, ◌∙◌, ap, subst}
-use Rattle.std.specs.Prelude.{Result, IsTrue}
+use Rattle.std.proofs.Common.{Ok, Err, ◌∙◌, subst}
+use Rattle.std.specs.Prelude.{Result}
 use Rattle.perf_base.specs.Configured.{configuration_of, endian_of}
 use Rattle.perf_base.specs.Errors.{kind_of}
 use Rattle.perf_base.specs.Header.{header as header_parts}
@@ -13,7 +13,7 @@ use Rattle.perf_records.proofs.Headers.{header_read, header_unread, tells_no_hea
 use Rattle.perf_records.proofs.Saying.{took_ran, quit_stopped}
 use Rattle.perf_records.proofs.Visiting.{visits_frame}
 use Rattle.perf_parser.specs.Meaning.{meaning}
-use Rattle.perf_parser.proofs.visits.Parser.parse_record.Goals as goal
+use Rattle.perf_parser.proofs.parser.Parser.parse_record.Goals as goal
 
 -- the header was refused
 pub returns-in-Err : goal.returns-in-Err
@@ -49,7 +49,7 @@ returns-in-Ok-parse_record_with_header g c =
     let mid : Meaning = meaning g.B.ParseBuf.source g.E.Endian.order c.parse.new.self in
     let new : Meaning = meaning g.B.ParseBuf.source g.E.Endian.order c.parse_record_with_header.new.self in
     let header = c.in-Ok.header in
-    let seen = Ok {E = ErrorKind} c.in-Ok-parse_record_with_header.output in
+    let seen : Result g.row.V-Output.Denot ErrorKind = Ok c.in-Ok-parse_record_with_header.output in
     let read = c.in-Ok.ensures.call in
     let behind = c.in-Ok-parse_record_with_header.ensures in
     let rest = behind.call in
@@ -78,7 +78,7 @@ returns-in-Err-parse_record_with_header g c =
     let mid : Meaning = meaning g.B.ParseBuf.source g.E.Endian.order c.parse.new.self in
     let new : Meaning = meaning g.B.ParseBuf.source g.E.Endian.order c.parse_record_with_header.new.self in
     let header = c.in-Ok.header in
-    let seen = Err {A = g.row.V.Output} (kind_of c.in-Err-parse_record_with_header.error) in
+    let seen : Result g.row.V-Output.Denot ErrorKind = Err (kind_of c.in-Err-parse_record_with_header.error) in
     let read = c.in-Ok.ensures.call in
     let behind = c.in-Err-parse_record_with_header.ensures in
     let rest = behind.call in

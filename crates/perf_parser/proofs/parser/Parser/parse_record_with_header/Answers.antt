@@ -1,5 +1,5 @@
 use Rattle.perf_parser.proofs.Lifting.{lifted, answered}
-use Rattle.perf_parser.proofs.visits.Parser.parse_record_with_header.Goals as goal
+use Rattle.perf_parser.proofs.parser.Parser.parse_record_with_header.Goals as goal
 
 pub returns-in-Ok-clause-call : goal.returns-in-Ok-clause-call
 returns-in-Ok-clause-call g c = lifted _ _ _ _ _ _ c.in-Ok.ensures.call
