@@ -185,6 +185,16 @@ fn shorter_mapping(alloc: Global) -> Result<String, Fail> {
     told_with_copies!(alloc, mapping_of(detail).to_mmap(alloc)?, into_owned)
 }
 
+// The same of a mapping that owns its path.
+fn shorter_owned_mapping(alloc: Global) -> Result<String, Fail> {
+    let detail = MmapDetail::BuildId {
+        build_id: [0; 20],
+        len: 20,
+    };
+    let mapping = mapping_of(detail).into_owned(alloc)?;
+    told_with_clone!(alloc, mapping.to_mmap(alloc)?)
+}
+
 #[test]
 fn mappings_of_a_file(rt: HostRuntime) {
     let want = "Mmap2 { pid: 1, tid: 2, addr: 3, len: 4, pgoff: 5, prot: 6, flags: 7, filename: \
@@ -196,6 +206,8 @@ fn mappings_of_a_file(rt: HostRuntime) {
     check_copies(&rt, mapping_of_a_build_id(rt.alloc()), want);
     let want = "Mmap { pid: 1, tid: 2, addr: 3, len: 4, pgoff: 5, filename: Borrowed([8, 9]) }";
     check_copies(&rt, shorter_mapping(rt.alloc()), want);
+    let want = "Mmap { pid: 1, tid: 2, addr: 3, len: 4, pgoff: 5, filename: Owned([8, 9]) }";
+    check_clone(&rt, shorter_owned_mapping(rt.alloc()), want);
 }
 
 fn poke(alloc: Global) -> Result<String, Fail> {
