@@ -4,6 +4,7 @@
 use crate::checks::check_same;
 use bitflags::Flags;
 use perf_base::cow::CowSlice;
+use perf_base::error::ParseResult;
 use perf_types::cgroup::CGroup;
 use perf_types::comm::Comm;
 use perf_types::ksymbol::KSymbol;
@@ -26,31 +27,149 @@ fn tell<T: Debug>(text: &mut String, value: &T) -> Result<(), AllocError> {
     write!(text, "{value:?}\n")
 }
 
+// A value that is cloned.
+trait Cloned: Debug + Sized + Drop {
+    fn cloned(&self, alloc: Global) -> ParseResult<Self>;
+}
+
+// A value of which owned copies are made.
+trait Owning: Cloned {
+    fn owned(self, alloc: Global) -> ParseResult<Self>;
+}
+
+impl Cloned for CowSlice<'_, u64> {
+    fn cloned(&self, alloc: Global) -> ParseResult<Self> {
+        self.clone(alloc)
+    }
+}
+
+impl Owning for CowSlice<'_, u64> {
+    fn owned(self, alloc: Global) -> ParseResult<Self> {
+        self.into_owned(alloc)
+    }
+}
+
+impl Cloned for Comm<'_> {
+    fn cloned(&self, alloc: Global) -> ParseResult<Self> {
+        self.clone(alloc)
+    }
+}
+
+impl Owning for Comm<'_> {
+    fn owned(self, alloc: Global) -> ParseResult<Self> {
+        self.into_owned(alloc)
+    }
+}
+
+impl Cloned for CGroup<'_> {
+    fn cloned(&self, alloc: Global) -> ParseResult<Self> {
+        self.clone(alloc)
+    }
+}
+
+impl Owning for CGroup<'_> {
+    fn owned(self, alloc: Global) -> ParseResult<Self> {
+        self.into_owned(alloc)
+    }
+}
+
+impl Cloned for KSymbol<'_> {
+    fn cloned(&self, alloc: Global) -> ParseResult<Self> {
+        self.clone(alloc)
+    }
+}
+
+impl Owning for KSymbol<'_> {
+    fn owned(self, alloc: Global) -> ParseResult<Self> {
+        self.into_owned(alloc)
+    }
+}
+
+impl Cloned for Mmap<'_> {
+    fn cloned(&self, alloc: Global) -> ParseResult<Self> {
+        self.clone(alloc)
+    }
+}
+
+impl Owning for Mmap<'_> {
+    fn owned(self, alloc: Global) -> ParseResult<Self> {
+        self.into_owned(alloc)
+    }
+}
+
+impl Cloned for Mmap2<'_> {
+    fn cloned(&self, alloc: Global) -> ParseResult<Self> {
+        self.clone(alloc)
+    }
+}
+
+impl Owning for Mmap2<'_> {
+    fn owned(self, alloc: Global) -> ParseResult<Self> {
+        self.into_owned(alloc)
+    }
+}
+
+impl Cloned for TextPoke<'_> {
+    fn cloned(&self, alloc: Global) -> ParseResult<Self> {
+        self.clone(alloc)
+    }
+}
+
+impl Owning for TextPoke<'_> {
+    fn owned(self, alloc: Global) -> ParseResult<Self> {
+        self.to_owned(alloc)
+    }
+}
+
+impl Cloned for ReadGroup<'_> {
+    fn cloned(&self, alloc: Global) -> ParseResult<Self> {
+        self.clone(alloc)
+    }
+}
+
+impl Owning for ReadGroup<'_> {
+    fn owned(self, alloc: Global) -> ParseResult<Self> {
+        self.into_owned(alloc)
+    }
+}
+
+impl Cloned for Registers<'_> {
+    fn cloned(&self, alloc: Global) -> ParseResult<Self> {
+        self.clone(alloc)
+    }
+}
+
+impl Cloned for Namespaces<'_> {
+    fn cloned(&self, alloc: Global) -> ParseResult<Self> {
+        self.clone(alloc)
+    }
+}
+
+// Writes a value and its clone.
+fn tell_with_clone<T: Cloned>(text: &mut String, alloc: Global, value: &T) -> Result<(), Fail> {
+    tell(text, value)?;
+    let copy = value.cloned(alloc)?;
+    tell(text, &copy)?;
+    Ok(())
+}
+
 // What is told of a value that borrows its lists, of its clone, of its owned copy, and of the clone
 // and the owned copy of that.
-macro_rules! told_with_copies {
-    ($alloc:ident, $value:expr, $owned:ident) => {{
-        let value = $value;
-        let mut text = String::new($alloc);
-        tell(&mut text, &value)?;
-        tell(&mut text, &value.clone($alloc)?)?;
-        let owned = value.$owned($alloc)?;
-        tell(&mut text, &owned)?;
-        tell(&mut text, &owned.clone($alloc)?)?;
-        tell(&mut text, &owned.$owned($alloc)?)?;
-        Ok(text)
-    }};
+fn told_with_copies<T: Owning>(alloc: Global, value: T) -> Result<String, Fail> {
+    let mut text = String::new(alloc);
+    tell_with_clone(&mut text, alloc, &value)?;
+    let owned = value.owned(alloc)?;
+    tell_with_clone(&mut text, alloc, &owned)?;
+    let again = owned.owned(alloc)?;
+    tell(&mut text, &again)?;
+    Ok(text)
 }
 
 // What is told of a value and of its clone.
-macro_rules! told_with_clone {
-    ($alloc:ident, $value:expr) => {{
-        let value = $value;
-        let mut text = String::new($alloc);
-        tell(&mut text, &value)?;
-        tell(&mut text, &value.clone($alloc)?)?;
-        Ok(text)
-    }};
+fn told_with_clone<T: Cloned>(alloc: Global, value: T) -> Result<String, Fail> {
+    let mut text = String::new(alloc);
+    tell_with_clone(&mut text, alloc, &value)?;
+    Ok(text)
 }
 
 // The lines of a value that borrows its lists and of its copies.
@@ -76,7 +195,7 @@ fn check_clone(rt: &(impl AllocGlobal + Abort), told: Result<String, Fail>, want
 }
 
 fn items(alloc: Global) -> Result<String, Fail> {
-    told_with_copies!(alloc, CowSlice::Borrowed(&[3u64, 2, 1]), into_owned)
+    told_with_copies(alloc, CowSlice::Borrowed(&[3u64, 2, 1]))
 }
 
 #[test]
@@ -90,7 +209,7 @@ fn comm(alloc: Global) -> Result<String, Fail> {
         tid: 2,
         comm: CowSlice::Borrowed(&[3, 4]),
     };
-    told_with_copies!(alloc, comm, into_owned)
+    told_with_copies(alloc, comm)
 }
 
 #[test]
@@ -104,7 +223,7 @@ fn group_of_tasks(alloc: Global) -> Result<String, Fail> {
         id: 1,
         path: CowSlice::Borrowed(&[2, 3]),
     };
-    told_with_copies!(alloc, group, into_owned)
+    told_with_copies(alloc, group)
 }
 
 #[test]
@@ -121,7 +240,7 @@ fn symbol(alloc: Global) -> Result<String, Fail> {
         flags: KSymbolFlags::UNREGISTER,
         name: CowSlice::Borrowed(&[3, 4]),
     };
-    told_with_copies!(alloc, symbol, into_owned)
+    told_with_copies(alloc, symbol)
 }
 
 #[test]
@@ -140,7 +259,7 @@ fn mapping(alloc: Global) -> Result<String, Fail> {
         pgoff: 5,
         filename: CowSlice::Borrowed(&[6, 7]),
     };
-    told_with_copies!(alloc, mapping, into_owned)
+    told_with_copies(alloc, mapping)
 }
 
 #[test]
@@ -149,53 +268,52 @@ fn a_mapping(rt: HostRuntime) {
     check_copies(&rt, mapping(rt.alloc()), want);
 }
 
-// A mapping of this file.
-fn mapping_of(detail: MmapDetail) -> Mmap2<'static> {
-    Mmap2::from_parts(1, 2, 3, 4, 5, 6, 7, CowSlice::Borrowed(&[8, 9]), detail)
-}
-
-fn mapping_of_an_inode(alloc: Global) -> Result<String, Fail> {
+// A mapping of a file by its inode.
+fn by_inode() -> Mmap2<'static> {
     let detail = MmapDetail::Default {
         maj: 10,
         min: 11,
         ino: 12,
         ino_generation: 13,
     };
-    told_with_copies!(alloc, mapping_of(detail), into_owned)
+    Mmap2::from_parts(1, 2, 3, 4, 5, 6, 7, CowSlice::Borrowed(&[8, 9]), detail)
 }
 
-fn mapping_of_a_build_id(alloc: Global) -> Result<String, Fail> {
+// A mapping of a program by its build id, behind which stands another byte.
+fn by_build_id() -> Mmap2<'static> {
     let detail = MmapDetail::BuildId {
         build_id: [
             10, 11, 12, 0, 0, 0, 0, 0, 0, 0, 0, 0, 0, 0, 0, 0, 0, 0, 0, 13,
         ],
         len: 3,
     };
-    told_with_copies!(alloc, mapping_of(detail), into_owned)
+    Mmap2::from_parts(1, 2, 3, 4, 5, 6, 7, CowSlice::Borrowed(&[8, 9]), detail)
 }
 
-// The mapping of an inode as an MMAP record, of which a clone and an owned copy are made.
+// The shorter record of a mapping that borrows its path.
 fn shorter_mapping(alloc: Global) -> Result<String, Fail> {
-    let detail = MmapDetail::Default {
-        maj: 10,
-        min: 11,
-        ino: 12,
-        ino_generation: 13,
-    };
-    told_with_copies!(alloc, mapping_of(detail).to_mmap(alloc)?, into_owned)
+    told_with_copies(alloc, by_inode().to_mmap(alloc)?)
+}
+
+// The same of one that owns it.
+fn shorter_owned_mapping(alloc: Global) -> Result<String, Fail> {
+    let mapping = by_build_id().into_owned(alloc)?;
+    told_with_clone(alloc, mapping.to_mmap(alloc)?)
 }
 
 #[test]
 fn mappings_of_a_file(rt: HostRuntime) {
     let want = "Mmap2 { pid: 1, tid: 2, addr: 3, len: 4, pgoff: 5, prot: 6, flags: 7, filename: \
         Borrowed([8, 9]), detail: Default { maj: 10, min: 11, ino: 12, ino_generation: 13 } }";
-    check_copies(&rt, mapping_of_an_inode(rt.alloc()), want);
+    check_copies(&rt, told_with_copies(rt.alloc(), by_inode()), want);
     let want = "Mmap2 { pid: 1, tid: 2, addr: 3, len: 4, pgoff: 5, prot: 6, flags: 7, filename: \
         Borrowed([8, 9]), detail: BuildId { build_id: \
         [10, 11, 12, 0, 0, 0, 0, 0, 0, 0, 0, 0, 0, 0, 0, 0, 0, 0, 0, 13], len: 3 } }";
-    check_copies(&rt, mapping_of_a_build_id(rt.alloc()), want);
+    check_copies(&rt, told_with_copies(rt.alloc(), by_build_id()), want);
     let want = "Mmap { pid: 1, tid: 2, addr: 3, len: 4, pgoff: 5, filename: Borrowed([8, 9]) }";
     check_copies(&rt, shorter_mapping(rt.alloc()), want);
+    let want = "Mmap { pid: 1, tid: 2, addr: 3, len: 4, pgoff: 5, filename: Owned([8, 9]) }";
+    check_clone(&rt, shorter_owned_mapping(rt.alloc()), want);
 }
 
 fn poke(alloc: Global) -> Result<String, Fail> {
@@ -204,7 +322,7 @@ fn poke(alloc: Global) -> Result<String, Fail> {
         old_bytes: CowSlice::Borrowed(&[2]),
         new_bytes: CowSlice::Borrowed(&[3, 4]),
     };
-    told_with_copies!(alloc, poke, to_owned)
+    told_with_copies(alloc, poke)
 }
 
 #[test]
@@ -218,7 +336,7 @@ const WITH_IDS: u64 = 0x0d;
 fn group_of_counters(alloc: Global) -> Result<String, Fail> {
     let numbers = CowSlice::Borrowed(&[3, 4, 5, 6]);
     let group = ReadGroup::from_parts(ReadFormat::from_bits_retain(WITH_IDS), 1, 2, numbers);
-    told_with_copies!(alloc, group, into_owned)
+    told_with_copies(alloc, group)
 }
 
 #[test]
@@ -234,7 +352,7 @@ fn registers(alloc: Global, values: CowSlice<'_, u64>) -> Result<String, Fail> {
         mask: 5,
         regs: values,
     };
-    told_with_clone!(alloc, registers)
+    told_with_clone(alloc, registers)
 }
 
 // Registers that own their values.
@@ -262,7 +380,7 @@ fn spaces(alloc: Global, entries: CowSlice<'_, NamespaceEntry>) -> Result<String
         tid: 2,
         namespaces: entries,
     };
-    told_with_clone!(alloc, spaces)
+    told_with_clone(alloc, spaces)
 }
 
 // Namespaces that own their list.
