@@ -162,7 +162,7 @@ fn read_next<'p, B: ParseBuf<'p>, E: Endian>(
         Ok(answer) => answer,
         Err(refusal) => return Err(Stop::Refused(refusal)),
     };
-    frames.push((header, answer)).unwrap();
+    frames.push_reserved((header, answer));
     Ok(())
 }
 

@@ -47,7 +47,7 @@ returns-clause-listed g c =
     let mid : Meaning = meaning (λ (o : Outer g.row.B.Denot). g.B.ParseBuf.source o.buf) g.E.Endian.order c.read_header.new.reader in
     let new : Meaning = meaning (λ (o : Outer g.row.B.Denot). g.B.ParseBuf.source o.buf) g.E.Endian.order c.read_answer.new.reader in
     let h = c.in-Ok.header in let r = c.in-Ok-read_answer.answer in let read = c.in-Ok-read_answer.ensures in
-    let pushed : c.push.new.self.items ≡ c.args.frames.now.items ++ (h, r) ∷ [] = search rules in (
+    let pushed : c.push_reserved.new.self.items ≡ c.args.frames.now.items ++ (h, r) ∷ [] = search rules in (
       h,
       r,
       pushed,
@@ -65,5 +65,5 @@ returns-clause-keeps g c = λ start k.
     let old : Meaning = meaning (λ (o : Outer g.row.B.Denot). g.B.ParseBuf.source o.buf) g.E.Endian.order c.args.reader.now in
     let new : Meaning = meaning (λ (o : Outer g.row.B.Denot). g.B.ParseBuf.source o.buf) g.E.Endian.order c.read_answer.new.reader in
     let h = c.in-Ok.header in let r = c.in-Ok-read_answer.answer in let read = c.in-Ok-read_answer.ensures in
-    let pushed : c.push.new.self.items ≡ c.args.frames.now.items ++ (h, r) ∷ [] = search rules in
-    run_lists start old new c.args.frames.now.items c.push.new.self.items h r pushed read.listed k (read.call.keeps old (c.in-Ok.ensures.call.keeps old (keeps_none old)))
+    let pushed : c.push_reserved.new.self.items ≡ c.args.frames.now.items ++ (h, r) ∷ [] = search rules in
+    run_lists start old new c.args.frames.now.items c.push_reserved.new.self.items h r pushed read.listed k (read.call.keeps old (c.in-Ok.ensures.call.keeps old (keeps_none old)))
