@@ -10,30 +10,82 @@ use perf_event_data::endian::{Big, Endian, Little, Native};
 use perf_event_data::parse::{ParseBuf, ParseConfig, ParseRegisters, ParseResult, Parser};
 use perf_event_data::sys::perf_event_attr;
 use perf_event_data::{
-    BranchEntry, DataSource, PieceBuf, ReadValue, Record, Registers, Sample, SampleFields,
-    SampleRegsAbi, Txn,
+    BranchEntry, DataSource, PieceBuf, ReadGroup, ReadValue, Record, Registers, Sample,
+    SampleFields, SampleRegsAbi, Txn,
 };
 use std::alloc::{AllocError, Global};
 use std::io::BufReader;
 use std::process::Abort;
 
-// The registers of a user, those at an interrupt, a branch, and words that say something by their
-// bits.
-fn tell_parts<'p, B: ParseBuf<'p>, E: Endian>(
+// The registers of a user, and those at an interrupt.
+fn tell_both_registers<'p, B: ParseBuf<'p>, E: Endian>(
     text: &mut String,
     parser: &mut Parser<B, E>,
 ) -> ParseResult<()> {
     let user = Registers::parse_user(parser)?;
     tell_registers(text, "user", Some(&user))?;
     let interrupt = Registers::parse_intr(parser)?;
-    tell_registers(text, "interrupt", Some(&interrupt))?;
+    Ok(tell_registers(text, "interrupt", Some(&interrupt))?)
+}
+
+// A branch.
+fn tell_branch<'p, B: ParseBuf<'p>, E: Endian>(
+    text: &mut String,
+    parser: &mut Parser<B, E>,
+) -> ParseResult<()> {
     let branch = parser.parse::<BranchEntry>()?;
-    tell_branches(text, Some(&[branch]))?;
-    let source = parser.parse::<DataSource>()?.bits();
-    let transaction = parser.parse::<Txn>()?.bits();
-    let abi = parser.parse::<SampleRegsAbi>()?.get();
-    write!(text, " {source:#x} {transaction:#x} {abi:#x}")?;
+    Ok(tell_branches(text, Some(&[branch]))?)
+}
+
+fn next_source<'p, B: ParseBuf<'p>, E: Endian>(parser: &mut Parser<B, E>) -> ParseResult<u64> {
+    match parser.parse::<DataSource>() {
+        Ok(source) => Ok(source.bits()),
+        Err(error) => Err(error),
+    }
+}
+
+fn next_transaction<'p, B: ParseBuf<'p>, E: Endian>(parser: &mut Parser<B, E>) -> ParseResult<u64> {
+    match parser.parse::<Txn>() {
+        Ok(transaction) => Ok(transaction.bits()),
+        Err(error) => Err(error),
+    }
+}
+
+fn next_abi<'p, B: ParseBuf<'p>, E: Endian>(parser: &mut Parser<B, E>) -> ParseResult<u64> {
+    match parser.parse::<SampleRegsAbi>() {
+        Ok(abi) => Ok(abi.get()),
+        Err(error) => Err(error),
+    }
+}
+
+// Words that say something by their bits.
+fn tell_words<'p, B: ParseBuf<'p>, E: Endian>(
+    text: &mut String,
+    parser: &mut Parser<B, E>,
+) -> ParseResult<()> {
+    let words = [
+        next_source(parser)?,
+        next_transaction(parser)?,
+        next_abi(parser)?,
+    ];
+    Ok(tell_hex(text, words)?)
+}
+
+fn tell_hex(text: &mut String, words: [u64; 3]) -> Result<(), AllocError> {
+    for word in words {
+        write!(text, " {word:#x}")?;
+    }
     Ok(())
+}
+
+// All of these, one behind another.
+fn tell_parts<'p, B: ParseBuf<'p>, E: Endian>(
+    text: &mut String,
+    parser: &mut Parser<B, E>,
+) -> ParseResult<()> {
+    tell_both_registers(text, parser)?;
+    tell_branch(text, parser)?;
+    tell_words(text, parser)
 }
 
 // What is parsed, and why no more is.
@@ -180,24 +232,41 @@ fn a_refused_sample_says_why(rt: HostRuntime) {
     }
 }
 
-// What a sample's group says of the ids 2 and 3, and whether it is that of one counter.
-fn told_by_id(alloc: Global, bytes: &[u8]) -> ParseResult<String> {
-    let sample = parser_of(alloc, bytes, attribute(READ, 0x0C)).parse::<Sample>()?;
-    let mut text = String::new(alloc);
-    let Some(group) = sample.values() else {
-        return Ok(text);
-    };
+// What a group says of three ids.
+fn tell_ids(text: &mut String, group: &ReadGroup<'_>) -> Result<(), AllocError> {
     for id in [1, 2, 3] {
         match group.get_by_id(id) {
             Some(entry) => write!(text, "{} ", entry.value())?,
             None => text.push_str("none ")?,
         }
     }
-    match ReadValue::try_from(group.clone(alloc)?) {
-        Ok(_) => text.push_str("one")?,
-        Err(_) => text.push_str("not one")?,
-    }
+    Ok(())
+}
+
+// Whether a group is that of one counter.
+fn tell_one(text: &mut String, group: ReadGroup<'_>) -> Result<(), AllocError> {
+    text.push_str(match ReadValue::try_from(group) {
+        Ok(_) => "one",
+        Err(_) => "not one",
+    })
+}
+
+// What a sample's group says of three ids, and whether it is that of one counter.
+fn told_group(alloc: Global, sample: &Sample<'_>) -> ParseResult<String> {
+    let mut text = String::new(alloc);
+    let Some(group) = sample.values() else {
+        return Ok(text);
+    };
+    tell_ids(&mut text, group)?;
+    tell_one(&mut text, group.clone(alloc)?)?;
     Ok(text)
+}
+
+fn told_by_id(alloc: Global, bytes: &[u8]) -> ParseResult<String> {
+    match parser_of(alloc, bytes, attribute(READ, 0x0C)).parse::<Sample>() {
+        Ok(sample) => told_group(alloc, &sample),
+        Err(error) => Err(error),
+    }
 }
 
 fn check_by_id(rt: &(impl AllocGlobal + Abort), bytes: &[u8], want: &str) {

@@ -1,4 +1,4 @@
--- The two groups in which an MMAP2 record is read are its body.
+-- The groups in which an MMAP2 record is read are its body.
 use Rattle.std.proofs.Common.{◌≡◌, refl, sym, subst}
 use Rattle.std.specs.Prelude.{Result, Ok, Err, IsTrue}
 use Rattle.perf_base.specs.Configuration.{Configuration}
@@ -12,7 +12,10 @@ use Rattle.perf_reader.specs.Calls.{Call}
 use Rattle.perf_reader.specs.Reading.{Reads, ReadsLent}
 use Rattle.perf_reader.specs.declared.reader.Reader.{Reader}
 use Rattle.perf_types.specs.Mmap2.{mmap2, mmap2_value, IsBorrowedMmap2, place, behind_place}
+use Rattle.perf_types.specs.Mmap2.{behind_detail}
+use Rattle.perf_types.specs.MmapDetail.{mmap_detail, detail_value}
 use Rattle.perf_types.specs.declared.mmap2.Mmap2.{Mmap2}
+use Rattle.perf_types.specs.declared.mmap2.MmapDetail.{MmapDetail}
 use Rattle.perf_types.specs.declared.mmap2.Place.{Place}
 
 groups_are_it : (c : Configuration) → (place >>= λ p. behind_place p c) ≡ mmap2 c
@@ -52,6 +55,46 @@ module _ {I E : Type 0} {source : I → Source} {order : E → Order} where
   place_stops {a} {b} {e} memory first =
       let all : Call source order (Reads mmap2 mmap2_value) a (Err e) b =
       call_stops (λ _. place) (λ s p. behind_place p s) first in record {
+        config = all.config;
+        whole = all.whole;
+        told = all.told;
+        answer = λ t. (all.answer t, λ w. (tt, memory));
+        keeps = all.keeps;
+      }
+
+  -- the path was read behind the detail
+  pub detail_read : (p : Place) {a b c : Reader I E} {d : MmapDetail} {seen : Result Mmap2 ErrorKind} →
+      Call source order (Reads mmap_detail detail_value) a (Ok d) b →
+      Call source order (ReadsLent (λ _. behind_detail p (detail_value d)) mmap2_value IsBorrowedMmap2) b seen c →
+      Call source order (ReadsLent (behind_place p) mmap2_value IsBorrowedMmap2) a seen c
+  detail_read p {a} {b} {c} {d} {seen} first next =
+      let all : Call source order (Reads (behind_place p) mmap2_value) a seen c =
+      call_behind mmap_detail (λ s v. behind_detail p v) first (record {
+        config = next.config;
+        whole = next.whole;
+        told = next.told;
+        answer = λ t. (next.answer t).0;
+        keeps = next.keeps;
+      }) in record {
+        config = all.config;
+        whole = all.whole;
+        told = all.told;
+        answer = λ t. (
+          all.answer t,
+          λ w.
+              (next.answer (first.told t)).1 (subst IsTrue (sym first.whole) w),
+        );
+        keeps = all.keeps;
+      }
+
+  -- the detail was refused
+  pub detail_stops : (p : Place) {a b : Reader I E} {e : ErrorKind} →
+      TakesNoMemory {A = MmapDetail} (Err e) →
+      Call source order (Reads mmap_detail detail_value) a (Err e) b →
+      Call source order (ReadsLent (behind_place p) mmap2_value IsBorrowedMmap2) a (Err e) b
+  detail_stops p {a} {b} {e} memory first =
+      let all : Call source order (Reads (behind_place p) mmap2_value) a (Err e) b =
+      call_stops mmap_detail (λ s v. behind_detail p v) first in record {
         config = all.config;
         whole = all.whole;
         told = all.told;

@@ -79,7 +79,7 @@ mmap2 c = do
     filename = filename;
   })
 
--- ---- in two groups, as it is read; `proofs/Places` shows that they are the body
+-- ---- in groups, as it is read; `proofs/Places` shows that they are the body
 
 -- the task, and what it mapped where
 abbrev pub place : Parts Place
@@ -91,10 +91,9 @@ place = do
   pgoff ← u64
   done (record { pid = pid; tid = tid; addr = addr; len = len; pgoff = pgoff })
 
--- what stands behind it
-abbrev pub behind_place : Place → Configuration → Parts Mmap2Value
-behind_place p c = do
-  detail ← mmap_detail c
+-- what stands behind the detail
+abbrev pub behind_detail : Place → DetailValue → Parts Mmap2Value
+behind_detail p detail = do
   prot ← u32
   flags ← u32
   filename ← name
@@ -109,3 +108,9 @@ behind_place p c = do
     flags = flags;
     filename = filename;
   })
+
+-- what stands behind the place
+abbrev pub behind_place : Place → Configuration → Parts Mmap2Value
+behind_place p c = do
+  detail ← mmap_detail c
+  behind_detail p detail

@@ -385,7 +385,8 @@ impl Place {
 }
 
 impl<'p> Mmap2<'p> {
-    ghost use Rattle.perf_types.specs.Mmap2.{mmap2_value, IsBorrowedMmap2, behind_place};
+    ghost use Rattle.perf_types.specs.Mmap2.{mmap2_value, IsBorrowedMmap2};
+    ghost use Rattle.perf_types.specs.Mmap2.{behind_place, behind_detail};
 
     // What stands behind the place.
     #[inline]
@@ -397,7 +398,25 @@ impl<'p> Mmap2<'p> {
             (ReadsLent (behind_place place) mmap2_value IsBorrowedMmap2)
             reader.old (kinds result) reader.new }
     {
-        let detail = read_detail(reader)?;
+        match read_detail(reader) {
+            Ok(detail) => Mmap2::read_path(reader, place, detail),
+            Err(refusal) => Err(refusal),
+        }
+    }
+
+    // What stands behind the detail.
+    #[inline]
+    fn read_path<I: Input<'p>, E: Endian>(
+        reader: &mut Reader<I, E>,
+        place: Place,
+        detail: MmapDetail,
+    ) -> ReadResult<Mmap2<'p>>
+        requires { IsTrue (file.has_fitting_id detail) }
+        ensures call { Call I.source E.order
+            (ReadsLent (λ _. behind_detail place (file.detail_value detail)) mmap2_value
+            IsBorrowedMmap2)
+            reader.old (kinds result) reader.new }
+    {
         let prot = reader.read_u32()?;
         let flags = reader.read_u32()?;
         let filename = reader.read_rest_trim_nul()?;

@@ -1,36 +1,10 @@
-use Rattle.std.proofs.Common.{rules}
-use Rattle.perf_base.proofs.Took.{places_took}
+use Rattle.perf_types.proofs.Places.{detail_read, detail_stops}
 use Rattle.perf_types.proofs.mmap2.Mmap2.read_behind.Goals as goal
 
-pub returns-in_err-prot : goal.returns-in_err-prot
-returns-in_err-prot g c = record {
-  call = record {
-    config = search rules;
-    whole = search rules;
-    told = search rules;
-    answer = search (rules, places_took);
-    keeps = search rules;
-  };
-}
+pub returns-in-Ok : goal.returns-in-Ok
+returns-in-Ok g c =
+    record { call = detail_read c.args.place c.in-Ok.ensures.call c.read_path.ensures.call }
 
-pub returns-in_err-flags : goal.returns-in_err-flags
-returns-in_err-flags g c = record {
-  call = record {
-    config = search rules;
-    whole = search rules;
-    told = search rules;
-    answer = search (rules, places_took);
-    keeps = search rules;
-  };
-}
-
-pub returns-in_err-filename : goal.returns-in_err-filename
-returns-in_err-filename g c = record {
-  call = record {
-    config = search rules;
-    whole = search rules;
-    told = search rules;
-    answer = search (rules, places_took);
-    keeps = search rules;
-  };
-}
+pub returns-in-Err : goal.returns-in-Err
+returns-in-Err g c =
+    record { call = detail_stops c.args.place c.in-Err.ensures.memory c.in-Err.ensures.call }
