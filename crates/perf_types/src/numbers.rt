@@ -42,7 +42,8 @@ fn read_to_the_end<'p, I: Input<'p>, E: Endian>(reader: &mut Reader<I, E>, count
     Refusal::Eof
 }
 
-// So many numbers, eight at once where the input has them. A list that does not fit takes no memory where the input says what it has.
+// So many numbers, eight at once where the input says that it has them. A list that does not fit
+// takes no memory where the input says what it has.
 pub(crate) fn read_numbers<'p, I: Input<'p>, E: Endian>(
     reader: &mut Reader<I, E>,
     count: usize,
