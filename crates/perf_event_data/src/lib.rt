@@ -12,6 +12,8 @@ pub use perf_buffers::pieces::PieceBuf;
 pub use perf_parser::{Run, RunEnd, parse, read_records};
 pub use perf_records::metadata::RecordMetadata;
 pub use perf_records::record::Record;
+pub use perf_records::record_visitor::RecordVisitor;
+pub use perf_records::visitor::Visitor;
 pub use perf_types::aux_output_hw_id::AuxOutputHwId;
 pub use perf_types::aux_record::Aux;
 pub use perf_types::bpf_event::BpfEvent;

@@ -4,6 +4,7 @@
 pub mod body;
 pub mod frame;
 pub mod metadata;
+pub mod partial;
 pub mod record;
 mod record_clone;
 pub mod record_type;

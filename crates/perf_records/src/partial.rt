@@ -1,0 +1,372 @@
+//! A visitor that leaves records out.
+
+ghost use Rattle.std.specs.Prelude.{true};
+ghost use Rattle.perf_records.specs.Words as words;
+ghost use Rattle.perf_records.specs.Words.{Event, event, GivesOrLeavesOut, MetadataValue};
+
+use crate::metadata::RecordMetadata;
+use crate::visitor::Visitor;
+use perf_base::cow::CowSlice;
+use perf_types::aux_output_hw_id::AuxOutputHwId;
+use perf_types::aux_record::Aux;
+use perf_types::bpf_event::BpfEvent;
+use perf_types::cgroup::CGroup;
+use perf_types::comm::Comm;
+use perf_types::exit::{Exit, Fork};
+use perf_types::itrace_start::ITraceStart;
+use perf_types::ksymbol::KSymbol;
+use perf_types::lost::Lost;
+use perf_types::lost_samples::LostSamples;
+use perf_types::mmap::Mmap;
+use perf_types::mmap2::Mmap2;
+use perf_types::namespaces::Namespaces;
+use perf_types::read::Read;
+use perf_types::sample::Sample;
+use perf_types::switch_cpu_wide::SwitchCpuWide;
+use perf_types::text_poke::TextPoke;
+use perf_types::throttle::Throttle;
+
+/// Takes one record, and makes one answer of all that it leaves out.
+///
+/// Only [`PartialVisitor::visit_unimplemented`] has to be written, and the call of each type of
+/// record that matters; [`Partial`] is then a [`Visitor`]. An output borrows nothing of the input.
+pub trait PartialVisitor: Drop + Sized {
+    /// What is made of a record.
+    type Output;
+
+    // which outputs belong to an event
+    ghost gives: { Event → Self.Output → Type 0 };
+
+    // which outputs belong to a record that is left out
+    ghost left_out: { MetadataValue → Self.Output → Type 0 };
+
+    /// What is made of a record that is left out.
+    fn visit_unimplemented(self, metadata: RecordMetadata) -> Self::Output
+        ensures { left_out metadata result };
+
+    /// A file was mapped that can be run (`PERF_RECORD_MMAP`).
+    #[inline]
+    fn visit_mmap(self, held: Mmap<'_>, metadata: RecordMetadata) -> Self::Output
+        ensures { GivesOrLeavesOut gives left_out (event (words.mmap_is (words.mmap_value held.entry)) (words.is_borrowed held.entry.filename) metadata) result }
+    {
+        let _ = held;
+        self.visit_unimplemented(metadata)
+    }
+
+    /// Events were lost (`PERF_RECORD_LOST`).
+    #[inline]
+    fn visit_lost(self, held: Lost, metadata: RecordMetadata) -> Self::Output
+        ensures { GivesOrLeavesOut gives left_out (event (words.lost_is held) true metadata) result }
+    {
+        let _ = held;
+        self.visit_unimplemented(metadata)
+    }
+
+    /// A task changed its name (`PERF_RECORD_COMM`).
+    #[inline]
+    fn visit_comm(self, held: Comm<'_>, metadata: RecordMetadata) -> Self::Output
+        ensures { GivesOrLeavesOut gives left_out (event (words.comm_is (words.comm_value held.entry)) (words.is_borrowed held.entry.comm) metadata) result }
+    {
+        let _ = held;
+        self.visit_unimplemented(metadata)
+    }
+
+    /// A task ended (`PERF_RECORD_EXIT`).
+    #[inline]
+    fn visit_exit(self, held: Exit, metadata: RecordMetadata) -> Self::Output
+        ensures { GivesOrLeavesOut gives left_out (event (words.exit_is held) true metadata) result }
+    {
+        let _ = held;
+        self.visit_unimplemented(metadata)
+    }
+
+    /// The kernel began to hold samples back (`PERF_RECORD_THROTTLE`).
+    #[inline]
+    fn visit_throttle(self, held: Throttle, metadata: RecordMetadata) -> Self::Output
+        ensures { GivesOrLeavesOut gives left_out (event (words.throttle_is held) true metadata) result }
+    {
+        let _ = held;
+        self.visit_unimplemented(metadata)
+    }
+
+    /// It takes samples again (`PERF_RECORD_UNTHROTTLE`).
+    #[inline]
+    fn visit_unthrottle(self, held: Throttle, metadata: RecordMetadata) -> Self::Output
+        ensures { GivesOrLeavesOut gives left_out (event (words.unthrottle_is held) true metadata) result }
+    {
+        let _ = held;
+        self.visit_unimplemented(metadata)
+    }
+
+    /// A task was made (`PERF_RECORD_FORK`).
+    #[inline]
+    fn visit_fork(self, held: Fork, metadata: RecordMetadata) -> Self::Output
+        ensures { GivesOrLeavesOut gives left_out (event (words.fork_is held) true metadata) result }
+    {
+        let _ = held;
+        self.visit_unimplemented(metadata)
+    }
+
+    /// A counter of a task was read (`PERF_RECORD_READ`).
+    #[inline]
+    fn visit_read(self, held: Read, metadata: RecordMetadata) -> Self::Output
+        ensures { GivesOrLeavesOut gives left_out (event (words.read_is (words.task_read held)) true metadata) result }
+    {
+        let _ = held;
+        self.visit_unimplemented(metadata)
+    }
+
+    /// An event happened (`PERF_RECORD_SAMPLE`).
+    #[inline]
+    fn visit_sample(self, held: Sample<'_>, metadata: RecordMetadata) -> Self::Output
+        ensures { GivesOrLeavesOut gives left_out (event (words.sample_is (words.sample_value held.entry)) (words.is_lent_sample held.entry) metadata) result }
+    {
+        let _ = held;
+        self.visit_unimplemented(metadata)
+    }
+
+    /// A file was mapped, with which file it is (`PERF_RECORD_MMAP2`).
+    ///
+    /// One that does not name it takes it as [`PartialVisitor::visit_mmap`] does.
+    #[inline]
+    fn visit_mmap2(self, held: Mmap2<'_>, metadata: RecordMetadata) -> Self::Output
+        ensures { GivesOrLeavesOut gives left_out (event (words.mmap2_is (words.mmap2_value held.entry)) (words.is_borrowed held.entry.filename) metadata) result }
+    {
+        self.visit_mmap(held.into_mmap(), metadata)
+    }
+
+    /// There is new data in the AUX buffer (`PERF_RECORD_AUX`).
+    #[inline]
+    fn visit_aux(self, held: Aux, metadata: RecordMetadata) -> Self::Output
+        ensures { GivesOrLeavesOut gives left_out (event (words.aux_is (words.aux_value held)) true metadata) result }
+    {
+        let _ = held;
+        self.visit_unimplemented(metadata)
+    }
+
+    /// An instruction trace began (`PERF_RECORD_ITRACE_START`).
+    #[inline]
+    fn visit_itrace_start(self, held: ITraceStart, metadata: RecordMetadata) -> Self::Output
+        ensures { GivesOrLeavesOut gives left_out (event (words.itrace_start_is held) true metadata) result }
+    {
+        let _ = held;
+        self.visit_unimplemented(metadata)
+    }
+
+    /// Samples were lost (`PERF_RECORD_LOST_SAMPLES`).
+    #[inline]
+    fn visit_lost_samples(self, held: LostSamples, metadata: RecordMetadata) -> Self::Output
+        ensures { GivesOrLeavesOut gives left_out (event (words.lost_samples_is held) true metadata) result }
+    {
+        let _ = held;
+        self.visit_unimplemented(metadata)
+    }
+
+    /// A task came onto its CPU or left it (`PERF_RECORD_SWITCH`), of which the record says nothing
+    /// else.
+    #[inline]
+    fn visit_switch(self, metadata: RecordMetadata) -> Self::Output
+        ensures { GivesOrLeavesOut gives left_out (event words.switch_is true metadata) result }
+    {
+        self.visit_unimplemented(metadata)
+    }
+
+    /// Which task another one gave its CPU to, or got it from (`PERF_RECORD_SWITCH_CPU_WIDE`).
+    #[inline]
+    fn visit_switch_cpu_wide(self, held: SwitchCpuWide, metadata: RecordMetadata) -> Self::Output
+        ensures { GivesOrLeavesOut gives left_out (event (words.switch_cpu_wide_is held) true metadata) result }
+    {
+        let _ = held;
+        self.visit_unimplemented(metadata)
+    }
+
+    /// The namespaces of a task (`PERF_RECORD_NAMESPACES`).
+    #[inline]
+    fn visit_namespaces(self, held: Namespaces<'_>, metadata: RecordMetadata) -> Self::Output
+        ensures { GivesOrLeavesOut gives left_out (event (words.namespaces_is (words.namespaces_value held.entry)) true metadata) result }
+    {
+        let _ = held;
+        self.visit_unimplemented(metadata)
+    }
+
+    /// A symbol of the kernel came or went (`PERF_RECORD_KSYMBOL`).
+    #[inline]
+    fn visit_ksymbol(self, held: KSymbol<'_>, metadata: RecordMetadata) -> Self::Output
+        ensures { GivesOrLeavesOut gives left_out (event (words.ksymbol_is (words.ksymbol_value held.entry)) (words.is_borrowed held.entry.name) metadata) result }
+    {
+        let _ = held;
+        self.visit_unimplemented(metadata)
+    }
+
+    /// A BPF program was loaded or unloaded (`PERF_RECORD_BPF_EVENT`).
+    #[inline]
+    fn visit_bpf_event(self, held: BpfEvent, metadata: RecordMetadata) -> Self::Output
+        ensures { GivesOrLeavesOut gives left_out (event (words.bpf_event_is (words.bpf_event_value held)) true metadata) result }
+    {
+        let _ = held;
+        self.visit_unimplemented(metadata)
+    }
+
+    /// A control group: its id and path (`PERF_RECORD_CGROUP`).
+    #[inline]
+    fn visit_cgroup(self, held: CGroup<'_>, metadata: RecordMetadata) -> Self::Output
+        ensures { GivesOrLeavesOut gives left_out (event (words.cgroup_is (words.cgroup_value held.entry)) (words.is_borrowed held.entry.path) metadata) result }
+    {
+        let _ = held;
+        self.visit_unimplemented(metadata)
+    }
+
+    /// The kernel changed its own instructions (`PERF_RECORD_TEXT_POKE`).
+    #[inline]
+    fn visit_text_poke(self, held: TextPoke<'_>, metadata: RecordMetadata) -> Self::Output
+        ensures { GivesOrLeavesOut gives left_out (event (words.text_poke_is (words.text_poke_value held.entry)) (words.is_lent_text_poke held.entry) metadata) result }
+    {
+        let _ = held;
+        self.visit_unimplemented(metadata)
+    }
+
+    /// The hardware's id of an event whose data is in the AUX buffer
+    /// (`PERF_RECORD_AUX_OUTPUT_HW_ID`).
+    #[inline]
+    fn visit_aux_output_hw_id(self, held: AuxOutputHwId, metadata: RecordMetadata) -> Self::Output
+        ensures { GivesOrLeavesOut gives left_out (event (words.aux_output_hw_id_is held) true metadata) result }
+    {
+        let _ = held;
+        self.visit_unimplemented(metadata)
+    }
+
+    /// A record of a type that this library does not read, which the metadata names: the bytes
+    /// between its header and its sample id.
+    #[inline]
+    fn visit_unknown(self, bytes: CowSlice<'_, u8>, metadata: RecordMetadata) -> Self::Output
+        ensures { GivesOrLeavesOut gives left_out (event (words.unknown_is metadata.ty (words.cow_items bytes.entry)) (words.is_borrowed bytes.entry) metadata) result }
+    {
+        let _ = bytes;
+        self.visit_unimplemented(metadata)
+    }
+}
+
+/// The visitor that a partial one is.
+#[derive(Drop)]
+pub struct Partial<V>(pub V);
+
+impl<'a, V: PartialVisitor> Visitor<'a> for Partial<V> {
+    type Output = V::Output;
+
+    ghost gives = { λ seen output. GivesOrLeavesOut V.gives V.left_out seen output };
+
+    #[inline]
+    fn visit_unimplemented(self, metadata: RecordMetadata) -> Self::Output {
+        self.0.visit_unimplemented(metadata)
+    }
+
+    #[inline]
+    fn visit_mmap(self, held: Mmap<'a>, metadata: RecordMetadata) -> Self::Output {
+        self.0.visit_mmap(held, metadata)
+    }
+
+    #[inline]
+    fn visit_lost(self, held: Lost, metadata: RecordMetadata) -> Self::Output {
+        self.0.visit_lost(held, metadata)
+    }
+
+    #[inline]
+    fn visit_comm(self, held: Comm<'a>, metadata: RecordMetadata) -> Self::Output {
+        self.0.visit_comm(held, metadata)
+    }
+
+    #[inline]
+    fn visit_exit(self, held: Exit, metadata: RecordMetadata) -> Self::Output {
+        self.0.visit_exit(held, metadata)
+    }
+
+    #[inline]
+    fn visit_throttle(self, held: Throttle, metadata: RecordMetadata) -> Self::Output {
+        self.0.visit_throttle(held, metadata)
+    }
+
+    #[inline]
+    fn visit_unthrottle(self, held: Throttle, metadata: RecordMetadata) -> Self::Output {
+        self.0.visit_unthrottle(held, metadata)
+    }
+
+    #[inline]
+    fn visit_fork(self, held: Fork, metadata: RecordMetadata) -> Self::Output {
+        self.0.visit_fork(held, metadata)
+    }
+
+    #[inline]
+    fn visit_read(self, held: Read, metadata: RecordMetadata) -> Self::Output {
+        self.0.visit_read(held, metadata)
+    }
+
+    #[inline]
+    fn visit_sample(self, held: Sample<'a>, metadata: RecordMetadata) -> Self::Output {
+        self.0.visit_sample(held, metadata)
+    }
+
+    #[inline]
+    fn visit_mmap2(self, held: Mmap2<'a>, metadata: RecordMetadata) -> Self::Output {
+        self.0.visit_mmap2(held, metadata)
+    }
+
+    #[inline]
+    fn visit_aux(self, held: Aux, metadata: RecordMetadata) -> Self::Output {
+        self.0.visit_aux(held, metadata)
+    }
+
+    #[inline]
+    fn visit_itrace_start(self, held: ITraceStart, metadata: RecordMetadata) -> Self::Output {
+        self.0.visit_itrace_start(held, metadata)
+    }
+
+    #[inline]
+    fn visit_lost_samples(self, held: LostSamples, metadata: RecordMetadata) -> Self::Output {
+        self.0.visit_lost_samples(held, metadata)
+    }
+
+    #[inline]
+    fn visit_switch(self, metadata: RecordMetadata) -> Self::Output {
+        self.0.visit_switch(metadata)
+    }
+
+    #[inline]
+    fn visit_switch_cpu_wide(self, held: SwitchCpuWide, metadata: RecordMetadata) -> Self::Output {
+        self.0.visit_switch_cpu_wide(held, metadata)
+    }
+
+    #[inline]
+    fn visit_namespaces(self, held: Namespaces<'a>, metadata: RecordMetadata) -> Self::Output {
+        self.0.visit_namespaces(held, metadata)
+    }
+
+    #[inline]
+    fn visit_ksymbol(self, held: KSymbol<'a>, metadata: RecordMetadata) -> Self::Output {
+        self.0.visit_ksymbol(held, metadata)
+    }
+
+    #[inline]
+    fn visit_bpf_event(self, held: BpfEvent, metadata: RecordMetadata) -> Self::Output {
+        self.0.visit_bpf_event(held, metadata)
+    }
+
+    #[inline]
+    fn visit_cgroup(self, held: CGroup<'a>, metadata: RecordMetadata) -> Self::Output {
+        self.0.visit_cgroup(held, metadata)
+    }
+
+    #[inline]
+    fn visit_text_poke(self, held: TextPoke<'a>, metadata: RecordMetadata) -> Self::Output {
+        self.0.visit_text_poke(held, metadata)
+    }
+
+    #[inline]
+    fn visit_aux_output_hw_id(self, held: AuxOutputHwId, metadata: RecordMetadata) -> Self::Output {
+        self.0.visit_aux_output_hw_id(held, metadata)
+    }
+
+    #[inline]
+    fn visit_unknown(self, bytes: CowSlice<'a, u8>, metadata: RecordMetadata) -> Self::Output {
+        self.0.visit_unknown(bytes, metadata)
+    }
+}
