@@ -77,7 +77,7 @@ fn count_command(alloc: Global, input: &[u8], command: Command) -> ParseResult<(
     }
 }
 
-// All bytes of an input.
+// All bytes of an input. `read_to_end` would clear the room for them before it reads into it.
 fn read_input<R: Read>(alloc: Global, input: &mut R) -> Result<Vec<u8>> {
     let mut bytes = Vec::with_capacity(alloc, FIRST_ROOM)?;
     let mut piece = [0; PIECE];

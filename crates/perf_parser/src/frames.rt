@@ -131,6 +131,10 @@ impl<'p, B: ParseBuf<'p>, E: Endian> Parser<B, E> {
             × (reads_of r.0 ≡ 0)) }
         ensures whole { IsTrue (B.source (buffer_of self.old)).whole →
             IfOk result (λ r. IsTrue (words.cursor_lent (buffer_of r.0))) }
+        ensures whole_memory { IsTrue (B.source (buffer_of self.old)).told →
+            IsTrue (B.source (buffer_of self.old)).whole →
+            E.may_refuse (endian_of (config_of self.old)) ≡ false →
+            TakesNoMemory (error_kinds result) }
         ensures call { Call B.source E.order SplitsFrame self.old (error_kinds result) self.new }
     {
         let header = match self.parse::<perf_event_header>() {

@@ -3,6 +3,7 @@ use Rattle.std.specs.Prelude.{ℕ, List, Bool, true, false, Option, Some, None, 
 use Rattle.std.specs.Prelude.{Ok, Err, ◌≡◌, ◌≢◌, ◌&&◌, ◌⊎◌, IsTrue}
 use Rattle.perf_base.specs.Configuration.{Configuration}
 use Rattle.perf_base.specs.Cow.{is_borrowed}
+use Rattle.perf_base.specs.Header.{header_of}
 use Rattle.perf_base.specs.Layout.{Parts, layout}
 use Rattle.perf_base.specs.LayoutReads.{layout_reads}
 use Rattle.perf_base.specs.Order.{Order}
@@ -10,7 +11,7 @@ use Rattle.perf_base.specs.Took.{took, quit, took_by_places}
 use Rattle.perf_base.specs.declared.error.ErrorKind.{ErrorKind}
 use Rattle.perf_base.specs.declared.error.ErrorKind.TheVariants.{OutOfMemory}
 use Rattle.perf_base.specs.declared.sys.perf_event_header.{perf_event_header}
-use Rattle.perf_base.specs.Refusals.{refused}
+use Rattle.perf_base.specs.Refusals.{refused, TakesNoMemory}
 use Rattle.perf_buffers.specs.Taking.{MovesWithin}
 use Rattle.perf_reader.specs.Reading.{Says, of_layout, is_external}
 use Rattle.perf_records.specs.Answers.{FrameParts, AnswersExactly, split_behind, answer_behind}
@@ -159,7 +160,7 @@ VisitsBehind gives h old seen new =
     (reads_behind c o h bytes) old seen new
 
 -- The same of a frame with its header. Where it is refused otherwise, but by a fault, a beginning of
--- the frame is taken.
+-- the frame is taken. Of a whole buffer memory is taken for a list or a box alone.
 abbrev pub VisitsFrame : {O : Type 0} → (Event → O → Type 0) → Says O
 VisitsFrame gives old seen new =
     let c = old.settings in let o = old.order in let bytes = old.source.left in
@@ -167,6 +168,8 @@ VisitsFrame gives old seen new =
     (frame_reads (reads_behind c o) o bytes) old seen new
     × (is_external (refused seen) ≡ false →
     MovesWithin old.source (frame_length o bytes) new.source)
+    × (IsTrue old.source.whole → wants_memory (header_of o bytes).type_ ≡ false →
+    TakesNoMemory seen)
 
 -- What is known of an output also where a buffer does not tell its bytes: the type and the misc of
 -- its event are those of the header, and of a whole buffer nothing was copied.

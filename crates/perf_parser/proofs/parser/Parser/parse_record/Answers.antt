@@ -1,12 +1,14 @@
-use Rattle.std.proofs.Common.{Ok, Err, ◌∙◌, subst}
-use Rattle.std.specs.Prelude.{Result}
+use Rattle.std.proofs.Common.{Ok, Err, sym, ◌∙◌, ap, subst}
+use Rattle.std.specs.Prelude.{Result, IsTrue}
 use Rattle.perf_base.specs.Configured.{configuration_of, endian_of}
 use Rattle.perf_base.specs.Errors.{kind_of}
 use Rattle.perf_base.specs.Header.{header as header_parts}
 use Rattle.perf_base.specs.declared.config.ParseConfig.{ParseConfig}
 use Rattle.perf_base.specs.declared.error.ErrorKind.{ErrorKind}
+use Rattle.perf_base.specs.declared.sys.perf_event_header.{perf_event_header}
 use Rattle.perf_reader.specs.Meaning.{Meaning}
 use Rattle.perf_records.specs.Answers.{body_length, split_behind, answer_behind, reads_behind}
+use Rattle.perf_records.specs.Bodies.{wants_memory}
 use Rattle.perf_records.specs.Records.{RecordValue}
 use Rattle.perf_records.specs.Visits.{VisitsExactly}
 use Rattle.perf_records.proofs.Headers.{header_read, header_unread, tells_no_header, no_header_within, frame_within}
@@ -35,6 +37,7 @@ returns-in-Err g c =
               (λ inside. no_header_within old.order old.source new.source kind
                   (λ layout. header_unread old.order old.source.left new.source.left kind (quit_stopped old.order header_parts old.source.left new.source.left old.reads new.reads kind (says.0 layout)).0)
                   says.1 inside),
+              (λ whole none. says.1),
             );
         counted = read.counted;
         follows = read.follows;
@@ -64,6 +67,8 @@ returns-in-Ok-parse_record_with_header g c =
             let h = header_read old.order old.source.left mid.source.left header q.0 in (
               visits_frame gives old mid new header seen h.0 h.1 h.2 q.1 read.whole (subst P read.config (rest.answer (read.told told))),
               (λ inside. frame_within old.order old.source mid.source new.source header h.0 h.1 h.2 (behind.within (read.told told))),
+              (λ whole none. behind.whole_memory (subst IsTrue (sym read.whole) whole)
+                  (ap (λ (k : perf_event_header). wants_memory k.type_) h.1 ∙ none)),
             );
         counted = λ start p. rest.counted start (read.counted start p);
         follows = λ start p. rest.follows start (read.follows start p);
@@ -93,6 +98,8 @@ returns-in-Err-parse_record_with_header g c =
             let h = header_read old.order old.source.left mid.source.left header q.0 in (
               visits_frame gives old mid new header seen h.0 h.1 h.2 q.1 read.whole (subst P read.config (rest.answer (read.told told))),
               (λ inside. frame_within old.order old.source mid.source new.source header h.0 h.1 h.2 (behind.within (read.told told))),
+              (λ whole none. behind.whole_memory (subst IsTrue (sym read.whole) whole)
+                  (ap (λ (k : perf_event_header). wants_memory k.type_) h.1 ∙ none)),
             );
         counted = λ start p. rest.counted start (read.counted start p);
         follows = λ start p. rest.follows start (read.follows start p);
