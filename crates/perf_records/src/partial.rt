@@ -47,7 +47,9 @@ pub trait PartialVisitor: Drop + Sized {
     /// A file was mapped that can be run (`PERF_RECORD_MMAP`).
     #[inline]
     fn visit_mmap(self, held: Mmap<'_>, metadata: RecordMetadata) -> Self::Output
-        ensures { GivesOrLeavesOut gives left_out (event (words.mmap_is (words.mmap_value held.entry)) (words.is_borrowed held.entry.filename) metadata) result }
+        ensures { GivesOrLeavesOut gives left_out
+            (event (words.mmap_is (words.mmap_value held.entry))
+            (words.is_borrowed held.entry.filename) metadata) result }
     {
         let _ = held;
         self.visit_unimplemented(metadata)
@@ -56,7 +58,8 @@ pub trait PartialVisitor: Drop + Sized {
     /// Events were lost (`PERF_RECORD_LOST`).
     #[inline]
     fn visit_lost(self, held: Lost, metadata: RecordMetadata) -> Self::Output
-        ensures { GivesOrLeavesOut gives left_out (event (words.lost_is held) true metadata) result }
+        ensures { GivesOrLeavesOut gives left_out
+            (event (words.lost_is held) true metadata) result }
     {
         let _ = held;
         self.visit_unimplemented(metadata)
@@ -65,7 +68,9 @@ pub trait PartialVisitor: Drop + Sized {
     /// A task changed its name (`PERF_RECORD_COMM`).
     #[inline]
     fn visit_comm(self, held: Comm<'_>, metadata: RecordMetadata) -> Self::Output
-        ensures { GivesOrLeavesOut gives left_out (event (words.comm_is (words.comm_value held.entry)) (words.is_borrowed held.entry.comm) metadata) result }
+        ensures { GivesOrLeavesOut gives left_out
+            (event (words.comm_is (words.comm_value held.entry))
+            (words.is_borrowed held.entry.comm) metadata) result }
     {
         let _ = held;
         self.visit_unimplemented(metadata)
@@ -74,7 +79,8 @@ pub trait PartialVisitor: Drop + Sized {
     /// A task ended (`PERF_RECORD_EXIT`).
     #[inline]
     fn visit_exit(self, held: Exit, metadata: RecordMetadata) -> Self::Output
-        ensures { GivesOrLeavesOut gives left_out (event (words.exit_is held) true metadata) result }
+        ensures { GivesOrLeavesOut gives left_out
+            (event (words.exit_is held) true metadata) result }
     {
         let _ = held;
         self.visit_unimplemented(metadata)
@@ -83,7 +89,8 @@ pub trait PartialVisitor: Drop + Sized {
     /// The kernel began to hold samples back (`PERF_RECORD_THROTTLE`).
     #[inline]
     fn visit_throttle(self, held: Throttle, metadata: RecordMetadata) -> Self::Output
-        ensures { GivesOrLeavesOut gives left_out (event (words.throttle_is held) true metadata) result }
+        ensures { GivesOrLeavesOut gives left_out
+            (event (words.throttle_is held) true metadata) result }
     {
         let _ = held;
         self.visit_unimplemented(metadata)
@@ -92,7 +99,8 @@ pub trait PartialVisitor: Drop + Sized {
     /// It takes samples again (`PERF_RECORD_UNTHROTTLE`).
     #[inline]
     fn visit_unthrottle(self, held: Throttle, metadata: RecordMetadata) -> Self::Output
-        ensures { GivesOrLeavesOut gives left_out (event (words.unthrottle_is held) true metadata) result }
+        ensures { GivesOrLeavesOut gives left_out
+            (event (words.unthrottle_is held) true metadata) result }
     {
         let _ = held;
         self.visit_unimplemented(metadata)
@@ -101,7 +109,8 @@ pub trait PartialVisitor: Drop + Sized {
     /// A task was made (`PERF_RECORD_FORK`).
     #[inline]
     fn visit_fork(self, held: Fork, metadata: RecordMetadata) -> Self::Output
-        ensures { GivesOrLeavesOut gives left_out (event (words.fork_is held) true metadata) result }
+        ensures { GivesOrLeavesOut gives left_out
+            (event (words.fork_is held) true metadata) result }
     {
         let _ = held;
         self.visit_unimplemented(metadata)
@@ -110,7 +119,8 @@ pub trait PartialVisitor: Drop + Sized {
     /// A counter of a task was read (`PERF_RECORD_READ`).
     #[inline]
     fn visit_read(self, held: Read, metadata: RecordMetadata) -> Self::Output
-        ensures { GivesOrLeavesOut gives left_out (event (words.read_is (words.task_read held)) true metadata) result }
+        ensures { GivesOrLeavesOut gives left_out
+            (event (words.read_is (words.task_read held)) true metadata) result }
     {
         let _ = held;
         self.visit_unimplemented(metadata)
@@ -119,7 +129,9 @@ pub trait PartialVisitor: Drop + Sized {
     /// An event happened (`PERF_RECORD_SAMPLE`).
     #[inline]
     fn visit_sample(self, held: Sample<'_>, metadata: RecordMetadata) -> Self::Output
-        ensures { GivesOrLeavesOut gives left_out (event (words.sample_is (words.sample_value held.entry)) (words.is_lent_sample held.entry) metadata) result }
+        ensures { GivesOrLeavesOut gives left_out
+            (event (words.sample_is (words.sample_value held.entry))
+            (words.is_lent_sample held.entry) metadata) result }
     {
         let _ = held;
         self.visit_unimplemented(metadata)
@@ -130,7 +142,9 @@ pub trait PartialVisitor: Drop + Sized {
     /// One that does not name it takes it as [`PartialVisitor::visit_mmap`] does.
     #[inline]
     fn visit_mmap2(self, held: Mmap2<'_>, metadata: RecordMetadata) -> Self::Output
-        ensures { GivesOrLeavesOut gives left_out (event (words.mmap2_is (words.mmap2_value held.entry)) (words.is_borrowed held.entry.filename) metadata) result }
+        ensures { GivesOrLeavesOut gives left_out
+            (event (words.mmap2_is (words.mmap2_value held.entry))
+            (words.is_borrowed held.entry.filename) metadata) result }
     {
         self.visit_mmap(held.into_mmap(), metadata)
     }
@@ -138,7 +152,8 @@ pub trait PartialVisitor: Drop + Sized {
     /// There is new data in the AUX buffer (`PERF_RECORD_AUX`).
     #[inline]
     fn visit_aux(self, held: Aux, metadata: RecordMetadata) -> Self::Output
-        ensures { GivesOrLeavesOut gives left_out (event (words.aux_is (words.aux_value held)) true metadata) result }
+        ensures { GivesOrLeavesOut gives left_out
+            (event (words.aux_is (words.aux_value held)) true metadata) result }
     {
         let _ = held;
         self.visit_unimplemented(metadata)
@@ -147,7 +162,8 @@ pub trait PartialVisitor: Drop + Sized {
     /// An instruction trace began (`PERF_RECORD_ITRACE_START`).
     #[inline]
     fn visit_itrace_start(self, held: ITraceStart, metadata: RecordMetadata) -> Self::Output
-        ensures { GivesOrLeavesOut gives left_out (event (words.itrace_start_is held) true metadata) result }
+        ensures { GivesOrLeavesOut gives left_out
+            (event (words.itrace_start_is held) true metadata) result }
     {
         let _ = held;
         self.visit_unimplemented(metadata)
@@ -156,7 +172,8 @@ pub trait PartialVisitor: Drop + Sized {
     /// Samples were lost (`PERF_RECORD_LOST_SAMPLES`).
     #[inline]
     fn visit_lost_samples(self, held: LostSamples, metadata: RecordMetadata) -> Self::Output
-        ensures { GivesOrLeavesOut gives left_out (event (words.lost_samples_is held) true metadata) result }
+        ensures { GivesOrLeavesOut gives left_out
+            (event (words.lost_samples_is held) true metadata) result }
     {
         let _ = held;
         self.visit_unimplemented(metadata)
@@ -174,7 +191,8 @@ pub trait PartialVisitor: Drop + Sized {
     /// Which task another one gave its CPU to, or got it from (`PERF_RECORD_SWITCH_CPU_WIDE`).
     #[inline]
     fn visit_switch_cpu_wide(self, held: SwitchCpuWide, metadata: RecordMetadata) -> Self::Output
-        ensures { GivesOrLeavesOut gives left_out (event (words.switch_cpu_wide_is held) true metadata) result }
+        ensures { GivesOrLeavesOut gives left_out
+            (event (words.switch_cpu_wide_is held) true metadata) result }
     {
         let _ = held;
         self.visit_unimplemented(metadata)
@@ -183,7 +201,8 @@ pub trait PartialVisitor: Drop + Sized {
     /// The namespaces of a task (`PERF_RECORD_NAMESPACES`).
     #[inline]
     fn visit_namespaces(self, held: Namespaces<'_>, metadata: RecordMetadata) -> Self::Output
-        ensures { GivesOrLeavesOut gives left_out (event (words.namespaces_is (words.namespaces_value held.entry)) true metadata) result }
+        ensures { GivesOrLeavesOut gives left_out
+            (event (words.namespaces_is (words.namespaces_value held.entry)) true metadata) result }
     {
         let _ = held;
         self.visit_unimplemented(metadata)
@@ -192,7 +211,9 @@ pub trait PartialVisitor: Drop + Sized {
     /// A symbol of the kernel came or went (`PERF_RECORD_KSYMBOL`).
     #[inline]
     fn visit_ksymbol(self, held: KSymbol<'_>, metadata: RecordMetadata) -> Self::Output
-        ensures { GivesOrLeavesOut gives left_out (event (words.ksymbol_is (words.ksymbol_value held.entry)) (words.is_borrowed held.entry.name) metadata) result }
+        ensures { GivesOrLeavesOut gives left_out
+            (event (words.ksymbol_is (words.ksymbol_value held.entry))
+            (words.is_borrowed held.entry.name) metadata) result }
     {
         let _ = held;
         self.visit_unimplemented(metadata)
@@ -201,7 +222,8 @@ pub trait PartialVisitor: Drop + Sized {
     /// A BPF program was loaded or unloaded (`PERF_RECORD_BPF_EVENT`).
     #[inline]
     fn visit_bpf_event(self, held: BpfEvent, metadata: RecordMetadata) -> Self::Output
-        ensures { GivesOrLeavesOut gives left_out (event (words.bpf_event_is (words.bpf_event_value held)) true metadata) result }
+        ensures { GivesOrLeavesOut gives left_out
+            (event (words.bpf_event_is (words.bpf_event_value held)) true metadata) result }
     {
         let _ = held;
         self.visit_unimplemented(metadata)
@@ -210,7 +232,9 @@ pub trait PartialVisitor: Drop + Sized {
     /// A control group: its id and path (`PERF_RECORD_CGROUP`).
     #[inline]
     fn visit_cgroup(self, held: CGroup<'_>, metadata: RecordMetadata) -> Self::Output
-        ensures { GivesOrLeavesOut gives left_out (event (words.cgroup_is (words.cgroup_value held.entry)) (words.is_borrowed held.entry.path) metadata) result }
+        ensures { GivesOrLeavesOut gives left_out
+            (event (words.cgroup_is (words.cgroup_value held.entry))
+            (words.is_borrowed held.entry.path) metadata) result }
     {
         let _ = held;
         self.visit_unimplemented(metadata)
@@ -219,7 +243,9 @@ pub trait PartialVisitor: Drop + Sized {
     /// The kernel changed its own instructions (`PERF_RECORD_TEXT_POKE`).
     #[inline]
     fn visit_text_poke(self, held: TextPoke<'_>, metadata: RecordMetadata) -> Self::Output
-        ensures { GivesOrLeavesOut gives left_out (event (words.text_poke_is (words.text_poke_value held.entry)) (words.is_lent_text_poke held.entry) metadata) result }
+        ensures { GivesOrLeavesOut gives left_out
+            (event (words.text_poke_is (words.text_poke_value held.entry))
+            (words.is_lent_text_poke held.entry) metadata) result }
     {
         let _ = held;
         self.visit_unimplemented(metadata)
@@ -229,7 +255,8 @@ pub trait PartialVisitor: Drop + Sized {
     /// (`PERF_RECORD_AUX_OUTPUT_HW_ID`).
     #[inline]
     fn visit_aux_output_hw_id(self, held: AuxOutputHwId, metadata: RecordMetadata) -> Self::Output
-        ensures { GivesOrLeavesOut gives left_out (event (words.aux_output_hw_id_is held) true metadata) result }
+        ensures { GivesOrLeavesOut gives left_out
+            (event (words.aux_output_hw_id_is held) true metadata) result }
     {
         let _ = held;
         self.visit_unimplemented(metadata)
@@ -239,7 +266,9 @@ pub trait PartialVisitor: Drop + Sized {
     /// between its header and its sample id.
     #[inline]
     fn visit_unknown(self, bytes: CowSlice<'_, u8>, metadata: RecordMetadata) -> Self::Output
-        ensures { GivesOrLeavesOut gives left_out (event (words.unknown_is metadata.ty (words.cow_items bytes.entry)) (words.is_borrowed bytes.entry) metadata) result }
+        ensures { GivesOrLeavesOut gives left_out
+            (event (words.unknown_is metadata.ty (words.cow_items bytes.entry))
+            (words.is_borrowed bytes.entry) metadata) result }
     {
         let _ = bytes;
         self.visit_unimplemented(metadata)

@@ -46,7 +46,8 @@ pub trait Visitor<'a>: Drop {
     ///
     /// The line of a visitor that leaves it out: `self.visit_unimplemented(metadata)`.
     fn visit_mmap(self, held: Mmap<'a>, metadata: RecordMetadata) -> Self::Output
-        ensures { gives (event (words.mmap_is (words.mmap_value held.entry)) (words.is_borrowed held.entry.filename) metadata) result };
+        ensures { gives (event (words.mmap_is (words.mmap_value held.entry))
+            (words.is_borrowed held.entry.filename) metadata) result };
 
     /// Events were lost (`PERF_RECORD_LOST`).
     ///
@@ -58,7 +59,8 @@ pub trait Visitor<'a>: Drop {
     ///
     /// The line of a visitor that leaves it out: `self.visit_unimplemented(metadata)`.
     fn visit_comm(self, held: Comm<'a>, metadata: RecordMetadata) -> Self::Output
-        ensures { gives (event (words.comm_is (words.comm_value held.entry)) (words.is_borrowed held.entry.comm) metadata) result };
+        ensures { gives (event (words.comm_is (words.comm_value held.entry))
+            (words.is_borrowed held.entry.comm) metadata) result };
 
     /// A task ended (`PERF_RECORD_EXIT`).
     ///
@@ -94,14 +96,16 @@ pub trait Visitor<'a>: Drop {
     ///
     /// The line of a visitor that leaves it out: `self.visit_unimplemented(metadata)`.
     fn visit_sample(self, held: Sample<'a>, metadata: RecordMetadata) -> Self::Output
-        ensures { gives (event (words.sample_is (words.sample_value held.entry)) (words.is_lent_sample held.entry) metadata) result };
+        ensures { gives (event (words.sample_is (words.sample_value held.entry))
+            (words.is_lent_sample held.entry) metadata) result };
 
     /// A file was mapped, with which file it is (`PERF_RECORD_MMAP2`).
     ///
     /// The line of a visitor that leaves out which file it is:
     /// `self.visit_mmap(held.into_mmap(), metadata)`.
     fn visit_mmap2(self, held: Mmap2<'a>, metadata: RecordMetadata) -> Self::Output
-        ensures { gives (event (words.mmap2_is (words.mmap2_value held.entry)) (words.is_borrowed held.entry.filename) metadata) result };
+        ensures { gives (event (words.mmap2_is (words.mmap2_value held.entry))
+            (words.is_borrowed held.entry.filename) metadata) result };
 
     /// There is new data in the AUX buffer (`PERF_RECORD_AUX`).
     ///
@@ -138,31 +142,36 @@ pub trait Visitor<'a>: Drop {
     ///
     /// The line of a visitor that leaves it out: `self.visit_unimplemented(metadata)`.
     fn visit_namespaces(self, held: Namespaces<'a>, metadata: RecordMetadata) -> Self::Output
-        ensures { gives (event (words.namespaces_is (words.namespaces_value held.entry)) true metadata) result };
+        ensures { gives (event (words.namespaces_is (words.namespaces_value held.entry))
+            true metadata) result };
 
     /// A symbol of the kernel came or went (`PERF_RECORD_KSYMBOL`).
     ///
     /// The line of a visitor that leaves it out: `self.visit_unimplemented(metadata)`.
     fn visit_ksymbol(self, held: KSymbol<'a>, metadata: RecordMetadata) -> Self::Output
-        ensures { gives (event (words.ksymbol_is (words.ksymbol_value held.entry)) (words.is_borrowed held.entry.name) metadata) result };
+        ensures { gives (event (words.ksymbol_is (words.ksymbol_value held.entry))
+            (words.is_borrowed held.entry.name) metadata) result };
 
     /// A BPF program was loaded or unloaded (`PERF_RECORD_BPF_EVENT`).
     ///
     /// The line of a visitor that leaves it out: `self.visit_unimplemented(metadata)`.
     fn visit_bpf_event(self, held: BpfEvent, metadata: RecordMetadata) -> Self::Output
-        ensures { gives (event (words.bpf_event_is (words.bpf_event_value held)) true metadata) result };
+        ensures { gives (event (words.bpf_event_is (words.bpf_event_value held))
+            true metadata) result };
 
     /// A control group: its id and path (`PERF_RECORD_CGROUP`).
     ///
     /// The line of a visitor that leaves it out: `self.visit_unimplemented(metadata)`.
     fn visit_cgroup(self, held: CGroup<'a>, metadata: RecordMetadata) -> Self::Output
-        ensures { gives (event (words.cgroup_is (words.cgroup_value held.entry)) (words.is_borrowed held.entry.path) metadata) result };
+        ensures { gives (event (words.cgroup_is (words.cgroup_value held.entry))
+            (words.is_borrowed held.entry.path) metadata) result };
 
     /// The kernel changed its own instructions (`PERF_RECORD_TEXT_POKE`).
     ///
     /// The line of a visitor that leaves it out: `self.visit_unimplemented(metadata)`.
     fn visit_text_poke(self, held: TextPoke<'a>, metadata: RecordMetadata) -> Self::Output
-        ensures { gives (event (words.text_poke_is (words.text_poke_value held.entry)) (words.is_lent_text_poke held.entry) metadata) result };
+        ensures { gives (event (words.text_poke_is (words.text_poke_value held.entry))
+            (words.is_lent_text_poke held.entry) metadata) result };
 
     /// The hardware's id of an event whose data is in the AUX buffer
     /// (`PERF_RECORD_AUX_OUTPUT_HW_ID`).
@@ -176,5 +185,6 @@ pub trait Visitor<'a>: Drop {
     ///
     /// The line of a visitor that leaves it out: `self.visit_unimplemented(metadata)`.
     fn visit_unknown(self, bytes: CowSlice<'a, u8>, metadata: RecordMetadata) -> Self::Output
-        ensures { gives (event (words.unknown_is metadata.ty (words.cow_items bytes.entry)) (words.is_borrowed bytes.entry) metadata) result };
+        ensures { gives (event (words.unknown_is metadata.ty (words.cow_items bytes.entry))
+            (words.is_borrowed bytes.entry) metadata) result };
 }
