@@ -11,6 +11,7 @@ pub mod exit;
 pub mod group_entry;
 pub mod group_iter;
 pub mod group_laws;
+mod hex;
 pub mod itrace_start;
 pub mod ksymbol;
 pub mod laws;

@@ -7,6 +7,7 @@ ghost use Rattle.perf_types.specs.MmapDetail as file;
 ghost use Rattle.perf_types.specs.Words.{Call, Reads, ReadsPlain, ReadsLent, TakesNoMemory, kinds};
 ghost use Rattle.perf_types.specs.Words.{cow_items, is_borrowed, text_of, has_bit};
 
+use crate::hex::Hex;
 use crate::mmap::Mmap;
 use crate::text::text;
 use perf_base::cow::CowSlice;
@@ -18,6 +19,7 @@ use perf_buffers::input::Input;
 use perf_reader::read::{Meant, ReadFrom};
 use perf_reader::reader::Reader;
 use std::alloc::Global;
+use std::fmt;
 
 /// A process mapped something into its memory (`PERF_RECORD_MMAP2`): as [`Mmap`], and which file it
 /// was.
@@ -46,7 +48,7 @@ pub struct Mmap2<'a> {
 
 /// Which file was mapped: one by its inode, or a program by its build id. Bit 14 of the header's
 /// `misc`, `PERF_RECORD_MISC_MMAP_BUILD_ID`, says which of both a record has.
-#[derive(Clone, Debug, Drop)]
+#[derive(Clone, Drop)]
 pub enum MmapDetail {
     /// The file's inode.
     Default {
@@ -67,6 +69,32 @@ pub enum MmapDetail {
         /// How many bytes the build id has, 20 at most.
         len: u8,
     },
+}
+
+/// A build id is shown by its hexadecimal digits, without the bytes behind it.
+impl fmt::Debug for MmapDetail {
+    fn fmt<W: fmt::Write>(&self, f: &mut fmt::Formatter<W>) -> fmt::Result {
+        match self {
+            MmapDetail::Default {
+                maj,
+                min,
+                ino,
+                ino_generation,
+            } => f
+                .debug_struct("Default")
+                .field("maj", maj)
+                .field("min", min)
+                .field("ino", ino)
+                .field("ino_generation", ino_generation)
+                .finish(),
+            MmapDetail::BuildId { build_id, len } => {
+                let len = usize::from(*len).min(build_id.len());
+                f.debug_struct("BuildId")
+                    .field("build_id", &Hex(&build_id[..len]))
+                    .finish()
+            }
+        }
+    }
 }
 
 impl<'a> Mmap2<'a> {

@@ -307,8 +307,7 @@ fn mappings_of_a_file(rt: HostRuntime) {
         Borrowed([8, 9]), detail: Default { maj: 10, min: 11, ino: 12, ino_generation: 13 } }";
     check_copies(&rt, told_with_copies(rt.alloc(), by_inode()), want);
     let want = "Mmap2 { pid: 1, tid: 2, addr: 3, len: 4, pgoff: 5, prot: 6, flags: 7, filename: \
-        Borrowed([8, 9]), detail: BuildId { build_id: \
-        [10, 11, 12, 0, 0, 0, 0, 0, 0, 0, 0, 0, 0, 0, 0, 0, 0, 0, 0, 13], len: 3 } }";
+        Borrowed([8, 9]), detail: BuildId { build_id: 0a0b0c } }";
     check_copies(&rt, told_with_copies(rt.alloc(), by_build_id()), want);
     let want = "Mmap { pid: 1, tid: 2, addr: 3, len: 4, pgoff: 5, filename: Borrowed([8, 9]) }";
     check_copies(&rt, shorter_mapping(rt.alloc()), want);
