@@ -11,6 +11,7 @@ pub use perf_base::{endian, sys};
 pub use perf_buffers::pieces::PieceBuf;
 pub use perf_parser::{Run, RunEnd, parse, read_records};
 pub use perf_records::metadata::RecordMetadata;
+pub use perf_records::partial::{Partial, PartialVisitor};
 pub use perf_records::record::Record;
 pub use perf_records::record_visitor::RecordVisitor;
 pub use perf_records::visitor::Visitor;

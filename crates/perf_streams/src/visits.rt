@@ -487,9 +487,29 @@ fn a_timeline_is_made_of_sample_ids(rt: HostRuntime) {
     check_timeline(&rt, ids_attribute(1 << 2 | 1 << 7), want);
 }
 
+fn tell_records(alloc: Global, attr: perf_event_attr) -> Result<String, AllocError> {
+    let config = ParseConfig::<Native>::from(attr).with_endian(Little);
+    let mut parser = Parser::new(alloc, TIMED, config);
+    let mut text = String::new(alloc);
+    for _ in 0..4 {
+        match parser.parse_record(RecordVisitor::new(alloc)) {
+            Ok(answer) => answer.tell(&mut text)?,
+            Err(error) => tell_error(&mut text, &error)?,
+        }
+        text.push_str("; ")?;
+    }
+    Ok(text)
+}
+
+fn check_records(rt: &(impl AllocGlobal + Abort), attr: perf_event_attr, want: &str) {
+    match tell_records(rt.alloc(), attr) {
+        Ok(text) => check_same(rt, "the records", text.as_str(), want),
+        Err(_) => panic!(rt; "no memory"),
+    }
+}
+
 #[test]
 fn the_visitor_of_records_makes_them(rt: HostRuntime) {
-    let want = "LostSamples 5; Switch; Comm 1 2 a; Eof";
-    let attr = ids_attribute(1 << 2 | 1 << 7);
-    check_visits(&rt, TIMED, attr, RecordVisitor::new(rt.alloc()), want);
+    let want = "LostSamples 5; Switch; Comm 1 2 a; Eof; ";
+    check_records(&rt, ids_attribute(1 << 2 | 1 << 7), want);
 }
