@@ -72,10 +72,9 @@ MakesRecord gives r output =
     (seen : Event) → record_value r ≡ seen.value → (IsTrue seen.lent → IsBorrowed r) →
     gives seen output
 
--- what a sample is answered by belongs to its event, whatever the metadata
-abbrev pub MakesSample : {O : Type 0} → (Event → O → Type 0) → Sample → O → Type 0
-MakesSample gives s output =
-    (m : MetadataValue) → gives (event (sample_is (sample_value s)) (is_lent_sample s) m) output
+-- what answers a sample that has no box belongs to its event, whichever that is
+abbrev pub MakesNoSample : {O : Type 0} → (Event → O → Type 0) → O → Type 0
+MakesNoSample gives output = (seen : Event) → IsSample seen.value → gives seen output
 
 -- ---- what a visitor gives that leaves records out
 

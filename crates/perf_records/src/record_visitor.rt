@@ -1,7 +1,7 @@
 //! The visitor that makes the record itself.
 
 ghost use Rattle.perf_records.specs.Words as words;
-ghost use Rattle.perf_records.specs.Words.{Event, event, MakesRecord, MakesSample};
+ghost use Rattle.perf_records.specs.Words.{Event, event, MakesRecord, MakesNoSample};
 
 use crate::metadata::RecordMetadata;
 use crate::record::Record;
@@ -42,16 +42,14 @@ pub trait Answer<'a>: Drop {
     fn record(self, held: Record<'a>) -> Self::Output
         ensures { MakesRecord gives held.entry result };
 
-    /// The answer of a sample, which a record holds in a box.
-    fn sample(self, held: Sample<'a>) -> Self::Output
-        ensures { MakesSample gives held.entry result };
+    /// The answer of a sample for whose box there is no memory.
+    fn no_memory(self) -> Self::Output
+        ensures { MakesNoSample gives result };
 }
 
 /// Answers a record, or an error.
 #[derive(Copy, Clone)]
-pub struct OrError {
-    alloc: Global,
-}
+pub struct OrError;
 
 impl<'a> Answer<'a> for OrError {
     type Output = ParseResult<Record<'a>>;
@@ -66,19 +64,14 @@ impl<'a> Answer<'a> for OrError {
 
     #[inline]
     #[tactic(auto, unfolding(crate::specs::Visits::GivesRecord))]
-    fn sample(self, held: Sample<'a>) -> Self::Output {
-        match Box::new(self.alloc, held) {
-            Ok(held) => Ok(Record::Sample(held)),
-            Err(error) => Err(ParseError::from(error)),
-        }
+    fn no_memory(self) -> Self::Output {
+        Err(ParseError::out_of_memory())
     }
 }
 
 /// Answers a record, or a small refusal, for what reads records by the thousand.
 #[derive(Copy, Clone)]
-pub struct OrRefusal {
-    alloc: Global,
-}
+pub struct OrRefusal;
 
 impl<'a> Answer<'a> for OrRefusal {
     type Output = ReadResult<Record<'a>>;
@@ -93,11 +86,8 @@ impl<'a> Answer<'a> for OrRefusal {
 
     #[inline]
     #[tactic(auto, unfolding(crate::specs::Visits::GivesRecord))]
-    fn sample(self, held: Sample<'a>) -> Self::Output {
-        match Box::new(self.alloc, held) {
-            Ok(held) => Ok(Record::Sample(held)),
-            Err(_) => Err(Refusal::OutOfMemory),
-        }
+    fn no_memory(self) -> Self::Output {
+        Err(Refusal::OutOfMemory)
     }
 }
 
@@ -105,6 +95,7 @@ impl<'a> Answer<'a> for OrRefusal {
 #[derive(Drop)]
 pub struct Recording<A> {
     answer: A,
+    alloc: Global,
 }
 
 /// Makes the record itself of what it visits. A sample goes into a box: where there is no memory for
@@ -116,7 +107,8 @@ impl Recording<OrError> {
     #[inline]
     pub fn new(alloc: Global) -> Recording<OrError> {
         Recording {
-            answer: OrError { alloc },
+            answer: OrError,
+            alloc,
         }
     }
 }
@@ -126,7 +118,8 @@ impl Recording<OrRefusal> {
     #[inline]
     pub fn small(alloc: Global) -> Recording<OrRefusal> {
         Recording {
-            answer: OrRefusal { alloc },
+            answer: OrRefusal,
+            alloc,
         }
     }
 }
@@ -185,9 +178,13 @@ impl<'a, A: Answer<'a>> Visitor<'a> for Recording<A> {
         self.answer.record(Record::Read(held))
     }
 
-    #[inline]
+    // It is large, and is to be moved once, into its box.
+    #[inline(always)]
     fn visit_sample(self, held: Sample<'a>, _metadata: RecordMetadata) -> Self::Output {
-        self.answer.sample(held)
+        match Box::new(self.alloc, held) {
+            Ok(held) => self.answer.record(Record::Sample(held)),
+            Err(_) => self.answer.no_memory(),
+        }
     }
 
     #[inline]
