@@ -16,6 +16,8 @@ mod configurations;
 #[cfg(test)]
 mod cursors;
 #[cfg(test)]
+mod debug_texts;
+#[cfg(test)]
 mod errors;
 #[cfg(test)]
 mod faults;

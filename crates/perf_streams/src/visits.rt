@@ -221,7 +221,7 @@ fn check_mappings(rt: &(impl AllocGlobal + Abort), bytes: &[u8], want: &str, cou
     check_same(rt, "how many visits", visits.get(), count);
 }
 
-const BY_BUILD_ID: &[u8] = b"\x0A\0\0\0\0\x40\x50\0\x01\0\0\0\x02\0\0\0\
+pub const BY_BUILD_ID: &[u8] = b"\x0A\0\0\0\0\x40\x50\0\x01\0\0\0\x02\0\0\0\
     \0\x10\0\0\0\0\0\0\0\x20\0\0\0\0\0\0\0\0\0\0\0\0\0\0\
     \x14\0\0\0\x01\x02\x03\x04\x05\x06\x07\x08\x09\x0A\x0B\x0C\x0D\x0E\x0F\x10\x11\x12\x13\x14\
     \x05\0\0\0\x02\0\0\0\x61\x62\0\0\0\0\0\0";
@@ -384,7 +384,7 @@ const FRAMES: [(u8, u8); 22] = [
     (22, 8),
 ];
 
-fn zero_frames(alloc: Global) -> Result<Vec<u8>, AllocError> {
+pub fn zero_frames(alloc: Global) -> Result<Vec<u8>, AllocError> {
     let mut bytes = Vec::new(alloc);
     for (ty, size) in FRAMES {
         let end = bytes.len().saturating_add(usize::from(size));
