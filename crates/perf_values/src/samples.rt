@@ -1,5 +1,6 @@
 //! Samples that are made of their fields.
 
+use crate::checks::check_same;
 use bitflags::Flags;
 use perf_base::cow::CowSlice;
 use perf_base::error::ParseResult;
@@ -10,12 +11,7 @@ use perf_types::sample_fields::SampleFields;
 use perf_types::sample_id::SampleId;
 use perf_words::{BranchEntry, DataSource, ReadFormat, SampleRegsAbi, Txn};
 use std::alloc::{AllocError, Global};
-use std::fmt::Debug;
 use std::process::Abort;
-
-fn check_same<T: PartialEq + Debug + Drop>(rt: &impl Abort, what: &str, value: T, want: T) {
-    assert_eq!(rt; value, want, "{what}");
-}
 
 fn wide(number: Option<u32>) -> Option<u64> {
     match number {
