@@ -21,7 +21,8 @@ use Rattle.perf_buffers.specs.declared.outer.Outer.{Outer}
 use Rattle.perf_reader.specs.Meaning as reader
 use Rattle.perf_reader.specs.Meaning.{Meaning}
 use Rattle.perf_reader.specs.declared.reader.Reader.{Reader}
-use Rattle.perf_reader.specs.Reading.{Keeps, of_layout, one_if_refused, last_of}
+use Rattle.perf_reader.specs.Calls.{Call}
+use Rattle.perf_reader.specs.Reading.{Says, Keeps, of_layout, one_if_refused, last_of}
 use Rattle.perf_reader.proofs.Paying.{last_moved, last_all, last_last, within_taken}
 use Rattle.perf_reader.proofs.Steps.{run_there, run_short}
 use Rattle.perf_records.specs.Answers.{SaysBehind, body_length, answer_behind, answer_of_frame, reads_behind}
@@ -234,6 +235,19 @@ said_frame old mid new h r fits e same_settings same_order m count listed p =
 pub same_meaning : {B E : Type 0} (source : B → Source) (order : E → Order) (a b : Reader (Outer B) E) → reader.buffer_of a ≡ reader.buffer_of b → reader.config_of a ≡ reader.config_of b →
     reader.reads_of a ≡ reader.reads_of b → reader.meaning (λ (o : Outer B). source o.buf) order a ≡ reader.meaning (λ (o : Outer B). source o.buf) order b
 same_meaning source order a b buffer config reads = rw (buffer, config, reads) refl
+
+-- a call of a reader of which only what its buffer keeps for later has changed since
+pub same_call : {B E X : Type 0} (source : B → Source) (order : E → Order) (says : Says X) (old mid new : Reader (Outer B) E) (seen : Result X ErrorKind) →
+    reader.buffer_of new ≡ reader.buffer_of mid → reader.config_of new ≡ reader.config_of mid → reader.reads_of new ≡ reader.reads_of mid →
+    Call (λ (o : Outer B). source o.buf) order says old seen mid → Call (λ (o : Outer B). source o.buf) order says old seen new
+same_call source order says old mid new seen buffer config reads call =
+    let same = same_meaning source order new mid buffer config reads in record {
+      config = config ∙ call.config;
+      whole = ap (λ b. (source b).whole) buffer ∙ call.whole;
+      told = λ told. subst (λ b. IsTrue (source b).told) (sym buffer) (call.told told);
+      answer = λ told. subst (λ m. says (reader.meaning (λ o. source o.buf) order old) seen m) (sym same) (call.answer told);
+      keeps = λ start kept. subst (λ m. Keeps start (refused seen) m) (sym same) (call.keeps start kept);
+    }
 
 pub run_ends : (start new : Meaning) (n : ℕ) (s : Stop) (e : RunEnd) → IsEndOf s e → KeepsRun start (n + 1) (stopped_by {A = Unit {0}} (Err s)) new → KeepsRun start (n + one_if_ended e) (end_refusal e) new
 run_ends start new n stop.Done e is k = subst (λ (x : RunEnd). KeepsRun start (n + one_if_ended x) (end_refusal x) new) (sym is) k

@@ -10,7 +10,6 @@ use Rattle.perf_base.specs.Refusals.{refusal_kind, error_kinds}
 use Rattle.perf_base.specs.declared.error.ErrorKind.{ErrorKind}
 use Rattle.perf_base.specs.declared.error.ErrorKind.TheVariants.{Eof}
 use Rattle.perf_base.specs.declared.error.ParseError.{ParseError}
-use Rattle.perf_base.specs.declared.refusal.Refusal.{Refusal}
 use Rattle.perf_base.specs.declared.sys.perf_event_header.{perf_event_header}
 use Rattle.perf_buffers.specs.Buffer.{Stays}
 use Rattle.perf_reader.specs.Meaning.{Meaning}
@@ -194,10 +193,18 @@ abbrev pub IsListed : Result Record ParseError → Type 0
 IsListed (Ok r) = Unit {0}
 IsListed (Err e) = IsTrue (of_layout (kind_of e))
 
--- an answer that is listed, or the refusal that stops the run
-abbrev pub answer_kinds : Result (Result Record ParseError) Refusal → Result Record ErrorKind
-answer_kinds (Ok r) = error_kinds r
-answer_kinds (Err e) = Err (refusal_kind e)
+-- the answer of a frame was listed behind the others, and of its reading this is so
+abbrev pub ListsAnswer : perf_event_header → (was now : Pairs) → (whole : Type 0) →
+    (Result Record ErrorKind → Type 0) → Type 0
+ListsAnswer h was now whole says =
+    (r : Result Record ParseError) × (now ≡ was ++ (h, r) ∷ [])
+    × (whole → is_borrowed_answer r) × IsListed r × says (error_kinds r)
+
+-- the same of a refusal of the layout, of that kind
+abbrev pub ListsRefused : perf_event_header → ErrorKind → (was now : Pairs) → Type 0
+ListsRefused h kind was now =
+    (e : ParseError) × (now ≡ was ++ (h, Err e) ∷ []) × (kind_of e ≡ kind)
+    × IsTrue (of_layout kind)
 
 -- one more frame was listed: the next one, which was taken whole
 abbrev pub ListsNext : Meaning → (was now : Pairs) → Meaning → Type 0

@@ -1,6 +1,7 @@
 //! Runs over a stream of records.
 
-ghost use Rattle.std.specs.Prelude.{◌≡◌, ◌+◌, ◌≤◌, ◌++◌, take, None};
+ghost use Rattle.std.specs.Prelude.{◌≡◌, ◌+◌, ◌≤◌, ◌<◌, ◌++◌, take, None, Err};
+ghost use Rattle.std.specs.Prelude.{vec_len, vec_capacity};
 ghost use Rattle.std.specs.Prelude.{IsTrue, IfOk, IfErr, OnOk, OnErr};
 ghost use Rattle.perf_parser.specs.Words.{header_of, buffer_of, config_of, reads_of, meaning};
 ghost use Rattle.perf_parser.specs.Runs as stream;
@@ -101,31 +102,68 @@ fn read_header<'p, I: Input<'p>, E: Endian>(
     Ok(header_from(reader.endian(), first, others))
 }
 
-// The answer of a frame behind its header, where a run lists it; else the fault or the want of
-// memory that stops the run.
-#[inline]
-fn read_answer<'p, B: ParseBuf<'p>, E: Endian>(
+// Lists the answer of a frame that was refused, in room that was made; or answers the fault or the
+// want of memory that stops the run.
+#[inline(never)]
+fn list_refused<'p, B: ParseBuf<'p>, E: Endian>(
     reader: &mut Reader<Outer<B>, E>,
+    frames: &mut Vec<(perf_event_header, ParseResult<Record<'p>>)>,
     header: perf_event_header,
-) -> ReadResult<ParseResult<Record<'p>>>
+    refusal: Refusal,
+) -> ReadResult<()>
+    requires room { vec_len frames.old < vec_capacity frames.old }
+    ensures listed { OnOk result (stream.ListsRefused header (low.refusal_kind refusal)
+        frames.old.items frames.new.items) }
+    ensures stops { IfErr result (λ e. (e ≡ refusal)
+        × (IsTrue (low.of_layout (low.refusal_kind refusal)) → ⊥)) }
+    ensures kept { OnErr result (frames.new.items ≡ frames.old.items) }
+    ensures buf { low.buffer_of reader.new ≡ low.buffer_of reader.old }
+    ensures config { low.config_of reader.new ≡ low.config_of reader.old }
+    ensures reads { low.reads_of reader.new ≡ low.reads_of reader.old }
+{
+    match refusal.kind() {
+        ErrorKind::External | ErrorKind::OutOfMemory => Err(refusal),
+        ErrorKind::Eof
+        | ErrorKind::InvalidRecord
+        | ErrorKind::UnsupportedConfig
+        | ErrorKind::UnsupportedData => {
+            let error = reader.answer(refusal);
+            frames.push_reserved((header, Err(error)));
+            Ok(())
+        }
+    }
+}
+
+// Lists the answer of a frame behind its header, in room that was made; or answers the fault or the
+// want of memory that stops the run. A record is listed here, without a place for an error, which is
+// large.
+#[inline]
+fn list_answer<'p, B: ParseBuf<'p>, E: Endian>(
+    reader: &mut Reader<Outer<B>, E>,
+    frames: &mut Vec<(perf_event_header, ParseResult<Record<'p>>)>,
+    header: perf_event_header,
+) -> ReadResult<()>
+    requires room { vec_len frames.old < vec_capacity frames.old }
     ensures within { IsTrue (B.source (low.buffer_of reader.old)).told →
         low.MovesWithin (B.source (low.buffer_of reader.old)) (stream.body_length header)
         (B.source (low.buffer_of reader.new)) }
-    ensures borrowed { IsTrue (B.source (low.buffer_of reader.old)).whole →
-        IfOk result (λ r. stream.is_borrowed_answer r) }
-    ensures listed { IfOk result (λ r. stream.IsListed r) }
-    ensures stops { IfErr result (λ e. IsTrue (low.of_layout (low.refusal_kind e)) → ⊥) }
-    ensures call { low.Call (λ (o : Outer B). B.source o.buf) E.order (stream.SaysBehind header)
-        reader.old (stream.answer_kinds result) reader.new }
+    ensures listed { OnOk result (stream.ListsAnswer header frames.old.items frames.new.items
+        (IsTrue (B.source (low.buffer_of reader.old)).whole)
+        (λ seen. low.Call (λ (o : Outer B). B.source o.buf) E.order (stream.SaysBehind header)
+        reader.old seen reader.new)) }
+    ensures kept { OnErr result (frames.new.items ≡ frames.old.items) }
+    ensures stops { IfErr result (λ e. (IsTrue (low.of_layout (low.refusal_kind e)) → ⊥)
+        × low.Call (λ (o : Outer B). B.source o.buf) E.order (stream.SaysBehind header)
+        reader.old (Err (low.refusal_kind e)) reader.new) }
 {
     match read_behind(reader, header) {
-        Ok(record) => Ok(Ok(record)),
-        Err(refusal) => match refusal.kind() {
-            ErrorKind::External | ErrorKind::OutOfMemory => Err(refusal),
-            ErrorKind::Eof
-            | ErrorKind::InvalidRecord
-            | ErrorKind::UnsupportedConfig
-            | ErrorKind::UnsupportedData => Ok(Err(reader.answer(refusal))),
+        Ok(record) => {
+            frames.push_reserved((header, Ok(record)));
+            Ok(())
+        }
+        Err(refusal) => match list_refused(reader, frames, header, refusal) {
+            Ok(()) => Ok(()),
+            Err(refusal) => Err(refusal),
         },
     }
 }
@@ -158,12 +196,10 @@ fn read_next<'p, B: ParseBuf<'p>, E: Endian>(
         Ok(header) => header,
         Err(stop) => return Err(stop),
     };
-    let answer = match read_answer(reader, header) {
-        Ok(answer) => answer,
-        Err(refusal) => return Err(Stop::Refused(refusal)),
-    };
-    frames.push_reserved((header, answer));
-    Ok(())
+    match list_answer(reader, frames, header) {
+        Ok(()) => Ok(()),
+        Err(refusal) => Err(Stop::Refused(refusal)),
+    }
 }
 
 // How a run ends that stopped so.

@@ -148,7 +148,8 @@ pub(crate) struct Memory<'a> {
 }
 
 impl<'p> Memory<'p> {
-    #[inline]
+    // It is inlined, so that no place is made for a group that is absent.
+    #[inline(always)]
     #[tactic(auto, using(crate::proofs::Flags::memory_flags))]
     pub(crate) fn read<I: Input<'p>, E: Endian>(reader: &mut Reader<I, E>) -> ReadResult<Memory<'p>>
         ensures call { Call I.source E.order

@@ -1,0 +1,26 @@
+use Rattle.std.proofs.Common.{Err, sym, subst}
+use Rattle.perf_base.specs.Refusals.{refusal_kind}
+use Rattle.perf_base.specs.declared.error.ErrorKind.{ErrorKind}
+use Rattle.perf_buffers.specs.declared.outer.Outer.{Outer}
+use Rattle.perf_reader.specs.Calls.{Call}
+use Rattle.perf_reader.specs.Reading.{of_layout}
+use Rattle.perf_parser.specs.Runs.{SaysBehind}
+use Rattle.std.specs.Prelude.{IsTrue}
+use Rattle.perf_parser.proofs.Ending.{same_call}
+use Rattle.perf_parser.proofs.runs.list_answer.Goals as goal
+
+pub returns-in-Ok-list_refused-clause-listed : goal.returns-in-Ok-list_refused-clause-listed
+returns-in-Ok-list_refused-clause-listed g c =
+    let source = g.B.ParseBuf.source in let order = g.E.Endian.order in
+    let after = c.in-Ok-list_refused.ensures in
+    let listed = after.listed in let e = listed.0 in
+    let kind = refusal_kind c.in-Err.refusal in
+    let old = c.args.reader.now in let mid = c.read_behind.new.reader in let new = c.list_refused.new.reader in
+    let call = same_call source order (SaysBehind c.args.header) old mid new (Err kind) after.buf after.config after.reads c.in-Err.ensures.call in
+    let P : ErrorKind → Type 0 = λ k. Call (λ (o : Outer g.row.B.Denot). source o.buf) order (SaysBehind c.args.header) old (Err k) new in (
+      Err e,
+      listed.1,
+      (λ whole. tt),
+      subst (λ k. IsTrue (of_layout k)) (sym listed.2) listed.3,
+      subst P (sym listed.2) call,
+    )
