@@ -1,5 +1,6 @@
--- Lists that are all borrowed, or all owned: those in front and those behind.
-use Rattle.std.proofs.Common.{Bool, List, [], ◌∷◌, ◌++◌}
+-- Lists that are all borrowed, or all owned: those in front and those behind. The lists of groups are
+-- those of their fields.
+use Rattle.std.proofs.Common.{◌≡◌, Bool, List, [], ◌∷◌, ◌++◌, append_assoc}
 use Rattle.perf_base.specs.Copies.{AllAre}
 
 pub all_front : (borrowed : Bool) (xs ys : List Bool) → AllAre borrowed (xs ++ ys) → AllAre borrowed xs
@@ -11,3 +12,8 @@ all_back borrowed [] ys all = all
 all_back borrowed (x ∷ xs) ys (one, more) = all_back borrowed xs ys more
 
 pub ruleset parts_of_a_form = (all_front, all_back)
+
+pub list_by_list : (xs ys zs : List Bool) → (xs ++ ys) ++ zs ≡ xs ++ (ys ++ zs)
+list_by_list xs ys zs = append_assoc xs ys zs
+
+pub ruleset lists_of_groups = (list_by_list)

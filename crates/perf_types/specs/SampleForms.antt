@@ -1,9 +1,9 @@
 -- Which lists of a sample of the code are borrowed, in the order of its fields. A field that is absent
 -- has none.
 use Rattle.std.specs.Prelude.{Bool, List, [], ◌++◌, Option, Some, None}
-use Rattle.perf_base.specs.Cow.{cow_form}
+pub use Rattle.perf_base.specs.Cow.{cow_form}
 use Rattle.perf_types.specs.ReadGroup.{read_group_form}
-use Rattle.perf_types.specs.Registers.{registers_form}
+pub use Rattle.perf_types.specs.Registers.{registers_form}
 use Rattle.perf_types.specs.declared.sample_parts.CallChain.{CallChain}
 use Rattle.perf_types.specs.declared.sample_parts.RawData.{RawData}
 use Rattle.perf_types.specs.declared.sample_parts.Branches.{Branches}

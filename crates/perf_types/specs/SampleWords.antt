@@ -6,7 +6,7 @@ pub use Rattle.perf_types.specs.Words.{Call, IsClone, Reads, kinds}
 pub use Rattle.perf_types.specs.Sample.{sample}
 pub use Rattle.perf_types.specs.SampleGetters.{getters_of, sample_id_of, fields_getters}
 pub use Rattle.perf_types.specs.SampleGetters.{IsBorrowedFields}
-pub use Rattle.perf_types.specs.SampleForms.{sample_form}
+pub use Rattle.perf_types.specs.SampleForms.{sample_form, fields_form}
 pub use Rattle.perf_types.specs.SampleGroups.{sample_value, IsBorrowedSample}
 pub use Rattle.perf_types.specs.Registers.{registers_value}
 pub use Rattle.perf_types.specs.ReadGroup.{group_read}

@@ -102,7 +102,7 @@ impl<'a> Mmap2<'a> {
     ghost use Rattle.perf_types.specs.Mmap2.{mmap2_value, mmap2_form, mapping_of};
     ghost use Rattle.perf_types.specs.Words.{KeepsForm, IsClone, IsOwnedCopy};
 
-    /// The record of these fields.
+    /// The record of these fields, the bytes behind a build id too.
     pub fn from_parts(
         pid: u32,
         tid: u32,
@@ -127,6 +127,7 @@ impl<'a> Mmap2<'a> {
           filename = cow_items filename.entry;
         } }
         ensures form { is_borrowed result.filename ≡ is_borrowed filename.entry }
+        ensures detail { result.detail ≡ detail }
     {
         Mmap2 {
             pid,

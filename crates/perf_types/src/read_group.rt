@@ -69,9 +69,11 @@ impl<'a> ReadGroup<'a> {
         }
     }
 
-    /// The read of one counter as a group of one. It is refused only for want of memory.
+    /// The read of one counter as a group of one, which owns its numbers. It is refused only for
+    /// want of memory.
     pub fn from_value(alloc: Global, value: ReadValue) -> ParseResult<ReadGroup<'a>>
         ensures same { IfOk result (λ group. group_read group ≡ group_of (single_read value)) }
+        ensures owned { IfOk result (λ group. IsTrue (not (is_borrowed_group group))) }
         ensures refused { IfErr result (λ e. kind_of e ≡ ErrorKind.OutOfMemory) }
     {
         let words = match (value.id(), value.lost()) {

@@ -36,12 +36,14 @@ pub struct Sample<'a> {
 }
 
 impl<'a> Sample<'a> {
-    /// The sample of these fields. A sample type that has their flags has all of them.
-    #[tactic(auto, using(crate::proofs::SampleGetters::kept))]
+    /// The sample of these fields. A sample type that has their flags has all of them. Each of its
+    /// lists is borrowed or owned as the one that is given.
+    #[tactic(auto, using(crate::proofs::SampleGetters::kept, crate::proofs::Forms::lists_of_groups))]
     pub fn from_fields(fields: SampleFields<'a>) -> Sample<'a>
         ensures fields { shown.getters_of (shown.sample_value result) ≡
             shown.fields_getters fields.entry }
         ensures form { shown.IsBorrowedFields fields.entry → shown.IsBorrowedSample result }
+        ensures lists { shown.sample_form result ≡ shown.fields_form fields.entry }
     {
         Sample {
             moment: Moment {
