@@ -1,6 +1,7 @@
 //! The line of a sample.
 
-ghost use Rattle.std.specs.Prelude.{◌≡◌, ◌++◌, option_map, string_bytes, Some, IfOk, OnOk};
+ghost use Rattle.std.specs.Prelude.{◌≡◌, ◌++◌, option_map, string_bytes, Some, None, IfOk, OnOk};
+ghost use Rattle.std.specs.Prelude.{IsOk};
 ghost use Rattle.std.specs.List.{flat_map};
 ghost use Rattle.perf_records.specs.Records as values;
 ghost use Rattle.perf_types.specs.SampleGetters.{getters_of};
@@ -48,10 +49,12 @@ impl fmt::Display for Hex {
     }
 }
 
-/// The line of a record that is a sample, without the line feed behind it. Other records have none.
+/// The line of a record that is a sample, without the line feed behind it. Other records have none,
+/// and take no memory.
 pub fn line_of(alloc: Global, found: &Record) -> Result<Option<String>, AllocError>
-    ensures { IfOk result (λ line.
+    ensures line { IfOk result (λ line.
         option_map string_bytes line ≡ printed.line_of (values.record_value found.now)) }
+    ensures no_memory { printed.line_of (values.record_value found.now) ≡ None → IsOk result }
 {
     match found {
         Record::Sample(sample) => Ok(Some(sample_line(alloc, sample)?)),

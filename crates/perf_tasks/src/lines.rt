@@ -1,6 +1,7 @@
 //! The line of a record.
 
-ghost use Rattle.std.specs.Prelude.{◌≡◌, ◌++◌, option_map, string_bytes, Some, IfOk, OnOk, codes};
+ghost use Rattle.std.specs.Prelude.{◌≡◌, ◌++◌, option_map, string_bytes, Some, None, codes};
+ghost use Rattle.std.specs.Prelude.{IfOk, IsOk, OnOk};
 ghost use Rattle.std.specs.List.{flat_map, join_by};
 ghost use Rattle.std.specs.Str.Lossy.{utf8_lossy};
 ghost use Rattle.perf_records.specs.Records as values;
@@ -36,10 +37,11 @@ impl fmt::Display for Hex {
 }
 
 /// The line of a record that tells of a task, without the line feed behind it. Other records have
-/// none.
+/// none, and take no memory.
 pub fn line_of(alloc: Global, found: &Record) -> Result<Option<String>, AllocError>
-    ensures { IfOk result (λ line.
+    ensures line { IfOk result (λ line.
         option_map string_bytes line ≡ printed.line_of (values.record_value found.now)) }
+    ensures no_memory { printed.line_of (values.record_value found.now) ≡ None → IsOk result }
 {
     let line = match found {
         Record::Comm(comm) => comm_line(alloc, comm)?,
