@@ -36,6 +36,8 @@ mod own_types;
 #[cfg(test)]
 mod parser_calls;
 #[cfg(test)]
+mod partial_visits;
+#[cfg(test)]
 mod pokes;
 #[cfg(test)]
 mod reads;
