@@ -46,7 +46,7 @@ impl<'p, B: ParseBuf<'p>> ParseRecord<'p, B> for Record<'p> {
             TakesNoMemory (error_kinds result) }
         ensures short { words.falls_short (B.hint (buffer_of parser.old))
             (body_length header) ≡ true →
-            TakesNoMemory (error_kinds result) }
+            TakesNoMemory (error_kinds result) × IfOk result (λ r. ⊥) }
         ensures beforehand { IsTrue (B.source (buffer_of parser.old)).told →
             words.is_made_beforehand (B.hint (buffer_of parser.old)) (body_length header) ≡ true →
             IfErr result (λ e. kind_of e ≡ ErrorKind.OutOfMemory →
@@ -103,7 +103,7 @@ impl<'p, B: ParseBuf<'p>, E: Endian> Parser<B, E> {
             TakesNoMemory (error_kinds result) }
         ensures short { words.falls_short (B.hint (buffer_of self.old))
             (body_length header) ≡ true →
-            TakesNoMemory (error_kinds result) }
+            TakesNoMemory (error_kinds result) × IfOk result (λ parts. ⊥) }
         ensures beforehand { IsTrue (B.source (buffer_of self.old)).told →
             words.is_made_beforehand (B.hint (buffer_of self.old)) (body_length header) ≡ true →
             IfErr result (λ e. kind_of e ≡ ErrorKind.OutOfMemory →

@@ -282,7 +282,7 @@ pub fn read_behind<'p, I: Input<'p>, E: Endian>(
     ensures nothing { body_length header ≡ 0 → words.wants_memory header.type_ ≡ false →
         words.TakesNoMemory (kinds result) }
     ensures short { words.falls_short (I.hint (input_of reader.old)) (body_length header) ≡ true →
-        words.TakesNoMemory (kinds result) }
+        words.TakesNoMemory (kinds result) × IfOk result (λ r. ⊥) }
     ensures beforehand { IsTrue (I.source (input_of reader.old)).told →
         words.is_made_beforehand (I.hint (input_of reader.old)) (body_length header) ≡ true →
         IfErr result (λ e. refusal_kind e ≡ words.OutOfMemory →
