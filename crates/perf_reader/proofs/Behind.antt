@@ -1,17 +1,19 @@
 -- Parts one behind another, and calls that read them so.
-use Rattle.std.proofs.Common.{◌≡◌, ℕ, List, true, false, refl, sym, ◌∙◌, ap, subst}
-use Rattle.std.specs.Prelude.{Result, Ok, Err}
+use Rattle.std.proofs.Common.{◌≡◌, ℕ, List, Bool, true, false, refl, sym, ◌∙◌, ap, subst, arith}
+use Rattle.std.specs.Prelude.{Result, Ok, Err, Some, None, IsTrue, IfOk}
 use Rattle.perf_base.specs.Configuration.{Configuration}
 use Rattle.perf_base.specs.Configured.{configuration_of, endian_of}
-use Rattle.perf_base.specs.Layout.{Answer, Parts, done, part, check, ◌>>=◌}
+use Rattle.perf_base.specs.Layout.{Answer, Shape, padding, Parts, done, part, check, ◌>>=◌}
 use Rattle.perf_base.specs.Order.{Order}
 use Rattle.perf_base.specs.Took.{Took, took, quit, one_took, take_parts, took_by_places}
+use Rattle.perf_base.specs.Refusals.{TakesNoMemory}
 use Rattle.perf_base.specs.declared.error.ErrorKind.{ErrorKind}
+use Rattle.perf_base.specs.declared.error.ErrorKind.TheVariants.{Eof, InvalidRecord, UnsupportedConfig, UnsupportedData, External, OutOfMemory}
 use Rattle.perf_base.proofs.Took.{places_took, then_take}
 use Rattle.perf_buffers.specs.Buffer.{Source}
 use Rattle.perf_reader.specs.Calls.{Call}
 use Rattle.perf_reader.specs.Meaning.{Meaning, meaning}
-use Rattle.perf_reader.specs.Reading.{AnswersRun, Reads}
+use Rattle.perf_reader.specs.Reading.{AnswersRun, Reads, ReadsPlain, ReadsLent, ReadsOne, Keeps, of_layout}
 use Rattle.perf_reader.specs.declared.reader.Reader.{Reader}
 
 -- what follows, where both do the same
@@ -43,6 +45,7 @@ places_behind o p f bytes n =
     ∙ ap (then_take (λ v left m. took_by_places o (f v) left m)) (sym (places_took o p bytes n))
 
 -- ---- calls
+
 module _ {I E : Type 0} {source : I → Source} {order : E → Order} where
   -- a call that was answered, and one of the parts that follow from its value
   pub call_behind : {X Y A B : Type 0} {view : X → A} {show : Y → B} {a b c : Reader I E} {x : X} {seen : Result Y ErrorKind} (p : Configuration → Parts A) (f : Configuration → A → Parts B) →
@@ -87,3 +90,67 @@ module _ {I E : Type 0} {source : I → Source} {order : E → Order} where
         answer = λ t. places_took old.order (done (show y)) old.source.left old.reads;
         keeps = λ start k. k;
       }
+
+  -- a part that was read, and the parts that follow from its value
+  pub part_behind : {X Y B : Type 0} {show : Y → B} {a b c : Reader I E} {x : X} {seen : Result Y ErrorKind} (shape : Shape) (view : X → Answer shape) (k : Configuration → Answer shape → Parts B) →
+      Call source order (ReadsOne shape view) a (Ok x) b → Call source order (Reads (λ s. k s (view x)) show) b seen c → Call source order (Reads (λ s. part shape (k s)) show) a seen c
+  part_behind {X} {Y} {B} {show} {a} {b} {c} {x} {seen} shape view k first next =
+      call_behind {view = view} {show = show} {x = x} (λ _. part shape done) k (record {
+        config = first.config;
+        whole = first.whole;
+        told = first.told;
+        answer = λ t.
+            let old : Meaning = meaning source order a in
+            places_took old.order (part shape done) old.source.left old.reads ∙ ap (then_take (λ v left m. took v left m)) (first.answer t);
+        keeps = first.keeps;
+      }) next
+
+  -- one that was refused
+  pub part_stops : {X Y B : Type 0} {show : Y → B} {a b : Reader I E} {e : ErrorKind} (shape : Shape) (view : X → Answer shape) (k : Configuration → Answer shape → Parts B) →
+      Call source order (ReadsOne shape view) a (Err e) b → Call source order (Reads (λ s. part shape (k s)) show) a (Err e) b
+  part_stops {X} {Y} {B} {show} {a} {b} {e} shape view k first =
+      call_stops {view = view} {show = show} (λ _. part shape done) k (record {
+        config = first.config;
+        whole = first.whole;
+        told = first.told;
+        answer = λ t kind.
+            let old : Meaning = meaning source order a in
+            places_took old.order (part shape done) old.source.left old.reads ∙ ap (then_take (λ v left m. took v left m)) (first.answer t kind);
+        keeps = first.keeps;
+      })
+
+  -- a call for which no memory is taken, and one of which that is not said
+  pub plain : {Y B : Type 0} {a b : Reader I E} {seen : Result Y ErrorKind} (p : Configuration → Parts B) (show : Y → B) →
+      (IsTrue (source a.input).told → TakesNoMemory seen) → Call source order (Reads p show) a seen b → Call source order (ReadsPlain p show) a seen b
+  plain {Y} {B} {a} {b} {seen} p show none call = record {
+    config = call.config;
+    whole = call.whole;
+    told = call.told;
+    answer = λ t. (call.answer t, none t);
+    keeps = call.keeps;
+  }
+
+  pub of_plain : {Y B : Type 0} {a b : Reader I E} {seen : Result Y ErrorKind} (p : Configuration → Parts B) (show : Y → B) → Call source order (ReadsPlain p show) a seen b → Call source order (Reads p show) a seen b
+  of_plain {Y} {B} {a} {b} {seen} p show call = record {
+    config = call.config;
+    whole = call.whole;
+    told = call.told;
+    answer = λ t. (call.answer t).0;
+    keeps = call.keeps;
+  }
+
+  -- a call that copies nothing out of a whole buffer
+  pub lent : {Y B : Type 0} {a b : Reader I E} {seen : Result Y ErrorKind} (p : Configuration → Parts B) (show : Y → B) (borrowed : Y → Type 0) →
+      (IsTrue (source a.input).told → IsTrue (source a.input).whole → IfOk seen borrowed × TakesNoMemory seen) → Call source order (Reads p show) a seen b →
+      Call source order (ReadsLent p show borrowed) a seen b
+  lent {Y} {B} {a} {b} {seen} p show borrowed lends call = record {
+    config = call.config;
+    whole = call.whole;
+    told = call.told;
+    answer = λ t. (call.answer t, lends t);
+    keeps = call.keeps;
+  }
+
+  -- bytes that say nothing, of which there are so many
+  pub padded : {a b : Reader I E} {seen : Result (Unit {0}) ErrorKind} (n k : ℕ) → n ≡ k → Call {X = Unit {0}} source order (ReadsOne (padding n) (λ _. tt)) a seen b → Call {X = Unit {0}} source order (ReadsOne (padding k) (λ _. tt)) a seen b
+  padded {a} {b} {seen} n k same call = subst (λ i. Call {X = Unit {0}} source order (ReadsOne (padding i) (λ _. tt)) a seen b) same call

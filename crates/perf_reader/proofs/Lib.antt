@@ -6,3 +6,4 @@ pub mod Behind
 pub mod TableRuns
 pub mod ZeroTails
 pub mod Attributes
+pub mod Asked

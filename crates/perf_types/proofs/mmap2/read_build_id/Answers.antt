@@ -1,0 +1,21 @@
+use Rattle.std.proofs.Common.{◌≡◌, Err, arith}
+use Rattle.perf_reader.proofs.Behind.{part_behind, part_stops}
+use Rattle.perf_types.proofs.mmap2.read_build_id.Goals as goal
+
+pub returns-in_err-len-clause-call : goal.returns-in_err-len-clause-call
+returns-in_err-len-clause-call g c =
+    let up : c.from_residual.result ≡ Err c.in_err-len.field-0.0 = grind arith in rw up (
+    part_stops _ _ _ c.in_err-len.ensures.call)
+
+pub returns-in_err-skip-clause-call : goal.returns-in_err-skip-clause-call
+returns-in_err-skip-clause-call g c =
+    let up : c.from_residual-in_err-skip.result ≡ Err c.in_err-skip.field-0.0 = grind arith in rw up (
+    part_behind _ _ _ c.in_ok-len.ensures.call (
+    part_stops _ _ _ c.in_err-skip.ensures.call))
+
+pub returns-in_err-build_id-clause-call : goal.returns-in_err-build_id-clause-call
+returns-in_err-build_id-clause-call g c =
+    let up : c.from_residual-in_err-build_id.result ≡ Err c.in_err-build_id.field-0.0 = grind arith in rw up (
+    part_behind _ _ _ c.in_ok-len.ensures.call (
+    part_behind _ _ _ c.in_ok-skip.ensures.call (
+    part_stops _ _ _ c.in_err-build_id.ensures.call)))
