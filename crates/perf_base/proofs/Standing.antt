@@ -1,5 +1,5 @@
 -- Parts without a check stand wherever they end within the body.
-use Rattle.std.proofs.Common.{◌≡◌, ℕ, ◌+◌, ◌-◌, ◌≤◌, true, List, length, drop, Option, Some, None, refl, ◌∙◌, ap, arith}
+use Rattle.std.proofs.Common.{◌≡◌, ℕ, ◌+◌, ◌-◌, ◌≤◌, List, length, drop, Option, Some, None, refl, ◌∙◌, ap, arith}
 use Rattle.std.proofs.lemmas.Bool.{le-leb}
 use Rattle.perf_base.specs.Order.{Order}
 use Rattle.perf_base.specs.Layout.{Answer, answer_of, size, Parts, done, part, check, slice, spots, ending, value, first_refusal}

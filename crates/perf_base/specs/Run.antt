@@ -1,7 +1,7 @@
 -- The parts one after another over the bytes that are left, as a reader takes them. Proofs and
 -- private contracts use this form; `proofs/Bridge` shows that it gives what the layout gives by
 -- places, and leaves what is said here.
-use Rattle.std.specs.Prelude.{ℕ, true, false, List, [], ◌∷◌, length, take, drop, Option, Some, None}
+use Rattle.std.specs.Prelude.{ℕ, true, false, List, [], ◌∷◌, length, take, drop, Some, None}
 use Rattle.std.specs.Prelude.{Result, Ok, Err, nat_le}
 use Rattle.perf_base.specs.Order.{Order}
 use Rattle.perf_base.specs.Layout.{Shape, Answer, answer_of, Parts, done, part, check, size, Spot}

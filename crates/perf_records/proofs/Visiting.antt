@@ -1,6 +1,6 @@
 -- Visits of bodies, and of frames.
 use Rattle.std.proofs.Common.{◌≡◌, ◌+◌, ◌≤◌, length, drop, Bool, arith, sym, ◌∙◌, ap, subst}
-use Rattle.std.specs.Prelude.{Result, Ok, Err, IsTrue}
+use Rattle.std.specs.Prelude.{Option, Result, Ok, Err, IsTrue}
 use Rattle.perf_base.specs.Configuration.{Configuration}
 use Rattle.perf_base.specs.Header.{header, header_of}
 use Rattle.perf_base.specs.LayoutReads.{layout_reads}
@@ -13,9 +13,19 @@ use Rattle.perf_records.specs.Bodies.{body}
 use Rattle.perf_records.specs.Frames.{frame_length}
 use Rattle.perf_records.specs.Metadata.{MetadataValue}
 use Rattle.perf_records.specs.Records.{RecordValue}
-use Rattle.perf_records.specs.Visits.{Event, VisitsBody, VisitsAll, VisitsExactly}
+use Rattle.perf_buffers.specs.Buffer.{Source}
+use Rattle.perf_reader.specs.Calls.{Call}
+use Rattle.perf_reader.specs.declared.reader.Reader.{Reader}
+use Rattle.perf_records.specs.RecordTypes.{type_of}
+use Rattle.perf_records.specs.declared.record_type.RecordType.{RecordType}
+use Rattle.perf_records.specs.Visits.{Event, VisitsOf, VisitsBody, VisitsAll, VisitsExactly}
 use Rattle.perf_records.proofs.Saying.{took_says, quit_says}
 use Rattle.perf_records.proofs.Headers.{tells_frame, frame_whole}
+
+-- the visit of a type, where that is the one that the metadata names
+pub visits_type : {I E O : Type 0} {source : I → Source} {order : E → Order} (gives : Event → O → Type 0) (m : MetadataValue) {type : Option RecordType} {old new : Reader I E} {seen : Result O ErrorKind} →
+    type_of m.ty ≡ type → Call source order (VisitsOf gives m type) old seen new → Call source order (VisitsBody gives m) old seen new
+visits_type {source} {order} gives m {old} {new} {seen} is call = subst (λ t. Call source order (VisitsOf gives m t) old seen new) (sym is) call
 
 -- the visit of all of a body
 pub visits_all : {O : Type 0} (gives : Event → O → Type 0) (m : MetadataValue) (seen : Result O ErrorKind) (old new : Meaning) (from : Bool) →

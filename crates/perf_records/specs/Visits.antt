@@ -22,7 +22,7 @@ use Rattle.perf_records.specs.Frames.{frame_length}
 use Rattle.perf_records.specs.Metadata.{MetadataValue}
 use Rattle.perf_records.specs.RecordTypes.{type_of}
 use Rattle.perf_records.specs.Records.{RecordValue, record_value, IsBorrowed, sample_is, mmap_is}
-use Rattle.perf_records.specs.Records.{mmap2_is, sample_value}
+use Rattle.perf_records.specs.Records.{mmap2_is}
 use Rattle.perf_records.specs.declared.record.Record.{Record}
 use Rattle.perf_records.specs.declared.record_type.RecordType.{RecordType}
 use Rattle.perf_types.specs.Mmap2.{mapping_of}

@@ -1,5 +1,5 @@
 -- Blocks of a list: how many there are, which stands where, and the last of them.
-use Rattle.std.proofs.Common.{◌≡◌, ◌≤◌, ◌<◌, ℕ, zero, suc, ◌+◌, ◌*◌, ◌/◌, ◌%◌, Bool, true, false}
+use Rattle.std.proofs.Common.{rules, ◌^◌, Option, nat_lt, ◌≡◌, ◌≤◌, ◌<◌, ℕ, zero, suc, ◌+◌, ◌*◌, ◌/◌, ◌%◌, Bool, true, false}
 use Rattle.std.proofs.Common.{List, [], ◌∷◌, ◌++◌, length, take, drop, map}
 use Rattle.std.proofs.Common.{Some, None, option_map, slice_get}
 use Rattle.std.proofs.Common.{refl, ◌∙◌, ap, arith}
@@ -13,6 +13,7 @@ use Rattle.perf_types.specs.GroupEntry.{blocks, block_len, entry_of, entries_of,
 use Rattle.perf_types.specs.ReadGroup.{all_entries}
 use Rattle.perf_types.specs.GroupIter.{entries_left}
 use Rattle.perf_types.specs.declared.group_iter.GroupIter.{GroupIter}
+use Rattle.std.specs.Option.{SomeIff}
 
 -- ---- how many there are
 
@@ -127,3 +128,10 @@ entries-back i l count left words front back is parts before last =
     let n = block_len i l in
     rw (is, parts) (ap (map (entry_of i l)) (blocks-back n count front back before last)
     ∙ map-append (entry_of i l) (blocks n count front) (back ∷ []))
+
+-- ---- a product that is counted in a word, and one that is not
+pub product_counted : (r : Option ℕ) (n len : ℕ) → SomeIff r (n < 18446744073709551616) n → r ≡ Some len → (n ≡ len) × (nat_lt n (2 ^ 64) ≡ true)
+product_counted r n len s is = (search rules, search rules)
+
+pub product_uncounted : (r : Option ℕ) (n : ℕ) → SomeIff r (n < 18446744073709551616) n → r ≡ None → nat_lt n (2 ^ 64) ≡ false
+product_uncounted r n s is = search rules

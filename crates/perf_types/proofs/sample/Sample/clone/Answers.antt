@@ -1,4 +1,4 @@
-use Rattle.std.proofs.Common.{◌≡◌, Bool, true, List, ◌++◌, Err, arith, refl}
+use Rattle.std.proofs.Common.{◌≡◌, Bool, true, List, ◌++◌, Err, arith}
 use Rattle.perf_types.proofs.Forms.{all_front, all_back}
 use Rattle.perf_types.specs.SampleForms.{counts_form, state_form, costs_form, memory_form}
 use Rattle.perf_types.proofs.sample.Sample.clone.Goals as goal

@@ -1,7 +1,7 @@
-use Rattle.std.proofs.Common.{◌≡◌, Err, arith, ap, refl, sym, subst, ◌∙◌, true, false, take}
+use Rattle.std.proofs.Common.{◌≡◌, Err, arith, ap, refl, sym, subst, true, false, take}
 use Rattle.std.specs.Prelude.{IsTrue, nat_le}
 use Rattle.std.specs.Option.{unwrap_or}
-use Rattle.perf_base.specs.Cow.{cow_items, is_borrowed}
+use Rattle.perf_base.specs.Cow.{cow_items}
 use Rattle.perf_reader.proofs.Behind.{part_behind, part_stops}
 use Rattle.perf_reader.proofs.Asked.{check_holds, check_fails, call_gives, loan}
 use Rattle.perf_types.specs.Sample.{bytes_are}
