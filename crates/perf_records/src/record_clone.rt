@@ -3,8 +3,10 @@
 ghost use Rattle.perf_base.specs.Copies.{IsClone};
 ghost use Rattle.perf_records.specs.RecordForms.{record_form};
 ghost use Rattle.perf_records.specs.Records.{record_value};
+ghost use Rattle.perf_records.specs.declared.record.Record.TheVariants.{Unknown};
 
 use crate::record::Record;
+use perf_base::cow::CowSlice;
 use perf_base::error::ParseResult;
 use std::alloc::Global;
 use std::boxed::Box;
@@ -40,10 +42,15 @@ impl<'a> Record<'a> {
             Record::CGroup(held) => Ok(Record::CGroup(held.clone(alloc)?)),
             Record::TextPoke(held) => Ok(Record::TextPoke(held.clone(alloc)?)),
             Record::AuxOutputHwId(held) => Ok(Record::AuxOutputHwId(*held)),
-            Record::Unknown { ty, bytes } => Ok(Record::Unknown {
-                ty: *ty,
-                bytes: bytes.clone(alloc)?,
-            }),
+            Record::Unknown { ty, bytes } => clone_unknown(*ty, bytes, alloc),
         }
     }
+}
+
+// The same bytes of a type that has no table.
+fn clone_unknown<'a>(ty: u32, bytes: &CowSlice<'a, u8>, alloc: Global) -> ParseResult<Record<'a>>
+    ensures { IsClone record_value record_form (Unknown ty bytes.now) result }
+{
+    let bytes = bytes.clone(alloc)?;
+    Ok(Record::Unknown { ty, bytes })
 }

@@ -8,8 +8,8 @@ use Rattle.perf_records.specs.declared.record_type.RecordType.{RecordType}
 use Rattle.perf_records.proofs.Visiting.{visits_type}
 use Rattle.perf_records.proofs.body.visit_body.Goals as goal
 
--- the number of the metadata is that of the type
-
+-- Each type goes to its call, as its number is that of the metadata. Where `assumption` stands, no call is named, so that a body
+-- that makes another one is refused for what that says.
 pub returns-in-Mmap : goal.returns-in-Mmap
 returns-in-Mmap g c =
     record { call = visits_type g.V.Visitor.gives c.args.metadata (ap type_of (sym c.ty.ensures) ∙ sym c.of.ensures ∙ c.in-Some.is ∙ ap (λ (k : RecordType). Some k) c.in-Mmap.is) (c.visit_mmap.ensures.call) }
@@ -36,7 +36,7 @@ returns-in-Unthrottle g c =
 
 pub returns-in-Fork : goal.returns-in-Fork
 returns-in-Fork g c =
-    record { call = visits_type g.V.Visitor.gives c.args.metadata (ap type_of (sym c.ty.ensures) ∙ sym c.of.ensures ∙ c.in-Some.is ∙ ap (λ (k : RecordType). Some k) c.in-Fork.is) (c.visit_fork.ensures.call) }
+    record { call = visits_type g.V.Visitor.gives c.args.metadata (ap type_of (sym c.ty.ensures) ∙ sym c.of.ensures ∙ c.in-Some.is ∙ ap (λ (k : RecordType). Some k) c.in-Fork.is) (assumption rules) }
 
 pub returns-in-Read : goal.returns-in-Read
 returns-in-Read g c =

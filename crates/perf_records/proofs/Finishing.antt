@@ -1,0 +1,92 @@
+-- A frame behind its header: its parts, and then the visit of its body.
+use Rattle.std.proofs.Common.{◌≡◌, ℕ, ◌+◌, ◌≤◌, length, drop, List, Bool, false, arith, sym, ◌∙◌, ap, subst}
+use Rattle.std.specs.Prelude.{Option, None, Some, Result, Ok, Err, IsTrue, IfOk, IfErr}
+use Rattle.perf_base.specs.Configuration.{Configuration, under_misc}
+use Rattle.perf_base.specs.Layout.{Parts, layout}
+use Rattle.perf_base.specs.LayoutReads.{layout_reads}
+use Rattle.perf_base.specs.Order.{Order}
+use Rattle.perf_base.specs.Refusals.{kinds, TakesNoMemory}
+use Rattle.perf_base.specs.declared.error.ErrorKind.{ErrorKind}
+use Rattle.perf_base.specs.declared.refusal.Refusal.{Refusal}
+use Rattle.perf_base.specs.declared.sys.perf_event_header.{perf_event_header}
+use Rattle.perf_buffers.specs.Buffer.{Source, Stays}
+use Rattle.perf_reader.specs.Meaning.{Meaning}
+use Rattle.perf_reader.specs.Reading.{Keeps, is_external, one_if_refused, last_of}
+use Rattle.perf_records.specs.Answers.{FrameParts, body_length, split_behind, split_reads, record_in, record_reads, SplitsBehind}
+use Rattle.perf_records.specs.Bodies.{body, wants_memory}
+use Rattle.perf_records.specs.Metadata.{MetadataValue}
+use Rattle.perf_records.specs.Records.{RecordValue}
+use Rattle.perf_records.specs.Visits.{Event, event, VisitsAll, VisitsBehind, BelongsTo}
+use Rattle.perf_records.proofs.Keeping.{no_fault, stays_refused}
+
+-- what is known of an output, by the visit of the body
+pub belongs : {O : Type 0} (gives : Event → O → Type 0) (h : perf_event_header) (whole from : Bool) (m : MetadataValue) (o : Order) (p : Parts RecordValue) (bytes : List ℕ) (k : ℕ) (result : Result O Refusal) →
+    (m.ty ≡ h.type_) × (m.misc ≡ h.misc) → (IsTrue whole → IsTrue from) → VisitsAll gives m o p bytes from (kinds result) k → IfOk result (λ output. BelongsTo gives h whole output)
+belongs gives h whole from m o p bytes k (Ok output) named lends v =
+    (event v.0 v.1 m, v.2, named.0, named.1, (λ is. v.5 (lends is)), (λ is. ap wants_memory (sym named.0) ∙ v.6 is))
+belongs gives h whole from m o p bytes k (Err e) named lends v = tt
+
+-- no memory is taken for a body of lent bytes whose type wants none
+pub spares : {O : Type 0} (gives : Event → O → Type 0) (h : perf_event_header) (from : Bool) (m : MetadataValue) (o : Order) (p : Parts RecordValue) (bytes : List ℕ) (k : ℕ) (result : Result O Refusal) →
+    m.ty ≡ h.type_ → IsTrue from → wants_memory h.type_ ≡ false → VisitsAll gives m o p bytes from (kinds result) k → TakesNoMemory (kinds result)
+spares gives h from m o p bytes k (Ok output) named lent none v = tt
+spares gives h from m o p bytes k (Err e) named lent none v = v.1 lent (ap wants_memory named ∙ none)
+
+-- whatever the refusal is
+pub refused_so : {A E : Type 0} (result : Result A E) (X : E → Type 0) (P : Type 0) → P → IfErr result (λ e. X e → P)
+refused_so (Ok a) X P p = tt
+refused_so (Err e) X P p = λ x. p
+
+-- a frame that did not fall apart is not visited
+pub unsplit_visits : {O : Type 0} (gives : Event → O → Type 0) (h : perf_event_header) (old new : Meaning) (e : ErrorKind) → SplitsBehind h old (Err e) new → VisitsBehind gives h old (Err e) new
+unsplit_visits gives h old new e s = λ kind.
+    let w = s kind in
+    let none : record_reads old.settings old.order h (split_behind old.settings old.order h old.source.left) ≡ 0 = ap (record_reads old.settings old.order h) w.0 in
+    (ap (record_in old.settings old.order h) w.0, w.1, omega (arith, w.2, none))
+
+-- the visit of a frame that fell apart, by that of its body
+pub visits_made : {O : Type 0} (gives : Event → O → Type 0) (h : perf_event_header) (old mid new : Meaning) (parts : FrameParts) (o : Order) (c : Configuration) (from : Bool) (made : ℕ) (seen : Result O ErrorKind) →
+    o ≡ old.order → c ≡ under_misc h.misc old.settings → parts.metadata.ty ≡ h.type_ → (IsTrue old.source.whole → IsTrue from) → new.source ≡ mid.source → new.reads ≡ mid.reads + made →
+    (split_behind old.settings old.order h old.source.left ≡ Ok parts) × (mid.source.left ≡ drop (body_length h) old.source.left) × (mid.reads ≡ old.reads + split_reads old.settings old.order h old.source.left) →
+    VisitsAll gives parts.metadata o (body c parts.metadata.ty) parts.body from seen made → VisitsBehind gives h old seen new
+visits_made {O} gives h old mid new parts o c from made seen order config named lends same count s v = go seen v
+  where
+    inside : Parts RecordValue
+    inside = body (under_misc h.misc old.settings) h.type_
+
+    laid : layout old.order inside parts.body ≡ layout o (body c parts.metadata.ty) parts.body
+    laid = ap (λ (x : Order). layout x inside parts.body) (sym order) ∙ ap (λ (x : Configuration). layout o (body x h.type_) parts.body) (sym config) ∙ ap (λ t. layout o (body c t) parts.body) (sym named)
+
+    counted : layout_reads old.order inside parts.body ≡ layout_reads o (body c parts.metadata.ty) parts.body
+    counted = ap (λ (x : Order). layout_reads x inside parts.body) (sym order) ∙ ap (λ (x : Configuration). layout_reads o (body x h.type_) parts.body) (sym config) ∙ ap (λ t. layout_reads o (body c t) parts.body) (sym named)
+
+    left : new.source.left ≡ drop (body_length h) old.source.left
+    left = ap (λ (x : Source). x.left) same ∙ s.1
+
+    reads : made ≡ layout_reads o (body c parts.metadata.ty) parts.body → new.reads ≡ old.reads + (split_reads old.settings old.order h old.source.left + record_reads old.settings old.order h (split_behind old.settings old.order h old.source.left))
+    reads k =
+        let r : record_reads old.settings old.order h (split_behind old.settings old.order h old.source.left) ≡ made = ap (record_reads old.settings old.order h) s.0 ∙ counted ∙ sym k in
+        omega (arith, count, s.2, r)
+
+    go : (seen : Result O ErrorKind) → VisitsAll gives parts.metadata o (body c parts.metadata.ty) parts.body from seen made → VisitsBehind gives h old seen new
+    go (Ok output) v = (v.0, v.1, parts, v.2, s.0, (λ is. v.5 (lends is)), (ap (record_in old.settings old.order h) s.0 ∙ laid ∙ v.3, left, reads v.4))
+    go (Err e) v = λ kind. let w = v.0 kind in (ap (record_in old.settings old.order h) s.0 ∙ laid ∙ w.0, left, reads w.1)
+
+stays_any : (a b : Source) (e : Option ErrorKind) → is_external e ≡ false → Stays a None b → Stays a e b
+stays_any a b None inner p = p
+stays_any a b (Some e) inner p = stays_refused a b e inner p
+
+-- what a call keeps that was paid for n reads, and makes no more of them
+pub visits_keep : (start old mid new : Meaning) (made n : ℕ) (e : Option ErrorKind) → Keeps start None old → Keeps start None mid →
+    (IsTrue old.source.told → mid.reads + n + length mid.source.left ≤ old.reads + length old.source.left) → new.source ≡ mid.source → new.reads ≡ mid.reads + made → made ≤ n + one_if_refused e → is_external e ≡ false → Keeps start e new
+visits_keep start old mid new made n e p q paid same count cost inner = record {
+  buffer = subst (λ (s : Source). Stays start.source e s) (sym same) (stays_any start.source mid.source e inner q.buffer);
+  fault = λ x. no_fault e _ inner x;
+  cost = λ t.
+      let a = p.cost t in
+      let b = q.cost t in
+      let d = paid (p.buffer.3 t) in
+      let l : length new.source.left ≡ length mid.source.left = ap (λ (s : Source). length s.left) same in
+      (omega (arith, b.0, count), omega (arith, a.1, d, cost, count, l));
+  place = λ t. subst (λ (s : Source). (length s.left ≤ length start.source.left) × (s.left ≡ last_of (length s.left) start.source.left)) (sym same) (q.place t);
+}
