@@ -115,6 +115,16 @@ pub only_flag : (flag : Bool) → (flag || false) ≡ flag
 only_flag true = refl
 only_flag false = refl
 
+-- the first of two flags is set, or only the second counts
+pub one_of_two : (one other : Bool) → one ≡ true → (one || (other || false)) ≡ true
+one_of_two true other is = refl
+one_of_two false other is = absurd (cc)
+
+pub other_of_two : (one other : Bool) → one ≡ false → (one || (other || false)) ≡ other
+other_of_two true other is = absurd (cc)
+other_of_two false true is = refl
+other_of_two false false is = refl
+
 pub ruleset moment_flags = (contains_identifier, contains_ip, contains_tid, contains_time, contains_addr, contains_id, only_flag, fields_in_row)
 
 pub ruleset count_flags = (contains_stream_id, contains_cpu, contains_period, contains_sample_read, contains_call_chain, only_flag, fields_in_row)
