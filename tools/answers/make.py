@@ -1,9 +1,9 @@
 #!/usr/bin/env python3
-"""Makes the lists of answers that crates/perf_answers replays: see README.md beside this file.
+"""Makes the list of answers that crates/perf_answers replays: see README.md beside this file.
 
     make.py --streams            lists the cases and counts their frames; runs nothing
     make.py --page PROGRAM WORD.. compares what PROGRAM prints with page.py, also for what the lists leave out
-    make.py PROGRAM WORD..       writes the lists
+    make.py PROGRAM WORD..       writes the list, and what its replay must print
 
 PROGRAM is the original under a program that prints perfrec's lines. It takes perfrec's words (order, limit, and `attr`
 where the stream begins with an attribute), and in front of them the WORDs, which ask it to hide what README.md calls
@@ -21,7 +21,7 @@ sys.dont_write_bytecode = True
 import page  # noqa: E402
 
 HERE = os.path.dirname(os.path.abspath(__file__))
-SOURCES = os.path.join(HERE, "..", "..", "crates", "perf_answers", "src")
+REPLAY = os.path.join(HERE, "..", "..", "crates", "perf_answers")
 LIMIT = 1000
 
 # The sizes of an attribute, one behind another.
@@ -569,15 +569,13 @@ def compare(program):
         print("%5d  %s" % (count, why))
 
 
-def source(folder, name, about, blocks):
-    """A module with the list: for the prover's sake a text for each case, and a function that keeps them to itself."""
-    lines = ["//! %s Made by tools/answers/make.py; not to be edited." % about, ""]
-    for case_name, block in blocks:
-        lines += ['const %s: &str = r"' % case_name.upper(), block + '";', ""]
-    lines += ["/// The cases, one behind another.", "pub fn cases() -> [&'static str; %d] {" % len(blocks), "    ["]
-    lines += ["        %s," % case_name.upper() for case_name, _ in blocks] + ["    ]", "}"]
-    with open(os.path.join(folder, name), "w") as it:
-        it.write("\n".join(lines) + "\n")
+def write(blocks):
+    """The list, as the program that replays it reads it, and what that prints where nothing differs."""
+    with open(os.path.join(REPLAY, "stdin"), "w") as it:
+        it.write("".join(blocks))
+    lines = sum(line[:2] in ("> ", "~ ") for block in blocks for line in block.splitlines())
+    with open(os.path.join(REPLAY, "stdout"), "w") as it:
+        it.write("%d cases, %d lines, 0 differences\n" % (len(blocks), lines))
 
 
 def block_of(case, text, status, alone):
@@ -629,7 +627,7 @@ def answers(words, listed):
         tally.add(text)
         block = block_of(case, text, status, said(words[:1], case)[0] if words else text)
         marked += block.count("\n~ ")
-        blocks.append((case.name, block))
+        blocks.append(block)
     print("%s, %d cases; at %d lines the original alone says something else" % (tally, len(listed), marked))
     return blocks
 
@@ -643,10 +641,7 @@ def main(words):
     if words:
         first = [block for case, block in zip(listed, blocks) if not case.attr]
         later = [block for case, block in zip(listed, blocks) if case.attr]
-        about = "Answers for streams without an attribute, of the types that were read first."
-        source(SOURCES, "answers_first.rt", about, first)
-        source(SOURCES, "answers.rt", "Answers for streams that begin with an attribute.", later)
-        source(SOURCES, "answers_samples.rt", "Answers for samples, each with a record behind it.", of_samples)
+        write(first + later + of_samples)
 
 
 if __name__ == "__main__":

@@ -1,15 +1,22 @@
-//! Replays the answers that the Rust crate gave. tools/answers/README.md says how they were made.
+//! Replays what the Rust crate answered.
+//!
+//! `perf_answers` reads a list of cases from standard input: each the words of `perfrec`, a stream,
+//! and the text and the status that were recorded for it (`tools/answers/README.md`). It reads each
+//! stream in pieces of 1, 7 and 8192 bytes, prints each line that is not the recorded one, and then
+//! how many cases and recorded lines there are and how many times something differed. The exit
+//! status is 0 where nothing did.
+#![tactic(auto)]
 
 ghost use Rattle.std.specs.Prelude.{◌<◌};
 
-use crate::{answers, answers_first, answers_samples};
+use anyhow::{Context, Result};
 use perf_event_data::endian::{Big, Endian, Little, Native};
 use perf_lines::command::{Command, OrderName};
 use perf_lines::run::run;
 use perf_lines::words::command;
 use std::alloc::{AllocError, Global};
-use std::process::Abort;
-use std::test::Fail;
+use std::io;
+use std::process::ExitCode;
 
 // A case as it stands in the list: its name, the program's words, the stream, and the text and the
 // status of the run.
@@ -22,8 +29,27 @@ struct Case<'a> {
     status: &'a str,
 }
 
-// Takes apart a block of the list, whose lines begin with what they are; those of the stream are
-// digits alone.
+fn main(rt: HostRuntime) -> Result<ExitCode> {
+    let list = io::read_to_string(rt.alloc(), rt.stdin())?;
+    let (mut cases, mut lines, mut differences) = (0_u64, 0_u64, 0_u64);
+    for block in list.as_str().split("case ").skip(1) {
+        let case = case_of(rt.alloc(), block)?;
+        for piece in [1, 7, 8192] {
+            differences = differences.wrapping_add(replay(&rt, &case, piece)?);
+        }
+        cases = cases.wrapping_add(1);
+        lines = lines.wrapping_add(case.lines.len() as u64);
+    }
+    println!(rt; "{cases} cases, {lines} lines, {differences} differences")?;
+    if differences == 0 {
+        Ok(ExitCode::SUCCESS)
+    } else {
+        Ok(ExitCode::FAILURE)
+    }
+}
+
+// Takes apart a block of the list. The first line is its name and the program's words; the others
+// begin with what they are, and those of the stream are digits alone.
 fn case_of(alloc: Global, block: &str) -> Result<Case<'_>, AllocError> {
     let mut case = Case {
         name: "",
@@ -32,9 +58,9 @@ fn case_of(alloc: Global, block: &str) -> Result<Case<'_>, AllocError> {
         lines: Vec::new(alloc),
         status: "",
     };
-    for line in block.lines() {
-        if let Some(header) = line.strip_prefix("case ") {
-            let mut words = header.split(' ');
+    for (at, line) in block.lines().enumerate() {
+        if at == 0 {
+            let mut words = line.split(' ');
             case.name = words.next().unwrap_or("");
             for word in words {
                 case.words.push(String::from_str(alloc, word)?)?;
@@ -91,48 +117,39 @@ fn answered<E: Endian>(
     (written, ended.status())
 }
 
-// Compares line by line, so that a failure shows the line.
-fn replay(rt: &(impl AllocGlobal + Abort), case: &Case, piece: usize) -> Result<(), Fail>
+// Compares a run with what was recorded, and answers how many lines, counts of lines and statuses
+// differ.
+fn replay(rt: &HostRuntime, case: &Case, piece: usize) -> Result<u64>
     requires { 0 < piece }
 {
-    let asked = command(&case.words).ok_or("no words of the program")?;
+    let asked = command(&case.words).context("no words of the program")?;
     let (written, status) = match asked.order {
         OrderName::Little => answered(rt.alloc(), Little, asked, case, piece),
         OrderName::Big => answered(rt.alloc(), Big, asked, case, piece),
         OrderName::Native => answered(rt.alloc(), Native, asked, case, piece),
     };
     let text = str::from_utf8(&written)?;
+    let mut differences = 0_u64;
     for (line, wanted) in text.lines().zip(case.lines.iter()) {
-        assert_eq!(rt; line, *wanted, "{} in pieces of {piece}", case.name);
-    }
-    assert_eq!(rt; text.lines().count(), case.lines.len(), "{}", case.name);
-    assert_eq!(rt; status, case.status.parse::<u8>()?, "{}", case.name);
-    Ok(())
-}
-
-fn replay_all(rt: &(impl AllocGlobal + Abort), blocks: &[&str]) -> Result<(), Fail> {
-    for block in blocks {
-        let case = case_of(rt.alloc(), block)?;
-        for piece in [1, 7, 8192] {
-            replay(rt, &case, piece)?;
+        if line != *wanted {
+            println!(rt; "{} in pieces of {piece}: {line}, not {wanted}", case.name)?;
+            differences = differences.wrapping_add(1);
         }
     }
-    Ok(())
-}
-
-#[test]
-fn streams_without_an_attribute_are_answered_as_by_the_original(
-    rt: HostRuntime,
-) -> Result<(), Fail> {
-    replay_all(&rt, &answers_first::cases())
-}
-
-#[test]
-fn streams_with_an_attribute_are_answered_as_by_the_original(rt: HostRuntime) -> Result<(), Fail> {
-    replay_all(&rt, &answers::cases())
-}
-
-#[test]
-fn samples_are_answered_as_by_the_original(rt: HostRuntime) -> Result<(), Fail> {
-    replay_all(&rt, &answers_samples::cases())
+    let (count, wanted) = (text.lines().count(), case.lines.len());
+    if count != wanted {
+        println!(rt;
+            "{} in pieces of {piece}: {count} lines, not {wanted}",
+            case.name
+        )?;
+        differences = differences.wrapping_add(1);
+    }
+    if status != case.status.parse::<u8>()? {
+        println!(rt;
+            "{} in pieces of {piece}: status {status}, not {}",
+            case.name, case.status
+        )?;
+        differences = differences.wrapping_add(1);
+    }
+    Ok(differences)
 }
