@@ -11,3 +11,9 @@ returns-in-Ok-true-clause-ok g c = λ told.
       took_all (length c.in-Ok-Some.first.now) c.in-Ok-Some.first.now _ _ a.1 a.0.1 ended,
       e.kept t ∙ ended,
     )
+
+pub returns-in-Ok-None-clause-whole : goal.returns-in-Ok-None-clause-whole
+returns-in-Ok-None-clause-whole g c = search rules steps 1000000
+
+pub returns-in-Ok-None-clause-nothing : goal.returns-in-Ok-None-clause-nothing
+returns-in-Ok-None-clause-nothing g c = search rules steps 1000000
