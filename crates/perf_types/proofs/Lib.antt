@@ -8,6 +8,7 @@ pub mod Nth
 mod Origins
 mod Places
 mod Poked
+pub mod Readings
 pub mod SampleGetters
 pub mod SampleTable
 pub mod SampleIdLength

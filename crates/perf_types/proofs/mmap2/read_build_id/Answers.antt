@@ -1,21 +1,34 @@
-use Rattle.std.proofs.Common.{◌≡◌, Err, arith}
-use Rattle.perf_reader.proofs.Behind.{part_behind, part_stops}
+use Rattle.std.proofs.Common.{◌≡◌, Err, arith, true}
+use Rattle.std.specs.Prelude.{nat_le}
+use Rattle.perf_reader.proofs.Asked.{check_holds}
+use Rattle.perf_reader.proofs.Behind.{part_behind, part_stops, call_none}
+use Rattle.perf_types.specs.MmapDetail.{detail_value}
+use Rattle.perf_types.proofs.Readings.{came_up}
 use Rattle.perf_types.proofs.mmap2.read_build_id.Goals as goal
 
 pub returns-in_err-len-clause-call : goal.returns-in_err-len-clause-call
 returns-in_err-len-clause-call g c =
-    let up : c.from_residual.result ≡ Err c.in_err-len.field-0.0 = grind arith in rw up (
+    let up : c.from_residual.result ≡ Err c.in_err-len.field-0.0 = came_up _ _ c.from_residual.ensures in rw up (
     part_stops _ _ _ c.in_err-len.ensures.call)
 
 pub returns-in_err-skip-clause-call : goal.returns-in_err-skip-clause-call
 returns-in_err-skip-clause-call g c =
-    let up : c.from_residual-in_err-skip.result ≡ Err c.in_err-skip.field-0.0 = grind arith in rw up (
+    let up : c.from_residual-in_err-skip.result ≡ Err c.in_err-skip.field-0.0 = came_up _ _ c.from_residual-in_err-skip.ensures in rw up (
     part_behind _ _ _ c.in_ok-len.ensures.call (
     part_stops _ _ _ c.in_err-skip.ensures.call))
 
 pub returns-in_err-build_id-clause-call : goal.returns-in_err-build_id-clause-call
 returns-in_err-build_id-clause-call g c =
-    let up : c.from_residual-in_err-build_id.result ≡ Err c.in_err-build_id.field-0.0 = grind arith in rw up (
+    let up : c.from_residual-in_err-build_id.result ≡ Err c.in_err-build_id.field-0.0 = came_up _ _ c.from_residual-in_err-build_id.ensures in rw up (
     part_behind _ _ _ c.in_ok-len.ensures.call (
     part_behind _ _ _ c.in_ok-skip.ensures.call (
     part_stops _ _ _ c.in_err-build_id.ensures.call)))
+
+pub returns-clause-call : goal.returns-clause-call
+returns-clause-call g c =
+    let fits : nat_le c.in_ok-len.len 20 ≡ true = grind arith in
+    part_behind _ _ _ c.in_ok-len.ensures.call (
+    part_behind _ _ _ c.in_ok-skip.ensures.call (
+    part_behind _ _ _ c.in_ok-build_id.ensures.call (
+    check_holds _ _ _ fits (
+    call_none {show = detail_value}))))

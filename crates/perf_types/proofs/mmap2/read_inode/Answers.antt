@@ -1,29 +1,30 @@
-use Rattle.std.proofs.Common.{◌≡◌, Err, arith}
+use Rattle.std.proofs.Common.{◌≡◌, Err}
 use Rattle.perf_types.specs.MmapDetail.{detail_value}
 use Rattle.perf_reader.proofs.Behind.{part_behind, part_stops, call_none}
+use Rattle.perf_types.proofs.Readings.{came_up}
 use Rattle.perf_types.proofs.mmap2.read_inode.Goals as goal
 
 pub returns-in_err-read_u32-clause-call : goal.returns-in_err-read_u32-clause-call
 returns-in_err-read_u32-clause-call g c =
-    let up : c.from_residual.result ≡ Err c.in_err-read_u32.field-0.0 = grind arith in rw up (
+    let up : c.from_residual.result ≡ Err c.in_err-read_u32.field-0.0 = came_up _ _ c.from_residual.ensures in rw up (
     part_stops _ _ _ c.in_err-read_u32.ensures.call)
 
 pub returns-in_err-read_u32-2-clause-call : goal.returns-in_err-read_u32-2-clause-call
 returns-in_err-read_u32-2-clause-call g c =
-    let up : c.from_residual-in_err-read_u32-2.result ≡ Err c.in_err-read_u32-2.field-0.0 = grind arith in rw up (
+    let up : c.from_residual-in_err-read_u32-2.result ≡ Err c.in_err-read_u32-2.field-0.0 = came_up _ _ c.from_residual-in_err-read_u32-2.ensures in rw up (
     part_behind _ _ _ c.in_ok-read_u32.ensures.call (
     part_stops _ _ _ c.in_err-read_u32-2.ensures.call))
 
 pub returns-in_err-read_u64-clause-call : goal.returns-in_err-read_u64-clause-call
 returns-in_err-read_u64-clause-call g c =
-    let up : c.from_residual-in_err-read_u64.result ≡ Err c.in_err-read_u64.field-0.0 = grind arith in rw up (
+    let up : c.from_residual-in_err-read_u64.result ≡ Err c.in_err-read_u64.field-0.0 = came_up _ _ c.from_residual-in_err-read_u64.ensures in rw up (
     part_behind _ _ _ c.in_ok-read_u32.ensures.call (
     part_behind _ _ _ c.in_ok-read_u32-2.ensures.call (
     part_stops _ _ _ c.in_err-read_u64.ensures.call)))
 
 pub returns-in_err-read_u64-2-clause-call : goal.returns-in_err-read_u64-2-clause-call
 returns-in_err-read_u64-2-clause-call g c =
-    let up : c.from_residual-in_err-read_u64-2.result ≡ Err c.in_err-read_u64-2.field-0.0 = grind arith in rw up (
+    let up : c.from_residual-in_err-read_u64-2.result ≡ Err c.in_err-read_u64-2.field-0.0 = came_up _ _ c.from_residual-in_err-read_u64-2.ensures in rw up (
     part_behind _ _ _ c.in_ok-read_u32.ensures.call (
     part_behind _ _ _ c.in_ok-read_u32-2.ensures.call (
     part_behind _ _ _ c.in_ok-read_u64.ensures.call (

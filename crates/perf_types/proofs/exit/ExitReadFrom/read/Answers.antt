@@ -1,10 +1,11 @@
-use Rattle.std.proofs.Common.{◌≡◌, Err, arith}
+use Rattle.std.proofs.Common.{◌≡◌, Err}
 use Rattle.perf_reader.proofs.Behind.{part_behind, part_stops, call_none, plain}
+use Rattle.perf_types.proofs.Readings.{came_up}
 use Rattle.perf_types.proofs.exit.ExitReadFrom.read.Goals as goal
 
 pub returns-in_err-read_u32 : goal.returns-in_err-read_u32
 returns-in_err-read_u32 g c =
-    let up : c.from_residual.result ≡ Err c.in_err-read_u32.field-0.0 = grind arith in rw up (
+    let up : c.from_residual.result ≡ Err c.in_err-read_u32.field-0.0 = came_up _ _ c.from_residual.ensures in rw up (
     record {
       call = plain _ _ (λ t. c.in_err-read_u32.ensures.memory) (
           part_stops _ _ _ c.in_err-read_u32.ensures.call);
@@ -12,7 +13,7 @@ returns-in_err-read_u32 g c =
 
 pub returns-in_err-read_u32-2 : goal.returns-in_err-read_u32-2
 returns-in_err-read_u32-2 g c =
-    let up : c.from_residual-in_err-read_u32-2.result ≡ Err c.in_err-read_u32-2.field-0.0 = grind arith in rw up (
+    let up : c.from_residual-in_err-read_u32-2.result ≡ Err c.in_err-read_u32-2.field-0.0 = came_up _ _ c.from_residual-in_err-read_u32-2.ensures in rw up (
     record {
       call = plain _ _ (λ t. c.in_err-read_u32-2.ensures.memory) (
           part_behind _ _ _ c.in_ok-read_u32.ensures.call (
@@ -21,7 +22,7 @@ returns-in_err-read_u32-2 g c =
 
 pub returns-in_err-read_u32-3 : goal.returns-in_err-read_u32-3
 returns-in_err-read_u32-3 g c =
-    let up : c.from_residual-in_err-read_u32-3.result ≡ Err c.in_err-read_u32-3.field-0.0 = grind arith in rw up (
+    let up : c.from_residual-in_err-read_u32-3.result ≡ Err c.in_err-read_u32-3.field-0.0 = came_up _ _ c.from_residual-in_err-read_u32-3.ensures in rw up (
     record {
       call = plain _ _ (λ t. c.in_err-read_u32-3.ensures.memory) (
           part_behind _ _ _ c.in_ok-read_u32.ensures.call (
@@ -31,7 +32,7 @@ returns-in_err-read_u32-3 g c =
 
 pub returns-in_err-read_u32-4 : goal.returns-in_err-read_u32-4
 returns-in_err-read_u32-4 g c =
-    let up : c.from_residual-in_err-read_u32-4.result ≡ Err c.in_err-read_u32-4.field-0.0 = grind arith in rw up (
+    let up : c.from_residual-in_err-read_u32-4.result ≡ Err c.in_err-read_u32-4.field-0.0 = came_up _ _ c.from_residual-in_err-read_u32-4.ensures in rw up (
     record {
       call = plain _ _ (λ t. c.in_err-read_u32-4.ensures.memory) (
           part_behind _ _ _ c.in_ok-read_u32.ensures.call (
@@ -42,7 +43,7 @@ returns-in_err-read_u32-4 g c =
 
 pub returns-in_err-read_u64 : goal.returns-in_err-read_u64
 returns-in_err-read_u64 g c =
-    let up : c.from_residual-in_err-read_u64.result ≡ Err c.in_err-read_u64.field-0.0 = grind arith in rw up (
+    let up : c.from_residual-in_err-read_u64.result ≡ Err c.in_err-read_u64.field-0.0 = came_up _ _ c.from_residual-in_err-read_u64.ensures in rw up (
     record {
       call = plain _ _ (λ t. c.in_err-read_u64.ensures.memory) (
           part_behind _ _ _ c.in_ok-read_u32.ensures.call (

@@ -1,15 +1,16 @@
-use Rattle.std.proofs.Common.{◌≡◌, Err, arith, subst, sym}
+use Rattle.std.proofs.Common.{◌≡◌, Err, subst, sym}
 use Rattle.std.specs.Prelude.{IsTrue}
 use Rattle.perf_base.specs.Layout.{done}
 use Rattle.perf_base.specs.FieldWords.{u16, name}
 use Rattle.perf_types.specs.KSymbol.{ksymbol_value}
 use Rattle.perf_words.specs.SetBits.{ksymbol_flags_bits}
 use Rattle.perf_reader.proofs.Behind.{part_behind, part_stops, call_behind, call_stops, call_none, of_plain, lent}
+use Rattle.perf_types.proofs.Readings.{came_up}
 use Rattle.perf_types.proofs.ksymbol.KSymbolReadFrom.read.Goals as goal
 
 pub returns-in_err-read_u64 : goal.returns-in_err-read_u64
 returns-in_err-read_u64 g c =
-    let up : c.from_residual.result ≡ Err c.in_err-read_u64.field-0.0 = grind arith in rw up (
+    let up : c.from_residual.result ≡ Err c.in_err-read_u64.field-0.0 = came_up _ _ c.from_residual.ensures in rw up (
     record {
       call = lent _ _ _ (λ t w. (tt, c.in_err-read_u64.ensures.memory)) (
           part_stops _ _ _ c.in_err-read_u64.ensures.call);
@@ -17,7 +18,7 @@ returns-in_err-read_u64 g c =
 
 pub returns-in_err-read_u32 : goal.returns-in_err-read_u32
 returns-in_err-read_u32 g c =
-    let up : c.from_residual-in_err-read_u32.result ≡ Err c.in_err-read_u32.field-0.0 = grind arith in rw up (
+    let up : c.from_residual-in_err-read_u32.result ≡ Err c.in_err-read_u32.field-0.0 = came_up _ _ c.from_residual-in_err-read_u32.ensures in rw up (
     record {
       call = lent _ _ _ (λ t w. (tt, c.in_err-read_u32.ensures.memory)) (
           part_behind _ _ _ c.in_ok-read_u64.ensures.call (
@@ -26,7 +27,7 @@ returns-in_err-read_u32 g c =
 
 pub returns-in_err-read : goal.returns-in_err-read
 returns-in_err-read g c =
-    let up : c.from_residual-in_err-read.result ≡ Err c.in_err-read.field-0.0 = grind arith in rw up (
+    let up : c.from_residual-in_err-read.result ≡ Err c.in_err-read.field-0.0 = came_up _ _ c.from_residual-in_err-read.ensures in rw up (
     record {
       call = lent _ _ _ (λ t w. (tt, (c.in_err-read.ensures.call.answer (c.in_ok-read_u32.ensures.call.told (c.in_ok-read_u64.ensures.call.told t))).1)) (
           part_behind _ _ _ c.in_ok-read_u64.ensures.call (
@@ -36,7 +37,7 @@ returns-in_err-read g c =
 
 pub returns-in_err-read-2 : goal.returns-in_err-read-2
 returns-in_err-read-2 g c =
-    let up : c.from_residual-in_err-read-2.result ≡ Err c.in_err-read-2.field-0.0 = grind arith in rw up (
+    let up : c.from_residual-in_err-read-2.result ≡ Err c.in_err-read-2.field-0.0 = came_up _ _ c.from_residual-in_err-read-2.ensures in rw up (
     record {
       call = lent _ _ _ (λ t w. (tt, (c.in_err-read-2.ensures.call.answer (c.in_ok-read.ensures.call.told (c.in_ok-read_u32.ensures.call.told (c.in_ok-read_u64.ensures.call.told t)))).1)) (
           part_behind _ _ _ c.in_ok-read_u64.ensures.call (
@@ -47,7 +48,7 @@ returns-in_err-read-2 g c =
 
 pub returns-in_err-read_rest_trim_nul : goal.returns-in_err-read_rest_trim_nul
 returns-in_err-read_rest_trim_nul g c =
-    let up : c.from_residual-in_err-read_rest_trim_nul.result ≡ Err c.in_err-read_rest_trim_nul.field-0.0 = grind arith in rw up (
+    let up : c.from_residual-in_err-read_rest_trim_nul.result ≡ Err c.in_err-read_rest_trim_nul.field-0.0 = came_up _ _ c.from_residual-in_err-read_rest_trim_nul.ensures in rw up (
     record {
       call = lent _ _ _ (λ t w. (tt, c.in_err-read_rest_trim_nul.ensures.whole_memory (subst IsTrue (sym c.in_ok-read-2.ensures.call.whole) (subst IsTrue (sym c.in_ok-read.ensures.call.whole) (subst IsTrue (sym c.in_ok-read_u32.ensures.call.whole) (subst IsTrue (sym c.in_ok-read_u64.ensures.call.whole) w)))))) (
           part_behind _ _ _ c.in_ok-read_u64.ensures.call (

@@ -1,13 +1,14 @@
-use Rattle.std.proofs.Common.{◌≡◌, Err, arith}
+use Rattle.std.proofs.Common.{◌≡◌, Err}
 use Rattle.perf_base.specs.Layout.{done}
 use Rattle.perf_types.specs.Read.{task_read}
 use Rattle.perf_types.specs.ReadValue.{read_value}
 use Rattle.perf_reader.proofs.Behind.{part_behind, part_stops, call_behind, call_stops, call_none, plain, of_plain}
+use Rattle.perf_types.proofs.Readings.{came_up}
 use Rattle.perf_types.proofs.read.ReadReadFrom.read.Goals as goal
 
 pub returns-in_err-read_u32 : goal.returns-in_err-read_u32
 returns-in_err-read_u32 g c =
-    let up : c.from_residual.result ≡ Err c.in_err-read_u32.field-0.0 = grind arith in rw up (
+    let up : c.from_residual.result ≡ Err c.in_err-read_u32.field-0.0 = came_up _ _ c.from_residual.ensures in rw up (
     record {
       call = plain _ _ (λ t. c.in_err-read_u32.ensures.memory) (
           part_stops _ _ _ c.in_err-read_u32.ensures.call);
@@ -15,7 +16,7 @@ returns-in_err-read_u32 g c =
 
 pub returns-in_err-read_u32-2 : goal.returns-in_err-read_u32-2
 returns-in_err-read_u32-2 g c =
-    let up : c.from_residual-in_err-read_u32-2.result ≡ Err c.in_err-read_u32-2.field-0.0 = grind arith in rw up (
+    let up : c.from_residual-in_err-read_u32-2.result ≡ Err c.in_err-read_u32-2.field-0.0 = came_up _ _ c.from_residual-in_err-read_u32-2.ensures in rw up (
     record {
       call = plain _ _ (λ t. c.in_err-read_u32-2.ensures.memory) (
           part_behind _ _ _ c.in_ok-read_u32.ensures.call (
@@ -24,7 +25,7 @@ returns-in_err-read_u32-2 g c =
 
 pub returns-in_err-read : goal.returns-in_err-read
 returns-in_err-read g c =
-    let up : c.from_residual-in_err-read.result ≡ Err c.in_err-read.field-0.0 = grind arith in rw up (
+    let up : c.from_residual-in_err-read.result ≡ Err c.in_err-read.field-0.0 = came_up _ _ c.from_residual-in_err-read.ensures in rw up (
     record {
       call = plain _ _ (λ t. (c.in_err-read.ensures.call.answer (c.in_ok-read_u32-2.ensures.call.told (c.in_ok-read_u32.ensures.call.told t))).1) (
           part_behind _ _ _ c.in_ok-read_u32.ensures.call (

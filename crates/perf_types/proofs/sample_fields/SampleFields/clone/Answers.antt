@@ -1,9 +1,10 @@
-use Rattle.std.proofs.Common.{◌≡◌, Bool, true, List, ◌++◌, Err, arith, refl}
+use Rattle.std.proofs.Common.{◌≡◌, Bool, true, List, ◌++◌, Err, refl}
 use Rattle.perf_types.proofs.Forms.{all_front, all_back}
 use Rattle.perf_base.specs.Cow.{cow_form}
 use Rattle.perf_types.specs.ReadGroup.{read_group_form}
 use Rattle.perf_types.specs.Registers.{registers_form}
 use Rattle.perf_types.specs.SampleForms.{form_if}
+use Rattle.perf_types.proofs.Readings.{came_up}
 use Rattle.perf_types.proofs.sample_fields.SampleFields.clone.Goals as goal
 
 pub returns-in_err-values : goal.returns-in_err-values
@@ -25,7 +26,7 @@ returns-in_err-values c =
     let from_callchain : List Bool = of_callchain ++ from_raw in
     let of_values : List Bool = form_if read_group_form s.values in
     let from_values : List Bool = of_values ++ from_callchain in
-    let up : c.from_residual.result ≡ Err c.in_err-values.field-0.0 = grind arith in rw up (
+    let up : c.from_residual.result ≡ Err c.in_err-values.field-0.0 = came_up _ _ c.from_residual.ensures in rw up (
     record { same = tt; form_is = tt; refused = c.in_err-values.ensures.refused; no_memory = λ all. c.in_err-values.ensures.no_memory (all_front true of_values from_callchain all) })
 
 pub returns-in_err-callchain : goal.returns-in_err-callchain
@@ -47,7 +48,7 @@ returns-in_err-callchain c =
     let from_callchain : List Bool = of_callchain ++ from_raw in
     let of_values : List Bool = form_if read_group_form s.values in
     let from_values : List Bool = of_values ++ from_callchain in
-    let up : c.from_residual-in_err-callchain.result ≡ Err c.in_err-callchain.field-0.0 = grind arith in rw up (
+    let up : c.from_residual-in_err-callchain.result ≡ Err c.in_err-callchain.field-0.0 = came_up _ _ c.from_residual-in_err-callchain.ensures in rw up (
     record { same = tt; form_is = tt; refused = c.in_err-callchain.ensures.refused; no_memory = λ all. c.in_err-callchain.ensures.no_memory (all_front true of_callchain from_raw (all_back true of_values from_callchain all)) })
 
 pub returns-in_err-raw : goal.returns-in_err-raw
@@ -69,7 +70,7 @@ returns-in_err-raw c =
     let from_callchain : List Bool = of_callchain ++ from_raw in
     let of_values : List Bool = form_if read_group_form s.values in
     let from_values : List Bool = of_values ++ from_callchain in
-    let up : c.from_residual-in_err-raw.result ≡ Err c.in_err-raw.field-0.0 = grind arith in rw up (
+    let up : c.from_residual-in_err-raw.result ≡ Err c.in_err-raw.field-0.0 = came_up _ _ c.from_residual-in_err-raw.ensures in rw up (
     record { same = tt; form_is = tt; refused = c.in_err-raw.ensures.refused; no_memory = λ all. c.in_err-raw.ensures.no_memory (all_front true of_raw from_lbr (all_back true of_callchain from_raw (all_back true of_values from_callchain all))) })
 
 pub returns-in_err-lbr : goal.returns-in_err-lbr
@@ -91,7 +92,7 @@ returns-in_err-lbr c =
     let from_callchain : List Bool = of_callchain ++ from_raw in
     let of_values : List Bool = form_if read_group_form s.values in
     let from_values : List Bool = of_values ++ from_callchain in
-    let up : c.from_residual-in_err-lbr.result ≡ Err c.in_err-lbr.field-0.0 = grind arith in rw up (
+    let up : c.from_residual-in_err-lbr.result ≡ Err c.in_err-lbr.field-0.0 = came_up _ _ c.from_residual-in_err-lbr.ensures in rw up (
     record { same = tt; form_is = tt; refused = c.in_err-lbr.ensures.refused; no_memory = λ all. c.in_err-lbr.ensures.no_memory (all_front true of_lbr from_regs_user (all_back true of_raw from_lbr (all_back true of_callchain from_raw (all_back true of_values from_callchain all)))) })
 
 pub returns-in_err-regs_user : goal.returns-in_err-regs_user
@@ -113,7 +114,7 @@ returns-in_err-regs_user c =
     let from_callchain : List Bool = of_callchain ++ from_raw in
     let of_values : List Bool = form_if read_group_form s.values in
     let from_values : List Bool = of_values ++ from_callchain in
-    let up : c.from_residual-in_err-regs_user.result ≡ Err c.in_err-regs_user.field-0.0 = grind arith in rw up (
+    let up : c.from_residual-in_err-regs_user.result ≡ Err c.in_err-regs_user.field-0.0 = came_up _ _ c.from_residual-in_err-regs_user.ensures in rw up (
     record { same = tt; form_is = tt; refused = c.in_err-regs_user.ensures.refused; no_memory = λ all. c.in_err-regs_user.ensures.no_memory (all_front true of_regs_user from_stack_user (all_back true of_lbr from_regs_user (all_back true of_raw from_lbr (all_back true of_callchain from_raw (all_back true of_values from_callchain all))))) })
 
 pub returns-in_err-stack_user : goal.returns-in_err-stack_user
@@ -135,7 +136,7 @@ returns-in_err-stack_user c =
     let from_callchain : List Bool = of_callchain ++ from_raw in
     let of_values : List Bool = form_if read_group_form s.values in
     let from_values : List Bool = of_values ++ from_callchain in
-    let up : c.from_residual-in_err-stack_user.result ≡ Err c.in_err-stack_user.field-0.0 = grind arith in rw up (
+    let up : c.from_residual-in_err-stack_user.result ≡ Err c.in_err-stack_user.field-0.0 = came_up _ _ c.from_residual-in_err-stack_user.ensures in rw up (
     record { same = tt; form_is = tt; refused = c.in_err-stack_user.ensures.refused; no_memory = λ all. c.in_err-stack_user.ensures.no_memory (all_front true of_stack_user from_regs_intr (all_back true of_regs_user from_stack_user (all_back true of_lbr from_regs_user (all_back true of_raw from_lbr (all_back true of_callchain from_raw (all_back true of_values from_callchain all)))))) })
 
 pub returns-in_err-regs_intr : goal.returns-in_err-regs_intr
@@ -157,7 +158,7 @@ returns-in_err-regs_intr c =
     let from_callchain : List Bool = of_callchain ++ from_raw in
     let of_values : List Bool = form_if read_group_form s.values in
     let from_values : List Bool = of_values ++ from_callchain in
-    let up : c.from_residual-in_err-regs_intr.result ≡ Err c.in_err-regs_intr.field-0.0 = grind arith in rw up (
+    let up : c.from_residual-in_err-regs_intr.result ≡ Err c.in_err-regs_intr.field-0.0 = came_up _ _ c.from_residual-in_err-regs_intr.ensures in rw up (
     record { same = tt; form_is = tt; refused = c.in_err-regs_intr.ensures.refused; no_memory = λ all. c.in_err-regs_intr.ensures.no_memory (all_front true of_regs_intr from_aux (all_back true of_stack_user from_regs_intr (all_back true of_regs_user from_stack_user (all_back true of_lbr from_regs_user (all_back true of_raw from_lbr (all_back true of_callchain from_raw (all_back true of_values from_callchain all))))))) })
 
 pub returns-in_err-aux : goal.returns-in_err-aux
@@ -179,7 +180,7 @@ returns-in_err-aux c =
     let from_callchain : List Bool = of_callchain ++ from_raw in
     let of_values : List Bool = form_if read_group_form s.values in
     let from_values : List Bool = of_values ++ from_callchain in
-    let up : c.from_residual-in_err-aux.result ≡ Err c.in_err-aux.field-0.0 = grind arith in rw up (
+    let up : c.from_residual-in_err-aux.result ≡ Err c.in_err-aux.field-0.0 = came_up _ _ c.from_residual-in_err-aux.ensures in rw up (
     record { same = tt; form_is = tt; refused = c.in_err-aux.ensures.refused; no_memory = λ all. c.in_err-aux.ensures.no_memory (all_back true of_regs_intr from_aux (all_back true of_stack_user from_regs_intr (all_back true of_regs_user from_stack_user (all_back true of_lbr from_regs_user (all_back true of_raw from_lbr (all_back true of_callchain from_raw (all_back true of_values from_callchain all))))))) })
 
 pub returns : goal.returns

@@ -1,4 +1,4 @@
-use Rattle.std.proofs.Common.{◌≡◌, [], ◌∷◌, Err, arith, ap, refl, subst, sym, ◌∙◌}
+use Rattle.std.proofs.Common.{◌≡◌, [], ◌∷◌, Err, ap, refl, subst, sym, ◌∙◌}
 use Rattle.std.specs.Prelude.{IsTrue}
 use Rattle.perf_words.specs.Bits.{has_bit}
 use Rattle.perf_words.specs.SetBits.{sample_flags_bits}
@@ -6,13 +6,14 @@ use Rattle.perf_base.specs.Configured.{configuration_of}
 use Rattle.perf_reader.proofs.Asked.{field_behind, field_stops, fields_give, of_row}
 use Rattle.perf_types.proofs.Flags.{contains_branch_stack, contains_raw, contains_regs_user, contains_stack_user, only_flag}
 use Rattle.perf_types.specs.Sample.{has_one}
+use Rattle.perf_types.proofs.Readings.{came_up}
 use Rattle.perf_types.proofs.sample_groups.State.read.Goals as goal
 
 pub returns-in_err-read_field_if : goal.returns-in_err-read_field_if
 returns-in_err-read_field_if g c =
     let asked : sample_flags_bits c.sample_type-flags.result ≡ (configuration_of c.args.reader.now.config).sample_type = c.sample_type-flags.ensures ∙ ap (λ k. (configuration_of k).sample_type) c.config.ensures in
     let f1 : has_one (configuration_of c.args.reader.now.config).sample_type (10 ∷ []) ≡ c.contains.result = only_flag _ ∙ (ap (λ w. has_bit w 10) (sym asked) ∙ (sym (contains_raw _) ∙ sym (c.contains.ensures tt))) in
-    let up : c.from_residual.result ≡ Err c.in_err-read_field_if.field-0.0 = grind arith in rw up (
+    let up : c.from_residual.result ≡ Err c.in_err-read_field_if.field-0.0 = came_up _ _ c.from_residual.ensures in rw up (
     record {
       call = of_row _ _ _ (λ t w. tt) (
           field_stops _ _ _ _ _ _ (λ left m. refl) f1 c.in_err-read_field_if.ensures.call);
@@ -23,7 +24,7 @@ returns-in_err-read_field_if-2 g c =
     let asked : sample_flags_bits c.sample_type-flags.result ≡ (configuration_of c.args.reader.now.config).sample_type = c.sample_type-flags.ensures ∙ ap (λ k. (configuration_of k).sample_type) c.config.ensures in
     let f1 : has_one (configuration_of c.args.reader.now.config).sample_type (10 ∷ []) ≡ c.contains.result = only_flag _ ∙ (ap (λ w. has_bit w 10) (sym asked) ∙ (sym (contains_raw _) ∙ sym (c.contains.ensures tt))) in
     let f2 : has_one (configuration_of c.args.reader.now.config).sample_type (11 ∷ []) ≡ c.contains-2.result = only_flag _ ∙ (ap (λ w. has_bit w 11) (sym asked) ∙ (sym (contains_branch_stack _) ∙ sym (c.contains-2.ensures tt))) in
-    let up : c.from_residual-in_err-read_field_if-2.result ≡ Err c.in_err-read_field_if-2.field-0.0 = grind arith in rw up (
+    let up : c.from_residual-in_err-read_field_if-2.result ≡ Err c.in_err-read_field_if-2.field-0.0 = came_up _ _ c.from_residual-in_err-read_field_if-2.ensures in rw up (
     record {
       call = of_row _ _ _ (λ t w. tt) (
           field_behind _ _ _ _ _ _ f1 c.in_ok-read_field_if.ensures.call (
@@ -36,7 +37,7 @@ returns-in_err-read_field_if-3 g c =
     let f1 : has_one (configuration_of c.args.reader.now.config).sample_type (10 ∷ []) ≡ c.contains.result = only_flag _ ∙ (ap (λ w. has_bit w 10) (sym asked) ∙ (sym (contains_raw _) ∙ sym (c.contains.ensures tt))) in
     let f2 : has_one (configuration_of c.args.reader.now.config).sample_type (11 ∷ []) ≡ c.contains-2.result = only_flag _ ∙ (ap (λ w. has_bit w 11) (sym asked) ∙ (sym (contains_branch_stack _) ∙ sym (c.contains-2.ensures tt))) in
     let f3 : has_one (configuration_of c.args.reader.now.config).sample_type (12 ∷ []) ≡ c.contains-3.result = only_flag _ ∙ (ap (λ w. has_bit w 12) (sym asked) ∙ (sym (contains_regs_user _) ∙ sym (c.contains-3.ensures tt))) in
-    let up : c.from_residual-in_err-read_field_if-3.result ≡ Err c.in_err-read_field_if-3.field-0.0 = grind arith in rw up (
+    let up : c.from_residual-in_err-read_field_if-3.result ≡ Err c.in_err-read_field_if-3.field-0.0 = came_up _ _ c.from_residual-in_err-read_field_if-3.ensures in rw up (
     record {
       call = of_row _ _ _ (λ t w. tt) (
           field_behind _ _ _ _ _ _ f1 c.in_ok-read_field_if.ensures.call (
@@ -51,7 +52,7 @@ returns-in_err-read_field_if-4 g c =
     let f2 : has_one (configuration_of c.args.reader.now.config).sample_type (11 ∷ []) ≡ c.contains-2.result = only_flag _ ∙ (ap (λ w. has_bit w 11) (sym asked) ∙ (sym (contains_branch_stack _) ∙ sym (c.contains-2.ensures tt))) in
     let f3 : has_one (configuration_of c.args.reader.now.config).sample_type (12 ∷ []) ≡ c.contains-3.result = only_flag _ ∙ (ap (λ w. has_bit w 12) (sym asked) ∙ (sym (contains_regs_user _) ∙ sym (c.contains-3.ensures tt))) in
     let f4 : has_one (configuration_of c.args.reader.now.config).sample_type (13 ∷ []) ≡ c.contains-4.result = only_flag _ ∙ (ap (λ w. has_bit w 13) (sym asked) ∙ (sym (contains_stack_user _) ∙ sym (c.contains-4.ensures tt))) in
-    let up : c.from_residual-in_err-read_field_if-4.result ≡ Err c.in_err-read_field_if-4.field-0.0 = grind arith in rw up (
+    let up : c.from_residual-in_err-read_field_if-4.result ≡ Err c.in_err-read_field_if-4.field-0.0 = came_up _ _ c.from_residual-in_err-read_field_if-4.ensures in rw up (
     record {
       call = of_row _ _ _ (λ t w. tt) (
           field_behind _ _ _ _ _ _ f1 c.in_ok-read_field_if.ensures.call (

@@ -1,4 +1,4 @@
-use Rattle.std.proofs.Common.{◌≡◌, List, Some, Err, arith, ap, sym, ◌∙◌}
+use Rattle.std.proofs.Common.{◌≡◌, List, Some, Err, ap, sym, ◌∙◌}
 use Rattle.std.specs.List.{flat_map}
 use Rattle.perf_base.specs.Configured.{configuration_of}
 use Rattle.perf_reader.proofs.Behind.{part_behind, part_stops}
@@ -7,12 +7,13 @@ use Rattle.perf_words.specs.Branch.{Branch}
 use Rattle.perf_types.specs.Branches.{branches_of, branch_numbers}
 use Rattle.perf_types.specs.Sample.{branches_are, branch_stack}
 use Rattle.perf_types.proofs.BranchLists.{branches_flat}
+use Rattle.perf_types.proofs.Readings.{came_up}
 use Rattle.perf_types.proofs.sample_parts.BranchesReadField.read_field.Goals as goal
 
 pub returns-in_err-count : goal.returns-in_err-count
 unfolding branch_stack
 returns-in_err-count g c =
-    let up : c.from_residual.result ≡ Err c.in_err-count.field-0.0 = grind arith in rw up (
+    let up : c.from_residual.result ≡ Err c.in_err-count.field-0.0 = came_up _ _ c.from_residual.ensures in rw up (
     record {
       call = loan _ _ _ (λ t w. tt) (
           part_stops _ _ _ c.in_err-count.ensures.call);
@@ -22,7 +23,7 @@ pub returns-in_err-hw_index : goal.returns-in_err-hw_index
 unfolding branch_stack
 returns-in_err-hw_index g c =
     let indexed : (configuration_of c.read_u64.new.self.config).branch_hw_index ≡ c.branch_hw_index-with_index.result = sym (c.branch_hw_index-with_index.ensures ∙ ap (λ k. (configuration_of k).branch_hw_index) c.config.ensures) in
-    let up : c.from_residual-in_err-hw_index.result ≡ Err c.in_err-hw_index.field-0.0 = grind arith in rw up (
+    let up : c.from_residual-in_err-hw_index.result ≡ Err c.in_err-hw_index.field-0.0 = came_up _ _ c.from_residual-in_err-hw_index.ensures in rw up (
     record {
       call = loan _ _ _ (λ t w. tt) (
           part_behind _ _ _ c.in_ok-count.ensures.call (
@@ -33,7 +34,7 @@ pub returns-in_err-entries : goal.returns-in_err-entries
 unfolding branch_stack
 returns-in_err-entries g c =
     let indexed : (configuration_of c.read_u64.new.self.config).branch_hw_index ≡ c.branch_hw_index-with_index.result = sym (c.branch_hw_index-with_index.ensures ∙ ap (λ k. (configuration_of k).branch_hw_index) c.config.ensures) in
-    let up : c.from_residual-in_err-entries.result ≡ Err c.in_err-entries.field-0.0 = grind arith in rw up (
+    let up : c.from_residual-in_err-entries.result ≡ Err c.in_err-entries.field-0.0 = came_up _ _ c.from_residual-in_err-entries.ensures in rw up (
     record {
       call = loan _ _ _ (λ t w. tt) (
           part_behind _ _ _ c.in_ok-count.ensures.call (

@@ -5,11 +5,12 @@ use Rattle.perf_base.specs.Cow.{cow_items}
 use Rattle.perf_reader.proofs.Behind.{part_behind, part_stops}
 use Rattle.perf_reader.proofs.Asked.{check_holds, check_fails, call_gives, loan}
 use Rattle.perf_types.specs.Sample.{bytes_are}
+use Rattle.perf_types.proofs.Readings.{came_up}
 use Rattle.perf_types.proofs.sample_parts.StackReadField.read_field.Goals as goal
 
 pub returns-in_err-size : goal.returns-in_err-size
 returns-in_err-size g c =
-    let up : c.from_residual.result ≡ Err c.in_err-size.field-0.0 = grind arith in rw up (
+    let up : c.from_residual.result ≡ Err c.in_err-size.field-0.0 = came_up _ _ c.from_residual.ensures in rw up (
     record {
       call = loan _ _ _ (λ t w. tt) (
           part_stops _ _ _ c.in_err-size.ensures.call);
@@ -17,7 +18,7 @@ returns-in_err-size g c =
 
 pub returns-in_err-bytes : goal.returns-in_err-bytes
 returns-in_err-bytes g c =
-    let up : c.from_residual-in_err-bytes.result ≡ Err c.in_err-bytes.field-0.0 = grind arith in rw up (
+    let up : c.from_residual-in_err-bytes.result ≡ Err c.in_err-bytes.field-0.0 = came_up _ _ c.from_residual-in_err-bytes.ensures in rw up (
     record {
       call = loan _ _ _ (λ t w. tt) (
           part_behind _ _ _ c.in_ok-size.ensures.call (
@@ -26,7 +27,7 @@ returns-in_err-bytes g c =
 
 pub returns-in_err-read_u64_if : goal.returns-in_err-read_u64_if
 returns-in_err-read_u64_if g c =
-    let up : c.from_residual-in_err-read_u64_if.result ≡ Err c.in_err-read_u64_if.field-0.0 = grind arith in rw up (
+    let up : c.from_residual-in_err-read_u64_if.result ≡ Err c.in_err-read_u64_if.field-0.0 = came_up _ _ c.from_residual-in_err-read_u64_if.ensures in rw up (
     record {
       call = loan _ _ _ (λ t w. tt) (
           part_behind _ _ _ c.in_ok-size.ensures.call (

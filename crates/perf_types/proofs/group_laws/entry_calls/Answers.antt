@@ -1,0 +1,30 @@
+use Rattle.std.proofs.Common.{◌≡◌, ◌+◌, ◌<◌, List, [], ◌∷◌, ◌++◌, length, drop, get_or, Option, arith, append_assoc, refl, ap, ◌∙◌, add-one}
+use Rattle.std.proofs.Math.Seq.{drop-cons}
+use Rattle.perf_types.specs.EntryCalls.{answer_of, left_by, answers_of, left_by_all}
+use Rattle.perf_types.specs.GroupIter.{entries_left}
+use Rattle.perf_types.specs.declared.group_entry.GroupEntry.{GroupEntry}
+use Rattle.perf_types.specs.declared.group_laws.EntryCall.{EntryCall}
+use Rattle.perf_types.specs.declared.group_laws.EntryCall.TheVariants.{Next}
+use Rattle.perf_types.proofs.group_laws.entry_calls.Goals as goal
+
+-- one call more
+further : (calls others : List EntryCall) (call : EntryCall) (given : List (Option GroupEntry)) (one : Option GroupEntry) (before after : List GroupEntry) →
+    calls ≡ call ∷ others → one ≡ answer_of call before → after ≡ left_by call before →
+    ((given ++ one ∷ []) ++ answers_of others after ≡ given ++ answers_of calls before) × (left_by_all others after ≡ left_by_all calls before)
+further calls others call given one before after is answered left =
+    rw (is, answered, left) (append_assoc given (answer_of call before ∷ []) (answers_of others (left_by call before)), refl)
+
+pub loop-call-init : goal.loop-call-init
+loop-call-init c =
+    (ap (λ (given : List (Option GroupEntry)). given ++ answers_of c.args.calls.now (entries_left c.args.entries.now)) c.in_ok-answers.ensures.items, refl)
+
+pub loop-call-preserved : goal.loop-call-preserved
+loop-call-preserved c =
+    let calls = c.args.calls.now in
+    let k = c.loop-call.call-index in
+    let others : List EntryCall = drop (k + 1) calls in
+    let left : List GroupEntry = entries_left c.entry_call.new.entries in
+    let some : k < length calls = omega (arith, c.loop-call-test.true) in
+    let is : drop k calls ≡ get_or calls k Next ∷ others = rw (add-one, drop-cons calls k Next) refl in
+    let more = further (drop k calls) others (get_or calls k Next) c.loop-call.answers.items c.entry_call.result (entries_left c.loop-call.entries) left is c.entry_call.ensures.answer c.entry_call.ensures.left in
+    (ap (λ (given : List (Option GroupEntry)). given ++ answers_of others left) c.in_ok-push.ensures.items ∙ more.0 ∙ c.loop-call.invariant.0, more.1 ∙ c.loop-call.invariant.1)
