@@ -6,7 +6,7 @@ ghost use Rattle.perf_lines.specs.Text as shown;
 ghost use Rattle.perf_lines.specs.Text.{namespace_item};
 ghost use Rattle.perf_lines.specs.Fields.{spaced, listed};
 
-use crate::fields::{push_fields, push_hex, push_number, push_present};
+use crate::fields::{push_fields, push_hex, push_number, push_numbers};
 use crate::sample::push_sample;
 use bitflags::Flags;
 use perf_event_data::{
@@ -117,10 +117,13 @@ fn push_read(text: &mut String, read: &Read) -> Result<(), AllocError>
         (" value=", read.values.value()),
     ];
     push_fields(text, " Read", &fields)?;
-    push_present(text, " time_enabled=", read.values.time_enabled())?;
-    push_present(text, " time_running=", read.values.time_running())?;
-    push_present(text, " id=", read.values.id())?;
-    push_present(text, " lost=", read.values.lost())
+    let others = [
+        (" time_enabled=", read.values.time_enabled()),
+        (" time_running=", read.values.time_running()),
+        (" id=", read.values.id()),
+        (" lost=", read.values.lost()),
+    ];
+    push_numbers(text, &others)
 }
 
 fn push_mmap2(text: &mut String, mapped: &Mmap2) -> Result<(), AllocError>
@@ -150,10 +153,13 @@ fn push_detail(text: &mut String, mapped: &Mmap2) -> Result<(), AllocError>
         ≡ string_bytes text.old
         ++ spaced (shown.detail_words (value.mmap2_value mapped.now).detail)) }
 {
-    push_present(text, " maj=", mapped.maj().map(u64::from))?;
-    push_present(text, " min=", mapped.min().map(u64::from))?;
-    push_present(text, " ino=", mapped.ino())?;
-    push_present(text, " ino_generation=", mapped.ino_generation())?;
+    let numbers = [
+        (" maj=", mapped.maj().map(u64::from)),
+        (" min=", mapped.min().map(u64::from)),
+        (" ino=", mapped.ino()),
+        (" ino_generation=", mapped.ino_generation()),
+    ];
+    push_numbers(text, &numbers)?;
     match mapped.build_id() {
         Some(build_id) => push_hex(text, " build_id=", build_id),
         None => Ok(()),
