@@ -1,4 +1,4 @@
-use Rattle.std.proofs.Common.{◌≡◌, [], ◌∷◌, Err, arith, ap, refl, sym, ◌∙◌}
+use Rattle.std.proofs.Common.{◌≡◌, [], ◌∷◌, Err, ap, refl, sym, ◌∙◌}
 use Rattle.perf_words.specs.Bits.{has_bit}
 use Rattle.perf_words.specs.SetBits.{sample_flags_bits}
 use Rattle.perf_base.specs.Configured.{configuration_of}
