@@ -1,5 +1,6 @@
 use Rattle.std.proofs.Common.{◌≡◌, ◌+◌, ◌<◌, List, [], ◌∷◌, ◌++◌, length, drop, get_or, Option, arith, append_assoc, refl, ap, ◌∙◌, add-one}
 use Rattle.std.proofs.Math.Seq.{drop-cons}
+use Rattle.std.specs.Prelude.{Result, Ok, Err, IsErr, IfOk}
 use Rattle.perf_types.specs.EntryCalls.{answer_of, left_by, answers_of, left_by_all}
 use Rattle.perf_types.specs.GroupIter.{entries_left}
 use Rattle.perf_types.specs.declared.group_entry.GroupEntry.{GroupEntry}
@@ -13,6 +14,23 @@ further : (calls others : List EntryCall) (call : EntryCall) (given : List (Opti
     ((given ++ one ∷ []) ++ answers_of others after ≡ given ++ answers_of calls before) × (left_by_all others after ≡ left_by_all calls before)
 further calls others call given one before after is answered left =
     rw (is, answered, left) (append_assoc given (answer_of call before ∷ []) (answers_of others (left_by call before)), refl)
+
+-- what is said of an answer, where it is an error
+no_answer : {X E : Type 0} (r : Result X E) (P : X → Type 0) → IsErr r → IfOk r P
+no_answer (Ok x) P h = cc
+no_answer (Err e) P h = tt
+
+pub returns-in_err-answers-clause-answers : goal.returns-in_err-answers-clause-answers
+returns-in_err-answers-clause-answers c = no_answer _ _ c.from_residual.ensures.0
+
+pub returns-in_err-answers-clause-left : goal.returns-in_err-answers-clause-left
+returns-in_err-answers-clause-left c = no_answer _ _ c.from_residual.ensures.0
+
+pub returns-in_err-push-clause-answers : goal.returns-in_err-push-clause-answers
+returns-in_err-push-clause-answers c = no_answer _ _ c.from_residual-in_err-push.ensures.0
+
+pub returns-in_err-push-clause-left : goal.returns-in_err-push-clause-left
+returns-in_err-push-clause-left c = no_answer _ _ c.from_residual-in_err-push.ensures.0
 
 pub loop-call-init : goal.loop-call-init
 loop-call-init c =
