@@ -1,12 +1,11 @@
 //! What a parser is asked for, one thing behind another, and its answers as text.
 
-use crate::checks::check_text;
 use crate::told::{
     Tell, tell_bytes, tell_error, tell_from_both_ends, tell_group, tell_rest, tell_spaces,
 };
 use perf_event_data::endian::{Endian, Little};
 use perf_event_data::parse::{
-    Parse, ParseBuf, ParseBufCursor, ParseConfig, ParseError, ParseRecord, ParseResult, Parser,
+    Parse, ParseBuf, ParseBufCursor, ParseConfig, ParseRecord, ParseResult, Parser,
 };
 use perf_event_data::sys::{perf_event_attr, perf_event_header};
 use perf_event_data::{
@@ -65,9 +64,10 @@ pub enum Ask {
     Attribute,
     SampleId,
     Config,
-    // Records: at once, behind their headers, and one of namespaces.
+    // Records: at once, behind their headers, with what a refusal says, and one of namespaces.
     Record,
     RecordBehindHeader,
+    RecordOrWhy,
     Spaces,
     // The next frame, or that of the header that comes next. What is asked behind it is asked of
     // the parser of its body.
@@ -182,14 +182,6 @@ fn tell_list<'p, B: ParseBuf<'p>, E: Endian>(
     }
 }
 
-// The kind of a refusal and, where it has a message, that and its text.
-fn tell_refused(text: &mut String, error: &ParseError) -> Result<(), AllocError> {
-    match error.message() {
-        Some(message) => write!(text, "{:?} {message:?} {error}", error.kind()),
-        None => tell_error(text, error),
-    }
-}
-
 // A body or what stands beside a record.
 fn tell_next<'p, B: ParseBuf<'p>, E: Endian, P: Parse<'p, B> + Tell + Drop>(
     text: &mut String,
@@ -197,7 +189,7 @@ fn tell_next<'p, B: ParseBuf<'p>, E: Endian, P: Parse<'p, B> + Tell + Drop>(
 ) -> Result<(), AllocError> {
     match parser.parse::<P>() {
         Ok(value) => value.tell(text),
-        Err(error) => tell_refused(text, &error),
+        Err(error) => tell_error(text, &error),
     }
 }
 
@@ -251,6 +243,17 @@ fn tell_found(text: &mut String, answer: ParseResult<Record<'_>>) -> Result<(), 
     }
 }
 
+// A record, or the kind and the message of its refusal.
+fn tell_why<'p, B: ParseBuf<'p>, E: Endian>(
+    text: &mut String,
+    parser: &mut Parser<B, E>,
+) -> Result<(), AllocError> {
+    match parser.parse::<Record<'p>>() {
+        Ok(record) => record.tell(text),
+        Err(error) => write!(text, "{:?} {:?}", error.kind(), error.message()),
+    }
+}
+
 fn tell_spaces_of_record<'p, B: ParseBuf<'p>, E: Endian>(
     text: &mut String,
     parser: &mut Parser<B, E>,
@@ -277,7 +280,7 @@ fn tell_group_of<'p, B: ParseBuf<'p>, E: Endian>(
 ) -> Result<(), AllocError> {
     match parser.parse::<ReadGroup<'p>>() {
         Ok(group) => tell_group(text, group),
-        Err(error) => tell_refused(text, &error),
+        Err(error) => tell_error(text, &error),
     }
 }
 
@@ -316,6 +319,7 @@ fn tell_beside<'p, B: ParseBuf<'p>, E: Endian>(
         }
         Ask::Record => tell_next::<B, E, Record<'p>>(text, parser),
         Ask::RecordBehindHeader => tell_behind_header(text, parser),
+        Ask::RecordOrWhy => tell_why(text, parser),
         Ask::Spaces => tell_spaces_of_record(text, parser),
         _ => text.push_str("a frame, which stands first"),
     }
@@ -384,25 +388,13 @@ fn tell_part<'p, B: ParseBuf<'p>, E: Endian>(
     }
 }
 
-/// What is asked of parsers: what it shows, the sample type, the read format and the flags of the
-/// event, the bytes, the parts that are asked for, and the answers. A part is asked of the parser
-/// or, where it begins with a frame, of that of the frame's body. The lowest byte of a number comes
-/// first.
-pub type Asked<'a> = (&'a str, (u64, u64, u64), &'a [u8], &'a [&'a [Ask]], &'a str);
-
 // What a parser over a buffer answers.
 fn told<'p, B: ParseBuf<'p> + Drop>(
     alloc: Global,
     buf: B,
-    (sample_type, read_format, flags): (u64, u64, u64),
+    config: &ParseConfig<Little>,
     parts: &[&[Ask]],
 ) -> ParseResult<String> {
-    let config = ParseConfig::<Little>::from(perf_event_attr {
-        sample_type,
-        read_format,
-        flags,
-        ..Default::default()
-    });
     let mut parser = Parser::new(alloc, buf, config.duplicate()?);
     let mut text = String::new(alloc);
     for part in parts {
@@ -411,38 +403,63 @@ fn told<'p, B: ParseBuf<'p> + Drop>(
     Ok(text)
 }
 
-// Asserts what a parser over a buffer answers.
-fn check_over<'p, B: ParseBuf<'p> + Drop>(
-    rt: &(impl AllocGlobal + Abort),
-    buf: B,
-    (what, event, _, parts, want): Asked<'_>,
-) {
-    match told(rt.alloc(), buf, event, parts) {
-        Ok(text) => check_text(rt, what, Ok(text), want),
-        Err(error) => panic!(rt; "{what}: {:?}", error.kind()),
+fn check_told(rt: &impl Abort, answer: ParseResult<String>, want: &str, buffer: &str) {
+    match answer {
+        Ok(text) => assert_eq!(rt; text.as_str(), want, "{buffer}"),
+        Err(error) => panic!(rt; "{:?}", error.kind()),
     }
 }
 
-/// Asserts what parsers answer, through a slice, buffered readers and pieces.
-pub fn check_asked(rt: &(impl AllocGlobal + Abort), asked: Asked<'_>) {
-    let (_, _, bytes, _, _) = asked;
-    check_over(rt, bytes, asked);
+fn check_reader(
+    rt: &(impl AllocGlobal + Abort),
+    bytes: &[u8],
+    capacity: usize,
+    config: &ParseConfig<Little>,
+    parts: &[&[Ask]],
+    want: &str,
+) {
+    match BufReader::with_capacity(rt.alloc(), capacity, bytes) {
+        Ok(reader) => check_told(
+            rt,
+            told(rt.alloc(), reader, config, parts),
+            want,
+            "a reader",
+        ),
+        Err(_) => panic!(rt; "no memory"),
+    }
+}
+
+fn check_pieces(
+    rt: &(impl AllocGlobal + Abort),
+    pieces: PieceBuf<'_>,
+    config: &ParseConfig<Little>,
+    parts: &[&[Ask]],
+    want: &str,
+) {
+    check_told(rt, told(rt.alloc(), pieces, config, parts), want, "pieces");
+}
+
+/// Asserts what parsers over these bytes answer, through a slice, buffered readers and pieces,
+/// under a configuration. A part is asked of the parser or, where it begins with a frame, of that
+/// of the frame's body.
+pub fn check_asks_under(
+    rt: &(impl AllocGlobal + Abort),
+    bytes: &[u8],
+    config: &ParseConfig<Little>,
+    parts: &[&[Ask]],
+    want: &str,
+) {
+    check_told(rt, told(rt.alloc(), bytes, config, parts), want, "a slice");
     for capacity in [1, 7, 8192] {
-        match BufReader::with_capacity(rt.alloc(), capacity, bytes) {
-            Ok(reader) => check_over(rt, reader, asked),
-            Err(_) => panic!(rt; "no memory"),
-        }
+        check_reader(rt, bytes, capacity, config, parts, want);
     }
     for most in [1, 3, 64] {
-        for lasting in [true, false] {
-            check_over(rt, PieceBuf::new(bytes, most, lasting), asked);
-        }
+        check_pieces(rt, PieceBuf::new(bytes, most, true), config, parts, want);
+        check_pieces(rt, PieceBuf::new(bytes, most, false), config, parts, want);
     }
 }
 
-/// The same of each of these.
-pub fn check_asks(rt: &(impl AllocGlobal + Abort), rows: &[Asked<'_>]) {
-    for asked in rows {
-        check_asked(rt, *asked);
-    }
+/// The same of one parser, under the default configuration, the lowest byte first.
+pub fn check_asks(rt: &(impl AllocGlobal + Abort), bytes: &[u8], asks: &[Ask], want: &str) {
+    check_asks_under(rt, bytes, &ParseConfig::default(), &[asks], want);
 }

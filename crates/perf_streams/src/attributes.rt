@@ -1,13 +1,12 @@
 //! Attributes, and what comes behind them.
 
-use crate::asks::{Ask, check_asked};
-use crate::buffers::{PLAIN, tell_run};
-use crate::checks::check_text;
-use crate::configurations::tell_configuration;
+use crate::asks::{Ask, check_asks};
+use crate::check;
+use bitflags::Flags;
 use perf_event_data::endian::{Little, Native};
-use perf_event_data::parse::{ParseBuf, ParseConfig, ParseResult, Parser};
+use perf_event_data::parse::{ParseBuf, ParseConfig, ParseError, Parser};
 use perf_event_data::sys::perf_event_attr;
-use perf_event_data::{PieceBuf, read_records};
+use perf_event_data::{PieceBuf, Record, Run, RunEnd, read_records};
 use std::alloc::{AllocError, Global};
 use std::io::BufReader;
 use std::process::Abort;
@@ -41,161 +40,127 @@ fn bytes_of(
     Ok(bytes)
 }
 
-// The size of an attribute, and then what comes behind it under its configuration.
-fn told_behind<'p, B: ParseBuf<'p> + Drop>(alloc: Global, buf: B) -> ParseResult<String> {
-    let mut text = String::new(alloc);
+// An attribute of this size, and then five lost samples under its configuration.
+fn check_behind<'p, B: ParseBuf<'p> + Drop>(
+    rt: &impl Abort,
+    alloc: Global,
+    buf: B,
+    size: u8,
+) -> Result<(), Fail> {
     let mut parser = Parser::new(alloc, buf, ParseConfig::<Little>::default());
     let attr = parser.parse::<perf_event_attr>()?;
-    write!(text, "{}: ", attr.size)?;
+    check!(rt; attr.size, u32::from(size));
     let config = ParseConfig::<Native>::from(attr).with_endian(Little);
     let mut parser = parser.reconfigure(config);
-    tell_run(alloc, &mut text, &read_records(&mut parser, 10))?;
-    Ok(text)
+    check_five_lost(rt, &read_records(&mut parser, 10));
+    Ok(())
 }
 
-fn check_behind<'p, B: ParseBuf<'p> + Drop>(rt: &(impl AllocGlobal + Abort), buf: B, want: &str) {
-    match told_behind(rt.alloc(), buf) {
-        Ok(text) => check_text(rt, "an attribute", Ok(text), want),
-        Err(error) => panic!(rt; "{:?}", error.kind()),
-    }
+fn check_five_lost(rt: &impl Abort, run: &Run<'_>) {
+    check!(rt; run.frames.len(), 1);
+    check!(rt; matches!(run.end, RunEnd::Done));
+    let Some((header, Ok(Record::LostSamples(lost)))) = run.frames.first() else {
+        panic!(rt; "not LOST_SAMPLES");
+    };
+    check!(rt; (header.type_, header.misc, header.size), (13, 0, 16));
+    check!(rt; lost.lost, 5);
 }
 
 #[test]
 fn records_come_behind_the_size_of_an_attribute(rt: HostRuntime) -> Result<(), Fail> {
-    for (size, want) in [
-        (64, "64: 13 0 16 LostSamples 5; done"),
-        (136, "136: 13 0 16 LostSamples 5; done"),
-    ] {
-        let mut bytes = bytes_of(rt.alloc(), size, usize::from(size), &[])?;
+    for size in [64, 136] {
+        let mut bytes = bytes_of(rt.alloc(), size, size as usize, &[])?;
         bytes.extend_from_slice(&FIVE_LOST)?;
         let bytes = bytes.as_slice();
-        check_behind(&rt, bytes, want);
+        check_behind(&rt, rt.alloc(), bytes, size)?;
         for capacity in [1, 7] {
             let reader = BufReader::with_capacity(rt.alloc(), capacity, bytes)?;
-            check_behind(&rt, reader, want);
+            check_behind(&rt, rt.alloc(), reader, size)?;
         }
-        check_behind(&rt, PieceBuf::new(bytes, 1, false), want);
+        check_behind(&rt, rt.alloc(), PieceBuf::new(bytes, 1, false), size)?;
     }
     Ok(())
 }
-
-// An attribute: what it shows, its size, how many of its bytes there are, which of them are not
-// zero, what is asked for, and the answers.
-type Attribute<'a> = (&'a str, u8, usize, &'a [(usize, u8)], &'a [Ask], &'a str);
-
-const CUT: &str = "an attribute that is cut off takes all that was left";
-
-const NO_SIZE: &str = "a size that there is not takes eight bytes";
-
-const NO_SUCH_SIZE: &str = "InvalidRecord \"not a valid size for a perf_event_attr struct\" \
-    invalid record: not a valid size for a perf_event_attr struct; 0x9";
-
-const ATTRIBUTES: &[Attribute<'static>] = &[
-    (
-        "fields beyond the size are zero",
-        72,
-        73,
-        &[(64, 7), (72, 9)],
-        &[Ask::Attribute, Ask::U8],
-        "size 72 config2 7 branch 0 clock 0 stack 0 0 aux 0 0 regs 0 sig 0 config3 0; 0x9",
-    ),
-    (CUT, 72, 0, &[], &[Ask::Attribute, Ask::Rest], "Eof; []"),
-    (CUT, 72, 7, &[], &[Ask::Attribute, Ask::Rest], "Eof; []"),
-    (CUT, 72, 8, &[], &[Ask::Attribute, Ask::Rest], "Eof; []"),
-    (CUT, 72, 63, &[], &[Ask::Attribute, Ask::Rest], "Eof; []"),
-    (CUT, 72, 71, &[], &[Ask::Attribute, Ask::Rest], "Eof; []"),
-    (NO_SIZE, 0, 10, NINE, ATTRIBUTE_AND_BYTE, NO_SUCH_SIZE),
-    (NO_SIZE, 63, 10, NINE, ATTRIBUTE_AND_BYTE, NO_SUCH_SIZE),
-    (NO_SIZE, 65, 10, NINE, ATTRIBUTE_AND_BYTE, NO_SUCH_SIZE),
-    (NO_SIZE, 88, 10, NINE, ATTRIBUTE_AND_BYTE, NO_SUCH_SIZE),
-    (NO_SIZE, 100, 10, NINE, ATTRIBUTE_AND_BYTE, NO_SUCH_SIZE),
-    (NO_SIZE, 135, 10, NINE, ATTRIBUTE_AND_BYTE, NO_SUCH_SIZE),
-    (
-        "bytes behind the known fields are zero",
-        137,
-        138,
-        &[(128, 3), (137, 9)],
-        ATTRIBUTE_AND_BYTE,
-        "size 137 config2 0 branch 0 clock 0 stack 0 0 aux 0 0 regs 0 sig 0 config3 3; 0x9",
-    ),
-    (
-        "bytes behind the known fields are not zero",
-        137,
-        138,
-        &[(136, 1), (137, 9)],
-        ATTRIBUTE_AND_BYTE,
-        "UnsupportedData \"serialized perf_event_attr contains fields not supported by this \
-            version of perf-event-data\" unsupported serialized data: serialized perf_event_attr \
-            contains fields not supported by this version of perf-event-data; 0x9",
-    ),
-    (
-        "an attribute of no size says so",
-        100,
-        100,
-        &[],
-        &[Ask::Attribute],
-        "InvalidRecord \"not a valid size for a perf_event_attr struct\" \
-            invalid record: not a valid size for a perf_event_attr struct",
-    ),
-    (
-        "an attribute that is not known says so",
-        137,
-        137,
-        &[(136, 1)],
-        &[Ask::Attribute],
-        "UnsupportedData \"serialized perf_event_attr contains fields not supported by this \
-            version of perf-event-data\" unsupported serialized data: serialized perf_event_attr \
-            contains fields not supported by this version of perf-event-data",
-    ),
-    (
-        "a clock may be negative and some bytes say nothing",
-        136,
-        136,
-        &[
-            (88, 2),
-            (92, 0xFF),
-            (93, 0xFF),
-            (94, 0xFF),
-            (95, 0xFF),
-            (96, 4),
-            (104, 5),
-            (108, 6),
-            (110, 0xAA),
-            (111, 0xBB),
-            (112, 7),
-            (116, 0xCC),
-            (120, 8),
-            (128, 9),
-        ],
-        &[Ask::Attribute],
-        "size 136 config2 0 branch 0 clock -1 stack 2 6 aux 5 7 regs 4 sig 8 config3 9",
-    ),
-];
-
-const NINE: &[(usize, u8)] = &[(8, 9), (9, 8)];
-
-const ATTRIBUTE_AND_BYTE: &[Ask] = &[Ask::Attribute, Ask::U8];
 
 #[test]
-fn an_attribute_is_as_long_as_its_size(rt: HostRuntime) -> Result<(), Fail> {
-    for (what, size, count, marks, asks, want) in ATTRIBUTES {
-        let bytes = bytes_of(rt.alloc(), *size, *count, marks)?;
-        check_asked(&rt, (what, PLAIN, &bytes, &[asks], want));
+fn fields_beyond_the_size_are_zero(rt: HostRuntime) -> Result<(), Fail> {
+    let bytes = bytes_of(rt.alloc(), 72, 73, &[(64, 7), (72, 9)])?;
+    check_asks(
+        &rt,
+        &bytes,
+        &[Ask::Attribute, Ask::U8],
+        "size 72 config2 7 branch 0 clock 0 stack 0 0 aux 0 0 regs 0 sig 0 config3 0; 0x9",
+    );
+    Ok(())
+}
+
+#[test]
+fn an_attribute_that_is_cut_off_takes_all_that_was_left(rt: HostRuntime) -> Result<(), Fail> {
+    for count in [0, 7, 8, 63, 71] {
+        let bytes = bytes_of(rt.alloc(), 72, count, &[])?;
+        check_asks(&rt, &bytes, &[Ask::Attribute, Ask::Rest], "Eof; []");
     }
     Ok(())
 }
 
-// What the configuration of an attribute says, and whether a parser has it and loses it again.
-fn told_configuration<'p, B: ParseBuf<'p> + Drop>(alloc: Global, buf: B) -> ParseResult<String> {
-    let mut text = String::new(alloc);
-    let mut parser = Parser::new(alloc, buf, ParseConfig::<Little>::default());
-    let config = ParseConfig::<Native>::from(parser.parse::<perf_event_attr>()?);
-    tell_configuration(&mut text, &config)?;
-    let parser = parser.reconfigure(config);
-    write!(text, "; {}", parser.config().sample_id_all())?;
-    let parser = parser.reconfigure(ParseConfig::<Little>::default());
-    write!(text, " {}", parser.config().sample_id_all())?;
-    Ok(text)
+#[test]
+fn a_size_that_there_is_not_takes_eight_bytes(rt: HostRuntime) {
+    for size in [0, 63, 65, 88, 100, 135] {
+        let bytes = [0, 0, 0, 0, size, 0, 0, 0, 9, 8];
+        check_asks(
+            &rt,
+            &bytes,
+            &[Ask::Attribute, Ask::U8],
+            "InvalidRecord; 0x9",
+        );
+    }
+}
+
+#[test]
+fn bytes_behind_the_known_fields_must_be_zero(rt: HostRuntime) -> Result<(), Fail> {
+    let zero = bytes_of(rt.alloc(), 137, 138, &[(128, 3), (137, 9)])?;
+    check_asks(
+        &rt,
+        &zero,
+        &[Ask::Attribute, Ask::U8],
+        "size 137 config2 0 branch 0 clock 0 stack 0 0 aux 0 0 regs 0 sig 0 config3 3; 0x9",
+    );
+    let other = bytes_of(rt.alloc(), 137, 138, &[(136, 1), (137, 9)])?;
+    check_asks(
+        &rt,
+        &other,
+        &[Ask::Attribute, Ask::U8],
+        "UnsupportedData; 0x9",
+    );
+    Ok(())
+}
+
+#[test]
+fn a_clock_may_be_negative_and_some_bytes_say_nothing(rt: HostRuntime) -> Result<(), Fail> {
+    let marks = [
+        (88, 2),
+        (92, 0xFF),
+        (93, 0xFF),
+        (94, 0xFF),
+        (95, 0xFF),
+        (96, 4),
+        (104, 5),
+        (108, 6),
+        (110, 0xAA),
+        (111, 0xBB),
+        (112, 7),
+        (116, 0xCC),
+        (120, 8),
+        (128, 9),
+    ];
+    let bytes = bytes_of(rt.alloc(), 136, 136, &marks)?;
+    check_asks(
+        &rt,
+        &bytes,
+        &[Ask::Attribute],
+        "size 136 config2 0 branch 0 clock -1 stack 2 6 aux 5 7 regs 4 sig 8 config3 9",
+    );
+    Ok(())
 }
 
 #[test]
@@ -209,8 +174,53 @@ fn a_configuration_is_what_the_attribute_says(rt: HostRuntime) -> Result<(), Fai
         (96, 0xF0),
     ];
     let bytes = bytes_of(rt.alloc(), 104, 104, &marks)?;
-    let text = told_configuration(rt.alloc(), bytes.as_slice())?;
-    let want = "0x21 0x7 true true 0xf 0xf0 0; true false";
-    check_text(&rt, "a configuration", Ok(text), want);
+    let mut parser = Parser::new(
+        rt.alloc(),
+        bytes.as_slice(),
+        ParseConfig::<Little>::default(),
+    );
+    let config = ParseConfig::<Native>::from(parser.parse::<perf_event_attr>()?);
+    check!(rt; config.read_format().bits(), 0x21);
+    check!(rt; config.sample_type().bits(), 7);
+    check!(rt; config.sample_id_all());
+    check!(rt; config.branch_hw_index());
+    check!(rt; (config.regs_user(), config.regs_intr()), (0x0F, 0xF0));
+    check!(rt; config.misc(), 0);
+    let parser = parser.reconfigure(config);
+    check!(rt; parser.config().sample_id_all());
+    let parser = parser.reconfigure(ParseConfig::<Little>::default());
+    check!(rt; !parser.config().sample_id_all());
     Ok(())
+}
+
+// What the refusal of an attribute says.
+fn refusal(alloc: Global, bytes: &[u8]) -> Option<ParseError> {
+    let mut parser = Parser::new(alloc, bytes, ParseConfig::<Little>::default());
+    parser.parse::<perf_event_attr>().err()
+}
+
+fn check_refusal(rt: &impl Abort, alloc: Global, bytes: &[u8], text: &str) -> Result<(), Fail> {
+    let Some(error) = refusal(alloc, bytes) else {
+        panic!(rt; "not refused");
+    };
+    check!(rt; error.to_string(alloc)?.as_str(), text);
+    Ok(())
+}
+
+#[test]
+fn a_refused_attribute_says_why(rt: HostRuntime) -> Result<(), Fail> {
+    check_refusal(&rt, rt.alloc(), &[], "unexpected EOF during parsing")?;
+    check_refusal(
+        &rt,
+        rt.alloc(),
+        &bytes_of(rt.alloc(), 100, 100, &[])?,
+        "invalid record: not a valid size for a perf_event_attr struct",
+    )?;
+    check_refusal(
+        &rt,
+        rt.alloc(),
+        &bytes_of(rt.alloc(), 137, 137, &[(136, 1)])?,
+        "unsupported serialized data: serialized perf_event_attr contains fields not supported by \
+            this version of perf-event-data",
+    )
 }

@@ -1,20 +1,19 @@
 //! What `{:?}` shows of records.
 
-use crate::checks::check_text;
+use crate::checks::check_same;
 use crate::told::tell_error;
 use crate::visits::{BY_BUILD_ID, zero_frames};
 use perf_event_data::Record;
 use perf_event_data::endian::Little;
-use perf_event_data::parse::{ParseBuf, ParseConfig, Parser};
+use perf_event_data::parse::{ParseConfig, Parser};
 use std::alloc::{AllocError, Global};
-use std::test::Fail;
+use std::process::Abort;
 
-// What is shown of each record.
-fn debug_texts<'p, B: ParseBuf<'p> + Drop>(alloc: Global, buf: B) -> Result<String, AllocError> {
-    let mut parser = Parser::new(alloc, buf, ParseConfig::<Little>::default());
+fn debug_texts(alloc: Global, bytes: &[u8]) -> Result<String, AllocError> {
+    let mut parser = Parser::new(alloc, bytes, ParseConfig::<Little>::default());
     let mut text = String::new(alloc);
     for _ in 0..23 {
-        match parser.parse::<Record<'p>>() {
+        match parser.parse::<Record<'_>>() {
             Ok(record) => write!(text, "{record:?}; ")?,
             Err(error) => {
                 tell_error(&mut text, &error)?;
@@ -25,8 +24,23 @@ fn debug_texts<'p, B: ParseBuf<'p> + Drop>(alloc: Global, buf: B) -> Result<Stri
     Ok(text)
 }
 
+// Asserts what is shown of each record of a slice.
+fn check_texts(rt: &(impl AllocGlobal + Abort), bytes: &[u8], want: &str) {
+    match debug_texts(rt.alloc(), bytes) {
+        Ok(text) => check_same(rt, "the records", text.as_str(), want),
+        Err(_) => panic!(rt; "no memory"),
+    }
+}
+
+fn check_zero_texts(rt: &(impl AllocGlobal + Abort), want: &str) {
+    match zero_frames(rt.alloc()) {
+        Ok(bytes) => check_texts(rt, bytes.as_slice(), want),
+        Err(_) => panic!(rt; "no memory"),
+    }
+}
+
 #[test]
-fn each_record_shows_its_fields(rt: HostRuntime) -> Result<(), Fail> {
+fn each_record_shows_its_fields(rt: HostRuntime) {
     let want = "Mmap(Mmap { pid: 0, tid: 0, addr: 0, len: 0, pgoff: 0, filename: Borrowed([]) }); \
         Lost(Lost { id: 0, lost: 0 }); \
         Comm(Comm { pid: 0, tid: 0, comm: Borrowed([]) }); \
@@ -58,14 +72,7 @@ fn each_record_shows_its_fields(rt: HostRuntime) -> Result<(), Fail> {
         TextPoke(TextPoke { addr: 0, old_bytes: Borrowed([]), new_bytes: Borrowed([]) }); \
         AuxOutputHwId(AuxOutputHwId { hw_id: 0 }); \
         Unknown { ty: 22, bytes: Borrowed([]) }; Eof";
-    let bytes = zero_frames(rt.alloc())?;
-    check_text(
-        &rt,
-        "the records",
-        debug_texts(rt.alloc(), bytes.as_slice()),
-        want,
-    );
-    Ok(())
+    check_zero_texts(&rt, want);
 }
 
 #[test]
@@ -73,5 +80,5 @@ fn a_build_id_is_shown_in_hexadecimal(rt: HostRuntime) {
     let want = "Mmap2(Mmap2 { pid: 1, tid: 2, addr: 4096, len: 8192, pgoff: 0, prot: 5, flags: 2, \
         filename: Borrowed([97, 98]), \
         detail: BuildId { build_id: 0102030405060708090a0b0c0d0e0f1011121314 } }); Eof";
-    check_text(&rt, "a mapping", debug_texts(rt.alloc(), BY_BUILD_ID), want);
+    check_texts(&rt, BY_BUILD_ID, want);
 }

@@ -1,156 +1,194 @@
 //! What an error says, and lists that may be borrowed.
 
-use crate::buffers::run_of;
-use crate::checks::check_text;
-use crate::metadata::ids_attribute;
+use crate::check;
+use crate::metadata::with_ids;
 use anyhow::anyhow;
+use perf_base::config::ParseConfig;
 use perf_base::cow::CowSlice;
+use perf_base::endian::Little;
 use perf_base::error::{ErrorKind, ParseError};
-use perf_event_data::Run;
-use perf_event_data::sys::perf_event_attr;
+use perf_event_data::parse::Parser;
+use perf_event_data::read_records;
 use std::alloc::{AllocError, AllocFailed, Global};
 use std::io;
+use std::process::Abort;
 use std::test::Fail;
 
-// The kind of an error, its message, its text and that of its cause.
-fn told_error(alloc: Global, error: &ParseError) -> Result<String, AllocError> {
-    let mut text = error.to_string(alloc)?;
-    write!(text, "; {:?} {:?}", error.kind(), error.message())?;
-    match error.cause() {
-        Some(cause) => write!(text, "; {cause}")?,
-        None => text.push_str("; no cause")?,
-    }
-    Ok(text)
-}
-
-const KINDS: &[(ErrorKind, &str)] = &[
-    (
-        ErrorKind::Eof,
-        "unexpected EOF during parsing: why; Eof Some(\"why\"); no cause",
-    ),
-    (
-        ErrorKind::InvalidRecord,
-        "invalid record: why; InvalidRecord Some(\"why\"); no cause",
-    ),
-    (
-        ErrorKind::UnsupportedConfig,
-        "unsupported config: why; UnsupportedConfig Some(\"why\"); no cause",
-    ),
+const KINDS: [(ErrorKind, &str); 6] = [
+    (ErrorKind::Eof, "unexpected EOF during parsing: why"),
+    (ErrorKind::InvalidRecord, "invalid record: why"),
+    (ErrorKind::UnsupportedConfig, "unsupported config: why"),
     (
         ErrorKind::UnsupportedData,
-        "unsupported serialized data: why; UnsupportedData Some(\"why\"); no cause",
+        "unsupported serialized data: why",
     ),
-    (
-        ErrorKind::External,
-        "user-provided error: why; External Some(\"why\"); no cause",
-    ),
-    (
-        ErrorKind::OutOfMemory,
-        "out of memory: why; OutOfMemory Some(\"why\"); no cause",
-    ),
+    (ErrorKind::External, "user-provided error: why"),
+    (ErrorKind::OutOfMemory, "out of memory: why"),
 ];
 
 #[test]
-fn an_error_is_written_with_its_message(rt: HostRuntime) {
+fn an_error_is_written_with_its_message(rt: HostRuntime) -> Result<(), Fail> {
     for (kind, want) in KINDS {
-        let error = ParseError::custom(*kind, "why");
-        check_text(&rt, "an error", told_error(rt.alloc(), &error), want);
+        let error = ParseError::custom(kind, "why");
+        check!(rt; error.kind(), kind);
+        check!(rt; error.message(), Some("why"));
+        check!(rt; error.cause().is_none());
+        check!(rt; error.to_string(rt.alloc())?.as_str(), want);
     }
+    Ok(())
 }
 
-const CAUSED: &str = "user-provided error: no disk; External None; no disk";
-
-const EOF: &str = "unexpected EOF during parsing; Eof None; no cause";
-
-const REFUSED_MEMORY: &str = "out of memory; OutOfMemory None; no cause";
-
-const EXTERNAL: &str = "user-provided error; External None; no cause";
-
-// An input error is an early end or external.
 #[test]
-fn an_error_says_no_more_than_its_cause(rt: HostRuntime) {
+fn an_error_is_written_with_its_cause(rt: HostRuntime) -> Result<(), Fail> {
+    for error in [
+        ParseError::new(anyhow!("no disk")),
+        ParseError::from(anyhow!("no disk")),
+    ] {
+        check!(rt; error.kind(), ErrorKind::External);
+        check!(rt; error.message().is_none());
+        check!(rt;
+            error.to_string(rt.alloc())?.as_str(),
+            "user-provided error: no disk"
+        );
+        let Some(cause) = error.cause() else {
+            panic!(rt; "no cause");
+        };
+        check!(rt; cause.to_string(rt.alloc())?.as_str(), "no disk");
+    }
+    Ok(())
+}
+
+fn check_plain(
+    rt: &impl Abort,
+    alloc: Global,
+    error: ParseError,
+    kind: ErrorKind,
+    text: &str,
+) -> Result<(), AllocError> {
+    check!(rt; error.kind(), kind);
+    check!(rt; error.message().is_none() && error.cause().is_none());
+    check!(rt; error.to_string(alloc)?.as_str(), text);
+    Ok(())
+}
+
+#[test]
+fn refused_memory_and_an_early_end_say_no_more(rt: HostRuntime) -> Result<(), Fail> {
+    let eof = "unexpected EOF during parsing";
+    check_plain(&rt, rt.alloc(), ParseError::eof(), ErrorKind::Eof, eof)?;
     let failed = AllocFailed { value: 1u8 };
-    for (error, want) in [
-        (ParseError::new(anyhow!("no disk")), CAUSED),
-        (ParseError::from(anyhow!("no disk")), CAUSED),
-        (ParseError::eof(), EOF),
-        (ParseError::out_of_memory(), REFUSED_MEMORY),
-        (AllocError.into(), REFUSED_MEMORY),
-        (failed.into(), REFUSED_MEMORY),
+    for error in [
+        ParseError::out_of_memory(),
+        AllocError.into(),
+        failed.into(),
     ] {
-        check_text(&rt, "an error", told_error(rt.alloc(), &error), want);
+        check_plain(
+            &rt,
+            rt.alloc(),
+            error,
+            ErrorKind::OutOfMemory,
+            "out of memory",
+        )?;
     }
-    for (kind, want) in [
-        (io::ErrorKind::UnexpectedEof, EOF),
-        (io::ErrorKind::Interrupted, EXTERNAL),
-        (io::ErrorKind::OutOfMemory, EXTERNAL),
-        (io::ErrorKind::Other, EXTERNAL),
-    ] {
-        let error = ParseError::from(io::Error::from(kind));
-        check_text(&rt, "an input error", told_error(rt.alloc(), &error), want);
-    }
+    Ok(())
 }
-
-// How many frames there are, and what is said of the first, which is refused.
-fn told_refusal(alloc: Global, run: &Run<'_>) -> Result<String, AllocError> {
-    let mut text = format!(in alloc; "{}: ", run.frames.len())?;
-    match run.frames.first() {
-        Some((_, Err(error))) => text.push_str(told_error(alloc, error)?.as_str())?,
-        _ => text.push_str("not refused")?,
-    }
-    Ok(text)
-}
-
-// Frames of an event without sample ids, and what is said of them.
-const REFUSALS: &[(&[u8], &str)] = &[
-    (
-        b"\x02\0\0\0\0\0\x07\0",
-        "1: invalid record: header size was too small to be valid; \
-            InvalidRecord Some(\"header size was too small to be valid\"); no cause",
-    ),
-    // The mapping of a file whose build id has 21 bytes.
-    (
-        b"\x0A\0\0\0\0\x40\x40\0\x01\0\0\0\x02\0\0\0\
-            \0\x10\0\0\0\0\0\0\0\x20\0\0\0\0\0\0\0\0\0\0\0\0\0\0\
-            \x15\0\0\0\x01\x02\x03\x04\x05\x06\x07\x08\x09\x0A\x0B\x0C\x0D\x0E\x0F\x10\
-            \x11\x12\x13\x14",
-        "1: invalid record: build_id had invalid length; \
-            InvalidRecord Some(\"build_id had invalid length\"); no cause",
-    ),
-];
-
-// A frame without room for the sample id of its event, and what is said of it.
-const NO_ROOM: &[u8] = b"\x0D\0\0\0\0\0\x0C\0\xAA\xAA\xAA\xAA";
-
-const SAYS_NO_ROOM: &str = "1: invalid record: config has sample_id_all bit set but record does \
-    not have enough data to store the sample_id; InvalidRecord Some(\"config has sample_id_all bit \
-    set but record does not have enough data to store the sample_id\"); no cause";
 
 #[test]
-fn a_refused_frame_says_why(rt: HostRuntime) {
-    for (bytes, want) in REFUSALS {
-        let run = run_of(rt.alloc(), *bytes, perf_event_attr::default(), 1);
-        check_text(&rt, "a frame", told_refusal(rt.alloc(), &run), want);
+fn an_input_error_is_an_early_end_or_external(rt: HostRuntime) -> Result<(), Fail> {
+    let error = io::Error::from(io::ErrorKind::UnexpectedEof);
+    let eof = "unexpected EOF during parsing";
+    check_plain(&rt, rt.alloc(), error.into(), ErrorKind::Eof, eof)?;
+    for kind in [
+        io::ErrorKind::Interrupted,
+        io::ErrorKind::OutOfMemory,
+        io::ErrorKind::Other,
+    ] {
+        let error = io::Error::from(kind);
+        check_plain(
+            &rt,
+            rt.alloc(),
+            error.into(),
+            ErrorKind::External,
+            "user-provided error",
+        )?;
     }
-    let run = run_of(rt.alloc(), NO_ROOM, ids_attribute(1 << 2), 1);
-    check_text(&rt, "a frame", told_refusal(rt.alloc(), &run), SAYS_NO_ROOM);
+    Ok(())
+}
+
+// What is said of the first frame of these bytes, which is refused as a record that is not valid.
+fn check_says(
+    rt: &impl Abort,
+    alloc: Global,
+    bytes: &[u8],
+    config: ParseConfig<Little>,
+    message: &str,
+) -> Result<(), Fail> {
+    let mut parser = Parser::new(alloc, bytes, config);
+    let run = read_records(&mut parser, 1);
+    check!(rt; run.frames.len(), 1);
+    let Some((_, Err(error))) = run.frames.first() else {
+        panic!(rt; "not refused");
+    };
+    check_message(rt, alloc, error, message)
+}
+
+fn check_message(
+    rt: &impl Abort,
+    alloc: Global,
+    error: &ParseError,
+    message: &str,
+) -> Result<(), Fail> {
+    check!(rt; error.kind(), ErrorKind::InvalidRecord);
+    check!(rt; error.message(), Some(message));
+    let text = error.to_string(alloc)?;
+    let want = format!(in alloc; "invalid record: {message}")?;
+    check!(rt; text.as_str(), want.as_str());
+    Ok(())
+}
+
+#[test]
+fn a_size_too_small_says_so(rt: HostRuntime) -> Result<(), Fail> {
+    let message = "header size was too small to be valid";
+    let bytes = b"\x02\0\0\0\0\0\x07\0";
+    check_says(&rt, rt.alloc(), bytes, ParseConfig::default(), message)
+}
+
+#[test]
+fn a_frame_without_room_for_its_sample_id_says_so(rt: HostRuntime) -> Result<(), Fail> {
+    let message = "config has sample_id_all bit set but record does not have enough data to \
+        store the sample_id";
+    let bytes = b"\x0D\0\0\0\0\0\x0C\0\xAA\xAA\xAA\xAA";
+    check_says(&rt, rt.alloc(), bytes, with_ids(1 << 2), message)
+}
+
+// The mapping of a file whose build id has 21 bytes.
+#[test]
+fn a_build_id_too_long_says_so(rt: HostRuntime) -> Result<(), Fail> {
+    let bytes = b"\x0A\0\0\0\0\x40\x40\0\x01\0\0\0\x02\0\0\0\
+        \0\x10\0\0\0\0\0\0\0\x20\0\0\0\0\0\0\0\0\0\0\0\0\0\0\
+        \x15\0\0\0\x01\x02\x03\x04\x05\x06\x07\x08\x09\x0A\x0B\x0C\x0D\x0E\x0F\x10\
+        \x11\x12\x13\x14";
+    let message = "build_id had invalid length";
+    check_says(&rt, rt.alloc(), bytes, ParseConfig::default(), message)
 }
 
 #[test]
 fn a_list_reads_alike_borrowed_and_owned(rt: HostRuntime) -> Result<(), Fail> {
     let items: &[u16] = &[7, 8, 9];
-    for (list, want) in [
-        (CowSlice::Borrowed(items), "[7, 8, 9] 3 false"),
-        (
-            CowSlice::Owned(items.to_vec(rt.alloc())?),
-            "[7, 8, 9] 3 false",
-        ),
-        (CowSlice::Borrowed(&[]), "[] 0 true"),
-        (CowSlice::Owned(Vec::<u16>::new(rt.alloc())), "[] 0 true"),
+    for list in [
+        CowSlice::Borrowed(items),
+        CowSlice::Owned(items.to_vec(rt.alloc())?),
     ] {
-        let (len, is_empty) = (list.len(), list.is_empty());
-        let text = format!(in rt.alloc(); "{:?} {len} {is_empty}", list.as_slice());
-        check_text(&rt, "a list", text, want);
+        check!(rt; list.as_slice(), items);
+        check!(rt; list.len(), 3);
+        check!(rt; !list.is_empty());
+    }
+    for list in [
+        CowSlice::Borrowed(&[]),
+        CowSlice::Owned(Vec::<u16>::new(rt.alloc())),
+    ] {
+        check!(rt; list.as_slice(), [].as_slice());
+        check!(rt; list.len(), 0);
+        check!(rt; list.is_empty());
     }
     Ok(())
 }

@@ -2,19 +2,16 @@
 
 ghost use Rattle.std.specs.Prelude.{◌≡◌, true, false, None, Some, take, nat_lt};
 
-use crate::buffers::{run_of, tell_under};
-use crate::checks::check_that;
+use crate::buffers::tell;
+use crate::check;
 use anyhow::anyhow;
-use perf_event_data::RunEnd;
 use perf_event_data::endian::Little;
 use perf_event_data::parse::{
     ErrorKind, ParseBuf, ParseBufChunk, ParseConfig, ParseError, ParseResult, Parser,
 };
-use perf_event_data::sys::perf_event_attr;
-use std::alloc::{AllocError, Global};
+use perf_event_data::{RunEnd, read_records};
 use std::io;
 use std::io::{BufReader, Read};
-use std::process::Abort;
 use std::test::Fail;
 
 // Two frames of 16 bytes, which lost 5 and 6.
@@ -53,59 +50,48 @@ const IO_KINDS: [io::ErrorKind; 3] = [
     io::ErrorKind::Interrupted,
 ];
 
-// What is said of the two frames where a fault comes behind so many bytes.
-fn want_behind(count: usize) -> &'static str {
-    match count {
-        0..=15 => "fault External",
-        16..=31 => "13 0 16 LostSamples 5; fault External",
-        _ => "13 0 16 LostSamples 5; 13 0 16 LostSamples 6; fault External",
+#[test]
+fn a_failing_reader_ends_the_run_behind_whole_frames(rt: HostRuntime) -> Result<(), Fail> {
+    for n in 0..33 {
+        let want = match n {
+            0..=15 => "fault External",
+            16..=31 => "13 0 16 LostSamples 5; fault External",
+            _ => "13 0 16 LostSamples 5; 13 0 16 LostSamples 6; fault External",
+        };
+        for kind in IO_KINDS {
+            for capacity in [1, 7, 8192] {
+                let reader = Faulty {
+                    bytes: TWO,
+                    before: Some(n),
+                    kind,
+                    once: false,
+                };
+                let reader = BufReader::with_capacity(rt.alloc(), capacity, reader)?;
+                let text = tell(rt.alloc(), reader, Little, &[10])?;
+                assert_eq!(rt; text.as_str(), want, "after {n} bytes");
+            }
+        }
     }
+    Ok(())
 }
 
-// Asserts what is said where a fault comes behind so many bytes.
-fn check_behind(rt: &impl Abort, count: usize, answer: Result<String, AllocError>, want: &str) {
-    match answer {
-        Ok(text) => assert_eq!(rt; text.as_str(), want, "behind {count} bytes"),
-        Err(_) => panic!(rt; "no memory"),
-    }
-}
-
-// The runs over readers that fail, of each kind and through buffers of one byte, of seven and of
-// more than there are.
-fn check_reader(
-    rt: &(impl AllocGlobal + Abort),
-    before: usize,
-    once: bool,
-    limits: &[usize],
-    want: &str,
-) {
-    let attr = perf_event_attr::default();
+#[test]
+fn a_run_goes_on_behind_a_reader_that_failed_once(rt: HostRuntime) -> Result<(), Fail> {
     for kind in IO_KINDS {
         for capacity in [1, 7, 8192] {
             let reader = Faulty {
                 bytes: TWO,
-                before: Some(before),
+                before: Some(16),
                 kind,
-                once,
+                once: true,
             };
-            match BufReader::with_capacity(rt.alloc(), capacity, reader) {
-                Ok(reader) => {
-                    let text = tell_under(rt.alloc(), reader, Little, attr, limits);
-                    check_behind(rt, before, text, want);
-                }
-                Err(_) => panic!(rt; "no memory"),
-            }
+            let reader = BufReader::with_capacity(rt.alloc(), capacity, reader)?;
+            let text = tell(rt.alloc(), reader, Little, &[10, 10])?;
+            let want = "13 0 16 LostSamples 5; fault External | 13 0 16 LostSamples 6; done";
+            assert_eq!(rt; text.as_str(), want, "a reader of {capacity}");
         }
     }
-}
-
-#[test]
-fn a_failing_reader_ends_the_run_behind_whole_frames(rt: HostRuntime) {
-    for count in 0..33 {
-        check_reader(&rt, count, false, &[10], want_behind(count));
-    }
-    let want = "13 0 16 LostSamples 5; fault External | 13 0 16 LostSamples 6; done";
-    check_reader(&rt, 16, true, &[10, 10], want);
+    Ok(())
 }
 
 #[test]
@@ -117,13 +103,12 @@ fn a_fault_of_a_reader_has_it_as_its_cause(rt: HostRuntime) -> Result<(), Fail> 
         once: false,
     };
     let reader = BufReader::with_capacity(rt.alloc(), 7, reader)?;
-    match run_of(rt.alloc(), reader, perf_event_attr::default(), 10).end {
-        RunEnd::Fault(error) => {
-            let is_so = error.kind() == ErrorKind::External && error.cause().is_some();
-            check_that(&rt, "an External error with its cause", is_so);
-        }
-        _ => panic!(rt; "no fault"),
-    }
+    let mut parser = Parser::new(rt.alloc(), reader, ParseConfig::<Little>::default());
+    let RunEnd::Fault(error) = read_records(&mut parser, 10).end else {
+        panic!(rt; "no fault");
+    };
+    check!(rt; error.kind(), ErrorKind::External);
+    check!(rt; error.cause().is_some());
     Ok(())
 }
 
@@ -176,48 +161,49 @@ impl<'p> ParseBuf<'p> for Counting<'p> {
     }
 }
 
-const ONCE: &str = "13 0 16 LostSamples 5; fault External | 13 0 16 LostSamples 6; done";
-
-const TWICE: &str =
-    "13 0 16 LostSamples 5; fault External | fault External | 13 0 16 LostSamples 6; done";
-
-const NEVER: &str = "13 0 16 LostSamples 5; 13 0 16 LostSamples 6; done";
-
-// How many faults come and how many were before, the limits of the runs, and what these are.
-const FAULTS: &[(u64, u64, &[usize], &str)] = &[
-    (0, 0, &[10], NEVER),
-    (1, 0, &[10, 10], ONCE),
-    (2, 0, &[10, 10, 10], TWICE),
-    (2, u64::MAX - 1, &[10, 10], ONCE),
-    (1, u64::MAX, &[10], NEVER),
-];
-
-// The runs over the two frames, where so many faults come behind `before` bytes.
-fn told_counting(
-    alloc: Global,
-    before: usize,
-    (to_come, faults): (u64, u64),
-    limits: &[usize],
-) -> Result<String, AllocError> {
-    let buf = Counting {
-        bytes: TWO,
-        before,
-        to_come,
-        faults,
-    };
-    tell_under(alloc, buf, Little, perf_event_attr::default(), limits)
+#[test]
+fn a_run_goes_on_behind_counted_faults(rt: HostRuntime) -> Result<(), Fail> {
+    let first = "13 0 16 LostSamples 5; fault External | 13 0 16 LostSamples 6; done";
+    let twice =
+        "13 0 16 LostSamples 5; fault External | fault External | 13 0 16 LostSamples 6; done";
+    let never = "13 0 16 LostSamples 5; 13 0 16 LostSamples 6; done";
+    for (to_come, faults, limits, want) in [
+        (0, 0, [10].as_slice(), never),
+        (1, 0, [10, 10].as_slice(), first),
+        (2, 0, [10, 10, 10].as_slice(), twice),
+        (2, u64::MAX - 1, [10, 10].as_slice(), first),
+        (1, u64::MAX, [10].as_slice(), never),
+    ] {
+        let buf = Counting {
+            bytes: TWO,
+            before: 16,
+            to_come,
+            faults,
+        };
+        let text = tell(rt.alloc(), buf, Little, limits)?;
+        assert_eq!(rt; text.as_str(), want, "{to_come} faults behind {faults}");
+    }
+    Ok(())
 }
 
 #[test]
-fn a_run_goes_on_behind_counted_faults(rt: HostRuntime) {
-    for (to_come, faults, limits, want) in FAULTS {
-        let text = told_counting(rt.alloc(), 16, (*to_come, *faults), limits);
-        check_behind(&rt, 16, text, want);
-    }
+fn a_counted_fault_ends_the_run_wherever_it_comes(rt: HostRuntime) -> Result<(), Fail> {
     for before in 0..33 {
-        let text = told_counting(rt.alloc(), before, (1, 0), &[10]);
-        check_behind(&rt, before, text, want_behind(before));
+        let want = match before {
+            0..=15 => "fault External",
+            16..=31 => "13 0 16 LostSamples 5; fault External",
+            _ => "13 0 16 LostSamples 5; 13 0 16 LostSamples 6; fault External",
+        };
+        let buf = Counting {
+            bytes: TWO,
+            before,
+            to_come: 1,
+            faults: 0,
+        };
+        let text = tell(rt.alloc(), buf, Little, &[10])?;
+        assert_eq!(rt; text.as_str(), want, "after {before} bytes");
     }
+    Ok(())
 }
 
 #[test]
@@ -230,9 +216,9 @@ fn a_fault_is_no_end_of_the_rest(rt: HostRuntime) {
             faults: 0,
         };
         let mut parser = Parser::new(rt.alloc(), buf, ParseConfig::<Little>::default());
-        match parser.parse_rest() {
-            Ok(_) => panic!(rt; "no fault after {before} bytes"),
-            Err(error) => assert_eq!(rt; error.kind(), ErrorKind::External, "after {before} bytes"),
-        }
+        let Err(error) = parser.parse_rest() else {
+            panic!(rt; "no fault after {before} bytes");
+        };
+        check!(rt; error.kind(), ErrorKind::External);
     }
 }

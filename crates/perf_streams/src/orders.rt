@@ -3,16 +3,15 @@
 ghost use Rattle.std.specs.Prelude.{◌++◌, take, drop, true, false};
 ghost use Rattle.std.specs.Int.{w16, w32, w64, from_le_bytes};
 
-use crate::buffers::{check_everywhere, tell_under};
-use crate::checks::{check_text, check_that};
-use crate::told::{Tell, tell_error};
+use crate::buffers::{check_everywhere, tell};
+use crate::check;
 use perf_base::config::ParseConfig;
 use perf_base::endian::{Big, Dynamic, Endian, Little, Native};
-use perf_base::error::{ParseError, ParseResult};
-use perf_base::sys::{perf_event_attr, perf_event_header};
+use perf_base::error::{ErrorKind, ParseError, ParseResult};
+use perf_base::sys::perf_event_header;
 use perf_event_data::PieceBuf;
 use perf_event_data::parse::{ParseBuf, Parser};
-use std::alloc::{AllocError, Global};
+use std::alloc::Global;
 use std::cell::Cell;
 use std::io::BufReader;
 use std::process::Abort;
@@ -111,10 +110,10 @@ impl Endian for Single {
     }
 }
 
-// The lowest byte first. It counts how many numbers of eight bytes it is asked for.
+/// The lowest byte first. It counts how many numbers of eight bytes it is asked for.
 #[derive(Copy, Clone)]
-struct Counting<'a> {
-    calls: &'a Cell<u64>,
+pub struct Counting<'a> {
+    pub calls: &'a Cell<u64>,
 }
 
 impl Endian for Counting<'_> {
@@ -144,218 +143,150 @@ impl Endian for Counting<'_> {
     }
 }
 
-// Two frames of eight bytes each, whose numbers of two bytes are all 8.
 #[test]
-fn an_order_of_ones_own_reads_its_own_bytes(rt: HostRuntime) {
-    let attr = perf_event_attr::default();
+fn an_order_of_eights_has_frames_of_eight_bytes(rt: HostRuntime) {
     let want = "0 8 8 Unknown 0 []; 0 8 8 Unknown 0 []; done";
-    check_everywhere(&rt, "eights", &[0; 16], Eights, attr, &[10], want);
+    check_everywhere(&rt, &[0; 16], Eights, &[10], want);
+}
+
+#[test]
+fn an_order_of_words_reads_its_own_bytes(rt: HostRuntime) {
     let bytes = b"\0\0\x0D\0\0\0\x10\0\0\0\0\0\0\0\x05\0";
-    let want = "13 0 16 LostSamples 5; done";
-    check_everywhere(&rt, "words", bytes, Words, attr, &[10], want);
+    check_everywhere(&rt, bytes, Words, &[10], "13 0 16 LostSamples 5; done");
 }
 
 // A run lends its order to each frame's body.
 #[test]
 fn a_run_asks_for_no_second_order(rt: HostRuntime) {
-    let attr = perf_event_attr::default();
     let bytes = b"\x02\0\0\0\0\0\x07\0\x0D\0\0\0\0\0\x10\0\x05\0\0\0\0\0\0\0";
     let want = "2 0 7 InvalidRecord; 13 0 16 LostSamples 5; done | done";
-    check_everywhere(&rt, "a run", bytes, Single, attr, &[10, 10], want);
+    check_everywhere(&rt, bytes, Single, &[10, 10], want);
 }
 
-// Writes whether there is a value, or the kind of the refusal.
-fn tell_kind<T: Drop>(text: &mut String, answer: ParseResult<T>) -> Result<(), AllocError> {
-    match answer {
-        Ok(_) => text.push_str("there is one"),
-        Err(error) => tell_error(text, &error),
-    }
-}
-
-// Two frames, for whose bodies there is no parser, what comes behind them, and the configuration of
-// a second parser.
-fn tell_refused_bodies<'p, B: ParseBuf<'p>>(
-    text: &mut String,
-    parser: &mut Parser<B, Single>,
-) -> ParseResult<()> {
-    tell_kind(text, parser.parse_metadata())?;
-    let header = parser.parse::<perf_event_header>()?;
-    text.push_str("; ")?;
-    header.tell(text)?;
-    text.push_str("; ")?;
-    tell_kind(text, parser.parse_metadata_with_header(header))?;
-    let next = parser.parse_u64()?;
-    let rest = parser.parse_rest()?;
-    write!(text, "; {next} {}; ", rest.len())?;
-    Ok(tell_kind(text, parser.config().duplicate())?)
-}
-
-fn check_refused_bodies<'p, B: ParseBuf<'p> + Drop>(rt: &(impl AllocGlobal + Abort), buf: B) {
+// The frame is taken, for whose body there is no parser, and the next one is read.
+fn check_refused_body<'p, B: ParseBuf<'p> + Drop>(
+    rt: &impl Abort,
+    alloc: Global,
+    buf: B,
+) -> Result<(), Fail> {
     let config = ParseConfig::<Little>::default().with_endian(Single);
-    let mut parser = Parser::new(rt.alloc(), buf, config);
-    let mut text = String::new(rt.alloc());
-    match tell_refused_bodies(&mut text, &mut parser) {
-        Ok(()) => check_text(rt, "no second order", Ok(text), REFUSED),
-        Err(error) => panic!(rt; "{:?}", error.kind()),
-    }
+    let mut parser = Parser::new(alloc, buf, config);
+    let refused = parser.parse_metadata().map_err(|error| error.kind());
+    check!(rt; matches!(refused, Err(ErrorKind::OutOfMemory)));
+    let header = parser.parse::<perf_event_header>()?;
+    check!(rt; (header.type_, header.misc, header.size), (13, 0, 16));
+    let refused = parser
+        .parse_metadata_with_header(header)
+        .map_err(|error| error.kind());
+    check!(rt; matches!(refused, Err(ErrorKind::OutOfMemory)));
+    check!(rt; parser.parse_u64()?, 7);
+    let rest = parser.parse_rest()?;
+    check!(rt; rest.is_empty());
+    Ok(())
 }
 
-const REFUSED: &str = "OutOfMemory; 13 0 16; OutOfMemory; 7 0; OutOfMemory";
-
-// A frame is taken, for whose body there is no parser, and the next one is read.
 #[test]
-fn a_refused_duplicate_refuses_what_wants_one(rt: HostRuntime) -> Result<(), Fail> {
+fn a_refused_duplicate_refuses_a_parser_of_the_body(rt: HostRuntime) -> Result<(), Fail> {
     let bytes: &[u8] = b"\x0D\0\0\0\0\0\x10\0\x05\0\0\0\0\0\0\0\
         \x0D\0\0\0\0\0\x10\0\x06\0\0\0\0\0\0\0\x07\0\0\0\0\0\0\0";
-    check_refused_bodies(&rt, bytes);
+    check_refused_body(&rt, rt.alloc(), bytes)?;
     for capacity in [1, 7, 8192] {
         let reader = BufReader::with_capacity(rt.alloc(), capacity, bytes)?;
-        check_refused_bodies(&rt, reader);
+        check_refused_body(&rt, rt.alloc(), reader)?;
     }
     for most in [1, 3, 64] {
         for lasting in [true, false] {
-            check_refused_bodies(&rt, PieceBuf::new(bytes, most, lasting));
+            check_refused_body(&rt, rt.alloc(), PieceBuf::new(bytes, most, lasting))?;
         }
     }
     Ok(())
 }
 
-// How many numbers of eight bytes are made of a run's first frame, of which this is said.
-fn conversions<'p, B: ParseBuf<'p> + Drop>(
-    rt: &(impl AllocGlobal + Abort),
-    what: &str,
+#[test]
+fn a_refused_duplicate_refuses_the_configuration(rt: HostRuntime) {
+    let config = ParseConfig::<Little>::default().with_endian(Single);
+    let refused = config.duplicate().map_err(|error| error.kind());
+    check!(rt; matches!(refused, Err(ErrorKind::OutOfMemory)));
+}
+
+// A frame of NAMESPACES that says it has 2^63 of them, and has so many numbers instead.
+fn check_calls<'p, B: ParseBuf<'p> + Drop>(
+    rt: &impl Abort,
+    alloc: Global,
     buf: B,
-    attr: perf_event_attr,
-    want: &str,
-) -> u64 {
+    size: u8,
+    numbers: u64,
+) -> Result<(), Fail> {
     let calls = Cell::new(0);
-    let text = tell_under(rt.alloc(), buf, Counting { calls: &calls }, attr, &[1]);
-    check_text(rt, what, text, want);
-    calls.get()
+    let text = tell(alloc, buf, Counting { calls: &calls }, &[1])?;
+    let want = format!(in alloc; "16 0 {size} Eof; limit")?;
+    check!(rt; text.as_str(), want.as_str());
+    assert!(rt;
+        calls.get() >= 1 && calls.get() <= numbers,
+        "{numbers} numbers"
+    );
+    Ok(())
 }
 
-// The same of each buffer: at most so many, and one at least where there may be any.
-fn check_numbers(
-    rt: &(impl AllocGlobal + Abort),
-    what: &str,
-    attr: perf_event_attr,
-    bytes: &[u8],
-    want: &str,
-    most: u64,
-) {
-    let Ok(reader) = BufReader::with_capacity(rt.alloc(), 1, bytes) else {
-        panic!(rt; "no memory");
-    };
-    let pieces = PieceBuf::new(bytes, 1, false);
-    for calls in [
-        conversions(rt, what, bytes, attr, want),
-        conversions(rt, what, reader, attr, want),
-        conversions(rt, what, pieces, attr, want),
-    ] {
-        check_that(rt, what, most.min(1) <= calls && calls <= most);
-    }
-}
-
-/// Asserts that a frame of this type, misc and size ends early, and that at most so many numbers of
-/// eight bytes are made of it, and one at least where there may be any.
-pub fn check_conversions(
-    rt: &(impl AllocGlobal + Abort),
-    what: &str,
-    attr: perf_event_attr,
-    bytes: &[u8],
-    (ty, misc, size): (u32, u16, usize),
-    most: u64,
-) {
-    match format!(in rt.alloc(); "{ty} {misc} {size} Eof; limit") {
-        Ok(want) => check_numbers(rt, what, attr, bytes, want.as_str(), most),
-        Err(_) => panic!(rt; "no memory"),
-    }
-}
-
-// A frame of NAMESPACES that says it has 2^63 of them, and has so many numbers instead. The count
-// itself is the first number of eight bytes.
+// The count itself is the first number of eight bytes.
 #[test]
 fn a_hostile_count_converts_no_more_than_the_numbers_of_its_body(
     rt: HostRuntime,
 ) -> Result<(), Fail> {
-    let attr = perf_event_attr::default();
     for (size, numbers) in [(24, 1), (32, 2), (40, 3), (47, 3), (48, 4)] {
         let mut bytes = b"\x10\0\0\0\0\0\0\0\x01\0\0\0\x02\0\0\0".to_vec(rt.alloc())?;
         bytes[6] = size;
         bytes.extend_from_slice(&(1u64 << 63).to_le_bytes())?;
         bytes.resize(usize::from(size), 1)?;
-        let header = (16, 0, bytes.len());
-        check_conversions(&rt, "namespaces", attr, &bytes, header, numbers);
+        let bytes = bytes.as_slice();
+        check_calls(&rt, rt.alloc(), bytes, size, numbers)?;
+        let reader = BufReader::with_capacity(rt.alloc(), 1, bytes)?;
+        check_calls(&rt, rt.alloc(), reader, size, numbers)?;
+        let pieces = PieceBuf::new(bytes, 1, false);
+        check_calls(&rt, rt.alloc(), pieces, size, numbers)?;
     }
     Ok(())
 }
 
-// What an order makes of the bytes 1 to 8, and whether it is native.
-fn tell_order<E: Endian>(text: &mut String, order: &E) -> Result<(), AllocError> {
-    let (two, four) = (order.convert_u16([1, 2]), order.convert_u32([1, 2, 3, 4]));
-    let eight = order.convert_u64([1, 2, 3, 4, 5, 6, 7, 8]);
-    write!(
-        text,
-        "{two:#x} {four:#x} {eight:#x} {}; ",
-        order.is_native()
-    )
+// Asserts what an order makes of the bytes 1 to 8.
+fn check_order<E: Endian>(rt: &impl Abort, order: &E, two: u16, four: u32, eight: u64) {
+    check!(rt; order.convert_u16([1, 2]), two);
+    check!(rt; order.convert_u32([1, 2, 3, 4]), four);
+    check!(rt; order.convert_u64([1, 2, 3, 4, 5, 6, 7, 8]), eight);
 }
 
-fn tell_orders(alloc: Global) -> Result<String, AllocError> {
-    let mut text = String::new(alloc);
-    tell_order(&mut text, &Little)?;
-    tell_order(&mut text, &Native)?;
-    tell_order(&mut text, &Big)?;
-    for order in [Dynamic::Little, Dynamic::Big] {
-        tell_order(&mut text, &order)?;
-    }
-    tell_order(&mut text, &Words)?;
-    write!(text, "{} {}", Eights.is_native(), Single.is_native())?;
-    Ok(text)
-}
-
-// The little orders are native.
 #[test]
 fn orders_convert_as_they_are_named(rt: HostRuntime) {
-    let want = "0x201 0x4030201 0x807060504030201 true; \
-        0x201 0x4030201 0x807060504030201 true; \
-        0x102 0x1020304 0x102030405060708 false; \
-        0x201 0x4030201 0x807060504030201 true; \
-        0x102 0x1020304 0x102030405060708 false; \
-        0x201 0x2010403 0x201040306050807 false; \
-        false false";
-    check_text(&rt, "orders", tell_orders(rt.alloc()), want);
+    check_order(&rt, &Little, 0x0201, 0x04030201, 0x0807060504030201);
+    check_order(&rt, &Native, 0x0201, 0x04030201, 0x0807060504030201);
+    check_order(
+        &rt,
+        &Dynamic::Little,
+        0x0201,
+        0x04030201,
+        0x0807060504030201,
+    );
+    check_order(&rt, &Big, 0x0102, 0x01020304, 0x0102030405060708);
+    check_order(&rt, &Dynamic::Big, 0x0102, 0x01020304, 0x0102030405060708);
+    check_order(&rt, &Words, 0x0201, 0x02010403, 0x0201040306050807);
 }
 
-// A configuration's order, its duplicate's, and those of a parser and of its configuration, and a
-// header that is read in that order.
-fn told_big(alloc: Global) -> ParseResult<String> {
-    let mut text = String::new(alloc);
-    let config = ParseConfig::<Native>::default().with_endian(Dynamic::Big);
-    write!(
-        text,
-        "{:?} {:?}",
-        config.endian(),
-        config.duplicate()?.endian()
-    )?;
-    let mut parser = Parser::new(alloc, &b"\0\0\0\x0D\0\x01\0\x10"[..], config);
-    write!(
-        text,
-        " {:?} {:?} ",
-        parser.endian(),
-        parser.config().endian()
-    )?;
-    parser.parse::<perf_event_header>()?.tell(&mut text)?;
-    Ok(text)
+#[test]
+fn the_little_orders_are_native(rt: HostRuntime) {
+    check!(rt; Native.is_native() && Little.is_native() && Dynamic::Little.is_native());
+    check!(rt; !Big.is_native() && !Dynamic::Big.is_native());
+    check!(rt; !Eights.is_native() && !Words.is_native() && !Single.is_native());
 }
 
 #[test]
 fn a_configuration_keeps_its_order(rt: HostRuntime) -> Result<(), Fail> {
-    check_text(
-        &rt,
-        "big",
-        Ok(told_big(rt.alloc())?),
-        "Big Big Big Big 13 1 16",
-    );
+    let config = ParseConfig::<Native>::default().with_endian(Dynamic::Big);
+    check!(rt; *config.endian(), Dynamic::Big);
+    check!(rt; *config.duplicate()?.endian(), Dynamic::Big);
+    let mut parser = Parser::new(rt.alloc(), &b"\0\0\0\x0D\0\x01\0\x10"[..], config);
+    check!(rt; *parser.endian(), Dynamic::Big);
+    check!(rt; *parser.config().endian(), Dynamic::Big);
+    let header = parser.parse::<perf_event_header>()?;
+    check!(rt; (header.type_, header.misc, header.size), (13, 1, 16));
     Ok(())
 }

@@ -2,12 +2,13 @@
 
 ghost use Rattle.std.specs.Prelude.{◌≡◌, ◌+◌, None, ⊤};
 
-use crate::buffers::{Told, check_told};
-use crate::told::Tell;
+use crate::buffers::{Check, check_through};
+use crate::check;
 use perf_event_data::CowSlice;
 use perf_event_data::endian::Endian;
-use perf_event_data::parse::{Layout, Parse, ParseBuf, ParseResult, Parser};
-use std::alloc::AllocError;
+use perf_event_data::parse::{ErrorKind, Layout, Parse, ParseBuf, ParseResult, Parser};
+use std::process::Abort;
+use std::test::Fail;
 
 #[derive(Drop)]
 struct Task {
@@ -35,7 +36,7 @@ impl<'p, B: ParseBuf<'p>> Parse<'p, B> for Task {
 struct OwnSample {
     ip: u64,
     task: Task,
-    list: OwnList,
+    list: Vec<u64>,
     cgroup: u64,
 }
 
@@ -51,7 +52,8 @@ impl<'p, B: ParseBuf<'p>> Parse<'p, B> for OwnSample {
     fn parse<E: Endian>(parser: &mut Parser<B, E>) -> ParseResult<Self> {
         let ip = parser.parse()?;
         let task = parser.parse()?;
-        let list = parser.parse()?;
+        let count = parser.parse::<u64>()?;
+        let list = parser.parse_repeated(count as usize)?;
         let cgroup = parser.parse()?;
         Ok(OwnSample {
             ip,
@@ -62,46 +64,46 @@ impl<'p, B: ParseBuf<'p>> Parse<'p, B> for OwnSample {
     }
 }
 
-// The numbers of a list in hexadecimal digits.
-fn tell_numbers(text: &mut String, numbers: &[u64]) -> Result<(), AllocError> {
-    for number in numbers {
-        write!(text, " {number:#x}")?;
-    }
-    Ok(())
+fn check_sample(rt: &impl Abort, sample: &OwnSample) {
+    check!(rt; sample.ip, 0x3C2B_1A99_4833_1210);
+    check!(rt; (sample.task.pid, sample.task.tid), (2, 3));
+    check!(rt;
+        sample.list.as_slice(),
+        [0xF001, 0xF002, 0xF003, 0xF004].as_slice()
+    );
+    check!(rt; sample.cgroup, 0xC940_6500_0065_40C9);
 }
 
-fn tell_sample(text: &mut String, sample: &OwnSample) -> Result<(), AllocError> {
-    let Task { pid, tid } = &sample.task;
-    write!(text, "; {:#x} {pid} {tid}:", sample.ip)?;
-    tell_numbers(text, sample.list.numbers.as_slice())?;
-    write!(text, ": {:#x}", sample.cgroup)
-}
-
-// A frame whose body is parsed as a type of one's own, and what is left of it.
+// A frame whose body is parsed as a type of one's own.
 struct ByType;
 
-impl<'p, B: ParseBuf<'p>> Told<'p, B> for ByType {
-    fn tell<E: Endian>(text: &mut String, parser: &mut Parser<B, E>) -> ParseResult<()> {
+impl<'p, B: ParseBuf<'p>> Check<'p, B> for ByType {
+    fn check<E: Endian>(rt: &impl Abort, parser: &mut Parser<B, E>) -> Result<(), Fail> {
         let (mut inner, metadata) = parser.parse_metadata()?;
-        metadata.tell(text)?;
+        check!(rt; (metadata.ty(), metadata.misc()), (9, 0));
+        let id = metadata.sample_id();
+        check!(rt; (id.pid(), id.tid(), id.time()), (None, None, None));
+        check!(rt; (id.id(), id.stream_id(), id.cpu()), (None, None, None));
         let sample = inner.parse::<OwnSample>()?;
-        tell_sample(text, &sample)?;
+        check_sample(rt, &sample);
         let rest = inner.parse_rest()?;
-        Ok(write!(text, "; {}", rest.len())?)
+        check!(rt; rest.is_empty());
+        Ok(())
     }
 }
 
 // The same by a closure.
 struct ByClosure;
 
-impl<'p, B: ParseBuf<'p>> Told<'p, B> for ByClosure {
-    fn tell<E: Endian>(text: &mut String, parser: &mut Parser<B, E>) -> ParseResult<()> {
+impl<'p, B: ParseBuf<'p>> Check<'p, B> for ByClosure {
+    fn check<E: Endian>(rt: &impl Abort, parser: &mut Parser<B, E>) -> Result<(), Fail> {
         let (mut inner, metadata) = parser.parse_metadata()?;
-        metadata.tell(text)?;
+        check!(rt; (metadata.ty(), metadata.misc()), (9, 0));
         let sample = inner.parse_with(|parser| {
             let ip = parser.parse_u64()?;
             let task = parser.parse::<Task>()?;
-            let list = parser.parse::<OwnList>()?;
+            let count = parser.parse_u64()?;
+            let list = parser.parse_repeated::<u64>(count as usize)?;
             let cgroup = parser.parse_u64()?;
             Ok(OwnSample {
                 ip,
@@ -110,7 +112,8 @@ impl<'p, B: ParseBuf<'p>> Told<'p, B> for ByClosure {
                 cgroup,
             })
         })?;
-        Ok(tell_sample(text, &sample)?)
+        check_sample(rt, &sample);
+        Ok(())
     }
 }
 
@@ -155,35 +158,32 @@ impl<'p, B: ParseBuf<'p>> Parse<'p, B> for OwnSlice<'p> {
 
 struct ByList;
 
-impl<'p, B: ParseBuf<'p>> Told<'p, B> for ByList {
-    fn tell<E: Endian>(text: &mut String, parser: &mut Parser<B, E>) -> ParseResult<()> {
+impl<'p, B: ParseBuf<'p>> Check<'p, B> for ByList {
+    fn check<E: Endian>(rt: &impl Abort, parser: &mut Parser<B, E>) -> Result<(), Fail> {
         let list = parser.parse::<OwnList>()?;
-        tell_numbers(text, list.numbers.as_slice())?;
+        check!(rt; list.numbers.as_slice(), [7, 8].as_slice());
         let list = parser.parse::<OwnSlice>()?;
-        tell_numbers(text, list.numbers.as_slice())?;
-        let refused = parser.parse::<OwnList>()?;
-        Ok(tell_numbers(text, refused.numbers.as_slice())?)
+        check!(rt; list.numbers.as_slice(), [9].as_slice());
+        let refused = parser.parse::<OwnList>().map_err(|error| error.kind());
+        check!(rt; matches!(refused, Err(ErrorKind::Eof)));
+        Ok(())
     }
 }
 
 // Behind the list is one that says it has more numbers than there are.
 #[test]
-fn a_list_of_ones_own_counts_as_all_that_is_parsed(rt: HostRuntime) {
+fn a_list_of_ones_own_counts_as_all_that_is_parsed(rt: HostRuntime) -> Result<(), Fail> {
     let bytes = b"\x02\0\0\0\0\0\0\0\x07\0\0\0\0\0\0\0\x08\0\0\0\0\0\0\0\
         \x01\0\0\0\0\0\0\0\x09\0\0\0\0\0\0\0\
         \x02\0\0\0\0\0\0\0\x01\0\0\0\0\0\0\0";
-    check_told::<ByList>(&rt, "lists", bytes, " 0x7 0x8 0x9 Eof");
+    check_through::<ByList>(&rt, rt.alloc(), bytes)
 }
 
 #[test]
-fn a_type_of_ones_own_is_parsed_out_of_a_frame(rt: HostRuntime) {
+fn a_type_of_ones_own_is_parsed_out_of_a_frame(rt: HostRuntime) -> Result<(), Fail> {
     let bytes = b"\x09\0\0\0\0\0\x48\0\x10\x12\x33\x48\x99\x1A\x2B\x3C\x02\0\0\0\x03\0\0\0\
         \x04\0\0\0\0\0\0\0\x01\xF0\0\0\0\0\0\0\x02\xF0\0\0\0\0\0\0\x03\xF0\0\0\0\0\0\0\
         \x04\xF0\0\0\0\0\0\0\xC9\x40\x65\0\0\x65\x40\xC9";
-    let want = "9 0 None None None None None None; \
-        0x3c2b1a9948331210 2 3: 0xf001 0xf002 0xf003 0xf004: 0xc9406500006540c9; 0";
-    check_told::<ByType>(&rt, "a type", bytes, want);
-    let want = "9 0 None None None None None None; \
-        0x3c2b1a9948331210 2 3: 0xf001 0xf002 0xf003 0xf004: 0xc9406500006540c9";
-    check_told::<ByClosure>(&rt, "a closure", bytes, want);
+    check_through::<ByType>(&rt, rt.alloc(), bytes)?;
+    check_through::<ByClosure>(&rt, rt.alloc(), bytes)
 }

@@ -2,20 +2,18 @@
 
 ghost use Rattle.std.specs.Prelude.{⊤};
 
-use crate::checks::{check_text, check_that};
+use crate::checks::check_same;
 use crate::told::{Tell, tell_error};
-use crate::visits::{BY_BUILD_ID, CALLS, TIMED, zero_frames};
+use crate::visits::{BY_BUILD_ID, zero_frames};
 use perf_event_data::endian::{Little, Native};
-use perf_event_data::parse::{ParseBuf, ParseConfig, Parser};
-use perf_event_data::sys::perf_event_attr;
+use perf_event_data::parse::{ParseConfig, Parser};
 use perf_event_data::{
     Aux, AuxOutputHwId, BpfEvent, CGroup, Comm, CowSlice, Exit, Fork, ITraceStart, KSymbol, Lost,
     LostSamples, Mmap, Mmap2, Namespaces, Partial, PartialVisitor, Read, RecordMetadata, Sample,
     SwitchCpuWide, TextPoke, Throttle,
 };
 use std::alloc::{AllocError, Global};
-use std::cell::Cell;
-use std::test::Fail;
+use std::process::Abort;
 
 // The name of each call, all of which it has itself.
 #[derive(Copy, Clone)]
@@ -130,70 +128,38 @@ impl PartialVisitor for OwnCalls {
     }
 }
 
-// What a call makes of a record by its metadata alone.
+// Mappings alone.
 #[derive(Copy, Clone)]
-struct Moment {
-    call: &'static str,
-    time: Option<u64>,
-    cpu: Option<u32>,
-    ty: u32,
-}
+struct OwnMappings;
 
-impl Tell for Moment {
-    fn tell(&self, text: &mut String) -> Result<(), AllocError> {
-        let (time, cpu) = (self.time, self.cpu);
-        write!(text, "{} {time:?} {cpu:?} {}", self.call, self.ty)
-    }
-}
-
-fn make_moment(call: &'static str, metadata: &RecordMetadata) -> Moment {
-    let id = metadata.sample_id();
-    Moment {
-        call,
-        time: id.time(),
-        cpu: id.cpu(),
-        ty: metadata.ty(),
-    }
-}
-
-// The time, the CPU and the type of each record, mappings by a call of its own. Each visit is
-// counted.
-#[derive(Copy, Clone)]
-struct Timeline<'v> {
-    visits: &'v Cell<u32>,
-}
-
-impl PartialVisitor for Timeline<'_> {
-    type Output = Moment;
+impl PartialVisitor for OwnMappings {
+    type Output = &'static str;
 
     // Nothing is said of it.
     ghost gives = { λ seen output. ⊤ };
 
     ghost left_out = { λ metadata output. ⊤ };
 
-    fn visit_unimplemented(self, metadata: RecordMetadata) -> Self::Output {
-        self.visits.set(self.visits.get().wrapping_add(1));
-        make_moment("unimplemented", &metadata)
+    fn visit_unimplemented(self, _metadata: RecordMetadata) -> Self::Output {
+        "unimplemented"
     }
 
-    fn visit_mmap(self, _held: Mmap<'_>, metadata: RecordMetadata) -> Self::Output {
-        self.visits.set(self.visits.get().wrapping_add(1));
-        make_moment("mmap", &metadata)
+    fn visit_mmap(self, _held: Mmap<'_>, _metadata: RecordMetadata) -> Self::Output {
+        "mmap"
     }
 }
 
 // Writes what a partial visitor makes of each frame, until one is refused.
-fn told_visits<'p, B: ParseBuf<'p> + Drop, V: PartialVisitor + Copy>(
+fn tell_visits<V: PartialVisitor + Copy>(
     alloc: Global,
-    buf: B,
-    attr: perf_event_attr,
+    bytes: &[u8],
     visitor: V,
 ) -> Result<String, AllocError>
 where
     V::Output: Tell + Drop,
 {
-    let config = ParseConfig::<Native>::from(attr).with_endian(Little);
-    let mut parser = Parser::new(alloc, buf, config);
+    let config = ParseConfig::<Native>::default().with_endian(Little);
+    let mut parser = Parser::new(alloc, bytes, config);
     let mut text = String::new(alloc);
     for _ in 0..100 {
         match parser.parse_record(Partial(visitor)) {
@@ -210,74 +176,40 @@ where
     Ok(text)
 }
 
-impl Tell for &str {
-    fn tell(&self, text: &mut String) -> Result<(), AllocError> {
-        text.push_str(self)
+// Asserts what a partial visitor makes of these frames.
+fn check_visits<V: PartialVisitor + Copy>(
+    rt: &(impl AllocGlobal + Abort),
+    bytes: &[u8],
+    visitor: V,
+    want: &str,
+)
+where
+    V::Output: Tell + Drop,
+{
+    match tell_visits(rt.alloc(), bytes, visitor) {
+        Ok(text) => check_same(rt, "the visits", text.as_str(), want),
+        Err(_) => panic!(rt; "no memory"),
+    }
+}
+
+// The same of a frame of each type.
+fn check_zero_frames(rt: &(impl AllocGlobal + Abort), want: &str) {
+    match zero_frames(rt.alloc()) {
+        Ok(bytes) => check_visits(rt, bytes.as_slice(), OwnCalls, want),
+        Err(_) => panic!(rt; "no memory"),
     }
 }
 
 #[test]
-fn own_calls_are_made(rt: HostRuntime) -> Result<(), Fail> {
-    let bytes = zero_frames(rt.alloc())?;
-    let text = told_visits(
-        rt.alloc(),
-        bytes.as_slice(),
-        perf_event_attr::default(),
-        OwnCalls,
-    );
-    check_text(&rt, "the calls", text, CALLS);
-    Ok(())
+fn own_calls_are_made(rt: HostRuntime) {
+    let want = "mmap; lost; comm; exit; throttle; unthrottle; \
+        fork; read; sample; mmap2; aux; itrace_start; \
+        lost_samples; switch; switch_cpu_wide; namespaces; ksymbol; bpf_event; \
+        cgroup; text_poke; aux_output_hw_id; unknown; Eof";
+    check_zero_frames(&rt, want);
 }
 
-// The length of its build id is 21.
-const BY_LONG_BUILD_ID: &[u8] = b"\x0A\0\0\0\0\x40\x50\0\x01\0\0\0\x02\0\0\0\
-    \0\x10\0\0\0\0\0\0\0\x20\0\0\0\0\0\0\0\0\0\0\0\0\0\0\
-    \x15\0\0\0\x01\x02\x03\x04\x05\x06\x07\x08\x09\x0A\x0B\x0C\x0D\x0E\x0F\x10\x11\x12\x13\x14\
-    \x05\0\0\0\x02\0\0\0\x61\x62\0\0\0\0\0\0";
-
-// A mapping of a file goes to an own call, other records the default way, and a refused frame is
-// not visited: the flags and the sample type of the event, the bytes, the calls and how many
-// visits there are.
-const VISITS: &[(u64, u64, &[u8], &str, u32)] = &[
-    (0, 0, BY_BUILD_ID, "mmap None None 10; Eof", 1),
-    (
-        0,
-        0,
-        b"\x0D\0\0\0\0\0\x10\0\x05\0\0\0\0\0\0\0",
-        "unimplemented None None 13; Eof",
-        1,
-    ),
-    (
-        0,
-        0,
-        b"\x0E\0\0\0\0\0\x08\0",
-        "unimplemented None None 14; Eof",
-        1,
-    ),
-    (0, 0, BY_LONG_BUILD_ID, "InvalidRecord", 0),
-    // A timeline is made of sample ids, which have a time and a CPU.
-    (
-        1 << 18,
-        1 << 2 | 1 << 7,
-        TIMED,
-        "unimplemented Some(7) Some(3) 13; unimplemented Some(8) Some(2) 14; \
-            unimplemented Some(9) Some(1) 3; Eof",
-        3,
-    ),
-];
-
 #[test]
-fn what_is_left_out_goes_the_default_way(rt: HostRuntime) {
-    for (flags, sample_type, bytes, want, count) in VISITS {
-        let visits = Cell::new(0);
-        let timeline = Timeline { visits: &visits };
-        let attr = perf_event_attr {
-            flags: *flags,
-            sample_type: *sample_type,
-            ..Default::default()
-        };
-        let text = told_visits(rt.alloc(), *bytes, attr, timeline);
-        check_text(&rt, "the calls", text, want);
-        check_that(&rt, want, visits.get() == *count);
-    }
+fn mmap2_goes_to_an_own_mmap(rt: HostRuntime) {
+    check_visits(&rt, BY_BUILD_ID, OwnMappings, "mmap; Eof");
 }

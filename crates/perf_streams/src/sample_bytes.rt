@@ -1,7 +1,7 @@
 //! Bodies of samples, written in both byte orders and read through every buffer.
 
-use crate::buffers::check_everywhere;
-use crate::checks::check_text;
+use crate::buffers::check_everywhere_behind;
+use crate::checks::check_same;
 use crate::told::tell_error;
 use crate::told_samples::tell_sample;
 use perf_event_data::endian::{Big, Endian, Little, Native};
@@ -31,16 +31,22 @@ pub const USER_MASK: u64 = 0x3;
 
 pub const INTERRUPT_MASK: u64 = 0x15;
 
-/// The attribute of an event with this sample type and this read format, whose branch stacks have
-/// the hardware's index or not.
-pub fn attribute(sample_type: u64, read_format: u64, has_index: bool) -> perf_event_attr {
+/// The attribute of an event with this sample type and this read format.
+pub fn attribute(sample_type: u64, read_format: u64) -> perf_event_attr {
     perf_event_attr {
         sample_type,
         read_format,
-        branch_sample_type: if has_index { 1 << 17 } else { 0 },
         sample_regs_user: USER_MASK,
         sample_regs_intr: INTERRUPT_MASK,
         ..Default::default()
+    }
+}
+
+/// The same, and branch stacks have the hardware's index.
+pub fn attribute_with_index(sample_type: u64, read_format: u64) -> perf_event_attr {
+    perf_event_attr {
+        branch_sample_type: 1 << 17,
+        ..attribute(sample_type, read_format)
     }
 }
 
@@ -102,9 +108,15 @@ fn told<'p, B: ParseBuf<'p> + Drop, E: Endian>(
     Ok(text)
 }
 
+fn check_told(rt: &impl Abort, answer: Result<String, AllocError>, want: &str, buffer: &str) {
+    match answer {
+        Ok(text) => check_same(rt, buffer, text.as_str(), want),
+        Err(_) => panic!(rt; "no memory"),
+    }
+}
+
 fn check_reader<E: Endian + Copy>(
     rt: &(impl AllocGlobal + Abort),
-    what: &str,
     attr: perf_event_attr,
     endian: E,
     bytes: &[u8],
@@ -112,17 +124,20 @@ fn check_reader<E: Endian + Copy>(
     capacity: usize,
     want: &str,
 ) {
-    let alloc = rt.alloc();
-    match BufReader::with_capacity(alloc, capacity, bytes) {
-        Ok(reader) => check_text(rt, what, told(alloc, reader, endian, attr, left), want),
+    match BufReader::with_capacity(rt.alloc(), capacity, bytes) {
+        Ok(reader) => check_told(
+            rt,
+            told(rt.alloc(), reader, endian, attr, left),
+            want,
+            "a reader",
+        ),
         Err(_) => panic!(rt; "no memory"),
     }
 }
 
 // Asserts what parsers say of a body, over a slice, buffered readers and pieces.
-fn check_alone<E: Endian + Copy>(
+fn check_body<E: Endian + Copy>(
     rt: &(impl AllocGlobal + Abort),
-    what: &str,
     attr: perf_event_attr,
     endian: E,
     bytes: &[u8],
@@ -130,14 +145,14 @@ fn check_alone<E: Endian + Copy>(
     want: &str,
 ) {
     let alloc = rt.alloc();
-    check_text(rt, what, told(alloc, bytes, endian, attr, left), want);
+    check_told(rt, told(alloc, bytes, endian, attr, left), want, "a slice");
     for capacity in [1, 7, 8192] {
-        check_reader(rt, what, attr, endian, bytes, left, capacity, want);
+        check_reader(rt, attr, endian, bytes, left, capacity, want);
     }
     for most in [1, 7, 64] {
         for lasting in [true, false] {
             let pieces = PieceBuf::new(bytes, most, lasting);
-            check_text(rt, what, told(alloc, pieces, endian, attr, left), want);
+            check_told(rt, told(alloc, pieces, endian, attr, left), want, "pieces");
         }
     }
 }
@@ -157,17 +172,15 @@ fn frames(alloc: Global, is_big: bool, body: &[u8]) -> Result<Vec<u8>, AllocErro
     Ok(bytes)
 }
 
-/// The bytes of such frames, whose body begins with a count, the lowest byte of each number first.
-pub fn frames_of(alloc: Global, count: Part, behind: &[Part]) -> Result<Vec<u8>, AllocError> {
+/// The bytes of such frames, the lowest byte of each number first.
+pub fn frames_of(alloc: Global, parts: &[Part]) -> Result<Vec<u8>, AllocError> {
     let mut body = Vec::new(alloc);
-    put_parts(&mut body, false, &[count])?;
-    put_parts(&mut body, false, behind)?;
+    put_parts(&mut body, false, parts)?;
     frames(alloc, false, &body)
 }
 
 fn check_frames<E: Endian + Copy>(
     rt: &(impl AllocGlobal + Abort),
-    what: &str,
     attr: perf_event_attr,
     (endian, is_big): (E, bool),
     body: &[u8],
@@ -177,49 +190,52 @@ fn check_frames<E: Endian + Copy>(
     let bytes = frames(alloc, is_big, body)?;
     let size = body.len().saturating_add(8);
     let want = format!(in alloc; "9 2 {size} {want}; 13 0 16 LostSamples 5; done")?;
-    check_everywhere(rt, what, &bytes, endian, attr, &[10], want.as_str());
+    check_everywhere_behind(rt, &bytes, endian, attr, &[10], want.as_str());
     Ok(())
 }
 
 fn check_in<E: Endian + Copy>(
     rt: &(impl AllocGlobal + Abort),
-    what: &str,
     attr: perf_event_attr,
     (endian, is_big): (E, bool),
     body: &[u8],
     left: usize,
     want: &str,
 ) {
-    check_alone(rt, what, attr, endian, body, left, want);
-    match check_frames(rt, what, attr, (endian, is_big), body, want) {
+    check_body(rt, attr, endian, body, left, want);
+    match check_frames(rt, attr, (endian, is_big), body, want) {
         Ok(()) => {}
         Err(_) => panic!(rt; "no memory"),
     }
 }
 
-/// Asserts what a body says, the lowest byte of each number first or last: the sample, as text, or
-/// the kind of the refusal. It is read by itself, where so many bytes are left behind the sample,
-/// and in a frame, behind which the next one is read too.
-pub fn check_body(
+/// Asserts what a body says, the lowest byte of each number first: the sample, as text, or the kind
+/// of the refusal. It is read by itself, where so many bytes are left behind the sample, and in a
+/// frame, behind which the next one is read too.
+pub fn check_little(
     rt: &(impl AllocGlobal + Abort),
-    what: &str,
     attr: perf_event_attr,
-    is_big: bool,
     body: &[u8],
     left: usize,
     want: &str,
 ) {
-    if is_big {
-        check_in(rt, what, attr, (Big, true), body, left, want);
-    } else {
-        check_in(rt, what, attr, (Little, false), body, left, want);
-    }
+    check_in(rt, attr, (Little, false), body, left, want);
 }
 
-/// The same of these parts, in both orders.
-pub fn check_sample(
+/// The same, the lowest byte last.
+pub fn check_big(
     rt: &(impl AllocGlobal + Abort),
-    what: &str,
+    attr: perf_event_attr,
+    body: &[u8],
+    left: usize,
+    want: &str,
+) {
+    check_in(rt, attr, (Big, true), body, left, want);
+}
+
+/// The same in both orders.
+pub fn check_sample_before(
+    rt: &(impl AllocGlobal + Abort),
     attr: perf_event_attr,
     parts: &[Part],
     left: usize,
@@ -228,20 +244,19 @@ pub fn check_sample(
     for is_big in [false, true] {
         let mut body = Vec::new(rt.alloc());
         match put_parts(&mut body, is_big, parts) {
-            Ok(()) => check_body(rt, what, attr, is_big, &body, left, want),
+            Ok(()) if is_big => check_big(rt, attr, &body, left, want),
+            Ok(()) => check_little(rt, attr, &body, left, want),
             Err(_) => panic!(rt; "no memory"),
         }
     }
 }
 
-/// A body: what it shows, its sample type and read format, its parts, how many bytes are left
-/// behind the sample, and what that says.
-pub type Body<'a> = (&'a str, u64, u64, &'a [Part<'a>], usize, &'a str);
-
-/// The same of each of these bodies. Where `has_index`, branch stacks have the hardware's index.
-pub fn check_samples(rt: &(impl AllocGlobal + Abort), has_index: bool, bodies: &[Body]) {
-    for (what, sample_type, read_format, parts, left, want) in bodies {
-        let attr = attribute(*sample_type, *read_format, has_index);
-        check_sample(rt, what, attr, parts, *left, want);
-    }
+/// The same of a body that is a sample whole.
+pub fn check_sample(
+    rt: &(impl AllocGlobal + Abort),
+    attr: perf_event_attr,
+    parts: &[Part],
+    want: &str,
+) {
+    check_sample_before(rt, attr, parts, 0, want);
 }

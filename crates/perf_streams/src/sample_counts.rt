@@ -1,9 +1,16 @@
 //! Samples that claim more than there is.
 
+use crate::buffers::tell_under;
+use crate::checks::check_that;
 use crate::flags::{ADDR, AUX, BRANCH_STACK, CALLCHAIN, CGROUP, RAW, READ, STACK_USER};
-use crate::orders::check_conversions;
+use crate::orders::Counting;
 use crate::sample_bytes::Part::{self, Bytes, U32, U64};
-use crate::sample_bytes::{attribute, check_samples, frames_of};
+use crate::sample_bytes::{attribute, attribute_with_index, check_sample, frames_of};
+use perf_event_data::PieceBuf;
+use perf_event_data::parse::ParseBuf;
+use perf_event_data::sys::perf_event_attr;
+use std::cell::Cell;
+use std::io::BufReader;
 use std::process::Abort;
 
 // Among them are counts whose product with 8 or with 24 is small modulo 2^64.
@@ -23,111 +30,112 @@ const HOSTILE: [u64; 13] = [
     u64::MAX,
 ];
 
-// Bodies that begin with any such count: what they are, the sample type, whether branch stacks have
-// the hardware's index, and what stands behind the count.
-const CLAIMS: &[(&str, u64, bool, &[u8])] = &[
-    ("a call chain", CALLCHAIN, false, THREE_NUMBERS),
-    (
-        "a call chain before others",
-        CALLCHAIN | CGROUP,
-        false,
-        THREE_NUMBERS,
-    ),
-    ("a branch stack", BRANCH_STACK, false, THREE_NUMBERS),
-    (
-        "a branch stack before others",
-        BRANCH_STACK | AUX,
-        false,
-        THREE_NUMBERS,
-    ),
-    (
-        "a branch stack with an index",
-        BRANCH_STACK,
-        true,
-        THREE_NUMBERS,
-    ),
-    ("a stack", STACK_USER, false, b"\x01\x02\x03"),
-    ("aux bytes", AUX, false, b"\x01\x02\x03"),
-];
+// Asserts that a body is refused that begins with any such count.
+fn check_hostile(rt: &(impl AllocGlobal + Abort), attr: perf_event_attr, behind: &[u8]) {
+    for count in HOSTILE {
+        check_sample(rt, attr, &[U64(count), Bytes(behind)], "Eof");
+    }
+}
 
 const THREE_NUMBERS: &[u8] = b"\x01\0\0\0\0\0\0\0\x02\0\0\0\0\0\0\0\x03\0\0\0\0\0\0\0";
 
 #[test]
-fn a_list_may_claim_more_than_there_is(rt: HostRuntime) {
-    for (what, sample_type, has_index, behind) in CLAIMS {
-        for count in HOSTILE {
-            let body = [U64(count), Bytes(behind)];
-            check_samples(&rt, *has_index, &[(what, *sample_type, 0, &body, 0, "Eof")]);
-        }
-    }
+fn a_call_chain_may_claim_more_than_there_is(rt: HostRuntime) {
+    check_hostile(&rt, attribute(CALLCHAIN, 0), THREE_NUMBERS);
+    check_hostile(&rt, attribute(CALLCHAIN | CGROUP, 0), THREE_NUMBERS);
+}
+
+#[test]
+fn a_branch_stack_may_claim_more_than_there_is(rt: HostRuntime) {
+    check_hostile(&rt, attribute(BRANCH_STACK, 0), THREE_NUMBERS);
+    check_hostile(&rt, attribute(BRANCH_STACK | AUX, 0), THREE_NUMBERS);
+    check_hostile(&rt, attribute_with_index(BRANCH_STACK, 0), THREE_NUMBERS);
+}
+
+#[test]
+fn bytes_may_claim_to_be_more_than_there_are(rt: HostRuntime) {
+    check_hostile(&rt, attribute(STACK_USER, 0), b"\x01\x02\x03");
+    check_hostile(&rt, attribute(AUX, 0), b"\x01\x02\x03");
 }
 
 // The length, and with it the four bytes that it takes itself and the padding, is near 2^32.
 #[test]
 fn raw_bytes_may_claim_to_be_more_than_there_are(rt: HostRuntime) {
     for less in 0..17 {
-        let body = [U64(1), U32(u32::MAX - less), Bytes(b"\x01\x02\x03\x04")];
-        let rows = [
-            ("raw bytes", RAW, 0, &body[1..], 0, "Eof"),
-            ("raw bytes behind others", RAW | ADDR, 0, &body, 0, "Eof"),
-        ];
-        check_samples(&rt, false, &rows);
+        let body = [U32(u32::MAX - less), Bytes(b"\x01\x02\x03\x04")];
+        check_sample(&rt, attribute(RAW, 0), &body, "Eof");
+        check_sample(
+            &rt,
+            attribute(RAW | ADDR, 0),
+            &[U64(1), body[0], body[1]],
+            "Eof",
+        );
     }
 }
 
-// Asserts that of a frame whose body begins with a count at most so many numbers are made.
-fn check_most(rt: &(impl AllocGlobal + Abort), count: Part, row: Claim) {
-    let (what, sample_type, read_format, has_index, behind, most) = row;
-    let attr = attribute(sample_type, read_format, has_index);
-    match frames_of(rt.alloc(), count, behind) {
-        Ok(bytes) => {
-            let size = bytes.len().saturating_sub(16);
-            check_conversions(rt, what, attr, &bytes, (9, 2, size), most);
-        }
+// How many numbers of eight bytes are made of a run's first frame, which is refused.
+fn conversions<'p, B: ParseBuf<'p> + Drop>(
+    rt: &(impl AllocGlobal + Abort),
+    buf: B,
+    attr: perf_event_attr,
+) -> u64 {
+    let calls = Cell::new(0);
+    match tell_under(rt.alloc(), buf, Counting { calls: &calls }, attr, &[1]) {
+        Ok(text) => check_that(rt, text.as_str(), text.ends_with(" Eof; limit")),
         Err(_) => panic!(rt; "no memory"),
     }
+    calls.get()
 }
 
-// What claims to be more than there is: its sample type and read format, whether branch stacks have
-// the hardware's index, what stands behind the count, and how many numbers are made of it all.
-type Claim = (&'static str, u64, u64, bool, &'static [Part<'static>], u64);
+fn check_conversions(rt: &impl Abort, calls: u64, most: u64) {
+    check_that(
+        rt,
+        "at least one, where there may be any",
+        calls >= most.min(1),
+    );
+    check_that(rt, "at most as many as there are", calls <= most);
+}
 
-const FOUR: &[Part<'static>] = &[U64(1), U64(2), U64(3), U32(4)];
+// Asserts that of a frame of this body at most so many numbers are made, and one at least where
+// there may be any.
+fn check_most(rt: &(impl AllocGlobal + Abort), attr: perf_event_attr, parts: &[Part], most: u64) {
+    let alloc = rt.alloc();
+    let Ok(bytes) = frames_of(alloc, parts) else {
+        panic!(rt; "no memory");
+    };
+    let Ok(reader) = BufReader::with_capacity(alloc, 1, bytes.as_slice()) else {
+        panic!(rt; "no memory");
+    };
+    check_conversions(rt, conversions(rt, bytes.as_slice(), attr), most);
+    check_conversions(rt, conversions(rt, reader, attr), most);
+    let pieces = PieceBuf::new(&bytes, 1, false);
+    check_conversions(rt, conversions(rt, pieces, attr), most);
+}
 
 // Bytes are no numbers.
-const CONVERSIONS: &[Claim] = &[
-    ("a call chain", CALLCHAIN, 0, false, &[U64(1)], 2),
-    ("a branch stack", BRANCH_STACK, 0, false, &[U64(1)], 2),
-    (
-        "a branch stack with an index",
-        BRANCH_STACK,
-        0,
-        true,
-        &[U64(1)],
-        2,
-    ),
-    ("a read", READ, 0x08, false, &[U64(1)], 2),
-    (
-        "a stack",
-        STACK_USER,
-        0,
-        false,
-        &[Bytes(b"\x01\x02\x03")],
-        1,
-    ),
-    ("aux bytes", AUX, 0, false, &[Bytes(b"\x01\x02\x03")], 1),
-    ("a longer call chain", CALLCHAIN, 0, false, FOUR, 4),
-    ("a longer branch stack", BRANCH_STACK, 0, false, FOUR, 4),
-];
-
-const RAW_BYTES: Claim = ("raw bytes", RAW, 0, false, &[U64(1), U64(2)], 0);
-
 #[test]
 fn a_hostile_count_converts_no_more_than_the_numbers_of_its_body(rt: HostRuntime) {
-    for row in CONVERSIONS {
-        for count in HOSTILE {
-            check_most(&rt, U64(count), *row);
-        }
+    for count in HOSTILE {
+        let body = [U64(count), U64(1)];
+        check_most(&rt, attribute(CALLCHAIN, 0), &body, 2);
+        check_most(&rt, attribute(BRANCH_STACK, 0), &body, 2);
+        check_most(&rt, attribute_with_index(BRANCH_STACK, 0), &body, 2);
+        check_most(&rt, attribute(READ, 0x08), &body, 2);
+        check_most(
+            &rt,
+            attribute(STACK_USER, 0),
+            &[U64(count), Bytes(b"\x01\x02\x03")],
+            1,
+        );
+        check_most(
+            &rt,
+            attribute(AUX, 0),
+            &[U64(count), Bytes(b"\x01\x02\x03")],
+            1,
+        );
+        let body = [U64(count), U64(1), U64(2), U64(3), U32(4)];
+        check_most(&rt, attribute(CALLCHAIN, 0), &body, 4);
+        check_most(&rt, attribute(BRANCH_STACK, 0), &body, 4);
     }
-    check_most(&rt, U32(u32::MAX), RAW_BYTES);
+    check_most(&rt, attribute(RAW, 0), &[U32(u32::MAX), U64(1), U64(2)], 0);
 }

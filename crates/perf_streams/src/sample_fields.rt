@@ -6,7 +6,7 @@ use crate::flags::{
     TIME, TRANSACTION, WEIGHT, WEIGHT_STRUCT,
 };
 use crate::sample_bytes::Part::{self, Bytes, U32, U64};
-use crate::sample_bytes::{attribute, check_body, put_parts};
+use crate::sample_bytes::{attribute_with_index, check_big, check_little, put_parts};
 use std::alloc::{AllocError, Global};
 use std::process::Abort;
 
@@ -126,36 +126,54 @@ fn put_in(alloc: Global, is_big: bool, before: u64, flags: u64) -> Result<Vec<u8
 
 fn check_bytes(
     rt: &(impl AllocGlobal + Abort),
-    what: &str,
     sample_type: u64,
     is_big: bool,
     body: Result<Vec<u8>, AllocError>,
 ) {
-    let attr = attribute(sample_type, READ_FORMAT, true);
+    let attr = attribute_with_index(sample_type, READ_FORMAT);
     match (body, text_of(rt.alloc(), sample_type)) {
-        (Ok(body), Ok(text)) => check_body(rt, what, attr, is_big, &body, 0, text.as_str()),
+        (Ok(body), Ok(text)) if is_big => check_big(rt, attr, &body, 0, text.as_str()),
+        (Ok(body), Ok(text)) => check_little(rt, attr, &body, 0, text.as_str()),
         _ => panic!(rt; "no memory"),
     }
 }
 
-fn check_fields(rt: &(impl AllocGlobal + Abort), what: &str, sample_type: u64) {
+fn check_fields(rt: &(impl AllocGlobal + Abort), sample_type: u64) {
     for is_big in [false, true] {
-        let body = body_of(rt.alloc(), is_big, sample_type);
-        check_bytes(rt, what, sample_type, is_big, body);
+        check_bytes(
+            rt,
+            sample_type,
+            is_big,
+            body_of(rt.alloc(), is_big, sample_type),
+        );
     }
 }
 
-// All fields at once, and then each one alone, cut out, and put in again.
 #[test]
-fn each_field_has_its_place(rt: HostRuntime) {
-    check_fields(&rt, "all", ALL);
+fn all_fields_at_once(rt: HostRuntime) {
+    check_fields(&rt, ALL);
+}
+
+#[test]
+fn each_field_alone(rt: HostRuntime) {
+    for (flags, _, _, _) in fields() {
+        check_fields(&rt, *flags);
+    }
+}
+
+#[test]
+fn each_field_cut_out(rt: HostRuntime) {
+    for (flags, _, _, _) in fields() {
+        check_fields(&rt, ALL & !*flags);
+    }
+}
+
+#[test]
+fn each_field_put_in_again(rt: HostRuntime) {
     let mut before = 0;
-    for (flags, _, what, _) in fields() {
-        check_fields(&rt, what, *flags);
-        check_fields(&rt, what, ALL & !*flags);
+    for (flags, _, _, _) in fields() {
         for is_big in [false, true] {
-            let body = put_in(rt.alloc(), is_big, before, *flags);
-            check_bytes(&rt, what, ALL, is_big, body);
+            check_bytes(&rt, ALL, is_big, put_in(rt.alloc(), is_big, before, *flags));
         }
         before |= *flags;
     }

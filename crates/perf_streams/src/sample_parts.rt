@@ -1,7 +1,6 @@
 //! Registers and other parts of samples by themselves, samples as records, and what refused ones
 //! say.
 
-use crate::checks::check_text;
 use crate::flags::{READ, STACK_USER};
 use crate::sample_bytes::Part::{self, Bytes, U64};
 use crate::sample_bytes::{attribute, put_parts};
@@ -17,7 +16,6 @@ use perf_event_data::{
 use std::alloc::{AllocError, Global};
 use std::io::BufReader;
 use std::process::Abort;
-use std::test::Fail;
 
 // The registers of a user, and those at an interrupt.
 fn tell_both_registers<'p, B: ParseBuf<'p>, E: Endian>(
@@ -96,7 +94,7 @@ fn told_parts<'p, B: ParseBuf<'p> + Drop, E: Endian>(
     buf: B,
     endian: E,
 ) -> Result<String, AllocError> {
-    let config = ParseConfig::<Native>::from(attribute(0, 0, false)).with_endian(endian);
+    let config = ParseConfig::<Native>::from(attribute(0, 0)).with_endian(endian);
     let mut parser = Parser::new(alloc, buf, config);
     let mut text = String::new(alloc);
     match tell_parts(&mut text, &mut parser) {
@@ -106,6 +104,13 @@ fn told_parts<'p, B: ParseBuf<'p> + Drop, E: Endian>(
     Ok(text)
 }
 
+fn check_text(rt: &impl Abort, answer: Result<String, AllocError>, want: &str) {
+    match answer {
+        Ok(text) => assert_eq!(rt; text.as_str(), want),
+        Err(_) => panic!(rt; "no memory"),
+    }
+}
+
 fn check_parts_in<E: Endian + Copy>(
     rt: &(impl AllocGlobal + Abort),
     endian: E,
@@ -113,14 +118,14 @@ fn check_parts_in<E: Endian + Copy>(
     want: &str,
 ) {
     let alloc = rt.alloc();
-    check_text(rt, "a slice", told_parts(alloc, bytes, endian), want);
+    check_text(rt, told_parts(alloc, bytes, endian), want);
     let Ok(reader) = BufReader::with_capacity(alloc, 7, bytes) else {
         panic!(rt; "no memory");
     };
-    check_text(rt, "a reader", told_parts(alloc, reader, endian), want);
+    check_text(rt, told_parts(alloc, reader, endian), want);
     for lasting in [true, false] {
         let pieces = PieceBuf::new(bytes, 3, lasting);
-        check_text(rt, "pieces", told_parts(alloc, pieces, endian), want);
+        check_text(rt, told_parts(alloc, pieces, endian), want);
     }
 }
 
@@ -135,161 +140,150 @@ fn check_parts(rt: &(impl AllocGlobal + Abort), parts: &[Part], want: &str) {
     }
 }
 
-const PARTS: &[Part<'static>] = &[
-    U64(2),
-    U64(7),
-    U64(8),
-    U64(1),
-    U64(9),
-    U64(10),
-    U64(11),
-    U64(0x21),
-    U64(0x22),
-    U64(0x60_0051),
-    U64(0x31),
-    U64(0x32),
-    U64(0x33),
-];
-
-const NO_WORDS: &[Part<'static>] = &[
-    U64(0),
-    U64(0),
-    U64(7),
-    U64(8),
-    U64(9),
-    U64(4),
-    U64(5),
-    U64(6),
-];
-
-// Parts, how many of them there are, and what they are.
-const BY_THEMSELVES: &[(&[Part<'static>], usize, &str)] = &[
-    (
-        PARTS,
-        13,
-        " user=2/0x3[7, 8] interrupt=1/0x15[9, 10, 11] lbr=1,0x21:0x22:1:0:0:0:5:6 0x31 0x32 0x33",
-    ),
-    (
-        PARTS,
-        9,
-        " user=2/0x3[7, 8] interrupt=1/0x15[9, 10, 11] Eof",
-    ),
-    (PARTS, 6, " user=2/0x3[7, 8] Eof"),
-    (PARTS, 2, " Eof"),
-    (
-        NO_WORDS,
-        8,
-        " user=0/0x3[] interrupt=0/0x15[] lbr=1,0x7:0x8:1:0:0:1:0:0 0x4 0x5 0x6",
-    ),
-];
-
 #[test]
 fn registers_and_words_by_themselves(rt: HostRuntime) {
-    for (parts, count, want) in BY_THEMSELVES {
-        match parts.get(..*count) {
-            Some(parts) => check_parts(&rt, parts, want),
-            None => panic!(rt; "not so many parts"),
-        }
-    }
+    let parts = [
+        U64(2),
+        U64(7),
+        U64(8),
+        U64(1),
+        U64(9),
+        U64(10),
+        U64(11),
+        U64(0x21),
+        U64(0x22),
+        U64(0x60_0051),
+        U64(0x31),
+        U64(0x32),
+        U64(0x33),
+    ];
+    let want = " user=2/0x3[7, 8] interrupt=1/0x15[9, 10, 11] lbr=1,0x21:0x22:1:0:0:0:5:6 \
+        0x31 0x32 0x33";
+    check_parts(&rt, &parts, want);
+    let want = " user=2/0x3[7, 8] interrupt=1/0x15[9, 10, 11] Eof";
+    check_parts(&rt, &parts[..9], want);
+    check_parts(&rt, &parts[..6], " user=2/0x3[7, 8] Eof");
+    check_parts(&rt, &parts[..2], " Eof");
 }
 
-// Why a sample is refused.
-fn told_message<'p, B: ParseBuf<'p> + Drop>(
-    alloc: Global,
-    buf: B,
-    attr: perf_event_attr,
-) -> Result<String, AllocError> {
+#[test]
+fn registers_of_no_words_by_themselves(rt: HostRuntime) {
+    let parts = [
+        U64(0),
+        U64(0),
+        U64(7),
+        U64(8),
+        U64(9),
+        U64(4),
+        U64(5),
+        U64(6),
+    ];
+    let want = " user=0/0x3[] interrupt=0/0x15[] lbr=1,0x7:0x8:1:0:0:1:0:0 0x4 0x5 0x6";
+    check_parts(&rt, &parts, want);
+}
+
+// A slice is the parser's buffer.
+fn parser_of(alloc: Global, bytes: &[u8], attr: perf_event_attr) -> Parser<&[u8], Little> {
     let config = ParseConfig::<Native>::from(attr).with_endian(Little);
-    let mut parser = Parser::new(alloc, buf, config);
-    match parser.parse::<Sample<'p>>() {
-        Ok(_) => "not refused".to_string(alloc),
+    Parser::new(alloc, bytes, config)
+}
+
+// The message of a refused sample, if it has one.
+fn told_message(
+    alloc: Global,
+    attr: perf_event_attr,
+    parts: &[Part],
+) -> Result<String, AllocError> {
+    let mut bytes = Vec::new(alloc);
+    put_parts(&mut bytes, false, parts)?;
+    match parser_of(alloc, &bytes, attr).parse::<Sample>() {
+        Ok(_) => format!(in alloc; "not refused"),
         Err(error) => format!(in alloc; "{:?} {:?}", error.kind(), error.message()),
     }
 }
 
-// A sample type, a read format, the parts of a body, and why it is refused.
-type Refusal = (u64, u64, &'static [Part<'static>], &'static str);
-
-const EIGHT: Part<'static> = Bytes(b"\x01\x02\x03\x04\x05\x06\x07\x08");
-
-const UNSUPPORTED: &str = "UnsupportedConfig Some(\"read_format contains unsupported flags\")";
-
-const REFUSALS: &[Refusal] = &[
-    (
-        STACK_USER,
-        0,
-        &[U64(8), EIGHT, U64(9)],
-        "InvalidRecord Some(\"stack dyn_size was greater than the record size\")",
-    ),
-    (STACK_USER, 0, &[U64(8), EIGHT], "Eof None"),
-    (READ, 0x20, &[U64(1)], UNSUPPORTED),
-    (READ, 0x28, &[U64(1)], UNSUPPORTED),
-    (
-        READ,
-        0x0C,
-        &[U64(u64::MAX)],
-        "InvalidRecord Some(\"number of elements in group read was too large for data type\")",
-    ),
-];
-
 #[test]
-fn a_refused_sample_says_why(rt: HostRuntime) -> Result<(), Fail> {
-    for (sample_type, read_format, parts, want) in REFUSALS {
-        let mut bytes = Vec::new(rt.alloc());
-        put_parts(&mut bytes, false, parts)?;
-        let attr = attribute(*sample_type, *read_format, false);
-        let text = told_message(rt.alloc(), bytes.as_slice(), attr);
-        check_text(&rt, want, text, want);
+fn a_refused_sample_says_why(rt: HostRuntime) {
+    let eight = Bytes(b"\x01\x02\x03\x04\x05\x06\x07\x08");
+    for (attr, parts, want) in [
+        (
+            attribute(STACK_USER, 0),
+            [U64(8), eight, U64(9)].as_slice(),
+            "InvalidRecord Some(\"stack dyn_size was greater than the record size\")",
+        ),
+        (attribute(STACK_USER, 0), &[U64(8), eight], "Eof None"),
+        (
+            attribute(READ, 0x20),
+            &[U64(1)],
+            "UnsupportedConfig Some(\"read_format contains unsupported flags\")",
+        ),
+        (
+            attribute(READ, 0x28),
+            &[U64(1)],
+            "UnsupportedConfig Some(\"read_format contains unsupported flags\")",
+        ),
+        (
+            attribute(READ, 0x0C),
+            &[U64(u64::MAX)],
+            "InvalidRecord Some(\"number of elements in group read was too large for data type\")",
+        ),
+    ] {
+        check_text(&rt, told_message(rt.alloc(), attr, parts), want);
     }
-    Ok(())
 }
 
-// What a group says of three ids, and whether it is that of one counter.
-fn tell_ids(text: &mut String, group: ReadGroup<'_>) -> Result<(), AllocError> {
+// What a group says of three ids.
+fn tell_ids(text: &mut String, group: &ReadGroup<'_>) -> Result<(), AllocError> {
     for id in [1, 2, 3] {
         match group.get_by_id(id) {
             Some(entry) => write!(text, "{} ", entry.value())?,
             None => text.push_str("none ")?,
         }
     }
+    Ok(())
+}
+
+// Whether a group is that of one counter.
+fn tell_one(text: &mut String, group: ReadGroup<'_>) -> Result<(), AllocError> {
     text.push_str(match ReadValue::try_from(group) {
         Ok(_) => "one",
         Err(_) => "not one",
     })
 }
 
-// The same of the group of a sample.
-fn told_by_id<'p, B: ParseBuf<'p> + Drop>(alloc: Global, buf: B) -> ParseResult<String> {
-    let config = ParseConfig::<Little>::from(attribute(READ, 0x0C, false));
-    let mut parser = Parser::new(alloc, buf, config);
+// What a sample's group says of three ids, and whether it is that of one counter.
+fn told_group(alloc: Global, sample: &Sample<'_>) -> ParseResult<String> {
     let mut text = String::new(alloc);
-    let sample = parser.parse::<Sample<'p>>()?;
-    match sample.values() {
-        Some(group) => tell_ids(&mut text, group.clone(alloc)?)?,
-        None => text.push_str("no group")?,
-    }
+    let Some(group) = sample.values() else {
+        return Ok(text);
+    };
+    tell_ids(&mut text, group)?;
+    tell_one(&mut text, group.clone(alloc)?)?;
     Ok(text)
 }
 
-const GROUPS: &[(&[u8], &str)] = &[
-    (
-        b"\x02\0\0\0\0\0\0\0\x0A\0\0\0\0\0\0\0\x01\0\0\0\0\0\0\0\
-            \x14\0\0\0\0\0\0\0\x02\0\0\0\0\0\0\0",
-        "10 20 none not one",
-    ),
-    (
-        b"\x01\0\0\0\0\0\0\0\x0A\0\0\0\0\0\0\0\x01\0\0\0\0\0\0\0",
-        "10 none none one",
-    ),
-    (b"\0\0\0\0\0\0\0\0", "none none none not one"),
-];
+fn told_by_id(alloc: Global, bytes: &[u8]) -> ParseResult<String> {
+    match parser_of(alloc, bytes, attribute(READ, 0x0C)).parse::<Sample>() {
+        Ok(sample) => told_group(alloc, &sample),
+        Err(error) => Err(error),
+    }
+}
+
+fn check_by_id(rt: &(impl AllocGlobal + Abort), bytes: &[u8], want: &str) {
+    match told_by_id(rt.alloc(), bytes) {
+        Ok(text) => check_text(rt, Ok(text), want),
+        Err(error) => panic!(rt; "{:?}", error.kind()),
+    }
+}
 
 #[test]
-fn the_entries_of_a_sample_have_ids(rt: HostRuntime) -> Result<(), Fail> {
-    for (bytes, want) in GROUPS {
-        check_text(&rt, want, Ok(told_by_id(rt.alloc(), *bytes)?), want);
-    }
-    Ok(())
+fn the_entries_of_a_sample_have_ids(rt: HostRuntime) {
+    let two = b"\x02\0\0\0\0\0\0\0\x0A\0\0\0\0\0\0\0\x01\0\0\0\0\0\0\0\
+        \x14\0\0\0\0\0\0\0\x02\0\0\0\0\0\0\0";
+    check_by_id(&rt, two, "10 20 none not one");
+    let one = b"\x01\0\0\0\0\0\0\0\x0A\0\0\0\0\0\0\0\x01\0\0\0\0\0\0\0";
+    check_by_id(&rt, one, "10 none none one");
+    check_by_id(&rt, b"\0\0\0\0\0\0\0\0", "none none none not one");
 }
 
 fn told_record(alloc: Global, fields: SampleFields<'_>) -> ParseResult<String> {
@@ -302,13 +296,14 @@ fn told_record(alloc: Global, fields: SampleFields<'_>) -> ParseResult<String> {
 }
 
 #[test]
-fn a_sample_that_is_made_is_a_record(rt: HostRuntime) -> Result<(), Fail> {
+fn a_sample_that_is_made_is_a_record(rt: HostRuntime) {
     let fields = SampleFields {
         pid: Some(5),
         cpu: Some(6),
         ..SampleFields::default()
     };
-    let text = told_record(rt.alloc(), fields)?;
-    check_text(&rt, "a sample", Ok(text), "Sample pid=0x5 cpu=0x6");
-    Ok(())
+    match told_record(rt.alloc(), fields) {
+        Ok(text) => check_text(&rt, Ok(text), "Sample pid=0x5 cpu=0x6"),
+        Err(error) => panic!(rt; "{:?}", error.kind()),
+    }
 }

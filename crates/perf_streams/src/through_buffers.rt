@@ -1,14 +1,14 @@
 //! Values, frames and refusals, through slices, readers and pieces.
 
-use crate::asks::{Ask, Asked, check_asks};
-use crate::buffers::PLAIN;
-use crate::checks::check_text;
+use crate::asks::{Ask, check_asks, check_asks_under};
+use crate::check;
 use crate::told::{Tell, tell_lent};
 use perf_event_data::Record;
 use perf_event_data::endian::{Endian, Little};
 use perf_event_data::parse::{
     ErrorKind, Layout, Parse, ParseBuf, ParseConfig, ParseError, ParseResult, Parser,
 };
+use perf_event_data::sys::perf_event_attr;
 use std::alloc::{AllocError, Global};
 use std::io::{self, BufReader, Read};
 use std::test::Fail;
@@ -22,60 +22,58 @@ const FRAMES: &[u8] = b"\x02\0\0\0\0\0\x18\0\x07\0\0\0\0\0\0\0\x05\0\0\0\0\0\0\0
     \x05\0\0\0\x02\0\0\0\x2F\x61\0\0\0\0\0\0\
     \x63\0\0\0\0\0\x0B\0abc";
 
+#[test]
+fn records_one_behind_another(rt: HostRuntime) {
+    check_asks(
+        &rt,
+        FRAMES,
+        &[
+            Ask::Record,
+            Ask::Record,
+            Ask::Record,
+            Ask::Record,
+            Ask::Record,
+            Ask::Record,
+        ],
+        "Lost 7 5; Switch; Comm 4112 1280 test; Mmap2 1 2 4096 8192 0 [170, 187] 5 2 /a; \
+            Unknown 99 [97, 98, 99]; Eof",
+    );
+}
+
 // A frame of size 7, one whose LOST is cut short, and one that is whole.
 const REFUSED: &[u8] = b"\x02\0\0\0\0\0\x07\0\
     \x02\0\0\0\0\0\x0C\0\x01\x02\x03\x04\
     \x0D\0\0\0\0\0\x10\0\x08\0\0\0\0\0\0\0";
 
-const PARTS: &[Asked<'static>] = &[
-    (
-        "records one behind another",
-        PLAIN,
-        FRAMES,
-        &[&[
-            Ask::Record,
-            Ask::Record,
-            Ask::Record,
-            Ask::Record,
-            Ask::Record,
-            Ask::Record,
-        ]],
-        "Lost 7 5; Switch; Comm 4112 1280 test; Mmap2 1 2 4096 8192 0 [170, 187] 5 2 /a; \
-            Unknown 99 [97, 98, 99]; Eof",
-    ),
-    (
-        "a refused frame costs that one",
-        PLAIN,
+#[test]
+fn a_refused_frame_costs_that_one(rt: HostRuntime) {
+    check_asks(
+        &rt,
         REFUSED,
-        &[&[Ask::Record, Ask::Record, Ask::Record]],
-        "InvalidRecord \"header size was too small to be valid\" \
-            invalid record: header size was too small to be valid; Eof; LostSamples 8",
-    ),
-    (
-        "an attribute of another size is refused",
-        PLAIN,
-        b"\0\0\0\0\x41\0\0\0\x01",
-        &[&[Ask::Attribute, Ask::U8]],
-        "InvalidRecord \"not a valid size for a perf_event_attr struct\" \
-            invalid record: not a valid size for a perf_event_attr struct; 0x1",
-    ),
-    (
-        "frames are taken apart by hand",
-        PLAIN,
-        FRAMES,
+        &[Ask::RecordOrWhy, Ask::Record, Ask::Record],
+        "InvalidRecord Some(\"header size was too small to be valid\"); Eof; LostSamples 8",
+    );
+}
+
+#[test]
+fn frames_are_taken_apart_by_hand(rt: HostRuntime) {
+    let parts: [&[Ask]; 3] = [
+        &[Ask::Frame, Ask::U64],
+        &[Ask::FrameBehindHeader, Ask::Rest],
+        &[Ask::RecordBehindHeader],
+    ];
+    let want = "2 0 None None None None None None; 0x7; \
+        14 8192 8; 14 8192 None None None None None None; []; 3 0 24 Comm 4112 1280 test";
+    check_asks_under(&rt, FRAMES, &ParseConfig::default(), &parts, want);
+}
+
+#[test]
+fn values_one_behind_another(rt: HostRuntime) {
+    let bytes = b"\x01\x02\x03\x04\x05\x06\x07\x08\x09\x0A\x0B\x0C\x0D\x0E\x0F\0\0";
+    check_asks(
+        &rt,
+        bytes,
         &[
-            &[Ask::Frame, Ask::U64],
-            &[Ask::FrameBehindHeader, Ask::Rest],
-            &[Ask::RecordBehindHeader],
-        ],
-        "2 0 None None None None None None; 0x7; \
-            14 8192 8; 14 8192 None None None None None None; []; 3 0 24 Comm 4112 1280 test",
-    ),
-    (
-        "values one behind another",
-        PLAIN,
-        b"\x01\x02\x03\x04\x05\x06\x07\x08\x09\x0A\x0B\x0C\x0D\x0E\x0F\0\0",
-        &[&[
             Ask::U8,
             Ask::U16,
             Ask::U32,
@@ -86,44 +84,47 @@ const PARTS: &[Asked<'static>] = &[
             Ask::Bytes(2),
             Ask::Name,
             Ask::U64,
-        ]],
+        ],
         "0x1; 0x302; 0x7060504; [8, 9]; [10, 11]; None; Some(12); [13, 14]; [15]; Eof",
-    ),
-];
-
-#[test]
-fn parts_one_behind_another(rt: HostRuntime) {
-    check_asks(&rt, PARTS);
+    );
 }
 
-// The bytes of the record behind so many bytes, and the record.
-fn text_behind<'p, B: ParseBuf<'p> + Drop>(
-    alloc: Global,
-    buf: B,
-    count: usize,
-) -> ParseResult<String> {
-    let mut parser = Parser::new(alloc, buf, ParseConfig::<Little>::default());
+// The kind and the message of a refusal, if it is one.
+fn why<T: Drop>(alloc: Global, answer: ParseResult<T>) -> Result<String, AllocError> {
+    match answer {
+        Ok(_) => "not refused".to_string(alloc),
+        Err(error) => format!(in alloc; "{:?} {:?}", error.kind(), error.message()),
+    }
+}
+
+#[test]
+fn an_attribute_of_another_size_is_refused(rt: HostRuntime) -> Result<(), Fail> {
+    let bytes: &[u8] = b"\0\0\0\0\x41\0\0\0\x01";
+    let mut parser = Parser::new(rt.alloc(), bytes, ParseConfig::<Little>::default());
+    let refused = why(rt.alloc(), parser.parse::<perf_event_attr>())?;
+    let want = "InvalidRecord Some(\"not a valid size for a perf_event_attr struct\")";
+    check!(rt; refused.as_str(), want);
+    check!(rt; parser.parse_u8()?, 1);
+    Ok(())
+}
+
+// The bytes of the record behind so many bytes of the frames over a slice, and the record.
+fn text_behind(alloc: Global, count: usize) -> Result<String, Fail> {
+    let mut parser = Parser::new(alloc, FRAMES, ParseConfig::<Little>::default());
     parser.parse_bytes(count)?;
-    let record = parser.parse::<Record<'p>>()?;
+    let record = parser.parse::<Record<'_>>()?;
     let mut text = String::new(alloc);
     tell_lent(&mut text, &record)?;
     record.tell(&mut text)?;
     Ok(text)
 }
 
-// A build id is of its length.
 #[test]
 fn names_are_borrowed_over_a_slice(rt: HostRuntime) -> Result<(), Fail> {
-    for (count, want) in [
-        (32, "Comm lent [116, 101, 115, 116]; Comm 4112 1280 test"),
-        (
-            56,
-            "Mmap2 lent [47, 97]; Mmap2 1 2 4096 8192 0 [170, 187] 5 2 /a",
-        ),
-    ] {
-        let text = text_behind(rt.alloc(), FRAMES, count)?;
-        check_text(&rt, "a name", Ok(text), want);
-    }
+    let comm = text_behind(rt.alloc(), 32)?;
+    check!(rt; comm.as_str(), "Comm lent [116, 101, 115, 116]; Comm 4112 1280 test");
+    let map = text_behind(rt.alloc(), 56)?;
+    check!(rt; map.as_str().starts_with("Mmap2 lent [47, 97]; "));
     Ok(())
 }
 
@@ -142,7 +143,10 @@ fn a_fault_keeps_its_cause(rt: HostRuntime) -> Result<(), Fail> {
     let reader = BufReader::with_capacity(rt.alloc(), 8, Failing)?;
     let mut parser = Parser::new(rt.alloc(), reader, ParseConfig::<Little>::default());
     match parser.parse::<Record<'_>>() {
-        Err(error) => assert!(rt; error.kind() == ErrorKind::External && error.cause().is_some()),
+        Err(error) => {
+            check!(rt; matches!(error.kind(), ErrorKind::External));
+            check!(rt; error.cause().is_some());
+        }
         Ok(_) => panic!(rt; "a record of a reader that fails"),
     }
     Ok(())
@@ -171,22 +175,21 @@ impl<'p, B: ParseBuf<'p>> Parse<'p, B> for Even {
     }
 }
 
-// What two bytes are as numbers that are even.
-fn told_even<'p, B: ParseBuf<'p> + Drop>(alloc: Global, buf: B) -> Result<String, AllocError> {
-    let mut text = String::new(alloc);
-    let mut parser = Parser::new(alloc, buf, ParseConfig::<Little>::default());
-    for _ in 0..2 {
-        match parser.parse::<Even>() {
-            Ok(Even(number)) => write!(text, "{number} ")?,
-            Err(error) => write!(text, "{:?} {:?}", error.kind(), error.message())?,
-        }
-    }
-    Ok(text)
+#[test]
+fn a_type_of_ones_own_refuses_by_its_own_error(rt: HostRuntime) -> Result<(), Fail> {
+    let bytes: &[u8] = &[4, 5];
+    let mut parser = Parser::new(rt.alloc(), bytes, ParseConfig::<Little>::default());
+    let Even(number) = parser.parse::<Even>()?;
+    check!(rt; number, 4);
+    let refused = why(rt.alloc(), parser.parse::<Even>())?;
+    check!(rt; refused.as_str(), "InvalidRecord Some(\"odd\")");
+    Ok(())
 }
 
 #[test]
-fn a_type_of_ones_own_refuses_by_its_own_error(rt: HostRuntime) {
-    let bytes: &[u8] = &[4, 5];
-    let want = "4 InvalidRecord Some(\"odd\")";
-    check_text(&rt, "even", told_even(rt.alloc(), bytes), want);
+fn a_build_id_is_of_its_length(rt: HostRuntime) -> Result<(), Fail> {
+    let map = text_behind(rt.alloc(), 56)?;
+    let want = "Mmap2 lent [47, 97]; Mmap2 1 2 4096 8192 0 [170, 187] 5 2 /a";
+    check!(rt; map.as_str(), want);
+    Ok(())
 }

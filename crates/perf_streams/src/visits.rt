@@ -2,28 +2,41 @@
 
 ghost use Rattle.std.specs.Prelude.{⊤};
 
-use crate::checks::check_text;
+use crate::checks::check_same;
 use crate::metadata::ids_attribute;
 use crate::told::{Tell, tell_error};
 use perf_event_data::endian::{Little, Native};
-use perf_event_data::parse::{ParseBuf, ParseConfig, Parser};
+use perf_event_data::parse::{ParseBuf, ParseConfig, ParseResult, Parser};
+use perf_event_data::sys::perf_event_attr;
 use perf_event_data::{
     Aux, AuxOutputHwId, BpfEvent, CGroup, Comm, CowSlice, Exit, Fork, ITraceStart, KSymbol, Lost,
-    LostSamples, Mmap, Mmap2, Namespaces, PieceBuf, Read, RecordMetadata, RecordVisitor, Sample,
-    SwitchCpuWide, TextPoke, Throttle, Visitor,
+    LostSamples, Mmap, Mmap2, Namespaces, Partial, PartialVisitor, PieceBuf, Read, Record,
+    RecordMetadata, RecordVisitor, Sample, SwitchCpuWide, TextPoke, Throttle, Visitor,
 };
 use std::alloc::{AllocError, Global};
+use std::cell::Cell;
 use std::io::BufReader;
-use std::test::Fail;
+use std::process::Abort;
 
-// Writes the call to which each frame goes, until one is refused.
-fn told_calls<'p, B: ParseBuf<'p> + Drop>(alloc: Global, buf: B) -> Result<String, AllocError> {
-    let config = ParseConfig::<Native>::default().with_endian(Little);
+// Writes what a visitor makes of each frame, until one is refused.
+fn tell_visits<'p, B: ParseBuf<'p> + Drop, V: Visitor<'p> + Copy>(
+    alloc: Global,
+    buf: B,
+    attr: perf_event_attr,
+    visitor: V,
+) -> Result<String, AllocError>
+where
+    V::Output: Tell + Drop,
+{
+    let config = ParseConfig::<Native>::from(attr).with_endian(Little);
     let mut parser = Parser::new(alloc, buf, config);
     let mut text = String::new(alloc);
     for _ in 0..100 {
-        match parser.parse_record(Names) {
-            Ok(name) => write!(text, "{name}; ")?,
+        match parser.parse_record(visitor) {
+            Ok(output) => {
+                output.tell(&mut text)?;
+                text.push_str("; ")?;
+            }
             Err(error) => {
                 tell_error(&mut text, &error)?;
                 break;
@@ -33,11 +46,205 @@ fn told_calls<'p, B: ParseBuf<'p> + Drop>(alloc: Global, buf: B) -> Result<Strin
     Ok(text)
 }
 
-/// The mapping of a file that is named by its build id.
+fn check_visits_over<'p, B: ParseBuf<'p> + Drop, V: Visitor<'p> + Copy>(
+    rt: &(impl AllocGlobal + Abort),
+    buf: B,
+    attr: perf_event_attr,
+    visitor: V,
+    want: &str,
+)
+where
+    V::Output: Tell + Drop,
+{
+    match tell_visits(rt.alloc(), buf, attr, visitor) {
+        Ok(text) => check_same(rt, "the visits", text.as_str(), want),
+        Err(_) => panic!(rt; "no memory"),
+    }
+}
+
+// Asserts what a visitor makes of each frame, through a slice, a buffered reader and pieces.
+fn check_visits<'p, V: Visitor<'p> + Copy>(
+    rt: &(impl AllocGlobal + Abort),
+    bytes: &'p [u8],
+    attr: perf_event_attr,
+    visitor: V,
+    want: &str,
+)
+where
+    V::Output: Tell + Drop,
+{
+    check_visits_over(rt, bytes, attr, visitor, want);
+    check_visits_over(rt, PieceBuf::new(bytes, 3, false), attr, visitor, want);
+    match BufReader::with_capacity(rt.alloc(), 7, bytes) {
+        Ok(reader) => check_visits_over(rt, reader, attr, visitor, want),
+        Err(_) => panic!(rt; "no memory"),
+    }
+}
+
+impl Tell for u32 {
+    fn tell(&self, text: &mut String) -> Result<(), AllocError> {
+        write!(text, "{self}")
+    }
+}
+
+impl Tell for &str {
+    fn tell(&self, text: &mut String) -> Result<(), AllocError> {
+        text.push_str(self)
+    }
+}
+
+impl Tell for ParseResult<Record<'_>> {
+    fn tell(&self, text: &mut String) -> Result<(), AllocError> {
+        match self {
+            Ok(record) => record.tell(text),
+            Err(error) => tell_error(text, error),
+        }
+    }
+}
+
+// A mapping is 1 and any other record 0, and each visit is counted.
+#[derive(Copy, Clone)]
+struct Mappings<'v> {
+    visits: &'v Cell<u32>,
+}
+
+impl<'a> Visitor<'a> for Mappings<'_> {
+    type Output = u32;
+
+    // Nothing is said of it.
+    ghost gives = { λ seen output. ⊤ };
+
+    fn visit_unimplemented(self, _metadata: RecordMetadata) -> Self::Output {
+        self.visits.set(self.visits.get().wrapping_add(1));
+        0
+    }
+
+    fn visit_mmap(self, _held: Mmap<'a>, _metadata: RecordMetadata) -> Self::Output {
+        self.visits.set(self.visits.get().wrapping_add(1));
+        1
+    }
+
+    fn visit_lost(self, _held: Lost, metadata: RecordMetadata) -> Self::Output {
+        self.visit_unimplemented(metadata)
+    }
+
+    fn visit_comm(self, _held: Comm<'a>, metadata: RecordMetadata) -> Self::Output {
+        self.visit_unimplemented(metadata)
+    }
+
+    fn visit_exit(self, _held: Exit, metadata: RecordMetadata) -> Self::Output {
+        self.visit_unimplemented(metadata)
+    }
+
+    fn visit_throttle(self, _held: Throttle, metadata: RecordMetadata) -> Self::Output {
+        self.visit_unimplemented(metadata)
+    }
+
+    fn visit_unthrottle(self, _held: Throttle, metadata: RecordMetadata) -> Self::Output {
+        self.visit_unimplemented(metadata)
+    }
+
+    fn visit_fork(self, _held: Fork, metadata: RecordMetadata) -> Self::Output {
+        self.visit_unimplemented(metadata)
+    }
+
+    fn visit_read(self, _held: Read, metadata: RecordMetadata) -> Self::Output {
+        self.visit_unimplemented(metadata)
+    }
+
+    fn visit_sample(self, _held: Sample<'a>, metadata: RecordMetadata) -> Self::Output {
+        self.visit_unimplemented(metadata)
+    }
+
+    fn visit_mmap2(self, held: Mmap2<'a>, metadata: RecordMetadata) -> Self::Output {
+        self.visit_mmap(held.into_mmap(), metadata)
+    }
+
+    fn visit_aux(self, _held: Aux, metadata: RecordMetadata) -> Self::Output {
+        self.visit_unimplemented(metadata)
+    }
+
+    fn visit_itrace_start(self, _held: ITraceStart, metadata: RecordMetadata) -> Self::Output {
+        self.visit_unimplemented(metadata)
+    }
+
+    fn visit_lost_samples(self, _held: LostSamples, metadata: RecordMetadata) -> Self::Output {
+        self.visit_unimplemented(metadata)
+    }
+
+    fn visit_switch(self, metadata: RecordMetadata) -> Self::Output {
+        self.visit_unimplemented(metadata)
+    }
+
+    fn visit_switch_cpu_wide(self, _held: SwitchCpuWide, metadata: RecordMetadata) -> Self::Output {
+        self.visit_unimplemented(metadata)
+    }
+
+    fn visit_namespaces(self, _held: Namespaces<'a>, metadata: RecordMetadata) -> Self::Output {
+        self.visit_unimplemented(metadata)
+    }
+
+    fn visit_ksymbol(self, _held: KSymbol<'a>, metadata: RecordMetadata) -> Self::Output {
+        self.visit_unimplemented(metadata)
+    }
+
+    fn visit_bpf_event(self, _held: BpfEvent, metadata: RecordMetadata) -> Self::Output {
+        self.visit_unimplemented(metadata)
+    }
+
+    fn visit_cgroup(self, _held: CGroup<'a>, metadata: RecordMetadata) -> Self::Output {
+        self.visit_unimplemented(metadata)
+    }
+
+    fn visit_text_poke(self, _held: TextPoke<'a>, metadata: RecordMetadata) -> Self::Output {
+        self.visit_unimplemented(metadata)
+    }
+
+    fn visit_aux_output_hw_id(
+        self,
+        _held: AuxOutputHwId,
+        metadata: RecordMetadata,
+    ) -> Self::Output {
+        self.visit_unimplemented(metadata)
+    }
+
+    fn visit_unknown(self, _bytes: CowSlice<'a, u8>, metadata: RecordMetadata) -> Self::Output {
+        self.visit_unimplemented(metadata)
+    }
+}
+
+// Asserts what the visitor of mappings makes of each frame of a slice, and how many it visits.
+fn check_mappings(rt: &(impl AllocGlobal + Abort), bytes: &[u8], want: &str, count: u32) {
+    let visits = Cell::new(0);
+    let attr = perf_event_attr::default();
+    check_visits_over(rt, bytes, attr, Mappings { visits: &visits }, want);
+    check_same(rt, "how many visits", visits.get(), count);
+}
+
 pub const BY_BUILD_ID: &[u8] = b"\x0A\0\0\0\0\x40\x50\0\x01\0\0\0\x02\0\0\0\
     \0\x10\0\0\0\0\0\0\0\x20\0\0\0\0\0\0\0\0\0\0\0\0\0\0\
     \x14\0\0\0\x01\x02\x03\x04\x05\x06\x07\x08\x09\x0A\x0B\x0C\x0D\x0E\x0F\x10\x11\x12\x13\x14\
     \x05\0\0\0\x02\0\0\0\x61\x62\0\0\0\0\0\0";
+
+// The length of its build id is 21.
+const BY_LONG_BUILD_ID: &[u8] = b"\x0A\0\0\0\0\x40\x50\0\x01\0\0\0\x02\0\0\0\
+    \0\x10\0\0\0\0\0\0\0\x20\0\0\0\0\0\0\0\0\0\0\0\0\0\0\
+    \x15\0\0\0\x01\x02\x03\x04\x05\x06\x07\x08\x09\x0A\x0B\x0C\x0D\x0E\x0F\x10\x11\x12\x13\x14\
+    \x05\0\0\0\x02\0\0\0\x61\x62\0\0\0\0\0\0";
+
+#[test]
+fn what_is_left_out_goes_the_default_way(rt: HostRuntime) {
+    check_mappings(&rt, BY_BUILD_ID, "1; Eof", 1);
+    let lost_samples = b"\x0D\0\0\0\0\0\x10\0\x05\0\0\0\0\0\0\0";
+    check_mappings(&rt, lost_samples, "0; Eof", 1);
+    let switch = b"\x0E\0\0\0\0\0\x08\0";
+    check_mappings(&rt, switch, "0; Eof", 1);
+}
+
+#[test]
+fn a_refused_frame_is_not_visited(rt: HostRuntime) {
+    check_mappings(&rt, BY_LONG_BUILD_ID, "InvalidRecord", 0);
+}
 
 // The name of each call.
 #[derive(Copy, Clone)]
@@ -177,7 +384,6 @@ const FRAMES: [(u8, u8); 22] = [
     (22, 8),
 ];
 
-/// The bytes of these frames.
 pub fn zero_frames(alloc: Global) -> Result<Vec<u8>, AllocError> {
     let mut bytes = Vec::new(alloc);
     for (ty, size) in FRAMES {
@@ -188,40 +394,79 @@ pub fn zero_frames(alloc: Global) -> Result<Vec<u8>, AllocError> {
     Ok(bytes)
 }
 
-/// What is written of the calls to which these frames go.
-pub const CALLS: &str = "mmap; lost; comm; exit; throttle; unthrottle; \
-    fork; read; sample; mmap2; aux; itrace_start; \
-    lost_samples; switch; switch_cpu_wide; namespaces; ksymbol; bpf_event; \
-    cgroup; text_poke; aux_output_hw_id; unknown; Eof";
-
-#[test]
-fn each_type_has_its_call(rt: HostRuntime) -> Result<(), Fail> {
-    let bytes = zero_frames(rt.alloc())?;
-    let bytes = bytes.as_slice();
-    check_text(&rt, "a slice", told_calls(rt.alloc(), bytes), CALLS);
-    let pieces = PieceBuf::new(bytes, 3, false);
-    check_text(&rt, "pieces", told_calls(rt.alloc(), pieces), CALLS);
-    let reader = BufReader::with_capacity(rt.alloc(), 7, bytes)?;
-    check_text(&rt, "a reader", told_calls(rt.alloc(), reader), CALLS);
-    Ok(())
+// Asserts what a visitor makes of these frames.
+fn check_zero_frames(rt: &(impl AllocGlobal + Abort), want: &str) {
+    match zero_frames(rt.alloc()) {
+        Ok(bytes) => check_visits(
+            rt,
+            bytes.as_slice(),
+            perf_event_attr::default(),
+            Names,
+            want,
+        ),
+        Err(_) => panic!(rt; "no memory"),
+    }
 }
 
-/// LOST_SAMPLES, SWITCH and COMM, each with time and CPU as its sample id.
-pub const TIMED: &[u8] = b"\x0D\0\0\0\0\0\x20\0\x05\0\0\0\0\0\0\0\
+#[test]
+fn each_type_has_its_call(rt: HostRuntime) {
+    let want = "mmap; lost; comm; exit; throttle; unthrottle; \
+        fork; read; sample; mmap2; aux; itrace_start; \
+        lost_samples; switch; switch_cpu_wide; namespaces; ksymbol; bpf_event; \
+        cgroup; text_poke; aux_output_hw_id; unknown; Eof";
+    check_zero_frames(&rt, want);
+}
+
+// The time, the CPU and the type of each record, by its metadata alone.
+#[derive(Copy, Clone)]
+struct Timeline;
+
+// A moment of a timeline.
+#[derive(Copy, Clone)]
+struct Moment {
+    time: Option<u64>,
+    cpu: Option<u32>,
+    ty: u32,
+}
+
+impl Tell for Moment {
+    fn tell(&self, text: &mut String) -> Result<(), AllocError> {
+        write!(text, "{:?} {:?} {}", self.time, self.cpu, self.ty)
+    }
+}
+
+impl PartialVisitor for Timeline {
+    type Output = Moment;
+
+    // Nothing is said of it.
+    ghost gives = { λ seen output. ⊤ };
+
+    ghost left_out = { λ metadata output. ⊤ };
+
+    fn visit_unimplemented(self, metadata: RecordMetadata) -> Self::Output {
+        let id = metadata.sample_id();
+        Moment {
+            time: id.time(),
+            cpu: id.cpu(),
+            ty: metadata.ty(),
+        }
+    }
+}
+
+// LOST_SAMPLES, SWITCH and COMM, each with time and CPU as its sample id.
+const TIMED: &[u8] = b"\x0D\0\0\0\0\0\x20\0\x05\0\0\0\0\0\0\0\
     \x07\0\0\0\0\0\0\0\x03\0\0\0\0\0\0\0\
     \x0E\0\0\0\0\0\x18\0\x08\0\0\0\0\0\0\0\x02\0\0\0\0\0\0\0\
     \x03\0\0\0\0\0\x28\0\x01\0\0\0\x02\0\0\0\x61\0\0\0\0\0\0\0\
     \x09\0\0\0\0\0\0\0\x01\0\0\0\0\0\0\0";
 
-// Writes the records of four frames with sample ids of a time and a CPU.
-fn told_records<'p, B: ParseBuf<'p> + Drop>(alloc: Global, buf: B) -> Result<String, AllocError> {
-    let config = ParseConfig::<Native>::from(ids_attribute(1 << 2 | 1 << 7)).with_endian(Little);
-    let mut parser = Parser::new(alloc, buf, config);
+fn tell_timeline(alloc: Global, attr: perf_event_attr) -> Result<String, AllocError> {
+    let config = ParseConfig::<Native>::from(attr).with_endian(Little);
+    let mut parser = Parser::new(alloc, TIMED, config);
     let mut text = String::new(alloc);
     for _ in 0..4 {
-        match parser.parse_record(RecordVisitor::new(alloc)) {
-            Ok(Ok(record)) => record.tell(&mut text)?,
-            Ok(Err(error)) => tell_error(&mut text, &error)?,
+        match parser.parse_record(Partial(Timeline)) {
+            Ok(moment) => moment.tell(&mut text)?,
             Err(error) => tell_error(&mut text, &error)?,
         }
         text.push_str("; ")?;
@@ -229,8 +474,42 @@ fn told_records<'p, B: ParseBuf<'p> + Drop>(alloc: Global, buf: B) -> Result<Str
     Ok(text)
 }
 
+fn check_timeline(rt: &(impl AllocGlobal + Abort), attr: perf_event_attr, want: &str) {
+    match tell_timeline(rt.alloc(), attr) {
+        Ok(text) => check_same(rt, "the timeline", text.as_str(), want),
+        Err(_) => panic!(rt; "no memory"),
+    }
+}
+
+#[test]
+fn a_timeline_is_made_of_sample_ids(rt: HostRuntime) {
+    let want = "Some(7) Some(3) 13; Some(8) Some(2) 14; Some(9) Some(1) 3; Eof; ";
+    check_timeline(&rt, ids_attribute(1 << 2 | 1 << 7), want);
+}
+
+fn tell_records(alloc: Global, attr: perf_event_attr) -> Result<String, AllocError> {
+    let config = ParseConfig::<Native>::from(attr).with_endian(Little);
+    let mut parser = Parser::new(alloc, TIMED, config);
+    let mut text = String::new(alloc);
+    for _ in 0..4 {
+        match parser.parse_record(RecordVisitor::new(alloc)) {
+            Ok(answer) => answer.tell(&mut text)?,
+            Err(error) => tell_error(&mut text, &error)?,
+        }
+        text.push_str("; ")?;
+    }
+    Ok(text)
+}
+
+fn check_records(rt: &(impl AllocGlobal + Abort), attr: perf_event_attr, want: &str) {
+    match tell_records(rt.alloc(), attr) {
+        Ok(text) => check_same(rt, "the records", text.as_str(), want),
+        Err(_) => panic!(rt; "no memory"),
+    }
+}
+
 #[test]
 fn the_visitor_of_records_makes_them(rt: HostRuntime) {
     let want = "LostSamples 5; Switch; Comm 1 2 a; Eof; ";
-    check_text(&rt, "the records", told_records(rt.alloc(), TIMED), want);
+    check_records(&rt, ids_attribute(1 << 2 | 1 << 7), want);
 }
