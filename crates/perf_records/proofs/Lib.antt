@@ -5,3 +5,4 @@ pub mod Finishing
 pub mod Headers
 pub mod Lending
 pub mod Visiting
+pub mod Seeing

@@ -1,27 +1,14 @@
-use Rattle.std.proofs.Common.{◌∙◌, ap}
-use Rattle.perf_base.specs.Layout.{done}
-use Rattle.perf_base.specs.Took.{took_by_places}
-use Rattle.perf_base.proofs.Took.{then_take}
-use Rattle.perf_reader.specs.Meaning.{Meaning, meaning}
-use Rattle.perf_reader.proofs.Behind.{places_behind}
-use Rattle.perf_records.specs.Records.{read_is}
+use Rattle.perf_records.specs.Records.{read_is, task_read}
 use Rattle.perf_types.specs.Read.{read}
+use Rattle.perf_records.proofs.Seeing.{saw_plain, no_plain}
 use Rattle.perf_records.proofs.body.visit_read.Goals as goal
 
--- a refused READ is a refused body
 pub returns-in-Err : goal.returns-in-Err
-returns-in-Err g c =
-    let old : Meaning = meaning g.I.Input.source g.E.Endian.order c.args.reader.now in
-    let call = c.in-Err.ensures.call in record {
-      call = record {
-        config = call.config;
-        whole = call.whole;
-        told = call.told;
-        answer = λ told. let says = call.answer told in (
-          (λ kind. places_behind old.order (read old.settings) (λ v. done (read_is v)) old.source.left old.reads
-              ∙ ap (then_take (λ v left m. took_by_places old.order (done (read_is v)) left m)) (says.0 kind)),
-          (λ whole no. says.1),
-        );
-        keeps = call.keeps;
-      };
-    }
+returns-in-Err g c = record {
+  call = no_plain g.V.Visitor.gives c.args.metadata read task_read read_is c.in-Err.ensures.call;
+}
+
+pub returns-in-Ok : goal.returns-in-Ok
+returns-in-Ok g c = record {
+  call = saw_plain g.V.Visitor.gives c.args.metadata read task_read read_is c.visit_read.ensures (λ none. none) c.in-Ok.ensures.call;
+}

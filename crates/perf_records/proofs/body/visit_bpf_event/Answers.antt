@@ -1,0 +1,14 @@
+use Rattle.perf_records.specs.Records.{bpf_event_is, bpf_event_value}
+use Rattle.perf_types.specs.BpfEvent.{bpf_event}
+use Rattle.perf_records.proofs.Seeing.{saw_plain, no_plain}
+use Rattle.perf_records.proofs.body.visit_bpf_event.Goals as goal
+
+pub returns-in-Err : goal.returns-in-Err
+returns-in-Err g c = record {
+  call = no_plain g.V.Visitor.gives c.args.metadata (λ _. bpf_event) bpf_event_value bpf_event_is c.in-Err.ensures.call;
+}
+
+pub returns-in-Ok : goal.returns-in-Ok
+returns-in-Ok g c = record {
+  call = saw_plain g.V.Visitor.gives c.args.metadata (λ _. bpf_event) bpf_event_value bpf_event_is c.visit_bpf_event.ensures (λ none. none) c.in-Ok.ensures.call;
+}

@@ -1,0 +1,14 @@
+use Rattle.perf_records.specs.Records.{exit_is}
+use Rattle.perf_types.specs.Exit.{exit}
+use Rattle.perf_records.proofs.Seeing.{saw_plain, no_plain}
+use Rattle.perf_records.proofs.body.visit_exit.Goals as goal
+
+pub returns-in-Err : goal.returns-in-Err
+returns-in-Err g c = record {
+  call = no_plain g.V.Visitor.gives c.args.metadata (λ _. exit) (λ r. r) exit_is c.in-Err.ensures.call;
+}
+
+pub returns-in-Ok : goal.returns-in-Ok
+returns-in-Ok g c = record {
+  call = saw_plain g.V.Visitor.gives c.args.metadata (λ _. exit) (λ r. r) exit_is c.visit_exit.ensures (λ none. none) c.in-Ok.ensures.call;
+}
