@@ -19,20 +19,15 @@
 #![tactic(auto)]
 
 mod command;
-mod counts;
-mod streams;
-mod sums;
-#[cfg(test)]
-mod tests;
 mod words;
 
 use crate::command::{Command, OrderName};
-use crate::counts::Counts;
-use crate::streams::count_stream;
 use anyhow::{Result, bail};
 use perf_event_data::RunEnd;
 use perf_event_data::endian::{Big, Little, Native};
 use perf_event_data::parse::ParseResult;
+use perf_reports::counts::Counts;
+use perf_reports::streams::count_stream;
 use std::alloc::Global;
 use std::env;
 use std::io::{ErrorKind, Read};

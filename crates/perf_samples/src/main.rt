@@ -11,15 +11,12 @@
 ghost use Rattle.std.specs.Prelude.{◌≡◌, is_ok};
 ghost use Rattle.std.specs.List.{list_all};
 
-mod lines;
-#[cfg(test)]
-mod tests;
-
 use anyhow::{Result, bail};
 use perf_event_data::endian::Little;
 use perf_event_data::parse::{ParseBuf, ParseConfig, ParseResult, Parser};
 use perf_event_data::sys::{perf_event_attr, perf_event_header};
 use perf_event_data::{Record, RunEnd, read_records};
+use perf_reports::samples::line_of;
 use std::io::BufReader;
 use std::process::ExitCode;
 
@@ -67,7 +64,7 @@ fn print_frames(
     for (_, answer) in frames {
         match answer {
             Ok(record) => {
-                if let Some(line) = lines::line_of(rt.alloc(), record)? {
+                if let Some(line) = line_of(rt.alloc(), record)? {
                     println!(rt; "{line}")?;
                 }
             }

@@ -1,14 +1,20 @@
-//! Tests of lines and of runs: texts and statuses of streams, lines of each record, readers and
-//! writers that fail. Without its tests this crate is empty.
+//! Tests of lines, of runs and of reports: texts and statuses of streams, lines of each record,
+//! readers and writers that fail, what the small programs say. Without its tests this crate is empty.
 #![tactic(auto)]
 
 #[cfg(test)]
 mod checks;
 #[cfg(test)]
+mod counts;
+#[cfg(test)]
 mod failing;
 #[cfg(test)]
 mod records;
 #[cfg(test)]
+mod sample_lines;
+#[cfg(test)]
 mod samples;
+#[cfg(test)]
+mod task_lines;
 #[cfg(test)]
 mod texts;
