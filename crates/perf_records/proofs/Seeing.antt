@@ -11,33 +11,23 @@ use Rattle.perf_base.proofs.Took.{then_take, places_took}
 use Rattle.perf_buffers.specs.Buffer.{Source}
 use Rattle.perf_reader.specs.Calls.{Call}
 use Rattle.perf_reader.specs.Meaning.{Meaning, meaning}
-use Rattle.perf_reader.specs.Reading.{Reads, ReadsPlain, ReadsLent}
-use Rattle.perf_reader.specs.TableRuns.{ReadsBorrowed}
+use Rattle.perf_reader.specs.Reading.{Says, Reads, ReadsPlain, ReadsLent}
 use Rattle.perf_reader.specs.declared.reader.Reader.{Reader}
-use Rattle.perf_reader.proofs.Behind.{places_behind, of_plain}
+use Rattle.perf_reader.proofs.Behind.{places_behind}
 use Rattle.perf_records.specs.Metadata.{MetadataValue}
 use Rattle.perf_records.specs.Records.{RecordValue}
 use Rattle.perf_records.specs.Visits.{Event, event, Visits, IsSample}
 
 module _ {I E : Type 0} {source : I → Source} {order : E → Order} where
-  -- a call of which more is said than the layout, and the same without that
-  pub of_lent : {X A : Type 0} {a b : Reader I E} {seen : Result X ErrorKind} (p : Configuration → Parts A) (view : X → A) (Borrowed : X → Type 0) →
-      Call source order (ReadsLent p view Borrowed) a seen b → Call source order (Reads p view) a seen b
-  of_lent {X} {A} {a} {b} {seen} p view Borrowed call = record {
+  -- a call of which less is said
+  pub of_said : {X : Type 0} {P Q : Says X} {a b : Reader I E} {seen : Result X ErrorKind} →
+      (P (meaning source order a) seen (meaning source order b) → Q (meaning source order a) seen (meaning source order b)) →
+      Call source order P a seen b → Call source order Q a seen b
+  of_said less call = record {
     config = call.config;
     whole = call.whole;
     told = call.told;
-    answer = λ t. (call.answer t).0;
-    keeps = call.keeps;
-  }
-
-  pub of_borrowed : {X A : Type 0} {a b : Reader I E} {seen : Result X ErrorKind} (p : Configuration → Parts A) (view : X → A) (Borrowed : X → Type 0) →
-      Call source order (ReadsBorrowed p view Borrowed) a seen b → Call source order (Reads p view) a seen b
-  of_borrowed {X} {A} {a} {b} {seen} p view Borrowed call = record {
-    config = call.config;
-    whole = call.whole;
-    told = call.told;
-    answer = λ t. (call.answer t).0;
+    answer = λ t. less (call.answer t);
     keeps = call.keeps;
   }
 
@@ -89,11 +79,11 @@ module _ {I E O : Type 0} {source : I → Source} {order : E → Order} (gives :
   pub saw_plain : {X A : Type 0} {a b : Reader I E} {held : X} {output : O} (p : Configuration → Parts A) (view : X → A) (is : A → RecordValue) →
       gives (event (is (view held)) true m) output → (IsSample (is (view held)) → ⊥) → Call source order (ReadsPlain p view) a (Ok held) b →
       Call source order (Visits gives m (λ c. mapped is (p c)) false) a (Ok output) b
-  saw_plain p view is given none call = visited p view is true false given (λ t w. refl) (λ is. absurd (none is)) (of_plain p view call)
+  saw_plain p view is given none call = visited p view is true false given (λ t w. refl) (λ is. absurd (none is)) (of_said (λ says. says.0) call)
 
   pub no_plain : {X A : Type 0} {a b : Reader I E} {e : ErrorKind} (p : Configuration → Parts A) (view : X → A) (is : A → RecordValue) →
       Call source order (ReadsPlain p view) a (Err e) b → Call source order (Visits gives m (λ c. mapped is (p c)) false) a (Err e) b
-  no_plain p view is call = unvisited p view is false (λ t w unwanted. (call.answer t).1) (of_plain p view call)
+  no_plain p view is call = unvisited p view is false (λ t w unwanted. (call.answer t).1) (of_said (λ says. says.0) call)
 
   -- one with byte strings, which are lent or not
   pub saw_lent : {X A : Type 0} {Borrowed : X → Type 0} {a b : Reader I E} {held : X} {output : O} (p : Configuration → Parts A) (view : X → A) (is : A → RecordValue) (lent : X → Bool) →
@@ -101,8 +91,8 @@ module _ {I E O : Type 0} {source : I → Source} {order : E → Order} (gives :
       Call source order (ReadsLent p view Borrowed) a (Ok held) b →
       Call source order (Visits gives m (λ c. mapped is (p c)) false) a (Ok output) b
   saw_lent {held} p view is lent given lends none call =
-      visited p view is (lent held) false given (λ t w. lends ((call.answer t).1 w).0) (λ is. absurd (none is)) (of_lent p view _ call)
+      visited p view is (lent held) false given (λ t w. lends ((call.answer t).1 w).0) (λ is. absurd (none is)) (of_said (λ says. says.0) call)
 
   pub no_lent : {X A : Type 0} {Borrowed : X → Type 0} {a b : Reader I E} {e : ErrorKind} (p : Configuration → Parts A) (view : X → A) (is : A → RecordValue) →
       Call source order (ReadsLent p view Borrowed) a (Err e) b → Call source order (Visits gives m (λ c. mapped is (p c)) false) a (Err e) b
-  no_lent p view is call = unvisited p view is false (λ t w unwanted. ((call.answer t).1 w).1) (of_lent p view _ call)
+  no_lent p view is call = unvisited p view is false (λ t w unwanted. ((call.answer t).1 w).1) (of_said (λ says. says.0) call)
