@@ -243,12 +243,30 @@ fn tell_found(text: &mut String, answer: ParseResult<Record<'_>>) -> Result<(), 
     }
 }
 
+/// The next record.
+pub fn next_record<'p, B: ParseBuf<'p>, E: Endian>(
+    parser: &mut Parser<B, E>,
+) -> ParseResult<Record<'p>> {
+    parser.parse()
+}
+
+// A record, or the kind of its refusal.
+fn tell_record<'p, B: ParseBuf<'p>, E: Endian>(
+    text: &mut String,
+    parser: &mut Parser<B, E>,
+) -> Result<(), AllocError> {
+    match next_record(parser) {
+        Ok(record) => record.tell(text),
+        Err(error) => tell_error(text, &error),
+    }
+}
+
 // A record, or the kind and the message of its refusal.
 fn tell_why<'p, B: ParseBuf<'p>, E: Endian>(
     text: &mut String,
     parser: &mut Parser<B, E>,
 ) -> Result<(), AllocError> {
-    match parser.parse::<Record<'p>>() {
+    match next_record(parser) {
         Ok(record) => record.tell(text),
         Err(error) => write!(text, "{:?} {:?}", error.kind(), error.message()),
     }
@@ -258,17 +276,24 @@ fn tell_spaces_of_record<'p, B: ParseBuf<'p>, E: Endian>(
     text: &mut String,
     parser: &mut Parser<B, E>,
 ) -> Result<(), AllocError> {
-    match parser.parse::<Record<'p>>() {
+    match next_record(parser) {
         Ok(record) => tell_spaces(text, &record),
         Err(error) => tell_error(text, &error),
     }
+}
+
+/// The next group of counters.
+pub fn next_group<'p, B: ParseBuf<'p>, E: Endian>(
+    parser: &mut Parser<B, E>,
+) -> ParseResult<ReadGroup<'p>> {
+    parser.parse()
 }
 
 fn tell_both_ends<'p, B: ParseBuf<'p>, E: Endian>(
     text: &mut String,
     parser: &mut Parser<B, E>,
 ) -> Result<(), AllocError> {
-    match parser.parse::<ReadGroup<'p>>() {
+    match next_group(parser) {
         Ok(group) => tell_from_both_ends(text, &group),
         Err(error) => tell_error(text, &error),
     }
@@ -278,7 +303,7 @@ fn tell_group_of<'p, B: ParseBuf<'p>, E: Endian>(
     text: &mut String,
     parser: &mut Parser<B, E>,
 ) -> Result<(), AllocError> {
-    match parser.parse::<ReadGroup<'p>>() {
+    match next_group(parser) {
         Ok(group) => tell_group(text, group),
         Err(error) => tell_error(text, &error),
     }
@@ -305,6 +330,10 @@ fn tell_body<'p, B: ParseBuf<'p>, E: Endian>(
     }
 }
 
+fn tell_config<E>(text: &mut String, config: &ParseConfig<E>) -> Result<(), AllocError> {
+    write!(text, "{} {}", config.sample_id_all(), config.misc())
+}
+
 fn tell_beside<'p, B: ParseBuf<'p>, E: Endian>(
     text: &mut String,
     parser: &mut Parser<B, E>,
@@ -313,11 +342,8 @@ fn tell_beside<'p, B: ParseBuf<'p>, E: Endian>(
     match ask {
         Ask::Attribute => tell_next::<B, E, perf_event_attr>(text, parser),
         Ask::SampleId => tell_next::<B, E, SampleId>(text, parser),
-        Ask::Config => {
-            let config = parser.config();
-            write!(text, "{} {}", config.sample_id_all(), config.misc())
-        }
-        Ask::Record => tell_next::<B, E, Record<'p>>(text, parser),
+        Ask::Config => tell_config(text, parser.config()),
+        Ask::Record => tell_record(text, parser),
         Ask::RecordBehindHeader => tell_behind_header(text, parser),
         Ask::RecordOrWhy => tell_why(text, parser),
         Ask::Spaces => tell_spaces_of_record(text, parser),

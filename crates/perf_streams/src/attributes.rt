@@ -3,8 +3,8 @@
 use crate::asks::{Ask, check_asks};
 use crate::check;
 use bitflags::Flags;
-use perf_event_data::endian::{Little, Native};
-use perf_event_data::parse::{ParseBuf, ParseConfig, ParseError, Parser};
+use perf_event_data::endian::{Endian, Little, Native};
+use perf_event_data::parse::{ParseBuf, ParseConfig, ParseError, ParseResult, Parser};
 use perf_event_data::sys::perf_event_attr;
 use perf_event_data::{PieceBuf, Record, Run, RunEnd, read_records};
 use std::alloc::{AllocError, Global};
@@ -40,6 +40,13 @@ fn bytes_of(
     Ok(bytes)
 }
 
+// The next attribute.
+fn next_attribute<'p, B: ParseBuf<'p>, E: Endian>(
+    parser: &mut Parser<B, E>,
+) -> ParseResult<perf_event_attr> {
+    parser.parse()
+}
+
 // An attribute of this size, and then five lost samples under its configuration.
 fn check_behind<'p, B: ParseBuf<'p> + Drop>(
     rt: &impl Abort,
@@ -48,7 +55,7 @@ fn check_behind<'p, B: ParseBuf<'p> + Drop>(
     size: u8,
 ) -> Result<(), Fail> {
     let mut parser = Parser::new(alloc, buf, ParseConfig::<Little>::default());
-    let attr = parser.parse::<perf_event_attr>()?;
+    let attr = next_attribute(&mut parser)?;
     check!(rt; attr.size, u32::from(size));
     let config = ParseConfig::<Native>::from(attr).with_endian(Little);
     let mut parser = parser.reconfigure(config);
@@ -135,25 +142,27 @@ fn bytes_behind_the_known_fields_must_be_zero(rt: HostRuntime) -> Result<(), Fai
     Ok(())
 }
 
+// A clock of -1, and what stands behind it, with bytes that say nothing.
+const CLOCK: [(usize, u8); 14] = [
+    (88, 2),
+    (92, 0xFF),
+    (93, 0xFF),
+    (94, 0xFF),
+    (95, 0xFF),
+    (96, 4),
+    (104, 5),
+    (108, 6),
+    (110, 0xAA),
+    (111, 0xBB),
+    (112, 7),
+    (116, 0xCC),
+    (120, 8),
+    (128, 9),
+];
+
 #[test]
 fn a_clock_may_be_negative_and_some_bytes_say_nothing(rt: HostRuntime) -> Result<(), Fail> {
-    let marks = [
-        (88, 2),
-        (92, 0xFF),
-        (93, 0xFF),
-        (94, 0xFF),
-        (95, 0xFF),
-        (96, 4),
-        (104, 5),
-        (108, 6),
-        (110, 0xAA),
-        (111, 0xBB),
-        (112, 7),
-        (116, 0xCC),
-        (120, 8),
-        (128, 9),
-    ];
-    let bytes = bytes_of(rt.alloc(), 136, 136, &marks)?;
+    let bytes = bytes_of(rt.alloc(), 136, 136, &CLOCK)?;
     check_asks(
         &rt,
         &bytes,
@@ -163,29 +172,35 @@ fn a_clock_may_be_negative_and_some_bytes_say_nothing(rt: HostRuntime) -> Result
     Ok(())
 }
 
-#[test]
-fn a_configuration_is_what_the_attribute_says(rt: HostRuntime) -> Result<(), Fail> {
-    let marks = [
-        (24, 7),
-        (32, 0x41),
-        (42, 4),
-        (74, 2),
-        (80, 0x0F),
-        (96, 0xF0),
-    ];
-    let bytes = bytes_of(rt.alloc(), 104, 104, &marks)?;
-    let mut parser = Parser::new(
-        rt.alloc(),
-        bytes.as_slice(),
-        ParseConfig::<Little>::default(),
-    );
-    let config = ParseConfig::<Native>::from(parser.parse::<perf_event_attr>()?);
+// What a configuration is made of.
+const CONFIGURED: [(usize, u8); 6] = [
+    (24, 7),
+    (32, 0x41),
+    (42, 4),
+    (74, 2),
+    (80, 0x0F),
+    (96, 0xF0),
+];
+
+fn check_configured<E>(rt: &impl Abort, config: &ParseConfig<E>) {
     check!(rt; config.read_format().bits(), 0x21);
     check!(rt; config.sample_type().bits(), 7);
     check!(rt; config.sample_id_all());
     check!(rt; config.branch_hw_index());
     check!(rt; (config.regs_user(), config.regs_intr()), (0x0F, 0xF0));
     check!(rt; config.misc(), 0);
+}
+
+#[test]
+fn a_configuration_is_what_the_attribute_says(rt: HostRuntime) -> Result<(), Fail> {
+    let bytes = bytes_of(rt.alloc(), 104, 104, &CONFIGURED)?;
+    let mut parser = Parser::new(
+        rt.alloc(),
+        bytes.as_slice(),
+        ParseConfig::<Little>::default(),
+    );
+    let config = ParseConfig::<Native>::from(next_attribute(&mut parser)?);
+    check_configured(&rt, &config);
     let parser = parser.reconfigure(config);
     check!(rt; parser.config().sample_id_all());
     let parser = parser.reconfigure(ParseConfig::<Little>::default());
@@ -196,7 +211,7 @@ fn a_configuration_is_what_the_attribute_says(rt: HostRuntime) -> Result<(), Fai
 // What the refusal of an attribute says.
 fn refusal(alloc: Global, bytes: &[u8]) -> Option<ParseError> {
     let mut parser = Parser::new(alloc, bytes, ParseConfig::<Little>::default());
-    parser.parse::<perf_event_attr>().err()
+    next_attribute(&mut parser).err()
 }
 
 fn check_refusal(rt: &impl Abort, alloc: Global, bytes: &[u8], text: &str) -> Result<(), Fail> {

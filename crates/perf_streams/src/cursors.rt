@@ -33,6 +33,15 @@ fn check_own<'p, B: ParseBuf<'p>>(rt: &impl Abort, alloc: Global, buf: &mut B) -
     check!(rt; cursor.as_slice().is_none());
     check!(rt; cursor.remaining_hint(), Some(1));
     check!(rt; cursor.chunk()?.as_bytes(), b"c".as_slice());
+    check_behind(rt, alloc, buf)
+}
+
+// Behind it are two bytes, which a cursor of three takes.
+fn check_behind<'p, B: ParseBuf<'p>>(
+    rt: &impl Abort,
+    alloc: Global,
+    buf: &mut B,
+) -> Result<(), Fail> {
     check!(rt; buf.chunk()?.as_bytes().first().copied(), Some(b'd'));
     let refused = ParseBufCursor::new(alloc, buf, 3).map_err(|error| error.kind());
     check!(rt; matches!(refused, Err(ErrorKind::Eof)));

@@ -1,9 +1,9 @@
 //! What `{:?}` shows of records.
 
+use crate::asks::next_record;
 use crate::checks::check_same;
 use crate::told::tell_error;
 use crate::visits::{BY_BUILD_ID, zero_frames};
-use perf_event_data::Record;
 use perf_event_data::endian::Little;
 use perf_event_data::parse::{ParseConfig, Parser};
 use std::alloc::{AllocError, Global};
@@ -13,7 +13,7 @@ fn debug_texts(alloc: Global, bytes: &[u8]) -> Result<String, AllocError> {
     let mut parser = Parser::new(alloc, bytes, ParseConfig::<Little>::default());
     let mut text = String::new(alloc);
     for _ in 0..23 {
-        match parser.parse::<Record<'_>>() {
+        match next_record(&mut parser) {
             Ok(record) => write!(text, "{record:?}; ")?,
             Err(error) => {
                 tell_error(&mut text, &error)?;

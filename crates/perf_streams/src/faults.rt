@@ -4,12 +4,14 @@ ghost use Rattle.std.specs.Prelude.{◌≡◌, true, false, None, Some, take, na
 
 use crate::buffers::tell;
 use crate::check;
+use crate::checks::check_same;
 use anyhow::anyhow;
 use perf_event_data::endian::Little;
 use perf_event_data::parse::{
     ErrorKind, ParseBuf, ParseBufChunk, ParseConfig, ParseError, ParseResult, Parser,
 };
 use perf_event_data::{RunEnd, read_records};
+use std::alloc::Global;
 use std::io;
 use std::io::{BufReader, Read};
 use std::test::Fail;
@@ -50,6 +52,17 @@ const IO_KINDS: [io::ErrorKind; 3] = [
     io::ErrorKind::Interrupted,
 ];
 
+// The runs over a faulty reader, read ahead into so many bytes, with these limits.
+fn told_of(
+    alloc: Global,
+    reader: Faulty,
+    capacity: usize,
+    limits: &[usize],
+) -> Result<String, Fail> {
+    let reader = BufReader::with_capacity(alloc, capacity, reader)?;
+    Ok(tell(alloc, reader, Little, limits)?)
+}
+
 #[test]
 fn a_failing_reader_ends_the_run_behind_whole_frames(rt: HostRuntime) -> Result<(), Fail> {
     for n in 0..33 {
@@ -66,9 +79,8 @@ fn a_failing_reader_ends_the_run_behind_whole_frames(rt: HostRuntime) -> Result<
                     kind,
                     once: false,
                 };
-                let reader = BufReader::with_capacity(rt.alloc(), capacity, reader)?;
-                let text = tell(rt.alloc(), reader, Little, &[10])?;
-                assert_eq!(rt; text.as_str(), want, "after {n} bytes");
+                let text = told_of(rt.alloc(), reader, capacity, &[10])?;
+                check_same(&rt, "the runs", text.as_str(), want);
             }
         }
     }
@@ -85,10 +97,9 @@ fn a_run_goes_on_behind_a_reader_that_failed_once(rt: HostRuntime) -> Result<(),
                 kind,
                 once: true,
             };
-            let reader = BufReader::with_capacity(rt.alloc(), capacity, reader)?;
-            let text = tell(rt.alloc(), reader, Little, &[10, 10])?;
+            let text = told_of(rt.alloc(), reader, capacity, &[10, 10])?;
             let want = "13 0 16 LostSamples 5; fault External | 13 0 16 LostSamples 6; done";
-            assert_eq!(rt; text.as_str(), want, "a reader of {capacity}");
+            check_same(&rt, "the runs", text.as_str(), want);
         }
     }
     Ok(())

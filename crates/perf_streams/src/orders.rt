@@ -179,9 +179,16 @@ fn check_refused_body<'p, B: ParseBuf<'p> + Drop>(
         .parse_metadata_with_header(header)
         .map_err(|error| error.kind());
     check!(rt; matches!(refused, Err(ErrorKind::OutOfMemory)));
+    check_seven_is_left(rt, &mut parser)
+}
+
+// All that is left is a 7 of eight bytes.
+fn check_seven_is_left<'p, B: ParseBuf<'p>, E: Endian>(
+    rt: &impl Abort,
+    parser: &mut Parser<B, E>,
+) -> Result<(), Fail> {
     check!(rt; parser.parse_u64()?, 7);
-    let rest = parser.parse_rest()?;
-    check!(rt; rest.is_empty());
+    check!(rt; parser.parse_rest()?.is_empty());
     Ok(())
 }
 

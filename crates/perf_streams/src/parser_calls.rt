@@ -33,11 +33,17 @@ fn bytes_are_as_many_as_asked_for(rt: HostRuntime) {
 }
 
 #[test]
-fn bytes_are_borrowed_over_a_slice_alone(rt: HostRuntime) -> Result<(), Fail> {
+fn bytes_are_borrowed_over_a_slice(rt: HostRuntime) -> Result<(), Fail> {
     let bytes: &[u8] = b"\x01\x02\x03\0\0";
     let mut parser = Parser::new(rt.alloc(), bytes, ParseConfig::<Little>::default());
     check!(rt; matches!(parser.parse_bytes(2)?, CowSlice::Borrowed(&[1, 2])));
     check!(rt; matches!(parser.parse_rest_trim_nul()?, CowSlice::Borrowed(&[3])));
+    Ok(())
+}
+
+#[test]
+fn bytes_are_owned_over_a_reader(rt: HostRuntime) -> Result<(), Fail> {
+    let bytes: &[u8] = b"\x01\x02\x03\0\0";
     let reader = BufReader::with_capacity(rt.alloc(), 7, bytes)?;
     let mut parser = Parser::new(rt.alloc(), reader, ParseConfig::<Little>::default());
     check!(rt; matches!(parser.parse_bytes(2)?, CowSlice::Owned(_)));
@@ -84,7 +90,11 @@ impl<'p, B: ParseBuf<'p>> Check<'p, B> for Closures {
 #[test]
 fn a_closure_parses_what_it_is_asked_to(rt: HostRuntime) -> Result<(), Fail> {
     let bytes = b"\x44\0\0\0\0\0\x0D\0\x01\x02\x03\x04\x05";
-    check_through::<Closures>(&rt, rt.alloc(), bytes)?;
+    check_through::<Closures>(&rt, rt.alloc(), bytes)
+}
+
+#[test]
+fn a_closure_parses_a_slice(rt: HostRuntime) -> Result<(), Fail> {
     let bytes: &[u8] = b"\x01\x02\x03";
     let mut parser = Parser::new(rt.alloc(), bytes, ParseConfig::<Little>::default());
     check!(rt; parser.parse_with(|parser| parser.parse_u8())?, 1);
@@ -92,6 +102,12 @@ fn a_closure_parses_what_it_is_asked_to(rt: HostRuntime) -> Result<(), Fail> {
         parser.parse_if_with(false, |parser| parser.parse_u8())?,
         None
     );
+    Ok(())
+}
+
+#[test]
+fn a_closure_parses_a_reader(rt: HostRuntime) -> Result<(), Fail> {
+    let bytes: &[u8] = b"\x01\x02\x03";
     let reader = BufReader::with_capacity(rt.alloc(), 1, bytes)?;
     let mut parser = Parser::new(rt.alloc(), reader, ParseConfig::<Little>::default());
     check!(rt; parser.parse_with(|parser| parser.parse_u16())?, 0x0201);

@@ -1,6 +1,6 @@
 //! Reads of counters, alone and in groups.
 
-use crate::asks::{Ask, check_asks_under};
+use crate::asks::{Ask, check_asks_under, next_group};
 use crate::buffers::check_everywhere_behind;
 use crate::check;
 use perf_event_data::endian::Little;
@@ -237,10 +237,10 @@ fn a_read_format_is_no_groups_or_is_unknown(rt: HostRuntime) {
 fn an_entry_with_the_numbers_of_another_group(rt: HostRuntime) -> Result<(), Fail> {
     let bytes = bytes_of(rt.alloc(), &[1, 5, 1, 8, 9])?;
     let mut parser = Parser::new(rt.alloc(), bytes.as_slice(), with_format(GROUP));
-    let values = parser.parse::<ReadGroup>()?;
+    let values = next_group(&mut parser)?;
     let entry = values.get(0).ok_or("no entry")?;
     let mut parser = parser.reconfigure(with_format(GROUP | ID));
-    let with_ids = parser.parse::<ReadGroup>()?;
+    let with_ids = next_group(&mut parser)?;
     let read = ReadValue::from_group_and_entry(&with_ids, &entry);
     check!(rt; (read.value(), read.id(), read.lost()), (5, Some(0), None));
     check!(rt; (read.time_enabled(), read.time_running()), (None, None));
@@ -268,6 +268,10 @@ fn a_refused_read_says_why(rt: HostRuntime) {
             Err(error) => check!(rt; error.message(), Some(message)),
         }
     }
+}
+
+#[test]
+fn a_refused_group_says_why(rt: HostRuntime) {
     let too_large = "number of elements in group read was too large for data type";
     let most = [0xFF; 8];
     for (read_format, message) in [
@@ -277,7 +281,7 @@ fn a_refused_read_says_why(rt: HostRuntime) {
         (GROUP | ID, too_large),
     ] {
         let mut parser = Parser::new(rt.alloc(), most.as_slice(), with_format(read_format));
-        match parser.parse::<ReadGroup>() {
+        match next_group(&mut parser) {
             Ok(_) => panic!(rt; "not refused"),
             Err(error) => check!(rt; error.message(), Some(message)),
         }

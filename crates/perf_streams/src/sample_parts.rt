@@ -188,6 +188,11 @@ fn parser_of(alloc: Global, bytes: &[u8], attr: perf_event_attr) -> Parser<&[u8]
     Parser::new(alloc, bytes, config)
 }
 
+// The sample of a body.
+fn sample_of(alloc: Global, bytes: &[u8], attr: perf_event_attr) -> ParseResult<Sample<'_>> {
+    parser_of(alloc, bytes, attr).parse()
+}
+
 // The message of a refused sample, if it has one.
 fn told_message(
     alloc: Global,
@@ -196,7 +201,7 @@ fn told_message(
 ) -> Result<String, AllocError> {
     let mut bytes = Vec::new(alloc);
     put_parts(&mut bytes, false, parts)?;
-    match parser_of(alloc, &bytes, attr).parse::<Sample>() {
+    match sample_of(alloc, &bytes, attr) {
         Ok(_) => format!(in alloc; "not refused"),
         Err(error) => format!(in alloc; "{:?} {:?}", error.kind(), error.message()),
     }
@@ -263,7 +268,7 @@ fn told_group(alloc: Global, sample: &Sample<'_>) -> ParseResult<String> {
 }
 
 fn told_by_id(alloc: Global, bytes: &[u8]) -> ParseResult<String> {
-    match parser_of(alloc, bytes, attribute(READ, 0x0C)).parse::<Sample>() {
+    match sample_of(alloc, bytes, attribute(READ, 0x0C)) {
         Ok(sample) => told_group(alloc, &sample),
         Err(error) => Err(error),
     }

@@ -1,6 +1,6 @@
 //! Values, frames and refusals, through slices, readers and pieces.
 
-use crate::asks::{Ask, check_asks, check_asks_under};
+use crate::asks::{Ask, check_asks, check_asks_under, next_record};
 use crate::check;
 use crate::told::{Tell, tell_lent};
 use perf_event_data::Record;
@@ -112,7 +112,7 @@ fn an_attribute_of_another_size_is_refused(rt: HostRuntime) -> Result<(), Fail> 
 fn text_behind(alloc: Global, count: usize) -> Result<String, Fail> {
     let mut parser = Parser::new(alloc, FRAMES, ParseConfig::<Little>::default());
     parser.parse_bytes(count)?;
-    let record = parser.parse::<Record<'_>>()?;
+    let record = next_record(&mut parser)?;
     let mut text = String::new(alloc);
     tell_lent(&mut text, &record)?;
     record.tell(&mut text)?;
