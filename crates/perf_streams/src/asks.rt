@@ -139,6 +139,7 @@ fn tell_slice<'p, B: ParseBuf<'p>, E: Endian>(
     }
 }
 
+// Numbers by calls of their own, and as types.
 fn tell_simple<'p, B: ParseBuf<'p>, E: Endian>(
     text: &mut String,
     parser: &mut Parser<B, E>,
@@ -153,6 +154,17 @@ fn tell_simple<'p, B: ParseBuf<'p>, E: Endian>(
         Ask::NextU16 => tell_number::<B, E, u16>(text, parser),
         Ask::NextU32 => tell_number::<B, E, u32>(text, parser),
         Ask::NextU64 => tell_number::<B, E, u64>(text, parser),
+        _ => tell_other(text, parser, ask),
+    }
+}
+
+// Arrays of bytes, and numbers under a condition.
+fn tell_other<'p, B: ParseBuf<'p>, E: Endian>(
+    text: &mut String,
+    parser: &mut Parser<B, E>,
+    ask: Ask,
+) -> Result<(), AllocError> {
+    match ask {
         Ask::NoBytes => tell_value::<B, E, [u8; 0]>(text, parser),
         Ask::OneByte => tell_value::<B, E, [u8; 1]>(text, parser),
         Ask::TwoBytes => tell_value::<B, E, [u8; 2]>(text, parser),

@@ -21,16 +21,24 @@ fn tell_with_clone(
     record.tell(&mut told)?;
     text.push_str(told.as_str())?;
     match record.clone(alloc) {
-        Ok(copy) => {
-            let mut again = String::new(alloc);
-            copy.tell(&mut again)?;
-            if again != told {
-                write!(text, " and not {again}")?;
-            }
-            Ok(())
-        }
+        Ok(copy) => tell_if_other(alloc, text, &copy, told.as_str()),
         Err(error) => tell_error(text, &error),
     }
+}
+
+// Writes what a copy says where it is not this.
+fn tell_if_other(
+    alloc: Global,
+    text: &mut String,
+    copy: &Record<'_>,
+    told: &str,
+) -> Result<(), AllocError> {
+    let mut again = String::new(alloc);
+    copy.tell(&mut again)?;
+    if again.as_str() != told {
+        write!(text, " and not {again}")?;
+    }
+    Ok(())
 }
 
 // Writes each frame of a run as `type misc size answer; `, and then how the run ended.

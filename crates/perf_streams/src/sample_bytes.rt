@@ -90,6 +90,18 @@ fn tell_left<'p, B: ParseBuf<'p>, E: Endian>(
     }
 }
 
+fn tell_body<'p, B: ParseBuf<'p>, E: Endian>(
+    text: &mut String,
+    parser: &mut Parser<B, E>,
+    left: usize,
+) -> Result<(), AllocError> {
+    tell_next(text, parser)?;
+    if text.starts_with("Sample") {
+        tell_left(text, parser, left)?;
+    }
+    Ok(())
+}
+
 // What a parser says of a body. Behind a sample so many bytes are left.
 fn told<'p, B: ParseBuf<'p> + Drop, E: Endian>(
     alloc: Global,
@@ -101,10 +113,7 @@ fn told<'p, B: ParseBuf<'p> + Drop, E: Endian>(
     let config = ParseConfig::<Native>::from(attr).with_endian(endian);
     let mut parser = Parser::new(alloc, buf, config);
     let mut text = String::new(alloc);
-    tell_next(&mut text, &mut parser)?;
-    if text.starts_with("Sample") {
-        tell_left(&mut text, &mut parser, left)?;
-    }
+    tell_body(&mut text, &mut parser, left)?;
     Ok(text)
 }
 
@@ -241,14 +250,21 @@ pub fn check_sample_before(
     left: usize,
     want: &str,
 ) {
-    for is_big in [false, true] {
-        let mut body = Vec::new(rt.alloc());
-        match put_parts(&mut body, is_big, parts) {
-            Ok(()) if is_big => check_big(rt, attr, &body, left, want),
-            Ok(()) => check_little(rt, attr, &body, left, want),
-            Err(_) => panic!(rt; "no memory"),
+    match bodies_of(rt.alloc(), parts) {
+        Ok((little, big)) => {
+            check_little(rt, attr, &little, left, want);
+            check_big(rt, attr, &big, left, want);
         }
+        Err(_) => panic!(rt; "no memory"),
     }
+}
+
+// The bytes of a body in both orders.
+fn bodies_of(alloc: Global, parts: &[Part]) -> Result<(Vec<u8>, Vec<u8>), AllocError> {
+    let (mut little, mut big) = (Vec::new(alloc), Vec::new(alloc));
+    put_parts(&mut little, false, parts)?;
+    put_parts(&mut big, true, parts)?;
+    Ok((little, big))
 }
 
 /// The same of a body that is a sample whole.

@@ -293,11 +293,18 @@ fn the_entries_of_a_sample_have_ids(rt: HostRuntime) {
 
 fn told_record(alloc: Global, fields: SampleFields<'_>) -> ParseResult<String> {
     let mut text = String::new(alloc);
-    match Record::from_sample(alloc, Sample::from_fields(fields))? {
-        Record::Sample(sample) => tell_sample(&mut text, &sample)?,
-        _ => text.push_str("not SAMPLE")?,
-    }
+    tell_if_sample(
+        &mut text,
+        &Record::from_sample(alloc, Sample::from_fields(fields))?,
+    )?;
     Ok(text)
+}
+
+fn tell_if_sample(text: &mut String, record: &Record<'_>) -> Result<(), AllocError> {
+    match record {
+        Record::Sample(sample) => tell_sample(text, sample),
+        _ => text.push_str("not SAMPLE"),
+    }
 }
 
 #[test]

@@ -219,19 +219,26 @@ impl Tell for Record<'_> {
             Record::Lost(r) => r.tell(text),
             Record::Comm(r) => r.tell(text),
             Record::Exit(r) => tell_after(text, "Exit ", r),
-            Record::Throttle(r) => tell_after(text, "Throttle ", r),
-            Record::Unthrottle(r) => tell_after(text, "Unthrottle ", r),
             Record::Fork(r) => tell_after(text, "Fork ", r),
             Record::Read(r) => r.tell(text),
             Record::Sample(r) => tell_sample(text, r),
             Record::Mmap2(r) => r.tell(text),
-            Record::LostSamples(r) => r.tell(text),
-            Record::Switch => text.push_str("Switch"),
-            Record::SwitchCpuWide(r) => r.tell(text),
-            Record::Namespaces(r) => r.tell(text),
-            Record::KSymbol(r) => r.tell(text),
-            _ => tell_other_record(text, self),
+            _ => tell_later_record(text, self),
         }
+    }
+}
+
+// Those whose types come behind SAMPLE but for MMAP2, and both ends of a throttle.
+fn tell_later_record(text: &mut String, record: &Record<'_>) -> Result<(), AllocError> {
+    match record {
+        Record::Throttle(r) => tell_after(text, "Throttle ", r),
+        Record::Unthrottle(r) => tell_after(text, "Unthrottle ", r),
+        Record::LostSamples(r) => r.tell(text),
+        Record::Switch => text.push_str("Switch"),
+        Record::SwitchCpuWide(r) => r.tell(text),
+        Record::Namespaces(r) => r.tell(text),
+        Record::KSymbol(r) => r.tell(text),
+        _ => tell_other_record(text, record),
     }
 }
 
@@ -325,16 +332,21 @@ pub fn tell_group(text: &mut String, group: ReadGroup<'_>) -> Result<(), AllocEr
         group.time_running()
     )?;
     tell_entries(text, &group)?;
+    tell_found(text, &group)?;
+    match ReadValue::try_from(group) {
+        Ok(_) => text.push_str(", one"),
+        Err(_) => text.push_str(", not one"),
+    }
+}
+
+fn tell_found(text: &mut String, group: &ReadGroup<'_>) -> Result<(), AllocError> {
     for place in [0, 1, 2] {
         write!(text, " {:?}", value_of(group.get(place)))?;
     }
     for id in [0xBD, 0xBE] {
         write!(text, ", of {id} {:?}", value_of(group.get_by_id(id)))?;
     }
-    match ReadValue::try_from(group) {
-        Ok(_) => text.push_str(", one"),
-        Err(_) => text.push_str(", not one"),
-    }
+    Ok(())
 }
 
 fn tell_entries(text: &mut String, group: &ReadGroup<'_>) -> Result<(), AllocError> {

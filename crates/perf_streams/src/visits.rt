@@ -5,7 +5,7 @@ ghost use Rattle.std.specs.Prelude.{⊤};
 use crate::checks::check_same;
 use crate::metadata::ids_attribute;
 use crate::told::{Tell, tell_error};
-use perf_event_data::endian::{Little, Native};
+use perf_event_data::endian::{Endian, Little, Native};
 use perf_event_data::parse::{ParseBuf, ParseConfig, ParseResult, Parser};
 use perf_event_data::sys::perf_event_attr;
 use perf_event_data::{
@@ -492,13 +492,22 @@ fn tell_records(alloc: Global, attr: perf_event_attr) -> Result<String, AllocErr
     let mut parser = Parser::new(alloc, TIMED, config);
     let mut text = String::new(alloc);
     for _ in 0..4 {
-        match parser.parse_record(RecordVisitor::new(alloc)) {
-            Ok(answer) => answer.tell(&mut text)?,
-            Err(error) => tell_error(&mut text, &error)?,
-        }
-        text.push_str("; ")?;
+        tell_visited(alloc, &mut text, &mut parser)?;
     }
     Ok(text)
+}
+
+// What the visitor of records makes of the next frame.
+fn tell_visited<'p, B: ParseBuf<'p>, E: Endian>(
+    alloc: Global,
+    text: &mut String,
+    parser: &mut Parser<B, E>,
+) -> Result<(), AllocError> {
+    match parser.parse_record(RecordVisitor::new(alloc)) {
+        Ok(answer) => answer.tell(text)?,
+        Err(error) => tell_error(text, &error)?,
+    }
+    text.push_str("; ")
 }
 
 fn check_records(rt: &(impl AllocGlobal + Abort), attr: perf_event_attr, want: &str) {
