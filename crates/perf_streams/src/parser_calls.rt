@@ -5,7 +5,7 @@ use crate::buffers::{Check, check_through};
 use crate::check;
 use perf_event_data::CowSlice;
 use perf_event_data::endian::{Endian, Little};
-use perf_event_data::parse::{ErrorKind, ParseBuf, ParseConfig, Parser};
+use perf_event_data::parse::{ErrorKind, ParseBuf, ParseBufCursor, ParseConfig, Parser};
 use std::io::BufReader;
 use std::process::Abort;
 use std::test::Fail;
@@ -75,16 +75,24 @@ impl<'p, B: ParseBuf<'p>> Check<'p, B> for Closures {
             Ok((low, high))
         })?;
         check!(rt; (low, high), (1, 0x0302));
-        let none = inner.parse_if_with(false, |parser| parser.parse_u16())?;
-        check!(rt; none, None);
-        let some = inner.parse_if_with(true, |parser| parser.parse_u16())?;
-        check!(rt; some, Some(0x0504));
-        let refused = inner.parse_if_with(true, |parser| parser.parse_u8());
-        check!(rt; matches!(refused.map_err(|error| error.kind()), Err(ErrorKind::Eof)));
-        let none = inner.parse_if_with(false, |parser| parser.parse_u8())?;
-        check!(rt; none, None);
-        Ok(())
+        check_conditions(rt, &mut inner)
     }
+}
+
+// The two bytes that are left are parsed where a condition holds.
+fn check_conditions<E: Endian>(
+    rt: &impl Abort,
+    inner: &mut Parser<ParseBufCursor<'_>, E>,
+) -> Result<(), Fail> {
+    let none = inner.parse_if_with(false, |parser| parser.parse_u16())?;
+    check!(rt; none, None);
+    let some = inner.parse_if_with(true, |parser| parser.parse_u16())?;
+    check!(rt; some, Some(0x0504));
+    let refused = inner.parse_if_with(true, |parser| parser.parse_u8());
+    check!(rt; matches!(refused.map_err(|error| error.kind()), Err(ErrorKind::Eof)));
+    let none = inner.parse_if_with(false, |parser| parser.parse_u8())?;
+    check!(rt; none, None);
+    Ok(())
 }
 
 #[test]

@@ -5,8 +5,8 @@ ghost use Rattle.std.specs.Prelude.{⊤};
 use crate::checks::check_same;
 use crate::told::{Tell, tell_error};
 use crate::visits::{BY_BUILD_ID, zero_frames};
-use perf_event_data::endian::{Little, Native};
-use perf_event_data::parse::{ParseConfig, Parser};
+use perf_event_data::endian::{Endian, Little, Native};
+use perf_event_data::parse::{ParseBuf, ParseConfig, Parser};
 use perf_event_data::{
     Aux, AuxOutputHwId, BpfEvent, CGroup, Comm, CowSlice, Exit, Fork, ITraceStart, KSymbol, Lost,
     LostSamples, Mmap, Mmap2, Namespaces, Partial, PartialVisitor, Read, RecordMetadata, Sample,
@@ -162,18 +162,33 @@ where
     let mut parser = Parser::new(alloc, bytes, config);
     let mut text = String::new(alloc);
     for _ in 0..100 {
-        match parser.parse_record(Partial(visitor)) {
-            Ok(output) => {
-                output.tell(&mut text)?;
-                text.push_str("; ")?;
-            }
-            Err(error) => {
-                tell_error(&mut text, &error)?;
-                break;
-            }
+        if !tell_visit(&mut text, &mut parser, visitor)? {
+            break;
         }
     }
     Ok(text)
+}
+
+// Writes what it makes of the next frame, and answers whether that was not refused.
+fn tell_visit<'p, B: ParseBuf<'p>, E: Endian, V: PartialVisitor + Copy>(
+    text: &mut String,
+    parser: &mut Parser<B, E>,
+    visitor: V,
+) -> Result<bool, AllocError>
+where
+    V::Output: Tell + Drop,
+{
+    match parser.parse_record(Partial(visitor)) {
+        Ok(output) => {
+            output.tell(text)?;
+            text.push_str("; ")?;
+            Ok(true)
+        }
+        Err(error) => {
+            tell_error(text, &error)?;
+            Ok(false)
+        }
+    }
 }
 
 // Asserts what a partial visitor makes of these frames.

@@ -8,6 +8,7 @@ use perf_event_data::parse::{ParseConfig, Parser};
 use perf_event_data::sys::perf_event_attr;
 use perf_event_data::{Read, ReadGroup, ReadValue};
 use std::alloc::{AllocError, Global};
+use std::process::Abort;
 use std::test::Fail;
 
 const TIME_ENABLED: u64 = 1;
@@ -180,41 +181,47 @@ fn a_group_may_have_no_counters(rt: HostRuntime) -> Result<(), Fail> {
     Ok(())
 }
 
+// The most entries of three numbers that can be counted.
+const THIRD: u64 = u64::MAX / 3;
+
+// Asserts that a group of these numbers is refused.
+fn check_refused(
+    rt: &(impl AllocGlobal + Abort),
+    read_format: u64,
+    numbers: &[u64],
+    want: &str,
+) -> Result<(), AllocError> {
+    let bytes = bytes_of(rt.alloc(), numbers)?;
+    let config = with_format(read_format);
+    check_asks_under(rt, &bytes, &config, &[&[Ask::Group]], want);
+    Ok(())
+}
+
 #[test]
-fn a_group_claims_more_than_there_is(rt: HostRuntime) -> Result<(), Fail> {
-    let third = u64::MAX / 3;
+fn a_group_claims_more_than_there_can_be(rt: HostRuntime) -> Result<(), Fail> {
     for (read_format, numbers) in [
         (0x0C, [1 << 63].as_slice()),
         (0x0C, [u64::MAX, 1, 2].as_slice()),
         (0x0D, [1 << 63, 1].as_slice()),
-        (0x1C, [third + 1].as_slice()),
+        (0x1C, [THIRD + 1].as_slice()),
     ] {
-        let bytes = bytes_of(rt.alloc(), numbers)?;
-        check_asks_under(
-            &rt,
-            &bytes,
-            &with_format(read_format),
-            &[&[Ask::Group]],
-            "InvalidRecord",
-        );
+        check_refused(&rt, read_format, numbers, "InvalidRecord")?;
     }
+    Ok(())
+}
+
+#[test]
+fn a_group_lacks_its_numbers(rt: HostRuntime) -> Result<(), Fail> {
     for (read_format, numbers) in [
         (0x0C, [1 << 62].as_slice()),
         // The time, which is lacking, comes before the numbers are counted.
         (0x0D, [1 << 63].as_slice()),
         (0x08, [u64::MAX, 1, 2].as_slice()),
-        (0x1C, [third, 1, 2, 3].as_slice()),
+        (0x1C, [THIRD, 1, 2, 3].as_slice()),
         (0x0C, [2, 10, 1, 20].as_slice()),
         (0x08, [].as_slice()),
     ] {
-        let bytes = bytes_of(rt.alloc(), numbers)?;
-        check_asks_under(
-            &rt,
-            &bytes,
-            &with_format(read_format),
-            &[&[Ask::Group]],
-            "Eof",
-        );
+        check_refused(&rt, read_format, numbers, "Eof")?;
     }
     Ok(())
 }

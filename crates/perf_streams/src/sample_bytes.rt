@@ -183,9 +183,7 @@ fn frames(alloc: Global, is_big: bool, body: &[u8]) -> Result<Vec<u8>, AllocErro
 
 /// The bytes of such frames, the lowest byte of each number first.
 pub fn frames_of(alloc: Global, parts: &[Part]) -> Result<Vec<u8>, AllocError> {
-    let mut body = Vec::new(alloc);
-    put_parts(&mut body, false, parts)?;
-    frames(alloc, false, &body)
+    frames(alloc, false, &body_of(alloc, false, parts)?)
 }
 
 fn check_frames<E: Endian + Copy>(
@@ -250,21 +248,21 @@ pub fn check_sample_before(
     left: usize,
     want: &str,
 ) {
-    match bodies_of(rt.alloc(), parts) {
-        Ok((little, big)) => {
-            check_little(rt, attr, &little, left, want);
-            check_big(rt, attr, &big, left, want);
-        }
+    match body_of(rt.alloc(), false, parts) {
+        Ok(body) => check_little(rt, attr, &body, left, want),
+        Err(_) => panic!(rt; "no memory"),
+    }
+    match body_of(rt.alloc(), true, parts) {
+        Ok(body) => check_big(rt, attr, &body, left, want),
         Err(_) => panic!(rt; "no memory"),
     }
 }
 
-// The bytes of a body in both orders.
-fn bodies_of(alloc: Global, parts: &[Part]) -> Result<(Vec<u8>, Vec<u8>), AllocError> {
-    let (mut little, mut big) = (Vec::new(alloc), Vec::new(alloc));
-    put_parts(&mut little, false, parts)?;
-    put_parts(&mut big, true, parts)?;
-    Ok((little, big))
+// The bytes of a body.
+fn body_of(alloc: Global, is_big: bool, parts: &[Part]) -> Result<Vec<u8>, AllocError> {
+    let mut body = Vec::new(alloc);
+    put_parts(&mut body, is_big, parts)?;
+    Ok(body)
 }
 
 /// The same of a body that is a sample whole.

@@ -3,7 +3,6 @@
 use crate::asks::{Ask, check_asks, check_asks_under, next_record};
 use crate::check;
 use crate::told::{Tell, tell_lent};
-use perf_event_data::Record;
 use perf_event_data::endian::{Endian, Little};
 use perf_event_data::parse::{
     ErrorKind, Layout, Parse, ParseBuf, ParseConfig, ParseError, ParseResult, Parser,
@@ -142,7 +141,7 @@ impl Read for Failing {
 fn a_fault_keeps_its_cause(rt: HostRuntime) -> Result<(), Fail> {
     let reader = BufReader::with_capacity(rt.alloc(), 8, Failing)?;
     let mut parser = Parser::new(rt.alloc(), reader, ParseConfig::<Little>::default());
-    match parser.parse::<Record<'_>>() {
+    match next_record(&mut parser) {
         Err(error) => {
             check!(rt; matches!(error.kind(), ErrorKind::External));
             check!(rt; error.cause().is_some());

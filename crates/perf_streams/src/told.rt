@@ -228,7 +228,7 @@ impl Tell for Record<'_> {
     }
 }
 
-// Those whose types come behind SAMPLE but for MMAP2, and both ends of a throttle.
+// Records of throttles, of lost samples, of switches, of namespaces and of symbols of the kernel.
 fn tell_later_record(text: &mut String, record: &Record<'_>) -> Result<(), AllocError> {
     match record {
         Record::Throttle(r) => tell_after(text, "Throttle ", r),
