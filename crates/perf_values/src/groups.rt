@@ -114,25 +114,40 @@ fn mixtures_of_calls(rt: HostRuntime) -> Result<(), Fail> {
 }
 
 #[test]
-fn entries_from_both_ends(rt: HostRuntime) -> Result<(), Fail> {
-    let alloc = rt.alloc();
+fn entries_from_both_ends(rt: HostRuntime) {
     let words = CowSlice::Borrowed(&VALUES[..5]);
     let group = ReadGroup::from_parts(ReadFormat::GROUP, 0, 0, words);
     let mut entries = group.entries();
     check!(rt; entries.nth(1).map(|entry| entry.value()), Some(2));
-    let mut copy = entries.clone()?;
     check!(rt; entries.next_back().map(|entry| entry.value()), Some(5));
     check!(rt; entries.nth_back(1).map(|entry| entry.value()), Some(3));
     check!(rt; entries.len(), 0);
     check!(rt; entries.next().is_none());
     check!(rt; entries.next_back().is_none());
-    check!(rt; copy.size_hint(), (3, Some(3)));
-    let calls = [EntryCall::NthBack(1), EntryCall::Next, EntryCall::Next];
-    let answers = entry_calls(alloc, &mut copy, &calls)?;
-    let values: Vec<Option<u64>> = answers.iter().map(|e| e.map(|e| e.value())).collect(alloc)?;
-    check!(rt; values.as_slice(), [Some(4), Some(3), None].as_slice());
     check!(rt; group.entries().count(), 5);
     check!(rt; group.entries().last().map(|entry| entry.value()), Some(5));
+}
+
+// The values of three entries from both ends.
+fn told_from_both_ends(alloc: Global, entries: GroupIter<'_>) -> Result<Vec<Option<u64>>, Fail> {
+    let mut entries = entries;
+    let calls = [EntryCall::NthBack(1), EntryCall::Next, EntryCall::Next];
+    let answers = entry_calls(alloc, &mut entries, &calls)?;
+    Ok(answers.iter().map(|e| e.map(|e| e.value())).collect(alloc)?)
+}
+
+#[test]
+fn a_copy_of_entries_goes_on_alone(rt: HostRuntime) -> Result<(), Fail> {
+    let words = CowSlice::Borrowed(&VALUES[..5]);
+    let group = ReadGroup::from_parts(ReadFormat::GROUP, 0, 0, words);
+    let mut entries = group.entries();
+    let _ = entries.nth(1);
+    let copy = entries.clone()?;
+    let _ = entries.nth(2);
+    check!(rt; entries.len(), 0);
+    check!(rt; copy.size_hint(), (3, Some(3)));
+    let values = told_from_both_ends(rt.alloc(), copy)?;
+    check!(rt; values.as_slice(), [Some(4), Some(3), None].as_slice());
     Ok(())
 }
 

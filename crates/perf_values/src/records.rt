@@ -23,6 +23,7 @@ use perf_types::text_poke::TextPoke;
 use perf_types::throttle::Throttle;
 use perf_words::flags::{AuxFlags, KSymbolFlags};
 use perf_words::named::{BpfEventType, KSymbolType};
+use std::alloc::Global;
 use std::hash::{BuildHasherDefault, FoldHasher};
 use std::test::Fail;
 
@@ -31,7 +32,7 @@ const TWENTY: [u8; 20] = [
 ];
 
 #[test]
-fn items_are_cut_and_split(rt: HostRuntime) -> Result<(), Fail> {
+fn borrowed_items_are_cut_and_split(rt: HostRuntime) -> Result<(), Fail> {
     let alloc = rt.alloc();
     let mut borrowed = CowSlice::Borrowed(&[0u8, 1, 2, 3, 4, 5]);
     borrowed.truncate(4);
@@ -41,6 +42,12 @@ fn items_are_cut_and_split(rt: HostRuntime) -> Result<(), Fail> {
     let (front, back) = borrowed.clone(alloc)?.split_at(alloc, 0)?;
     check!(rt; front.is_empty());
     check!(rt; back.as_slice(), [0u8, 1, 2, 3].as_slice());
+    Ok(())
+}
+
+#[test]
+fn owned_items_are_cut_and_split(rt: HostRuntime) -> Result<(), Fail> {
+    let alloc = rt.alloc();
     let mut owned = CowSlice::Owned(Vec::from_slice(alloc, &[0u8, 1, 2, 3, 4, 5])?);
     owned.truncate(4);
     check!(rt; owned.as_slice(), [0u8, 1, 2, 3].as_slice());
@@ -97,42 +104,86 @@ fn owned_items(rt: HostRuntime) -> Result<(), Fail> {
     Ok(())
 }
 
-#[test]
-fn owned_records_outlive_their_bytes(rt: HostRuntime) -> Result<(), Fail> {
-    let alloc = rt.alloc();
-    let (comm, group, symbol) = {
-        let bytes = Vec::from_slice(alloc, b"//anon")?;
-        let name = bytes.as_slice();
-        let comm = Comm {
-            pid: 0x1010,
-            tid: 0x500,
-            comm: CowSlice::Borrowed(name),
-        };
-        let group = CGroup {
-            id: 7,
-            path: CowSlice::Borrowed(name),
-        };
-        let symbol = KSymbol {
-            addr: 4096,
-            len: 64,
-            ksym_type: KSymbolType::BPF,
-            flags: KSymbolFlags::UNREGISTER,
-            name: CowSlice::Borrowed(name),
-        };
-        (
-            comm.into_owned(alloc)?,
-            group.into_owned(alloc)?,
-            symbol.into_owned(alloc)?,
-        )
+// Owned copies of records whose bytes are gone when they are answered.
+
+fn owned_name(alloc: Global) -> Result<Comm<'static>, Fail> {
+    let bytes = Vec::from_slice(alloc, b"//anon")?;
+    let comm = Comm {
+        pid: 0x1010,
+        tid: 0x500,
+        comm: CowSlice::Borrowed(bytes.as_slice()),
     };
-    let comm = comm.clone(alloc)?.into_owned(alloc)?;
+    Ok(comm.into_owned(alloc)?)
+}
+
+fn owned_group(alloc: Global) -> Result<CGroup<'static>, Fail> {
+    let bytes = Vec::from_slice(alloc, b"//anon")?;
+    let group = CGroup {
+        id: 7,
+        path: CowSlice::Borrowed(bytes.as_slice()),
+    };
+    Ok(group.into_owned(alloc)?)
+}
+
+fn owned_symbol(alloc: Global) -> Result<KSymbol<'static>, Fail> {
+    let bytes = Vec::from_slice(alloc, b"//anon")?;
+    let symbol = KSymbol {
+        addr: 4096,
+        len: 64,
+        ksym_type: KSymbolType::BPF,
+        flags: KSymbolFlags::UNREGISTER,
+        name: CowSlice::Borrowed(bytes.as_slice()),
+    };
+    Ok(symbol.into_owned(alloc)?)
+}
+
+fn owned_mapping(alloc: Global) -> Result<Mmap<'static>, Fail> {
+    let bytes = Vec::from_slice(alloc, b"//anon")?;
+    let mapping = Mmap {
+        pid: 1,
+        tid: 2,
+        addr: 4096,
+        len: 8192,
+        pgoff: 512,
+        filename: CowSlice::Borrowed(bytes.as_slice()),
+    };
+    Ok(mapping.into_owned(alloc)?)
+}
+
+fn owned_longer_mapping(alloc: Global) -> Result<Mmap2<'static>, Fail> {
+    let bytes = Vec::from_slice(alloc, b"//anon")?;
+    let detail = MmapDetail::BuildId {
+        build_id: TWENTY,
+        len: 2,
+    };
+    let filename = CowSlice::Borrowed(bytes.as_slice());
+    let mapping = Mmap2::from_parts(1, 2, 4096, 8192, 512, 5, 6, filename, detail);
+    Ok(mapping.into_owned(alloc)?)
+}
+
+#[test]
+fn owned_names_outlive_their_bytes(rt: HostRuntime) -> Result<(), Fail> {
+    let alloc = rt.alloc();
+    let comm = owned_name(alloc)?.clone(alloc)?.into_owned(alloc)?;
     check!(rt; comm.pid, 0x1010);
     check!(rt; comm.tid, 0x500);
     check!(rt; comm.comm_os(), Some("//anon"));
-    let group = group.clone(alloc)?.into_owned(alloc)?;
+    Ok(())
+}
+
+#[test]
+fn owned_groups_outlive_their_bytes(rt: HostRuntime) -> Result<(), Fail> {
+    let alloc = rt.alloc();
+    let group = owned_group(alloc)?.clone(alloc)?.into_owned(alloc)?;
     check!(rt; group.id, 7);
     check!(rt; group.path_os(), Some("//anon"));
-    let symbol = symbol.clone(alloc)?.into_owned(alloc)?;
+    Ok(())
+}
+
+#[test]
+fn owned_symbols_outlive_their_bytes(rt: HostRuntime) -> Result<(), Fail> {
+    let alloc = rt.alloc();
+    let symbol = owned_symbol(alloc)?.clone(alloc)?.into_owned(alloc)?;
     check!(rt; symbol.addr, 4096);
     check!(rt; symbol.len, 64);
     check!(rt; symbol.ksym_type == KSymbolType::BPF);
@@ -144,37 +195,27 @@ fn owned_records_outlive_their_bytes(rt: HostRuntime) -> Result<(), Fail> {
 #[test]
 fn owned_mappings_outlive_their_bytes(rt: HostRuntime) -> Result<(), Fail> {
     let alloc = rt.alloc();
-    let (short, long) = {
-        let bytes = Vec::from_slice(alloc, b"//anon")?;
-        let short = Mmap {
-            pid: 1,
-            tid: 2,
-            addr: 4096,
-            len: 8192,
-            pgoff: 512,
-            filename: CowSlice::Borrowed(bytes.as_slice()),
-        };
-        let detail = MmapDetail::BuildId {
-            build_id: TWENTY,
-            len: 2,
-        };
-        let filename = CowSlice::Borrowed(bytes.as_slice());
-        let long = Mmap2::from_parts(1, 2, 4096, 8192, 512, 5, 6, filename, detail);
-        (short.into_owned(alloc)?, long.into_owned(alloc)?)
-    };
-    let short = short.clone(alloc)?.into_owned(alloc)?;
-    check!(rt; short.pid, 1);
-    check!(rt; short.tid, 2);
-    check!(rt; short.addr, 4096);
-    check!(rt; short.len, 8192);
-    check!(rt; short.pgoff, 512);
-    check!(rt; short.filename_os(), Some("//anon"));
-    let long = long.clone(alloc)?.into_owned(alloc)?;
-    check!(rt; long.pgoff, 512);
-    check!(rt; long.prot, 5);
-    check!(rt; long.flags, 6);
-    check!(rt; long.build_id(), Some(&[1u8, 2][..]));
-    check!(rt; long.filename_os(), Some("//anon"));
+    let mapping = owned_mapping(alloc)?.clone(alloc)?.into_owned(alloc)?;
+    check!(rt; mapping.pid, 1);
+    check!(rt; mapping.tid, 2);
+    check!(rt; mapping.addr, 4096);
+    check!(rt; mapping.len, 8192);
+    check!(rt; mapping.pgoff, 512);
+    check!(rt; mapping.filename_os(), Some("//anon"));
+    Ok(())
+}
+
+#[test]
+fn owned_longer_mappings_outlive_their_bytes(rt: HostRuntime) -> Result<(), Fail> {
+    let alloc = rt.alloc();
+    let mapping = owned_longer_mapping(alloc)?
+        .clone(alloc)?
+        .into_owned(alloc)?;
+    check!(rt; mapping.pgoff, 512);
+    check!(rt; mapping.prot, 5);
+    check!(rt; mapping.flags, 6);
+    check!(rt; mapping.build_id(), Some(&[1u8, 2][..]));
+    check!(rt; mapping.filename_os(), Some("//anon"));
     Ok(())
 }
 
@@ -213,9 +254,7 @@ fn owned_namespaces_are_cloned(rt: HostRuntime) -> Result<(), Fail> {
     Ok(())
 }
 
-#[test]
-fn mapping_of_an_inode(rt: HostRuntime) -> Result<(), Fail> {
-    let alloc = rt.alloc();
+fn of_an_inode() -> Mmap2<'static> {
     let detail = MmapDetail::Default {
         maj: 8,
         min: 1,
@@ -223,13 +262,24 @@ fn mapping_of_an_inode(rt: HostRuntime) -> Result<(), Fail> {
         ino_generation: 3,
     };
     let filename = CowSlice::Borrowed(b"ab");
-    let record = Mmap2::from_parts(1, 2, 4096, 8192, 0, 5, 2, filename, detail);
+    Mmap2::from_parts(1, 2, 4096, 8192, 0, 5, 2, filename, detail)
+}
+
+#[test]
+fn mapping_of_an_inode(rt: HostRuntime) {
+    let record = of_an_inode();
     check!(rt; record.maj(), Some(8));
     check!(rt; record.min(), Some(1));
     check!(rt; record.ino(), Some(99));
     check!(rt; record.ino_generation(), Some(3));
     check!(rt; record.build_id(), None);
     check!(rt; record.filename_os(), Some("ab"));
+}
+
+#[test]
+fn shorter_record_of_a_mapping(rt: HostRuntime) -> Result<(), Fail> {
+    let alloc = rt.alloc();
+    let record = of_an_inode();
     let mapping = record.to_mmap(alloc)?.clone(alloc)?;
     check!(rt; mapping.len, 8192);
     check!(rt; mapping.filename_os(), Some("ab"));

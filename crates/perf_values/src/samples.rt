@@ -187,6 +187,20 @@ fn sample_of_a_clone<'a>(alloc: Global, fields: &SampleFields<'a>) -> ParseResul
     Ok(Sample::from_fields(fields.clone(alloc)?))
 }
 
+// Asserts what a copy of a sample answers.
+fn check_copy(
+    rt: &(impl AllocGlobal + Abort),
+    copy: ParseResult<Sample<'_>>,
+    origin: [Option<u64>; 9],
+    numbers: [Option<u64>; 8],
+    lists: &str,
+) {
+    match copy {
+        Ok(copy) => check_answers(rt, &copy, origin, numbers, lists),
+        Err(_) => panic!(rt; "no memory"),
+    }
+}
+
 // Asserts what a sample of these fields answers, the same of a clone of them, and its clone.
 fn check_sample(
     rt: &(impl AllocGlobal + Abort),
@@ -195,15 +209,16 @@ fn check_sample(
     numbers: [Option<u64>; 8],
     lists: &str,
 ) {
-    let cloned = sample_of_a_clone(rt.alloc(), &fields);
+    check_copy(
+        rt,
+        sample_of_a_clone(rt.alloc(), &fields),
+        origin,
+        numbers,
+        lists,
+    );
     let sample = Sample::from_fields(fields);
     check_answers(rt, &sample, origin, numbers, lists);
-    for copy in [cloned, sample.clone(rt.alloc())] {
-        match copy {
-            Ok(copy) => check_answers(rt, &copy, origin, numbers, lists),
-            Err(_) => panic!(rt; "no memory"),
-        }
-    }
+    check_copy(rt, sample.clone(rt.alloc()), origin, numbers, lists);
 }
 
 // Asserts what a sample id says that is made of a sample.
@@ -267,27 +282,35 @@ fn owned_registers(alloc: Global, values: &[u64]) -> ParseResult<Option<Register
     }))
 }
 
-// Every field, with its lists in memory of their own.
-fn every_field_owned(alloc: Global, branches: &[BranchEntry]) -> ParseResult<SampleFields<'_>> {
+// Every field, with its group and its registers in memory of their own.
+fn with_owned_groups(alloc: Global, branches: &[BranchEntry]) -> ParseResult<SampleFields<'_>> {
     let words = CowSlice::Borrowed(&[110]);
     let group = ReadGroup::from_parts(ReadFormat::GROUP, 0, 0, words).into_owned(alloc)?;
+    let regs_user = owned_registers(alloc, &[118, 119])?;
+    let regs_intr = owned_registers(alloc, &[125, 126])?;
+    Ok(SampleFields {
+        values: Some(group),
+        regs_user,
+        regs_intr,
+        ..every_field(branches)
+    })
+}
+
+// Every field, with all its lists in memory of their own.
+fn every_field_owned(alloc: Global, branches: &[BranchEntry]) -> ParseResult<SampleFields<'_>> {
+    let fields = with_owned_groups(alloc, branches)?;
     let callchain = owned(alloc, Some(CowSlice::Borrowed(&[111, 112])))?;
     let raw = owned(alloc, Some(CowSlice::Borrowed(&[113])))?;
     let lbr = owned(alloc, Some(CowSlice::Borrowed(branches)))?;
     let stack_user = owned(alloc, Some(CowSlice::Borrowed(&[120, 121])))?;
     let aux = owned(alloc, Some(CowSlice::Borrowed(&[128, 129, 130])))?;
-    let regs_user = owned_registers(alloc, &[118, 119])?;
-    let regs_intr = owned_registers(alloc, &[125, 126])?;
     Ok(SampleFields {
-        values: Some(group),
         callchain,
         raw,
         lbr,
-        regs_user,
         stack_user,
-        regs_intr,
         aux,
-        ..every_field(branches)
+        ..fields
     })
 }
 
