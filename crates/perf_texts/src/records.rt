@@ -4,7 +4,7 @@ ghost use Rattle.std.specs.Prelude.{IsTrue};
 ghost use Rattle.perf_types.specs.MmapDetail.{has_fitting_id};
 
 use crate::check;
-use crate::texts::check;
+use crate::texts::{check, told_line};
 use bitflags::Flags;
 use perf_event_data::endian::Little;
 use perf_event_data::parse::ParseResult;
@@ -14,7 +14,6 @@ use perf_event_data::{
     KSymbol, KSymbolFlags, KSymbolType, Mmap, Mmap2, MmapDetail, NamespaceEntry, Namespaces, Read,
     ReadFormat, ReadValue, Record, SwitchCpuWide, TextPoke, Throttle,
 };
-use perf_lines::line::line_of;
 use perf_lines::outcome::Outcome;
 use std::alloc::AllocError;
 use std::process::Abort;
@@ -26,8 +25,7 @@ fn check_line(rt: &(impl AllocGlobal + Abort), found: Record, text: &str) -> Par
         misc: 2,
         size: 3,
     };
-    let answer: ParseResult<Record> = Ok(found);
-    let line = line_of(rt.alloc(), 0, &header, &answer)?;
+    let line = told_line(rt.alloc(), 0, header, Ok(found))?;
     check!(rt; line.as_str().strip_prefix("0 1 2 3 "), Some(text));
     Ok(())
 }
@@ -56,7 +54,7 @@ fn mapped(detail: MmapDetail) -> Record<'static>
 }
 
 #[test]
-fn a_mapping_has_an_inode_or_a_build_id(rt: HostRuntime) -> ParseResult<()> {
+fn a_mapping_has_an_inode(rt: HostRuntime) -> ParseResult<()> {
     let inode = MmapDetail::Default {
         maj: 8,
         min: 1,
@@ -65,10 +63,16 @@ fn a_mapping_has_an_inode_or_a_build_id(rt: HostRuntime) -> ParseResult<()> {
     };
     let text = "Mmap2 pid=1 tid=2 addr=4096 len=8192 pgoff=0 maj=8 min=1 ino=99 ino_generation=3 \
         prot=5 flags=2 filename=6162";
-    check_line(&rt, mapped(inode), text)?;
-    let build_id = [
-        1, 2, 3, 4, 5, 6, 7, 8, 9, 10, 11, 12, 13, 14, 15, 16, 17, 18, 19, 20,
-    ];
+    check_line(&rt, mapped(inode), text)
+}
+
+const BUILD_ID: [u8; 20] = [
+    1, 2, 3, 4, 5, 6, 7, 8, 9, 10, 11, 12, 13, 14, 15, 16, 17, 18, 19, 20,
+];
+
+#[test]
+fn a_mapping_has_a_build_id(rt: HostRuntime) -> ParseResult<()> {
+    let build_id = BUILD_ID;
     let whole = MmapDetail::BuildId { build_id, len: 20 };
     let text = "Mmap2 pid=1 tid=2 addr=4096 len=8192 pgoff=0 \
         build_id=0102030405060708090a0b0c0d0e0f1011121314 prot=5 flags=2 filename=6162";
@@ -131,23 +135,26 @@ fn read(read_format: u64) -> Record<'static> {
     })
 }
 
+// Which numbers a read has in some formats.
+const READS: [(u64, &str); 7] = [
+    (0, "Read pid=1 tid=2 value=3"),
+    (1, "Read pid=1 tid=2 value=3 time_enabled=4"),
+    (2, "Read pid=1 tid=2 value=3 time_running=5"),
+    (4, "Read pid=1 tid=2 value=3 id=6"),
+    (0x10, "Read pid=1 tid=2 value=3 lost=7"),
+    (
+        0x13,
+        "Read pid=1 tid=2 value=3 time_enabled=4 time_running=5 lost=7",
+    ),
+    (
+        0x17,
+        "Read pid=1 tid=2 value=3 time_enabled=4 time_running=5 id=6 lost=7",
+    ),
+];
+
 #[test]
 fn numbers_that_a_read_lacks_are_left_out(rt: HostRuntime) -> ParseResult<()> {
-    for (read_format, text) in [
-        (0, "Read pid=1 tid=2 value=3"),
-        (1, "Read pid=1 tid=2 value=3 time_enabled=4"),
-        (2, "Read pid=1 tid=2 value=3 time_running=5"),
-        (4, "Read pid=1 tid=2 value=3 id=6"),
-        (0x10, "Read pid=1 tid=2 value=3 lost=7"),
-        (
-            0x13,
-            "Read pid=1 tid=2 value=3 time_enabled=4 time_running=5 lost=7",
-        ),
-        (
-            0x17,
-            "Read pid=1 tid=2 value=3 time_enabled=4 time_running=5 id=6 lost=7",
-        ),
-    ] {
+    for (read_format, text) in READS {
         check_line(&rt, read(read_format), text)?;
     }
     Ok(())
@@ -179,30 +186,34 @@ fn a_switch_of_a_whole_cpu_says_which_way_it_went(rt: HostRuntime) -> ParseResul
     check_line(&rt, Record::SwitchCpuWide(back), text)
 }
 
-#[test]
-fn namespaces_have_commas_in_between(rt: HostRuntime) -> ParseResult<()> {
-    let entries = [
-        NamespaceEntry { dev: 3, inode: 4 },
-        NamespaceEntry { dev: 5, inode: 6 },
-    ];
-    let texts = [
-        (0, "Namespaces pid=1 tid=2 namespaces="),
-        (1, "Namespaces pid=1 tid=2 namespaces=3:4"),
-        (2, "Namespaces pid=1 tid=2 namespaces=3:4,5:6"),
-    ];
-    for (count, text) in texts {
-        let found = Namespaces {
-            pid: 1,
-            tid: 2,
-            namespaces: CowSlice::Borrowed(entries.get(..count).unwrap_or(&[])),
-        };
-        check_line(&rt, Record::Namespaces(found), text)?;
-    }
-    Ok(())
+const ENTRIES: [NamespaceEntry; 2] = [
+    NamespaceEntry { dev: 3, inode: 4 },
+    NamespaceEntry { dev: 5, inode: 6 },
+];
+
+// The text of a record of some namespaces.
+fn check_namespaces(
+    rt: &(impl AllocGlobal + Abort),
+    entries: &[NamespaceEntry],
+    text: &str,
+) -> ParseResult<()> {
+    let found = Namespaces {
+        pid: 1,
+        tid: 2,
+        namespaces: CowSlice::Borrowed(entries),
+    };
+    check_line(rt, Record::Namespaces(found), text)
 }
 
 #[test]
-fn what_came_into_the_kernel_or_changed_there(rt: HostRuntime) -> ParseResult<()> {
+fn namespaces_have_commas_in_between(rt: HostRuntime) -> ParseResult<()> {
+    check_namespaces(&rt, &[], "Namespaces pid=1 tid=2 namespaces=")?;
+    check_namespaces(&rt, &ENTRIES[..1], "Namespaces pid=1 tid=2 namespaces=3:4")?;
+    check_namespaces(&rt, &ENTRIES, "Namespaces pid=1 tid=2 namespaces=3:4,5:6")
+}
+
+#[test]
+fn what_came_into_the_kernel(rt: HostRuntime) -> ParseResult<()> {
     let symbol = KSymbol {
         addr: 4096,
         len: 64,
@@ -219,21 +230,23 @@ fn what_came_into_the_kernel_or_changed_there(rt: HostRuntime) -> ParseResult<()
         tag: [1, 2, 3, 4, 5, 6, 7, 8],
     };
     let text = "BpfEvent ty=1 flags=0 id=7 tag=0102030405060708";
-    check_line(&rt, Record::BpfEvent(event), text)?;
-    let poke = TextPoke {
+    check_line(&rt, Record::BpfEvent(event), text)
+}
+
+fn poke<'a>(old: &'a [u8], new: &'a [u8]) -> Record<'a> {
+    Record::TextPoke(TextPoke {
         addr: 16,
-        old_bytes: CowSlice::Borrowed(&[0xa1, 0xa2, 0xa3]),
-        new_bytes: CowSlice::Borrowed(&[0xb1, 0xb2]),
-    };
+        old_bytes: CowSlice::Borrowed(old),
+        new_bytes: CowSlice::Borrowed(new),
+    })
+}
+
+#[test]
+fn what_changed_in_the_kernel(rt: HostRuntime) -> ParseResult<()> {
     let text = "TextPoke addr=16 old_bytes=a1a2a3 new_bytes=b1b2";
-    check_line(&rt, Record::TextPoke(poke), text)?;
-    let poke = TextPoke {
-        addr: 16,
-        old_bytes: CowSlice::Borrowed(&[]),
-        new_bytes: CowSlice::Borrowed(&[0xaa]),
-    };
+    check_line(&rt, poke(&[0xa1, 0xa2, 0xa3], &[0xb1, 0xb2]), text)?;
     let text = "TextPoke addr=16 old_bytes= new_bytes=aa";
-    check_line(&rt, Record::TextPoke(poke), text)
+    check_line(&rt, poke(&[], &[0xaa]), text)
 }
 
 // A frame and then a line of it alone, read in pieces of all lengths.

@@ -68,6 +68,57 @@ fn check_frame(
     Ok(())
 }
 
+// Behind the header: what happened when and where, of which event, the group's counters, the calls,
+// raw bytes, a branch, registers, a stack, what it cost, and the memory.
+const EVERY_FIELD: [u64; 46] = [
+    0x0170_0000_0000_0009,
+    101,
+    1,
+    0x0000_0003_0000_0002,
+    4,
+    5,
+    6,
+    7,
+    0xFFFF_FFFF_0000_0008,
+    9,
+    2,
+    10,
+    11,
+    12,
+    13,
+    14,
+    15,
+    16,
+    17,
+    2,
+    18,
+    19,
+    0xDDCC_BBAA_0000_0004,
+    1,
+    20,
+    21,
+    22,
+    0x0040_017E,
+    2,
+    24,
+    25,
+    8,
+    0x0807_0605_0403_0201,
+    3,
+    26,
+    27,
+    28,
+    1,
+    29,
+    30,
+    31,
+    33,
+    34,
+    35,
+    8,
+    0x1716_1514_1312_1110,
+];
+
 #[test]
 fn a_sample_has_every_field(rt: HostRuntime) -> Result<(), AllocError> {
     let all = Asked {
@@ -77,62 +128,12 @@ fn a_sample_has_every_field(rt: HostRuntime) -> Result<(), AllocError> {
         regs_user: 3,
         regs_intr: 5,
     };
-    // Behind the header: what happened when and where, of which event, the group's counters, the
-    // calls, raw bytes, a branch, registers, a stack, what it cost, and the memory.
-    let frame = [
-        0x0170_0000_0000_0009,
-        101,
-        1,
-        0x0000_0003_0000_0002,
-        4,
-        5,
-        6,
-        7,
-        0xFFFF_FFFF_0000_0008,
-        9,
-        2,
-        10,
-        11,
-        12,
-        13,
-        14,
-        15,
-        16,
-        17,
-        2,
-        18,
-        19,
-        0xDDCC_BBAA_0000_0004,
-        1,
-        20,
-        21,
-        22,
-        0x0040_017E,
-        2,
-        24,
-        25,
-        8,
-        0x0807_0605_0403_0201,
-        3,
-        26,
-        27,
-        28,
-        1,
-        29,
-        30,
-        31,
-        33,
-        34,
-        35,
-        8,
-        0x1716_1514_1312_1110,
-    ];
     let line = "0 9 0 368 Sample ip=1 pid=2 tid=3 time=4 addr=5 id=6 stream_id=7 cpu=8 period=9 \
         time_enabled=10 time_running=11 values=12:13:14,15:16:17 callchain=18,19 raw=aabbccdd \
         lbr_hw_index=20 lbr=21:22:0:1:1:1:23:4 regs_user_abi=2 regs_user=24,25 stack_user=010203 \
         weight=26 data_src=27 transaction=28 regs_intr_abi=1 regs_intr=29,30 phys_addr=31 \
         aux=1011121314151617 cgroup=33 data_page_size=34 code_page_size=35";
-    check_frame(&rt, &all, &frame, line)
+    check_frame(&rt, &all, &EVERY_FIELD, line)
 }
 
 #[test]
@@ -152,42 +153,52 @@ fn raw_bytes_are_printed_without_their_padding(rt: HostRuntime) -> Result<(), Al
     )
 }
 
+// What each asks of a sample that is an empty list or no bytes.
+const EMPTY: [(u64, &str); 5] = [
+    (0x20, "0 9 0 16 Sample callchain="),
+    (0x400, "0 9 0 16 Sample raw="),
+    (0x800, "0 9 0 16 Sample lbr="),
+    (0x2000, "0 9 0 16 Sample stack_user="),
+    (0x10_0000, "0 9 0 16 Sample aux="),
+];
+
 #[test]
 fn lists_and_bytes_may_be_empty(rt: HostRuntime) -> Result<(), AllocError> {
-    let table = [
-        (0x20, "0 9 0 16 Sample callchain="),
-        (0x400, "0 9 0 16 Sample raw="),
-        (0x800, "0 9 0 16 Sample lbr="),
-        (0x2000, "0 9 0 16 Sample stack_user="),
-        (0x10_0000, "0 9 0 16 Sample aux="),
-    ];
     let frame = [0x0010_0000_0000_0009, 0];
-    for (sample_type, line) in table {
+    for (sample_type, line) in EMPTY {
         check_frame(&rt, &asking_for(sample_type, 0), &frame, line)?;
     }
     Ok(())
 }
 
+// The line of a sample of a read alone, in a format.
+fn check_read(
+    rt: &(impl AllocGlobal + Abort),
+    read_format: u64,
+    frame: &[u64],
+    line: &str,
+) -> Result<(), AllocError> {
+    check_frame(rt, &asking_for(0x10, read_format), frame, line)
+}
+
 #[test]
-fn a_read_has_items_and_times(rt: HostRuntime) -> Result<(), AllocError> {
+fn a_read_has_items(rt: HostRuntime) -> Result<(), AllocError> {
     let group = [0x0030_0000_0000_0009, 2, 10, 1, 20, 2];
     let line = "0 9 0 48 Sample values=10:1,20:2";
-    check_frame(&rt, &asking_for(0x10, 0x0C), &group, line)?;
-    let losses = [0x0030_0000_0000_0009, 2, 10, 1, 20, 2];
-    check_frame(&rt, &asking_for(0x10, 0x18), &losses, line)?;
+    check_read(&rt, 0x0C, &group, line)?;
+    check_read(&rt, 0x18, &group, line)?;
     let empty = [0x0010_0000_0000_0009, 0];
-    check_frame(
-        &rt,
-        &asking_for(0x10, 0x08),
-        &empty,
-        "0 9 0 16 Sample values=",
-    )?;
+    check_read(&rt, 0x08, &empty, "0 9 0 16 Sample values=")
+}
+
+#[test]
+fn a_read_has_times(rt: HostRuntime) -> Result<(), AllocError> {
     let times = [0x0020_0000_0000_0009, 0, 3, 4];
     let line = "0 9 0 32 Sample time_enabled=3 time_running=4 values=";
-    check_frame(&rt, &asking_for(0x10, 0x0B), &times, line)?;
+    check_read(&rt, 0x0B, &times, line)?;
     let ran = [0x0018_0000_0000_0009, 5, 6];
     let line = "0 9 0 24 Sample time_running=6 values=5";
-    check_frame(&rt, &asking_for(0x10, 0x02), &ran, line)
+    check_read(&rt, 0x02, &ran, line)
 }
 
 #[test]

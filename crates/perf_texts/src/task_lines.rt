@@ -1,7 +1,9 @@
 //! Lines of tasks: what the recording has no record of.
 
+use crate::check;
 use perf_event_data::{Comm, CowSlice, Mmap2, MmapDetail, Record};
 use perf_reports::tasks::line_of;
+use std::alloc::Global;
 use std::test::Fail;
 
 #[test]
@@ -12,9 +14,8 @@ fn build_id_stands_for_the_file(rt: HostRuntime) -> Result<(), Fail> {
     let detail = MmapDetail::BuildId { build_id, len: 3 };
     let filename = CowSlice::Borrowed(b"/bin/true".as_slice());
     let record = Record::Mmap2(Mmap2::from_parts(1, 2, 4096, 8192, 0, 6, 1, filename, detail));
-    let line = line_of(rt.alloc(), &record)?;
     let want = "mmap2 1 2 0x1000 0x2000 0x0 0fa100 -wxs /bin/true";
-    assert!(rt; line.is_some_and(|line| line.as_str() == want));
+    check!(rt; told(rt.alloc(), record)?.as_str(), want);
     Ok(())
 }
 
@@ -26,8 +27,7 @@ fn name_need_not_be_text(rt: HostRuntime) -> Result<(), Fail> {
         tid: 2,
         comm,
     });
-    let line = line_of(rt.alloc(), &record)?;
-    assert!(rt; line.is_some_and(|line| line.as_str() == "comm 1 2 a\u{FFFD}b"));
+    check!(rt; told(rt.alloc(), record)?.as_str(), "comm 1 2 a\u{FFFD}b");
     Ok(())
 }
 
@@ -35,4 +35,10 @@ fn name_need_not_be_text(rt: HostRuntime) -> Result<(), Fail> {
 fn other_records_have_no_line(rt: HostRuntime) -> Result<(), Fail> {
     assert!(rt; line_of(rt.alloc(), &Record::Switch)?.is_none());
     Ok(())
+}
+
+// The line of a record.
+fn told(alloc: Global, record: Record) -> Result<String, Fail> {
+    let line = line_of(alloc, &record)?;
+    Ok(line.unwrap_or(String::new(alloc)))
 }

@@ -342,6 +342,16 @@ fn an_attribute_has_the_order_of_the_records(rt: HostRuntime) -> Result<(), Allo
     Ok(())
 }
 
+// The line of an answer to a frame with this header.
+pub(crate) fn told_line(
+    alloc: Global,
+    index: usize,
+    header: perf_event_header,
+    answer: ParseResult<Record>,
+) -> ParseResult<String> {
+    Ok(line_of(alloc, index, &header, &answer)?)
+}
+
 #[test]
 fn a_line_has_no_line_feed(rt: HostRuntime) -> ParseResult<()> {
     let header = perf_event_header {
@@ -349,36 +359,38 @@ fn a_line_has_no_line_feed(rt: HostRuntime) -> ParseResult<()> {
         misc: 0,
         size: 16,
     };
-    let found: ParseResult<Record> = Ok(Record::LostSamples(LostSamples { lost: 5 }));
-    let line = line_of(rt.alloc(), 0, &header, &found)?;
+    let found = Ok(Record::LostSamples(LostSamples { lost: 5 }));
+    let line = told_line(rt.alloc(), 0, header, found)?;
     check!(rt; line.as_str(), "0 13 0 16 LostSamples lost=5");
     Ok(())
 }
 
+// The line of a refusal of each kind.
+const KINDS: [(ErrorKind, &str); 6] = [
+    (ErrorKind::Eof, "7 1 2 3 refused Eof"),
+    (ErrorKind::InvalidRecord, "7 1 2 3 refused InvalidRecord"),
+    (
+        ErrorKind::UnsupportedConfig,
+        "7 1 2 3 refused UnsupportedConfig",
+    ),
+    (
+        ErrorKind::UnsupportedData,
+        "7 1 2 3 refused UnsupportedData",
+    ),
+    (ErrorKind::External, "7 1 2 3 refused External"),
+    (ErrorKind::OutOfMemory, "7 1 2 3 refused OutOfMemory"),
+];
+
 #[test]
 fn each_kind_has_its_name(rt: HostRuntime) -> ParseResult<()> {
-    let kinds = [
-        (ErrorKind::Eof, "7 1 2 3 refused Eof"),
-        (ErrorKind::InvalidRecord, "7 1 2 3 refused InvalidRecord"),
-        (
-            ErrorKind::UnsupportedConfig,
-            "7 1 2 3 refused UnsupportedConfig",
-        ),
-        (
-            ErrorKind::UnsupportedData,
-            "7 1 2 3 refused UnsupportedData",
-        ),
-        (ErrorKind::External, "7 1 2 3 refused External"),
-        (ErrorKind::OutOfMemory, "7 1 2 3 refused OutOfMemory"),
-    ];
-    for (kind, text) in kinds {
+    for (kind, text) in KINDS {
         let header = perf_event_header {
             type_: 1,
             misc: 2,
             size: 3,
         };
-        let refused: ParseResult<Record> = Err(ParseError::custom(kind, "why"));
-        let line = line_of(rt.alloc(), 7, &header, &refused)?;
+        let refused = Err(ParseError::custom(kind, "why"));
+        let line = told_line(rt.alloc(), 7, header, refused)?;
         check!(rt; line.as_str(), text);
     }
     Ok(())
@@ -393,79 +405,116 @@ fn asked(rt: &(impl AllocGlobal + Abort), words: &[&str]) -> Result<Option<Comma
     Ok(command(&owned))
 }
 
+// Asserts what words ask for.
+fn check_asked(
+    rt: &(impl AllocGlobal + Abort),
+    words: &[&str],
+    want: Option<Command>,
+) -> Result<(), AllocError> {
+    check!(rt; asked(rt, words)?, want);
+    Ok(())
+}
+
+const COMMANDS: [(&str, &str, OrderName, usize); 5] = [
+    ("little", "10", OrderName::Little, 10),
+    ("big", "0", OrderName::Big, 0),
+    ("native", "007", OrderName::Native, 7),
+    (
+        "little",
+        "18446744073709551615",
+        OrderName::Little,
+        usize::MAX,
+    ),
+    ("little", "00000000000000000000000001", OrderName::Little, 1),
+];
+
 #[test]
 fn an_order_and_a_limit_are_a_command(rt: HostRuntime) -> Result<(), AllocError> {
-    let table = [
-        ("little", "10", OrderName::Little, 10),
-        ("big", "0", OrderName::Big, 0),
-        ("native", "007", OrderName::Native, 7),
-        (
-            "little",
-            "18446744073709551615",
-            OrderName::Little,
-            usize::MAX,
-        ),
-        ("little", "00000000000000000000000001", OrderName::Little, 1),
-    ];
-    for (name, digits, order, limit) in table {
+    for (name, digits, order, limit) in COMMANDS {
         let wanted = Command {
             order,
             limit,
             with_attr: false,
         };
-        check!(rt; asked(&rt, &[name, digits])?, Some(wanted));
+        check_asked(&rt, &[name, digits], Some(wanted))?;
         let wanted = Command {
             with_attr: true,
             ..wanted
         };
-        check!(rt; asked(&rt, &[name, digits, "attr"])?, Some(wanted));
+        check_asked(&rt, &[name, digits, "attr"], Some(wanted))?;
+    }
+    Ok(())
+}
+
+// Words that are not the digits of a limit.
+const NO_LIMITS: [&str; 8] = [
+    "",
+    "+1",
+    "-1",
+    "1 ",
+    "1x",
+    "0x1",
+    "18446744073709551616",
+    "99999999999999999999",
+];
+
+#[test]
+fn other_digits_are_no_limit(rt: HostRuntime) -> Result<(), AllocError> {
+    for digits in NO_LIMITS {
+        check_asked(&rt, &["little", digits], None)?;
+    }
+    Ok(())
+}
+
+const NO_ORDERS: [&str; 4] = ["middle", "Little", "", "little "];
+
+#[test]
+fn other_names_are_no_order(rt: HostRuntime) -> Result<(), AllocError> {
+    for name in NO_ORDERS {
+        check_asked(&rt, &[name, "3"], None)?;
+    }
+    Ok(())
+}
+
+const NO_THIRD_WORDS: [&str; 6] = ["", "Attr", "attr ", "attrs", "att", "3"];
+
+#[test]
+fn other_third_words_are_no_command(rt: HostRuntime) -> Result<(), AllocError> {
+    for third in NO_THIRD_WORDS {
+        check_asked(&rt, &["little", "3", third], None)?;
     }
     Ok(())
 }
 
 #[test]
-fn other_words_are_no_command(rt: HostRuntime) -> Result<(), AllocError> {
-    for name in ["middle", "Little", "", "little "] {
-        check!(rt; asked(&rt, &[name, "3"])?, None);
-    }
-    for digits in [
-        "",
-        "+1",
-        "-1",
-        "1 ",
-        "1x",
-        "0x1",
-        "18446744073709551616",
-        "99999999999999999999",
-    ] {
-        check!(rt; asked(&rt, &["little", digits])?, None);
-    }
-    check!(rt; asked(&rt, &[])?, None);
-    check!(rt; asked(&rt, &["little"])?, None);
-    check!(rt; asked(&rt, &["attr"])?, None);
-    check!(rt; asked(&rt, &["little", "attr"])?, None);
-    check!(rt; asked(&rt, &["little", "attr", "3"])?, None);
-    check!(rt; asked(&rt, &["attr", "little", "3"])?, None);
-    for third in ["", "Attr", "attr ", "attrs", "att", "3"] {
-        check!(rt; asked(&rt, &["little", "3", third])?, None);
-    }
-    check!(rt; asked(&rt, &["little", "3", "attr", "attr"])?, None);
-    check!(rt; asked(&rt, &["little", "3", "attr", ""])?, None);
-    check!(rt; asked(&rt, &["big", "x", "attr"])?, None);
-    check!(rt; asked(&rt, &["attr", "3", "attr"])?, None);
-    Ok(())
+fn too_few_words_are_no_command(rt: HostRuntime) -> Result<(), AllocError> {
+    check_asked(&rt, &[], None)?;
+    check_asked(&rt, &["little"], None)?;
+    check_asked(&rt, &["attr"], None)?;
+    check_asked(&rt, &["little", "attr"], None)
 }
+
+#[test]
+fn words_in_other_places_are_no_command(rt: HostRuntime) -> Result<(), AllocError> {
+    check_asked(&rt, &["little", "attr", "3"], None)?;
+    check_asked(&rt, &["attr", "little", "3"], None)?;
+    check_asked(&rt, &["big", "x", "attr"], None)?;
+    check_asked(&rt, &["attr", "3", "attr"], None)?;
+    check_asked(&rt, &["little", "3", "attr", "attr"], None)?;
+    check_asked(&rt, &["little", "3", "attr", ""], None)
+}
+
+const STATUSES: [(Outcome, u8); 5] = [
+    (Outcome::Clean, 0),
+    (Outcome::Refused, 1),
+    (Outcome::BadAttr, 2),
+    (Outcome::Faulted, 3),
+    (Outcome::Stopped, 3),
+];
 
 #[test]
 fn each_outcome_has_its_status(rt: HostRuntime) {
-    let statuses = [
-        (Outcome::Clean, 0),
-        (Outcome::Refused, 1),
-        (Outcome::BadAttr, 2),
-        (Outcome::Faulted, 3),
-        (Outcome::Stopped, 3),
-    ];
-    for (outcome, status) in statuses {
+    for (outcome, status) in STATUSES {
         check!(rt; outcome.status(), status);
     }
 }
