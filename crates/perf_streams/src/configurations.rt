@@ -73,24 +73,29 @@ fn another_misc_keeps_the_rest(rt: HostRuntime) {
     }
 }
 
+// Sample types and what is kept of them.
+const SAMPLE_TYPES: [(u64, u64); 3] = [
+    (0x2, 0x2),
+    (0xFF_FFFF_FFFF, 0xFF_FFFF_FFFF),
+    (0x100_0000_0004, 0x4),
+];
+
 #[test]
 fn another_sample_type_keeps_the_rest(rt: HostRuntime) {
     let (read_format, _, ids, index, user, intr, _) = SAID;
-    for (sample_type, kept) in [
-        (0x2, 0x2),
-        (0xFF_FFFF_FFFF, 0xFF_FFFF_FFFF),
-        (0x100_0000_0004, 0x4),
-    ] {
+    for (sample_type, kept) in SAMPLE_TYPES {
         let sample_type = SampleFlags::from_bits_retain(sample_type);
         let config = full().with_misc(7).with_sample_type(sample_type);
         check_said(&rt, &config, (read_format, kept, ids, index, user, intr, 7));
     }
 }
 
+const READ_FORMATS: [(u64, u64); 4] = [(0x2, 0x2), (0x1F, 0x1F), (0x41, 0x21), (1 << 63, 0x20)];
+
 #[test]
 fn another_read_format_keeps_the_rest(rt: HostRuntime) {
     let (_, sample_type, ids, index, user, intr, _) = SAID;
-    for (read_format, kept) in [(0x2, 0x2), (0x1F, 0x1F), (0x41, 0x21), (1 << 63, 0x20)] {
+    for (read_format, kept) in READ_FORMATS {
         let read_format = ReadFormat::from_bits_retain(read_format);
         let config = full().with_misc(7).with_read_format(read_format);
         check_said(&rt, &config, (kept, sample_type, ids, index, user, intr, 7));

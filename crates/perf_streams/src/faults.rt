@@ -172,19 +172,25 @@ impl<'p> ParseBuf<'p> for Counting<'p> {
     }
 }
 
+const NEVER: &str = "13 0 16 LostSamples 5; 13 0 16 LostSamples 6; done";
+
+const ONCE: &str = "13 0 16 LostSamples 5; fault External | 13 0 16 LostSamples 6; done";
+
+const TWICE: &str =
+    "13 0 16 LostSamples 5; fault External | fault External | 13 0 16 LostSamples 6; done";
+
+// How many faults come and how many there were, the limits of the runs, and what they say.
+const FAULTS: [(u64, u64, &[usize], &str); 5] = [
+    (0, 0, &[10], NEVER),
+    (1, 0, &[10, 10], ONCE),
+    (2, 0, &[10, 10, 10], TWICE),
+    (2, u64::MAX - 1, &[10, 10], ONCE),
+    (1, u64::MAX, &[10], NEVER),
+];
+
 #[test]
 fn a_run_goes_on_behind_counted_faults(rt: HostRuntime) -> Result<(), Fail> {
-    let first = "13 0 16 LostSamples 5; fault External | 13 0 16 LostSamples 6; done";
-    let twice =
-        "13 0 16 LostSamples 5; fault External | fault External | 13 0 16 LostSamples 6; done";
-    let never = "13 0 16 LostSamples 5; 13 0 16 LostSamples 6; done";
-    for (to_come, faults, limits, want) in [
-        (0, 0, [10].as_slice(), never),
-        (1, 0, [10, 10].as_slice(), first),
-        (2, 0, [10, 10, 10].as_slice(), twice),
-        (2, u64::MAX - 1, [10, 10].as_slice(), first),
-        (1, u64::MAX, [10].as_slice(), never),
-    ] {
+    for (to_come, faults, limits, want) in FAULTS {
         let buf = Counting {
             bytes: TWO,
             before: 16,

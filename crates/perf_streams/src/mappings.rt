@@ -62,30 +62,33 @@ fn a_short_build_id_is_the_first_bytes(rt: HostRuntime) -> Result<(), Fail> {
     Ok(())
 }
 
+// Lengths of a build id, sizes of its frame, and what is said.
+const LENGTHS: [(u8, u8, &str); 6] = [
+    (
+        0x15,
+        0x40,
+        "10 16384 64 InvalidRecord; 13 0 16 LostSamples 5; done",
+    ),
+    (0x15, 0x2B, "10 16384 43 Eof; 13 0 16 LostSamples 5; done"),
+    (0x15, 0x3F, "10 16384 63 Eof; 13 0 16 LostSamples 5; done"),
+    (
+        0x15,
+        0x50,
+        "10 16384 80 InvalidRecord; 13 0 16 LostSamples 5; done",
+    ),
+    (
+        255,
+        0x50,
+        "10 16384 80 InvalidRecord; 13 0 16 LostSamples 5; done",
+    ),
+    (0x14, 0x40, "10 16384 64 Eof; 13 0 16 LostSamples 5; done"),
+];
+
 #[test]
 fn a_build_id_of_more_than_20_bytes_is_refused_behind_its_bytes(
     rt: HostRuntime,
 ) -> Result<(), Fail> {
-    for (len, size, want) in [
-        (
-            0x15,
-            0x40,
-            "10 16384 64 InvalidRecord; 13 0 16 LostSamples 5; done",
-        ),
-        (0x15, 0x2B, "10 16384 43 Eof; 13 0 16 LostSamples 5; done"),
-        (0x15, 0x3F, "10 16384 63 Eof; 13 0 16 LostSamples 5; done"),
-        (
-            0x15,
-            0x50,
-            "10 16384 80 InvalidRecord; 13 0 16 LostSamples 5; done",
-        ),
-        (
-            255,
-            0x50,
-            "10 16384 80 InvalidRecord; 13 0 16 LostSamples 5; done",
-        ),
-        (0x14, 0x40, "10 16384 64 Eof; 13 0 16 LostSamples 5; done"),
-    ] {
+    for (len, size, want) in LENGTHS {
         let mut bytes = BY_BUILD_ID.to_vec(rt.alloc())?;
         bytes[6] = size;
         bytes[40] = len;

@@ -23,13 +23,15 @@ const KSYMBOL: &[u8] = b"\x11\0\0\0\0\0\x20\0\0\x10\0\0\0\0\0\0\x40\0\0\0\x01\0\
 
 const CGROUP: &[u8] = b"\x13\0\0\0\0\0\x18\0\x07\0\0\0\0\0\0\0\x2F\x61\x2F\x62\0\0\0\0";
 
+const NAMED: [(&[u8], &str); 3] = [
+    (COMM, "3 0 24 Comm 4112 1280 test; done"),
+    (KSYMBOL, "17 0 32 KSymbol 4096 64 1 1 bpf; done"),
+    (CGROUP, "19 0 24 CGroup 7 /a/b; done"),
+];
+
 #[test]
 fn records_that_end_with_a_name(rt: HostRuntime) {
-    for (bytes, want) in [
-        (COMM, "3 0 24 Comm 4112 1280 test; done"),
-        (KSYMBOL, "17 0 32 KSymbol 4096 64 1 1 bpf; done"),
-        (CGROUP, "19 0 24 CGroup 7 /a/b; done"),
-    ] {
+    for (bytes, want) in NAMED {
         check_everywhere(&rt, bytes, Little, &[10], want);
     }
 }

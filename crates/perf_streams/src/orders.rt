@@ -235,12 +235,15 @@ fn check_calls<'p, B: ParseBuf<'p> + Drop>(
     Ok(())
 }
 
-// The count itself is the first number of eight bytes.
+// Sizes of a frame, and how many numbers of eight bytes its body has, of which the count itself is
+// the first.
+const SIZES: [(u8, u64); 5] = [(24, 1), (32, 2), (40, 3), (47, 3), (48, 4)];
+
 #[test]
 fn a_hostile_count_converts_no_more_than_the_numbers_of_its_body(
     rt: HostRuntime,
 ) -> Result<(), Fail> {
-    for (size, numbers) in [(24, 1), (32, 2), (40, 3), (47, 3), (48, 4)] {
+    for (size, numbers) in SIZES {
         let mut bytes = b"\x10\0\0\0\0\0\0\0\x01\0\0\0\x02\0\0\0".to_vec(rt.alloc())?;
         bytes[6] = size;
         bytes.extend_from_slice(&(1u64 << 63).to_le_bytes())?;

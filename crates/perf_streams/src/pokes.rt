@@ -10,16 +10,18 @@ const BOTH: &[u8] = b"\x14\0\0\0\0\0\x18\0\x10\0\0\0\0\0\0\0\x01\0\x01\0\xAA\xBB
 const LONGER: &[u8] = b"\x14\0\0\0\0\0\x20\0\x10\0\0\0\0\0\0\0\
     \x03\0\x02\0\xA1\xA2\xA3\xB1\xB2\0\0\0\0\0\0\0";
 
+const POKES: [(&[u8], &str); 3] = [
+    (NEW_ALONE, "20 0 24 TextPoke 16 [] [170]; done"),
+    (BOTH, "20 0 24 TextPoke 16 [170] [187]; done"),
+    (
+        LONGER,
+        "20 0 32 TextPoke 16 [161, 162, 163] [177, 178]; done",
+    ),
+];
+
 #[test]
 fn the_old_bytes_stand_before_the_new(rt: HostRuntime) {
-    for (bytes, want) in [
-        (NEW_ALONE, "20 0 24 TextPoke 16 [] [170]; done"),
-        (BOTH, "20 0 24 TextPoke 16 [170] [187]; done"),
-        (
-            LONGER,
-            "20 0 32 TextPoke 16 [161, 162, 163] [177, 178]; done",
-        ),
-    ] {
+    for (bytes, want) in POKES {
         check_everywhere(&rt, bytes, Little, &[10], want);
     }
 }

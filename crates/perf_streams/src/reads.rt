@@ -39,23 +39,26 @@ fn with_format(read_format: u64) -> ParseConfig<Little> {
 const SEVEN: &[u8] = b"\x08\0\0\0\0\0\x38\0\x01\0\0\0\x02\0\0\0\x03\0\0\0\0\0\0\0\
     \x04\0\0\0\0\0\0\0\x05\0\0\0\0\0\0\0\x06\0\0\0\0\0\0\0\x07\0\0\0\0\0\0\0";
 
+// What is said of the read above in some formats.
+const READS: [(u64, &str); 13] = [
+    (0, "Read 1 2 3 None None None None"),
+    (0x01, "Read 1 2 3 Some(4) None None None"),
+    (0x02, "Read 1 2 3 None Some(4) None None"),
+    (0x04, "Read 1 2 3 None None Some(4) None"),
+    (0x10, "Read 1 2 3 None None None Some(4)"),
+    (0x14, "Read 1 2 3 None None Some(4) Some(5)"),
+    (0x13, "Read 1 2 3 Some(4) Some(5) None Some(6)"),
+    (ALL_OF_ONE, "Read 1 2 3 Some(4) Some(5) Some(6) Some(7)"),
+    (GROUP, "UnsupportedConfig"),
+    (0x1F, "UnsupportedConfig"),
+    (0x20, "UnsupportedConfig"),
+    (UNKNOWN, "UnsupportedConfig"),
+    (1 << 63, "UnsupportedConfig"),
+];
+
 #[test]
 fn the_read_format_says_which_numbers_a_read_has(rt: HostRuntime) -> Result<(), Fail> {
-    for (read_format, want) in [
-        (0, "Read 1 2 3 None None None None"),
-        (0x01, "Read 1 2 3 Some(4) None None None"),
-        (0x02, "Read 1 2 3 None Some(4) None None"),
-        (0x04, "Read 1 2 3 None None Some(4) None"),
-        (0x10, "Read 1 2 3 None None None Some(4)"),
-        (0x14, "Read 1 2 3 None None Some(4) Some(5)"),
-        (0x13, "Read 1 2 3 Some(4) Some(5) None Some(6)"),
-        (ALL_OF_ONE, "Read 1 2 3 Some(4) Some(5) Some(6) Some(7)"),
-        (GROUP, "UnsupportedConfig"),
-        (0x1F, "UnsupportedConfig"),
-        (0x20, "UnsupportedConfig"),
-        (UNKNOWN, "UnsupportedConfig"),
-        (1 << 63, "UnsupportedConfig"),
-    ] {
+    for (read_format, want) in READS {
         let want = format!(in rt.alloc(); "8 0 56 {want}; done")?;
         let attr = attribute(read_format);
         check_everywhere_behind(&rt, SEVEN, Little, attr, &[10], want.as_str());
@@ -197,30 +200,34 @@ fn check_refused(
     Ok(())
 }
 
+const TOO_MANY: [(u64, &[u64]); 4] = [
+    (0x0C, &[1 << 63]),
+    (0x0C, &[u64::MAX, 1, 2]),
+    (0x0D, &[1 << 63, 1]),
+    (0x1C, &[THIRD + 1]),
+];
+
 #[test]
 fn a_group_claims_more_than_there_can_be(rt: HostRuntime) -> Result<(), Fail> {
-    for (read_format, numbers) in [
-        (0x0C, [1 << 63].as_slice()),
-        (0x0C, [u64::MAX, 1, 2].as_slice()),
-        (0x0D, [1 << 63, 1].as_slice()),
-        (0x1C, [THIRD + 1].as_slice()),
-    ] {
+    for (read_format, numbers) in TOO_MANY {
         check_refused(&rt, read_format, numbers, "InvalidRecord")?;
     }
     Ok(())
 }
 
+const TOO_FEW: [(u64, &[u64]); 6] = [
+    (0x0C, &[1 << 62]),
+    // The time, which is lacking, comes before the numbers are counted.
+    (0x0D, &[1 << 63]),
+    (0x08, &[u64::MAX, 1, 2]),
+    (0x1C, &[THIRD, 1, 2, 3]),
+    (0x0C, &[2, 10, 1, 20]),
+    (0x08, &[]),
+];
+
 #[test]
 fn a_group_lacks_its_numbers(rt: HostRuntime) -> Result<(), Fail> {
-    for (read_format, numbers) in [
-        (0x0C, [1 << 62].as_slice()),
-        // The time, which is lacking, comes before the numbers are counted.
-        (0x0D, [1 << 63].as_slice()),
-        (0x08, [u64::MAX, 1, 2].as_slice()),
-        (0x1C, [THIRD, 1, 2, 3].as_slice()),
-        (0x0C, [2, 10, 1, 20].as_slice()),
-        (0x08, [].as_slice()),
-    ] {
+    for (read_format, numbers) in TOO_FEW {
         check_refused(&rt, read_format, numbers, "Eof")?;
     }
     Ok(())
@@ -262,13 +269,17 @@ const GROUP_IS_NOT_SET: &str =
 
 const UNSUPPORTED: &str = "read_format contains unsupported flags";
 
+const TOO_LARGE: &str = "number of elements in group read was too large for data type";
+
+const NO_READS: [(u64, &str); 3] = [
+    (GROUP, GROUP_IS_SET),
+    (GROUP | UNKNOWN, GROUP_IS_SET),
+    (UNKNOWN, UNSUPPORTED),
+];
+
 #[test]
 fn a_refused_read_says_why(rt: HostRuntime) {
-    for (read_format, message) in [
-        (GROUP, GROUP_IS_SET),
-        (GROUP | UNKNOWN, GROUP_IS_SET),
-        (UNKNOWN, UNSUPPORTED),
-    ] {
+    for (read_format, message) in NO_READS {
         let mut parser = Parser::new(rt.alloc(), SEVEN, with_format(read_format));
         match parser.parse::<ReadValue>() {
             Ok(_) => panic!(rt; "not refused"),
@@ -277,16 +288,17 @@ fn a_refused_read_says_why(rt: HostRuntime) {
     }
 }
 
+const NO_GROUPS: [(u64, &str); 4] = [
+    (ID, GROUP_IS_NOT_SET),
+    (UNKNOWN, GROUP_IS_NOT_SET),
+    (GROUP | UNKNOWN, UNSUPPORTED),
+    (GROUP | ID, TOO_LARGE),
+];
+
 #[test]
 fn a_refused_group_says_why(rt: HostRuntime) {
-    let too_large = "number of elements in group read was too large for data type";
     let most = [0xFF; 8];
-    for (read_format, message) in [
-        (ID, GROUP_IS_NOT_SET),
-        (UNKNOWN, GROUP_IS_NOT_SET),
-        (GROUP | UNKNOWN, UNSUPPORTED),
-        (GROUP | ID, too_large),
-    ] {
+    for (read_format, message) in NO_GROUPS {
         let mut parser = Parser::new(rt.alloc(), most.as_slice(), with_format(read_format));
         match next_group(&mut parser) {
             Ok(_) => panic!(rt; "not refused"),

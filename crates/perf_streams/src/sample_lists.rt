@@ -4,7 +4,7 @@ use crate::flags::{
     ADDR, AUX, BRANCH_STACK, CALLCHAIN, CGROUP, PERIOD, RAW, REGS_INTR, REGS_USER, STACK_USER,
     TIME, WEIGHT,
 };
-use crate::sample_bytes::Part::{Bytes, U32, U64};
+use crate::sample_bytes::Part::{self, Bytes, U32, U64};
 use crate::sample_bytes::{attribute, attribute_with_index, check_sample, check_sample_before};
 
 #[test]
@@ -19,49 +19,54 @@ fn a_call_chain_has_as_many_addresses_as_it_says(rt: HostRuntime) {
     check_sample(&rt, attr, &[U64(5), U64(2), U64(1)], "Eof");
 }
 
+// Lengths, the bytes behind them, and what is said.
+const PADDED: [(u32, &[u8], &str); 8] = [
+    (0, b"\xEE\xEE\xEE\xEE", "Sample raw=[]"),
+    (1, b"\xAA\xEE\xEE\xEE", "Sample raw=[170]"),
+    (2, b"\xAA\xBB\xEE\xEE", "Sample raw=[170, 187]"),
+    (3, b"\x01\x02\x03\xEE", "Sample raw=[1, 2, 3]"),
+    (4, b"\x01\x02\x03\x04", "Sample raw=[1, 2, 3, 4]"),
+    (
+        5,
+        b"\x01\x02\x03\x04\x05\xEE\xEE\xEE\xEE\xEE\xEE\xEE",
+        "Sample raw=[1, 2, 3, 4, 5]",
+    ),
+    (
+        11,
+        b"\x01\x02\x03\x04\x05\x06\x07\x08\x09\x0A\x0B\xEE",
+        "Sample raw=[1, 2, 3, 4, 5, 6, 7, 8, 9, 10, 11]",
+    ),
+    (
+        12,
+        b"\x01\x02\x03\x04\x05\x06\x07\x08\x09\x0A\x0B\x0C",
+        "Sample raw=[1, 2, 3, 4, 5, 6, 7, 8, 9, 10, 11, 12]",
+    ),
+];
+
 // The four bytes of the length, the contents and the padding are whole words of eight bytes.
 #[test]
 fn raw_bytes_are_padded_with_their_length(rt: HostRuntime) {
     let attr = attribute(RAW, 0);
-    for (length, rest, want) in [
-        (0, b"\xEE\xEE\xEE\xEE".as_slice(), "Sample raw=[]"),
-        (1, b"\xAA\xEE\xEE\xEE", "Sample raw=[170]"),
-        (2, b"\xAA\xBB\xEE\xEE", "Sample raw=[170, 187]"),
-        (3, b"\x01\x02\x03\xEE", "Sample raw=[1, 2, 3]"),
-        (4, b"\x01\x02\x03\x04", "Sample raw=[1, 2, 3, 4]"),
-        (
-            5,
-            b"\x01\x02\x03\x04\x05\xEE\xEE\xEE\xEE\xEE\xEE\xEE",
-            "Sample raw=[1, 2, 3, 4, 5]",
-        ),
-        (
-            11,
-            b"\x01\x02\x03\x04\x05\x06\x07\x08\x09\x0A\x0B\xEE",
-            "Sample raw=[1, 2, 3, 4, 5, 6, 7, 8, 9, 10, 11]",
-        ),
-        (
-            12,
-            b"\x01\x02\x03\x04\x05\x06\x07\x08\x09\x0A\x0B\x0C",
-            "Sample raw=[1, 2, 3, 4, 5, 6, 7, 8, 9, 10, 11, 12]",
-        ),
-    ] {
+    for (length, rest, want) in PADDED {
         check_sample(&rt, attr, &[U32(length), Bytes(rest)], want);
         check_sample_before(&rt, attr, &[U32(length), Bytes(rest), U64(1)], 8, want);
     }
 }
 
+const NOT_PADDED: [(u32, &[u8]); 7] = [
+    (0, b""),
+    (0, b"\0\0\0"),
+    (2, b"\xAA\xBB"),
+    (2, b"\xAA\xBB\0"),
+    (5, b"\x01\x02\x03\x04\x05\0\0\0\0\0"),
+    (5, b"\x01\x02\x03\x04"),
+    (12, b"\x01\x02\x03\x04\x05\x06\x07\x08\x09\x0A\x0B"),
+];
+
 #[test]
 fn raw_bytes_may_lack_their_padding(rt: HostRuntime) {
     let attr = attribute(RAW, 0);
-    for (length, rest) in [
-        (0, b"".as_slice()),
-        (0, b"\0\0\0"),
-        (2, b"\xAA\xBB"),
-        (2, b"\xAA\xBB\0"),
-        (5, b"\x01\x02\x03\x04\x05\0\0\0\0\0"),
-        (5, b"\x01\x02\x03\x04"),
-        (12, b"\x01\x02\x03\x04\x05\x06\x07\x08\x09\x0A\x0B"),
-    ] {
+    for (length, rest) in NOT_PADDED {
         check_sample(&rt, attr, &[U32(length), Bytes(rest)], "Eof");
     }
     check_sample(&rt, attr, &[Bytes(b"\0\0\0")], "Eof");
@@ -123,33 +128,35 @@ fn an_index_is_read_where_the_attribute_says_so(rt: HostRuntime) {
     check_sample(&rt, attr, &[U64(7)], "Sample addr=0x7");
 }
 
+const REGISTERS: [(u64, &[Part], &str); 7] = [
+    (
+        REGS_USER,
+        &[U64(2), U64(7), U64(8)],
+        "Sample regs_user=2/0x3[7, 8]",
+    ),
+    (
+        REGS_USER,
+        &[U64(1), U64(7), U64(8)],
+        "Sample regs_user=1/0x3[7, 8]",
+    ),
+    (
+        REGS_USER,
+        &[U64(3), U64(7), U64(8)],
+        "Sample regs_user=3/0x3[7, 8]",
+    ),
+    (REGS_USER, &[U64(2), U64(7)], "Eof"),
+    (REGS_USER, &[], "Eof"),
+    (
+        REGS_INTR,
+        &[U64(2), U64(7), U64(8), U64(9)],
+        "Sample regs_intr=2/0x15[7, 8, 9]",
+    ),
+    (REGS_INTR, &[U64(2), U64(7), U64(8)], "Eof"),
+];
+
 #[test]
 fn registers_are_those_of_their_mask(rt: HostRuntime) {
-    for (flag, body, want) in [
-        (
-            REGS_USER,
-            [U64(2), U64(7), U64(8)].as_slice(),
-            "Sample regs_user=2/0x3[7, 8]",
-        ),
-        (
-            REGS_USER,
-            &[U64(1), U64(7), U64(8)],
-            "Sample regs_user=1/0x3[7, 8]",
-        ),
-        (
-            REGS_USER,
-            &[U64(3), U64(7), U64(8)],
-            "Sample regs_user=3/0x3[7, 8]",
-        ),
-        (REGS_USER, &[U64(2), U64(7)], "Eof"),
-        (REGS_USER, &[], "Eof"),
-        (
-            REGS_INTR,
-            &[U64(2), U64(7), U64(8), U64(9)],
-            "Sample regs_intr=2/0x15[7, 8, 9]",
-        ),
-        (REGS_INTR, &[U64(2), U64(7), U64(8)], "Eof"),
-    ] {
+    for (flag, body, want) in REGISTERS {
         check_sample(&rt, attribute(flag, 0), body, want);
     }
 }
@@ -168,19 +175,21 @@ fn registers_of_no_words_have_no_values(rt: HostRuntime) {
     check_sample(&rt, both, &body, want);
 }
 
+const USED: [(u64, &str); 7] = [
+    (0, "Sample stack_user=[] weight=0x7"),
+    (1, "Sample stack_user=[1] weight=0x7"),
+    (3, "Sample stack_user=[1, 2, 3] weight=0x7"),
+    (8, "Sample stack_user=[1, 2, 3, 4, 5, 6, 7, 8] weight=0x7"),
+    (9, "InvalidRecord"),
+    (1 << 32, "InvalidRecord"),
+    (u64::MAX, "InvalidRecord"),
+];
+
 #[test]
 fn a_stack_has_as_many_bytes_as_were_used(rt: HostRuntime) {
     let attr = attribute(STACK_USER | WEIGHT, 0);
     let eight = Bytes(b"\x01\x02\x03\x04\x05\x06\x07\x08");
-    for (used, want) in [
-        (0, "Sample stack_user=[] weight=0x7"),
-        (1, "Sample stack_user=[1] weight=0x7"),
-        (3, "Sample stack_user=[1, 2, 3] weight=0x7"),
-        (8, "Sample stack_user=[1, 2, 3, 4, 5, 6, 7, 8] weight=0x7"),
-        (9, "InvalidRecord"),
-        (1 << 32, "InvalidRecord"),
-        (u64::MAX, "InvalidRecord"),
-    ] {
+    for (used, want) in USED {
         check_sample(&rt, attr, &[U64(8), eight, U64(used), U64(7)], want);
     }
 }
@@ -206,21 +215,24 @@ fn a_stack_may_be_cut_short(rt: HostRuntime) {
     check_sample(&rt, attr, &[seven], "Eof");
 }
 
+// Sizes, the bytes behind them, and what is said.
+const AUX_BYTES: [(u64, &[u8], &str); 5] = [
+    (0, b"", "Sample cgroup=0x7 aux=[]"),
+    (3, b"\x01\x02\x03", "Sample cgroup=0x7 aux=[1, 2, 3]"),
+    (
+        8,
+        b"\x01\x02\x03\x04\x05\x06\x07\x08",
+        "Sample cgroup=0x7 aux=[1, 2, 3, 4, 5, 6, 7, 8]",
+    ),
+    (1, b"", "Eof"),
+    (3, b"\x01\x02", "Eof"),
+];
+
 // They are not padded.
 #[test]
 fn aux_bytes_are_of_their_size(rt: HostRuntime) {
     let attr = attribute(CGROUP | AUX, 0);
-    for (size, bytes, want) in [
-        (0, b"".as_slice(), "Sample cgroup=0x7 aux=[]"),
-        (3, b"\x01\x02\x03", "Sample cgroup=0x7 aux=[1, 2, 3]"),
-        (
-            8,
-            b"\x01\x02\x03\x04\x05\x06\x07\x08",
-            "Sample cgroup=0x7 aux=[1, 2, 3, 4, 5, 6, 7, 8]",
-        ),
-        (1, b"", "Eof"),
-        (3, b"\x01\x02", "Eof"),
-    ] {
+    for (size, bytes, want) in AUX_BYTES {
         check_sample(&rt, attr, &[U64(7), U64(size), Bytes(bytes)], want);
     }
     let body = [U64(7), U64(1), Bytes(b"\x01\x02\x03")];

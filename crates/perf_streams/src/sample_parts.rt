@@ -140,46 +140,48 @@ fn check_parts(rt: &(impl AllocGlobal + Abort), parts: &[Part], want: &str) {
     }
 }
 
+const PARTS: [Part; 13] = [
+    U64(2),
+    U64(7),
+    U64(8),
+    U64(1),
+    U64(9),
+    U64(10),
+    U64(11),
+    U64(0x21),
+    U64(0x22),
+    U64(0x60_0051),
+    U64(0x31),
+    U64(0x32),
+    U64(0x33),
+];
+
 #[test]
 fn registers_and_words_by_themselves(rt: HostRuntime) {
-    let parts = [
-        U64(2),
-        U64(7),
-        U64(8),
-        U64(1),
-        U64(9),
-        U64(10),
-        U64(11),
-        U64(0x21),
-        U64(0x22),
-        U64(0x60_0051),
-        U64(0x31),
-        U64(0x32),
-        U64(0x33),
-    ];
     let want = " user=2/0x3[7, 8] interrupt=1/0x15[9, 10, 11] lbr=1,0x21:0x22:1:0:0:0:5:6 \
         0x31 0x32 0x33";
-    check_parts(&rt, &parts, want);
+    check_parts(&rt, &PARTS, want);
     let want = " user=2/0x3[7, 8] interrupt=1/0x15[9, 10, 11] Eof";
-    check_parts(&rt, &parts[..9], want);
-    check_parts(&rt, &parts[..6], " user=2/0x3[7, 8] Eof");
-    check_parts(&rt, &parts[..2], " Eof");
+    check_parts(&rt, &PARTS[..9], want);
+    check_parts(&rt, &PARTS[..6], " user=2/0x3[7, 8] Eof");
+    check_parts(&rt, &PARTS[..2], " Eof");
 }
+
+const NO_WORDS: [Part; 8] = [
+    U64(0),
+    U64(0),
+    U64(7),
+    U64(8),
+    U64(9),
+    U64(4),
+    U64(5),
+    U64(6),
+];
 
 #[test]
 fn registers_of_no_words_by_themselves(rt: HostRuntime) {
-    let parts = [
-        U64(0),
-        U64(0),
-        U64(7),
-        U64(8),
-        U64(9),
-        U64(4),
-        U64(5),
-        U64(6),
-    ];
     let want = " user=0/0x3[] interrupt=0/0x15[] lbr=1,0x7:0x8:1:0:0:1:0:0 0x4 0x5 0x6";
-    check_parts(&rt, &parts, want);
+    check_parts(&rt, &NO_WORDS, want);
 }
 
 // A slice is the parser's buffer.
@@ -207,32 +209,36 @@ fn told_message(
     }
 }
 
+const UNSUPPORTED: &str = "UnsupportedConfig Some(\"read_format contains unsupported flags\")";
+
+// Sample types, read formats, bodies, and what is said of them.
+const REFUSED: [(u64, u64, &[Part], &str); 5] = [
+    (
+        STACK_USER,
+        0,
+        &[U64(8), Bytes(b"\x01\x02\x03\x04\x05\x06\x07\x08"), U64(9)],
+        "InvalidRecord Some(\"stack dyn_size was greater than the record size\")",
+    ),
+    (
+        STACK_USER,
+        0,
+        &[U64(8), Bytes(b"\x01\x02\x03\x04\x05\x06\x07\x08")],
+        "Eof None",
+    ),
+    (READ, 0x20, &[U64(1)], UNSUPPORTED),
+    (READ, 0x28, &[U64(1)], UNSUPPORTED),
+    (
+        READ,
+        0x0C,
+        &[U64(u64::MAX)],
+        "InvalidRecord Some(\"number of elements in group read was too large for data type\")",
+    ),
+];
+
 #[test]
 fn a_refused_sample_says_why(rt: HostRuntime) {
-    let eight = Bytes(b"\x01\x02\x03\x04\x05\x06\x07\x08");
-    for (attr, parts, want) in [
-        (
-            attribute(STACK_USER, 0),
-            [U64(8), eight, U64(9)].as_slice(),
-            "InvalidRecord Some(\"stack dyn_size was greater than the record size\")",
-        ),
-        (attribute(STACK_USER, 0), &[U64(8), eight], "Eof None"),
-        (
-            attribute(READ, 0x20),
-            &[U64(1)],
-            "UnsupportedConfig Some(\"read_format contains unsupported flags\")",
-        ),
-        (
-            attribute(READ, 0x28),
-            &[U64(1)],
-            "UnsupportedConfig Some(\"read_format contains unsupported flags\")",
-        ),
-        (
-            attribute(READ, 0x0C),
-            &[U64(u64::MAX)],
-            "InvalidRecord Some(\"number of elements in group read was too large for data type\")",
-        ),
-    ] {
+    for (sample_type, read_format, parts, want) in REFUSED {
+        let attr = attribute(sample_type, read_format);
         check_text(&rt, told_message(rt.alloc(), attr, parts), want);
     }
 }

@@ -53,26 +53,28 @@ fn the_number_of_a_field_is_as_wide_as_its_bytes(rt: HostRuntime) {
     check_sample(&rt, attribute(IP | TID | TIME | CPU, 0), &body, want);
 }
 
+const FIELDS: [(u64, &str); 16] = [
+    (IDENTIFIER, "Sample id=0x9"),
+    (IP, "Sample ip=0x9"),
+    (TIME, "Sample time=0x9"),
+    (ADDR, "Sample addr=0x9"),
+    (ID, "Sample id=0x9"),
+    (STREAM_ID, "Sample stream_id=0x9"),
+    (PERIOD, "Sample period=0x9"),
+    (WEIGHT, "Sample weight=0x9"),
+    (WEIGHT_STRUCT, "Sample weight=0x9"),
+    (WEIGHT | WEIGHT_STRUCT, "Sample weight=0x9"),
+    (DATA_SRC, "Sample data_src=0x9"),
+    (TRANSACTION, "Sample transaction=0x9"),
+    (PHYS_ADDR, "Sample phys_addr=0x9"),
+    (CGROUP, "Sample cgroup=0x9"),
+    (DATA_PAGE_SIZE, "Sample data_page_size=0x9"),
+    (CODE_PAGE_SIZE, "Sample code_page_size=0x9"),
+];
+
 #[test]
 fn each_field_of_one_number_stands_alone(rt: HostRuntime) {
-    for (flags, want) in [
-        (IDENTIFIER, "Sample id=0x9"),
-        (IP, "Sample ip=0x9"),
-        (TIME, "Sample time=0x9"),
-        (ADDR, "Sample addr=0x9"),
-        (ID, "Sample id=0x9"),
-        (STREAM_ID, "Sample stream_id=0x9"),
-        (PERIOD, "Sample period=0x9"),
-        (WEIGHT, "Sample weight=0x9"),
-        (WEIGHT_STRUCT, "Sample weight=0x9"),
-        (WEIGHT | WEIGHT_STRUCT, "Sample weight=0x9"),
-        (DATA_SRC, "Sample data_src=0x9"),
-        (TRANSACTION, "Sample transaction=0x9"),
-        (PHYS_ADDR, "Sample phys_addr=0x9"),
-        (CGROUP, "Sample cgroup=0x9"),
-        (DATA_PAGE_SIZE, "Sample data_page_size=0x9"),
-        (CODE_PAGE_SIZE, "Sample code_page_size=0x9"),
-    ] {
+    for (flags, want) in FIELDS {
         check_sample(&rt, attribute(flags, 0), &[U64(9)], want);
         check_sample_before(&rt, attribute(flags, 0), &[U64(9), U64(8)], 8, want);
         check_sample(&rt, attribute(flags, 0), &[Bytes(b"\0\0\0\0\0\0\0")], "Eof");

@@ -95,20 +95,22 @@ fn the_misc_and_the_bytes_behind_a_record_do_not_matter(rt: HostRuntime) {
     check_everywhere(&rt, bytes, Little, &[10], want);
 }
 
+const FALSE_SIZES: [(&[u8], &str); 4] = [
+    (b"\0\0\0\0\0\0\0\0", "0 0 0 InvalidRecord; done"),
+    (b"\x16\0\0\0\0\0\xFF\xFF", "22 0 65535 Eof; done"),
+    (
+        &[9, 0, 0, 0, 0, 251, 85, 182, 246],
+        "9 64256 46677 Eof; done",
+    ),
+    (
+        &[16, 0, 0, 0, 0, 180, 8, 69, 86, 81, 0, 180, 180, 8],
+        "16 46080 17672 Eof; done",
+    ),
+];
+
 #[test]
 fn a_false_size_costs_one_answer(rt: HostRuntime) {
-    for (bytes, want) in [
-        (b"\0\0\0\0\0\0\0\0".as_slice(), "0 0 0 InvalidRecord; done"),
-        (b"\x16\0\0\0\0\0\xFF\xFF".as_slice(), "22 0 65535 Eof; done"),
-        (
-            [9, 0, 0, 0, 0, 251, 85, 182, 246].as_slice(),
-            "9 64256 46677 Eof; done",
-        ),
-        (
-            [16, 0, 0, 0, 0, 180, 8, 69, 86, 81, 0, 180, 180, 8].as_slice(),
-            "16 46080 17672 Eof; done",
-        ),
-    ] {
+    for (bytes, want) in FALSE_SIZES {
         check_everywhere(&rt, bytes, Little, &[10], want);
     }
 }
