@@ -19,5 +19,7 @@ check() {
     printf 'request %s refused: %s\n' "$1" "$2"
 }
 
-check 1 '0 9 0 16 refused OutOfMemory, then [true, true]'
+check 1 '0 9 0 16 refused OutOfMemory, then [true, true]' &
+first=$!
 check 2 '0 9 0 16 Sample raw=aabb, then [false, true]'
+wait "$first"
