@@ -10,9 +10,9 @@ use Rattle.perf_base.specs.Layout.{Parts, layout, value}
 use Rattle.perf_base.specs.Order.{Order}
 use Rattle.perf_base.specs.Splice.{Spells, put_in, take_out}
 use Rattle.perf_base.specs.Table.{place_of}
-use Rattle.perf_types.specs.Sample.{Field, FieldValue, SampleValue, sample}
-use Rattle.perf_types.specs.Sample.{sample_fields, fields_under, is_present, settings_of, plain}
-use Rattle.perf_types.specs.SampleGetters.{field_at, number_in, getters_of}
+use Rattle.perf_sample_types.specs.Sample.{Field, FieldValue, SampleValue, sample}
+use Rattle.perf_sample_types.specs.Sample.{sample_fields, fields_under, is_present, settings_of, plain}
+use Rattle.perf_sample_types.specs.SampleGetters.{field_at, number_in, getters_of}
 use Rattle.perf_words.specs.Bits.{has_bit}
 
 -- ---- fields by their numbers

@@ -3,7 +3,7 @@ use Rattle.std.proofs.Common.{◌≡◌, ℕ, List, [], ◌∷◌, ◌++◌, Opt
 use Rattle.std.proofs.lemmas.Result.{on_ok_weaker}
 use Rattle.std.proofs.lemmas.Grind.{flat_map-append}
 use Rattle.std.specs.List.{flat_map}
-use Rattle.perf_types.specs.Registers.{RegistersValue}
+use Rattle.perf_sample_types.specs.Registers.{RegistersValue}
 use Rattle.perf_lines.specs.Fields.{spaced, present, word_as, words_of, listed}
 use Rattle.perf_lines.specs.SampleText.{register_words}
 

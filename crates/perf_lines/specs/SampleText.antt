@@ -5,8 +5,8 @@ use Rattle.std.specs.Prelude.{Option, Some, None}
 use Rattle.std.specs.List.{flat_map}
 use Rattle.perf_types.specs.declared.group_entry.GroupEntry.{GroupEntry}
 use Rattle.perf_types.specs.ReadGroup.{GroupRead}
-use Rattle.perf_types.specs.Registers.{RegistersValue}
-use Rattle.perf_types.specs.SampleGetters.{Getters}
+use Rattle.perf_sample_types.specs.Registers.{RegistersValue}
+use Rattle.perf_sample_types.specs.SampleGetters.{Getters}
 use Rattle.perf_words.specs.Branch.{Branch, mispred_of, predicted_of, in_tx_of, abort_of}
 use Rattle.perf_words.specs.Branch.{cycles_of, type_of}
 use Rattle.perf_lines.specs.Fields.{number, field, present, word_as, word_of, words_of, hex, listed}

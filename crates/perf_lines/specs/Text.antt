@@ -33,7 +33,7 @@ use Rattle.perf_types.specs.KSymbol.{KSymbolValue}
 use Rattle.perf_types.specs.BpfEvent.{BpfEventValue}
 use Rattle.perf_types.specs.CGroup.{CGroupValue}
 use Rattle.perf_types.specs.TextPoke.{TextPokeValue}
-use Rattle.perf_types.specs.SampleGetters.{getters_of}
+use Rattle.perf_sample_types.specs.SampleGetters.{getters_of}
 use Rattle.perf_records.specs.Records.{RecordValue, mmap_is, lost_is, comm_is, exit_is, throttle_is}
 use Rattle.perf_records.specs.Records.{unthrottle_is, fork_is, read_is, sample_is, mmap2_is, aux_is}
 use Rattle.perf_records.specs.Records.{itrace_start_is, lost_samples_is, switch_is}

@@ -1,8 +1,8 @@
 //! A sample, as a name and fields.
 
 ghost use Rattle.std.specs.Prelude.{◌≡◌, ◌++◌, string_bytes, OnOk, option_map, codes, decimal};
-ghost use Rattle.perf_types.specs.SampleWords.{getters_of, sample_value, group_read};
-ghost use Rattle.perf_types.specs.SampleWords.{registers_value, txn_bits};
+ghost use Rattle.perf_sample_types.specs.SampleWords.{getters_of, sample_value, group_read};
+ghost use Rattle.perf_sample_types.specs.SampleWords.{registers_value, txn_bits};
 ghost use Rattle.perf_lines.specs.Fields.{spaced, listed, present};
 ghost use Rattle.perf_lines.specs.SampleText as shown;
 

@@ -11,8 +11,8 @@ use Rattle.perf_reader.specs.Calls.{Call}
 use Rattle.perf_reader.specs.Meaning.{Meaning, config_of, meaning}
 use Rattle.perf_reader.specs.Reading.{AnswersRun, Reads}
 use Rattle.perf_reader.specs.declared.reader.Reader.{Reader}
-use Rattle.perf_types.specs.Registers.{registers_of, registers_value}
-use Rattle.perf_types.specs.declared.registers.Registers.{Registers}
+use Rattle.perf_sample_types.specs.Registers.{registers_of, registers_value}
+use Rattle.perf_sample_types.specs.declared.registers.Registers.{Registers}
 
 -- the same call, by the mask that the configuration has
 pub by_mask : {I E : Type 0} (source : I → Source) (order : E → Order) (old new : Reader I E) (seen : Result Registers ErrorKind) (mask : ℕ) (mask_of : Configuration → ℕ) →

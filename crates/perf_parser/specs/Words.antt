@@ -19,7 +19,7 @@ pub use Rattle.perf_records.specs.Answers.{SaysBehind, answers, body_length, Lea
 pub use Rattle.perf_records.specs.Bodies.{wants_memory}
 pub use Rattle.perf_records.specs.Records.{IsBorrowed}
 pub use Rattle.perf_records.specs.Visits.{VisitsBehind, VisitsFrame, BelongsTo}
-pub use Rattle.perf_types.specs.Registers.{RegistersValue, registers_of, registers_value}
+pub use Rattle.perf_sample_types.specs.Registers.{RegistersValue, registers_of, registers_value}
 pub use Rattle.perf_parser.specs.Calls.{Follows, Counts, KeepsOn, Call, CallAs, CallOnly}
 pub use Rattle.perf_parser.specs.Frames.{SplitsParser, SplitsFrame}
 pub use Rattle.perf_parser.specs.Meaning.{reader_of, buffer_of, config_of, reads_of, meaning}

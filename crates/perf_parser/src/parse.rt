@@ -15,7 +15,7 @@ pub use perf_buffers::cursor::ParseBufCursor;
 use perf_buffers::outer::Outer;
 pub use perf_buffers::parsebuf::{ParseBuf, ParseBufChunk};
 use perf_reader::read::{Meant, ReadFrom};
-use perf_types::registers::Registers;
+use perf_sample_types::registers::Registers;
 
 /// What the parse of a type means.
 pub trait Layout: Sized {

@@ -2,9 +2,9 @@
 use Rattle.std.proofs.Common.{Bool, true, refl}
 use Rattle.std.specs.Prelude.{Option, Some, None, IfSome, IsTrue, ◌&&◌}
 use Rattle.perf_base.specs.Cow.{is_borrowed}
-use Rattle.perf_types.specs.SampleGroups.{IsBorrowedSample}
+use Rattle.perf_sample_types.specs.SampleGroups.{IsBorrowedSample}
 use Rattle.perf_types.specs.TextPoke.{IsBorrowedTextPoke}
-use Rattle.perf_types.specs.declared.sample.Sample.{Sample}
+use Rattle.perf_sample_types.specs.declared.sample.Sample.{Sample}
 use Rattle.perf_types.specs.declared.text_poke.TextPoke.{TextPoke}
 use Rattle.perf_records.specs.Visits.{is_lent_sample, is_lent_text_poke}
 

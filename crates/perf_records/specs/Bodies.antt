@@ -18,7 +18,7 @@ use Rattle.perf_types.specs.Comm.{comm}
 use Rattle.perf_types.specs.Exit.{exit}
 use Rattle.perf_types.specs.Throttle.{throttle}
 use Rattle.perf_types.specs.Read.{read}
-use Rattle.perf_types.specs.Sample.{sample}
+use Rattle.perf_sample_types.specs.Sample.{sample}
 use Rattle.perf_types.specs.Mmap2.{mmap2}
 use Rattle.perf_types.specs.Aux.{aux}
 use Rattle.perf_types.specs.ITraceStart.{itrace_start}

@@ -3,7 +3,7 @@
 use Rattle.std.specs.Prelude.{ℕ, Bool, ◌==◌, ◌&&◌, not, nat_lt, if◌then◌else◌}
 use Rattle.perf_base.specs.Configuration.{Configuration}
 use Rattle.perf_base.specs.Layout.{Parts, done}
-use Rattle.perf_types.specs.SampleId.{SampleIdValue, no_sample_id, sample_id, sample_id_length}
+use Rattle.perf_sample_types.specs.SampleId.{SampleIdValue, no_sample_id, sample_id, sample_id_length}
 
 -- the metadata of a record: its type and its `misc`, and the sample id at its end
 pub record MetadataValue : Type 0 where

@@ -3,7 +3,7 @@ use Rattle.std.specs.Prelude.{Bool, false, List, [], ◌∷◌}
 use Rattle.perf_base.specs.Cow.{cow_form}
 use Rattle.perf_types.specs.Mmap.{mmap_form}
 use Rattle.perf_types.specs.Comm.{comm_form}
-use Rattle.perf_types.specs.SampleForms.{sample_form}
+use Rattle.perf_sample_types.specs.SampleForms.{sample_form}
 use Rattle.perf_types.specs.Mmap2.{mmap2_form}
 use Rattle.perf_types.specs.Namespaces.{namespaces_form}
 use Rattle.perf_types.specs.KSymbol.{ksymbol_form}

@@ -14,10 +14,10 @@ pub use Rattle.perf_types.specs.Comm.{comm_value}
 use Rattle.perf_types.specs.Comm.{CommValue, IsBorrowedComm}
 pub use Rattle.perf_types.specs.Read.{task_read}
 use Rattle.perf_types.specs.Read.{TaskRead}
-use Rattle.perf_types.specs.Sample.{SampleValue}
-pub use Rattle.perf_types.specs.SampleGroups.{sample_value}
-use Rattle.perf_types.specs.SampleGroups.{IsBorrowedSample}
-use Rattle.perf_types.specs.declared.sample.Sample.{Sample}
+use Rattle.perf_sample_types.specs.Sample.{SampleValue}
+pub use Rattle.perf_sample_types.specs.SampleGroups.{sample_value}
+use Rattle.perf_sample_types.specs.SampleGroups.{IsBorrowedSample}
+use Rattle.perf_sample_types.specs.declared.sample.Sample.{Sample}
 pub use Rattle.perf_types.specs.Mmap2.{mmap2_value}
 use Rattle.perf_types.specs.Mmap2.{Mmap2Value, IsBorrowedMmap2}
 pub use Rattle.perf_types.specs.Aux.{aux_value}

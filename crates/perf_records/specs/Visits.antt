@@ -26,7 +26,7 @@ use Rattle.perf_records.specs.Records.{mmap2_is}
 use Rattle.perf_records.specs.declared.record.Record.{Record}
 use Rattle.perf_records.specs.declared.record_type.RecordType.{RecordType}
 use Rattle.perf_types.specs.Mmap2.{mapping_of}
-use Rattle.perf_types.specs.declared.sample.Sample.{Sample}
+use Rattle.perf_sample_types.specs.declared.sample.Sample.{Sample}
 use Rattle.perf_types.specs.declared.text_poke.TextPoke.{TextPoke}
 
 -- ---- what is visited

@@ -20,7 +20,7 @@ use perf_buffers::cursor::ParseBufCursor;
 use perf_buffers::input::Input;
 use perf_reader::read::{Meant, ReadFrom};
 use perf_reader::reader::Reader;
-use perf_types::sample_id::SampleId;
+use perf_sample_types::sample_id::SampleId;
 use std::alloc::Global;
 
 // Whether records of a type end with a sample id: the kernel's own do, but SAMPLE.

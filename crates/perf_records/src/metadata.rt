@@ -3,7 +3,7 @@
 ghost use Rattle.std.specs.Prelude.{◌≡◌};
 ghost use Rattle.perf_records.specs.Metadata.{MetadataValue};
 
-use perf_types::sample_id::SampleId;
+use perf_sample_types::sample_id::SampleId;
 use std::marker::Model;
 
 /// What the header of a record and the sample id at its end say: its type, its `misc`, and which

@@ -6,6 +6,7 @@ ghost use Rattle.perf_records.specs.Words.{Event, event};
 
 use crate::metadata::RecordMetadata;
 use perf_base::cow::CowSlice;
+use perf_sample_types::sample::Sample;
 use perf_types::aux_output_hw_id::AuxOutputHwId;
 use perf_types::aux_record::Aux;
 use perf_types::bpf_event::BpfEvent;
@@ -20,7 +21,6 @@ use perf_types::mmap::Mmap;
 use perf_types::mmap2::Mmap2;
 use perf_types::namespaces::Namespaces;
 use perf_types::read::Read;
-use perf_types::sample::Sample;
 use perf_types::switch_cpu_wide::SwitchCpuWide;
 use perf_types::text_poke::TextPoke;
 use perf_types::throttle::Throttle;

@@ -10,7 +10,7 @@ use Rattle.perf_types.specs.Mmap2.{Mmap2Value}
 use Rattle.perf_types.specs.Comm.{CommValue}
 use Rattle.perf_records.specs.Records.{RecordValue, mmap_is, lost_is, comm_is, exit_is, fork_is}
 use Rattle.perf_records.specs.Records.{mmap2_is, lost_samples_is, sample_is}
-use Rattle.perf_types.specs.SampleGetters.{Getters, getters_of}
+use Rattle.perf_sample_types.specs.SampleGetters.{Getters, getters_of}
 use Rattle.perf_reports.specs.declared.counts.Counts.{Counts}
 
 -- a number as 64 bits hold it

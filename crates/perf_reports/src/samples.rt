@@ -4,7 +4,7 @@ ghost use Rattle.std.specs.Prelude.{◌≡◌, ◌++◌, option_map, string_byte
 ghost use Rattle.std.specs.Prelude.{IsOk};
 ghost use Rattle.std.specs.List.{flat_map};
 ghost use Rattle.perf_records.specs.Records as values;
-ghost use Rattle.perf_types.specs.SampleGetters.{getters_of};
+ghost use Rattle.perf_sample_types.specs.SampleGetters.{getters_of};
 ghost use Rattle.perf_reports.specs.SampleLines as printed;
 
 use perf_event_data::{Record, Sample};

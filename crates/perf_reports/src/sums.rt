@@ -5,8 +5,8 @@ ghost use Rattle.perf_records.specs.Records.{record_value, comm_value, mmap_valu
 ghost use Rattle.perf_parser.specs.Runs.{seen_answer};
 ghost use Rattle.perf_reports.specs.Counting.{wrapped, mmap_sum, mmap2_sum, comm_sum, task_sum};
 ghost use Rattle.perf_reports.specs.Counting.{lost_sum, sample_sum, record_sum, frame_sum};
-ghost use Rattle.perf_types.specs.SampleGetters.{getters_of};
-ghost use Rattle.perf_types.specs.SampleGroups.{sample_value};
+ghost use Rattle.perf_sample_types.specs.SampleGetters.{getters_of};
+ghost use Rattle.perf_sample_types.specs.SampleGroups.{sample_value};
 
 use perf_event_data::parse::ParseResult;
 use perf_event_data::sys::perf_event_header;

@@ -6,7 +6,7 @@ use crate::check;
 use perf_event_data::endian::Little;
 use perf_event_data::parse::ParseConfig;
 use perf_event_data::sys::perf_event_attr;
-use perf_types::sample_id::SampleId;
+use perf_sample_types::sample_id::SampleId;
 
 const TID: u64 = 1 << 1;
 

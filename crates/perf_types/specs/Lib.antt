@@ -2,7 +2,6 @@ pub mod Alike
 pub mod Aux
 pub mod AuxOutputHwId
 pub mod BpfEvent
-pub mod Branches
 pub mod CGroup
 pub mod Comm
 pub mod EntryCalls
@@ -21,15 +20,6 @@ pub mod Read
 pub mod ReadFormat
 pub mod ReadGroup
 pub mod ReadValue
-pub mod Registers
-pub mod Sample
-pub mod SampleForms
-pub mod SampleGetters
-pub mod SampleGroups
-pub mod SampleParts
-pub mod SampleWords
-pub mod SampleId
-pub mod SampleIdFields
 pub mod SwitchCpuWide
 pub mod Text
 pub mod TextPoke

@@ -42,9 +42,9 @@ fn read_to_the_end<'p, I: Input<'p>, E: Endian>(reader: &mut Reader<I, E>, count
     Refusal::Eof
 }
 
-// So many numbers, eight at once where the input says that it has them. A list that does not fit
-// takes no memory where the input says what it has.
-pub(crate) fn read_numbers<'p, I: Input<'p>, E: Endian>(
+/// So many numbers, eight at once where the input says that it has them. A list that does not fit
+/// takes no memory where the input says what it has.
+pub fn read_numbers<'p, I: Input<'p>, E: Endian>(
     reader: &mut Reader<I, E>,
     count: usize,
 ) -> ReadResult<Vec<u64>>

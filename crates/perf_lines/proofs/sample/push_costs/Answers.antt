@@ -1,8 +1,8 @@
 use Rattle.std.proofs.Common.{◌≡◌, ◌++◌, ◌∙◌, ◌∷◌, [], List, ℕ, Option, codes, decimal, string_bytes, ap}
 use Rattle.std.proofs.lemmas.Result.{on_ok_weaker}
-use Rattle.perf_types.specs.Registers.{RegistersValue}
-use Rattle.perf_types.specs.SampleGetters.{Getters, getters_of}
-use Rattle.perf_types.specs.SampleGroups.{sample_value}
+use Rattle.perf_sample_types.specs.Registers.{RegistersValue}
+use Rattle.perf_sample_types.specs.SampleGetters.{Getters, getters_of}
+use Rattle.perf_sample_types.specs.SampleGroups.{sample_value}
 use Rattle.perf_lines.specs.Fields.{spaced, present, words_of, listed}
 use Rattle.perf_lines.specs.SampleText.{register_words}
 use Rattle.perf_lines.proofs.Spaced.{words_more, spaced-words_of, spaced-registers}

@@ -1,7 +1,7 @@
 use Rattle.std.proofs.Common.{◌++◌, ◌∙◌, ◌∷◌, [], List, ℕ, Option, codes, string_bytes, ap}
 use Rattle.std.proofs.lemmas.Result.{on_ok_weaker}
-use Rattle.perf_types.specs.SampleGetters.{Getters, getters_of}
-use Rattle.perf_types.specs.SampleGroups.{sample_value}
+use Rattle.perf_sample_types.specs.SampleGetters.{Getters, getters_of}
+use Rattle.perf_sample_types.specs.SampleGroups.{sample_value}
 use Rattle.perf_lines.proofs.Spaced.{spaced-words_of}
 use Rattle.perf_lines.proofs.sample.push_moment.Goals as goal
 

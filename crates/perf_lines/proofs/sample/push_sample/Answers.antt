@@ -1,7 +1,7 @@
 use Rattle.std.proofs.Common.{◌++◌, ◌∷◌, [], codes}
 use Rattle.std.proofs.lemmas.Result.{on_ok_weaker}
-use Rattle.perf_types.specs.SampleGetters.{Getters, getters_of}
-use Rattle.perf_types.specs.SampleGroups.{sample_value}
+use Rattle.perf_sample_types.specs.SampleGetters.{Getters, getters_of}
+use Rattle.perf_sample_types.specs.SampleGroups.{sample_value}
 use Rattle.perf_lines.specs.SampleText.{moment_words, count_words, state_words, cost_words, memory_words}
 use Rattle.perf_lines.proofs.Spaced.{words_more}
 use Rattle.perf_lines.proofs.sample.push_sample.Goals as goal

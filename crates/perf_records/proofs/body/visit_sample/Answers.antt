@@ -1,7 +1,7 @@
 use Rattle.std.proofs.Common.{◌≡◌, true, false, refl}
 use Rattle.perf_records.specs.Records.{sample_is, sample_value}
 use Rattle.perf_records.specs.Visits.{is_lent_sample}
-use Rattle.perf_types.specs.Sample.{sample}
+use Rattle.perf_sample_types.specs.Sample.{sample}
 use Rattle.perf_records.proofs.Lending.{sample_lent}
 use Rattle.perf_records.proofs.Seeing.{visited, unvisited, of_said}
 use Rattle.perf_records.proofs.body.visit_sample.Goals as goal

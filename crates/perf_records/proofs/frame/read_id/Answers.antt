@@ -7,7 +7,7 @@ use Rattle.perf_records.specs.Metadata.{carries_sample_id}
 use Rattle.perf_base.specs.Refusals.{refusal_kind}
 use Rattle.perf_records.proofs.Keeping.{never_refused}
 use Rattle.perf_records.proofs.Saying.{took_says}
-use Rattle.perf_types.specs.SampleId.{no_sample_id, sample_id, sample_id_length}
+use Rattle.perf_sample_types.specs.SampleId.{no_sample_id, sample_id, sample_id_length}
 use Rattle.perf_records.proofs.frame.read_id.Goals as goal
 
 pub returns-in-Ok-clause-id : goal.returns-in-Ok-clause-id

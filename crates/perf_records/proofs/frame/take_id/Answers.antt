@@ -9,7 +9,7 @@ use Rattle.perf_base.specs.Order.{Order}
 use Rattle.perf_buffers.specs.Cursor.{cursor_left}
 use Rattle.perf_records.specs.Answers.{FrameParts}
 use Rattle.perf_records.specs.Metadata.{MetadataValue, id_of_type, id_length}
-use Rattle.perf_types.specs.SampleId.{SampleIdValue}
+use Rattle.perf_sample_types.specs.SampleId.{SampleIdValue}
 use Rattle.perf_records.proofs.frame.take_id.Goals as goal
 
 pub returns-clause-form : goal.returns-clause-form

@@ -1,0 +1,10 @@
+use Rattle.std.proofs.Common.{◌*◌}
+use Rattle.std.specs.List.{flat_map}
+use Rattle.perf_reader.proofs.InRow.{InRow}
+use Rattle.perf_sample_types.specs.Branches.{branch_numbers}
+use Rattle.perf_sample_types.proofs.branches.read_branches.Given as goal
+
+-- the numbers of as many branches as were counted were read in a row
+abbrev pub invariant-loop : goal.invariant-loop
+invariant-loop g l =
+    InRow g.I.Input.source g.E.Endian.order (3 * l.counter) l.initial.reader (flat_map branch_numbers l.entries.items) l.reader

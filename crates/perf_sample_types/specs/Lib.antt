@@ -1,0 +1,10 @@
+pub mod Branches
+pub mod Registers
+pub mod Sample
+pub mod SampleForms
+pub mod SampleGetters
+pub mod SampleGroups
+pub mod SampleParts
+pub mod SampleWords
+pub mod SampleId
+pub mod SampleIdFields

@@ -1,0 +1,13 @@
+//! Samples, their sample ids and their registers, as plain values.
+#![tactic(auto)]
+
+mod branches;
+pub mod registers;
+pub mod sample;
+mod sample_clone;
+mod sample_field;
+pub mod sample_fields;
+mod sample_groups;
+pub mod sample_id;
+mod sample_made;
+mod sample_parts;

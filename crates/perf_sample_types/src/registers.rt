@@ -1,0 +1,78 @@
+//! Registers of a task.
+
+ghost use Rattle.std.specs.Prelude.{◌≡◌};
+ghost use Rattle.perf_sample_types.specs.Registers as shown;
+
+use perf_base::cow::CowSlice;
+use perf_base::endian::Endian;
+use perf_base::error::ParseResult;
+use perf_base::refusal::ReadResult;
+use perf_buffers::input::Input;
+use perf_reader::reader::Reader;
+use perf_types::numbers::read_numbers;
+use perf_words::SampleRegsAbi;
+use std::alloc::Global;
+
+/// The registers of a task when an event happened, those of its own code (`PERF_SAMPLE_REGS_USER`)
+/// or those that the processor had at the interrupt (`PERF_SAMPLE_REGS_INTR`).
+#[derive(Debug, Drop)]
+pub struct Registers<'a> {
+    /// Whether the task is one of 32 or of 64 bits, `PERF_SAMPLE_REGS_ABI_*`. With
+    /// [`SampleRegsAbi::NONE`] no registers were written, as for a thread of the kernel, which has
+    /// none of a user.
+    pub abi: SampleRegsAbi,
+    /// Which registers the event asks for: a bit each, by the numbers of the machine's
+    /// `perf_regs.h`.
+    pub mask: u64,
+    /// What they held, one for each bit of the mask from its lowest on. There is none where `abi`
+    /// is [`SampleRegsAbi::NONE`].
+    pub regs: CowSlice<'a, u64>,
+}
+
+impl<'p> Registers<'p> {
+    ghost use Rattle.perf_sample_types.specs.Registers.{registers_of, registers_value, registers_form};
+    ghost use Rattle.perf_types.specs.Words.{Call, Reads, kinds, IsClone};
+
+    /// Reads registers of a mask.
+    #[inline]
+    #[tactic(auto, using(perf_reader::proofs::Paying::chain))]
+    pub fn read_by<I: Input<'p>, E: Endian>(
+        reader: &mut Reader<I, E>,
+        mask: u64,
+    ) -> ReadResult<Registers<'p>>
+        ensures call { Call I.source E.order (Reads (λ _. registers_of mask) registers_value)
+            reader.old (kinds result) reader.new }
+    {
+        let abi = reader.read_u64()?;
+        let count = register_count(mask, abi);
+        let regs = read_numbers(reader, count)?;
+        Ok(Registers {
+            abi: SampleRegsAbi::new(abi),
+            mask,
+            regs: CowSlice::Owned(regs),
+        })
+    }
+
+    /// The same registers. They take no memory where their numbers are borrowed.
+    pub fn clone(&self, alloc: Global) -> ParseResult<Registers<'p>>
+        ensures { IsClone registers_value registers_form self.now result }
+    {
+        Ok(Registers {
+            abi: self.abi,
+            mask: self.mask,
+            regs: self.regs.clone(alloc)?,
+        })
+    }
+}
+
+// How many registers of a mask there are.
+#[inline]
+fn register_count(mask: u64, abi: u64) -> usize
+    ensures { result ≡ shown.register_count mask abi }
+{
+    if abi == 0 {
+        0
+    } else {
+        mask.count_ones() as usize
+    }
+}

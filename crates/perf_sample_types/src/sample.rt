@@ -1,0 +1,425 @@
+//! SAMPLE.
+
+ghost use Rattle.std.specs.Prelude.{◌≡◌, option_map, ⊤};
+ghost use Rattle.perf_sample_types.specs.SampleWords as shown;
+ghost use Rattle.perf_sample_types.specs.SampleWords.{Call, ReadsBorrowed, kinds, group_read};
+ghost use Rattle.perf_sample_types.specs.SampleWords.{registers_value, txn_bits};
+
+use crate::registers::Registers;
+use crate::sample_fields::SampleFields;
+use crate::sample_groups::{Costs, Counts, Memory, Moment, State};
+use crate::sample_id::SampleId;
+use crate::sample_made::{
+    aux_of, branches_of, call_chain_of, cpu_of, interrupt_registers_of, raw_of, stack_of, task_of,
+    user_registers_of,
+};
+use crate::sample_parts::Branches;
+use perf_base::endian::Endian;
+use perf_base::error::ParseResult;
+use perf_base::refusal::ReadResult;
+use perf_buffers::input::Input;
+use perf_reader::read::{Meant, ReadFrom};
+use perf_reader::reader::Reader;
+use perf_types::read_group::ReadGroup;
+use perf_words::{BranchEntry, DataSource, Txn};
+use std::alloc::Global;
+
+/// An event happened, and this was true then (`PERF_RECORD_SAMPLE`). A field is there where the
+/// sample type has its flag.
+#[derive(Debug, Drop)]
+pub struct Sample<'a> {
+    moment: Moment,
+    counts: Counts<'a>,
+    state: State<'a>,
+    costs: Costs<'a>,
+    memory: Memory<'a>,
+}
+
+impl<'a> Sample<'a> {
+    /// The sample of these fields. A sample type that has their flags has all of them. Each of its
+    /// lists is borrowed or owned as the one that is given.
+    #[tactic(auto, using(crate::proofs::SampleGetters::kept, crate::proofs::Forms::lists_of_groups))]
+    pub fn from_fields(fields: SampleFields<'a>) -> Sample<'a>
+        ensures fields { shown.getters_of (shown.sample_value result) ≡
+            shown.fields_getters fields.entry }
+        ensures form { shown.IsBorrowedFields fields.entry → shown.IsBorrowedSample result }
+        ensures lists { shown.sample_form result ≡ shown.fields_form fields.entry }
+    {
+        Sample {
+            moment: Moment {
+                identifier: None,
+                ip: fields.ip,
+                task: task_of(fields.pid, fields.tid),
+                time: fields.time,
+                addr: fields.addr,
+                id: fields.id,
+            },
+            counts: Counts {
+                stream_id: fields.stream_id,
+                cpu: cpu_of(fields.cpu),
+                period: fields.period,
+                values: fields.values,
+                call_chain: call_chain_of(fields.callchain),
+            },
+            state: State {
+                raw: raw_of(fields.raw),
+                branches: branches_of(fields.lbr_hw_index, fields.lbr),
+                regs_user: user_registers_of(fields.regs_user),
+                stack_user: stack_of(fields.stack_user),
+            },
+            costs: Costs {
+                weight: fields.weight,
+                data_src: fields.data_src,
+                transaction: fields.transaction,
+                regs_intr: interrupt_registers_of(fields.regs_intr),
+            },
+            memory: Memory {
+                phys_addr: fields.phys_addr,
+                cgroup: fields.cgroup,
+                data_page_size: fields.data_page_size,
+                code_page_size: fields.code_page_size,
+                aux: aux_of(fields.aux),
+            },
+        }
+    }
+
+    /// Where the code was: the address of an instruction (`PERF_SAMPLE_IP`).
+    #[inline]
+    #[tactic(auto, using(crate::proofs::SampleGetters::kept))]
+    pub fn ip(&self) -> Option<u64>
+        ensures { result ≡
+            (shown.getters_of (shown.sample_value self.now)).ip }
+    {
+        self.moment.ip
+    }
+
+    /// The process (`PERF_SAMPLE_TID`).
+    #[inline]
+    pub fn pid(&self) -> Option<u32>
+        ensures { result ≡
+            (shown.getters_of (shown.sample_value self.now)).pid }
+    {
+        match &self.moment.task {
+            Some(task) => task.pid,
+            None => None,
+        }
+    }
+
+    /// Its thread (`PERF_SAMPLE_TID`).
+    #[inline]
+    pub fn tid(&self) -> Option<u32>
+        ensures { result ≡
+            (shown.getters_of (shown.sample_value self.now)).tid }
+    {
+        match &self.moment.task {
+            Some(task) => task.tid,
+            None => None,
+        }
+    }
+
+    /// When it happened, in nanoseconds of the event's clock (`PERF_SAMPLE_TIME`).
+    #[inline]
+    #[tactic(auto, using(crate::proofs::SampleGetters::kept))]
+    pub fn time(&self) -> Option<u64>
+        ensures { result ≡
+            (shown.getters_of (shown.sample_value self.now)).time }
+    {
+        self.moment.time
+    }
+
+    /// An address that belongs to the event, such as the one that a fault wanted
+    /// (`PERF_SAMPLE_ADDR`).
+    #[inline]
+    #[tactic(auto, using(crate::proofs::SampleGetters::kept))]
+    pub fn addr(&self) -> Option<u64>
+        ensures { result ≡
+            (shown.getters_of (shown.sample_value self.now)).addr }
+    {
+        self.moment.addr
+    }
+
+    /// The kernel's own number of the event, or of its group's leader (`PERF_SAMPLE_ID` or
+    /// `PERF_SAMPLE_IDENTIFIER`).
+    #[inline]
+    #[tactic(auto, using(crate::proofs::SampleGetters::kept))]
+    pub fn id(&self) -> Option<u64>
+        ensures { result ≡
+            (shown.getters_of (shown.sample_value self.now)).id }
+    {
+        self.moment.id.or(self.moment.identifier)
+    }
+
+    /// The kernel's own number of the event itself (`PERF_SAMPLE_STREAM_ID`).
+    #[inline]
+    #[tactic(auto, using(crate::proofs::SampleGetters::kept))]
+    pub fn stream_id(&self) -> Option<u64>
+        ensures { result ≡
+            (shown.getters_of (shown.sample_value self.now)).stream_id }
+    {
+        self.counts.stream_id
+    }
+
+    /// The processor on which it happened (`PERF_SAMPLE_CPU`).
+    #[inline]
+    pub fn cpu(&self) -> Option<u32>
+        ensures { result ≡
+            (shown.getters_of (shown.sample_value self.now)).cpu }
+    {
+        match &self.counts.cpu {
+            Some(cpu) => Some(cpu.0),
+            None => None,
+        }
+    }
+
+    /// How many events the sample stands for (`PERF_SAMPLE_PERIOD`).
+    #[inline]
+    #[tactic(auto, using(crate::proofs::SampleGetters::kept))]
+    pub fn period(&self) -> Option<u64>
+        ensures { result ≡
+            (shown.getters_of (shown.sample_value self.now)).period }
+    {
+        self.counts.period
+    }
+
+    /// What was read of the event's counters: those of its group, or its own as a group of one
+    /// (`PERF_SAMPLE_READ`).
+    #[inline]
+    pub fn values(&self) -> Option<&ReadGroup<'a>>
+        ensures { option_map (λ group. group_read group.now) result ≡
+            (shown.getters_of (shown.sample_value self.now)).values }
+    {
+        self.counts.values.as_ref()
+    }
+
+    /// Addresses of calls, the innermost first. Numbers from `PERF_CONTEXT_MAX` on, -4095 as a u64,
+    /// are no addresses but say whose those behind them are. It is there where the sample type has
+    /// `PERF_SAMPLE_CALLCHAIN`.
+    #[inline]
+    pub fn callchain(&self) -> Option<&[u64]>
+        ensures { option_map (λ items. items.now) result ≡
+            (shown.getters_of (shown.sample_value self.now)).callchain }
+    {
+        match &self.counts.call_chain {
+            Some(chain) => Some(chain.0.as_slice()),
+            None => None,
+        }
+    }
+
+    /// Bytes that the event wrote, such as the fields of a tracepoint (`PERF_SAMPLE_RAW`).
+    #[inline]
+    pub fn raw(&self) -> Option<&[u8]>
+        ensures { option_map (λ bytes. bytes.now) result ≡
+            (shown.getters_of (shown.sample_value self.now)).raw }
+    {
+        match &self.state.raw {
+            Some(bytes) => Some(bytes.0.as_slice()),
+            None => None,
+        }
+    }
+
+    /// Where the hardware's own list of branches had its newest one (`PERF_SAMPLE_BRANCH_STACK` and
+    /// the branch sample type `PERF_SAMPLE_BRANCH_HW_INDEX`).
+    #[inline]
+    pub fn lbr_hw_index(&self) -> Option<u64>
+        ensures { result ≡
+            (shown.getters_of (shown.sample_value self.now)).lbr_hw_index }
+    {
+        match &self.state.branches {
+            Some(branches) => branches.hw_index,
+            None => None,
+        }
+    }
+
+    /// Branches, the newest first (`PERF_SAMPLE_BRANCH_STACK`).
+    #[inline]
+    pub fn lbr(&self) -> Option<&[BranchEntry]>
+        ensures { option_map (λ entries. entries.now) result ≡
+            (shown.getters_of (shown.sample_value self.now)).lbr }
+    {
+        match &self.state.branches {
+            Some(
+                Branches {
+                    entries: Some(entries),
+                    ..
+                },
+            ) => Some(entries.as_slice()),
+            _ => None,
+        }
+    }
+
+    /// The registers of the task's own code (`PERF_SAMPLE_REGS_USER`).
+    #[inline]
+    pub fn regs_user(&self) -> Option<&Registers<'a>>
+        ensures { option_map (λ regs. registers_value regs.now) result ≡
+            (shown.getters_of (shown.sample_value self.now)).regs_user }
+    {
+        match &self.state.regs_user {
+            Some(registers) => Some(&registers.0),
+            None => None,
+        }
+    }
+
+    /// What the kernel copied of the task's stack, from its top on: as many bytes as it used
+    /// (`PERF_SAMPLE_STACK_USER`).
+    #[inline]
+    pub fn stack_user(&self) -> Option<&[u8]>
+        ensures { option_map (λ bytes. bytes.now) result ≡
+            (shown.getters_of (shown.sample_value self.now)).stack_user }
+    {
+        match &self.state.stack_user {
+            Some(bytes) => Some(bytes.0.as_slice()),
+            None => None,
+        }
+    }
+
+    /// How costly the event was, such as a latency in cycles (`PERF_SAMPLE_WEIGHT` or
+    /// `PERF_SAMPLE_WEIGHT_STRUCT`).
+    #[inline]
+    #[tactic(auto, using(crate::proofs::SampleGetters::kept))]
+    pub fn weight(&self) -> Option<u64>
+        ensures { result ≡
+            (shown.getters_of (shown.sample_value self.now)).weight }
+    {
+        self.costs.weight
+    }
+
+    /// Where the data came from (`PERF_SAMPLE_DATA_SRC`).
+    #[inline]
+    pub fn data_src(&self) -> Option<DataSource>
+        ensures { result ≡
+            (shown.getters_of (shown.sample_value self.now)).data_src }
+    {
+        self.costs.data_src
+    }
+
+    /// What a memory transaction did (`PERF_SAMPLE_TRANSACTION`).
+    #[inline]
+    pub fn transaction(&self) -> Option<Txn>
+        ensures { option_map txn_bits result ≡
+            (shown.getters_of (shown.sample_value self.now)).transaction }
+    {
+        self.costs.transaction
+    }
+
+    /// The registers that the processor had at the interrupt (`PERF_SAMPLE_REGS_INTR`).
+    #[inline]
+    pub fn regs_intr(&self) -> Option<&Registers<'a>>
+        ensures { option_map (λ regs. registers_value regs.now) result ≡
+            (shown.getters_of (shown.sample_value self.now)).regs_intr }
+    {
+        match &self.costs.regs_intr {
+            Some(registers) => Some(&registers.0),
+            None => None,
+        }
+    }
+
+    /// The physical address that belongs to [`Sample::addr`] (`PERF_SAMPLE_PHYS_ADDR`).
+    #[inline]
+    #[tactic(auto, using(crate::proofs::SampleGetters::kept))]
+    pub fn phys_addr(&self) -> Option<u64>
+        ensures { result ≡
+            (shown.getters_of (shown.sample_value self.now)).phys_addr }
+    {
+        self.memory.phys_addr
+    }
+
+    /// Bytes of the AUX area (`PERF_SAMPLE_AUX`).
+    #[inline]
+    pub fn aux(&self) -> Option<&[u8]>
+        ensures { option_map (λ bytes. bytes.now) result ≡
+            (shown.getters_of (shown.sample_value self.now)).aux }
+    {
+        match &self.memory.aux {
+            Some(bytes) => Some(bytes.0.as_slice()),
+            None => None,
+        }
+    }
+
+    /// The number of the task's control group (`PERF_SAMPLE_CGROUP`).
+    #[inline]
+    #[tactic(auto, using(crate::proofs::SampleGetters::kept))]
+    pub fn cgroup(&self) -> Option<u64>
+        ensures { result ≡
+            (shown.getters_of (shown.sample_value self.now)).cgroup }
+    {
+        self.memory.cgroup
+    }
+
+    /// How many bytes the page of [`Sample::addr`] has (`PERF_SAMPLE_DATA_PAGE_SIZE`).
+    #[inline]
+    #[tactic(auto, using(crate::proofs::SampleGetters::kept))]
+    pub fn data_page_size(&self) -> Option<u64>
+        ensures { result ≡
+            (shown.getters_of (shown.sample_value self.now)).data_page_size }
+    {
+        self.memory.data_page_size
+    }
+
+    /// How many bytes the page of [`Sample::ip`] has (`PERF_SAMPLE_CODE_PAGE_SIZE`).
+    #[inline]
+    #[tactic(auto, using(crate::proofs::SampleGetters::kept))]
+    pub fn code_page_size(&self) -> Option<u64>
+        ensures { result ≡
+            (shown.getters_of (shown.sample_value self.now)).code_page_size }
+    {
+        self.memory.code_page_size
+    }
+
+    /// The same sample. It takes no memory where no list of it is owned.
+    #[tactic(auto, using(crate::proofs::Forms::parts_of_a_form))]
+    pub fn clone(&self, alloc: Global) -> ParseResult<Sample<'a>>
+        ensures { shown.IsClone shown.sample_value shown.sample_form self.now result }
+    {
+        let memory = self.memory.clone(alloc)?;
+        let costs = self.costs.clone(alloc)?;
+        let state = self.state.clone(alloc)?;
+        let counts = self.counts.clone(alloc)?;
+        Ok(Sample {
+            moment: self.moment.copied(),
+            counts,
+            state,
+            costs,
+            memory,
+        })
+    }
+}
+
+impl Meant for Sample<'_> {
+    ghost says = { ReadsBorrowed shown.sample shown.sample_value shown.IsBorrowedSample };
+}
+
+/// Registers of [`SampleRegsAbi::NONE`](perf_words::SampleRegsAbi::NONE) have no values. A user's
+/// stack of which more was used than the record has is [`Refusal::UsedStack`], behind the size that
+/// was used. No claimed count makes room for numbers or branches. Byte strings are borrowed from a
+/// whole buffer.
+impl<'p, I: Input<'p>> ReadFrom<'p, I> for Sample<'p> {
+    #[tactic(auto, using(crate::proofs::SampleTable::places_sample))]
+    fn read<E: Endian>(reader: &mut Reader<I, E>) -> ReadResult<Self> {
+        let moment = match Moment::read(reader) {
+            Ok(moment) => moment,
+            Err(refusal) => return Err(refusal),
+        };
+        let counts = match Counts::read(reader) {
+            Ok(counts) => counts,
+            Err(refusal) => return Err(refusal),
+        };
+        let state = match State::read(reader) {
+            Ok(state) => state,
+            Err(refusal) => return Err(refusal),
+        };
+        let costs = match Costs::read(reader) {
+            Ok(costs) => costs,
+            Err(refusal) => return Err(refusal),
+        };
+        match Memory::read(reader) {
+            Ok(memory) => Ok(Sample {
+                moment,
+                counts,
+                state,
+                costs,
+                memory,
+            }),
+            Err(refusal) => Err(refusal),
+        }
+    }
+}

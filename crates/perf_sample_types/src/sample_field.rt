@@ -1,0 +1,53 @@
+//! Fields of a sample, each there or absent.
+
+ghost use Rattle.std.specs.Prelude.{⊤, IfSome, option_map};
+ghost use Rattle.perf_base.specs.Configuration.{Configuration};
+ghost use Rattle.perf_base.specs.Table.{present_if};
+ghost use Rattle.perf_sample_types.specs.Sample as sample;
+ghost use Rattle.perf_sample_types.specs.SampleWords.{Call, Parts, ReadsBorrowed, ReadsField, kinds};
+
+use perf_base::endian::Endian;
+use perf_base::refusal::ReadResult;
+use perf_buffers::input::Input;
+use perf_reader::reader::Reader;
+
+// What a field of a sample says. One type stands for each kind of field.
+pub(crate) trait SampleField: Sized {
+    // the bytes that it takes
+    ghost parts: { Configuration → Parts sample.FieldValue };
+
+    // what it says
+    ghost value: { Self → sample.FieldValue };
+
+    // that no byte of it was copied
+    ghost borrowed: { Self → Type 0 };
+}
+
+// A field that is read out of an input.
+pub(crate) trait ReadField<'p, I: Input<'p>>: SampleField {
+    fn read_field<E: Endian>(reader: &mut Reader<I, E>) -> ReadResult<Self>
+        ensures call { Call I.source E.order
+            (ReadsBorrowed (λ c. Self.parts (sample.settings_of c)) Self.value Self.borrowed)
+            reader.old (kinds result) reader.new };
+}
+
+// A field where it is there. One that is absent costs the test of its flag.
+#[inline]
+#[tactic(auto, using(perf_reader::proofs::TableRuns::optional_fields))]
+pub(crate) fn read_field_if<'p, I: Input<'p>, E: Endian, T: ReadField<'p, I>>(
+    reader: &mut Reader<I, E>,
+    present: bool,
+) -> ReadResult<Option<T>>
+    ensures call { Call I.source E.order
+        (ReadsField (λ c. present_if present (T.parts (sample.settings_of c)))
+        (option_map T.value) (λ x. IfSome x T.borrowed))
+        reader.old (kinds result) reader.new }
+{
+    if !present {
+        return Ok(None);
+    }
+    match T::read_field(reader) {
+        Ok(field) => Ok(Some(field)),
+        Err(refusal) => Err(refusal),
+    }
+}

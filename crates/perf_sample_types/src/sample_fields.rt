@@ -1,0 +1,150 @@
+//! The fields of a sample by their names.
+
+ghost use Rattle.std.specs.Prelude.{◌≡◌};
+ghost use Rattle.perf_base.specs.Copies.{IsClone};
+ghost use Rattle.perf_sample_types.specs.SampleForms.{fields_form};
+ghost use Rattle.perf_sample_types.specs.SampleGetters.{fields_getters, no_getters};
+
+use crate::registers::Registers;
+use crate::sample_clone::{clone_group, clone_list, clone_registers};
+use perf_base::cow::CowSlice;
+use perf_base::error::ParseResult;
+use perf_types::read_group::ReadGroup;
+use perf_words::{BranchEntry, DataSource, Txn};
+use std::alloc::Global;
+
+/// What a sample says, field by field, for a sample that is made and not read
+/// ([`Sample::from_fields`](crate::sample::Sample::from_fields)).
+#[derive(Debug, Drop)]
+pub struct SampleFields<'a> {
+    /// Where the code was: the address of an instruction.
+    pub ip: Option<u64>,
+    /// The process.
+    pub pid: Option<u32>,
+    /// Its thread.
+    pub tid: Option<u32>,
+    /// When it happened, in nanoseconds of the event's clock.
+    pub time: Option<u64>,
+    /// An address that belongs to the event, such as the one that a fault wanted.
+    pub addr: Option<u64>,
+    /// The kernel's own number of the event, or of its group's leader.
+    pub id: Option<u64>,
+    /// The kernel's own number of the event itself.
+    pub stream_id: Option<u64>,
+    /// The processor on which it happened.
+    pub cpu: Option<u32>,
+    /// How many events the sample stands for.
+    pub period: Option<u64>,
+    /// What was read of the event's counters: those of its group, or its own as a group of one.
+    pub values: Option<ReadGroup<'a>>,
+    /// Addresses of calls, the innermost first. Numbers from `PERF_CONTEXT_MAX` on, -4095 as a u64,
+    /// are no addresses but say whose those behind them are.
+    pub callchain: Option<CowSlice<'a, u64>>,
+    /// Bytes that the event wrote, such as the fields of a tracepoint.
+    pub raw: Option<CowSlice<'a, u8>>,
+    /// Where the hardware's own list of branches had its newest one.
+    pub lbr_hw_index: Option<u64>,
+    /// Branches, the newest first.
+    pub lbr: Option<CowSlice<'a, BranchEntry>>,
+    /// The registers of the task's own code.
+    pub regs_user: Option<Registers<'a>>,
+    /// What the kernel copied of the task's stack, from its top on: as many bytes as it used.
+    pub stack_user: Option<CowSlice<'a, u8>>,
+    /// How costly the event was, such as a latency in cycles.
+    pub weight: Option<u64>,
+    /// Where the data came from.
+    pub data_src: Option<DataSource>,
+    /// What a memory transaction did.
+    pub transaction: Option<Txn>,
+    /// The registers that the processor had at the interrupt.
+    pub regs_intr: Option<Registers<'a>>,
+    /// The physical address that belongs to `addr`.
+    pub phys_addr: Option<u64>,
+    /// Bytes of the AUX area.
+    pub aux: Option<CowSlice<'a, u8>>,
+    /// The number of the task's control group.
+    pub cgroup: Option<u64>,
+    /// How many bytes the page of `addr` has.
+    pub data_page_size: Option<u64>,
+    /// How many bytes the page of `ip` has.
+    pub code_page_size: Option<u64>,
+}
+
+impl<'a> SampleFields<'a> {
+    /// The same fields. They take no memory where no list of them is owned.
+    #[tactic(auto, using(crate::proofs::Forms::parts_of_a_form))]
+    pub fn clone(&self, alloc: Global) -> ParseResult<SampleFields<'a>>
+        ensures { IsClone fields_getters fields_form self.now result }
+    {
+        let values = clone_group(&self.values, alloc)?;
+        let callchain = clone_list(&self.callchain, alloc)?;
+        let raw = clone_list(&self.raw, alloc)?;
+        let lbr = clone_list(&self.lbr, alloc)?;
+        let regs_user = clone_registers(&self.regs_user, alloc)?;
+        let stack_user = clone_list(&self.stack_user, alloc)?;
+        let regs_intr = clone_registers(&self.regs_intr, alloc)?;
+        let aux = clone_list(&self.aux, alloc)?;
+        Ok(SampleFields {
+            ip: self.ip,
+            pid: self.pid,
+            tid: self.tid,
+            time: self.time,
+            addr: self.addr,
+            id: self.id,
+            stream_id: self.stream_id,
+            cpu: self.cpu,
+            period: self.period,
+            values,
+            callchain,
+            raw,
+            lbr_hw_index: self.lbr_hw_index,
+            lbr,
+            regs_user,
+            stack_user,
+            weight: self.weight,
+            data_src: self.data_src,
+            transaction: self.transaction,
+            regs_intr,
+            phys_addr: self.phys_addr,
+            aux,
+            cgroup: self.cgroup,
+            data_page_size: self.data_page_size,
+            code_page_size: self.code_page_size,
+        })
+    }
+}
+
+/// No field is there.
+impl Default for SampleFields<'_> {
+    ghost is_default = { λ fields. fields_getters fields ≡ no_getters };
+
+    fn default() -> Self {
+        SampleFields {
+            ip: None,
+            pid: None,
+            tid: None,
+            time: None,
+            addr: None,
+            id: None,
+            stream_id: None,
+            cpu: None,
+            period: None,
+            values: None,
+            callchain: None,
+            raw: None,
+            lbr_hw_index: None,
+            lbr: None,
+            regs_user: None,
+            stack_user: None,
+            weight: None,
+            data_src: None,
+            transaction: None,
+            regs_intr: None,
+            phys_addr: None,
+            aux: None,
+            cgroup: None,
+            data_page_size: None,
+            code_page_size: None,
+        }
+    }
+}

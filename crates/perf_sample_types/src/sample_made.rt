@@ -1,0 +1,138 @@
+//! Fields of a sample that is made and not read.
+
+ghost use Rattle.std.specs.Prelude.{◌≡◌, option_map, IfSome, IsTrue};
+ghost use Rattle.perf_sample_types.specs.SampleForms as forms;
+ghost use Rattle.perf_sample_types.specs.SampleGetters as seen;
+ghost use Rattle.perf_sample_types.specs.SampleParts as parts;
+ghost use Rattle.perf_sample_types.specs.SampleWords.{cow_items, is_borrowed, registers_value};
+
+use crate::registers::Registers;
+use crate::sample_parts::{
+    AuxBytes, Branches, CallChain, Cpu, InterruptRegisters, RawData, Stack, Task, UserRegisters,
+};
+use perf_base::cow::CowSlice;
+use perf_words::BranchEntry;
+
+// A process and its thread, where one of them is there.
+pub(crate) fn task_of(pid: Option<u32>, tid: Option<u32>) -> Option<Task>
+    ensures pid { seen.pid_in (option_map parts.task_value result) ≡ pid }
+    ensures tid { seen.tid_in (option_map parts.task_value result) ≡ tid }
+{
+    match (pid, tid) {
+        (None, None) => None,
+        (pid, tid) => Some(Task { pid, tid }),
+    }
+}
+
+// Branches and their index, where one of them is there.
+pub(crate) fn branches_of<'a>(
+    hw_index: Option<u64>,
+    entries: Option<CowSlice<'a, BranchEntry>>,
+) -> Option<Branches<'a>>
+    ensures hw_index { seen.hw_index_in (option_map parts.branches_value result) ≡ hw_index }
+    ensures entries { seen.branches_in (option_map parts.branches_value result) ≡
+        option_map cow_items entries.entry }
+    ensures lists { forms.form_if forms.branches_form result ≡
+        forms.form_if forms.cow_form entries.entry }
+{
+    match (hw_index, entries) {
+        (None, None) => None,
+        (hw_index, entries) => Some(Branches { hw_index, entries }),
+    }
+}
+
+// A processor.
+pub(crate) fn cpu_of(number: Option<u32>) -> Option<Cpu>
+    ensures is { seen.number_in (option_map parts.cpu_value result) ≡ number }
+{
+    match number {
+        Some(number) => Some(Cpu(number)),
+        None => None,
+    }
+}
+
+// A call chain.
+pub(crate) fn call_chain_of<'a>(addresses: Option<CowSlice<'a, u64>>) -> Option<CallChain<'a>>
+    ensures is { seen.numbers_in (option_map parts.call_chain_value result) ≡
+        option_map cow_items addresses.entry }
+    ensures lists { forms.form_if forms.call_chain_form result ≡
+        forms.form_if forms.cow_form addresses.entry }
+{
+    match addresses {
+        Some(addresses) => Some(CallChain(addresses)),
+        None => None,
+    }
+}
+
+// Raw bytes.
+pub(crate) fn raw_of<'a>(bytes: Option<CowSlice<'a, u8>>) -> Option<RawData<'a>>
+    ensures is { seen.bytes_in (option_map parts.raw_value result) ≡
+        option_map cow_items bytes.entry }
+    ensures lists { forms.form_if forms.raw_form result ≡
+        forms.form_if forms.cow_form bytes.entry }
+    ensures form { IfSome bytes.entry (λ b. IsTrue (is_borrowed b)) →
+        IfSome result (λ b. IsTrue (is_borrowed b.0)) }
+{
+    match bytes {
+        Some(bytes) => Some(RawData(bytes)),
+        None => None,
+    }
+}
+
+// A stack.
+pub(crate) fn stack_of<'a>(bytes: Option<CowSlice<'a, u8>>) -> Option<Stack<'a>>
+    ensures is { seen.bytes_in (option_map parts.stack_value result) ≡
+        option_map cow_items bytes.entry }
+    ensures lists { forms.form_if forms.stack_form result ≡
+        forms.form_if forms.cow_form bytes.entry }
+    ensures form { IfSome bytes.entry (λ b. IsTrue (is_borrowed b)) →
+        IfSome result (λ b. IsTrue (is_borrowed b.0)) }
+{
+    match bytes {
+        Some(bytes) => Some(Stack(bytes)),
+        None => None,
+    }
+}
+
+// Bytes of the AUX area.
+pub(crate) fn aux_of<'a>(bytes: Option<CowSlice<'a, u8>>) -> Option<AuxBytes<'a>>
+    ensures is { seen.bytes_in (option_map parts.aux_value result) ≡
+        option_map cow_items bytes.entry }
+    ensures lists { forms.form_if forms.aux_form result ≡
+        forms.form_if forms.cow_form bytes.entry }
+    ensures form { IfSome bytes.entry (λ b. IsTrue (is_borrowed b)) →
+        IfSome result (λ b. IsTrue (is_borrowed b.0)) }
+{
+    match bytes {
+        Some(bytes) => Some(AuxBytes(bytes)),
+        None => None,
+    }
+}
+
+// Registers of the task's own code.
+pub(crate) fn user_registers_of<'a>(registers: Option<Registers<'a>>) -> Option<UserRegisters<'a>>
+    ensures is { seen.registers_in (option_map parts.user_value result) ≡
+        option_map registers_value registers.entry }
+    ensures lists { forms.form_if forms.user_form result ≡
+        forms.form_if forms.registers_form registers.entry }
+{
+    match registers {
+        Some(registers) => Some(UserRegisters(registers)),
+        None => None,
+    }
+}
+
+// Registers at the interrupt.
+pub(crate) fn interrupt_registers_of<'a>(
+    registers: Option<Registers<'a>>,
+) -> Option<InterruptRegisters<'a>>
+    ensures is { seen.registers_in (option_map parts.interrupt_value result) ≡
+        option_map registers_value registers.entry }
+    ensures lists { forms.form_if forms.interrupt_form result ≡
+        forms.form_if forms.registers_form registers.entry }
+{
+    match registers {
+        Some(registers) => Some(InterruptRegisters(registers)),
+        None => None,
+    }
+}

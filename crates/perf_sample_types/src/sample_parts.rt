@@ -1,0 +1,329 @@
+//! The kinds of fields that a sample has, and how each is read.
+#![tactic(auto, using(perf_reader::proofs::Paying::chain))]
+
+ghost use Rattle.std.specs.Prelude.{◌≡◌, ⊤, ℕ, ◌<◌, ◌^◌, IsTrue};
+ghost use Rattle.perf_sample_types.specs.Sample as sample;
+ghost use Rattle.perf_sample_types.specs.SampleParts as parts;
+ghost use Rattle.perf_sample_types.specs.SampleWords.{Call, Reads, ReadsBorrowed, is_borrowed, kinds};
+
+use crate::branches::read_branches;
+use crate::registers::Registers;
+use crate::sample_field::{ReadField, SampleField};
+use bitflags::Flags;
+use perf_base::cow::CowSlice;
+use perf_base::endian::Endian;
+use perf_base::refusal::{ReadResult, Refusal};
+use perf_buffers::input::Input;
+use perf_reader::read::ReadFrom;
+use perf_reader::reader::Reader;
+use perf_types::numbers::read_numbers;
+use perf_types::read_group::ReadGroup;
+use perf_types::read_value::ReadValue;
+use perf_words::{BranchEntry, DataSource, ReadFormat, Txn};
+
+impl SampleField for u64 {
+    ghost parts = { λ _. sample.plain };
+
+    ghost value = { sample.number_is };
+
+    ghost borrowed = { λ _. ⊤ };
+}
+
+impl<'p, I: Input<'p>> ReadField<'p, I> for u64 {
+    #[inline]
+    fn read_field<E: Endian>(reader: &mut Reader<I, E>) -> ReadResult<Self> {
+        match reader.read_u64() {
+            Ok(number) => Ok(number),
+            Err(refusal) => Err(refusal),
+        }
+    }
+}
+
+impl SampleField for DataSource {
+    ghost parts = { λ _. sample.plain };
+
+    ghost value = { sample.number_is };
+
+    ghost borrowed = { λ _. ⊤ };
+}
+
+impl<'p, I: Input<'p>> ReadField<'p, I> for DataSource {
+    #[inline]
+    fn read_field<E: Endian>(reader: &mut Reader<I, E>) -> ReadResult<Self> {
+        match reader.read::<DataSource>() {
+            Ok(source) => Ok(source),
+            Err(refusal) => Err(refusal),
+        }
+    }
+}
+
+impl SampleField for Txn {
+    ghost parts = { λ _. sample.plain };
+
+    ghost value = { parts.transaction_value };
+
+    ghost borrowed = { λ _. ⊤ };
+}
+
+impl<'p, I: Input<'p>> ReadField<'p, I> for Txn {
+    #[inline]
+    fn read_field<E: Endian>(reader: &mut Reader<I, E>) -> ReadResult<Self> {
+        match reader.read::<Txn>() {
+            Ok(transaction) => Ok(transaction),
+            Err(refusal) => Err(refusal),
+        }
+    }
+}
+
+// A process and its thread. A sample that was read has both or none.
+#[derive(Copy, Clone, Debug)]
+pub(crate) struct Task {
+    pub(crate) pid: Option<u32>,
+    pub(crate) tid: Option<u32>,
+}
+
+impl SampleField for Task {
+    ghost parts = { λ _. sample.task };
+
+    ghost value = { parts.task_value };
+
+    ghost borrowed = { λ _. ⊤ };
+}
+
+impl<'p, I: Input<'p>> ReadField<'p, I> for Task {
+    #[inline]
+    fn read_field<E: Endian>(reader: &mut Reader<I, E>) -> ReadResult<Self> {
+        let pid = reader.read_u32()?;
+        let tid = reader.read_u32()?;
+        Ok(Task {
+            pid: Some(pid),
+            tid: Some(tid),
+        })
+    }
+}
+
+// A processor's number.
+#[derive(Copy, Clone, Debug)]
+pub(crate) struct Cpu(pub(crate) u32);
+
+impl SampleField for Cpu {
+    ghost parts = { λ _. sample.cpu };
+
+    ghost value = { parts.cpu_value };
+
+    ghost borrowed = { λ _. ⊤ };
+}
+
+impl<'p, I: Input<'p>> ReadField<'p, I> for Cpu {
+    #[inline]
+    fn read_field<E: Endian>(reader: &mut Reader<I, E>) -> ReadResult<Self> {
+        let number = reader.read_u32()?;
+        reader.skip(4)?;
+        Ok(Cpu(number))
+    }
+}
+
+// Addresses of calls, the innermost first.
+#[derive(Debug, Drop)]
+pub(crate) struct CallChain<'a>(pub(crate) CowSlice<'a, u64>);
+
+impl SampleField for CallChain<'_> {
+    ghost parts = { λ _. sample.call_chain };
+
+    ghost value = { parts.call_chain_value };
+
+    ghost borrowed = { λ _. ⊤ };
+}
+
+impl<'p, I: Input<'p>> ReadField<'p, I> for CallChain<'p> {
+    #[inline]
+    fn read_field<E: Endian>(reader: &mut Reader<I, E>) -> ReadResult<Self> {
+        let count = reader.read_u64()?;
+        let addresses = read_numbers(reader, count as usize)?;
+        Ok(CallChain(CowSlice::Owned(addresses)))
+    }
+}
+
+// How many bytes fill up raw bytes, with the four of their length, to a multiple of eight.
+#[inline]
+fn raw_padding(len: usize) -> usize
+    ensures { result ≡ sample.raw_padding len }
+{
+    (12 - len % 8) % 8
+}
+
+// Bytes that the event wrote.
+#[derive(Debug, Drop)]
+pub(crate) struct RawData<'a>(pub(crate) CowSlice<'a, u8>);
+
+impl SampleField for RawData<'_> {
+    ghost parts = { λ _. sample.raw };
+
+    ghost value = { parts.raw_value };
+
+    ghost borrowed = { λ raw. IsTrue (is_borrowed raw.0) };
+}
+
+impl<'p, I: Input<'p>> ReadField<'p, I> for RawData<'p> {
+    #[inline]
+    fn read_field<E: Endian>(reader: &mut Reader<I, E>) -> ReadResult<Self> {
+        let len = reader.read_u32()? as usize;
+        let bytes = reader.read_bytes(len)?;
+        reader.skip(raw_padding(len))?;
+        Ok(RawData(bytes))
+    }
+}
+
+// Branches, and where the hardware's own list of them had its newest. A sample that was read has
+// no index without a list.
+#[derive(Debug, Drop)]
+pub(crate) struct Branches<'a> {
+    pub(crate) hw_index: Option<u64>,
+    pub(crate) entries: Option<CowSlice<'a, BranchEntry>>,
+}
+
+impl SampleField for Branches<'_> {
+    ghost parts = { sample.branch_stack };
+
+    ghost value = { parts.branches_value };
+
+    ghost borrowed = { λ _. ⊤ };
+}
+
+impl<'p, I: Input<'p>> ReadField<'p, I> for Branches<'p> {
+    #[inline]
+    #[tactic(auto, using(crate::proofs::BranchLists::branch_reads), unfolding(crate::specs::Sample::branch_stack))]
+    fn read_field<E: Endian>(reader: &mut Reader<I, E>) -> ReadResult<Self> {
+        let count = reader.read_u64()?;
+        let with_index = reader.config().branch_hw_index();
+        let hw_index = reader.read_u64_if(with_index)?;
+        let entries = read_branches(reader, count as usize)?;
+        Ok(Branches {
+            hw_index,
+            entries: Some(CowSlice::Owned(entries)),
+        })
+    }
+}
+
+// What the kernel copied of a task's stack.
+#[derive(Debug, Drop)]
+pub(crate) struct Stack<'a>(pub(crate) CowSlice<'a, u8>);
+
+impl SampleField for Stack<'_> {
+    ghost parts = { λ _. sample.stack };
+
+    ghost value = { parts.stack_value };
+
+    ghost borrowed = { λ stack. IsTrue (is_borrowed stack.0) };
+}
+
+impl<'p, I: Input<'p>> ReadField<'p, I> for Stack<'p> {
+    #[inline]
+    fn read_field<E: Endian>(reader: &mut Reader<I, E>) -> ReadResult<Self> {
+        let size = reader.read_u64()?;
+        let mut bytes = reader.read_bytes(size as usize)?;
+        let used = reader.read_u64_if(size > 0)?.unwrap_or(0);
+        if used > size {
+            return Err(Refusal::UsedStack);
+        }
+        bytes.truncate(used as usize);
+        Ok(Stack(bytes))
+    }
+}
+
+// Bytes of the AUX area.
+#[derive(Debug, Drop)]
+pub(crate) struct AuxBytes<'a>(pub(crate) CowSlice<'a, u8>);
+
+impl SampleField for AuxBytes<'_> {
+    ghost parts = { λ _. sample.sized_bytes };
+
+    ghost value = { parts.aux_value };
+
+    ghost borrowed = { λ aux. IsTrue (is_borrowed aux.0) };
+}
+
+impl<'p, I: Input<'p>> ReadField<'p, I> for AuxBytes<'p> {
+    #[inline]
+    fn read_field<E: Endian>(reader: &mut Reader<I, E>) -> ReadResult<Self> {
+        let size = reader.read_u64()?;
+        let bytes = reader.read_bytes(size as usize)?;
+        Ok(AuxBytes(bytes))
+    }
+}
+
+// Registers that the task had in its own code.
+#[derive(Debug, Drop)]
+pub(crate) struct UserRegisters<'a>(pub(crate) Registers<'a>);
+
+impl SampleField for UserRegisters<'_> {
+    ghost parts = { λ c. sample.registers c.regs_user };
+
+    ghost value = { parts.user_value };
+
+    ghost borrowed = { λ _. ⊤ };
+}
+
+impl<'p, I: Input<'p>> ReadField<'p, I> for UserRegisters<'p> {
+    #[inline]
+    #[tactic(auto, using(perf_reader::proofs::Paying::chain), unfolding(crate::specs::Sample::registers))]
+    fn read_field<E: Endian>(reader: &mut Reader<I, E>) -> ReadResult<Self> {
+        let mask = reader.config().regs_user();
+        match Registers::read_by(reader, mask) {
+            Ok(registers) => Ok(UserRegisters(registers)),
+            Err(refusal) => Err(refusal),
+        }
+    }
+}
+
+// Registers that the processor had at the interrupt.
+#[derive(Debug, Drop)]
+pub(crate) struct InterruptRegisters<'a>(pub(crate) Registers<'a>);
+
+impl SampleField for InterruptRegisters<'_> {
+    ghost parts = { λ c. sample.registers c.regs_intr };
+
+    ghost value = { parts.interrupt_value };
+
+    ghost borrowed = { λ _. ⊤ };
+}
+
+impl<'p, I: Input<'p>> ReadField<'p, I> for InterruptRegisters<'p> {
+    #[inline]
+    #[tactic(auto, using(perf_reader::proofs::Paying::chain), unfolding(crate::specs::Sample::registers))]
+    fn read_field<E: Endian>(reader: &mut Reader<I, E>) -> ReadResult<Self> {
+        let mask = reader.config().regs_intr();
+        match Registers::read_by(reader, mask) {
+            Ok(registers) => Ok(InterruptRegisters(registers)),
+            Err(refusal) => Err(refusal),
+        }
+    }
+}
+
+impl SampleField for ReadGroup<'_> {
+    ghost parts = { sample.values };
+
+    ghost value = { parts.group_value };
+
+    ghost borrowed = { λ _. ⊤ };
+}
+
+impl<'p, I: Input<'p>> ReadField<'p, I> for ReadGroup<'p> {
+    #[tactic(auto, using(perf_types::proofs::Flags::read_flags, perf_reader::proofs::Paying::chain), unfolding(crate::specs::Sample::values))]
+    fn read_field<E: Endian>(reader: &mut Reader<I, E>) -> ReadResult<Self> {
+        if reader.config().read_format().contains(ReadFormat::GROUP) {
+            return match ReadGroup::read(reader) {
+                Ok(group) => Ok(group),
+                Err(refusal) => Err(refusal),
+            };
+        }
+        let value = match ReadValue::read(reader) {
+            Ok(value) => value,
+            Err(refusal) => return Err(refusal),
+        };
+        match ReadGroup::from_value(reader.alloc(), value) {
+            Ok(group) => Ok(group),
+            Err(_) => Err(Refusal::OutOfMemory),
+        }
+    }
+}
