@@ -11,6 +11,7 @@ use perf_types::read_group::ReadGroup;
 use perf_types::read_value::ReadValue;
 use perf_words::ReadFormat;
 use std::alloc::Global;
+use std::process::Abort;
 use std::test::Fail;
 
 // The values of up to six entries. An entry's id is 100 more, and its lost samples are 200 more.
@@ -151,11 +152,15 @@ fn a_copy_of_entries_goes_on_alone(rt: HostRuntime) -> Result<(), Fail> {
     Ok(())
 }
 
-#[test]
-fn entries_with_ids(rt: HostRuntime) -> Result<(), Fail> {
-    let alloc = rt.alloc();
+// Entries of values and ids, whose times the read format leaves out.
+fn with_ids() -> ReadGroup<'static> {
     let words = CowSlice::Borrowed(&[10u64, 1, 20, 2, 30, 2]);
-    let group = ReadGroup::from_parts(ReadFormat::from_bits_retain(0x0c), 7, 8, words);
+    ReadGroup::from_parts(ReadFormat::from_bits_retain(0x0c), 7, 8, words)
+}
+
+#[test]
+fn entries_with_ids(rt: HostRuntime) {
+    let group = with_ids();
     check!(rt; group.len(), 3);
     check!(rt; !group.is_empty());
     check!(rt; group.time_enabled(), None);
@@ -164,9 +169,14 @@ fn entries_with_ids(rt: HostRuntime) -> Result<(), Fail> {
     check!(rt; group.get(2).map(|entry| entry.value()), Some(30));
     check!(rt; group.get(3).is_none());
     check!(rt; group.get(usize::MAX).is_none());
+}
+
+#[test]
+fn entries_by_their_ids(rt: HostRuntime) -> Result<(), Fail> {
+    let group = with_ids();
     check!(rt; group.get_by_id(2).map(|entry| entry.value()), Some(20));
     check!(rt; group.get_by_id(3).is_none());
-    let copy = group.clone(alloc)?;
+    let copy = group.clone(rt.alloc())?;
     check!(rt; copy.get(0).map(|entry| entry.value()), Some(10));
     check!(rt; ReadValue::try_from(group).is_err());
     Ok(())
@@ -187,34 +197,47 @@ fn entries_without_ids(rt: HostRuntime) {
     check!(rt; ReadValue::try_from(none).is_err());
 }
 
+// Asserts that a read is of the numbers from 3 to 7.
+fn check_read(rt: &impl Abort, read: &ReadValue) {
+    check!(rt; read.value(), 3);
+    check!(rt; read.time_enabled(), Some(4));
+    check!(rt; read.time_running(), Some(5));
+    check!(rt; read.id(), Some(6));
+    check!(rt; read.lost(), Some(7));
+}
+
 #[test]
 fn single_reads(rt: HostRuntime) -> Result<(), Fail> {
-    let alloc = rt.alloc();
     let format = ReadFormat::from_bits_retain(0x17);
-    let values = ReadValue::from_parts(format, 3, 4, 5, 6, 7);
     let read = Read {
         pid: 1,
         tid: 2,
-        values,
+        values: ReadValue::from_parts(format, 3, 4, 5, 6, 7),
     };
-    let copy = read.clone()?.values;
     check!(rt; read.tid, 2);
-    for value in [
-        read.values,
-        ReadValue::try_from(ReadGroup::from_value(alloc, copy)?)?,
-    ] {
-        check!(rt; value.value(), 3);
-        check!(rt; value.time_enabled(), Some(4));
-        check!(rt; value.time_running(), Some(5));
-        check!(rt; value.id(), Some(6));
-        check!(rt; value.lost(), Some(7));
-        check!(rt; through_a_group(alloc, value)?.is_ok());
-    }
+    check_read(&rt, &read.values);
+    check_read(&rt, &read.clone()?.values);
+    Ok(())
+}
+
+#[test]
+fn a_read_is_the_same_behind_a_group(rt: HostRuntime) -> Result<(), Fail> {
+    let alloc = rt.alloc();
+    let read = ReadValue::from_parts(ReadFormat::from_bits_retain(0x17), 3, 4, 5, 6, 7);
+    let back = ReadValue::try_from(ReadGroup::from_value(alloc, read.clone()?)?)?;
+    check_read(&rt, &back);
+    check!(rt; through_a_group(alloc, read)?.is_ok());
+    check!(rt; through_a_group(alloc, back)?.is_ok());
+    Ok(())
+}
+
+#[test]
+fn a_read_lacks_what_its_format_leaves_out(rt: HostRuntime) -> Result<(), Fail> {
     let value = ReadValue::from_parts(ReadFormat::ID, 3, 4, 5, 6, 7);
     check!(rt; value.time_enabled(), None);
     check!(rt; value.time_running(), None);
     check!(rt; value.lost(), None);
-    let group = ReadGroup::from_value(alloc, value)?;
+    let group = ReadGroup::from_value(rt.alloc(), value)?;
     check!(rt; group.get_by_id(6).map(|entry| entry.value()), Some(3));
     check!(rt; group.len(), 1);
     Ok(())

@@ -296,18 +296,26 @@ fn with_owned_groups(alloc: Global, branches: &[BranchEntry]) -> ParseResult<Sam
     })
 }
 
-// Every field, with all its lists in memory of their own.
-fn every_field_owned(alloc: Global, branches: &[BranchEntry]) -> ParseResult<SampleFields<'_>> {
+// The same, and with its call chain and branches.
+fn with_owned_calls(alloc: Global, branches: &[BranchEntry]) -> ParseResult<SampleFields<'_>> {
     let fields = with_owned_groups(alloc, branches)?;
     let callchain = owned(alloc, Some(CowSlice::Borrowed(&[111, 112])))?;
-    let raw = owned(alloc, Some(CowSlice::Borrowed(&[113])))?;
     let lbr = owned(alloc, Some(CowSlice::Borrowed(branches)))?;
+    Ok(SampleFields {
+        callchain,
+        lbr,
+        ..fields
+    })
+}
+
+// The same, and with its bytes: every list is in memory of its own.
+fn every_field_owned(alloc: Global, branches: &[BranchEntry]) -> ParseResult<SampleFields<'_>> {
+    let fields = with_owned_calls(alloc, branches)?;
+    let raw = owned(alloc, Some(CowSlice::Borrowed(&[113])))?;
     let stack_user = owned(alloc, Some(CowSlice::Borrowed(&[120, 121])))?;
     let aux = owned(alloc, Some(CowSlice::Borrowed(&[128, 129, 130])))?;
     Ok(SampleFields {
-        callchain,
         raw,
-        lbr,
         stack_user,
         aux,
         ..fields
