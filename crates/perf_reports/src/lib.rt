@@ -1,8 +1,10 @@
 //! What the small programs beside `perfrec` say of records: a line of each that tells of a task
-//! (`tasks`), a line of each sample (`samples`), and counts of frames (`counts`, `streams`).
+//! (`tasks`), a line of each sample (`samples`), either of a whole recording (`printing`), and counts
+//! of frames (`counts`, `streams`).
 #![tactic(auto)]
 
 pub mod counts;
+pub mod printing;
 pub mod samples;
 pub mod streams;
 mod sums;

@@ -9,6 +9,8 @@ mod counts;
 #[cfg(test)]
 mod failing;
 #[cfg(test)]
+mod printing;
+#[cfg(test)]
 mod records;
 #[cfg(test)]
 mod sample_lines;
