@@ -1,7 +1,7 @@
 #!/usr/bin/env bash
 # Runs the tests of the crate `perf_memory` with the first request for memory of each refused, and
-# then with the second one. Records over a slice answer the same, and a sample of raw bytes alone
-# makes one request.
+# beside it with the second one. Records over a slice answer the same, and a sample of raw bytes
+# alone makes one request.
 set -eu
 cd "$(dirname "$0")/../../crates/perf_memory"
 

@@ -153,7 +153,7 @@ fn raw_bytes_are_printed_without_their_padding(rt: HostRuntime) -> Result<(), Al
     )
 }
 
-// What each asks of a sample that is an empty list or no bytes.
+// Sample types of one list or byte string, and the line of a sample where it is empty.
 const EMPTY: [(u64, &str); 5] = [
     (0x20, "0 9 0 16 Sample callchain="),
     (0x400, "0 9 0 16 Sample raw="),
