@@ -1,12 +1,13 @@
 //! Attributes, and what comes behind them.
 
-use crate::asks::{Ask, check_asks};
 use crate::check;
+use crate::checks::check_asks;
 use bitflags::Flags;
 use perf_event_data::endian::{Endian, Little, Native};
 use perf_event_data::parse::{ParseBuf, ParseConfig, ParseError, ParseResult, Parser};
 use perf_event_data::sys::perf_event_attr;
 use perf_event_data::{PieceBuf, Record, Run, RunEnd, read_records};
+use perf_testing::asks::Ask;
 use std::alloc::{AllocError, Global};
 use std::io::BufReader;
 use std::process::Abort;

@@ -1,11 +1,11 @@
 //! What `{:?}` shows of records.
 
-use crate::asks::next_record;
-use crate::checks::check_same;
-use crate::told::tell_error;
-use crate::visits::{BY_BUILD_ID, zero_frames};
+use crate::checks::check_text;
 use perf_event_data::endian::Little;
 use perf_event_data::parse::{ParseConfig, Parser};
+use perf_testing::asks::next_record;
+use perf_testing::frames::{BY_BUILD_ID, zero_frames};
+use perf_testing::told::tell_error;
 use std::alloc::{AllocError, Global};
 use std::process::Abort;
 
@@ -26,10 +26,7 @@ fn debug_texts(alloc: Global, bytes: &[u8]) -> Result<String, AllocError> {
 
 // Asserts what is shown of each record of a slice.
 fn check_texts(rt: &(impl AllocGlobal + Abort), bytes: &[u8], want: &str) {
-    match debug_texts(rt.alloc(), bytes) {
-        Ok(text) => check_same(rt, "the records", text.as_str(), want),
-        Err(_) => panic!(rt; "no memory"),
-    }
+    check_text(rt, debug_texts(rt.alloc(), bytes), want);
 }
 
 fn check_zero_texts(rt: &(impl AllocGlobal + Abort), want: &str) {

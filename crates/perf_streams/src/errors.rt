@@ -1,7 +1,6 @@
 //! What an error says, and lists that may be borrowed.
 
 use crate::check;
-use crate::metadata::with_ids;
 use anyhow::anyhow;
 use perf_base::config::ParseConfig;
 use perf_base::cow::CowSlice;
@@ -9,6 +8,7 @@ use perf_base::endian::Little;
 use perf_base::error::{ErrorKind, ParseError};
 use perf_event_data::parse::Parser;
 use perf_event_data::read_records;
+use perf_testing::attributes::ids_attribute;
 use std::alloc::{AllocError, AllocFailed, Global};
 use std::io;
 use std::process::Abort;
@@ -157,7 +157,8 @@ fn a_frame_without_room_for_its_sample_id_says_so(rt: HostRuntime) -> Result<(),
     let message = "config has sample_id_all bit set but record does not have enough data to \
         store the sample_id";
     let bytes = b"\x0D\0\0\0\0\0\x0C\0\xAA\xAA\xAA\xAA";
-    check_says(&rt, rt.alloc(), bytes, with_ids(1 << 2), message)
+    let config = ParseConfig::from(ids_attribute(1 << 2));
+    check_says(&rt, rt.alloc(), bytes, config, message)
 }
 
 // The mapping of a file whose build id has 21 bytes.

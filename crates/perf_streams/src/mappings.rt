@@ -1,12 +1,13 @@
 //! Mappings: MMAP and MMAP2.
 
-use crate::asks::{Ask, check_asks};
-use crate::buffers::{check_everywhere, check_everywhere_behind, check_lent};
 use crate::check;
-use crate::metadata::ids_attribute;
+use crate::checks::{check_asks, check_everywhere, check_everywhere_behind, check_lent};
 use perf_event_data::endian::Little;
 use perf_event_data::parse::{ParseConfig, Parser};
 use perf_event_data::{Record, read_records};
+use perf_testing::asks::Ask;
+use perf_testing::attributes::ids_attribute;
+use perf_testing::frames::BY_BUILD_ID;
 use std::alloc::{AllocError, Global};
 use std::test::Fail;
 
@@ -34,11 +35,6 @@ fn the_sample_id_of_a_mapping_is_no_name(rt: HostRuntime) {
     let want = "1 0 48 Mmap 85014 85015 139979800485888 4096 139979800485888 ; done";
     check_everywhere_behind(&rt, MMAP, Little, ids_attribute(1 << 2), &[10], want);
 }
-
-const BY_BUILD_ID: &[u8] = b"\x0A\0\0\0\0\x40\x50\0\x01\0\0\0\x02\0\0\0\
-    \0\x10\0\0\0\0\0\0\0\x20\0\0\0\0\0\0\0\0\0\0\0\0\0\0\
-    \x14\0\0\0\x01\x02\x03\x04\x05\x06\x07\x08\x09\x0A\x0B\x0C\x0D\x0E\x0F\x10\x11\x12\x13\x14\
-    \x05\0\0\0\x02\0\0\0\x61\x62\0\0\0\0\0\0";
 
 // LOST_SAMPLES of 5.
 const NEXT: &[u8] = b"\x0D\0\0\0\0\0\x10\0\x05\0\0\0\0\0\0\0";

@@ -1,8 +1,8 @@
 //! Records with names.
 
-use crate::asks::{Ask, check_asks};
-use crate::buffers::{check_everywhere, check_lent};
+use crate::checks::{check_asks, check_everywhere, check_lent, check_streams};
 use perf_event_data::endian::Little;
+use perf_testing::asks::Ask;
 use std::test::Fail;
 
 #[test]
@@ -23,7 +23,7 @@ const KSYMBOL: &[u8] = b"\x11\0\0\0\0\0\x20\0\0\x10\0\0\0\0\0\0\x40\0\0\0\x01\0\
 
 const CGROUP: &[u8] = b"\x13\0\0\0\0\0\x18\0\x07\0\0\0\0\0\0\0\x2F\x61\x2F\x62\0\0\0\0";
 
-const NAMED: [(&[u8], &str); 3] = [
+const NAMED: &[(&[u8], &str)] = &[
     (COMM, "3 0 24 Comm 4112 1280 test; done"),
     (KSYMBOL, "17 0 32 KSymbol 4096 64 1 1 bpf; done"),
     (CGROUP, "19 0 24 CGroup 7 /a/b; done"),
@@ -31,9 +31,7 @@ const NAMED: [(&[u8], &str); 3] = [
 
 #[test]
 fn records_that_end_with_a_name(rt: HostRuntime) {
-    for (bytes, want) in NAMED {
-        check_everywhere(&rt, bytes, Little, &[10], want);
-    }
+    check_streams(&rt, NAMED);
 }
 
 #[test]

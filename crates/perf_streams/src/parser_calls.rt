@@ -1,19 +1,16 @@
 //! Byte strings, lists and conditions.
 
-use crate::asks::{Ask, check_asks};
-use crate::buffers::{Check, check_through};
 use crate::check;
+use crate::checks::{Asked, check_all_asks};
 use perf_event_data::CowSlice;
-use perf_event_data::endian::{Endian, Little};
-use perf_event_data::parse::{ErrorKind, ParseBuf, ParseBufCursor, ParseConfig, Parser};
+use perf_event_data::endian::Little;
+use perf_event_data::parse::{ParseConfig, Parser};
+use perf_testing::asks::Ask;
 use std::io::BufReader;
-use std::process::Abort;
 use std::test::Fail;
 
-#[test]
-fn bytes_are_as_many_as_asked_for(rt: HostRuntime) {
-    check_asks(
-        &rt,
+const BYTES: &[Asked] = &[
+    (
         b"\x01\x02\x03\x04\x05",
         &[
             Ask::Bytes(3),
@@ -23,13 +20,17 @@ fn bytes_are_as_many_as_asked_for(rt: HostRuntime) {
             Ask::Bytes(1),
         ],
         "[1, 2, 3]; []; [4, 5]; []; Eof",
-    );
-    check_asks(
-        &rt,
+    ),
+    (
         b"\x01\x02\x03\x04\x05",
         &[Ask::Bytes(6), Ask::Rest],
         "Eof; []",
-    );
+    ),
+];
+
+#[test]
+fn bytes_are_as_many_as_asked_for(rt: HostRuntime) {
+    check_all_asks(&rt, BYTES);
 }
 
 #[test]
@@ -51,54 +52,19 @@ fn bytes_are_owned_over_a_reader(rt: HostRuntime) -> Result<(), Fail> {
     Ok(())
 }
 
-#[test]
-fn a_name_loses_the_zero_bytes_at_its_end(rt: HostRuntime) {
-    check_asks(
-        &rt,
+const NAMES: &[Asked] = &[
+    (
         b"\x2F\x2F\0\x61\0\0",
         &[Ask::Name, Ask::Name],
         "[47, 47, 0, 97]; []",
-    );
-    check_asks(&rt, b"\0\0\0\0\0\0\0\0\0", &[Ask::Name, Ask::U8], "[]; Eof");
-    check_asks(&rt, b"", &[Ask::Name, Ask::U8], "[]; Eof");
-}
-
-// What a closure parses of a frame's body: always, where a condition holds, and where it does not.
-struct Closures;
-
-impl<'p, B: ParseBuf<'p>> Check<'p, B> for Closures {
-    fn check<E: Endian>(rt: &impl Abort, parser: &mut Parser<B, E>) -> Result<(), Fail> {
-        let (mut inner, _) = parser.parse_metadata()?;
-        let (low, high) = inner.parse_with(|parser| {
-            let low = parser.parse_u8()?;
-            let high = parser.parse_u16()?;
-            Ok((low, high))
-        })?;
-        check!(rt; (low, high), (1, 0x0302));
-        check_conditions(rt, &mut inner)
-    }
-}
-
-// The two bytes that are left are parsed where a condition holds.
-fn check_conditions<E: Endian>(
-    rt: &impl Abort,
-    inner: &mut Parser<ParseBufCursor<'_>, E>,
-) -> Result<(), Fail> {
-    let none = inner.parse_if_with(false, |parser| parser.parse_u16())?;
-    check!(rt; none, None);
-    let some = inner.parse_if_with(true, |parser| parser.parse_u16())?;
-    check!(rt; some, Some(0x0504));
-    let refused = inner.parse_if_with(true, |parser| parser.parse_u8());
-    check!(rt; matches!(refused.map_err(|error| error.kind()), Err(ErrorKind::Eof)));
-    let none = inner.parse_if_with(false, |parser| parser.parse_u8())?;
-    check!(rt; none, None);
-    Ok(())
-}
+    ),
+    (b"\0\0\0\0\0\0\0\0\0", &[Ask::Name, Ask::U8], "[]; Eof"),
+    (b"", &[Ask::Name, Ask::U8], "[]; Eof"),
+];
 
 #[test]
-fn a_closure_parses_what_it_is_asked_to(rt: HostRuntime) -> Result<(), Fail> {
-    let bytes = b"\x44\0\0\0\0\0\x0D\0\x01\x02\x03\x04\x05";
-    check_through::<Closures>(&rt, rt.alloc(), bytes)
+fn a_name_loses_the_zero_bytes_at_its_end(rt: HostRuntime) {
+    check_all_asks(&rt, NAMES);
 }
 
 #[test]
@@ -126,28 +92,26 @@ fn a_closure_parses_a_reader(rt: HostRuntime) -> Result<(), Fail> {
     Ok(())
 }
 
-#[test]
-fn conditions_decide_whether_anything_is_read(rt: HostRuntime) {
-    check_asks(
-        &rt,
-        b"\x01\x02\x03\x04\x05",
-        &[
-            Ask::IfU16(false),
-            Ask::IfU16(true),
-            Ask::IfU8(true),
-            Ask::IfU32(true),
-            Ask::IfU64(false),
-        ],
-        "None; Some(513); Some(3); Eof; None",
-    );
-}
+const CONDITIONS: &[Asked] = &[(
+    b"\x01\x02\x03\x04\x05",
+    &[
+        Ask::IfU16(false),
+        Ask::IfU16(true),
+        Ask::IfU8(true),
+        Ask::IfU32(true),
+        Ask::IfU64(false),
+    ],
+    "None; Some(513); Some(3); Eof; None",
+)];
 
 #[test]
-fn items_come_one_behind_another(rt: HostRuntime) {
-    let bytes = b"\x01\x02\x03\x04\x05\x06\x07\x08\x09";
-    check_asks(
-        &rt,
-        bytes,
+fn conditions_decide_whether_anything_is_read(rt: HostRuntime) {
+    check_all_asks(&rt, CONDITIONS);
+}
+
+const ITEMS: &[Asked] = &[
+    (
+        b"\x01\x02\x03\x04\x05\x06\x07\x08\x09",
         &[
             Ask::Repeated16(3),
             Ask::Repeated16(0),
@@ -155,20 +119,21 @@ fn items_come_one_behind_another(rt: HostRuntime) {
             Ask::Rest,
         ],
         "[513, 1027, 1541]; []; Eof; []",
-    );
-    let bytes = b"\x01\0\0\0\0\0\0\0\x02\0\0\0\0\0\0\0";
-    check_asks(
-        &rt,
-        bytes,
+    ),
+    (
+        b"\x01\0\0\0\0\0\0\0\x02\0\0\0\0\0\0\0",
         &[Ask::Slice64(2), Ask::Slice64(1)],
         "owned [1, 2]; Eof",
-    );
-}
+    ),
+];
 
 #[test]
-fn a_hostile_count_is_an_early_end(rt: HostRuntime) {
-    check_asks(
-        &rt,
+fn items_come_one_behind_another(rt: HostRuntime) {
+    check_all_asks(&rt, ITEMS);
+}
+
+const HOSTILE: &[Asked] = &[
+    (
         b"\x01\x02\x03\x04\x05",
         &[
             Ask::Repeated8(1 << 63),
@@ -177,29 +142,31 @@ fn a_hostile_count_is_an_early_end(rt: HostRuntime) {
             Ask::Bytes(usize::MAX),
         ],
         "Eof; []; Eof; Eof",
-    );
-    check_asks(
-        &rt,
+    ),
+    (
         b"\x01\x02\x03\x04\x05",
         &[Ask::Repeated64(1 << 63), Ask::Rest],
         "Eof; []",
-    );
-}
+    ),
+];
 
 #[test]
-fn an_array_is_its_bytes_as_they_stand(rt: HostRuntime) {
-    check_asks(
-        &rt,
+fn a_hostile_count_is_an_early_end(rt: HostRuntime) {
+    check_all_asks(&rt, HOSTILE);
+}
+
+const ARRAYS: &[Asked] = &[
+    (
         b"\x04\x03\x02\x01",
         &[Ask::FourBytes, Ask::NoBytes, Ask::OneByte],
         "[4, 3, 2, 1]; []; Eof",
-    );
-    check_asks(
-        &rt,
-        b"\x04\x03\x02",
-        &[Ask::FourBytes, Ask::Rest],
-        "Eof; []",
-    );
+    ),
+    (b"\x04\x03\x02", &[Ask::FourBytes, Ask::Rest], "Eof; []"),
+];
+
+#[test]
+fn an_array_is_its_bytes_as_they_stand(rt: HostRuntime) {
+    check_all_asks(&rt, ARRAYS);
 }
 
 #[test]

@@ -1,12 +1,12 @@
 //! Reads of counters, alone and in groups.
 
-use crate::asks::{Ask, check_asks_under, next_group};
-use crate::buffers::check_everywhere_behind;
 use crate::check;
+use crate::checks::{check_asks_under, check_everywhere_behind};
 use perf_event_data::endian::Little;
 use perf_event_data::parse::{ParseConfig, Parser};
 use perf_event_data::sys::perf_event_attr;
 use perf_event_data::{Read, ReadGroup, ReadValue};
+use perf_testing::asks::{Ask, next_group};
 use std::alloc::{AllocError, Global};
 use std::process::Abort;
 use std::test::Fail;
@@ -67,19 +67,13 @@ fn the_read_format_says_which_numbers_a_read_has(rt: HostRuntime) -> Result<(), 
 }
 
 #[test]
-fn a_read_of_all_numbers(rt: HostRuntime) {
-    let want = "8 0 56 Read 1 2 3 Some(4) Some(5) Some(6) Some(7); done";
-    check_everywhere_behind(&rt, SEVEN, Little, attribute(ALL_OF_ONE), &[10], want);
-}
-
-#[test]
 fn a_read_takes_no_more_than_its_numbers(rt: HostRuntime) {
     let bytes = b"\x01\0\0\0\x02\0\0\0\x03\0\0\0\0\0\0\0\x04\0\0\0\0\0\0\0\
         \x05\0\0\0\0\0\0\0\x06\0\0\0\0\0\0\0\x07";
     check_asks_under(
         &rt,
         bytes,
-        &with_format(ID),
+        attribute(ID),
         &[&[Ask::Read, Ask::ReadValue, Ask::Rest]],
         "Read 1 2 3 None None Some(4) None; 5 None None Some(6) None; [7]",
     );
@@ -99,27 +93,31 @@ fn a_read_as_a_group_and_back(rt: HostRuntime) -> Result<(), Fail> {
     Ok(())
 }
 
-// LOST_SAMPLES of 5.
-const NEXT: &[u8] = b"\x0D\0\0\0\0\0\x10\0\x05\0\0\0\0\0\0\0";
+// READ, whose format is not known, and LOST_SAMPLES of 5.
+const OF_UNKNOWN_FORMAT: [(&[u8], &str); 3] = [
+    (
+        b"\x08\0\0\0\0\0\x18\0\x01\0\0\0\x02\0\0\0\x03\0\0\0\0\0\0\0\
+        \x0D\0\0\0\0\0\x10\0\x05\0\0\0\0\0\0\0",
+        "8 0 24 UnsupportedConfig; 13 0 16 LostSamples 5; done",
+    ),
+    (
+        b"\x08\0\0\0\0\0\x10\0\x01\0\0\0\x02\0\0\0\
+        \x0D\0\0\0\0\0\x10\0\x05\0\0\0\0\0\0\0",
+        "8 0 16 UnsupportedConfig; 13 0 16 LostSamples 5; done",
+    ),
+    (
+        b"\x08\0\0\0\0\0\x0F\0\x01\0\0\0\x02\0\0\
+        \x0D\0\0\0\0\0\x10\0\x05\0\0\0\0\0\0\0",
+        "8 0 15 Eof; 13 0 16 LostSamples 5; done",
+    ),
+];
 
 #[test]
-fn an_unknown_format_is_found_behind_the_thread(rt: HostRuntime) -> Result<(), Fail> {
+fn an_unknown_format_is_found_behind_the_thread(rt: HostRuntime) {
     let attr = attribute(UNKNOWN | TIME_ENABLED);
-    let mut bytes = b"\x08\0\0\0\0\0\x18\0\x01\0\0\0\x02\0\0\0\x03\0\0\0\0\0\0\0".to_vec(
-        rt.alloc(),
-    )?;
-    bytes.extend_from_slice(NEXT)?;
-    let want = "8 0 24 UnsupportedConfig; 13 0 16 LostSamples 5; done";
-    check_everywhere_behind(&rt, &bytes, Little, attr, &[10], want);
-    let mut bytes = b"\x08\0\0\0\0\0\x10\0\x01\0\0\0\x02\0\0\0".to_vec(rt.alloc())?;
-    bytes.extend_from_slice(NEXT)?;
-    let want = "8 0 16 UnsupportedConfig; 13 0 16 LostSamples 5; done";
-    check_everywhere_behind(&rt, &bytes, Little, attr, &[10], want);
-    let mut bytes = b"\x08\0\0\0\0\0\x0F\0\x01\0\0\0\x02\0\0".to_vec(rt.alloc())?;
-    bytes.extend_from_slice(NEXT)?;
-    let want = "8 0 15 Eof; 13 0 16 LostSamples 5; done";
-    check_everywhere_behind(&rt, &bytes, Little, attr, &[10], want);
-    Ok(())
+    for (bytes, want) in OF_UNKNOWN_FORMAT {
+        check_everywhere_behind(&rt, bytes, Little, attr, &[10], want);
+    }
 }
 
 // The bytes of numbers, the lowest first.
@@ -131,55 +129,47 @@ fn bytes_of(alloc: Global, numbers: &[u64]) -> Result<Vec<u8>, AllocError> {
     Ok(bytes)
 }
 
-#[test]
-fn the_entries_of_a_group_come_from_both_ends(rt: HostRuntime) -> Result<(), Fail> {
-    let bytes = bytes_of(rt.alloc(), &[5, 1, 2, 3, 4, 5, 6])?;
-    check_asks_under(
-        &rt,
-        &bytes,
-        &with_format(GROUP),
-        &[&[Ask::BothEnds, Ask::Rest]],
+// Read formats, numbers, what is asked of a parser over them, and what it answers.
+const GROUPS: [(u64, &[u64], &[Ask], &str); 5] = [
+    (
+        GROUP,
+        &[5, 1, 2, 3, 4, 5, 6],
+        &[Ask::BothEnds, Ask::Rest],
         "5 None None, Some(2) Some(5) Some(3), 0 None; [6, 0, 0, 0, 0, 0, 0, 0]",
-    );
-    Ok(())
-}
-
-#[test]
-fn a_group_of_two_counters(rt: HostRuntime) -> Result<(), Fail> {
-    let bytes = bytes_of(rt.alloc(), &[2, 0x28C0BED0, 0x224, 0xBD])?;
-    let config = with_format(GROUP | TIME_ENABLED);
-    check_asks_under(
-        &rt,
-        &bytes,
-        &config,
-        &[&[Ask::Group]],
+    ),
+    (
+        GROUP | TIME_ENABLED,
+        &[2, 0x28C0BED0, 0x224, 0xBD],
+        &[Ask::Group],
         "2 false Some(683720400) None, 548 None, 189 None, none, \
             Some(548) Some(189) None, of 189 None, of 190 None, not one",
-    );
-    let bytes = bytes_of(rt.alloc(), &[2, 0x28C0BED0, 0x224, 0xBD, 0x28C079AC, 0xBE])?;
-    let config = with_format(GROUP | TIME_ENABLED | ID);
-    check_asks_under(
-        &rt,
-        &bytes,
-        &config,
-        &[&[Ask::Group]],
+    ),
+    (
+        GROUP | TIME_ENABLED | ID,
+        &[2, 0x28C0BED0, 0x224, 0xBD, 0x28C079AC, 0xBE],
+        &[Ask::Group],
         "2 false Some(683720400) None, 548 Some(189), 683702700 Some(190), none, \
             Some(548) Some(683702700) None, of 189 Some(548), of 190 Some(683702700), not one",
-    );
-    Ok(())
-}
+    ),
+    (
+        GROUP,
+        &[0],
+        &[Ask::Group],
+        "0 true None None, none, none, none, None None None, of 189 None, of 190 None, not one",
+    ),
+    (
+        GROUP | ID,
+        &[0],
+        &[Ask::Group],
+        "0 true None None, none, none, none, None None None, of 189 None, of 190 None, not one",
+    ),
+];
 
 #[test]
-fn a_group_may_have_no_counters(rt: HostRuntime) -> Result<(), Fail> {
-    let bytes = bytes_of(rt.alloc(), &[0])?;
-    for read_format in [GROUP, GROUP | ID] {
-        check_asks_under(
-            &rt,
-            &bytes,
-            &with_format(read_format),
-            &[&[Ask::Group]],
-            "0 true None None, none, none, none, None None None, of 189 None, of 190 None, not one",
-        );
+fn a_group_has_its_entries(rt: HostRuntime) -> Result<(), Fail> {
+    for (read_format, numbers, asks, want) in GROUPS {
+        let bytes = bytes_of(rt.alloc(), numbers)?;
+        check_asks_under(&rt, &bytes, attribute(read_format), &[asks], want);
     }
     Ok(())
 }
@@ -187,48 +177,28 @@ fn a_group_may_have_no_counters(rt: HostRuntime) -> Result<(), Fail> {
 // The most entries of three numbers that can be counted.
 const THIRD: u64 = u64::MAX / 3;
 
-// Asserts that a group of these numbers is refused.
-fn check_refused(
-    rt: &(impl AllocGlobal + Abort),
-    read_format: u64,
-    numbers: &[u64],
-    want: &str,
-) -> Result<(), AllocError> {
-    let bytes = bytes_of(rt.alloc(), numbers)?;
-    let config = with_format(read_format);
-    check_asks_under(rt, &bytes, &config, &[&[Ask::Group]], want);
-    Ok(())
-}
-
-const TOO_MANY: [(u64, &[u64]); 4] = [
-    (0x0C, &[1 << 63]),
-    (0x0C, &[u64::MAX, 1, 2]),
-    (0x0D, &[1 << 63, 1]),
-    (0x1C, &[THIRD + 1]),
-];
-
-#[test]
-fn a_group_claims_more_than_there_can_be(rt: HostRuntime) -> Result<(), Fail> {
-    for (read_format, numbers) in TOO_MANY {
-        check_refused(&rt, read_format, numbers, "InvalidRecord")?;
-    }
-    Ok(())
-}
-
-const TOO_FEW: [(u64, &[u64]); 6] = [
-    (0x0C, &[1 << 62]),
+// Read formats, numbers that begin no group, and the kind of the refusal.
+const NO_GROUP: [(u64, &[u64], &str); 10] = [
+    // More entries than there can be.
+    (0x0C, &[1 << 63], "InvalidRecord"),
+    (0x0C, &[u64::MAX, 1, 2], "InvalidRecord"),
+    (0x0D, &[1 << 63, 1], "InvalidRecord"),
+    (0x1C, &[THIRD + 1], "InvalidRecord"),
+    // More than there are.
+    (0x0C, &[1 << 62], "Eof"),
     // The time, which is lacking, comes before the numbers are counted.
-    (0x0D, &[1 << 63]),
-    (0x08, &[u64::MAX, 1, 2]),
-    (0x1C, &[THIRD, 1, 2, 3]),
-    (0x0C, &[2, 10, 1, 20]),
-    (0x08, &[]),
+    (0x0D, &[1 << 63], "Eof"),
+    (0x08, &[u64::MAX, 1, 2], "Eof"),
+    (0x1C, &[THIRD, 1, 2, 3], "Eof"),
+    (0x0C, &[2, 10, 1, 20], "Eof"),
+    (0x08, &[], "Eof"),
 ];
 
 #[test]
-fn a_group_lacks_its_numbers(rt: HostRuntime) -> Result<(), Fail> {
-    for (read_format, numbers) in TOO_FEW {
-        check_refused(&rt, read_format, numbers, "Eof")?;
+fn a_group_may_claim_more_than_there_is(rt: HostRuntime) -> Result<(), Fail> {
+    for (read_format, numbers, want) in NO_GROUP {
+        let bytes = bytes_of(rt.alloc(), numbers)?;
+        check_asks_under(&rt, &bytes, attribute(read_format), &[&[Ask::Group]], want);
     }
     Ok(())
 }
@@ -236,11 +206,10 @@ fn a_group_lacks_its_numbers(rt: HostRuntime) -> Result<(), Fail> {
 #[test]
 fn a_read_format_is_no_groups_or_is_unknown(rt: HostRuntime) {
     for read_format in [0, ID, ALL_OF_ONE, GROUP | UNKNOWN, GROUP | 0x20] {
-        let config = with_format(read_format);
         check_asks_under(
             &rt,
             b"\x01\x02\x03",
-            &config,
+            attribute(read_format),
             &[&[Ask::Group, Ask::Rest]],
             "UnsupportedConfig; [1, 2, 3]",
         );

@@ -1,8 +1,8 @@
 //! Records of numbers and lists: what the kernel says beside the samples.
 
-use crate::asks::{Ask, check_asks};
-use crate::buffers::check_everywhere;
+use crate::checks::{check_asks, check_everywhere, check_streams};
 use perf_event_data::endian::Little;
+use perf_testing::asks::Ask;
 use std::test::Fail;
 
 // The numbers are 0x8070605040302010, 0x00F0E0D0C0B0A090 and 0xBEEFCAFEDEADBEEF.
@@ -14,7 +14,7 @@ fn a_throttle_is_three_numbers(rt: HostRuntime) {
     check_asks(&rt, bytes, &[Ask::Throttle], want);
 }
 
-const NUMBERS_ALONE: [(&[u8], &str); 7] = [
+const NUMBERS_ALONE: &[(&[u8], &str)] = &[
     (
         b"\x05\0\0\0\0\0\x20\0\x01\0\0\0\0\0\0\0\x02\0\0\0\0\0\0\0\x03\0\0\0\0\0\0\0",
         "5 0 32 Throttle 1 2 3; done",
@@ -44,23 +44,28 @@ const NUMBERS_ALONE: [(&[u8], &str); 7] = [
 
 #[test]
 fn records_of_numbers_alone(rt: HostRuntime) {
-    for (bytes, want) in NUMBERS_ALONE {
-        check_everywhere(&rt, bytes, Little, &[10], want);
-    }
+    check_streams(&rt, NUMBERS_ALONE);
 }
 
 // Where a task went that left its CPU, by a run.
 const OUT: &[u8] = b"\x0F\0\0\0\0\x20\x10\0\x01\0\0\0\x02\0\0\0";
 
+const SWITCHES: &[(&[u8], &str)] = &[
+    (OUT, "15 8192 16 Out 1 2; done"),
+    (
+        b"\x0F\0\0\0\0\0\x10\0\x01\0\0\0\x02\0\0\0",
+        "15 0 16 In 1 2; done",
+    ),
+    // All other bits.
+    (
+        b"\x0F\0\0\0\xFF\xDF\x10\0\x01\0\0\0\x02\0\0\0",
+        "15 57343 16 In 1 2; done",
+    ),
+];
+
 #[test]
 fn the_misc_says_which_way_a_cpu_was_switched(rt: HostRuntime) {
-    let want = "15 8192 16 Out 1 2; done";
-    check_everywhere(&rt, OUT, Little, &[10], want);
-    let bytes = b"\x0F\0\0\0\0\0\x10\0\x01\0\0\0\x02\0\0\0";
-    check_everywhere(&rt, bytes, Little, &[10], "15 0 16 In 1 2; done");
-    let all_other_bits = b"\x0F\0\0\0\xFF\xDF\x10\0\x01\0\0\0\x02\0\0\0";
-    let want = "15 57343 16 In 1 2; done";
-    check_everywhere(&rt, all_other_bits, Little, &[10], want);
+    check_streams(&rt, SWITCHES);
 }
 
 // A body that is parsed by hand is under a configuration that knows no misc.

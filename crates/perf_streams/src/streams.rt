@@ -1,7 +1,7 @@
 //! Whole streams.
 
-use crate::buffers::{check_everywhere, check_everywhere_behind, check_lent};
 use crate::check;
+use crate::checks::{check_everywhere, check_everywhere_behind, check_lent, check_streams};
 use perf_event_data::endian::{Big, Dynamic, Little, Native};
 use perf_event_data::parse::{ParseBuf, ParseConfig, Parser};
 use perf_event_data::sys::perf_event_attr;
@@ -17,31 +17,70 @@ fn an_empty_input_is_done_and_three_bytes_are_a_cut_header(rt: HostRuntime) {
     check_everywhere(&rt, b"\x0D\0\0", Little, &[10, 10], "cut | done");
 }
 
-#[test]
-fn a_size_of_seven_costs_one_answer(rt: HostRuntime) {
-    let bytes = b"\x02\0\0\0\0\0\x07\0\x0D\0\0\0\0\0\x10\0\x05\0\0\0\0\0\0\0";
-    let want = "2 0 7 InvalidRecord; 13 0 16 LostSamples 5; done";
-    check_everywhere(&rt, bytes, Little, &[10], want);
-}
+const REFUSED: &[(&[u8], &str)] = &[
+    // A size of 7.
+    (
+        b"\x02\0\0\0\0\0\x07\0\x0D\0\0\0\0\0\x10\0\x05\0\0\0\0\0\0\0",
+        "2 0 7 InvalidRecord; 13 0 16 LostSamples 5; done",
+    ),
+    // A short body.
+    (
+        b"\x02\0\0\0\0\0\x10\0\x01\0\0\0\0\0\0\0\x0D\0\0\0\0\0\x10\0\x05\0\0\0\0\0\0\0",
+        "2 0 16 Eof; 13 0 16 LostSamples 5; done",
+    ),
+    // A frame that is not finished.
+    (
+        b"\x0D\0\0\0\0\0\x18\0\x05\0\0\0\0\0\0\0",
+        "13 0 24 Eof; done",
+    ),
+    // False sizes.
+    (b"\0\0\0\0\0\0\0\0", "0 0 0 InvalidRecord; done"),
+    (b"\x16\0\0\0\0\0\xFF\xFF", "22 0 65535 Eof; done"),
+    (
+        &[9, 0, 0, 0, 0, 251, 85, 182, 246],
+        "9 64256 46677 Eof; done",
+    ),
+    (
+        &[16, 0, 0, 0, 0, 180, 8, 69, 86, 81, 0, 180, 180, 8],
+        "16 46080 17672 Eof; done",
+    ),
+];
 
 #[test]
-fn a_short_body_costs_one_answer(rt: HostRuntime) {
-    let bytes = b"\x02\0\0\0\0\0\x10\0\x01\0\0\0\0\0\0\0\x0D\0\0\0\0\0\x10\0\x05\0\0\0\0\0\0\0";
-    let want = "2 0 16 Eof; 13 0 16 LostSamples 5; done";
-    check_everywhere(&rt, bytes, Little, &[10], want);
+fn a_refused_frame_costs_one_answer(rt: HostRuntime) {
+    check_streams(&rt, REFUSED);
 }
 
-#[test]
-fn an_unfinished_frame_is_listed_as_eof(rt: HostRuntime) {
-    let bytes = b"\x0D\0\0\0\0\0\x18\0\x05\0\0\0\0\0\0\0";
-    check_everywhere(&rt, bytes, Little, &[10], "13 0 24 Eof; done");
-}
+const TYPES: &[(&[u8], &str)] = &[
+    // Types that are none of the kernel's.
+    (
+        b"\0\0\0\0\0\0\x08\0\x16\0\0\0\0\0\x08\0",
+        "0 0 8 Unknown 0 []; 22 0 8 Unknown 22 []; done",
+    ),
+    // EXIT and FORK, which have one layout.
+    (
+        b"\x04\0\0\0\0\0\x20\0\x10\x10\0\0\0\x05\0\0\x01\0\0\0\x02\0\0\0\x03\0\0\0\x04\0\0\0",
+        "4 0 32 Exit 4112 1280 1 2 17179869187; done",
+    ),
+    (
+        b"\x07\0\0\0\0\0\x20\0\x10\x10\0\0\0\x05\0\0\x01\0\0\0\x02\0\0\0\x03\0\0\0\x04\0\0\0",
+        "7 0 32 Fork 4112 1280 1 2 17179869187; done",
+    ),
+];
 
 #[test]
-fn other_types_are_unknown(rt: HostRuntime) {
-    let bytes = b"\0\0\0\0\0\0\x08\0\x16\0\0\0\0\0\x08\0";
-    let want = "0 0 8 Unknown 0 []; 22 0 8 Unknown 22 []; done";
-    check_everywhere(&rt, bytes, Little, &[10], want);
+fn the_type_says_what_a_body_is(rt: HostRuntime) {
+    check_streams(&rt, TYPES);
+}
+
+const MORE_BEHIND: &[(&[u8], &str)] = &[(
+    b"\x0D\0\0\0\x02\x01\x13\0\x05\0\0\0\0\0\0\0\xAA\xBB\xCC\x16\0\0\0\0\0\x0A\0\xAA\xBB",
+    "13 258 19 LostSamples 5; 22 0 10 Unknown 22 [170, 187]; done",
+)];
+
+#[test]
+fn the_misc_and_the_bytes_behind_a_record_do_not_matter(rt: HostRuntime) {
+    check_streams(&rt, MORE_BEHIND);
 }
 
 #[test]
@@ -73,46 +112,6 @@ fn every_order_reads_its_own_bytes(rt: HostRuntime) {
     let big = b"\0\0\0\x0D\0\0\0\x10\0\0\0\0\0\0\0\x05";
     check_everywhere(&rt, big, Big, &[10], want);
     check_everywhere(&rt, big, Dynamic::Big, &[10], want);
-}
-
-#[test]
-fn exit_and_fork_have_one_layout(rt: HostRuntime) {
-    let exit =
-        b"\x04\0\0\0\0\0\x20\0\x10\x10\0\0\0\x05\0\0\x01\0\0\0\x02\0\0\0\x03\0\0\0\x04\0\0\0";
-    let want = "4 0 32 Exit 4112 1280 1 2 17179869187; done";
-    check_everywhere(&rt, exit, Little, &[10], want);
-    let fork =
-        b"\x07\0\0\0\0\0\x20\0\x10\x10\0\0\0\x05\0\0\x01\0\0\0\x02\0\0\0\x03\0\0\0\x04\0\0\0";
-    let want = "7 0 32 Fork 4112 1280 1 2 17179869187; done";
-    check_everywhere(&rt, fork, Little, &[10], want);
-}
-
-#[test]
-fn the_misc_and_the_bytes_behind_a_record_do_not_matter(rt: HostRuntime) {
-    let bytes =
-        b"\x0D\0\0\0\x02\x01\x13\0\x05\0\0\0\0\0\0\0\xAA\xBB\xCC\x16\0\0\0\0\0\x0A\0\xAA\xBB";
-    let want = "13 258 19 LostSamples 5; 22 0 10 Unknown 22 [170, 187]; done";
-    check_everywhere(&rt, bytes, Little, &[10], want);
-}
-
-const FALSE_SIZES: [(&[u8], &str); 4] = [
-    (b"\0\0\0\0\0\0\0\0", "0 0 0 InvalidRecord; done"),
-    (b"\x16\0\0\0\0\0\xFF\xFF", "22 0 65535 Eof; done"),
-    (
-        &[9, 0, 0, 0, 0, 251, 85, 182, 246],
-        "9 64256 46677 Eof; done",
-    ),
-    (
-        &[16, 0, 0, 0, 0, 180, 8, 69, 86, 81, 0, 180, 180, 8],
-        "16 46080 17672 Eof; done",
-    ),
-];
-
-#[test]
-fn a_false_size_costs_one_answer(rt: HostRuntime) {
-    for (bytes, want) in FALSE_SIZES {
-        check_everywhere(&rt, bytes, Little, &[10], want);
-    }
 }
 
 // Headers that claim more bytes than there are, and what is said of them.

@@ -1,13 +1,12 @@
 //! Values, frames and refusals, through slices, readers and pieces.
 
-use crate::asks::{Ask, check_asks, check_asks_under, next_record};
 use crate::check;
-use crate::told::{Tell, tell_lent};
-use perf_event_data::endian::{Endian, Little};
-use perf_event_data::parse::{
-    ErrorKind, Layout, Parse, ParseBuf, ParseConfig, ParseError, ParseResult, Parser,
-};
+use crate::checks::{Asked, check_all_asks, check_asks_under};
+use perf_event_data::endian::Little;
+use perf_event_data::parse::{ErrorKind, ParseConfig, ParseResult, Parser};
 use perf_event_data::sys::perf_event_attr;
+use perf_testing::asks::{Ask, next_record};
+use perf_testing::told::{Tell, tell_lent};
 use std::alloc::{AllocError, Global};
 use std::io::{self, BufReader, Read};
 use std::test::Fail;
@@ -21,10 +20,13 @@ const FRAMES: &[u8] = b"\x02\0\0\0\0\0\x18\0\x07\0\0\0\0\0\0\0\x05\0\0\0\0\0\0\0
     \x05\0\0\0\x02\0\0\0\x2F\x61\0\0\0\0\0\0\
     \x63\0\0\0\0\0\x0B\0abc";
 
-#[test]
-fn records_one_behind_another(rt: HostRuntime) {
-    check_asks(
-        &rt,
+// A frame of size 7, one whose LOST is cut short, and one that is whole.
+const REFUSED: &[u8] = b"\x02\0\0\0\0\0\x07\0\
+    \x02\0\0\0\0\0\x0C\0\x01\x02\x03\x04\
+    \x0D\0\0\0\0\0\x10\0\x08\0\0\0\0\0\0\0";
+
+const RECORDS: &[Asked] = &[
+    (
         FRAMES,
         &[
             Ask::Record,
@@ -36,22 +38,17 @@ fn records_one_behind_another(rt: HostRuntime) {
         ],
         "Lost 7 5; Switch; Comm 4112 1280 test; Mmap2 1 2 4096 8192 0 [170, 187] 5 2 /a; \
             Unknown 99 [97, 98, 99]; Eof",
-    );
-}
-
-// A frame of size 7, one whose LOST is cut short, and one that is whole.
-const REFUSED: &[u8] = b"\x02\0\0\0\0\0\x07\0\
-    \x02\0\0\0\0\0\x0C\0\x01\x02\x03\x04\
-    \x0D\0\0\0\0\0\x10\0\x08\0\0\0\0\0\0\0";
-
-#[test]
-fn a_refused_frame_costs_that_one(rt: HostRuntime) {
-    check_asks(
-        &rt,
+    ),
+    (
         REFUSED,
         &[Ask::RecordOrWhy, Ask::Record, Ask::Record],
         "InvalidRecord Some(\"header size was too small to be valid\"); Eof; LostSamples 8",
-    );
+    ),
+];
+
+#[test]
+fn records_one_behind_another(rt: HostRuntime) {
+    check_all_asks(&rt, RECORDS);
 }
 
 #[test]
@@ -63,29 +60,29 @@ fn frames_are_taken_apart_by_hand(rt: HostRuntime) {
     ];
     let want = "2 0 None None None None None None; 0x7; \
         14 8192 8; 14 8192 None None None None None None; []; 3 0 24 Comm 4112 1280 test";
-    check_asks_under(&rt, FRAMES, &ParseConfig::default(), &parts, want);
+    check_asks_under(&rt, FRAMES, perf_event_attr::default(), &parts, want);
 }
+
+const VALUES: &[Asked] = &[(
+    b"\x01\x02\x03\x04\x05\x06\x07\x08\x09\x0A\x0B\x0C\x0D\x0E\x0F\0\0",
+    &[
+        Ask::U8,
+        Ask::U16,
+        Ask::U32,
+        Ask::TwoBytes,
+        Ask::Repeated8(2),
+        Ask::IfU8(false),
+        Ask::IfU8(true),
+        Ask::Bytes(2),
+        Ask::Name,
+        Ask::U64,
+    ],
+    "0x1; 0x302; 0x7060504; [8, 9]; [10, 11]; None; Some(12); [13, 14]; [15]; Eof",
+)];
 
 #[test]
 fn values_one_behind_another(rt: HostRuntime) {
-    let bytes = b"\x01\x02\x03\x04\x05\x06\x07\x08\x09\x0A\x0B\x0C\x0D\x0E\x0F\0\0";
-    check_asks(
-        &rt,
-        bytes,
-        &[
-            Ask::U8,
-            Ask::U16,
-            Ask::U32,
-            Ask::TwoBytes,
-            Ask::Repeated8(2),
-            Ask::IfU8(false),
-            Ask::IfU8(true),
-            Ask::Bytes(2),
-            Ask::Name,
-            Ask::U64,
-        ],
-        "0x1; 0x302; 0x7060504; [8, 9]; [10, 11]; None; Some(12); [13, 14]; [15]; Eof",
-    );
+    check_all_asks(&rt, VALUES);
 }
 
 // The kind and the message of a refusal, if it is one.
@@ -148,40 +145,6 @@ fn a_fault_keeps_its_cause(rt: HostRuntime) -> Result<(), Fail> {
         }
         Ok(_) => panic!(rt; "a record of a reader that fails"),
     }
-    Ok(())
-}
-
-// A type of a user's own, which refuses odd numbers.
-#[derive(Drop)]
-struct Even(u8);
-
-impl Layout for Even {
-    ghost use Rattle.std.specs.Prelude.{⊤};
-
-    ghost parses = { λ old seen new. ⊤ };
-
-    ghost counts = { λ old e new. ⊤ };
-}
-
-impl<'p, B: ParseBuf<'p>> Parse<'p, B> for Even {
-    #[tactic(auto, using(perf_parser::proofs::Paying::chain))]
-    fn parse<E: Endian>(parser: &mut Parser<B, E>) -> ParseResult<Self> {
-        let number = parser.parse_u8()?;
-        if number % 2 == 1 {
-            return Err(ParseError::custom(ErrorKind::InvalidRecord, "odd"));
-        }
-        Ok(Even(number))
-    }
-}
-
-#[test]
-fn a_type_of_ones_own_refuses_by_its_own_error(rt: HostRuntime) -> Result<(), Fail> {
-    let bytes: &[u8] = &[4, 5];
-    let mut parser = Parser::new(rt.alloc(), bytes, ParseConfig::<Little>::default());
-    let Even(number) = parser.parse::<Even>()?;
-    check!(rt; number, 4);
-    let refused = why(rt.alloc(), parser.parse::<Even>())?;
-    check!(rt; refused.as_str(), "InvalidRecord Some(\"odd\")");
     Ok(())
 }
 

@@ -1,14 +1,15 @@
 //! Samples that claim more than there is.
 
-use crate::buffers::tell_under;
-use crate::checks::check_that;
+use crate::checks::{check_sample, check_that};
 use crate::flags::{ADDR, AUX, BRANCH_STACK, CALLCHAIN, CGROUP, RAW, READ, STACK_USER};
-use crate::orders::Counting;
-use crate::sample_bytes::Part::{self, Bytes, U32, U64};
-use crate::sample_bytes::{attribute, attribute_with_index, check_sample, frames_of};
 use perf_event_data::PieceBuf;
 use perf_event_data::parse::ParseBuf;
 use perf_event_data::sys::perf_event_attr;
+use perf_testing::attributes::{attribute, attribute_with_index};
+use perf_testing::orders::Counting;
+use perf_testing::runs::tell_under;
+use perf_testing::sample_bytes::Part::{self, Bytes, U32, U64};
+use perf_testing::sample_bytes::frames_of;
 use std::cell::Cell;
 use std::io::BufReader;
 use std::process::Abort;

@@ -1,21 +1,20 @@
 //! What a parser is asked for, one thing behind another, and its answers as text.
 
+use crate::everywhere::{Says, say_everywhere};
 use crate::told::{
     Tell, tell_bytes, tell_error, tell_from_both_ends, tell_group, tell_rest, tell_spaces,
 };
-use perf_event_data::endian::{Endian, Little};
+use perf_event_data::endian::{Endian, Little, Native};
 use perf_event_data::parse::{
     Parse, ParseBuf, ParseBufCursor, ParseConfig, ParseRecord, ParseResult, Parser,
 };
 use perf_event_data::sys::{perf_event_attr, perf_event_header};
 use perf_event_data::{
-    Comm, CowSlice, Exit, Lost, LostSamples, Mmap, PieceBuf, Read, ReadGroup, ReadValue, Record,
+    Comm, CowSlice, Exit, Lost, LostSamples, Mmap, Read, ReadGroup, ReadValue, Record,
     RecordMetadata, SampleId, SwitchCpuWide, Throttle,
 };
 use std::alloc::{AllocError, Global};
 use std::fmt::{Debug, Radix};
-use std::io::BufReader;
-use std::process::Abort;
 
 /// What a parser is asked for.
 #[derive(Copy, Clone)]
@@ -426,14 +425,15 @@ fn tell_part<'p, B: ParseBuf<'p>, E: Endian>(
     }
 }
 
-// What a parser over a buffer answers.
+// What a parser over a buffer answers, the lowest byte of a number first.
 fn told<'p, B: ParseBuf<'p> + Drop>(
     alloc: Global,
     buf: B,
-    config: &ParseConfig<Little>,
+    attr: perf_event_attr,
     parts: &[&[Ask]],
-) -> ParseResult<String> {
-    let mut parser = Parser::new(alloc, buf, config.duplicate()?);
+) -> Result<String, AllocError> {
+    let config = ParseConfig::<Native>::from(attr).with_endian(Little);
+    let mut parser = Parser::new(alloc, buf, config);
     let mut text = String::new(alloc);
     for part in parts {
         tell_part(&mut text, &mut parser, part)?;
@@ -441,63 +441,27 @@ fn told<'p, B: ParseBuf<'p> + Drop>(
     Ok(text)
 }
 
-fn check_told(rt: &impl Abort, answer: ParseResult<String>, want: &str, buffer: &str) {
-    match answer {
-        Ok(text) => assert_eq!(rt; text.as_str(), want, "{buffer}"),
-        Err(error) => panic!(rt; "{:?}", error.kind()),
+// Answers of one parser.
+#[derive(Copy, Clone)]
+struct Answers<'a> {
+    attr: perf_event_attr,
+    parts: &'a [&'a [Ask]],
+}
+
+impl<'p, B: ParseBuf<'p> + Drop> Says<'p, B> for Answers<'_> {
+    fn say(&self, alloc: Global, buf: B) -> Result<String, AllocError> {
+        told(alloc, buf, self.attr, self.parts)
     }
 }
 
-fn check_reader(
-    rt: &(impl AllocGlobal + Abort),
+/// What parsers over these bytes answer behind an attribute, through a slice, buffered readers and
+/// pieces. A part is asked of the parser or, where it begins with a frame, of that of the frame's
+/// body.
+pub fn tell_asked(
+    alloc: Global,
     bytes: &[u8],
-    capacity: usize,
-    config: &ParseConfig<Little>,
+    attr: perf_event_attr,
     parts: &[&[Ask]],
-    want: &str,
-) {
-    match BufReader::with_capacity(rt.alloc(), capacity, bytes) {
-        Ok(reader) => check_told(
-            rt,
-            told(rt.alloc(), reader, config, parts),
-            want,
-            "a reader",
-        ),
-        Err(_) => panic!(rt; "no memory"),
-    }
-}
-
-fn check_pieces(
-    rt: &(impl AllocGlobal + Abort),
-    pieces: PieceBuf<'_>,
-    config: &ParseConfig<Little>,
-    parts: &[&[Ask]],
-    want: &str,
-) {
-    check_told(rt, told(rt.alloc(), pieces, config, parts), want, "pieces");
-}
-
-/// Asserts what parsers over these bytes answer, through a slice, buffered readers and pieces,
-/// under a configuration. A part is asked of the parser or, where it begins with a frame, of that
-/// of the frame's body.
-pub fn check_asks_under(
-    rt: &(impl AllocGlobal + Abort),
-    bytes: &[u8],
-    config: &ParseConfig<Little>,
-    parts: &[&[Ask]],
-    want: &str,
-) {
-    check_told(rt, told(rt.alloc(), bytes, config, parts), want, "a slice");
-    for capacity in [1, 7, 8192] {
-        check_reader(rt, bytes, capacity, config, parts, want);
-    }
-    for most in [1, 3, 64] {
-        check_pieces(rt, PieceBuf::new(bytes, most, true), config, parts, want);
-        check_pieces(rt, PieceBuf::new(bytes, most, false), config, parts, want);
-    }
-}
-
-/// The same of one parser, under the default configuration, the lowest byte first.
-pub fn check_asks(rt: &(impl AllocGlobal + Abort), bytes: &[u8], asks: &[Ask], want: &str) {
-    check_asks_under(rt, bytes, &ParseConfig::default(), &[asks], want);
+) -> Result<String, AllocError> {
+    say_everywhere(alloc, bytes, &Answers { attr, parts })
 }

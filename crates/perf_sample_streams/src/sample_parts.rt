@@ -1,10 +1,8 @@
 //! Registers and other parts of samples by themselves, samples as records, and what refused ones
 //! say.
 
+use crate::checks::check_text;
 use crate::flags::{READ, STACK_USER};
-use crate::sample_bytes::Part::{self, Bytes, U64};
-use crate::sample_bytes::{attribute, put_parts};
-use crate::told_samples::{tell_branches, tell_registers, tell_sample};
 use bitflags::Flags;
 use perf_event_data::endian::{Big, Endian, Little, Native};
 use perf_event_data::parse::{ParseBuf, ParseConfig, ParseRegisters, ParseResult, Parser};
@@ -13,6 +11,10 @@ use perf_event_data::{
     BranchEntry, DataSource, PieceBuf, ReadGroup, ReadValue, Record, Registers, Sample,
     SampleFields, SampleRegsAbi, Txn,
 };
+use perf_testing::attributes::attribute;
+use perf_testing::sample_bytes::Part::{self, Bytes, U64};
+use perf_testing::sample_bytes::put_parts;
+use perf_testing::told_samples::{tell_branches, tell_registers, tell_sample};
 use std::alloc::{AllocError, Global};
 use std::io::BufReader;
 use std::process::Abort;
@@ -102,13 +104,6 @@ fn told_parts<'p, B: ParseBuf<'p> + Drop, E: Endian>(
         Err(error) => write!(text, " {:?}", error.kind())?,
     }
     Ok(text)
-}
-
-fn check_text(rt: &impl Abort, answer: Result<String, AllocError>, want: &str) {
-    match answer {
-        Ok(text) => assert_eq!(rt; text.as_str(), want),
-        Err(_) => panic!(rt; "no memory"),
-    }
 }
 
 fn check_parts_in<E: Endian + Copy>(

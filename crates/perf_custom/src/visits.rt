@@ -2,19 +2,19 @@
 
 ghost use Rattle.std.specs.Prelude.{⊤};
 
-use crate::checks::check_same;
-use crate::metadata::ids_attribute;
-use crate::told::{Tell, tell_error};
+use crate::checks::check_text;
 use perf_event_data::endian::{Endian, Little, Native};
-use perf_event_data::parse::{ParseBuf, ParseConfig, ParseResult, Parser};
+use perf_event_data::parse::{ParseBuf, ParseConfig, Parser};
 use perf_event_data::sys::perf_event_attr;
 use perf_event_data::{
     Aux, AuxOutputHwId, BpfEvent, CGroup, Comm, CowSlice, Exit, Fork, ITraceStart, KSymbol, Lost,
-    LostSamples, Mmap, Mmap2, Namespaces, Partial, PartialVisitor, PieceBuf, Read, Record,
-    RecordMetadata, RecordVisitor, Sample, SwitchCpuWide, TextPoke, Throttle, Visitor,
+    LostSamples, Mmap, Mmap2, Namespaces, Partial, PartialVisitor, PieceBuf, Read, RecordMetadata,
+    RecordVisitor, Sample, SwitchCpuWide, TextPoke, Throttle, Visitor,
 };
+use perf_testing::attributes::ids_attribute;
+use perf_testing::frames::zero_frames;
+use perf_testing::told::{Tell, tell_error};
 use std::alloc::{AllocError, Global};
-use std::cell::Cell;
 use std::io::BufReader;
 use std::process::Abort;
 
@@ -56,10 +56,7 @@ fn check_visits_over<'p, B: ParseBuf<'p> + Drop, V: Visitor<'p> + Copy>(
 where
     V::Output: Tell + Drop,
 {
-    match tell_visits(rt.alloc(), buf, attr, visitor) {
-        Ok(text) => check_same(rt, "the visits", text.as_str(), want),
-        Err(_) => panic!(rt; "no memory"),
-    }
+    check_text(rt, tell_visits(rt.alloc(), buf, attr, visitor), want);
 }
 
 // Asserts what a visitor makes of each frame, through a slice, a buffered reader and pieces.
@@ -79,171 +76,6 @@ where
         Ok(reader) => check_visits_over(rt, reader, attr, visitor, want),
         Err(_) => panic!(rt; "no memory"),
     }
-}
-
-impl Tell for u32 {
-    fn tell(&self, text: &mut String) -> Result<(), AllocError> {
-        write!(text, "{self}")
-    }
-}
-
-impl Tell for &str {
-    fn tell(&self, text: &mut String) -> Result<(), AllocError> {
-        text.push_str(self)
-    }
-}
-
-impl Tell for ParseResult<Record<'_>> {
-    fn tell(&self, text: &mut String) -> Result<(), AllocError> {
-        match self {
-            Ok(record) => record.tell(text),
-            Err(error) => tell_error(text, error),
-        }
-    }
-}
-
-// A mapping is 1 and any other record 0, and each visit is counted.
-#[derive(Copy, Clone)]
-struct Mappings<'v> {
-    visits: &'v Cell<u32>,
-}
-
-impl<'a> Visitor<'a> for Mappings<'_> {
-    type Output = u32;
-
-    // Nothing is said of it.
-    ghost gives = { λ seen output. ⊤ };
-
-    fn visit_unimplemented(self, _metadata: RecordMetadata) -> Self::Output {
-        self.visits.set(self.visits.get().wrapping_add(1));
-        0
-    }
-
-    fn visit_mmap(self, _held: Mmap<'a>, _metadata: RecordMetadata) -> Self::Output {
-        self.visits.set(self.visits.get().wrapping_add(1));
-        1
-    }
-
-    fn visit_lost(self, _held: Lost, metadata: RecordMetadata) -> Self::Output {
-        self.visit_unimplemented(metadata)
-    }
-
-    fn visit_comm(self, _held: Comm<'a>, metadata: RecordMetadata) -> Self::Output {
-        self.visit_unimplemented(metadata)
-    }
-
-    fn visit_exit(self, _held: Exit, metadata: RecordMetadata) -> Self::Output {
-        self.visit_unimplemented(metadata)
-    }
-
-    fn visit_throttle(self, _held: Throttle, metadata: RecordMetadata) -> Self::Output {
-        self.visit_unimplemented(metadata)
-    }
-
-    fn visit_unthrottle(self, _held: Throttle, metadata: RecordMetadata) -> Self::Output {
-        self.visit_unimplemented(metadata)
-    }
-
-    fn visit_fork(self, _held: Fork, metadata: RecordMetadata) -> Self::Output {
-        self.visit_unimplemented(metadata)
-    }
-
-    fn visit_read(self, _held: Read, metadata: RecordMetadata) -> Self::Output {
-        self.visit_unimplemented(metadata)
-    }
-
-    fn visit_sample(self, _held: Sample<'a>, metadata: RecordMetadata) -> Self::Output {
-        self.visit_unimplemented(metadata)
-    }
-
-    fn visit_mmap2(self, held: Mmap2<'a>, metadata: RecordMetadata) -> Self::Output {
-        self.visit_mmap(held.into_mmap(), metadata)
-    }
-
-    fn visit_aux(self, _held: Aux, metadata: RecordMetadata) -> Self::Output {
-        self.visit_unimplemented(metadata)
-    }
-
-    fn visit_itrace_start(self, _held: ITraceStart, metadata: RecordMetadata) -> Self::Output {
-        self.visit_unimplemented(metadata)
-    }
-
-    fn visit_lost_samples(self, _held: LostSamples, metadata: RecordMetadata) -> Self::Output {
-        self.visit_unimplemented(metadata)
-    }
-
-    fn visit_switch(self, metadata: RecordMetadata) -> Self::Output {
-        self.visit_unimplemented(metadata)
-    }
-
-    fn visit_switch_cpu_wide(self, _held: SwitchCpuWide, metadata: RecordMetadata) -> Self::Output {
-        self.visit_unimplemented(metadata)
-    }
-
-    fn visit_namespaces(self, _held: Namespaces<'a>, metadata: RecordMetadata) -> Self::Output {
-        self.visit_unimplemented(metadata)
-    }
-
-    fn visit_ksymbol(self, _held: KSymbol<'a>, metadata: RecordMetadata) -> Self::Output {
-        self.visit_unimplemented(metadata)
-    }
-
-    fn visit_bpf_event(self, _held: BpfEvent, metadata: RecordMetadata) -> Self::Output {
-        self.visit_unimplemented(metadata)
-    }
-
-    fn visit_cgroup(self, _held: CGroup<'a>, metadata: RecordMetadata) -> Self::Output {
-        self.visit_unimplemented(metadata)
-    }
-
-    fn visit_text_poke(self, _held: TextPoke<'a>, metadata: RecordMetadata) -> Self::Output {
-        self.visit_unimplemented(metadata)
-    }
-
-    fn visit_aux_output_hw_id(
-        self,
-        _held: AuxOutputHwId,
-        metadata: RecordMetadata,
-    ) -> Self::Output {
-        self.visit_unimplemented(metadata)
-    }
-
-    fn visit_unknown(self, _bytes: CowSlice<'a, u8>, metadata: RecordMetadata) -> Self::Output {
-        self.visit_unimplemented(metadata)
-    }
-}
-
-// Asserts what the visitor of mappings makes of each frame of a slice, and how many it visits.
-fn check_mappings(rt: &(impl AllocGlobal + Abort), bytes: &[u8], want: &str, count: u32) {
-    let visits = Cell::new(0);
-    let attr = perf_event_attr::default();
-    check_visits_over(rt, bytes, attr, Mappings { visits: &visits }, want);
-    check_same(rt, "how many visits", visits.get(), count);
-}
-
-pub const BY_BUILD_ID: &[u8] = b"\x0A\0\0\0\0\x40\x50\0\x01\0\0\0\x02\0\0\0\
-    \0\x10\0\0\0\0\0\0\0\x20\0\0\0\0\0\0\0\0\0\0\0\0\0\0\
-    \x14\0\0\0\x01\x02\x03\x04\x05\x06\x07\x08\x09\x0A\x0B\x0C\x0D\x0E\x0F\x10\x11\x12\x13\x14\
-    \x05\0\0\0\x02\0\0\0\x61\x62\0\0\0\0\0\0";
-
-// The length of its build id is 21.
-const BY_LONG_BUILD_ID: &[u8] = b"\x0A\0\0\0\0\x40\x50\0\x01\0\0\0\x02\0\0\0\
-    \0\x10\0\0\0\0\0\0\0\x20\0\0\0\0\0\0\0\0\0\0\0\0\0\0\
-    \x15\0\0\0\x01\x02\x03\x04\x05\x06\x07\x08\x09\x0A\x0B\x0C\x0D\x0E\x0F\x10\x11\x12\x13\x14\
-    \x05\0\0\0\x02\0\0\0\x61\x62\0\0\0\0\0\0";
-
-#[test]
-fn what_is_left_out_goes_the_default_way(rt: HostRuntime) {
-    check_mappings(&rt, BY_BUILD_ID, "1; Eof", 1);
-    let lost_samples = b"\x0D\0\0\0\0\0\x10\0\x05\0\0\0\0\0\0\0";
-    check_mappings(&rt, lost_samples, "0; Eof", 1);
-    let switch = b"\x0E\0\0\0\0\0\x08\0";
-    check_mappings(&rt, switch, "0; Eof", 1);
-}
-
-#[test]
-fn a_refused_frame_is_not_visited(rt: HostRuntime) {
-    check_mappings(&rt, BY_LONG_BUILD_ID, "InvalidRecord", 0);
 }
 
 // The name of each call.
@@ -357,43 +189,6 @@ impl<'a> Visitor<'a> for Names {
     }
 }
 
-// A frame of each type and of one that has no type, of zero bytes behind its header: the type and
-// the size.
-const FRAMES: [(u8, u8); 22] = [
-    (1, 40),
-    (2, 24),
-    (3, 16),
-    (4, 32),
-    (5, 32),
-    (6, 32),
-    (7, 32),
-    (8, 24),
-    (9, 8),
-    (10, 72),
-    (11, 32),
-    (12, 16),
-    (13, 16),
-    (14, 8),
-    (15, 16),
-    (16, 24),
-    (17, 24),
-    (18, 24),
-    (19, 16),
-    (20, 24),
-    (21, 16),
-    (22, 8),
-];
-
-pub fn zero_frames(alloc: Global) -> Result<Vec<u8>, AllocError> {
-    let mut bytes = Vec::new(alloc);
-    for (ty, size) in FRAMES {
-        let end = bytes.len().saturating_add(usize::from(size));
-        bytes.extend_from_slice(&[ty, 0, 0, 0, 0, 0, size, 0])?;
-        bytes.resize(end, 0)?;
-    }
-    Ok(bytes)
-}
-
 // Asserts what a visitor makes of these frames.
 fn check_zero_frames(rt: &(impl AllocGlobal + Abort), want: &str) {
     match zero_frames(rt.alloc()) {
@@ -475,10 +270,7 @@ fn tell_timeline(alloc: Global, attr: perf_event_attr) -> Result<String, AllocEr
 }
 
 fn check_timeline(rt: &(impl AllocGlobal + Abort), attr: perf_event_attr, want: &str) {
-    match tell_timeline(rt.alloc(), attr) {
-        Ok(text) => check_same(rt, "the timeline", text.as_str(), want),
-        Err(_) => panic!(rt; "no memory"),
-    }
+    check_text(rt, tell_timeline(rt.alloc(), attr), want);
 }
 
 #[test]
@@ -511,10 +303,7 @@ fn tell_visited<'p, B: ParseBuf<'p>, E: Endian>(
 }
 
 fn check_records(rt: &(impl AllocGlobal + Abort), attr: perf_event_attr, want: &str) {
-    match tell_records(rt.alloc(), attr) {
-        Ok(text) => check_same(rt, "the records", text.as_str(), want),
-        Err(_) => panic!(rt; "no memory"),
-    }
+    check_text(rt, tell_records(rt.alloc(), attr), want);
 }
 
 #[test]

@@ -1,22 +1,36 @@
 //! Samples: lists and strings of bytes.
 
+use crate::checks::{Body, check_bodies, check_indexed, check_sample, check_sample_before};
 use crate::flags::{
     ADDR, AUX, BRANCH_STACK, CALLCHAIN, CGROUP, PERIOD, RAW, REGS_INTR, REGS_USER, STACK_USER,
     TIME, WEIGHT,
 };
-use crate::sample_bytes::Part::{self, Bytes, U32, U64};
-use crate::sample_bytes::{attribute, attribute_with_index, check_sample, check_sample_before};
+use perf_testing::attributes::attribute;
+use perf_testing::sample_bytes::Part::{self, Bytes, U32, U64};
+
+const CHAIN: u64 = PERIOD | CALLCHAIN | WEIGHT;
+
+const CHAINS: &[Body] = &[
+    (
+        CHAIN,
+        0,
+        &[U64(5), U64(0), U64(6), U64(7)],
+        8,
+        "Sample period=0x5 callchain=[] weight=0x6",
+    ),
+    (
+        CHAIN,
+        0,
+        &[U64(5), U64(3), U64(u64::MAX - 511), U64(2), U64(3), U64(7)],
+        0,
+        "Sample period=0x5 callchain=[18446744073709551104, 2, 3] weight=0x7",
+    ),
+    (CHAIN, 0, &[U64(5), U64(2), U64(1)], 0, "Eof"),
+];
 
 #[test]
 fn a_call_chain_has_as_many_addresses_as_it_says(rt: HostRuntime) {
-    let attr = attribute(PERIOD | CALLCHAIN | WEIGHT, 0);
-    let body = [U64(5), U64(0), U64(6), U64(7)];
-    let want = "Sample period=0x5 callchain=[] weight=0x6";
-    check_sample_before(&rt, attr, &body, 8, want);
-    let body = [U64(5), U64(3), U64(u64::MAX - 511), U64(2), U64(3), U64(7)];
-    let want = "Sample period=0x5 callchain=[18446744073709551104, 2, 3] weight=0x7";
-    check_sample(&rt, attr, &body, want);
-    check_sample(&rt, attr, &[U64(5), U64(2), U64(1)], "Eof");
+    check_bodies(&rt, CHAINS);
 }
 
 // Lengths, the bytes behind them, and what is said.
@@ -72,107 +86,166 @@ fn raw_bytes_may_lack_their_padding(rt: HostRuntime) {
     check_sample(&rt, attr, &[Bytes(b"\0\0\0")], "Eof");
 }
 
+const BEFORE_CGROUP: &[Body] = &[
+    (
+        TIME | RAW | CGROUP,
+        0,
+        &[U64(7), U32(2), Bytes(b"\xAA\xBB\0\0"), U64(8)],
+        0,
+        "Sample time=0x7 raw=[170, 187] cgroup=0x8",
+    ),
+    (
+        TIME | CGROUP,
+        0,
+        &[U64(7), U64(8)],
+        0,
+        "Sample time=0x7 cgroup=0x8",
+    ),
+];
+
 #[test]
 fn raw_bytes_stand_before_the_control_group(rt: HostRuntime) {
-    let attr = attribute(TIME | RAW | CGROUP, 0);
-    let body = [U64(7), U32(2), Bytes(b"\xAA\xBB\0\0"), U64(8)];
-    check_sample(
-        &rt,
-        attr,
-        &body,
-        "Sample time=0x7 raw=[170, 187] cgroup=0x8",
-    );
-    let attr = attribute(TIME | CGROUP, 0);
-    check_sample(&rt, attr, &[U64(7), U64(8)], "Sample time=0x7 cgroup=0x8");
+    check_bodies(&rt, BEFORE_CGROUP);
 }
+
+const BRANCHES: &[Body] = &[
+    (
+        BRANCH_STACK,
+        0,
+        &[U64(1), U64(1), U64(2), U64(0x60_0051)],
+        0,
+        "Sample lbr=1,0x1:0x2:1:0:0:0:5:6",
+    ),
+    (
+        BRANCH_STACK,
+        0,
+        &[
+            U64(2),
+            U64(1),
+            U64(2),
+            U64(0x0E),
+            U64(3),
+            U64(4),
+            U64(0xAF_FFF0),
+        ],
+        0,
+        "Sample lbr=2,0x1:0x2:0:1:1:1:0:0,0x3:0x4:0:0:0:0:65535:10",
+    ),
+    (
+        BRANCH_STACK,
+        0,
+        &[U64(1), U64(1), U64(2), U64(0xFFFF_FFFF_FF00_0000)],
+        0,
+        "Sample lbr=1,0x1:0x2:0:0:0:0:0:0",
+    ),
+    (BRANCH_STACK, 0, &[U64(1), U64(1), U64(2)], 0, "Eof"),
+];
 
 #[test]
 fn a_branch_is_three_numbers(rt: HostRuntime) {
-    let attr = attribute(BRANCH_STACK, 0);
-    let body = [U64(1), U64(1), U64(2), U64(0x60_0051)];
-    check_sample(&rt, attr, &body, "Sample lbr=1,0x1:0x2:1:0:0:0:5:6");
-    let body = [
-        U64(2),
-        U64(1),
-        U64(2),
-        U64(0x0E),
-        U64(3),
-        U64(4),
-        U64(0xAF_FFF0),
-    ];
-    let want = "Sample lbr=2,0x1:0x2:0:1:1:1:0:0,0x3:0x4:0:0:0:0:65535:10";
-    check_sample(&rt, attr, &body, want);
-    let body = [U64(1), U64(1), U64(2), U64(0xFFFF_FFFF_FF00_0000)];
-    check_sample(&rt, attr, &body, "Sample lbr=1,0x1:0x2:0:0:0:0:0:0");
-    check_sample(&rt, attr, &[U64(1), U64(1), U64(2)], "Eof");
+    check_bodies(&rt, BRANCHES);
 }
+
+const NOT_INDEXED: &[Body] = &[(
+    ADDR | BRANCH_STACK,
+    0,
+    &[U64(7), U64(0), U64(9)],
+    8,
+    "Sample addr=0x7 lbr=0",
+)];
+
+const INDEXED: &[Body] = &[
+    (
+        ADDR | BRANCH_STACK,
+        0,
+        &[U64(7), U64(0), U64(9)],
+        0,
+        "Sample addr=0x7 lbr_hw_index=0x9 lbr=0",
+    ),
+    (ADDR | BRANCH_STACK, 0, &[U64(7), U64(0)], 0, "Eof"),
+    (
+        ADDR | BRANCH_STACK,
+        0,
+        &[U64(7), U64(1), U64(9), U64(1), U64(2), U64(0x51)],
+        0,
+        "Sample addr=0x7 lbr_hw_index=0x9 lbr=1,0x1:0x2:1:0:0:0:5:0",
+    ),
+    (ADDR, 0, &[U64(7)], 0, "Sample addr=0x7"),
+];
 
 #[test]
 fn an_index_is_read_where_the_attribute_says_so(rt: HostRuntime) {
-    let attr = attribute(ADDR | BRANCH_STACK, 0);
-    check_sample_before(
-        &rt,
-        attr,
-        &[U64(7), U64(0), U64(9)],
-        8,
-        "Sample addr=0x7 lbr=0",
-    );
-    let attr = attribute_with_index(ADDR | BRANCH_STACK, 0);
-    let want = "Sample addr=0x7 lbr_hw_index=0x9 lbr=0";
-    check_sample(&rt, attr, &[U64(7), U64(0), U64(9)], want);
-    check_sample(&rt, attr, &[U64(7), U64(0)], "Eof");
-    let body = [U64(7), U64(1), U64(9), U64(1), U64(2), U64(0x51)];
-    let want = "Sample addr=0x7 lbr_hw_index=0x9 lbr=1,0x1:0x2:1:0:0:0:5:0";
-    check_sample(&rt, attr, &body, want);
-    let attr = attribute_with_index(ADDR, 0);
-    check_sample(&rt, attr, &[U64(7)], "Sample addr=0x7");
+    check_bodies(&rt, NOT_INDEXED);
+    check_indexed(&rt, INDEXED);
 }
 
-const REGISTERS: [(u64, &[Part], &str); 7] = [
+const REGISTERS: &[Body] = &[
     (
         REGS_USER,
+        0,
         &[U64(2), U64(7), U64(8)],
+        0,
         "Sample regs_user=2/0x3[7, 8]",
     ),
     (
         REGS_USER,
+        0,
         &[U64(1), U64(7), U64(8)],
+        0,
         "Sample regs_user=1/0x3[7, 8]",
     ),
     (
         REGS_USER,
+        0,
         &[U64(3), U64(7), U64(8)],
+        0,
         "Sample regs_user=3/0x3[7, 8]",
     ),
-    (REGS_USER, &[U64(2), U64(7)], "Eof"),
-    (REGS_USER, &[], "Eof"),
+    (REGS_USER, 0, &[U64(2), U64(7)], 0, "Eof"),
+    (REGS_USER, 0, &[], 0, "Eof"),
     (
         REGS_INTR,
+        0,
         &[U64(2), U64(7), U64(8), U64(9)],
+        0,
         "Sample regs_intr=2/0x15[7, 8, 9]",
     ),
-    (REGS_INTR, &[U64(2), U64(7), U64(8)], "Eof"),
+    (REGS_INTR, 0, &[U64(2), U64(7), U64(8)], 0, "Eof"),
 ];
 
 #[test]
 fn registers_are_those_of_their_mask(rt: HostRuntime) {
-    for (flag, body, want) in REGISTERS {
-        check_sample(&rt, attribute(flag, 0), body, want);
-    }
+    check_bodies(&rt, REGISTERS);
 }
 
 // `PERF_SAMPLE_REGS_ABI_NONE` is 0.
+const NO_WORDS: &[Body] = &[
+    (
+        REGS_USER,
+        0,
+        &[U64(0), U64(7), U64(8), U64(9)],
+        24,
+        "Sample regs_user=0/0x3[]",
+    ),
+    (
+        REGS_INTR,
+        0,
+        &[U64(0), U64(7), U64(8), U64(9)],
+        24,
+        "Sample regs_intr=0/0x15[]",
+    ),
+    (
+        REGS_USER | WEIGHT | REGS_INTR,
+        0,
+        &[U64(0), U64(7), U64(8), U64(9), U64(10), U64(11)],
+        0,
+        "Sample regs_user=0/0x3[] weight=0x7 regs_intr=8/0x15[9, 10, 11]",
+    ),
+];
+
 #[test]
 fn registers_of_no_words_have_no_values(rt: HostRuntime) {
-    let body = [U64(0), U64(7), U64(8), U64(9)];
-    let want = "Sample regs_user=0/0x3[]";
-    check_sample_before(&rt, attribute(REGS_USER, 0), &body, 24, want);
-    let want = "Sample regs_intr=0/0x15[]";
-    check_sample_before(&rt, attribute(REGS_INTR, 0), &body, 24, want);
-    let want = "Sample regs_user=0/0x3[] weight=0x7 regs_intr=8/0x15[9, 10, 11]";
-    let both = attribute(REGS_USER | WEIGHT | REGS_INTR, 0);
-    let body = [U64(0), U64(7), U64(8), U64(9), U64(10), U64(11)];
-    check_sample(&rt, both, &body, want);
+    check_bodies(&rt, NO_WORDS);
 }
 
 const USED: [(u64, &str); 7] = [
@@ -188,31 +261,49 @@ const USED: [(u64, &str); 7] = [
 #[test]
 fn a_stack_has_as_many_bytes_as_were_used(rt: HostRuntime) {
     let attr = attribute(STACK_USER | WEIGHT, 0);
-    let eight = Bytes(b"\x01\x02\x03\x04\x05\x06\x07\x08");
     for (used, want) in USED {
-        check_sample(&rt, attr, &[U64(8), eight, U64(used), U64(7)], want);
+        check_sample(&rt, attr, &[U64(8), EIGHT, U64(used), U64(7)], want);
     }
 }
 
 // Behind no bytes there is no used size.
+const NO_STACK: &[Body] = &[
+    (
+        STACK_USER | WEIGHT,
+        0,
+        &[U64(0), U64(7)],
+        0,
+        "Sample stack_user=[] weight=0x7",
+    ),
+    (
+        STACK_USER | WEIGHT,
+        0,
+        &[U64(0), U64(7), U64(9)],
+        8,
+        "Sample stack_user=[] weight=0x7",
+    ),
+];
+
 #[test]
 fn a_stack_may_be_of_no_bytes(rt: HostRuntime) {
-    let attr = attribute(STACK_USER | WEIGHT, 0);
-    let want = "Sample stack_user=[] weight=0x7";
-    check_sample(&rt, attr, &[U64(0), U64(7)], want);
-    check_sample_before(&rt, attr, &[U64(0), U64(7), U64(9)], 8, want);
+    check_bodies(&rt, NO_STACK);
 }
 
+const EIGHT: Part<'static> = Bytes(b"\x01\x02\x03\x04\x05\x06\x07\x08");
+
+const SEVEN: Part<'static> = Bytes(b"\xFF\xFF\xFF\xFF\xFF\xFF\xFF");
+
 // A used size that is not there is no used size that is too large.
+const CUT_SHORT: &[Body] = &[
+    (STACK_USER, 0, &[U64(8), EIGHT, SEVEN], 0, "Eof"),
+    (STACK_USER, 0, &[U64(8), EIGHT], 0, "Eof"),
+    (STACK_USER, 0, &[U64(8), SEVEN], 0, "Eof"),
+    (STACK_USER, 0, &[SEVEN], 0, "Eof"),
+];
+
 #[test]
 fn a_stack_may_be_cut_short(rt: HostRuntime) {
-    let attr = attribute(STACK_USER, 0);
-    let eight = Bytes(b"\x01\x02\x03\x04\x05\x06\x07\x08");
-    let seven = Bytes(b"\xFF\xFF\xFF\xFF\xFF\xFF\xFF");
-    check_sample(&rt, attr, &[U64(8), eight, seven], "Eof");
-    check_sample(&rt, attr, &[U64(8), eight], "Eof");
-    check_sample(&rt, attr, &[U64(8), seven], "Eof");
-    check_sample(&rt, attr, &[seven], "Eof");
+    check_bodies(&rt, CUT_SHORT);
 }
 
 // Sizes, the bytes behind them, and what is said.

@@ -2,11 +2,13 @@
 
 ghost use Rattle.std.specs.Prelude.{◌≡◌, ◌+◌, None, ⊤};
 
-use crate::buffers::{Check, check_through};
 use crate::check;
+use crate::through::{Check, check_through};
 use perf_event_data::CowSlice;
-use perf_event_data::endian::Endian;
-use perf_event_data::parse::{ErrorKind, Layout, Parse, ParseBuf, ParseResult, Parser};
+use perf_event_data::endian::{Endian, Little};
+use perf_event_data::parse::{
+    ErrorKind, Layout, Parse, ParseBuf, ParseConfig, ParseError, ParseResult, Parser,
+};
 use std::process::Abort;
 use std::test::Fail;
 
@@ -186,4 +188,39 @@ fn a_type_of_ones_own_is_parsed_out_of_a_frame(rt: HostRuntime) -> Result<(), Fa
         \x04\xF0\0\0\0\0\0\0\xC9\x40\x65\0\0\x65\x40\xC9";
     check_through::<ByType>(&rt, rt.alloc(), bytes)?;
     check_through::<ByClosure>(&rt, rt.alloc(), bytes)
+}
+
+// It refuses odd numbers.
+#[derive(Drop)]
+struct Even(u8);
+
+impl Layout for Even {
+    ghost parses = { λ old seen new. ⊤ };
+
+    ghost counts = { λ old e new. ⊤ };
+}
+
+impl<'p, B: ParseBuf<'p>> Parse<'p, B> for Even {
+    #[tactic(auto, using(perf_parser::proofs::Paying::chain))]
+    fn parse<E: Endian>(parser: &mut Parser<B, E>) -> ParseResult<Self> {
+        let number = parser.parse_u8()?;
+        if number % 2 == 1 {
+            return Err(ParseError::custom(ErrorKind::InvalidRecord, "odd"));
+        }
+        Ok(Even(number))
+    }
+}
+
+#[test]
+fn a_type_of_ones_own_refuses_by_its_own_error(rt: HostRuntime) -> Result<(), Fail> {
+    let bytes: &[u8] = &[4, 5];
+    let mut parser = Parser::new(rt.alloc(), bytes, ParseConfig::<Little>::default());
+    let Even(number) = parser.parse::<Even>()?;
+    check!(rt; number, 4);
+    let Err(error) = parser.parse::<Even>() else {
+        panic!(rt; "not refused");
+    };
+    check!(rt; error.kind(), ErrorKind::InvalidRecord);
+    check!(rt; error.message(), Some("odd"));
+    Ok(())
 }

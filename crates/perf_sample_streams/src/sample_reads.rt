@@ -1,8 +1,9 @@
 //! Samples: reads of counters.
 
+use crate::checks::{Body, check_bodies, check_sample, check_sample_before};
 use crate::flags::{ADDR, CGROUP, CPU, READ, TID, TIME};
-use crate::sample_bytes::Part::{self, Bytes, U32, U64};
-use crate::sample_bytes::{attribute, check_sample, check_sample_before};
+use perf_testing::attributes::attribute;
+use perf_testing::sample_bytes::Part::{self, Bytes, U32, U64};
 
 const TIME_ENABLED: u64 = 1;
 
@@ -10,7 +11,7 @@ const ID: u64 = 1 << 2;
 
 const GROUP: u64 = 1 << 3;
 
-const BETWEEN: [Part; 11] = [
+const BETWEEN: &[Part<'static>] = &[
     U32(0x8D4),
     U32(0x8D4),
     U64(0xA43A_A18E_77C9),
@@ -24,17 +25,28 @@ const BETWEEN: [Part; 11] = [
     U64(1),
 ];
 
+const BETWEEN_BOTH: &[Body] = &[
+    (
+        TID | TIME | CPU | READ | CGROUP,
+        GROUP | TIME_ENABLED,
+        BETWEEN,
+        16,
+        "Sample pid=0x8d4 tid=0x8d4 time=0xa43aa18e77c9 cpu=0x0 time_enabled=0x28c0bed0 \
+            values=2,0x224,0xbd cgroup=0x28c079ac",
+    ),
+    (
+        TID | TIME | CPU | READ | CGROUP,
+        GROUP | TIME_ENABLED | ID,
+        BETWEEN,
+        0,
+        "Sample pid=0x8d4 tid=0x8d4 time=0xa43aa18e77c9 cpu=0x0 time_enabled=0x28c0bed0 \
+            values=2,0x224:0xbd,0x28c079ac:0xbe cgroup=0x1",
+    ),
+];
+
 #[test]
 fn a_group_stands_between_the_processor_and_the_control_group(rt: HostRuntime) {
-    let sample_type = TID | TIME | CPU | READ | CGROUP;
-    let attr = attribute(sample_type, GROUP | TIME_ENABLED);
-    let want = "Sample pid=0x8d4 tid=0x8d4 time=0xa43aa18e77c9 cpu=0x0 time_enabled=0x28c0bed0 \
-        values=2,0x224,0xbd cgroup=0x28c079ac";
-    check_sample_before(&rt, attr, &BETWEEN, 16, want);
-    let attr = attribute(sample_type, GROUP | TIME_ENABLED | ID);
-    let want = "Sample pid=0x8d4 tid=0x8d4 time=0xa43aa18e77c9 cpu=0x0 time_enabled=0x28c0bed0 \
-        values=2,0x224:0xbd,0x28c079ac:0xbe cgroup=0x1";
-    check_sample(&rt, attr, &BETWEEN, want);
+    check_bodies(&rt, BETWEEN_BOTH);
 }
 
 // Read formats, how many bytes are left, and what is said.

@@ -3,14 +3,16 @@
 ghost use Rattle.std.specs.Prelude.{◌++◌, take, drop, true, false};
 ghost use Rattle.std.specs.Int.{w16, w32, w64, from_le_bytes};
 
-use crate::buffers::{check_everywhere, tell};
 use crate::check;
+use crate::checks::check_everywhere;
 use perf_base::config::ParseConfig;
 use perf_base::endian::{Big, Dynamic, Endian, Little, Native};
 use perf_base::error::{ErrorKind, ParseError, ParseResult};
 use perf_base::sys::perf_event_header;
 use perf_event_data::PieceBuf;
 use perf_event_data::parse::{ParseBuf, Parser};
+use perf_testing::orders::Counting;
+use perf_testing::runs::tell;
 use std::alloc::Global;
 use std::cell::Cell;
 use std::io::BufReader;
@@ -107,39 +109,6 @@ impl Endian for Single {
 
     fn duplicate(&self) -> ParseResult<Self> {
         Err(ParseError::out_of_memory())
-    }
-}
-
-/// The lowest byte first. It counts how many numbers of eight bytes it is asked for.
-#[derive(Copy, Clone)]
-pub struct Counting<'a> {
-    pub calls: &'a Cell<u64>,
-}
-
-impl Endian for Counting<'_> {
-    ghost order = { λ _. record {
-      two = from_le_bytes w16;
-      four = from_le_bytes w32;
-      eight = from_le_bytes w64;
-    } };
-
-    ghost may_refuse = { λ _. false };
-
-    fn convert_u16(&self, bytes: [u8; 2]) -> u16 {
-        u16::from_le_bytes(bytes)
-    }
-
-    fn convert_u32(&self, bytes: [u8; 4]) -> u32 {
-        u32::from_le_bytes(bytes)
-    }
-
-    fn convert_u64(&self, bytes: [u8; 8]) -> u64 {
-        self.calls.set(self.calls.get().saturating_add(1));
-        u64::from_le_bytes(bytes)
-    }
-
-    fn duplicate(&self) -> ParseResult<Self> {
-        Ok(*self)
     }
 }
 
@@ -292,11 +261,24 @@ fn the_little_orders_are_native(rt: HostRuntime) {
 fn a_configuration_keeps_its_order(rt: HostRuntime) -> Result<(), Fail> {
     let config = ParseConfig::<Native>::default().with_endian(Dynamic::Big);
     check!(rt; *config.endian(), Dynamic::Big);
-    check!(rt; *config.duplicate()?.endian(), Dynamic::Big);
-    let mut parser = Parser::new(rt.alloc(), &b"\0\0\0\x0D\0\x01\0\x10"[..], config);
+    let second = config.duplicate()?;
+    check!(rt; *second.endian(), Dynamic::Big);
+    Ok(())
+}
+
+// Asserts the order of a parser, that of its configuration, and what it makes of a header.
+fn check_parser(rt: &impl Abort, parser: &mut Parser<&[u8], Dynamic>) -> Result<(), Fail> {
     check!(rt; *parser.endian(), Dynamic::Big);
     check!(rt; *parser.config().endian(), Dynamic::Big);
     let header = parser.parse::<perf_event_header>()?;
     check!(rt; (header.type_, header.misc, header.size), (13, 1, 16));
     Ok(())
+}
+
+#[test]
+fn a_parser_keeps_the_order_of_its_configuration(rt: HostRuntime) -> Result<(), Fail> {
+    let config = ParseConfig::<Native>::default().with_endian(Dynamic::Big);
+    let bytes: &[u8] = b"\0\0\0\x0D\0\x01\0\x10";
+    let mut parser = Parser::new(rt.alloc(), bytes, config);
+    check_parser(&rt, &mut parser)
 }

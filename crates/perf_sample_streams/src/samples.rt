@@ -1,14 +1,17 @@
 //! Samples: the fields that are numbers, and reads of counters.
 
-use crate::buffers::check_everywhere_behind;
+use crate::checks::{
+    Body, check_big, check_bodies, check_little, check_sample, check_sample_before, check_text,
+};
 use crate::flags::{
     ADDR, CGROUP, CODE_PAGE_SIZE, CPU, DATA_PAGE_SIZE, DATA_SRC, ID, IDENTIFIER, IP, PERIOD,
     PHYS_ADDR, STREAM_ID, TID, TIME, TRANSACTION, WEIGHT, WEIGHT_STRUCT,
 };
-use crate::sample_bytes::Part::{Bytes, U32, U64};
-use crate::sample_bytes::{attribute, check_big, check_little, check_sample, check_sample_before};
 use perf_event_data::endian::Little;
 use perf_event_data::sys::perf_event_attr;
+use perf_testing::attributes::attribute;
+use perf_testing::runs::tell_everywhere;
+use perf_testing::sample_bytes::Part::{Bytes, U32, U64};
 use std::test::Fail;
 
 const SIXTEEN: &[u8] = b"\x00\x01\x02\x03\x04\x05\x06\x07\x08\x09\x0A\x0B\x0C\x0D\x0E\x0F";
@@ -21,10 +24,11 @@ fn an_address_and_an_id(rt: HostRuntime) {
     check_big(&rt, attribute(ADDR | ID, 0), SIXTEEN, 0, want);
 }
 
+const NO_FIELD: &[Body] = &[(0, 0, &[], 0, "Sample"), (0, 0, &[U64(1)], 8, "Sample")];
+
 #[test]
 fn no_field_takes_no_bytes(rt: HostRuntime) {
-    check_sample(&rt, attribute(0, 0), &[], "Sample");
-    check_sample_before(&rt, attribute(0, 0), &[U64(1)], 8, "Sample");
+    check_bodies(&rt, NO_FIELD);
 }
 
 // Bits of a sample type that are no field's.
@@ -38,19 +42,25 @@ fn a_flag_above_bit_24_is_no_field(rt: HostRuntime) {
     check_sample_before(&rt, attr, &[U64(7), U64(8)], 8, "Sample addr=0x7");
 }
 
+const WIDEST: &[Body] = &[(
+    IP | TID | TIME | CPU,
+    0,
+    &[
+        U64(u64::MAX),
+        U32(u32::MAX),
+        U32(u32::MAX),
+        U64(u64::MAX),
+        U32(u32::MAX),
+        U32(u32::MAX),
+    ],
+    0,
+    "Sample ip=0xffffffffffffffff pid=0xffffffff tid=0xffffffff time=0xffffffffffffffff \
+        cpu=0xffffffff",
+)];
+
 #[test]
 fn the_number_of_a_field_is_as_wide_as_its_bytes(rt: HostRuntime) {
-    let body = [
-        U64(u64::MAX),
-        U32(u32::MAX),
-        U32(u32::MAX),
-        U64(u64::MAX),
-        U32(u32::MAX),
-        U32(u32::MAX),
-    ];
-    let want = "Sample ip=0xffffffffffffffff pid=0xffffffff tid=0xffffffff \
-        time=0xffffffffffffffff cpu=0xffffffff";
-    check_sample(&rt, attribute(IP | TID | TIME | CPU, 0), &body, want);
+    check_bodies(&rt, WIDEST);
 }
 
 const FIELDS: [(u64, &str); 16] = [
@@ -81,25 +91,33 @@ fn each_field_of_one_number_stands_alone(rt: HostRuntime) {
     }
 }
 
+const HALVES: &[Body] = &[
+    (TID, 0, &[U32(1), U32(2)], 0, "Sample pid=0x1 tid=0x2"),
+    (CPU, 0, &[U32(1), U32(2)], 0, "Sample cpu=0x1"),
+    (TID, 0, &[U32(1), Bytes(b"\0\0\0")], 0, "Eof"),
+    (CPU, 0, &[U32(1), Bytes(b"\0\0\0")], 0, "Eof"),
+];
+
 #[test]
 fn a_task_and_a_processor_stand_alone(rt: HostRuntime) {
-    let body = [U32(1), U32(2)];
-    check_sample(&rt, attribute(TID, 0), &body, "Sample pid=0x1 tid=0x2");
-    check_sample(&rt, attribute(CPU, 0), &body, "Sample cpu=0x1");
-    for flag in [TID, CPU] {
-        let short = [U32(1), Bytes(b"\0\0\0")];
-        check_sample(&rt, attribute(flag, 0), &short, "Eof");
-    }
+    check_bodies(&rt, HALVES);
 }
+
+const IDS: &[Body] = &[
+    (ID | IDENTIFIER, 0, &[U64(9), U64(7)], 0, "Sample id=0x7"),
+    (
+        ID | IDENTIFIER | IP,
+        0,
+        &[U64(9), U64(8), U64(7)],
+        0,
+        "Sample ip=0x8 id=0x7",
+    ),
+    (ID | IDENTIFIER, 0, &[U64(9)], 0, "Eof"),
+];
 
 #[test]
 fn the_id_stands_behind_the_identifier(rt: HostRuntime) {
-    let both = attribute(ID | IDENTIFIER, 0);
-    check_sample(&rt, both, &[U64(9), U64(7)], "Sample id=0x7");
-    let apart = attribute(ID | IDENTIFIER | IP, 0);
-    let body = [U64(9), U64(8), U64(7)];
-    check_sample(&rt, apart, &body, "Sample ip=0x8 id=0x7");
-    check_sample(&rt, both, &[U64(9)], "Eof");
+    check_bodies(&rt, IDS);
 }
 
 // Whichever of the two flags of a weight are set, it is one number.
@@ -116,16 +134,18 @@ fn a_weight_is_one_number(rt: HostRuntime) {
     }
 }
 
+const OF_MEMORY: &[Body] = &[(
+    PHYS_ADDR | CGROUP | DATA_PAGE_SIZE | CODE_PAGE_SIZE | DATA_SRC | TRANSACTION,
+    0,
+    &[U64(1), U64(2), U64(3), U64(4), U64(5), U64(6)],
+    0,
+    "Sample data_src=0x1 transaction=0x2 phys_addr=0x3 cgroup=0x4 data_page_size=0x5 \
+        code_page_size=0x6",
+)];
+
 #[test]
 fn numbers_of_memory_have_their_order(rt: HostRuntime) {
-    let attr = attribute(
-        PHYS_ADDR | CGROUP | DATA_PAGE_SIZE | CODE_PAGE_SIZE | DATA_SRC | TRANSACTION,
-        0,
-    );
-    let body = [U64(1), U64(2), U64(3), U64(4), U64(5), U64(6)];
-    let want = "Sample data_src=0x1 transaction=0x2 phys_addr=0x3 cgroup=0x4 \
-        data_page_size=0x5 code_page_size=0x6";
-    check_sample(&rt, attr, &body, want);
+    check_bodies(&rt, OF_MEMORY);
 }
 
 // The record behind a sample has a sample id at its end, the sample has none.
@@ -138,5 +158,6 @@ fn a_sample_has_no_sample_id_behind_it(rt: HostRuntime) {
     let bytes = b"\x09\0\0\0\0\0\x18\0\x07\0\0\0\0\0\0\0\x08\0\0\0\0\0\0\0\
         \x0D\0\0\0\0\0\x18\0\x05\0\0\0\0\0\0\0\x09\0\0\0\0\0\0\0";
     let want = "9 0 24 Sample addr=0x7 id=0x8; 13 0 24 LostSamples 5; done";
-    check_everywhere_behind(&rt, bytes, Little, attr, &[10], want);
+    let told = tell_everywhere(rt.alloc(), bytes, Little, attr, &[10]);
+    check_text(&rt, told, want);
 }

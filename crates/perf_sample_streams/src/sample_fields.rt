@@ -1,12 +1,14 @@
 //! Samples: all fields at once, and each of them cut out and put in again.
 
+use crate::checks::{check_big, check_little};
 use crate::flags::{
     ADDR, AUX, BRANCH_STACK, CALLCHAIN, CGROUP, CODE_PAGE_SIZE, CPU, DATA_PAGE_SIZE, DATA_SRC, ID,
     IDENTIFIER, IP, PERIOD, PHYS_ADDR, RAW, READ, REGS_INTR, REGS_USER, STACK_USER, STREAM_ID, TID,
     TIME, TRANSACTION, WEIGHT, WEIGHT_STRUCT,
 };
-use crate::sample_bytes::Part::{self, Bytes, U32, U64};
-use crate::sample_bytes::{attribute_with_index, check_big, check_little, put_parts};
+use perf_testing::attributes::attribute_with_index;
+use perf_testing::sample_bytes::Part::{self, Bytes, U32, U64};
+use perf_testing::sample_bytes::put_parts;
 use std::alloc::{AllocError, Global};
 use std::process::Abort;
 

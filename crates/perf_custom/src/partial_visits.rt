@@ -2,9 +2,7 @@
 
 ghost use Rattle.std.specs.Prelude.{⊤};
 
-use crate::checks::check_same;
-use crate::told::{Tell, tell_error};
-use crate::visits::{BY_BUILD_ID, zero_frames};
+use crate::checks::{check_same, check_text};
 use perf_event_data::endian::{Endian, Little, Native};
 use perf_event_data::parse::{ParseBuf, ParseConfig, Parser};
 use perf_event_data::{
@@ -12,7 +10,10 @@ use perf_event_data::{
     LostSamples, Mmap, Mmap2, Namespaces, Partial, PartialVisitor, Read, RecordMetadata, Sample,
     SwitchCpuWide, TextPoke, Throttle,
 };
+use perf_testing::frames::{BY_BUILD_ID, zero_frames};
+use perf_testing::told::{Tell, tell_error};
 use std::alloc::{AllocError, Global};
+use std::cell::Cell;
 use std::process::Abort;
 
 // The name of each call, all of which it has itself.
@@ -128,11 +129,13 @@ impl PartialVisitor for OwnCalls {
     }
 }
 
-// Mappings alone.
+// It has a call of its own for mappings alone, and each visit is counted.
 #[derive(Copy, Clone)]
-struct OwnMappings;
+struct Mappings<'v> {
+    visits: &'v Cell<u32>,
+}
 
-impl PartialVisitor for OwnMappings {
+impl PartialVisitor for Mappings<'_> {
     type Output = &'static str;
 
     // Nothing is said of it.
@@ -141,10 +144,12 @@ impl PartialVisitor for OwnMappings {
     ghost left_out = { λ metadata output. ⊤ };
 
     fn visit_unimplemented(self, _metadata: RecordMetadata) -> Self::Output {
+        self.visits.set(self.visits.get().wrapping_add(1));
         "unimplemented"
     }
 
     fn visit_mmap(self, _held: Mmap<'_>, _metadata: RecordMetadata) -> Self::Output {
+        self.visits.set(self.visits.get().wrapping_add(1));
         "mmap"
     }
 }
@@ -201,10 +206,7 @@ fn check_visits<V: PartialVisitor + Copy>(
 where
     V::Output: Tell + Drop,
 {
-    match tell_visits(rt.alloc(), bytes, visitor) {
-        Ok(text) => check_same(rt, "the visits", text.as_str(), want),
-        Err(_) => panic!(rt; "no memory"),
-    }
+    check_text(rt, tell_visits(rt.alloc(), bytes, visitor), want);
 }
 
 // The same of a frame of each type.
@@ -224,7 +226,31 @@ fn own_calls_are_made(rt: HostRuntime) {
     check_zero_frames(&rt, want);
 }
 
+// The length of its build id is 21.
+const BY_LONG_BUILD_ID: &[u8] = b"\x0A\0\0\0\0\x40\x50\0\x01\0\0\0\x02\0\0\0\
+    \0\x10\0\0\0\0\0\0\0\x20\0\0\0\0\0\0\0\0\0\0\0\0\0\0\
+    \x15\0\0\0\x01\x02\x03\x04\x05\x06\x07\x08\x09\x0A\x0B\x0C\x0D\x0E\x0F\x10\x11\x12\x13\x14\
+    \x05\0\0\0\x02\0\0\0\x61\x62\0\0\0\0\0\0";
+
+// A frame, what the visitor of mappings makes of it, and how many visits that takes. An MMAP2 goes
+// to its own call for mappings.
+const MAPPINGS: [(&[u8], &str, u32); 4] = [
+    (BY_BUILD_ID, "mmap; Eof", 1),
+    (
+        b"\x0D\0\0\0\0\0\x10\0\x05\0\0\0\0\0\0\0",
+        "unimplemented; Eof",
+        1,
+    ),
+    (b"\x0E\0\0\0\0\0\x08\0", "unimplemented; Eof", 1),
+    // A frame that is refused is not visited.
+    (BY_LONG_BUILD_ID, "InvalidRecord", 0),
+];
+
 #[test]
-fn mmap2_goes_to_an_own_mmap(rt: HostRuntime) {
-    check_visits(&rt, BY_BUILD_ID, OwnMappings, "mmap; Eof");
+fn what_is_left_out_goes_the_default_way(rt: HostRuntime) {
+    for (bytes, want, count) in MAPPINGS {
+        let visits = Cell::new(0);
+        check_visits(&rt, bytes, Mappings { visits: &visits }, want);
+        check_same(&rt, "how many visits", visits.get(), count);
+    }
 }

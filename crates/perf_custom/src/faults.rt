@@ -2,7 +2,6 @@
 
 ghost use Rattle.std.specs.Prelude.{◌≡◌, true, false, None, Some, take, nat_lt};
 
-use crate::buffers::tell;
 use crate::check;
 use crate::checks::check_same;
 use anyhow::anyhow;
@@ -11,6 +10,7 @@ use perf_event_data::parse::{
     ErrorKind, ParseBuf, ParseBufChunk, ParseConfig, ParseError, ParseResult, Parser,
 };
 use perf_event_data::{RunEnd, read_records};
+use perf_testing::runs::tell;
 use std::alloc::Global;
 use std::io;
 use std::io::{BufReader, Read};

@@ -52,6 +52,21 @@ fn name_of(bytes: &[u8]) -> &str {
     }
 }
 
+impl Tell for &str {
+    fn tell(&self, text: &mut String) -> Result<(), AllocError> {
+        text.push_str(self)
+    }
+}
+
+impl Tell for ParseResult<Record<'_>> {
+    fn tell(&self, text: &mut String) -> Result<(), AllocError> {
+        match self {
+            Ok(record) => record.tell(text),
+            Err(error) => tell_error(text, error),
+        }
+    }
+}
+
 impl Tell for perf_event_header {
     fn tell(&self, text: &mut String) -> Result<(), AllocError> {
         write!(text, "{} {} {}", self.type_, self.misc, self.size)

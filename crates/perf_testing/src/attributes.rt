@@ -1,0 +1,37 @@
+//! Attributes that several tests read under.
+
+use perf_event_data::sys::perf_event_attr;
+
+/// The registers of a user that the attributes of samples ask for.
+pub const USER_MASK: u64 = 0x3;
+
+/// The same at an interrupt.
+pub const INTERRUPT_MASK: u64 = 0x15;
+
+/// The attribute of an event with this sample type and this read format.
+pub fn attribute(sample_type: u64, read_format: u64) -> perf_event_attr {
+    perf_event_attr {
+        sample_type,
+        read_format,
+        sample_regs_user: USER_MASK,
+        sample_regs_intr: INTERRUPT_MASK,
+        ..Default::default()
+    }
+}
+
+/// The same, and branch stacks have the hardware's index.
+pub fn attribute_with_index(sample_type: u64, read_format: u64) -> perf_event_attr {
+    perf_event_attr {
+        branch_sample_type: 1 << 17,
+        ..attribute(sample_type, read_format)
+    }
+}
+
+/// The attribute of an event that has `sample_id_all` and these fields in its samples.
+pub fn ids_attribute(sample_type: u64) -> perf_event_attr {
+    perf_event_attr {
+        sample_type,
+        flags: 1 << 18,
+        ..Default::default()
+    }
+}

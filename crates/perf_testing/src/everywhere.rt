@@ -1,0 +1,50 @@
+//! What is said over each of many buffers.
+
+use perf_event_data::PieceBuf;
+use perf_event_data::parse::ParseBuf;
+use std::alloc::{AllocError, Global};
+use std::io::BufReader;
+
+/// What is said over a buffer.
+pub trait Says<'p, B: ParseBuf<'p>> {
+    fn say(&self, alloc: Global, buf: B) -> Result<String, AllocError>;
+}
+
+// Appends what is said over a buffer where it is not what was said first.
+fn add_over<'p, B: ParseBuf<'p>, S: Says<'p, B>>(
+    others: &mut String,
+    alloc: Global,
+    buf: B,
+    says: &S,
+    first: &str,
+) -> Result<(), AllocError> {
+    let other = says.say(alloc, buf)?;
+    if other.as_str() != first {
+        write!(others, " but {other}")?;
+    }
+    Ok(())
+}
+
+/// What is said over these bytes, through a slice, buffered readers and pieces: one text where it is
+/// one over all of them, and else the others behind it.
+pub fn say_everywhere<'p, S>(alloc: Global, bytes: &'p [u8], says: &S) -> Result<String, AllocError>
+where
+    S: Says<'p, &'p [u8]> + Says<'p, BufReader<&'p [u8]>> + Says<'p, PieceBuf<'p>>,
+{
+    let mut text = says.say(alloc, bytes)?;
+    let mut others = String::new(alloc);
+    for capacity in [1, 7, 8192] {
+        let Ok(reader) = BufReader::with_capacity(alloc, capacity, bytes) else {
+            return Err(AllocError);
+        };
+        add_over(&mut others, alloc, reader, says, text.as_str())?;
+    }
+    for most in [1, 3, 7, 64] {
+        for lasting in [true, false] {
+            let pieces = PieceBuf::new(bytes, most, lasting);
+            add_over(&mut others, alloc, pieces, says, text.as_str())?;
+        }
+    }
+    text.push_str(others.as_str())?;
+    Ok(text)
+}
