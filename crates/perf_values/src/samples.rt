@@ -262,15 +262,9 @@ fn a_sample_answers_each_of_its_fields(rt: HostRuntime) {
     check_sample(&rt, every_field(&branches), ORIGIN, NUMBERS, LISTS);
 }
 
-// The same list in memory of its own.
-fn owned<'a, T: Copy>(
-    alloc: Global,
-    list: Option<CowSlice<'a, T>>,
-) -> ParseResult<Option<CowSlice<'a, T>>> {
-    match list {
-        Some(list) => Ok(Some(list.into_owned(alloc)?)),
-        None => Ok(None),
-    }
+// A list in memory of its own.
+fn owned<'a, T: Copy>(alloc: Global, items: &'a [T]) -> ParseResult<Option<CowSlice<'a, T>>> {
+    Ok(Some(CowSlice::Borrowed(items).into_owned(alloc)?))
 }
 
 // Registers 0 and 2 of a task of 64 bits, with these values in memory of their own.
@@ -282,44 +276,42 @@ fn owned_registers(alloc: Global, values: &[u64]) -> ParseResult<Option<Register
     }))
 }
 
-// Every field, with its group and its registers in memory of their own.
-fn with_owned_groups(alloc: Global, branches: &[BranchEntry]) -> ParseResult<SampleFields<'_>> {
+// Puts a group and registers of the same values in place, in memory of their own.
+fn own_groups(alloc: Global, fields: &mut SampleFields<'_>) -> ParseResult<()> {
     let words = CowSlice::Borrowed(&[110]);
-    let group = ReadGroup::from_parts(ReadFormat::GROUP, 0, 0, words).into_owned(alloc)?;
-    let regs_user = owned_registers(alloc, &[118, 119])?;
-    let regs_intr = owned_registers(alloc, &[125, 126])?;
-    Ok(SampleFields {
-        values: Some(group),
-        regs_user,
-        regs_intr,
-        ..every_field(branches)
-    })
+    let group = ReadGroup::from_parts(ReadFormat::GROUP, 0, 0, words);
+    fields.values = Some(group.into_owned(alloc)?);
+    fields.regs_user = owned_registers(alloc, &[118, 119])?;
+    fields.regs_intr = owned_registers(alloc, &[125, 126])?;
+    Ok(())
 }
 
-// The same, and with its call chain and branches.
-fn with_owned_calls(alloc: Global, branches: &[BranchEntry]) -> ParseResult<SampleFields<'_>> {
-    let fields = with_owned_groups(alloc, branches)?;
-    let callchain = owned(alloc, Some(CowSlice::Borrowed(&[111, 112])))?;
-    let lbr = owned(alloc, Some(CowSlice::Borrowed(branches)))?;
-    Ok(SampleFields {
-        callchain,
-        lbr,
-        ..fields
-    })
+// The same of the call chain and the branches.
+fn own_calls<'a>(
+    alloc: Global,
+    fields: &mut SampleFields<'a>,
+    branches: &'a [BranchEntry],
+) -> ParseResult<()> {
+    fields.callchain = owned(alloc, &[111, 112])?;
+    fields.lbr = owned(alloc, branches)?;
+    Ok(())
 }
 
-// The same, and with its bytes: every list is in memory of its own.
+// The same of the bytes.
+fn own_bytes(alloc: Global, fields: &mut SampleFields<'_>) -> ParseResult<()> {
+    fields.raw = owned(alloc, &[113])?;
+    fields.stack_user = owned(alloc, &[120, 121])?;
+    fields.aux = owned(alloc, &[128, 129, 130])?;
+    Ok(())
+}
+
+// Every field, with every list in memory of its own.
 fn every_field_owned(alloc: Global, branches: &[BranchEntry]) -> ParseResult<SampleFields<'_>> {
-    let fields = with_owned_calls(alloc, branches)?;
-    let raw = owned(alloc, Some(CowSlice::Borrowed(&[113])))?;
-    let stack_user = owned(alloc, Some(CowSlice::Borrowed(&[120, 121])))?;
-    let aux = owned(alloc, Some(CowSlice::Borrowed(&[128, 129, 130])))?;
-    Ok(SampleFields {
-        raw,
-        stack_user,
-        aux,
-        ..fields
-    })
+    let mut fields = every_field(branches);
+    own_groups(alloc, &mut fields)?;
+    own_calls(alloc, &mut fields, branches)?;
+    own_bytes(alloc, &mut fields)?;
+    Ok(fields)
 }
 
 #[test]
