@@ -21,7 +21,7 @@ pub fn check_that(rt: &impl Abort, what: &str, is_so: bool) {
 /// Asserts what a text is.
 pub fn check_text(rt: &impl Abort, answer: Result<String, AllocError>, want: &str) {
     match answer {
-        Ok(text) => assert_eq!(rt; text.as_str(), want),
+        Ok(text) => check_same(rt, "the text", text.as_str(), want),
         Err(_) => panic!(rt; "no memory"),
     }
 }

@@ -3,7 +3,7 @@
 use crate::check;
 use bitflags::Flags;
 use perf_event_data::endian::{Dynamic, Little};
-use perf_event_data::parse::ParseConfig;
+use perf_event_data::parse::{ParseConfig, Parser};
 use perf_event_data::sys::perf_event_attr;
 use perf_words::{ReadFormat, SampleFlags};
 use std::process::Abort;
@@ -100,4 +100,12 @@ fn another_read_format_keeps_the_rest(rt: HostRuntime) {
         let config = full().with_misc(7).with_read_format(read_format);
         check_said(&rt, &config, (kept, sample_type, ids, index, user, intr, 7));
     }
+}
+
+#[test]
+fn a_parser_takes_another_configuration(rt: HostRuntime) {
+    let parser = Parser::new(rt.alloc(), [].as_slice(), full());
+    check!(rt; parser.config().sample_id_all());
+    let parser = parser.reconfigure(ParseConfig::<Little>::default());
+    check!(rt; !parser.config().sample_id_all());
 }

@@ -1,9 +1,8 @@
-//! Tests that cross the crates: whole streams through every buffer, the calls of a parser, and what
-//! lies outside the contracts, such as the texts of errors. Without its tests this crate is empty.
+//! Tests that cross the crates and are no row of a list (`perf_cases` reads those): cursors,
+//! configurations, whose bytes a parser lends, and what lies outside the contracts, such as the
+//! texts of errors. Without its tests this crate is empty.
 #![tactic(auto)]
 
-#[cfg(test)]
-mod attributes;
 #[cfg(test)]
 mod checks;
 #[cfg(test)]
@@ -15,22 +14,20 @@ mod debug_texts;
 #[cfg(test)]
 mod errors;
 #[cfg(test)]
-mod mappings;
+mod flags;
 #[cfg(test)]
 mod metadata;
 #[cfg(test)]
-mod names;
-#[cfg(test)]
 mod parser_calls;
-#[cfg(test)]
-mod pokes;
 #[cfg(test)]
 mod reads;
 #[cfg(test)]
-mod side_band;
+mod sample_counts;
+#[cfg(test)]
+mod sample_fields;
+#[cfg(test)]
+mod sample_parts;
 #[cfg(test)]
 mod streams;
-#[cfg(test)]
-mod through_buffers;
 #[cfg(test)]
 mod values;

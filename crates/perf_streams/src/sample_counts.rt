@@ -1,7 +1,7 @@
 //! Samples that claim more than there is.
 
-use crate::checks::{check_sample, check_that};
-use crate::flags::{ADDR, AUX, BRANCH_STACK, CALLCHAIN, CGROUP, RAW, READ, STACK_USER};
+use crate::checks::check_that;
+use crate::flags::{AUX, BRANCH_STACK, CALLCHAIN, RAW, READ, STACK_USER};
 use perf_event_data::PieceBuf;
 use perf_event_data::parse::ParseBuf;
 use perf_event_data::sys::perf_event_attr;
@@ -30,49 +30,6 @@ const HOSTILE: [u64; 13] = [
     u64::MAX - 1,
     u64::MAX,
 ];
-
-// Asserts that a body is refused that begins with any such count.
-fn check_hostile(rt: &(impl AllocGlobal + Abort), attr: perf_event_attr, behind: &[u8]) {
-    for count in HOSTILE {
-        check_sample(rt, attr, &[U64(count), Bytes(behind)], "Eof");
-    }
-}
-
-const THREE_NUMBERS: &[u8] = b"\x01\0\0\0\0\0\0\0\x02\0\0\0\0\0\0\0\x03\0\0\0\0\0\0\0";
-
-#[test]
-fn a_call_chain_may_claim_more_than_there_is(rt: HostRuntime) {
-    check_hostile(&rt, attribute(CALLCHAIN, 0), THREE_NUMBERS);
-    check_hostile(&rt, attribute(CALLCHAIN | CGROUP, 0), THREE_NUMBERS);
-}
-
-#[test]
-fn a_branch_stack_may_claim_more_than_there_is(rt: HostRuntime) {
-    check_hostile(&rt, attribute(BRANCH_STACK, 0), THREE_NUMBERS);
-    check_hostile(&rt, attribute(BRANCH_STACK | AUX, 0), THREE_NUMBERS);
-    check_hostile(&rt, attribute_with_index(BRANCH_STACK, 0), THREE_NUMBERS);
-}
-
-#[test]
-fn bytes_may_claim_to_be_more_than_there_are(rt: HostRuntime) {
-    check_hostile(&rt, attribute(STACK_USER, 0), b"\x01\x02\x03");
-    check_hostile(&rt, attribute(AUX, 0), b"\x01\x02\x03");
-}
-
-// The length, and with it the four bytes that it takes itself and the padding, is near 2^32.
-#[test]
-fn raw_bytes_may_claim_to_be_more_than_there_are(rt: HostRuntime) {
-    for less in 0..17 {
-        let body = [U32(u32::MAX - less), Bytes(b"\x01\x02\x03\x04")];
-        check_sample(&rt, attribute(RAW, 0), &body, "Eof");
-        check_sample(
-            &rt,
-            attribute(RAW | ADDR, 0),
-            &[U64(1), body[0], body[1]],
-            "Eof",
-        );
-    }
-}
 
 // How many numbers of eight bytes are made of a run's first frame, which is refused.
 fn conversions<'p, B: ParseBuf<'p> + Drop>(

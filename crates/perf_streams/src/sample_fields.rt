@@ -1,6 +1,6 @@
 //! Samples: all fields at once, and each of them cut out and put in again.
 
-use crate::checks::{check_big, check_little};
+use crate::checks::check_sample;
 use crate::flags::{
     ADDR, AUX, BRANCH_STACK, CALLCHAIN, CGROUP, CODE_PAGE_SIZE, CPU, DATA_PAGE_SIZE, DATA_SRC, ID,
     IDENTIFIER, IP, PERIOD, PHYS_ADDR, RAW, READ, REGS_INTR, REGS_USER, STACK_USER, STREAM_ID, TID,
@@ -134,8 +134,7 @@ fn check_bytes(
 ) {
     let attr = attribute_with_index(sample_type, READ_FORMAT);
     match (body, text_of(rt.alloc(), sample_type)) {
-        (Ok(body), Ok(text)) if is_big => check_big(rt, attr, &body, 0, text.as_str()),
-        (Ok(body), Ok(text)) => check_little(rt, attr, &body, 0, text.as_str()),
+        (Ok(body), Ok(text)) => check_sample(rt, attr, is_big, &body, text.as_str()),
         _ => panic!(rt; "no memory"),
     }
 }

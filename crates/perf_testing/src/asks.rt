@@ -2,7 +2,8 @@
 
 use crate::everywhere::{Says, say_everywhere};
 use crate::told::{
-    Tell, tell_bytes, tell_error, tell_from_both_ends, tell_group, tell_rest, tell_spaces,
+    Tell, tell_bytes, tell_config, tell_error, tell_from_both_ends, tell_group, tell_rest,
+    tell_semicolon, tell_spaces,
 };
 use perf_event_data::endian::{Endian, Little, Native};
 use perf_event_data::parse::{
@@ -15,64 +16,6 @@ use perf_event_data::{
 };
 use std::alloc::{AllocError, Global};
 use std::fmt::{Debug, Radix};
-
-/// What a parser is asked for.
-#[derive(Copy, Clone)]
-pub enum Ask {
-    // Numbers by calls of their own, and as types.
-    U8,
-    U16,
-    U32,
-    U64,
-    NextU8,
-    NextU16,
-    NextU32,
-    NextU64,
-    // Arrays of bytes.
-    NoBytes,
-    OneByte,
-    TwoBytes,
-    FourBytes,
-    // Numbers under a condition.
-    IfU8(bool),
-    IfU16(bool),
-    IfU32(bool),
-    IfU64(bool),
-    // Lists and byte strings of a length, and the rest without and with its zero bytes.
-    Repeated8(usize),
-    Repeated16(usize),
-    Repeated64(usize),
-    Slice64(usize),
-    Bytes(usize),
-    Name,
-    Rest,
-    // Bodies.
-    Comm,
-    Exit,
-    Lost,
-    LostSamples,
-    Mmap,
-    Read,
-    SwitchCpuWide,
-    Throttle,
-    // Reads of counters: one, a group, and a group whose entries come from both ends.
-    ReadValue,
-    Group,
-    BothEnds,
-    // What stands beside records.
-    Attribute,
-    SampleId,
-    Config,
-    // Records: at once, behind their headers, with what a refusal says, and one of namespaces.
-    Record,
-    RecordBehindHeader,
-    RecordOrWhy,
-    Spaces,
-    // The next frame, or that of the header that comes next. What is asked behind it is asked of
-    // the parser of its body.
-    Frame,
-    FrameBehindHeader,
-}
 
 fn tell_hex<T: Radix + Copy>(text: &mut String, answer: ParseResult<T>) -> Result<(), AllocError> {
     match answer {
@@ -142,59 +85,63 @@ fn tell_slice<'p, B: ParseBuf<'p>, E: Endian>(
 fn tell_simple<'p, B: ParseBuf<'p>, E: Endian>(
     text: &mut String,
     parser: &mut Parser<B, E>,
-    ask: Ask,
+    name: &str,
+    count: usize,
 ) -> Result<(), AllocError> {
-    match ask {
-        Ask::U8 => tell_hex(text, parser.parse_u8()),
-        Ask::U16 => tell_hex(text, parser.parse_u16()),
-        Ask::U32 => tell_hex(text, parser.parse_u32()),
-        Ask::U64 => tell_hex(text, parser.parse_u64()),
-        Ask::NextU8 => tell_number::<B, E, u8>(text, parser),
-        Ask::NextU16 => tell_number::<B, E, u16>(text, parser),
-        Ask::NextU32 => tell_number::<B, E, u32>(text, parser),
-        Ask::NextU64 => tell_number::<B, E, u64>(text, parser),
-        _ => tell_other(text, parser, ask),
+    match name {
+        "parse_u8" => tell_hex(text, parser.parse_u8()),
+        "parse_u16" => tell_hex(text, parser.parse_u16()),
+        "parse_u32" => tell_hex(text, parser.parse_u32()),
+        "parse_u64" => tell_hex(text, parser.parse_u64()),
+        "u8" => tell_number::<B, E, u8>(text, parser),
+        "u16" => tell_number::<B, E, u16>(text, parser),
+        "u32" => tell_number::<B, E, u32>(text, parser),
+        "u64" => tell_number::<B, E, u64>(text, parser),
+        _ => tell_other(text, parser, name, count),
     }
 }
 
-// Arrays of bytes, and numbers under a condition.
+// Arrays of bytes, and numbers under a condition, which holds where the count is not zero.
 fn tell_other<'p, B: ParseBuf<'p>, E: Endian>(
     text: &mut String,
     parser: &mut Parser<B, E>,
-    ask: Ask,
+    name: &str,
+    count: usize,
 ) -> Result<(), AllocError> {
-    match ask {
-        Ask::NoBytes => tell_value::<B, E, [u8; 0]>(text, parser),
-        Ask::OneByte => tell_value::<B, E, [u8; 1]>(text, parser),
-        Ask::TwoBytes => tell_value::<B, E, [u8; 2]>(text, parser),
-        Ask::FourBytes => tell_value::<B, E, [u8; 4]>(text, parser),
-        Ask::IfU8(condition) => tell_if::<B, E, u8>(text, parser, condition),
-        Ask::IfU16(condition) => tell_if::<B, E, u16>(text, parser, condition),
-        Ask::IfU32(condition) => tell_if::<B, E, u32>(text, parser, condition),
-        Ask::IfU64(condition) => tell_if::<B, E, u64>(text, parser, condition),
-        _ => tell_list(text, parser, ask),
+    match name {
+        "[u8;0]" => tell_value::<B, E, [u8; 0]>(text, parser),
+        "[u8;1]" => tell_value::<B, E, [u8; 1]>(text, parser),
+        "[u8;2]" => tell_value::<B, E, [u8; 2]>(text, parser),
+        "[u8;4]" => tell_value::<B, E, [u8; 4]>(text, parser),
+        "parse_if_u8" => tell_if::<B, E, u8>(text, parser, count != 0),
+        "parse_if_u16" => tell_if::<B, E, u16>(text, parser, count != 0),
+        "parse_if_u32" => tell_if::<B, E, u32>(text, parser, count != 0),
+        "parse_if_u64" => tell_if::<B, E, u64>(text, parser, count != 0),
+        _ => tell_list(text, parser, name, count),
     }
 }
 
+// Lists and strings of so many, and the rest without and with its zero bytes.
 fn tell_list<'p, B: ParseBuf<'p>, E: Endian>(
     text: &mut String,
     parser: &mut Parser<B, E>,
-    ask: Ask,
+    name: &str,
+    count: usize,
 ) -> Result<(), AllocError> {
-    match ask {
-        Ask::Repeated8(len) => tell_repeated::<B, E, u8>(text, parser, len),
-        Ask::Repeated16(len) => tell_repeated::<B, E, u16>(text, parser, len),
-        Ask::Repeated64(len) => tell_repeated::<B, E, u64>(text, parser, len),
-        Ask::Slice64(len) => tell_slice(text, parser, len),
-        Ask::Bytes(len) => tell_bytes(text, parser.parse_bytes(len)),
-        Ask::Name => tell_rest(text, parser.parse_rest_trim_nul()),
-        Ask::Rest => tell_rest(text, parser.parse_rest()),
-        _ => tell_body(text, parser, ask),
+    match name {
+        "parse_repeated_u8" => tell_repeated::<B, E, u8>(text, parser, count),
+        "parse_repeated_u16" => tell_repeated::<B, E, u16>(text, parser, count),
+        "parse_repeated_u64" => tell_repeated::<B, E, u64>(text, parser, count),
+        "parse_slice_u64" => tell_slice(text, parser, count),
+        "parse_bytes" => tell_bytes(text, parser.parse_bytes(count)),
+        "parse_rest_trim_nul" => tell_rest(text, parser.parse_rest_trim_nul()),
+        "parse_rest" => tell_rest(text, parser.parse_rest()),
+        _ => tell_body(text, parser, name),
     }
 }
 
 // A body or what stands beside a record.
-fn tell_next<'p, B: ParseBuf<'p>, E: Endian, P: Parse<'p, B> + Tell + Drop>(
+fn tell_parsed<'p, B: ParseBuf<'p>, E: Endian, P: Parse<'p, B> + Tell + Drop>(
     text: &mut String,
     parser: &mut Parser<B, E>,
 ) -> Result<(), AllocError> {
@@ -266,20 +213,17 @@ fn tell_record<'p, B: ParseBuf<'p>, E: Endian>(
     text: &mut String,
     parser: &mut Parser<B, E>,
 ) -> Result<(), AllocError> {
-    match next_record(parser) {
-        Ok(record) => record.tell(text),
-        Err(error) => tell_error(text, &error),
-    }
+    next_record(parser).tell(text)
 }
 
-// A record, or the kind and the message of its refusal.
+// A record, or what its refusal says.
 fn tell_why<'p, B: ParseBuf<'p>, E: Endian>(
     text: &mut String,
     parser: &mut Parser<B, E>,
 ) -> Result<(), AllocError> {
     match next_record(parser) {
         Ok(record) => record.tell(text),
-        Err(error) => write!(text, "{:?} {:?}", error.kind(), error.message()),
+        Err(error) => write!(text, "{error}"),
     }
 }
 
@@ -323,42 +267,53 @@ fn tell_group_of<'p, B: ParseBuf<'p>, E: Endian>(
 fn tell_body<'p, B: ParseBuf<'p>, E: Endian>(
     text: &mut String,
     parser: &mut Parser<B, E>,
-    ask: Ask,
+    name: &str,
 ) -> Result<(), AllocError> {
-    match ask {
-        Ask::Comm => tell_comm(text, parser),
-        Ask::Exit => tell_next::<B, E, Exit>(text, parser),
-        Ask::Lost => tell_next::<B, E, Lost>(text, parser),
-        Ask::LostSamples => tell_next::<B, E, LostSamples>(text, parser),
-        Ask::Mmap => tell_mmap(text, parser),
-        Ask::Read => tell_next::<B, E, Read>(text, parser),
-        Ask::SwitchCpuWide => tell_next::<B, E, SwitchCpuWide>(text, parser),
-        Ask::Throttle => tell_next::<B, E, Throttle>(text, parser),
-        Ask::ReadValue => tell_next::<B, E, ReadValue>(text, parser),
-        Ask::Group => tell_group_of(text, parser),
-        Ask::BothEnds => tell_both_ends(text, parser),
-        _ => tell_beside(text, parser, ask),
+    match name {
+        "Comm" => tell_comm(text, parser),
+        "Exit" => tell_parsed::<B, E, Exit>(text, parser),
+        "Lost" => tell_parsed::<B, E, Lost>(text, parser),
+        "LostSamples" => tell_parsed::<B, E, LostSamples>(text, parser),
+        "Mmap" => tell_mmap(text, parser),
+        "Read" => tell_parsed::<B, E, Read>(text, parser),
+        "SwitchCpuWide" => tell_parsed::<B, E, SwitchCpuWide>(text, parser),
+        "Throttle" => tell_parsed::<B, E, Throttle>(text, parser),
+        "ReadValue" => tell_parsed::<B, E, ReadValue>(text, parser),
+        "ReadGroup" => tell_group_of(text, parser),
+        "both_ends" => tell_both_ends(text, parser),
+        _ => tell_beside(text, parser, name),
     }
 }
 
-fn tell_config<E>(text: &mut String, config: &ParseConfig<E>) -> Result<(), AllocError> {
-    write!(text, "{} {}", config.sample_id_all(), config.misc())
-}
-
+// What stands beside records, and records: at once, behind their headers, with what a refusal says,
+// and the namespaces of one.
 fn tell_beside<'p, B: ParseBuf<'p>, E: Endian>(
     text: &mut String,
     parser: &mut Parser<B, E>,
-    ask: Ask,
+    name: &str,
 ) -> Result<(), AllocError> {
-    match ask {
-        Ask::Attribute => tell_next::<B, E, perf_event_attr>(text, parser),
-        Ask::SampleId => tell_next::<B, E, SampleId>(text, parser),
-        Ask::Config => tell_config(text, parser.config()),
-        Ask::Record => tell_record(text, parser),
-        Ask::RecordBehindHeader => tell_behind_header(text, parser),
-        Ask::RecordOrWhy => tell_why(text, parser),
-        Ask::Spaces => tell_spaces_of_record(text, parser),
-        _ => text.push_str("a frame, which stands first"),
+    match name {
+        "perf_event_attr" => tell_parsed::<B, E, perf_event_attr>(text, parser),
+        "SampleId" => tell_parsed::<B, E, SampleId>(text, parser),
+        "config" => tell_config(text, parser.config()),
+        "Record" => tell_record(text, parser),
+        "parse_with_header" => tell_behind_header(text, parser),
+        "why" => tell_why(text, parser),
+        "namespaces" => tell_spaces_of_record(text, parser),
+        _ => write!(text, "what is {name}?"),
+    }
+}
+
+// A word is what is asked, and behind a colon how many there should be.
+fn tell_word<'p, B: ParseBuf<'p>, E: Endian>(
+    text: &mut String,
+    parser: &mut Parser<B, E>,
+    word: &str,
+) -> Result<(), AllocError> {
+    let (name, count) = word.split_once(':').unwrap_or((word, "0"));
+    match count.parse() {
+        Ok(count) => tell_simple(text, parser, name, count),
+        Err(_) => write!(text, "how many are {count}?"),
     }
 }
 
@@ -366,13 +321,13 @@ fn tell_beside<'p, B: ParseBuf<'p>, E: Endian>(
 fn tell_answers<'p, B: ParseBuf<'p>, E: Endian>(
     text: &mut String,
     parser: &mut Parser<B, E>,
-    asks: &[Ask],
+    words: &str,
 ) -> Result<(), AllocError> {
-    for ask in asks {
-        if !text.is_empty() {
-            text.push_str("; ")?;
+    for word in words.split(' ') {
+        if !word.is_empty() {
+            tell_semicolon(text)?;
+            tell_word(text, parser, word)?;
         }
-        tell_simple(text, parser, *ask)?;
     }
     Ok(())
 }
@@ -381,15 +336,13 @@ fn tell_answers<'p, B: ParseBuf<'p>, E: Endian>(
 fn tell_frame<'p, E: Endian>(
     text: &mut String,
     answer: ParseResult<(Parser<ParseBufCursor<'p>, E>, RecordMetadata)>,
-    asks: &[Ask],
+    words: &str,
 ) -> Result<(), AllocError> {
-    if !text.is_empty() {
-        text.push_str("; ")?;
-    }
+    tell_semicolon(text)?;
     match answer {
         Ok((mut inner, metadata)) => {
             metadata.tell(text)?;
-            tell_answers(text, &mut inner, asks)
+            tell_answers(text, &mut inner, words)
         }
         Err(error) => tell_error(text, &error),
     }
@@ -398,15 +351,13 @@ fn tell_frame<'p, E: Endian>(
 fn tell_frame_behind_header<'p, B: ParseBuf<'p>, E: Endian>(
     text: &mut String,
     parser: &mut Parser<B, E>,
-    asks: &[Ask],
+    words: &str,
 ) -> Result<(), AllocError> {
-    if !text.is_empty() {
-        text.push_str("; ")?;
-    }
+    tell_semicolon(text)?;
     match parser.parse::<perf_event_header>() {
         Ok(header) => {
             header.tell(text)?;
-            tell_frame(text, parser.parse_metadata_with_header(header), asks)
+            tell_frame(text, parser.parse_metadata_with_header(header), words)
         }
         Err(error) => tell_error(text, &error),
     }
@@ -416,11 +367,12 @@ fn tell_frame_behind_header<'p, B: ParseBuf<'p>, E: Endian>(
 fn tell_part<'p, B: ParseBuf<'p>, E: Endian>(
     text: &mut String,
     parser: &mut Parser<B, E>,
-    part: &[Ask],
+    part: &str,
 ) -> Result<(), AllocError> {
-    match part.split_first() {
-        Some((Ask::Frame, asks)) => tell_frame(text, parser.parse_metadata(), asks),
-        Some((Ask::FrameBehindHeader, asks)) => tell_frame_behind_header(text, parser, asks),
+    let (first, words) = part.split_once(' ').unwrap_or((part, ""));
+    match first {
+        "parse_metadata" => tell_frame(text, parser.parse_metadata(), words),
+        "parse_metadata_with_header" => tell_frame_behind_header(text, parser, words),
         _ => tell_answers(text, parser, part),
     }
 }
@@ -430,12 +382,12 @@ fn told<'p, B: ParseBuf<'p> + Drop>(
     alloc: Global,
     buf: B,
     attr: perf_event_attr,
-    parts: &[&[Ask]],
+    parts: &str,
 ) -> Result<String, AllocError> {
     let config = ParseConfig::<Native>::from(attr).with_endian(Little);
     let mut parser = Parser::new(alloc, buf, config);
     let mut text = String::new(alloc);
-    for part in parts {
+    for part in parts.split(" | ") {
         tell_part(&mut text, &mut parser, part)?;
     }
     Ok(text)
@@ -445,7 +397,7 @@ fn told<'p, B: ParseBuf<'p> + Drop>(
 #[derive(Copy, Clone)]
 struct Answers<'a> {
     attr: perf_event_attr,
-    parts: &'a [&'a [Ask]],
+    parts: &'a str,
 }
 
 impl<'p, B: ParseBuf<'p> + Drop> Says<'p, B> for Answers<'_> {
@@ -455,13 +407,13 @@ impl<'p, B: ParseBuf<'p> + Drop> Says<'p, B> for Answers<'_> {
 }
 
 /// What parsers over these bytes answer behind an attribute, through a slice, buffered readers and
-/// pieces. A part is asked of the parser or, where it begins with a frame, of that of the frame's
-/// body.
+/// pieces. The words name what is asked, one thing behind another: a call, a type or, behind `|`, a
+/// frame and what the parser of its body is asked until the next `|`.
 pub fn tell_asked(
     alloc: Global,
     bytes: &[u8],
     attr: perf_event_attr,
-    parts: &[&[Ask]],
+    parts: &str,
 ) -> Result<String, AllocError> {
     say_everywhere(alloc, bytes, &Answers { attr, parts })
 }

@@ -1,9 +1,9 @@
 //! Runs over streams as text.
 
 use crate::everywhere::{Says, say_everywhere};
-use crate::told::{Tell, tell_error, tell_lent};
+use crate::told::{Tell, tell_config, tell_error, tell_lent, tell_semicolon};
 use perf_event_data::endian::{Endian, Little, Native};
-use perf_event_data::parse::{ParseBuf, ParseConfig, Parser};
+use perf_event_data::parse::{ParseBuf, ParseConfig, ParseResult, Parser};
 use perf_event_data::sys::perf_event_attr;
 use perf_event_data::{Record, Run, RunEnd, read_records};
 use std::alloc::{AllocError, Global};
@@ -81,14 +81,70 @@ pub fn tell_under<'p, B: ParseBuf<'p> + Drop, E: Endian>(
     let config = ParseConfig::<Native>::from(attr).with_endian(endian);
     let mut parser = Parser::new(alloc, buf, config);
     let mut text = String::new(alloc);
+    tell_runs(alloc, &mut text, &mut parser, limits)?;
+    Ok(text)
+}
+
+// Writes the runs of a parser with these limits, in turn, behind what the text has.
+fn tell_runs<'p, B: ParseBuf<'p>, E: Endian>(
+    alloc: Global,
+    text: &mut String,
+    parser: &mut Parser<B, E>,
+    limits: &[usize],
+) -> Result<(), AllocError> {
     for limit in limits {
-        let run = read_records(&mut parser, *limit);
+        let run = read_records(parser, *limit);
         if !text.is_empty() {
             text.push_str(" | ")?;
         }
-        tell_run(alloc, &mut text, &run)?;
+        tell_run(alloc, text, &run)?;
+    }
+    Ok(())
+}
+
+// What is said behind the attribute with which the bytes begin: its size, its configuration and the
+// runs; or what its refusal says.
+fn told_behind<'p, B: ParseBuf<'p> + Drop>(
+    alloc: Global,
+    buf: B,
+    limits: &[usize],
+) -> Result<String, AllocError> {
+    let mut parser = Parser::new(alloc, buf, ParseConfig::<Little>::default());
+    let mut text = String::new(alloc);
+    match next_attribute(&mut parser) {
+        Ok(attr) => {
+            write!(text, "{} ", attr.size)?;
+            let config = ParseConfig::<Native>::from(attr).with_endian(Little);
+            tell_config(&mut text, &config)?;
+            tell_runs(alloc, &mut text, &mut parser.reconfigure(config), limits)?;
+        }
+        Err(error) => write!(text, "{error}")?,
     }
     Ok(text)
+}
+
+fn next_attribute<'p, B: ParseBuf<'p>, E: Endian>(
+    parser: &mut Parser<B, E>,
+) -> ParseResult<perf_event_attr> {
+    parser.parse()
+}
+
+// Runs of one parser behind the attribute that comes first.
+#[derive(Copy, Clone)]
+struct Behind<'a> {
+    limits: &'a [usize],
+}
+
+impl<'p, B: ParseBuf<'p> + Drop> Says<'p, B> for Behind<'_> {
+    fn say(&self, alloc: Global, buf: B) -> Result<String, AllocError> {
+        told_behind(alloc, buf, self.limits)
+    }
+}
+
+/// What the attribute says with which these bytes begin, and what the runs are behind it, through a
+/// slice, buffered readers and pieces.
+pub fn tell_behind(alloc: Global, bytes: &[u8], limits: &[usize]) -> Result<String, AllocError> {
+    say_everywhere(alloc, bytes, &Behind { limits })
 }
 
 // Runs of one parser.
@@ -132,7 +188,10 @@ pub fn tell_lent_in(alloc: Global, bytes: &[u8]) -> Result<String, AllocError> {
     for (_, answer) in read_records(&mut parser, 10).frames.iter() {
         match answer {
             Ok(record) => tell_lent(&mut text, record)?,
-            Err(error) => tell_error(&mut text, error)?,
+            Err(error) => {
+                tell_semicolon(&mut text)?;
+                tell_error(&mut text, error)?;
+            }
         }
     }
     Ok(text)

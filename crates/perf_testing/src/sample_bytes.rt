@@ -107,14 +107,9 @@ fn frames(alloc: Global, is_big: bool, body: &[u8]) -> Result<Vec<u8>, AllocErro
 
 /// The bytes of such frames, the lowest byte of each number first.
 pub fn frames_of(alloc: Global, parts: &[Part]) -> Result<Vec<u8>, AllocError> {
-    frames(alloc, false, &body_of(alloc, false, parts)?)
-}
-
-// The bytes of a body.
-fn body_of(alloc: Global, is_big: bool, parts: &[Part]) -> Result<Vec<u8>, AllocError> {
     let mut body = Vec::new(alloc);
-    put_parts(&mut body, is_big, parts)?;
-    Ok(body)
+    put_parts(&mut body, false, parts)?;
+    frames(alloc, false, &body)
 }
 
 // The sample of a body.
@@ -178,21 +173,4 @@ pub fn tell_sample_bytes(
     } else {
         tell_in(alloc, (Little, false), attr, body, left)
     }
-}
-
-/// The same of a body in both orders.
-pub fn tell_sample_parts(
-    alloc: Global,
-    attr: perf_event_attr,
-    parts: &[Part],
-    left: usize,
-) -> Result<String, AllocError> {
-    let little = body_of(alloc, false, parts)?;
-    let mut text = tell_sample_bytes(alloc, false, attr, &little, left)?;
-    let big = body_of(alloc, true, parts)?;
-    let other = tell_sample_bytes(alloc, true, attr, &big, left)?;
-    if other.as_str() != text.as_str() {
-        write!(text, " but {other}")?;
-    }
-    Ok(text)
 }

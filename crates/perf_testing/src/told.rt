@@ -2,7 +2,7 @@
 
 use crate::told_samples::tell_sample;
 use bitflags::Flags;
-use perf_event_data::parse::{ParseError, ParseResult};
+use perf_event_data::parse::{ParseConfig, ParseError, ParseResult};
 use perf_event_data::sys::{perf_event_attr, perf_event_header};
 use perf_event_data::{
     Comm, CowSlice, Exit, GroupEntry, GroupIter, KSymbol, Lost, LostSamples, Mmap, Mmap2,
@@ -91,6 +91,17 @@ impl Tell for RecordMetadata {
         write!(text, "{} {} ", self.ty(), self.misc())?;
         self.sample_id().tell(text)
     }
+}
+
+/// Writes a configuration: the sample type and the read format, whether there are sample ids and the
+/// hardware's index, the registers of a user and those at an interrupt, and the misc.
+pub fn tell_config<E>(text: &mut String, config: &ParseConfig<E>) -> Result<(), AllocError> {
+    let (sample_type, read_format) = (config.sample_type().bits(), config.read_format().bits());
+    write!(text, "{sample_type:#x} {read_format:#x}")?;
+    let (has_ids, has_index) = (config.sample_id_all(), config.branch_hw_index());
+    write!(text, " {has_ids} {has_index}")?;
+    let (user, interrupt) = (config.regs_user(), config.regs_intr());
+    write!(text, " {user:#x} {interrupt:#x} {}", config.misc())
 }
 
 // The fields of which tests know.
@@ -293,9 +304,19 @@ fn tell_lent_bytes(
     word: &str,
     bytes: &CowSlice<'_, u8>,
 ) -> Result<(), AllocError> {
+    tell_semicolon(text)?;
     match bytes {
-        CowSlice::Borrowed(bytes) => write!(text, "{word} lent {bytes:?}; "),
-        CowSlice::Owned(bytes) => write!(text, "{word} owned {:?}; ", bytes.as_slice()),
+        CowSlice::Borrowed(bytes) => write!(text, "{word} lent {bytes:?}"),
+        CowSlice::Owned(bytes) => write!(text, "{word} owned {:?}", bytes.as_slice()),
+    }
+}
+
+/// Writes what stands between one answer and the next.
+pub fn tell_semicolon(text: &mut String) -> Result<(), AllocError> {
+    if text.is_empty() {
+        Ok(())
+    } else {
+        text.push_str("; ")
     }
 }
 
@@ -311,7 +332,10 @@ pub fn tell_lent(text: &mut String, record: &Record<'_>) -> Result<(), AllocErro
             tell_lent_bytes(text, "old", &r.old_bytes)?;
             tell_lent_bytes(text, "new", &r.new_bytes)
         }
-        _ => text.push_str("no bytes; "),
+        _ => {
+            tell_semicolon(text)?;
+            text.push_str("no bytes")
+        }
     }
 }
 

@@ -1,5 +1,5 @@
-//! Tests of lines, of runs and of reports: texts and statuses of streams, lines of each record,
-//! readers and writers that fail, what the small programs say. Without its tests this crate is empty.
+//! Tests of lines, of runs and of reports: long texts, words and statuses of `perfrec`, readers and
+//! writers that fail, what the small programs say. Without its tests this crate is empty.
 #![tactic(auto)]
 
 #[cfg(test)]
@@ -11,11 +11,7 @@ mod failing;
 #[cfg(test)]
 mod printing;
 #[cfg(test)]
-mod records;
-#[cfg(test)]
 mod sample_lines;
-#[cfg(test)]
-mod samples;
 #[cfg(test)]
 mod task_lines;
 #[cfg(test)]

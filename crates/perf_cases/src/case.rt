@@ -1,0 +1,171 @@
+//! A case of the list.
+
+use crate::perfrec;
+use anyhow::{Context, Result, bail};
+use perf_event_data::endian::Little;
+use perf_event_data::sys::perf_event_attr;
+use perf_testing::asks::tell_asked;
+use perf_testing::runs::{tell_behind, tell_everywhere, tell_lent_in};
+use perf_testing::sample_bytes::{Part, put_parts, tell_sample_bytes};
+use std::alloc::{AllocError, Global};
+
+/// What the lines of a case have set so far.
+#[derive(Drop)]
+pub struct Case<'a> {
+    name: &'a str,
+    alloc: Global,
+    attr: perf_event_attr,
+    // The bytes, with the lowest byte of each number first, and with the highest.
+    little: Vec<u8>,
+    big: Vec<u8>,
+    // Whether the next bytes begin anew.
+    is_told: bool,
+    // How it is asked, and what.
+    how: &'a str,
+    asked: &'a str,
+}
+
+impl<'a> Case<'a> {
+    pub fn new(alloc: Global, name: &'a str) -> Self {
+        Case {
+            name,
+            alloc,
+            attr: perf_event_attr::default(),
+            little: Vec::new(alloc),
+            big: Vec::new(alloc),
+            is_told: false,
+            how: "",
+            asked: "",
+        }
+    }
+
+    pub fn name(&self) -> &'a str {
+        self.name
+    }
+
+    /// Sets what a line says.
+    pub fn set(&mut self, word: &'a str, rest: &'a str) -> Result<()> {
+        match word {
+            "under" => self.attr = attribute(rest)?,
+            "run" | "behind" | "ask" | "lent" | "sample" | "perfrec" => {
+                self.how = word;
+                self.asked = rest;
+            }
+            _ => self.append(word, rest)?,
+        }
+        Ok(())
+    }
+
+    fn append(&mut self, word: &str, rest: &str) -> Result<()> {
+        if self.is_told {
+            self.little.clear();
+            self.big.clear();
+            self.is_told = false;
+        }
+        for item in rest.split(' ') {
+            match word {
+                "bytes" => self.append_digits(item)?,
+                "zeros" => self.append_zeros(number(item)?)?,
+                _ => self.append_part(part(word, number(item)?)?)?,
+            }
+        }
+        Ok(())
+    }
+
+    // Bytes that are written as pairs of digits.
+    fn append_digits(&mut self, digits: &str) -> Result<()> {
+        for pair in digits.as_bytes().chunks(2) {
+            let byte = u8::from_str_radix(str::from_utf8(pair)?, 16)?;
+            self.append_part(Part::Bytes(&[byte]))?;
+        }
+        Ok(())
+    }
+
+    fn append_zeros(&mut self, count: u64) -> Result<(), AllocError> {
+        for _ in 0..count {
+            self.append_part(Part::Bytes(&[0]))?;
+        }
+        Ok(())
+    }
+
+    fn append_part(&mut self, part: Part<'_>) -> Result<(), AllocError> {
+        put_parts(&mut self.little, false, &[part])?;
+        put_parts(&mut self.big, true, &[part])
+    }
+
+    /// What is answered.
+    pub fn told(&mut self) -> Result<String> {
+        self.is_told = true;
+        match self.how {
+            "ask" => Ok(tell_asked(self.alloc, &self.little, self.attr, self.asked)?),
+            "run" => self.told_runs(),
+            "behind" => Ok(tell_behind(self.alloc, &self.little, &self.limits()?)?),
+            "lent" => Ok(tell_lent_in(self.alloc, &self.little)?),
+            "sample" => self.told_sample(),
+            "perfrec" => perfrec::told(self.alloc, self.asked, &self.little),
+            _ => bail!("nothing is asked in {}", self.name),
+        }
+    }
+
+    fn limits(&self) -> Result<Vec<usize>> {
+        let mut limits = Vec::new(self.alloc);
+        for limit in self.asked.split(' ') {
+            limits.push(limit.parse::<usize>()?)?;
+        }
+        Ok(limits)
+    }
+
+    fn told_runs(&self) -> Result<String> {
+        Ok(tell_everywhere(self.alloc, &self.little, Little, self.attr, &self.limits()?)?)
+    }
+
+    // What is said in one order, and where the other one says something else, that too.
+    fn told_sample(&self) -> Result<String> {
+        let left = self.asked.parse::<usize>()?;
+        let mut text = tell_sample_bytes(self.alloc, false, self.attr, &self.little, left)?;
+        let other = tell_sample_bytes(self.alloc, true, self.attr, &self.big, left)?;
+        if other.as_str() != text.as_str() {
+            write!(text, " but {other}")?;
+        }
+        Ok(text)
+    }
+}
+
+fn part(word: &str, number: u64) -> Result<Part<'static>> {
+    match word {
+        "u16" => Ok(Part::U16(u16::try_from(number)?)),
+        "u32" => Ok(Part::U32(u32::try_from(number)?)),
+        "u64" => Ok(Part::U64(number)),
+        _ => bail!("what is {word}?"),
+    }
+}
+
+// A number, in hexadecimal digits behind 0x.
+fn number(word: &str) -> Result<u64> {
+    match word.strip_prefix("0x") {
+        Some(digits) => Ok(u64::from_str_radix(digits, 16)?),
+        None => Ok(word.parse()?),
+    }
+}
+
+fn attribute(fields: &str) -> Result<perf_event_attr> {
+    let mut attr = perf_event_attr::default();
+    for field in fields.split(' ') {
+        let (name, value) = field.split_once('=').context("a field without a value")?;
+        set_field(&mut attr, name, number(value)?)?;
+    }
+    Ok(attr)
+}
+
+fn set_field(attr: &mut perf_event_attr, name: &str, value: u64) -> Result<()> {
+    match name {
+        "sample_type" => attr.sample_type = value,
+        "read_format" => attr.read_format = value,
+        "flags" => attr.flags = value,
+        "branch_sample_type" => attr.branch_sample_type = value,
+        "sample_regs_user" => attr.sample_regs_user = value,
+        "sample_regs_intr" => attr.sample_regs_intr = value,
+        _ => bail!("what is {name}?"),
+    }
+    Ok(())
+}

@@ -1,0 +1,66 @@
+//! Checks cases that are written by hand.
+//!
+//! `perf_cases` reads a list from standard input: of each case the bytes, what is asked of a parser
+//! over them, and what it answers. It asks over a slice, buffered readers and pieces, prints each
+//! answer that is another one, and then how many cases and answers there are and how many differ.
+//! The exit status is 0 where none does. A line is a word and what follows it:
+//!
+//! - `case NAME` begins a case, in which nothing is set yet.
+//! - `under FIELD=NUMBER ..` is the attribute: `sample_type`, `read_format`, `flags`,
+//!   `branch_sample_type`, `sample_regs_user` and `sample_regs_intr`, 0 where they are not named.
+//! - `bytes DIGITS ..`, `zeros COUNT`, and `u16`, `u32` and `u64 NUMBER ..` are the bytes, one behind
+//!   another. The first such line behind an answer begins anew.
+//! - `ask WORD ..` asks a parser ([`perf_testing::asks`]), `run LIMIT ..` reads the records of a
+//!   stream, each time so many at most, `behind LIMIT ..` those behind the attribute with which the
+//!   bytes begin, `lent` says whose the bytes of its records are, and
+//!   `sample LEFT` reads a sample, alone and as a frame, behind which so many bytes are left, also
+//!   with the highest byte of each number first. `perfrec WORD ..` is what that program writes, its
+//!   lines one behind another, and its status.
+//! - `= ANSWER` is what that answers. What is set stays, so that one thing may be said of many.
+//! - `#` begins a remark.
+#![tactic(auto)]
+
+mod case;
+mod perfrec;
+
+use crate::case::Case;
+use anyhow::Result;
+use std::io;
+use std::process::ExitCode;
+
+fn main(rt: HostRuntime) -> Result<ExitCode> {
+    let list = io::read_to_string(rt.alloc(), rt.stdin())?;
+    let (mut cases, mut answers, mut differences) = (0_u64, 0_u64, 0_u64);
+    let mut case = Case::new(rt.alloc(), "");
+    for line in list.as_str().lines() {
+        let (word, rest) = line.split_once(' ').unwrap_or((line, ""));
+        match word {
+            "case" => {
+                case = Case::new(rt.alloc(), rest);
+                cases = cases.wrapping_add(1);
+            }
+            "=" => {
+                answers = answers.wrapping_add(1);
+                differences = differences.wrapping_add(compare(&rt, &mut case, rest)?);
+            }
+            "#" | "" => {}
+            _ => case.set(word, rest)?,
+        }
+    }
+    println!(rt; "{cases} cases, {answers} answers, {differences} differences")?;
+    if differences == 0 {
+        Ok(ExitCode::SUCCESS)
+    } else {
+        Ok(ExitCode::FAILURE)
+    }
+}
+
+// Prints an answer that is another one, and answers how many these are.
+fn compare(rt: &HostRuntime, case: &mut Case, want: &str) -> Result<u64> {
+    let told = case.told()?;
+    if told.as_str() == want {
+        return Ok(0);
+    }
+    println!(rt; "{}: {told}, not {want}", case.name())?;
+    Ok(1)
+}

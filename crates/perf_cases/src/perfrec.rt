@@ -1,0 +1,67 @@
+//! What `perfrec` says of a stream.
+
+ghost use Rattle.std.specs.Prelude.{◌<◌};
+
+use anyhow::{Context, Result};
+use perf_event_data::endian::{Big, Endian, Little, Native};
+use perf_lines::command::{Command, OrderName};
+use perf_lines::run::run;
+use perf_lines::words::command;
+use std::alloc::{AllocError, Global};
+
+// The lines that are written, one behind another, and the status.
+fn lines<E: Endian>(
+    alloc: Global,
+    order: E,
+    asked: Command,
+    stream: &[u8],
+    piece: usize,
+) -> Result<String>
+    requires { 0 < piece }
+{
+    let mut written = Vec::new(alloc);
+    let ended = run(
+        alloc,
+        stream,
+        &mut written,
+        order,
+        asked.limit,
+        asked.with_attr,
+        piece,
+    );
+    let mut text = str::from_utf8(&written)?.replace(alloc, "\n", "; ")?;
+    write!(text, "status {}", ended.status())?;
+    Ok(text)
+}
+
+fn told_in_pieces(alloc: Global, asked: Command, stream: &[u8], piece: usize) -> Result<String>
+    requires { 0 < piece }
+{
+    match asked.order {
+        OrderName::Little => lines(alloc, Little, asked, stream, piece),
+        OrderName::Big => lines(alloc, Big, asked, stream, piece),
+        OrderName::Native => lines(alloc, Native, asked, stream, piece),
+    }
+}
+
+fn words(alloc: Global, line: &str) -> Result<Vec<String>, AllocError> {
+    let mut words = Vec::new(alloc);
+    for word in line.split(' ') {
+        words.push(String::from_str(alloc, word)?)?;
+    }
+    Ok(words)
+}
+
+/// What it says behind these words, where the stream is read in pieces of 1, 7 and 8192 bytes: one
+/// text where all are one, and else the others behind it.
+pub fn told(alloc: Global, line: &str, stream: &[u8]) -> Result<String> {
+    let asked = command(&words(alloc, line)?).context("no words of perfrec")?;
+    let mut text = told_in_pieces(alloc, asked, stream, 1)?;
+    for piece in [7, 8192] {
+        let other = told_in_pieces(alloc, asked, stream, piece)?;
+        if other.as_str() != text.as_str() {
+            write!(text, " but {other}")?;
+        }
+    }
+    Ok(text)
+}
