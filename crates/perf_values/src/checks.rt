@@ -1,26 +1,32 @@
 //! What tests assert. Each assertion stands here once: written out, every one of them is proved
-//! anew, which takes a second.
+//! anew, which takes a second. So a test asserts a list of numbers or a text at once.
 
+use perf_base::error::ParseResult;
 use std::fmt::Debug;
 use std::process::Abort;
 
-/// Asserts that a value is what it should be.
-pub fn check_same<T: PartialEq + Debug + Drop>(rt: &impl Abort, what: &str, value: T, want: T) {
-    assert_eq!(rt; value, want, "{what}");
+/// Asserts what is told.
+pub fn check_text(rt: &impl Abort, told: ParseResult<String>, want: &str) {
+    match told {
+        Ok(told) => assert_eq!(rt; told.as_str(), want),
+        Err(_) => panic!(rt; "no memory"),
+    }
 }
 
-/// Asserts what is said.
-pub fn check_that(rt: &impl Abort, what: &str, is_so: bool) {
-    assert!(rt; is_so, "{what}");
+/// Asserts what is told of a value: all of its fields, and of each list whether it is borrowed.
+pub fn check_debug<T: Debug>(rt: &(impl AllocGlobal + Abort), value: &T, want: &str) {
+    match format!(in rt.alloc(); "{value:?}") {
+        Ok(told) => assert_eq!(rt; told.as_str(), want),
+        Err(_) => panic!(rt; "no memory"),
+    }
 }
 
-/// Asserts that two values are equal, or that one is true, and says of which text it is not so.
-#[macro_export]
-macro_rules! check {
-    ($rt:expr; $value:expr, $want:expr) => {
-        $crate::checks::check_same(&$rt, stringify!($value), $value, $want)
-    };
-    ($rt:expr; $is_so:expr) => {
-        $crate::checks::check_that(&$rt, stringify!($is_so), $is_so)
-    };
+/// Asserts numbers.
+pub fn check_numbers(rt: &impl Abort, told: &[u64], want: &[u64]) {
+    assert_eq!(rt; told, want);
+}
+
+/// Asserts numbers, each of which may be lacking.
+pub fn check_answers(rt: &impl Abort, told: &[Option<u64>], want: &[Option<u64>]) {
+    assert_eq!(rt; told, want);
 }

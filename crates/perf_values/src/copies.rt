@@ -1,7 +1,8 @@
-//! Copies of records and of groups of counters. What is told of a value is all of its fields, and
-//! of each list whether it is borrowed.
+//! Copies of records and of groups of counters, and what their calls answer. What is told of a
+//! value is all of its fields, and of each list whether it is borrowed.
 
-use crate::checks::check_same;
+use crate::checks::check_text;
+use crate::groups::{of_none, single_with_id, with_ids, without_ids};
 use bitflags::Flags;
 use perf_base::cow::CowSlice;
 use perf_base::error::ParseResult;
@@ -19,17 +20,16 @@ use perf_words::named::KSymbolType;
 use perf_words::{ReadFormat, SampleRegsAbi};
 use std::alloc::{AllocError, Global};
 use std::fmt::Debug;
-use std::process::Abort;
-use std::test::Fail;
-
-// Writes a value on a line.
-fn tell<T: Debug>(text: &mut String, value: &T) -> Result<(), AllocError> {
-    write!(text, "{value:?}\n")
-}
 
 // A value that is cloned.
 trait Cloned: Debug + Sized + Drop {
     fn cloned(&self, alloc: Global) -> ParseResult<Self>;
+
+    // Writes what its calls answer, if it has any.
+    fn tell_calls(&self, text: &mut String) -> Result<(), AllocError> {
+        let _ = text;
+        Ok(())
+    }
 }
 
 // A value of which owned copies are made.
@@ -40,6 +40,14 @@ trait Owning: Cloned {
 impl Cloned for CowSlice<'_, u64> {
     fn cloned(&self, alloc: Global) -> ParseResult<Self> {
         self.clone(alloc)
+    }
+
+    fn tell_calls(&self, text: &mut String) -> Result<(), AllocError> {
+        write!(
+            text,
+            " {:?}",
+            (self.as_slice(), self.len(), self.is_empty())
+        )
     }
 }
 
@@ -53,6 +61,10 @@ impl Cloned for Comm<'_> {
     fn cloned(&self, alloc: Global) -> ParseResult<Self> {
         self.clone(alloc)
     }
+
+    fn tell_calls(&self, text: &mut String) -> Result<(), AllocError> {
+        write!(text, " {:?}", self.comm_os())
+    }
 }
 
 impl Owning for Comm<'_> {
@@ -64,6 +76,10 @@ impl Owning for Comm<'_> {
 impl Cloned for CGroup<'_> {
     fn cloned(&self, alloc: Global) -> ParseResult<Self> {
         self.clone(alloc)
+    }
+
+    fn tell_calls(&self, text: &mut String) -> Result<(), AllocError> {
+        write!(text, " {:?}", self.path_os())
     }
 }
 
@@ -89,6 +105,10 @@ impl Cloned for Mmap<'_> {
     fn cloned(&self, alloc: Global) -> ParseResult<Self> {
         self.clone(alloc)
     }
+
+    fn tell_calls(&self, text: &mut String) -> Result<(), AllocError> {
+        write!(text, " {:?}", self.filename_os())
+    }
 }
 
 impl Owning for Mmap<'_> {
@@ -100,6 +120,11 @@ impl Owning for Mmap<'_> {
 impl Cloned for Mmap2<'_> {
     fn cloned(&self, alloc: Global) -> ParseResult<Self> {
         self.clone(alloc)
+    }
+
+    fn tell_calls(&self, text: &mut String) -> Result<(), AllocError> {
+        let inode = (self.maj(), self.min(), self.ino(), self.ino_generation());
+        write!(text, " {:?}", (inode, self.build_id(), self.filename_os()))
     }
 }
 
@@ -125,6 +150,17 @@ impl Cloned for ReadGroup<'_> {
     fn cloned(&self, alloc: Global) -> ParseResult<Self> {
         self.clone(alloc)
     }
+
+    // The last of its answers is the entry of id 6.
+    fn tell_calls(&self, text: &mut String) -> Result<(), AllocError> {
+        let numbers = (
+            self.len(),
+            self.is_empty(),
+            self.time_enabled(),
+            self.time_running(),
+        );
+        write!(text, " {:?}", (numbers, [self.get(0), self.get_by_id(6)]))
+    }
 }
 
 impl Owning for ReadGroup<'_> {
@@ -143,20 +179,36 @@ impl Cloned for Namespaces<'_> {
     fn cloned(&self, alloc: Global) -> ParseResult<Self> {
         self.clone(alloc)
     }
+
+    fn tell_calls(&self, text: &mut String) -> Result<(), AllocError> {
+        let first = [self.network(), self.uts(), self.ipc()];
+        write!(
+            text,
+            " {:?}",
+            (first, [self.pid(), self.user(), self.cgroup()])
+        )
+    }
+}
+
+// Writes a value and what its calls answer on a line.
+fn tell<T: Cloned>(text: &mut String, value: &T) -> Result<(), AllocError> {
+    write!(text, "{value:?}")?;
+    value.tell_calls(text)?;
+    text.push_str("\n")
 }
 
 // Writes a value and its clone.
-fn tell_with_clone<T: Cloned>(text: &mut String, alloc: Global, value: &T) -> Result<(), Fail> {
+fn tell_with_clone<T: Cloned>(text: &mut String, alloc: Global, value: &T) -> ParseResult<()> {
     tell(text, value)?;
     let copy = value.cloned(alloc)?;
-    tell(text, &copy)?;
-    Ok(())
+    Ok(tell(text, &copy)?)
 }
 
-// What is told of a value that borrows its lists, of its clone, of its owned copy, and of the clone
-// and the owned copy of that.
-fn told_with_copies<T: Owning>(alloc: Global, value: T) -> Result<String, Fail> {
+// What is told of a value, of its clone, of its owned copy, and of the clone and the owned copy of
+// that.
+fn told_with_copies<T: Owning>(alloc: Global, value: ParseResult<T>) -> ParseResult<String> {
     let mut text = String::new(alloc);
+    let value = value?;
     tell_with_clone(&mut text, alloc, &value)?;
     let owned = value.owned(alloc)?;
     tell_with_clone(&mut text, alloc, &owned)?;
@@ -166,91 +218,192 @@ fn told_with_copies<T: Owning>(alloc: Global, value: T) -> Result<String, Fail> 
 }
 
 // What is told of a value and of its clone.
-fn told_with_clone<T: Cloned>(alloc: Global, value: T) -> Result<String, Fail> {
+fn told_with_clone<T: Cloned>(alloc: Global, value: ParseResult<T>) -> ParseResult<String> {
     let mut text = String::new(alloc);
-    tell_with_clone(&mut text, alloc, &value)?;
+    tell_with_clone(&mut text, alloc, &value?)?;
     Ok(text)
 }
 
-// The lines of a value that borrows its lists and of its copies.
-fn with_copies(alloc: Global, lent: &str) -> Result<String, AllocError> {
-    let owned = lent.replace(alloc, "Borrowed", "Owned")?;
-    format!(in alloc; "{lent}\n{lent}\n{owned}\n{owned}\n{owned}\n")
+// The lines of a value whose lists, between the parts, are of this form, and of its clone.
+macro_rules! clones {
+    ($form:literal: $first:literal $(, $part:literal)+) => {
+        concat!($first $(, $form, $part)+, "\n", $first $(, $form, $part)+, "\n")
+    };
 }
 
-// Asserts what is told of a value that borrows its lists, and that its copies say the same.
-fn check_copies(rt: &(impl AllocGlobal + Abort), told: Result<String, Fail>, lent: &str) {
-    match (told, with_copies(rt.alloc(), lent)) {
-        (Ok(told), Ok(want)) => check_same(rt, "the copies", told.as_str(), want.as_str()),
-        _ => panic!(rt; "no memory"),
-    }
+// The lines of a value that borrows its lists, and of its copies.
+macro_rules! copies {
+    ($first:literal $(, $part:literal)+) => {
+        concat!(
+            $first $(, "Borrowed", $part)+, "\n", $first $(, "Borrowed", $part)+, "\n",
+            $first $(, "Owned", $part)+, "\n", $first $(, "Owned", $part)+, "\n",
+            $first $(, "Owned", $part)+, "\n"
+        )
+    };
 }
 
-// Asserts what is told of a value, and that its clone says the same.
-fn check_clone(rt: &(impl AllocGlobal + Abort), told: Result<String, Fail>, want: &str) {
-    match (told, format!(in rt.alloc(); "{want}\n{want}\n")) {
-        (Ok(told), Ok(want)) => check_same(rt, "the clone", told.as_str(), want.as_str()),
-        _ => panic!(rt; "no memory"),
-    }
+// The lines of a value that owns its lists, and of its copies.
+macro_rules! owned_copies {
+    ($first:literal $(, $part:literal)+) => {
+        concat!(
+            $first $(, "Owned", $part)+, "\n", $first $(, "Owned", $part)+, "\n",
+            $first $(, "Owned", $part)+, "\n", $first $(, "Owned", $part)+, "\n",
+            $first $(, "Owned", $part)+, "\n"
+        )
+    };
 }
 
-fn items(alloc: Global) -> Result<String, Fail> {
-    told_with_copies(alloc, CowSlice::Borrowed(&[3u64, 2, 1]))
-}
+// Records that own their bytes are made of these, which are gone when they are answered.
+const ANONYMOUS: [u8; 6] = *b"//anon";
 
 #[test]
 fn items_keep_their_order(rt: HostRuntime) {
-    check_copies(&rt, items(rt.alloc()), "Borrowed([3, 2, 1])");
+    let items = CowSlice::Borrowed(&[3u64, 2, 1]);
+    let want = copies!("", "([3, 2, 1]) ([3, 2, 1], 3, false)");
+    check_text(&rt, told_with_copies(rt.alloc(), Ok(items)), want);
+    let none: CowSlice<'_, u64> = CowSlice::Borrowed(&[]);
+    let want = copies!("", "([]) ([], 0, true)");
+    check_text(&rt, told_with_copies(rt.alloc(), Ok(none)), want);
 }
 
-fn comm(alloc: Global) -> Result<String, Fail> {
-    let comm = Comm {
-        pid: 1,
-        tid: 2,
-        comm: CowSlice::Borrowed(&[3, 4]),
-    };
-    told_with_copies(alloc, comm)
+fn comm(pid: u32, tid: u32, name: &[u8]) -> Comm<'_> {
+    Comm {
+        pid,
+        tid,
+        comm: CowSlice::Borrowed(name),
+    }
 }
+
+fn owned_comm(alloc: Global) -> ParseResult<Comm<'static>> {
+    let bytes = ANONYMOUS;
+    comm(0x1010, 0x500, &bytes).into_owned(alloc)
+}
+
+// Names of tasks, and what is told of them.
+const NAMES: [(u32, u32, &[u8], &str); 3] = [
+    (
+        1,
+        2,
+        &[3, 4],
+        copies!(
+            "Comm { pid: 1, tid: 2, comm: ",
+            "([3, 4]) } Some(\"\\u{3}\\u{4}\")"
+        ),
+    ),
+    (
+        0x1010,
+        0x500,
+        b"test",
+        copies!(
+            "Comm { pid: 4112, tid: 1280, comm: ",
+            "([116, 101, 115, 116]) } Some(\"test\")"
+        ),
+    ),
+    (
+        1,
+        2,
+        &[97],
+        copies!("Comm { pid: 1, tid: 2, comm: ", "([97]) } Some(\"a\")"),
+    ),
+];
 
 #[test]
 fn a_name_of_a_task(rt: HostRuntime) {
-    let want = "Comm { pid: 1, tid: 2, comm: Borrowed([3, 4]) }";
-    check_copies(&rt, comm(rt.alloc()), want);
+    for (pid, tid, name, want) in NAMES {
+        let comm = comm(pid, tid, name);
+        check_text(&rt, told_with_copies(rt.alloc(), Ok(comm)), want);
+    }
+    let want = owned_copies!(
+        "Comm { pid: 4112, tid: 1280, comm: ",
+        "([47, 47, 97, 110, 111, 110]) } Some(\"//anon\")"
+    );
+    let comm = owned_comm(rt.alloc());
+    check_text(&rt, told_with_copies(rt.alloc(), comm), want);
 }
 
-fn group_of_tasks(alloc: Global) -> Result<String, Fail> {
-    let group = CGroup {
-        id: 1,
-        path: CowSlice::Borrowed(&[2, 3]),
-    };
-    told_with_copies(alloc, group)
+fn group_of_tasks(id: u64, path: &[u8]) -> CGroup<'_> {
+    CGroup {
+        id,
+        path: CowSlice::Borrowed(path),
+    }
+}
+
+fn owned_group_of_tasks(alloc: Global) -> ParseResult<CGroup<'static>> {
+    let bytes = ANONYMOUS;
+    group_of_tasks(7, &bytes).into_owned(alloc)
 }
 
 #[test]
 fn a_control_group(rt: HostRuntime) {
-    let want = "CGroup { id: 1, path: Borrowed([2, 3]) }";
-    check_copies(&rt, group_of_tasks(rt.alloc()), want);
+    let want = copies!(
+        "CGroup { id: 1, path: ",
+        "([2, 3]) } Some(\"\\u{2}\\u{3}\")"
+    );
+    let group = group_of_tasks(1, &[2, 3]);
+    check_text(&rt, told_with_copies(rt.alloc(), Ok(group)), want);
+    let want = copies!("CGroup { id: 7, path: ", "([47, 255]) } None");
+    let group = group_of_tasks(7, &[0x2f, 0xff]);
+    check_text(&rt, told_with_copies(rt.alloc(), Ok(group)), want);
+    let want = owned_copies!(
+        "CGroup { id: 7, path: ",
+        "([47, 47, 97, 110, 111, 110]) } Some(\"//anon\")"
+    );
+    let group = owned_group_of_tasks(rt.alloc());
+    check_text(&rt, told_with_copies(rt.alloc(), group), want);
 }
 
-fn symbol(alloc: Global) -> Result<String, Fail> {
-    let symbol = KSymbol {
-        addr: 1,
-        len: 2,
+fn symbol(addr: u64, len: u32, name: &[u8]) -> KSymbol<'_> {
+    KSymbol {
+        addr,
+        len,
         ksym_type: KSymbolType::BPF,
         flags: KSymbolFlags::UNREGISTER,
-        name: CowSlice::Borrowed(&[3, 4]),
-    };
-    told_with_copies(alloc, symbol)
+        name: CowSlice::Borrowed(name),
+    }
+}
+
+fn owned_symbol(alloc: Global) -> ParseResult<KSymbol<'static>> {
+    let bytes = ANONYMOUS;
+    symbol(4096, 64, &bytes).into_owned(alloc)
 }
 
 #[test]
 fn a_symbol_of_the_kernel(rt: HostRuntime) {
-    let want = "KSymbol { addr: 1, len: 2, ksym_type: KSymbolType(1), flags: \
-        KSymbolFlags(1), name: Borrowed([3, 4]) }";
-    check_copies(&rt, symbol(rt.alloc()), want);
+    let want = copies!(
+        "KSymbol { addr: 1, len: 2, ksym_type: KSymbolType(1), flags: KSymbolFlags(1), name: ",
+        "([3, 4]) }"
+    );
+    let bpf = symbol(1, 2, &[3, 4]);
+    check_text(&rt, told_with_copies(rt.alloc(), Ok(bpf)), want);
+    let want = copies!(
+        "KSymbol { addr: 4096, len: 64, ksym_type: KSymbolType(1), flags: KSymbolFlags(1), name: ",
+        "([98, 112, 102]) }"
+    );
+    let bpf = symbol(4096, 64, b"bpf");
+    check_text(&rt, told_with_copies(rt.alloc(), Ok(bpf)), want);
+    let want = owned_copies!(
+        "KSymbol { addr: 4096, len: 64, ksym_type: KSymbolType(1), flags: KSymbolFlags(1), name: ",
+        "([47, 47, 97, 110, 111, 110]) }"
+    );
+    let bpf = owned_symbol(rt.alloc());
+    check_text(&rt, told_with_copies(rt.alloc(), bpf), want);
 }
 
-fn mapping(alloc: Global) -> Result<String, Fail> {
+fn owned_mapping(alloc: Global) -> ParseResult<Mmap<'static>> {
+    let bytes = ANONYMOUS;
+    let mapping = Mmap {
+        pid: 1,
+        tid: 2,
+        addr: 4096,
+        len: 8192,
+        pgoff: 512,
+        filename: CowSlice::Borrowed(&bytes),
+    };
+    mapping.into_owned(alloc)
+}
+
+#[test]
+fn a_mapping(rt: HostRuntime) {
     let mapping = Mmap {
         pid: 1,
         tid: 2,
@@ -259,13 +412,17 @@ fn mapping(alloc: Global) -> Result<String, Fail> {
         pgoff: 5,
         filename: CowSlice::Borrowed(&[6, 7]),
     };
-    told_with_copies(alloc, mapping)
-}
-
-#[test]
-fn a_mapping(rt: HostRuntime) {
-    let want = "Mmap { pid: 1, tid: 2, addr: 3, len: 4, pgoff: 5, filename: Borrowed([6, 7]) }";
-    check_copies(&rt, mapping(rt.alloc()), want);
+    let want = copies!(
+        "Mmap { pid: 1, tid: 2, addr: 3, len: 4, pgoff: 5, filename: ",
+        "([6, 7]) } Some(\"\\u{6}\\u{7}\")"
+    );
+    check_text(&rt, told_with_copies(rt.alloc(), Ok(mapping)), want);
+    let want = owned_copies!(
+        "Mmap { pid: 1, tid: 2, addr: 4096, len: 8192, pgoff: 512, filename: ",
+        "([47, 47, 97, 110, 111, 110]) } Some(\"//anon\")"
+    );
+    let mapping = owned_mapping(rt.alloc());
+    check_text(&rt, told_with_copies(rt.alloc(), mapping), want);
 }
 
 // A mapping of a file by its inode.
@@ -279,6 +436,35 @@ fn by_inode() -> Mmap2<'static> {
     Mmap2::from_parts(1, 2, 3, 4, 5, 6, 7, CowSlice::Borrowed(&[8, 9]), detail)
 }
 
+// Another one.
+fn by_another_inode() -> Mmap2<'static> {
+    let detail = MmapDetail::Default {
+        maj: 8,
+        min: 1,
+        ino: 99,
+        ino_generation: 3,
+    };
+    let filename = CowSlice::Borrowed(b"ab");
+    Mmap2::from_parts(1, 2, 4096, 8192, 0, 5, 2, filename, detail)
+}
+
+#[test]
+fn mappings_by_an_inode(rt: HostRuntime) {
+    let want = copies!(
+        "Mmap2 { pid: 1, tid: 2, addr: 3, len: 4, pgoff: 5, prot: 6, flags: 7, filename: ",
+        "([8, 9]), detail: Default { maj: 10, min: 11, ino: 12, ino_generation: 13 } } \
+            ((Some(10), Some(11), Some(12), Some(13)), None, Some(\"\\u{8}\\t\"))"
+    );
+    check_text(&rt, told_with_copies(rt.alloc(), Ok(by_inode())), want);
+    let want = copies!(
+        "Mmap2 { pid: 1, tid: 2, addr: 4096, len: 8192, pgoff: 0, prot: 5, flags: 2, filename: ",
+        "([97, 98]), detail: Default { maj: 8, min: 1, ino: 99, ino_generation: 3 } } \
+            ((Some(8), Some(1), Some(99), Some(3)), None, Some(\"ab\"))"
+    );
+    let mapping = by_another_inode();
+    check_text(&rt, told_with_copies(rt.alloc(), Ok(mapping)), want);
+}
+
 // A mapping of a program by its build id, behind which stands another byte.
 fn by_build_id() -> Mmap2<'static> {
     let detail = MmapDetail::BuildId {
@@ -290,109 +476,270 @@ fn by_build_id() -> Mmap2<'static> {
     Mmap2::from_parts(1, 2, 3, 4, 5, 6, 7, CowSlice::Borrowed(&[8, 9]), detail)
 }
 
-// The shorter record of a mapping that borrows its path.
-fn shorter_mapping(alloc: Global) -> Result<String, Fail> {
-    told_with_copies(alloc, by_inode().to_mmap(alloc)?)
+const TWENTY: [u8; 20] = [
+    1, 2, 3, 4, 5, 6, 7, 8, 9, 10, 11, 12, 13, 14, 15, 16, 17, 18, 19, 20,
+];
+
+// One by a build id of all twenty bytes, which owns its path.
+fn by_whole_build_id(alloc: Global) -> ParseResult<Mmap2<'static>> {
+    let detail = MmapDetail::BuildId {
+        build_id: TWENTY,
+        len: 20,
+    };
+    let filename = CowSlice::Owned(Vec::from_slice(alloc, b"ab")?);
+    Ok(Mmap2::from_parts(1, 2, 4096, 8192, 0, 5, 2, filename, detail))
 }
 
-// The same of one that owns it.
-fn shorter_owned_mapping(alloc: Global) -> Result<String, Fail> {
-    let mapping = by_build_id().into_owned(alloc)?;
-    told_with_clone(alloc, mapping.to_mmap(alloc)?)
+// One by a build id of two bytes, of a clone of its detail.
+fn by_short_build_id() -> ParseResult<Mmap2<'static>> {
+    let detail = MmapDetail::BuildId {
+        build_id: TWENTY,
+        len: 2,
+    };
+    let filename = CowSlice::Borrowed(b"ab");
+    let detail = detail.clone()?;
+    Ok(Mmap2::from_parts(1, 2, 4096, 8192, 0, 5, 2, filename, detail))
+}
+
+fn owned_by_build_id(alloc: Global) -> ParseResult<Mmap2<'static>> {
+    let bytes = ANONYMOUS;
+    let detail = MmapDetail::BuildId {
+        build_id: TWENTY,
+        len: 2,
+    };
+    let filename = CowSlice::Borrowed(&bytes);
+    Mmap2::from_parts(1, 2, 4096, 8192, 512, 5, 6, filename, detail).into_owned(alloc)
 }
 
 #[test]
-fn mappings_of_a_file(rt: HostRuntime) {
-    let want = "Mmap2 { pid: 1, tid: 2, addr: 3, len: 4, pgoff: 5, prot: 6, flags: 7, filename: \
-        Borrowed([8, 9]), detail: Default { maj: 10, min: 11, ino: 12, ino_generation: 13 } }";
-    check_copies(&rt, told_with_copies(rt.alloc(), by_inode()), want);
-    let want = "Mmap2 { pid: 1, tid: 2, addr: 3, len: 4, pgoff: 5, prot: 6, flags: 7, filename: \
-        Borrowed([8, 9]), detail: BuildId { build_id: 0a0b0c } }";
-    check_copies(&rt, told_with_copies(rt.alloc(), by_build_id()), want);
-    let want = "Mmap { pid: 1, tid: 2, addr: 3, len: 4, pgoff: 5, filename: Borrowed([8, 9]) }";
-    check_copies(&rt, shorter_mapping(rt.alloc()), want);
-    let want = "Mmap { pid: 1, tid: 2, addr: 3, len: 4, pgoff: 5, filename: Owned([8, 9]) }";
-    check_clone(&rt, shorter_owned_mapping(rt.alloc()), want);
+fn mappings_by_a_build_id(rt: HostRuntime) {
+    let want = copies!(
+        "Mmap2 { pid: 1, tid: 2, addr: 3, len: 4, pgoff: 5, prot: 6, flags: 7, filename: ",
+        "([8, 9]), detail: BuildId { build_id: 0a0b0c } } \
+            ((None, None, None, None), Some([10, 11, 12]), Some(\"\\u{8}\\t\"))"
+    );
+    check_text(&rt, told_with_copies(rt.alloc(), Ok(by_build_id())), want);
+    let want = owned_copies!(
+        "Mmap2 { pid: 1, tid: 2, addr: 4096, len: 8192, pgoff: 0, prot: 5, flags: 2, filename: ",
+        "([97, 98]), detail: BuildId { build_id: 0102030405060708090a0b0c0d0e0f1011121314 } } \
+            ((None, None, None, None), Some([1, 2, 3, 4, 5, 6, 7, 8, 9, 10, 11, 12, 13, 14, 15, \
+            16, 17, 18, 19, 20]), Some(\"ab\"))"
+    );
+    let whole = by_whole_build_id(rt.alloc());
+    check_text(&rt, told_with_copies(rt.alloc(), whole), want);
+    let want = copies!(
+        "Mmap2 { pid: 1, tid: 2, addr: 4096, len: 8192, pgoff: 0, prot: 5, flags: 2, filename: ",
+        "([97, 98]), detail: BuildId { build_id: 0102 } } \
+            ((None, None, None, None), Some([1, 2]), Some(\"ab\"))"
+    );
+    let short = by_short_build_id();
+    check_text(&rt, told_with_copies(rt.alloc(), short), want);
+    let want = owned_copies!(
+        "Mmap2 { pid: 1, tid: 2, addr: 4096, len: 8192, pgoff: 512, prot: 5, flags: 6, filename: ",
+        "([47, 47, 97, 110, 111, 110]), detail: BuildId { build_id: 0102 } } \
+            ((None, None, None, None), Some([1, 2]), Some(\"//anon\"))"
+    );
+    let owned = owned_by_build_id(rt.alloc());
+    check_text(&rt, told_with_copies(rt.alloc(), owned), want);
 }
 
-fn poke(alloc: Global) -> Result<String, Fail> {
-    let poke = TextPoke {
-        addr: 1,
-        old_bytes: CowSlice::Borrowed(&[2]),
-        new_bytes: CowSlice::Borrowed(&[3, 4]),
-    };
-    told_with_copies(alloc, poke)
+// The shorter record of a mapping that owns its path.
+fn shorter_owned_mapping(alloc: Global) -> ParseResult<Mmap<'static>> {
+    by_build_id().into_owned(alloc)?.to_mmap(alloc)
+}
+
+// That of a clone.
+fn shorter_clone(alloc: Global) -> ParseResult<Mmap<'static>> {
+    Ok(Mmap::from(by_another_inode().clone(alloc)?))
+}
+
+#[test]
+fn shorter_mappings(rt: HostRuntime) {
+    let alloc = rt.alloc();
+    let want = copies!(
+        "Mmap { pid: 1, tid: 2, addr: 3, len: 4, pgoff: 5, filename: ",
+        "([8, 9]) } Some(\"\\u{8}\\t\")"
+    );
+    check_text(
+        &rt,
+        told_with_copies(alloc, by_inode().to_mmap(alloc)),
+        want,
+    );
+    let want = owned_copies!(
+        "Mmap { pid: 1, tid: 2, addr: 3, len: 4, pgoff: 5, filename: ",
+        "([8, 9]) } Some(\"\\u{8}\\t\")"
+    );
+    check_text(
+        &rt,
+        told_with_copies(alloc, shorter_owned_mapping(alloc)),
+        want,
+    );
+    let want = copies!(
+        "Mmap { pid: 1, tid: 2, addr: 4096, len: 8192, pgoff: 0, filename: ",
+        "([97, 98]) } Some(\"ab\")"
+    );
+    let mapping = by_another_inode().to_mmap(alloc);
+    check_text(&rt, told_with_copies(alloc, mapping), want);
+    check_text(&rt, told_with_copies(alloc, shorter_clone(alloc)), want);
+    let mapping = by_another_inode().into_mmap();
+    check_text(&rt, told_with_copies(alloc, Ok(mapping)), want);
+}
+
+fn poke<'a>(addr: u64, old: &'a [u8], new: &'a [u8]) -> TextPoke<'a> {
+    TextPoke {
+        addr,
+        old_bytes: CowSlice::Borrowed(old),
+        new_bytes: CowSlice::Borrowed(new),
+    }
+}
+
+fn owned_poke(alloc: Global) -> ParseResult<TextPoke<'static>> {
+    let bytes = [0xaa, 0xbb, 0xcc];
+    poke(16, &bytes[..1], &bytes[1..]).to_owned(alloc)
 }
 
 #[test]
 fn a_change_of_code(rt: HostRuntime) {
-    let want = "TextPoke { addr: 1, old_bytes: Borrowed([2]), new_bytes: Borrowed([3, 4]) }";
-    check_copies(&rt, poke(rt.alloc()), want);
+    let want = copies!(
+        "TextPoke { addr: 1, old_bytes: ",
+        "([2]), new_bytes: ",
+        "([3, 4]) }"
+    );
+    let poked = poke(1, &[2], &[3, 4]);
+    check_text(&rt, told_with_copies(rt.alloc(), Ok(poked)), want);
+    let want = copies!(
+        "TextPoke { addr: 16, old_bytes: ",
+        "([]), new_bytes: ",
+        "([170]) }"
+    );
+    let poked = poke(16, &[], &[0xaa]);
+    check_text(&rt, told_with_copies(rt.alloc(), Ok(poked)), want);
+    let want = owned_copies!(
+        "TextPoke { addr: 16, old_bytes: ",
+        "([170]), new_bytes: ",
+        "([187, 204]) }"
+    );
+    let poked = owned_poke(rt.alloc());
+    check_text(&rt, told_with_copies(rt.alloc(), poked), want);
 }
 
-const WITH_IDS: u64 = 0x0d;
-
-fn group_of_counters(alloc: Global) -> Result<String, Fail> {
+fn group_of_counters() -> ReadGroup<'static> {
     let numbers = CowSlice::Borrowed(&[3, 4, 5, 6]);
-    let group = ReadGroup::from_parts(ReadFormat::from_bits_retain(WITH_IDS), 1, 2, numbers);
-    told_with_copies(alloc, group)
+    ReadGroup::from_parts(ReadFormat::from_bits_retain(0x0d), 1, 2, numbers)
 }
 
 #[test]
 fn a_group_of_counters(rt: HostRuntime) {
-    let want = "ReadGroup { time_enabled: Some(1), time_running: None, with_id: true, \
-        with_lost: false, words: Borrowed([3, 4, 5, 6]) }";
-    check_copies(&rt, group_of_counters(rt.alloc()), want);
+    let alloc = rt.alloc();
+    let want = copies!(
+        "ReadGroup { time_enabled: Some(1), time_running: None, with_id: true, with_lost: false, \
+            words: ",
+        "([3, 4, 5, 6]) } ((2, false, Some(1), None), \
+            [Some(GroupEntry { value: 3, id: Some(4), lost: None }), \
+            Some(GroupEntry { value: 5, id: Some(6), lost: None })])"
+    );
+    check_text(&rt, told_with_copies(alloc, Ok(group_of_counters())), want);
+    let want = copies!(
+        "ReadGroup { time_enabled: None, time_running: None, with_id: true, with_lost: false, \
+            words: ",
+        "([10, 1, 20, 2, 30, 2]) } ((3, false, None, None), \
+            [Some(GroupEntry { value: 10, id: Some(1), lost: None }), None])"
+    );
+    check_text(&rt, told_with_copies(alloc, Ok(with_ids())), want);
+    let want = copies!(
+        "ReadGroup { time_enabled: Some(7), time_running: Some(8), with_id: false, \
+            with_lost: true, words: ",
+        "([10, 1]) } ((1, false, Some(7), Some(8)), \
+            [Some(GroupEntry { value: 10, id: None, lost: Some(1) }), None])"
+    );
+    check_text(&rt, told_with_copies(alloc, Ok(without_ids())), want);
+    let want = copies!(
+        "ReadGroup { time_enabled: None, time_running: None, with_id: false, with_lost: false, \
+            words: ",
+        "([]) } ((0, true, None, None), [None, None])"
+    );
+    check_text(&rt, told_with_copies(alloc, Ok(of_none())), want);
 }
 
-fn registers(alloc: Global, values: CowSlice<'_, u64>) -> Result<String, Fail> {
-    let registers = Registers {
+#[test]
+fn a_group_of_one_read(rt: HostRuntime) {
+    let want = owned_copies!(
+        "ReadGroup { time_enabled: None, time_running: None, with_id: true, with_lost: false, \
+            words: ",
+        "([3, 6]) } ((1, false, None, None), \
+            [Some(GroupEntry { value: 3, id: Some(6), lost: None }), \
+            Some(GroupEntry { value: 3, id: Some(6), lost: None })])"
+    );
+    let group = ReadGroup::from_value(rt.alloc(), single_with_id());
+    check_text(&rt, told_with_copies(rt.alloc(), group), want);
+}
+
+fn registers(values: CowSlice<'_, u64>) -> Registers<'_> {
+    Registers {
         abi: SampleRegsAbi::ABI_64,
         mask: 5,
         regs: values,
-    };
-    told_with_clone(alloc, registers)
+    }
 }
 
 // Registers that own their values.
-fn owned_registers(alloc: Global) -> Result<String, Fail> {
-    registers(alloc, CowSlice::Borrowed(&[6, 7]).into_owned(alloc)?)
+fn owned_registers(alloc: Global) -> ParseResult<Registers<'static>> {
+    Ok(registers(CowSlice::Borrowed(&[6, 7]).into_owned(alloc)?))
 }
 
 #[test]
 fn registers_of_a_task(rt: HostRuntime) {
-    let want = "Registers { abi: SampleRegsAbi(2), mask: 5, regs: Borrowed([6, 7]) }";
-    check_clone(
-        &rt,
-        registers(rt.alloc(), CowSlice::Borrowed(&[6, 7])),
-        want,
-    );
-    let want = "Registers { abi: SampleRegsAbi(2), mask: 5, regs: Owned([6, 7]) }";
-    check_clone(&rt, owned_registers(rt.alloc()), want);
+    let want =
+        clones!("Borrowed": "Registers { abi: SampleRegsAbi(2), mask: 5, regs: ", "([6, 7]) }");
+    let lent = registers(CowSlice::Borrowed(&[6, 7]));
+    check_text(&rt, told_with_clone(rt.alloc(), Ok(lent)), want);
+    let want = clones!("Owned": "Registers { abi: SampleRegsAbi(2), mask: 5, regs: ", "([6, 7]) }");
+    let owned = owned_registers(rt.alloc());
+    check_text(&rt, told_with_clone(rt.alloc(), owned), want);
 }
 
 const NETWORK: [NamespaceEntry; 1] = [NamespaceEntry { dev: 3, inode: 4 }];
 
-fn spaces(alloc: Global, entries: CowSlice<'_, NamespaceEntry>) -> Result<String, Fail> {
-    let spaces = Namespaces {
+const NETWORK_AND_NAME: [NamespaceEntry; 2] = [
+    NamespaceEntry { dev: 3, inode: 4 },
+    NamespaceEntry { dev: 5, inode: 6 },
+];
+
+fn spaces(entries: CowSlice<'_, NamespaceEntry>) -> Namespaces<'_> {
+    Namespaces {
         pid: 1,
         tid: 2,
         namespaces: entries,
-    };
-    told_with_clone(alloc, spaces)
+    }
 }
 
 // Namespaces that own their list.
-fn owned_spaces(alloc: Global) -> Result<String, Fail> {
-    spaces(alloc, CowSlice::Borrowed(&NETWORK).into_owned(alloc)?)
+fn owned_spaces(alloc: Global) -> ParseResult<Namespaces<'static>> {
+    Ok(spaces(CowSlice::Borrowed(&NETWORK).into_owned(alloc)?))
 }
 
 #[test]
 fn namespaces_of_a_task(rt: HostRuntime) {
-    let want = "Namespaces { pid: 1, tid: 2, namespaces: \
-        Borrowed([NamespaceEntry { dev: 3, inode: 4 }]) }";
-    check_clone(&rt, spaces(rt.alloc(), CowSlice::Borrowed(&NETWORK)), want);
-    let want = "Namespaces { pid: 1, tid: 2, namespaces: \
-        Owned([NamespaceEntry { dev: 3, inode: 4 }]) }";
-    check_clone(&rt, owned_spaces(rt.alloc()), want);
+    let want = clones!("Borrowed":
+        "Namespaces { pid: 1, tid: 2, namespaces: ",
+        "([NamespaceEntry { dev: 3, inode: 4 }]) } \
+            ([Some(NamespaceEntry { dev: 3, inode: 4 }), None, None], [None, None, None])"
+    );
+    let lent = spaces(CowSlice::Borrowed(&NETWORK));
+    check_text(&rt, told_with_clone(rt.alloc(), Ok(lent)), want);
+    let want = clones!("Owned":
+        "Namespaces { pid: 1, tid: 2, namespaces: ",
+        "([NamespaceEntry { dev: 3, inode: 4 }]) } \
+            ([Some(NamespaceEntry { dev: 3, inode: 4 }), None, None], [None, None, None])"
+    );
+    let owned = owned_spaces(rt.alloc());
+    check_text(&rt, told_with_clone(rt.alloc(), owned), want);
+    let want = clones!("Borrowed":
+        "Namespaces { pid: 1, tid: 2, namespaces: ",
+        "([NamespaceEntry { dev: 3, inode: 4 }, NamespaceEntry { dev: 5, inode: 6 }]) } \
+            ([Some(NamespaceEntry { dev: 3, inode: 4 }), Some(NamespaceEntry { dev: 5, \
+            inode: 6 }), None], [None, None, None])"
+    );
+    let lent = spaces(CowSlice::Borrowed(&NETWORK_AND_NAME));
+    check_text(&rt, told_with_clone(rt.alloc(), Ok(lent)), want);
 }

@@ -1,21 +1,34 @@
 //! Reads of counters and groups of them.
 
-use crate::check;
+use crate::checks::{check_answers, check_debug, check_text};
 use bitflags::Flags;
 use perf_base::cow::CowSlice;
+use perf_base::error::ParseResult;
 use perf_types::group_entry::GroupEntry;
 use perf_types::group_iter::GroupIter;
 use perf_types::group_laws::{EntryCall, entry_call, entry_calls, through_a_group};
 use perf_types::read::Read;
 use perf_types::read_group::ReadGroup;
-use perf_types::read_value::ReadValue;
+use perf_types::read_value::{ReadValue, TryFromGroupError};
 use perf_words::ReadFormat;
-use std::alloc::Global;
+use std::alloc::{AllocError, Global};
 use std::process::Abort;
-use std::test::Fail;
 
 // The values of up to six entries. An entry's id is 100 more, and its lost samples are 200 more.
 const VALUES: [u64; 6] = [1, 2, 3, 4, 5, 6];
+
+// Read formats, and the numbers of the six entries as the kernel writes them.
+const GROUPS: [(u64, &[u64]); 4] = [
+    (8, &[1, 2, 3, 4, 5, 6]),
+    (12, &[1, 101, 2, 102, 3, 103, 4, 104, 5, 105, 6, 106]),
+    (24, &[1, 201, 2, 202, 3, 203, 4, 204, 5, 205, 6, 206]),
+    (
+        28,
+        &[
+            1, 101, 201, 2, 102, 202, 3, 103, 203, 4, 104, 204, 5, 105, 205, 6, 106, 206,
+        ],
+    ),
+];
 
 // What a call does: its last three fall behind six entries or more.
 const CALLS: [EntryCall; 8] = [
@@ -28,21 +41,6 @@ const CALLS: [EntryCall; 8] = [
     EntryCall::Nth(7),
     EntryCall::NthBack(6),
 ];
-
-// The numbers of some entries, as the kernel writes them.
-fn numbers(alloc: Global, format: ReadFormat, values: &[u64]) -> Result<Vec<u64>, Fail> {
-    let mut numbers = Vec::new(alloc);
-    for value in values {
-        numbers.push(*value)?;
-        if format.contains(ReadFormat::ID) {
-            numbers.push(value.wrapping_add(100))?;
-        }
-        if format.contains(ReadFormat::LOST) {
-            numbers.push(value.wrapping_add(200))?;
-        }
-    }
-    Ok(numbers)
-}
 
 // Whether it is the entry of that value in that form.
 fn is_entry(format: ReadFormat, entry: Option<GroupEntry>, value: Option<u64>) -> bool {
@@ -85,162 +83,231 @@ fn goes_as_a_list(
     true
 }
 
+// Asserts that the entries of these numbers go as a list of their values does, in any mixture of
+// four calls.
+fn check_mixtures(rt: &impl Abort, format: ReadFormat, numbers: CowSlice<'_, u64>, values: &[u64]) {
+    assert_eq!(rt; numbers.len() % format.element_len(), 0);
+    let group = ReadGroup::from_parts(format, 0, 0, numbers);
+    assert_eq!(rt; group.len(), values.len());
+    for code in 0..4096usize {
+        let calls = [code, code / 8, code / 64, code / 512];
+        assert!(rt; goes_as_a_list(group.entries(), format, values, calls));
+    }
+}
+
+// Asserts it where the numbers are borrowed and where they are owned.
+fn check_group(
+    rt: &(impl AllocGlobal + Abort),
+    format: ReadFormat,
+    numbers: &[u64],
+    values: &[u64],
+) {
+    check_mixtures(rt, format, CowSlice::Borrowed(numbers), values);
+    match Vec::from_slice(rt.alloc(), numbers) {
+        Ok(numbers) => check_mixtures(rt, format, CowSlice::Owned(numbers), values),
+        Err(_) => panic!(rt; "no memory"),
+    }
+}
+
 #[test]
-fn mixtures_of_calls(rt: HostRuntime) -> Result<(), Fail> {
-    let alloc = rt.alloc();
-    for bits in [8, 12, 24, 28] {
+fn mixtures_of_calls(rt: HostRuntime) {
+    for (bits, numbers) in GROUPS {
         let format = ReadFormat::from_bits_retain(bits);
         for count in 0..7usize {
-            let values = &VALUES[..count];
-            let numbers = numbers(alloc, format, values)?;
-            assert_eq!(rt; numbers.len() % format.element_len(), 0);
-            let borrowed = ReadGroup::from_parts(
-                format,
-                0,
-                0,
-                CowSlice::Borrowed(numbers.as_slice()),
-            );
-            let copy = Vec::from_slice(alloc, numbers.as_slice())?;
-            assert_eq!(rt; copy.len() % format.element_len(), 0);
-            let owned = ReadGroup::from_parts(format, 0, 0, CowSlice::Owned(copy));
-            check!(rt; owned.len(), count);
-            for code in 0..4096usize {
-                let calls = [code, code / 8, code / 64, code / 512];
-                check!(rt; goes_as_a_list(borrowed.entries(), format, values, calls));
-                check!(rt; goes_as_a_list(owned.entries(), format, values, calls));
-            }
+            let len = count.saturating_mul(format.element_len());
+            let first = &numbers[..len.min(numbers.len())];
+            check_group(&rt, format, first, &VALUES[..count]);
         }
     }
-    Ok(())
+}
+
+fn five() -> ReadGroup<'static> {
+    ReadGroup::from_parts(
+        ReadFormat::GROUP,
+        0,
+        0,
+        CowSlice::Borrowed(&[1, 2, 3, 4, 5]),
+    )
+}
+
+// How many entries there are, and the last.
+fn count_and_last() -> (usize, Option<GroupEntry>) {
+    let numbers = CowSlice::Borrowed(&[1, 2, 3, 4, 5]);
+    let group = ReadGroup::from_parts(ReadFormat::GROUP, 0, 0, numbers);
+    (group.entries().count(), group.entries().last())
 }
 
 #[test]
 fn entries_from_both_ends(rt: HostRuntime) {
-    let words = CowSlice::Borrowed(&VALUES[..5]);
-    let group = ReadGroup::from_parts(ReadFormat::GROUP, 0, 0, words);
+    let group = five();
     let mut entries = group.entries();
-    check!(rt; entries.nth(1).map(|entry| entry.value()), Some(2));
-    check!(rt; entries.next_back().map(|entry| entry.value()), Some(5));
-    check!(rt; entries.nth_back(1).map(|entry| entry.value()), Some(3));
-    check!(rt; entries.len(), 0);
-    check!(rt; entries.next().is_none());
-    check!(rt; entries.next_back().is_none());
-    check!(rt; group.entries().count(), 5);
-    check!(rt; group.entries().last().map(|entry| entry.value()), Some(5));
+    let taken = [entries.nth(1), entries.next_back(), entries.nth_back(1)];
+    let left = entries.len();
+    let behind = [entries.next(), entries.next_back()];
+    check_debug(
+        &rt,
+        &(taken, left, behind, count_and_last()),
+        "([Some(GroupEntry { value: 2, id: None, lost: None }), \
+            Some(GroupEntry { value: 5, id: None, lost: None }), \
+            Some(GroupEntry { value: 3, id: None, lost: None })], 0, [None, None], \
+            (5, Some(GroupEntry { value: 5, id: None, lost: None })))",
+    );
 }
 
-// The values of three entries from both ends.
-fn told_from_both_ends(alloc: Global, entries: GroupIter<'_>) -> Result<Vec<Option<u64>>, Fail> {
-    let mut entries = entries;
+// What a copy of a group's entries says while these go on: how many are left of both, and what it
+// answers from both ends.
+fn told_of_a_copy(alloc: Global, group: &ReadGroup<'_>) -> ParseResult<String> {
+    let mut entries = group.entries();
+    let _ = entries.nth(1);
+    let mut copy = entries.clone()?;
+    let _ = entries.nth(2);
+    let left = (entries.len(), copy.size_hint());
     let calls = [EntryCall::NthBack(1), EntryCall::Next, EntryCall::Next];
-    let answers = entry_calls(alloc, &mut entries, &calls)?;
-    Ok(answers.iter().map(|e| e.map(|e| e.value())).collect(alloc)?)
+    let answers = entry_calls(alloc, &mut copy, &calls)?;
+    Ok(format!(in alloc; "{left:?} {answers:?}")?)
 }
 
 #[test]
-fn a_copy_of_entries_goes_on_alone(rt: HostRuntime) -> Result<(), Fail> {
-    let words = CowSlice::Borrowed(&VALUES[..5]);
-    let group = ReadGroup::from_parts(ReadFormat::GROUP, 0, 0, words);
-    let mut entries = group.entries();
-    let _ = entries.nth(1);
-    let copy = entries.clone()?;
-    let _ = entries.nth(2);
-    check!(rt; entries.len(), 0);
-    check!(rt; copy.size_hint(), (3, Some(3)));
-    let values = told_from_both_ends(rt.alloc(), copy)?;
-    check!(rt; values.as_slice(), [Some(4), Some(3), None].as_slice());
-    Ok(())
+fn a_copy_of_entries_goes_on_alone(rt: HostRuntime) {
+    check_text(
+        &rt,
+        told_of_a_copy(rt.alloc(), &five()),
+        "(0, (3, Some(3))) [Some(GroupEntry { value: 4, id: None, lost: None }), \
+            Some(GroupEntry { value: 3, id: None, lost: None }), None]",
+    );
 }
 
 // Entries of values and ids, whose times the read format leaves out.
-fn with_ids() -> ReadGroup<'static> {
-    let words = CowSlice::Borrowed(&[10u64, 1, 20, 2, 30, 2]);
-    ReadGroup::from_parts(ReadFormat::from_bits_retain(0x0c), 7, 8, words)
+pub fn with_ids() -> ReadGroup<'static> {
+    let numbers = CowSlice::Borrowed(&[10u64, 1, 20, 2, 30, 2]);
+    ReadGroup::from_parts(ReadFormat::from_bits_retain(0x0c), 7, 8, numbers)
+}
+
+// An entry of a value and its lost samples, with both times.
+pub fn without_ids() -> ReadGroup<'static> {
+    let numbers = CowSlice::Borrowed(&[10u64, 1]);
+    ReadGroup::from_parts(ReadFormat::from_bits_retain(0x1b), 7, 8, numbers)
+}
+
+// No entries.
+pub fn of_none() -> ReadGroup<'static> {
+    ReadGroup::from_parts(ReadFormat::GROUP, 0, 0, CowSlice::Borrowed(&[]))
 }
 
 #[test]
-fn entries_with_ids(rt: HostRuntime) {
+fn entries_by_their_places(rt: HostRuntime) {
     let group = with_ids();
-    check!(rt; group.len(), 3);
-    check!(rt; !group.is_empty());
-    check!(rt; group.time_enabled(), None);
-    check!(rt; group.time_running(), None);
-    check!(rt; group.get(2).and_then(|entry| entry.id()), Some(2));
-    check!(rt; group.get(2).map(|entry| entry.value()), Some(30));
-    check!(rt; group.get(3).is_none());
-    check!(rt; group.get(usize::MAX).is_none());
+    let entries = [group.get(2), group.get(3), group.get(usize::MAX)];
+    check_debug(
+        &rt,
+        &entries,
+        "[Some(GroupEntry { value: 30, id: Some(2), lost: None }), None, None]",
+    );
 }
 
 #[test]
-fn entries_by_their_ids(rt: HostRuntime) -> Result<(), Fail> {
-    let group = with_ids();
-    check!(rt; group.get_by_id(2).map(|entry| entry.value()), Some(20));
-    check!(rt; group.get_by_id(3).is_none());
-    let copy = group.clone(rt.alloc())?;
-    check!(rt; copy.get(0).map(|entry| entry.value()), Some(10));
-    check!(rt; ReadValue::try_from(group).is_err());
-    Ok(())
+fn entries_by_their_ids(rt: HostRuntime) {
+    let (group, others) = (with_ids(), without_ids());
+    let entries = [
+        group.get_by_id(2),
+        group.get_by_id(3),
+        others.get_by_id(0),
+        others.get_by_id(1),
+    ];
+    check_debug(
+        &rt,
+        &entries,
+        "[Some(GroupEntry { value: 20, id: Some(2), lost: None }), None, None, None]",
+    );
+}
+
+// What the calls of a read answer.
+fn numbers_of_read(read: &ReadValue) -> [Option<u64>; 5] {
+    [
+        Some(read.value()),
+        read.time_enabled(),
+        read.time_running(),
+        read.id(),
+        read.lost(),
+    ]
+}
+
+// A read of one counter with every number.
+fn single() -> ReadValue {
+    ReadValue::from_parts(ReadFormat::from_bits_retain(0x17), 3, 4, 5, 6, 7)
+}
+
+// One with its id alone.
+pub fn single_with_id() -> ReadValue {
+    ReadValue::from_parts(ReadFormat::ID, 3, 4, 5, 6, 7)
 }
 
 #[test]
-fn entries_without_ids(rt: HostRuntime) {
-    let words = CowSlice::Borrowed(&[10u64, 1]);
-    let group = ReadGroup::from_parts(ReadFormat::from_bits_retain(0x1b), 7, 8, words);
-    check!(rt; group.time_enabled(), Some(7));
-    check!(rt; group.time_running(), Some(8));
-    check!(rt; group.get(0).and_then(|entry| entry.lost()), Some(1));
-    check!(rt; group.get_by_id(0).is_none());
-    check!(rt; group.get_by_id(1).is_none());
-    let none = ReadGroup::from_parts(ReadFormat::GROUP, 0, 0, CowSlice::Borrowed(&[]));
-    check!(rt; none.is_empty());
-    check!(rt; none.get(0).is_none());
-    check!(rt; ReadValue::try_from(none).is_err());
+fn single_reads(rt: HostRuntime) {
+    let want = [Some(3), Some(4), Some(5), Some(6), Some(7)];
+    check_answers(&rt, &numbers_of_read(&single()), &want);
+    let want = [Some(3), None, None, Some(6), None];
+    check_answers(&rt, &numbers_of_read(&single_with_id()), &want);
+    check_debug(
+        &rt,
+        &single_with_id(),
+        "ReadValue { value: 3, time_enabled: None, time_running: None, id: Some(6), lost: None }",
+    );
 }
 
-// Asserts that a read is of the numbers from 3 to 7.
-fn check_read(rt: &impl Abort, read: &ReadValue) {
-    check!(rt; read.value(), 3);
-    check!(rt; read.time_enabled(), Some(4));
-    check!(rt; read.time_running(), Some(5));
-    check!(rt; read.id(), Some(6));
-    check!(rt; read.lost(), Some(7));
-}
-
-#[test]
-fn single_reads(rt: HostRuntime) -> Result<(), Fail> {
-    let format = ReadFormat::from_bits_retain(0x17);
+// A read record and its clone.
+fn read_and_clone() -> Result<(Read, Read), AllocError> {
     let read = Read {
         pid: 1,
         tid: 2,
-        values: ReadValue::from_parts(format, 3, 4, 5, 6, 7),
+        values: single(),
     };
-    check!(rt; read.tid, 2);
-    check_read(&rt, &read.values);
-    check_read(&rt, &read.clone()?.values);
-    Ok(())
+    let copy = read.clone()?;
+    Ok((read, copy))
 }
 
 #[test]
-fn a_read_is_the_same_behind_a_group(rt: HostRuntime) -> Result<(), Fail> {
+fn reads_are_cloned(rt: HostRuntime) {
+    check_debug(
+        &rt,
+        &read_and_clone(),
+        "Ok((Read { pid: 1, tid: 2, values: ReadValue { value: 3, time_enabled: Some(4), \
+            time_running: Some(5), id: Some(6), lost: Some(7) } }, \
+            Read { pid: 1, tid: 2, values: ReadValue { value: 3, time_enabled: Some(4), \
+            time_running: Some(5), id: Some(6), lost: Some(7) } }))",
+    );
+}
+
+// A clone of a read behind a group of one.
+fn behind_a_group(alloc: Global) -> ParseResult<Result<ReadValue, TryFromGroupError>> {
+    let group = ReadGroup::from_value(alloc, single().clone()?)?;
+    Ok(ReadValue::try_from(group))
+}
+
+// A read behind two groups of one.
+fn behind_two_groups(alloc: Global) -> ParseResult<Result<ReadValue, TryFromGroupError>> {
+    match behind_a_group(alloc)? {
+        Ok(read) => through_a_group(alloc, read),
+        Err(error) => Ok(Err(error)),
+    }
+}
+
+#[test]
+fn a_read_is_the_same_behind_a_group(rt: HostRuntime) {
     let alloc = rt.alloc();
-    let read = ReadValue::from_parts(ReadFormat::from_bits_retain(0x17), 3, 4, 5, 6, 7);
-    let back = ReadValue::try_from(ReadGroup::from_value(alloc, read.clone()?)?)?;
-    check_read(&rt, &back);
-    check!(rt; through_a_group(alloc, read)?.is_ok());
-    check!(rt; through_a_group(alloc, back)?.is_ok());
-    Ok(())
+    let want = "Ok(Ok(ReadValue { value: 3, time_enabled: Some(4), time_running: Some(5), \
+        id: Some(6), lost: Some(7) }))";
+    check_debug(&rt, &behind_a_group(alloc), want);
+    check_debug(&rt, &through_a_group(alloc, single()), want);
+    check_debug(&rt, &behind_two_groups(alloc), want);
 }
 
-#[test]
-fn a_read_lacks_what_its_format_leaves_out(rt: HostRuntime) -> Result<(), Fail> {
-    let value = ReadValue::from_parts(ReadFormat::ID, 3, 4, 5, 6, 7);
-    check!(rt; value.time_enabled(), None);
-    check!(rt; value.time_running(), None);
-    check!(rt; value.lost(), None);
-    let group = ReadGroup::from_value(rt.alloc(), value)?;
-    check!(rt; group.get_by_id(6).map(|entry| entry.value()), Some(3));
-    check!(rt; group.len(), 1);
-    Ok(())
+// What a read of a group's times, and of the first entry of a group, answers.
+fn read_of(group: &ReadGroup<'_>, entries: &ReadGroup<'_>) -> Option<[Option<u64>; 5]> {
+    match entries.get(0) {
+        Some(entry) => Some(numbers_of_read(&ReadValue::from_group_and_entry(group, &entry))),
+        None => None,
+    }
 }
 
 #[test]
@@ -248,40 +315,30 @@ fn entry_of_another_group(rt: HostRuntime) {
     let values = ReadGroup::from_parts(ReadFormat::GROUP, 0, 0, CowSlice::Borrowed(&[5]));
     let with_ids = ReadFormat::from_bits_retain(0x0c);
     let others = ReadGroup::from_parts(with_ids, 1, 2, CowSlice::Borrowed(&[8, 9]));
-    let entry = values.get(0).expect(&rt, "an entry");
-    let read = ReadValue::from_group_and_entry(&others, &entry);
-    check!(rt; read.value(), 5);
-    check!(rt; read.id(), Some(0));
-    check!(rt; read.lost(), None);
-    check!(rt; read.time_enabled(), None);
-    check!(rt; read.time_running(), None);
-    let entry = others.get(0).expect(&rt, "an entry");
-    check!(rt;
-        ReadValue::from_group_and_entry(&others, &entry).id(),
-        Some(9)
+    let reads = [
+        read_of(&others, &values),
+        read_of(&others, &others),
+        read_of(&values, &others),
+    ];
+    check_debug(
+        &rt,
+        &reads,
+        "[Some([Some(5), None, None, Some(0), None]), \
+            Some([Some(8), None, None, Some(9), None]), Some([Some(8), None, None, None, None])]",
     );
-    check!(rt; ReadValue::from_group_and_entry(&values, &entry).id(), None);
+}
+
+// What a group says that is no read of one counter.
+fn told_refusal(alloc: Global, group: ReadGroup<'_>) -> ParseResult<String> {
+    match ReadValue::try_from(group) {
+        Ok(read) => Ok(format!(in alloc; "{read:?}")?),
+        Err(error) => Ok(format!(in alloc; "{error}")?),
+    }
 }
 
 #[test]
-fn texts(rt: HostRuntime) -> Result<(), Fail> {
-    let alloc = rt.alloc();
-    let none = ReadGroup::from_parts(ReadFormat::GROUP, 0, 0, CowSlice::Borrowed(&[]));
-    match ReadValue::try_from(none) {
-        Ok(_) => check!(rt; false),
-        Err(error) => {
-            let text = format!(in alloc; "{error}")?;
-            check!(rt;
-                text.as_str(),
-                "can only convert groups with a single element to ReadValues"
-            );
-        }
-    }
-    let value = ReadValue::from_parts(ReadFormat::ID, 3, 4, 5, 6, 7);
-    let text = format!(in alloc; "{value:?}")?;
-    check!(rt;
-        text.as_str(),
-        "ReadValue { value: 3, time_enabled: None, time_running: None, id: Some(6), lost: None }"
-    );
-    Ok(())
+fn groups_of_none_or_several_are_no_read(rt: HostRuntime) {
+    let want = "can only convert groups with a single element to ReadValues";
+    check_text(&rt, told_refusal(rt.alloc(), of_none()), want);
+    check_text(&rt, told_refusal(rt.alloc(), with_ids()), want);
 }

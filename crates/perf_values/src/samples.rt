@@ -1,6 +1,6 @@
 //! Samples that are made of their fields.
 
-use crate::checks::check_same;
+use crate::checks::{check_debug, check_text};
 use bitflags::Flags;
 use perf_base::cow::CowSlice;
 use perf_base::error::ParseResult;
@@ -10,7 +10,7 @@ use perf_sample_types::sample_fields::SampleFields;
 use perf_sample_types::sample_id::SampleId;
 use perf_types::read_group::ReadGroup;
 use perf_words::{BranchEntry, DataSource, ReadFormat, SampleRegsAbi, Txn};
-use std::alloc::{AllocError, Global};
+use std::alloc::Global;
 use std::process::Abort;
 
 fn wide(number: Option<u32>) -> Option<u64> {
@@ -63,62 +63,62 @@ fn numbers_of(sample: &Sample<'_>) -> [Option<u64>; 8] {
     ]
 }
 
-// Writes the value of each entry of a group, if there is one.
-fn tell_group(text: &mut String, group: Option<&ReadGroup<'_>>) -> Result<(), AllocError> {
-    let Some(group) = group else {
-        return text.push_str("None");
-    };
-    for entry in group.entries() {
-        write!(text, "{} ", entry.value())?;
+// Writes what the calls of a sample answer on a line.
+fn tell_sample(text: &mut String, sample: &Sample<'_>) -> ParseResult<()> {
+    let lists = (
+        sample.values(),
+        sample.callchain(),
+        sample.raw(),
+        sample.lbr(),
+        sample.regs_user(),
+        sample.stack_user(),
+        sample.regs_intr(),
+        sample.aux(),
+    );
+    let numbers = (origin_of(sample), numbers_of(sample));
+    Ok(write!(text, "{:?}\n", (numbers, lists))?)
+}
+
+// A sample of a clone of these fields.
+fn sample_of_a_clone<'a>(alloc: Global, fields: &SampleFields<'a>) -> ParseResult<Sample<'a>> {
+    Ok(Sample::from_fields(fields.clone(alloc)?))
+}
+
+// Writes what a copy of a sample answers.
+fn tell_copy(text: &mut String, copy: ParseResult<Sample<'_>>) -> ParseResult<()> {
+    match copy {
+        Ok(sample) => tell_sample(text, &sample),
+        Err(error) => Err(error),
     }
-    write!(text, "of {}", group.len())
 }
 
-// Writes the addresses and cycles of each branch, if there are branches.
-fn tell_branches(text: &mut String, branches: Option<&[BranchEntry]>) -> Result<(), AllocError> {
-    let Some(branches) = branches else {
-        return text.push_str("None");
+// Writes what a sample answers, and its clone.
+fn tell_with_clone(text: &mut String, alloc: Global, sample: &Sample<'_>) -> ParseResult<()> {
+    tell_sample(text, sample)?;
+    tell_copy(text, sample.clone(alloc))
+}
+
+// Writes what a sample of these fields answers, and its clone.
+fn tell_fields(text: &mut String, alloc: Global, fields: SampleFields<'_>) -> ParseResult<()> {
+    tell_with_clone(text, alloc, &Sample::from_fields(fields))
+}
+
+// What is told of a sample of a clone of these fields, of one of the fields, and of its clone.
+fn told_with_copies(alloc: Global, fields: SampleFields<'_>) -> ParseResult<String> {
+    let mut text = String::new(alloc);
+    let of_a_clone = tell_copy(&mut text, sample_of_a_clone(alloc, &fields));
+    let of_the_fields = tell_fields(&mut text, alloc, fields);
+    of_a_clone?;
+    of_the_fields?;
+    Ok(text)
+}
+
+// The three lines of a sample and its copies: which task, when and of which event, the other
+// numbers, and the lists.
+macro_rules! copies {
+    ($($part:literal),+) => {
+        concat!($($part,)+ "\n", $($part,)+ "\n", $($part,)+ "\n")
     };
-    for branch in branches {
-        write!(
-            text,
-            "{} {} {} ",
-            branch.from(),
-            branch.to(),
-            branch.cycles()
-        )?;
-    }
-    write!(text, "of {}", branches.len())
-}
-
-// Writes which words registers have, their mask and their values, if there are any.
-fn tell_registers(text: &mut String, registers: Option<&Registers<'_>>) -> Result<(), AllocError> {
-    let Some(registers) = registers else {
-        return text.push_str("None");
-    };
-    let (abi, values) = (registers.abi.get(), registers.regs.as_slice());
-    write!(text, "{abi} {} {values:?}", registers.mask)
-}
-
-// Writes what the calls for lists answer.
-fn tell_lists(text: &mut String, sample: &Sample<'_>) -> Result<(), AllocError> {
-    tell_group(text, sample.values())?;
-    write!(text, ", {:?}, {:?}, ", sample.callchain(), sample.raw())?;
-    tell_branches(text, sample.lbr())?;
-    text.push_str(", ")?;
-    tell_registers(text, sample.regs_user())?;
-    write!(text, ", {:?}, ", sample.stack_user())?;
-    tell_registers(text, sample.regs_intr())?;
-    write!(text, ", {:?}", sample.aux())
-}
-
-// Asserts what lists a sample has.
-fn check_lists(rt: &(impl AllocGlobal + Abort), sample: &Sample<'_>, want: &str) {
-    let mut text = String::new(rt.alloc());
-    match tell_lists(&mut text, sample) {
-        Ok(()) => assert_eq!(rt; text.as_str(), want),
-        Err(_) => panic!(rt; "no memory"),
-    }
 }
 
 // Registers 0 and 2 of a task of 64 bits, with these values.
@@ -167,99 +167,33 @@ fn every_field(branches: &[BranchEntry]) -> SampleFields<'_> {
     }
 }
 
-const NO_LISTS: &str = "None, None, None, None, None, None, None, None";
-
-// Asserts what a sample answers.
-fn check_answers(
-    rt: &(impl AllocGlobal + Abort),
-    sample: &Sample<'_>,
-    origin: [Option<u64>; 9],
-    numbers: [Option<u64>; 8],
-    lists: &str,
-) {
-    check_same(rt, "origin", origin_of(sample), origin);
-    check_same(rt, "numbers", numbers_of(sample), numbers);
-    check_lists(rt, sample, lists);
+// What is told of a sample of every field, whose lists are of this form.
+macro_rules! every_field_told {
+    ($form:literal) => {
+        copies!(
+            "(([Some(101), Some(102), Some(103), Some(104), Some(105), Some(106), Some(107), \
+                Some(108), Some(109)], [Some(114), Some(122), Some(123), Some(124), Some(127), \
+                Some(131), Some(132), Some(133)]), (Some(ReadGroup { time_enabled: None, \
+                time_running: None, with_id: false, with_lost: false, words: ",
+            $form,
+            "([110]) }), Some([111, 112]), Some([113]), \
+                Some([BranchEntry { from: 115, to: 116, word: 1872 }]), \
+                Some(Registers { abi: SampleRegsAbi(2), mask: 5, regs: ",
+            $form,
+            "([118, 119]) }), Some([120, 121]), \
+                Some(Registers { abi: SampleRegsAbi(2), mask: 5, regs: ",
+            $form,
+            "([125, 126]) }), Some([128, 129, 130])))"
+        )
+    };
 }
-
-// A sample of a clone of these fields.
-fn sample_of_a_clone<'a>(alloc: Global, fields: &SampleFields<'a>) -> ParseResult<Sample<'a>> {
-    Ok(Sample::from_fields(fields.clone(alloc)?))
-}
-
-// Asserts what a copy of a sample answers.
-fn check_copy(
-    rt: &(impl AllocGlobal + Abort),
-    copy: ParseResult<Sample<'_>>,
-    origin: [Option<u64>; 9],
-    numbers: [Option<u64>; 8],
-    lists: &str,
-) {
-    match copy {
-        Ok(copy) => check_answers(rt, &copy, origin, numbers, lists),
-        Err(_) => panic!(rt; "no memory"),
-    }
-}
-
-// Asserts what a sample of these fields answers, the same of a clone of them, and its clone.
-fn check_sample(
-    rt: &(impl AllocGlobal + Abort),
-    fields: SampleFields<'_>,
-    origin: [Option<u64>; 9],
-    numbers: [Option<u64>; 8],
-    lists: &str,
-) {
-    check_copy(
-        rt,
-        sample_of_a_clone(rt.alloc(), &fields),
-        origin,
-        numbers,
-        lists,
-    );
-    let sample = Sample::from_fields(fields);
-    check_answers(rt, &sample, origin, numbers, lists);
-    check_copy(rt, sample.clone(rt.alloc()), origin, numbers, lists);
-}
-
-// Asserts what a sample id says that is made of a sample.
-fn check_id(rt: &impl Abort, id: SampleId) {
-    let task = (id.pid(), id.tid(), id.cpu());
-    check_same(rt, "task", task, (Some(102), Some(103), Some(108)));
-    let event = (id.time(), id.id(), id.stream_id());
-    check_same(rt, "event", event, (Some(104), Some(106), Some(107)));
-}
-
-// The origin, the numbers and the lists of a sample of every field.
-const ORIGIN: [Option<u64>; 9] = [
-    Some(101),
-    Some(102),
-    Some(103),
-    Some(104),
-    Some(105),
-    Some(106),
-    Some(107),
-    Some(108),
-    Some(109),
-];
-
-const NUMBERS: [Option<u64>; 8] = [
-    Some(114),
-    Some(122),
-    Some(123),
-    Some(124),
-    Some(127),
-    Some(131),
-    Some(132),
-    Some(133),
-];
-
-const LISTS: &str = "110 of 1, Some([111, 112]), Some([113]), 115 116 117 of 1, 2 5 [118, 119], \
-    Some([120, 121]), 2 5 [125, 126], Some([128, 129, 130])";
 
 #[test]
 fn a_sample_answers_each_of_its_fields(rt: HostRuntime) {
     let branches = [branch()];
-    check_sample(&rt, every_field(&branches), ORIGIN, NUMBERS, LISTS);
+    let want = every_field_told!("Borrowed");
+    let told = told_with_copies(rt.alloc(), every_field(&branches));
+    check_text(&rt, told, want);
 }
 
 // A list in memory of its own.
@@ -305,71 +239,122 @@ fn own_bytes(alloc: Global, fields: &mut SampleFields<'_>) -> ParseResult<()> {
     Ok(())
 }
 
-// Every field, with every list in memory of its own.
-fn every_field_owned(alloc: Global, branches: &[BranchEntry]) -> ParseResult<SampleFields<'_>> {
+// Puts each list in place, in memory of its own.
+fn own_lists<'a>(
+    alloc: Global,
+    fields: &mut SampleFields<'a>,
+    branches: &'a [BranchEntry],
+) -> ParseResult<()> {
+    own_groups(alloc, fields)?;
+    own_calls(alloc, fields, branches)?;
+    own_bytes(alloc, fields)
+}
+
+// What is told of a sample of every field that owns its lists.
+fn told_owned(alloc: Global, branches: &[BranchEntry]) -> ParseResult<String> {
     let mut fields = every_field(branches);
-    own_groups(alloc, &mut fields)?;
-    own_calls(alloc, &mut fields, branches)?;
-    own_bytes(alloc, &mut fields)?;
-    Ok(fields)
+    match own_lists(alloc, &mut fields, branches) {
+        Ok(()) => told_with_copies(alloc, fields),
+        Err(error) => Err(error),
+    }
 }
 
 #[test]
 fn a_sample_that_owns_its_lists_is_copied(rt: HostRuntime) {
     let branches = [branch()];
-    match every_field_owned(rt.alloc(), &branches) {
-        Ok(fields) => check_sample(&rt, fields, ORIGIN, NUMBERS, LISTS),
-        Err(_) => panic!(rt; "no memory"),
+    let want = every_field_told!("Owned");
+    check_text(&rt, told_owned(rt.alloc(), &branches), want);
+}
+
+// What is told of a sample of no more than these fields.
+fn told_alone(
+    alloc: Global,
+    task: (Option<u32>, Option<u32>),
+    index: Option<u64>,
+    branches: Option<CowSlice<'_, BranchEntry>>,
+) -> ParseResult<String> {
+    let mut fields = SampleFields::default();
+    fields.pid = task.0;
+    fields.tid = task.1;
+    fields.lbr_hw_index = index;
+    fields.lbr = branches;
+    told_with_copies(alloc, fields)
+}
+
+// A process, a thread and an index that are there alone or not, and what is told of their samples.
+const ALONE: [(Option<u32>, Option<u32>, Option<u64>, &str); 4] = [
+    (
+        None,
+        None,
+        None,
+        copies!(
+            "(([None, None, None, None, None, None, None, None, None], \
+            [None, None, None, None, None, None, None, None]), \
+            (None, None, None, None, None, None, None, None))"
+        ),
+    ),
+    (
+        Some(5),
+        None,
+        None,
+        copies!(
+            "(([None, Some(5), None, None, None, None, None, None, None], \
+            [None, None, None, None, None, None, None, None]), \
+            (None, None, None, None, None, None, None, None))"
+        ),
+    ),
+    (
+        None,
+        Some(6),
+        None,
+        copies!(
+            "(([None, None, Some(6), None, None, None, None, None, None], \
+            [None, None, None, None, None, None, None, None]), \
+            (None, None, None, None, None, None, None, None))"
+        ),
+    ),
+    (
+        None,
+        None,
+        Some(7),
+        copies!(
+            "(([None, None, None, None, None, None, None, None, None], \
+            [Some(7), None, None, None, None, None, None, None]), \
+            (None, None, None, None, None, None, None, None))"
+        ),
+    ),
+];
+
+#[test]
+fn a_sample_has_the_fields_alone_that_are_given(rt: HostRuntime) {
+    for (pid, tid, index, want) in ALONE {
+        check_text(&rt, told_alone(rt.alloc(), (pid, tid), index, None), want);
     }
 }
 
 #[test]
-fn a_sample_of_no_fields_answers_none(rt: HostRuntime) {
-    check_sample(&rt, SampleFields::default(), [None; 9], [None; 8], NO_LISTS);
-}
-
-#[test]
-fn a_process_needs_no_thread(rt: HostRuntime) {
-    let fields = SampleFields {
-        pid: Some(5),
-        ..SampleFields::default()
-    };
-    let mut origin = [None; 9];
-    origin[1] = Some(5);
-    check_sample(&rt, fields, origin, [None; 8], NO_LISTS);
-}
-
-#[test]
-fn a_thread_needs_no_process(rt: HostRuntime) {
-    let fields = SampleFields {
-        tid: Some(6),
-        ..SampleFields::default()
-    };
-    let mut origin = [None; 9];
-    origin[2] = Some(6);
-    check_sample(&rt, fields, origin, [None; 8], NO_LISTS);
-}
-
-#[test]
-fn an_index_needs_no_branches(rt: HostRuntime) {
-    let fields = SampleFields {
-        lbr_hw_index: Some(7),
-        ..SampleFields::default()
-    };
-    let mut numbers = [None; 8];
-    numbers[0] = Some(7);
-    check_sample(&rt, fields, [None; 9], numbers, NO_LISTS);
-}
-
-#[test]
 fn branches_need_no_index(rt: HostRuntime) {
+    let want = copies!(
+        "(([None, None, None, None, None, None, None, None, None], \
+            [None, None, None, None, None, None, None, None]), \
+            (None, None, None, Some([BranchEntry { from: 115, to: 116, word: 1872 }]), None, None, None, None))"
+    );
     let branches = [branch()];
-    let fields = SampleFields {
-        lbr: Some(CowSlice::Borrowed(&branches)),
-        ..SampleFields::default()
-    };
-    let lists = "None, None, None, 115 116 117 of 1, None, None, None, None";
-    check_sample(&rt, fields, [None; 9], [None; 8], lists);
+    let lent = Some(CowSlice::Borrowed(&branches));
+    let told = told_alone(rt.alloc(), (None, None), None, lent);
+    check_text(&rt, told, want);
+}
+
+// Asserts what a sample id says that is made of a sample.
+fn check_id(rt: &(impl AllocGlobal + Abort), id: SampleId) {
+    check_debug(
+        rt,
+        &(
+            (id.pid(), id.tid(), id.cpu()),
+            (id.time(), id.id(), id.stream_id()),
+        ),
+        "((Some(102), Some(103), Some(108)), (Some(104), Some(106), Some(107)))",
+    );
 }
 
 #[test]

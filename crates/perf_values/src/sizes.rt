@@ -1,15 +1,12 @@
 //! What values take that are made for each read.
 
-use crate::check;
+use crate::checks::check_debug;
 use perf_base::reads::ReadCounter;
 use perf_base::refusal::Refusal;
+use std::mem::size_of;
 
 #[test]
-fn a_count_of_reads_takes_no_bytes(rt: HostRuntime) {
-    check!(rt; std::mem::size_of::<ReadCounter>(), 0);
-}
-
-#[test]
-fn a_refusal_takes_two_bytes(rt: HostRuntime) {
-    check!(rt; std::mem::size_of::<Refusal>(), 2);
+fn a_count_of_reads_takes_no_bytes_and_a_refusal_two(rt: HostRuntime) {
+    let sizes = (size_of::<ReadCounter>(), size_of::<Refusal>());
+    check_debug(&rt, &sizes, "(0, 2)");
 }

@@ -1,113 +1,170 @@
 //! Flags, named numbers, branch entries and data sources.
 
-use crate::check;
+use crate::checks::{check_answers, check_debug, check_numbers};
 use bitflags::Flags;
-use perf_words::laws::{branch_type_by_number, read_format_by_number};
 use perf_words::{
     AuxFlags, AuxPmuFormatType, BranchEntry, BranchType, DataSource, KSymbolFlags, MemBlk, MemDtlb,
     MemLevel, MemLevelNum, MemLock, MemOp, MemSnoop, MemSnoopX, ReadFormat, SampleFlags,
     SampleRegsAbi, Txn,
 };
-use std::hash::{BuildHasherDefault, FoldHasher};
-use std::test::Fail;
+
+// What the calls of a data source answer, as numbers.
+fn numbers_of_source(source: DataSource) -> [u64; 10] {
+    [
+        source.mem_op().bits(),
+        source.mem_lvl().bits(),
+        source.mem_snoop().bits(),
+        source.mem_lock().bits(),
+        source.mem_dtlb().bits(),
+        u64::from(source.mem_lvl_num().get()),
+        u64::from(source.mem_remote()),
+        source.mem_blk().bits(),
+        u64::from(source.mem_hops()),
+        source.bits(),
+    ]
+}
+
+// What those of a load answer.
+fn numbers_of_load() -> [u64; 10] {
+    [
+        MemOp::LOAD.bits(),
+        MemLevel::HIT.union(MemLevel::L1).bits(),
+        MemSnoop::NONE.union(MemSnoop::FWD).bits(),
+        MemLock::empty().bits(),
+        MemDtlb::default().bits(),
+        u64::from(MemLevelNum::L1.get()),
+        0,
+        MemBlk::empty().bits(),
+        3,
+        0x1842_0010_0142,
+    ]
+}
 
 #[test]
 fn data_source_of_a_load(rt: HostRuntime) {
     let source = DataSource::from_word(0x1842_0010_0142);
-    check!(rt; source.mem_op(), MemOp::LOAD);
-    check!(rt; source.mem_lvl(), MemLevel::HIT.union(MemLevel::L1));
-    check!(rt; source.mem_snoop(), MemSnoop::NONE.union(MemSnoop::FWD));
-    check!(rt; source.mem_snoop().bits(), 0x40_0010_0000);
-    check!(rt; source.mem_lock(), MemLock::empty());
-    check!(rt; source.mem_dtlb(), MemDtlb::default());
-    check!(rt; source.mem_lvl_num(), MemLevelNum::L1);
-    check!(rt; !source.mem_remote());
-    check!(rt; source.mem_blk(), MemBlk::empty());
-    check!(rt; source.mem_hops(), 3);
-    check!(rt; source.bits(), 0x1842_0010_0142);
-    check!(rt; DataSource::default().bits(), 0);
+    check_numbers(&rt, &numbers_of_source(source), &numbers_of_load());
+    let numbers = [source.mem_snoop().bits(), DataSource::default().bits()];
+    check_numbers(&rt, &numbers, &[0x40_0010_0000, 0]);
+}
+
+// What the calls of a branch answer, as numbers.
+fn numbers_of_branch(branch: &BranchEntry) -> [u64; 8] {
+    [
+        branch.from(),
+        branch.to(),
+        u64::from(branch.mispred()),
+        u64::from(branch.predicted()),
+        u64::from(branch.in_tx()),
+        u64::from(branch.abort()),
+        u64::from(branch.cycles()),
+        u64::from(branch.ty().get()),
+    ]
 }
 
 #[test]
 fn branch_words(rt: HostRuntime) {
+    let ret = u64::from(BranchType::RET.get());
     let branch = BranchEntry::from_words(1, 2, 0x60_0051);
-    check!(rt; branch.from(), 1);
-    check!(rt; branch.to(), 2);
-    check!(rt; branch.mispred());
-    check!(rt; !branch.predicted());
-    check!(rt; !branch.in_tx());
-    check!(rt; !branch.abort());
-    check!(rt; branch.cycles(), 5);
-    check!(rt; branch.ty(), BranchType::RET);
-    check!(rt;
-        BranchEntry::from_words(0, 0, 0x51).ty(),
-        BranchType::UNKNOWN
+    check_numbers(
+        &rt,
+        &numbers_of_branch(&branch),
+        &[1, 2, 1, 0, 0, 0, 5, ret],
     );
+    let branch = BranchEntry::from_words(115, 116, 117 << 4);
+    check_numbers(
+        &rt,
+        &numbers_of_branch(&branch),
+        &[115, 116, 0, 0, 0, 0, 117, 0],
+    );
+    let unknown = u64::from(BranchType::UNKNOWN.get());
+    let branch = BranchEntry::from_words(0, 0, 0x51);
+    check_numbers(
+        &rt,
+        &numbers_of_branch(&branch),
+        &[0, 0, 1, 0, 0, 0, 5, unknown],
+    );
+}
+
+// How many numbers an entry has under read formats.
+fn element_lens() -> [usize; 4] {
+    [
+        ReadFormat::default().element_len(),
+        ReadFormat::ID.element_len(),
+        ReadFormat::GROUP.union(ReadFormat::LOST).element_len(),
+        ReadFormat::all().element_len(),
+    ]
 }
 
 #[test]
 fn numbers_inside_sets(rt: HostRuntime) {
-    check!(rt; ReadFormat::default().element_len(), 1);
-    check!(rt; ReadFormat::ID.element_len(), 2);
-    check!(rt; ReadFormat::GROUP.union(ReadFormat::LOST).element_len(), 2);
-    check!(rt; ReadFormat::all().element_len(), 3);
-    check!(rt;
-        AuxFlags::from_bits_retain(0x0103).pmu_format_type(),
-        AuxPmuFormatType::CORESIGHT_RAW
-    );
-    check!(rt; MemSnoop::new(u64::MAX, u64::MAX), MemSnoop::all());
-    check!(rt;
-        Txn::from_bits_retain(0xdead_beef_0000_0004).abort(),
-        0xdead_beef
-    );
+    check_debug(&rt, &element_lens(), "[1, 2, 2, 3]");
+    let format = AuxFlags::from_bits_retain(0x0103).pmu_format_type();
+    let abort = Txn::from_bits_retain(0xdead_beef_0000_0004).abort();
+    let numbers = [
+        u64::from(format.get()),
+        MemSnoop::new(u64::MAX, u64::MAX).bits(),
+        u64::from(abort),
+    ];
+    let want = [
+        u64::from(AuxPmuFormatType::CORESIGHT_RAW.get()),
+        MemSnoop::all().bits(),
+        0xdead_beef,
+    ];
+    check_numbers(&rt, &numbers, &want);
 }
 
 // A bit or a number without a name is kept.
 #[test]
 fn unnamed_is_kept(rt: HostRuntime) {
-    check!(rt; SampleFlags::from_bits_retain(1 << 63).bits(), 1 << 63);
-    check!(rt; KSymbolFlags::from_bits_retain(0x8001).bits(), 0x8001);
-    check!(rt; MemSnoopX::from_bits_retain(7).bits(), 7);
-    check!(rt; BranchType::new(8).get(), 8);
-    check!(rt; SampleRegsAbi::new(u64::MAX).get(), u64::MAX);
+    let numbers = [
+        SampleFlags::from_bits_retain(1 << 63).bits(),
+        u64::from(KSymbolFlags::from_bits_retain(0x8001).bits()),
+        MemSnoopX::from_bits_retain(7).bits(),
+        u64::from(BranchType::new(8).get()),
+        SampleRegsAbi::new(u64::MAX).get(),
+    ];
+    check_numbers(&rt, &numbers, &[1 << 63, 0x8001, 7, 8, u64::MAX]);
+}
+
+// The bits of flags, if there are any of that name.
+fn bits_named(name: &str) -> Option<u64> {
+    match SampleFlags::from_name(name) {
+        Some(flags) => Some(flags.bits()),
+        None => None,
+    }
 }
 
 #[test]
 fn names(rt: HostRuntime) {
-    check!(rt;
-        SampleFlags::from_name("CODE_PAGE_SIZE"),
-        Some(SampleFlags::CODE_PAGE_SIZE)
-    );
-    check!(rt; SampleFlags::from_name("PERF_SAMPLE_IP"), None);
-    check!(rt; SampleFlags::all().bits(), 0x1ff_ffff);
-    let named = MemLevelNum::names();
-    check!(rt; named[8].0, "NA");
-    check!(rt; named[8].1.get(), 15);
+    let (name, level) = MemLevelNum::names()[8];
+    let numbers = [
+        bits_named("CODE_PAGE_SIZE"),
+        bits_named("PERF_SAMPLE_IP"),
+        Some(SampleFlags::all().bits()),
+        Some(u64::from(level.get())),
+    ];
+    let code_page_size = Some(SampleFlags::CODE_PAGE_SIZE.bits());
+    let want = [code_page_size, None, Some(0x1ff_ffff), Some(15)];
+    check_answers(&rt, &numbers, &want);
+    check_debug(&rt, &name, "\"NA\"");
 }
 
 #[test]
-fn equal_numbers_hash_alike(rt: HostRuntime) {
-    let hashing = BuildHasherDefault::<FoldHasher>::new();
-    let sets = read_format_by_number(&hashing, ReadFormat::ID, ReadFormat::from_bits_retain(4));
-    check!(rt; sets.equal);
-    check!(rt; sets.first_hash, sets.second_hash);
-    let numbers = branch_type_by_number(&hashing, BranchType::CALL, BranchType::RET);
-    check!(rt; !numbers.equal);
-}
-
-#[test]
-fn debug_texts(rt: HostRuntime) -> Result<(), Fail> {
-    let alloc = rt.alloc();
-    let set = format!(in alloc; "{:?}", SampleFlags::TIME)?;
-    check!(rt; set.as_str(), "SampleFlags(4)");
-    let number = format!(in alloc; "{:?}", BranchType::RET)?;
-    check!(rt; number.as_str(), "BranchType(6)");
-    let branch = format!(in alloc; "{:?}", BranchEntry::from_words(1, 2, 3))?;
-    check!(rt; branch.as_str(), "BranchEntry { from: 1, to: 2, word: 3 }");
-    let source = format!(in alloc; "{:?}", DataSource::from_word(2))?;
-    check!(rt;
-        source.as_str(),
-        "DataSource { mem_op: MemOp(2), mem_lvl: MemLevel(0), mem_snoop: MemSnoop(0), mem_lock: MemLock(0), mem_dtlb: MemDtlb(0), mem_lvl_num: MemLevelNum(0), mem_remote: false, mem_blk: MemBlk(0), mem_hops: 0 }"
+fn debug_texts(rt: HostRuntime) {
+    let branch = BranchEntry::from_words(1, 2, 3);
+    let words = (
+        SampleFlags::TIME,
+        BranchType::RET,
+        branch,
+        DataSource::from_word(2),
     );
-    Ok(())
+    check_debug(
+        &rt,
+        &words,
+        "(SampleFlags(4), BranchType(6), BranchEntry { from: 1, to: 2, word: 3 }, DataSource { \
+            mem_op: MemOp(2), mem_lvl: MemLevel(0), mem_snoop: MemSnoop(0), mem_lock: MemLock(0), \
+            mem_dtlb: MemDtlb(0), mem_lvl_num: MemLevelNum(0), mem_remote: false, \
+            mem_blk: MemBlk(0), mem_hops: 0 })",
+    );
 }
