@@ -5,7 +5,7 @@ use anyhow::{Context, Result, bail};
 use perf_event_data::endian::Little;
 use perf_event_data::sys::perf_event_attr;
 use perf_testing::asks::tell_asked;
-use perf_testing::runs::{tell_behind, tell_everywhere, tell_lent_in};
+use perf_testing::runs::{tell_behind, tell_everywhere, tell_shown};
 use perf_testing::sample_bytes::{Part, put_parts, tell_sample_bytes};
 use std::alloc::{AllocError, Global};
 
@@ -47,7 +47,7 @@ impl<'a> Case<'a> {
     pub fn set(&mut self, word: &'a str, rest: &'a str) -> Result<()> {
         match word {
             "under" => self.attr = attribute(rest)?,
-            "run" | "behind" | "ask" | "lent" | "sample" | "perfrec" => {
+            "run" | "behind" | "ask" | "shown" | "sample" | "perfrec" => {
                 self.how = word;
                 self.asked = rest;
             }
@@ -100,7 +100,7 @@ impl<'a> Case<'a> {
             "ask" => Ok(tell_asked(self.alloc, &self.little, self.attr, self.asked)?),
             "run" => self.told_runs(),
             "behind" => Ok(tell_behind(self.alloc, &self.little, &self.limits()?)?),
-            "lent" => Ok(tell_lent_in(self.alloc, &self.little)?),
+            "shown" => Ok(tell_shown(self.alloc, &self.little)?),
             "sample" => self.told_sample(),
             "perfrec" => perfrec::told(self.alloc, self.asked, &self.little),
             _ => bail!("nothing is asked in {}", self.name),

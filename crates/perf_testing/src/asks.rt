@@ -2,7 +2,7 @@
 
 use crate::everywhere::{Says, say_everywhere};
 use crate::told::{
-    Tell, tell_bytes, tell_config, tell_error, tell_from_both_ends, tell_group, tell_rest,
+    tell_config, tell_error, tell_frame, tell_from_both_ends, tell_group, tell_record,
     tell_semicolon, tell_spaces,
 };
 use perf_event_data::endian::{Endian, Little, Native};
@@ -15,15 +15,9 @@ use perf_event_data::{
     RecordMetadata, SampleId, SwitchCpuWide, Throttle,
 };
 use std::alloc::{AllocError, Global};
-use std::fmt::{Debug, Radix};
+use std::fmt::Debug;
 
-fn tell_hex<T: Radix + Copy>(text: &mut String, answer: ParseResult<T>) -> Result<(), AllocError> {
-    match answer {
-        Ok(value) => write!(text, "{value:#x}"),
-        Err(error) => tell_error(text, &error),
-    }
-}
-
+// A value, or the kind of a refusal.
 fn tell_debug<T: Debug + Drop>(
     text: &mut String,
     answer: ParseResult<T>,
@@ -32,14 +26,6 @@ fn tell_debug<T: Debug + Drop>(
         Ok(value) => write!(text, "{value:?}"),
         Err(error) => tell_error(text, &error),
     }
-}
-
-// A number as a type, in hexadecimal digits.
-fn tell_number<'p, B: ParseBuf<'p>, E: Endian, P: Parse<'p, B> + Radix + Copy>(
-    text: &mut String,
-    parser: &mut Parser<B, E>,
-) -> Result<(), AllocError> {
-    tell_hex(text, parser.parse::<P>())
 }
 
 // A value of a type.
@@ -63,21 +49,22 @@ fn tell_repeated<'p, B: ParseBuf<'p>, E: Endian, P: Parse<'p, B> + Debug + Drop>
     parser: &mut Parser<B, E>,
     len: usize,
 ) -> Result<(), AllocError> {
-    match parser.parse_repeated::<P>(len) {
-        Ok(items) => write!(text, "{:?}", items.as_slice()),
+    tell_debug(text, parser.parse_repeated::<P>(len))
+}
+
+// Bytes, whoever has them.
+fn tell_rest(text: &mut String, answer: ParseResult<CowSlice<'_, u8>>) -> Result<(), AllocError> {
+    match answer {
+        Ok(bytes) => write!(text, "{:?}", bytes.as_slice()),
         Err(error) => tell_error(text, &error),
     }
 }
 
-fn tell_slice<'p, B: ParseBuf<'p>, E: Endian>(
-    text: &mut String,
-    parser: &mut Parser<B, E>,
-    len: usize,
-) -> Result<(), AllocError> {
-    match parser.parse_slice::<u64>(len) {
-        Ok(CowSlice::Owned(items)) => write!(text, "owned {:?}", items.as_slice()),
-        Ok(CowSlice::Borrowed(items)) => write!(text, "borrowed {items:?}"),
-        Err(error) => tell_error(text, &error),
+// Bytes, and of none whether they are owned.
+fn tell_bytes(text: &mut String, answer: ParseResult<CowSlice<'_, u8>>) -> Result<(), AllocError> {
+    match answer {
+        Ok(CowSlice::Owned(bytes)) if bytes.is_empty() => text.push_str("owned []"),
+        other => tell_rest(text, other),
     }
 }
 
@@ -89,14 +76,14 @@ fn tell_simple<'p, B: ParseBuf<'p>, E: Endian>(
     count: usize,
 ) -> Result<(), AllocError> {
     match name {
-        "parse_u8" => tell_hex(text, parser.parse_u8()),
-        "parse_u16" => tell_hex(text, parser.parse_u16()),
-        "parse_u32" => tell_hex(text, parser.parse_u32()),
-        "parse_u64" => tell_hex(text, parser.parse_u64()),
-        "u8" => tell_number::<B, E, u8>(text, parser),
-        "u16" => tell_number::<B, E, u16>(text, parser),
-        "u32" => tell_number::<B, E, u32>(text, parser),
-        "u64" => tell_number::<B, E, u64>(text, parser),
+        "parse_u8" => tell_debug(text, parser.parse_u8()),
+        "parse_u16" => tell_debug(text, parser.parse_u16()),
+        "parse_u32" => tell_debug(text, parser.parse_u32()),
+        "parse_u64" => tell_debug(text, parser.parse_u64()),
+        "u8" => tell_value::<B, E, u8>(text, parser),
+        "u16" => tell_value::<B, E, u16>(text, parser),
+        "u32" => tell_value::<B, E, u32>(text, parser),
+        "u64" => tell_value::<B, E, u64>(text, parser),
         _ => tell_other(text, parser, name, count),
     }
 }
@@ -132,7 +119,7 @@ fn tell_list<'p, B: ParseBuf<'p>, E: Endian>(
         "parse_repeated_u8" => tell_repeated::<B, E, u8>(text, parser, count),
         "parse_repeated_u16" => tell_repeated::<B, E, u16>(text, parser, count),
         "parse_repeated_u64" => tell_repeated::<B, E, u64>(text, parser, count),
-        "parse_slice_u64" => tell_slice(text, parser, count),
+        "parse_slice_u64" => tell_debug(text, parser.parse_slice::<u64>(count)),
         "parse_bytes" => tell_bytes(text, parser.parse_bytes(count)),
         "parse_rest_trim_nul" => tell_rest(text, parser.parse_rest_trim_nul()),
         "parse_rest" => tell_rest(text, parser.parse_rest()),
@@ -140,62 +127,36 @@ fn tell_list<'p, B: ParseBuf<'p>, E: Endian>(
     }
 }
 
-// A body or what stands beside a record.
-fn tell_parsed<'p, B: ParseBuf<'p>, E: Endian, P: Parse<'p, B> + Tell + Drop>(
-    text: &mut String,
-    parser: &mut Parser<B, E>,
-) -> Result<(), AllocError> {
-    match parser.parse::<P>() {
-        Ok(value) => value.tell(text),
-        Err(error) => tell_error(text, &error),
-    }
-}
-
-fn tell_comm<'p, B: ParseBuf<'p>, E: Endian>(
-    text: &mut String,
-    parser: &mut Parser<B, E>,
-) -> Result<(), AllocError> {
-    match parser.parse::<Comm<'p>>() {
+// A name as text, and the record.
+fn tell_comm(text: &mut String, answer: ParseResult<Comm<'_>>) -> Result<(), AllocError> {
+    match answer {
         Ok(named) => {
-            named.tell(text)?;
-            write!(text, " {:?}", named.comm_os())
+            write!(text, "{:?} ", named.comm_os())?;
+            tell_record(text, &Ok(Record::from(named)))
         }
         Err(error) => tell_error(text, &error),
     }
 }
 
-fn tell_mmap<'p, B: ParseBuf<'p>, E: Endian>(
-    text: &mut String,
-    parser: &mut Parser<B, E>,
-) -> Result<(), AllocError> {
-    match parser.parse::<Mmap<'p>>() {
-        Ok(map) => {
-            map.tell(text)?;
-            write!(text, " {:?}", map.filename_os())
+fn tell_mmap(text: &mut String, answer: ParseResult<Mmap<'_>>) -> Result<(), AllocError> {
+    match answer {
+        Ok(mapped) => {
+            write!(text, "{:?} ", mapped.filename_os())?;
+            tell_record(text, &Ok(Record::from(mapped)))
         }
         Err(error) => tell_error(text, &error),
     }
 }
 
-// A header, and the record behind it.
+// The record behind a header that is parsed before.
 fn tell_behind_header<'p, B: ParseBuf<'p>, E: Endian>(
     text: &mut String,
     parser: &mut Parser<B, E>,
 ) -> Result<(), AllocError> {
     match parser.parse::<perf_event_header>() {
         Ok(header) => {
-            header.tell(text)?;
-            tell_found(text, Record::parse_with_header(parser, header))
-        }
-        Err(error) => tell_error(text, &error),
-    }
-}
-
-fn tell_found(text: &mut String, answer: ParseResult<Record<'_>>) -> Result<(), AllocError> {
-    match answer {
-        Ok(record) => {
-            text.push_str(" ")?;
-            record.tell(text)
+            let answer = Record::parse_with_header(parser, header);
+            tell_frame(text, 0, &header, &answer)
         }
         Err(error) => tell_error(text, &error),
     }
@@ -208,32 +169,11 @@ pub fn next_record<'p, B: ParseBuf<'p>, E: Endian>(
     parser.parse()
 }
 
-// A record, or the kind of its refusal.
-fn tell_record<'p, B: ParseBuf<'p>, E: Endian>(
-    text: &mut String,
-    parser: &mut Parser<B, E>,
-) -> Result<(), AllocError> {
-    next_record(parser).tell(text)
-}
-
-// A record, or what its refusal says.
-fn tell_why<'p, B: ParseBuf<'p>, E: Endian>(
-    text: &mut String,
-    parser: &mut Parser<B, E>,
-) -> Result<(), AllocError> {
-    match next_record(parser) {
-        Ok(record) => record.tell(text),
+// What the refusal of a record says.
+fn tell_why(text: &mut String, answer: ParseResult<Record<'_>>) -> Result<(), AllocError> {
+    match answer {
+        Ok(_) => text.push_str("not refused"),
         Err(error) => write!(text, "{error}"),
-    }
-}
-
-fn tell_spaces_of_record<'p, B: ParseBuf<'p>, E: Endian>(
-    text: &mut String,
-    parser: &mut Parser<B, E>,
-) -> Result<(), AllocError> {
-    match next_record(parser) {
-        Ok(record) => tell_spaces(text, &record),
-        Err(error) => tell_error(text, &error),
     }
 }
 
@@ -244,43 +184,20 @@ pub fn next_group<'p, B: ParseBuf<'p>, E: Endian>(
     parser.parse()
 }
 
-fn tell_both_ends<'p, B: ParseBuf<'p>, E: Endian>(
-    text: &mut String,
-    parser: &mut Parser<B, E>,
-) -> Result<(), AllocError> {
-    match next_group(parser) {
-        Ok(group) => tell_from_both_ends(text, &group),
-        Err(error) => tell_error(text, &error),
-    }
-}
-
-fn tell_group_of<'p, B: ParseBuf<'p>, E: Endian>(
-    text: &mut String,
-    parser: &mut Parser<B, E>,
-) -> Result<(), AllocError> {
-    match next_group(parser) {
-        Ok(group) => tell_group(text, group),
-        Err(error) => tell_error(text, &error),
-    }
-}
-
 fn tell_body<'p, B: ParseBuf<'p>, E: Endian>(
     text: &mut String,
     parser: &mut Parser<B, E>,
     name: &str,
 ) -> Result<(), AllocError> {
     match name {
-        "Comm" => tell_comm(text, parser),
-        "Exit" => tell_parsed::<B, E, Exit>(text, parser),
-        "Lost" => tell_parsed::<B, E, Lost>(text, parser),
-        "LostSamples" => tell_parsed::<B, E, LostSamples>(text, parser),
-        "Mmap" => tell_mmap(text, parser),
-        "Read" => tell_parsed::<B, E, Read>(text, parser),
-        "SwitchCpuWide" => tell_parsed::<B, E, SwitchCpuWide>(text, parser),
-        "Throttle" => tell_parsed::<B, E, Throttle>(text, parser),
-        "ReadValue" => tell_parsed::<B, E, ReadValue>(text, parser),
-        "ReadGroup" => tell_group_of(text, parser),
-        "both_ends" => tell_both_ends(text, parser),
+        "Comm" => tell_comm(text, parser.parse()),
+        "Exit" => tell_value::<B, E, Exit>(text, parser),
+        "Lost" => tell_value::<B, E, Lost>(text, parser),
+        "LostSamples" => tell_value::<B, E, LostSamples>(text, parser),
+        "Mmap" => tell_mmap(text, parser.parse()),
+        "Read" => tell_value::<B, E, Read>(text, parser),
+        "SwitchCpuWide" => tell_value::<B, E, SwitchCpuWide>(text, parser),
+        "Throttle" => tell_value::<B, E, Throttle>(text, parser),
         _ => tell_beside(text, parser, name),
     }
 }
@@ -293,13 +210,16 @@ fn tell_beside<'p, B: ParseBuf<'p>, E: Endian>(
     name: &str,
 ) -> Result<(), AllocError> {
     match name {
-        "perf_event_attr" => tell_parsed::<B, E, perf_event_attr>(text, parser),
-        "SampleId" => tell_parsed::<B, E, SampleId>(text, parser),
+        "ReadValue" => tell_value::<B, E, ReadValue>(text, parser),
+        "ReadGroup" => tell_group(text, next_group(parser)),
+        "both_ends" => tell_from_both_ends(text, next_group(parser)),
+        "perf_event_attr" => tell_value::<B, E, perf_event_attr>(text, parser),
+        "SampleId" => tell_value::<B, E, SampleId>(text, parser),
         "config" => tell_config(text, parser.config()),
-        "Record" => tell_record(text, parser),
+        "Record" => tell_record(text, &next_record(parser)),
         "parse_with_header" => tell_behind_header(text, parser),
-        "why" => tell_why(text, parser),
-        "namespaces" => tell_spaces_of_record(text, parser),
+        "why" => tell_why(text, next_record(parser)),
+        "namespaces" => tell_spaces(text, &next_record(parser)),
         _ => write!(text, "what is {name}?"),
     }
 }
@@ -333,7 +253,7 @@ fn tell_answers<'p, B: ParseBuf<'p>, E: Endian>(
 }
 
 // What is known of a frame beside its record, and what the parser of its body answers.
-fn tell_frame<'p, E: Endian>(
+fn tell_inside<'p, E: Endian>(
     text: &mut String,
     answer: ParseResult<(Parser<ParseBufCursor<'p>, E>, RecordMetadata)>,
     words: &str,
@@ -341,14 +261,14 @@ fn tell_frame<'p, E: Endian>(
     tell_semicolon(text)?;
     match answer {
         Ok((mut inner, metadata)) => {
-            metadata.tell(text)?;
+            write!(text, "{metadata:?}")?;
             tell_answers(text, &mut inner, words)
         }
         Err(error) => tell_error(text, &error),
     }
 }
 
-fn tell_frame_behind_header<'p, B: ParseBuf<'p>, E: Endian>(
+fn tell_inside_behind_header<'p, B: ParseBuf<'p>, E: Endian>(
     text: &mut String,
     parser: &mut Parser<B, E>,
     words: &str,
@@ -356,8 +276,8 @@ fn tell_frame_behind_header<'p, B: ParseBuf<'p>, E: Endian>(
     tell_semicolon(text)?;
     match parser.parse::<perf_event_header>() {
         Ok(header) => {
-            header.tell(text)?;
-            tell_frame(text, parser.parse_metadata_with_header(header), words)
+            write!(text, "{header:?}")?;
+            tell_inside(text, parser.parse_metadata_with_header(header), words)
         }
         Err(error) => tell_error(text, &error),
     }
@@ -371,8 +291,8 @@ fn tell_part<'p, B: ParseBuf<'p>, E: Endian>(
 ) -> Result<(), AllocError> {
     let (first, words) = part.split_once(' ').unwrap_or((part, ""));
     match first {
-        "parse_metadata" => tell_frame(text, parser.parse_metadata(), words),
-        "parse_metadata_with_header" => tell_frame_behind_header(text, parser, words),
+        "parse_metadata" => tell_inside(text, parser.parse_metadata(), words),
+        "parse_metadata_with_header" => tell_inside_behind_header(text, parser, words),
         _ => tell_answers(text, parser, part),
     }
 }

@@ -10,4 +10,3 @@ pub mod orders;
 pub mod runs;
 pub mod sample_bytes;
 pub mod told;
-pub mod told_samples;

@@ -1,55 +1,54 @@
 //! Runs over streams as text.
 
+use crate::asks::next_record;
 use crate::everywhere::{Says, say_everywhere};
-use crate::told::{Tell, tell_config, tell_error, tell_lent, tell_semicolon};
+use crate::told::{tell_config, tell_error, tell_frame};
 use perf_event_data::endian::{Endian, Little, Native};
-use perf_event_data::parse::{ParseBuf, ParseConfig, ParseResult, Parser};
-use perf_event_data::sys::perf_event_attr;
+use perf_event_data::parse::{ParseBuf, ParseConfig, ParseError, ParseResult, Parser};
+use perf_event_data::sys::{perf_event_attr, perf_event_header};
 use perf_event_data::{Record, Run, RunEnd, read_records};
 use std::alloc::{AllocError, Global};
 
-// Writes what a record says, and where its clone says something else, that too.
-fn tell_with_clone(
-    alloc: Global,
-    text: &mut String,
-    record: &Record<'_>,
-) -> Result<(), AllocError> {
-    let mut told = String::new(alloc);
-    record.tell(&mut told)?;
-    text.push_str(told.as_str())?;
-    match record.clone(alloc) {
-        Ok(copy) => tell_if_other(alloc, text, &copy, told.as_str()),
-        Err(error) => tell_error(text, &error),
-    }
-}
+// A frame's header and the answer to it.
+type Frame<'a> = (perf_event_header, ParseResult<Record<'a>>);
 
-// Writes what a copy says where it is not this.
-fn tell_if_other(
-    alloc: Global,
-    text: &mut String,
-    copy: &Record<'_>,
-    told: &str,
-) -> Result<(), AllocError> {
-    let mut again = String::new(alloc);
-    copy.tell(&mut again)?;
-    if again.as_str() != told {
-        write!(text, " and not {again}")?;
+// Writes each frame as its line, with semicolons behind them.
+fn tell_frames(text: &mut String, frames: &[Frame<'_>]) -> Result<(), AllocError> {
+    for (index, (header, answer)) in frames.iter().enumerate() {
+        tell_frame(text, index, header, answer)?;
+        text.push_str("; ")?;
     }
     Ok(())
 }
 
-// Writes each frame of a run as `type misc size answer; `, and then how the run ended.
-fn tell_run(alloc: Global, text: &mut String, run: &Run<'_>) -> Result<(), AllocError> {
-    for (header, answer) in run.frames.iter() {
-        header.tell(text)?;
-        text.push_str(" ")?;
-        match answer {
-            Ok(record) => tell_with_clone(alloc, text, record)?,
-            Err(error) => tell_error(text, error)?,
-        }
-        text.push_str("; ")?;
+// The same frames, with a clone of each record.
+fn clones<'a>(alloc: Global, frames: &[Frame<'a>]) -> Result<Vec<Frame<'a>>, AllocError> {
+    let mut copies = Vec::new(alloc);
+    for (header, answer) in frames {
+        let copy = match answer {
+            Ok(record) => record.clone(alloc),
+            Err(error) => Err(ParseError::custom(error.kind(), "")),
+        };
+        copies.push((*header, copy))?;
     }
-    match &run.end {
+    Ok(copies)
+}
+
+// Writes each frame of a run, where clones of its records say something else, that too, and how the
+// run ended.
+fn tell_run(alloc: Global, text: &mut String, run: &Run<'_>) -> Result<(), AllocError> {
+    let (mut told, mut again) = (String::new(alloc), String::new(alloc));
+    tell_frames(&mut told, &run.frames)?;
+    tell_frames(&mut again, &clones(alloc, &run.frames)?)?;
+    text.push_str(told.as_str())?;
+    if again.as_str() != told.as_str() {
+        write!(text, "and not {again}")?;
+    }
+    tell_end(text, &run.end)
+}
+
+fn tell_end(text: &mut String, end: &RunEnd) -> Result<(), AllocError> {
+    match end {
         RunEnd::Limit => text.push_str("limit"),
         RunEnd::Done => text.push_str("done"),
         RunEnd::CutHeader => text.push_str("cut"),
@@ -181,16 +180,17 @@ pub fn tell_everywhere<E: Endian + Copy>(
     )
 }
 
-/// The bytes of each record of a run over a slice, and whether they are those of the slice.
-pub fn tell_lent_in(alloc: Global, bytes: &[u8]) -> Result<String, AllocError> {
+/// What `{:?}` shows of the records of a slice, one behind another, and why there is no further one.
+/// Bytes that are those of the slice are `Borrowed`.
+pub fn tell_shown(alloc: Global, bytes: &[u8]) -> Result<String, AllocError> {
     let mut parser = Parser::new(alloc, bytes, ParseConfig::<Little>::default());
     let mut text = String::new(alloc);
-    for (_, answer) in read_records(&mut parser, 10).frames.iter() {
-        match answer {
-            Ok(record) => tell_lent(&mut text, record)?,
+    for _ in 0..=bytes.len() {
+        match next_record(&mut parser) {
+            Ok(record) => write!(text, "{record:?}; ")?,
             Err(error) => {
-                tell_semicolon(&mut text)?;
-                tell_error(&mut text, error)?;
+                tell_error(&mut text, &error)?;
+                break;
             }
         }
     }

@@ -2,11 +2,10 @@
 
 use crate::everywhere::{Says, say_everywhere};
 use crate::runs::tell_everywhere;
-use crate::told::tell_error;
-use crate::told_samples::tell_sample;
-use perf_event_data::Sample;
+use crate::told::{tell_error, tell_record};
+use perf_event_data::Record;
 use perf_event_data::endian::{Big, Endian, Little, Native};
-use perf_event_data::parse::{ParseBuf, ParseConfig, Parser};
+use perf_event_data::parse::{ParseBuf, ParseConfig, ParseResult, Parser};
 use perf_event_data::sys::perf_event_attr;
 use std::alloc::{AllocError, Global};
 
@@ -39,15 +38,12 @@ pub fn put_parts(bytes: &mut Vec<u8>, is_big: bool, parts: &[Part]) -> Result<()
     Ok(())
 }
 
-// The next sample, or the kind of the refusal.
-fn tell_next<'p, B: ParseBuf<'p>, E: Endian>(
-    text: &mut String,
+// The next sample, as a record.
+fn next_sample<'p, B: ParseBuf<'p>, E: Endian>(
+    alloc: Global,
     parser: &mut Parser<B, E>,
-) -> Result<(), AllocError> {
-    match parser.parse::<Sample<'p>>() {
-        Ok(sample) => tell_sample(text, &sample),
-        Err(error) => tell_error(text, &error),
-    }
+) -> ParseResult<Record<'p>> {
+    Record::from_sample(alloc, parser.parse()?)
 }
 
 // How many bytes are left, where these are not as many as they should be.
@@ -63,18 +59,6 @@ fn tell_left<'p, B: ParseBuf<'p>, E: Endian>(
     }
 }
 
-fn tell_body<'p, B: ParseBuf<'p>, E: Endian>(
-    text: &mut String,
-    parser: &mut Parser<B, E>,
-    left: usize,
-) -> Result<(), AllocError> {
-    tell_next(text, parser)?;
-    if text.starts_with("Sample") {
-        tell_left(text, parser, left)?;
-    }
-    Ok(())
-}
-
 // What a parser says of a body. Behind a sample so many bytes are left.
 fn told<'p, B: ParseBuf<'p> + Drop, E: Endian>(
     alloc: Global,
@@ -86,7 +70,10 @@ fn told<'p, B: ParseBuf<'p> + Drop, E: Endian>(
     let config = ParseConfig::<Native>::from(attr).with_endian(endian);
     let mut parser = Parser::new(alloc, buf, config);
     let mut text = String::new(alloc);
-    tell_body(&mut text, &mut parser, left)?;
+    tell_record(&mut text, &next_sample(alloc, &mut parser))?;
+    if text.starts_with("Sample") {
+        tell_left(&mut text, &mut parser, left)?;
+    }
     Ok(text)
 }
 
@@ -136,7 +123,7 @@ fn add_frames<E: Endian + Copy>(
 ) -> Result<(), AllocError> {
     let bytes = frames(alloc, is_big, body)?;
     let size = body.len().saturating_add(8);
-    let want = format!(in alloc; "9 2 {size} {text}; 13 0 16 LostSamples 5; done")?;
+    let want = format!(in alloc; "0 9 2 {size} {text}; 1 13 0 16 LostSamples lost=5; done")?;
     let said = tell_everywhere(alloc, &bytes, endian, attr, &[10])?;
     if said.as_str() != want.as_str() {
         write!(text, " but {said}")?;

@@ -1,55 +1,15 @@
 //! Values as text.
 
-use crate::told_samples::tell_sample;
 use bitflags::Flags;
 use perf_event_data::parse::{ParseConfig, ParseError, ParseResult};
-use perf_event_data::sys::{perf_event_attr, perf_event_header};
-use perf_event_data::{
-    Comm, CowSlice, Exit, GroupEntry, GroupIter, KSymbol, Lost, LostSamples, Mmap, Mmap2,
-    Namespaces, Read, ReadGroup, ReadValue, Record, RecordMetadata, SampleId, SwitchCpuWide,
-    Throttle,
-};
+use perf_event_data::sys::perf_event_header;
+use perf_event_data::{GroupIter, ReadGroup, ReadValue, Record, Registers, Sample};
+use perf_lines::line::line_of;
 use std::alloc::AllocError;
 
 /// What is written of a value.
 pub trait Tell {
     fn tell(&self, text: &mut String) -> Result<(), AllocError>;
-}
-
-/// Writes the kind of a refusal.
-pub fn tell_error(text: &mut String, error: &ParseError) -> Result<(), AllocError> {
-    write!(text, "{:?}", error.kind())
-}
-
-/// Writes bytes, whoever has them.
-pub fn tell_rest(
-    text: &mut String,
-    answer: ParseResult<CowSlice<'_, u8>>,
-) -> Result<(), AllocError> {
-    match answer {
-        Ok(bytes) => write!(text, "{:?}", bytes.as_slice()),
-        Err(error) => tell_error(text, &error),
-    }
-}
-
-/// Writes bytes, and of none whether they are owned.
-pub fn tell_bytes(
-    text: &mut String,
-    answer: ParseResult<CowSlice<'_, u8>>,
-) -> Result<(), AllocError> {
-    match answer {
-        Ok(CowSlice::Owned(bytes)) if bytes.is_empty() => text.push_str("owned []"),
-        Ok(bytes) => write!(text, "{:?}", bytes.as_slice()),
-        Err(error) => tell_error(text, &error),
-    }
-}
-
-// A name as text, in the tests always UTF-8.
-fn name_of(bytes: &[u8]) -> &str {
-    match std::str::from_utf8(bytes) {
-        Ok(name) => name,
-        Err(_) => "(not UTF-8)",
-    }
 }
 
 impl Tell for &str {
@@ -60,255 +20,73 @@ impl Tell for &str {
 
 impl Tell for ParseResult<Record<'_>> {
     fn tell(&self, text: &mut String) -> Result<(), AllocError> {
-        match self {
-            Ok(record) => record.tell(text),
-            Err(error) => tell_error(text, error),
-        }
+        tell_record(text, self)
     }
 }
 
-impl Tell for perf_event_header {
-    fn tell(&self, text: &mut String) -> Result<(), AllocError> {
-        write!(text, "{} {} {}", self.type_, self.misc, self.size)
+/// Writes the kind of a refusal.
+pub fn tell_error(text: &mut String, error: &ParseError) -> Result<(), AllocError> {
+    write!(text, "{:?}", error.kind())
+}
+
+/// Writes the line of a frame as `perfrec` has it, and what that leaves out.
+pub fn tell_frame(
+    text: &mut String,
+    index: usize,
+    header: &perf_event_header,
+    answer: &ParseResult<Record<'_>>,
+) -> Result<(), AllocError> {
+    match line_of(*text.allocator(), index, header, answer) {
+        Ok(line) => text.push_str(line.as_str())?,
+        Err(_) => return Err(AllocError),
+    }
+    tell_left_out(text, answer)
+}
+
+/// Writes the same of a record alone, of whose header nothing is said.
+pub fn tell_record(text: &mut String, answer: &ParseResult<Record<'_>>) -> Result<(), AllocError> {
+    let mut line = String::new(*text.allocator());
+    tell_frame(&mut line, 0, &perf_event_header::default(), answer)?;
+    let told = line.as_str().strip_prefix("0 0 0 0 ");
+    text.push_str(told.unwrap_or("(no frame of zeros)"))
+}
+
+// Writes what a line does not say: the type of an unknown record, and some things of a sample.
+fn tell_left_out(text: &mut String, answer: &ParseResult<Record<'_>>) -> Result<(), AllocError> {
+    match answer {
+        Ok(Record::Unknown { ty, .. }) => write!(text, " ty={ty}"),
+        Ok(Record::Sample(sample)) => tell_counted(text, sample),
+        _ => Ok(()),
     }
 }
 
-impl Tell for SampleId {
-    fn tell(&self, text: &mut String) -> Result<(), AllocError> {
-        write!(text, "{:?} {:?} {:?}", self.pid(), self.tid(), self.time())?;
-        write!(
-            text,
-            " {:?} {:?} {:?}",
-            self.id(),
-            self.stream_id(),
-            self.cpu()
-        )
+// Writes how many counters a sample's group has, and which registers it has.
+fn tell_counted(text: &mut String, sample: &Sample<'_>) -> Result<(), AllocError> {
+    if let Some(group) = sample.values() {
+        write!(text, " counters={}", group.len())?;
     }
+    tell_mask(text, " user_mask=", sample.regs_user())?;
+    tell_mask(text, " intr_mask=", sample.regs_intr())
 }
 
-impl Tell for RecordMetadata {
-    fn tell(&self, text: &mut String) -> Result<(), AllocError> {
-        write!(text, "{} {} ", self.ty(), self.misc())?;
-        self.sample_id().tell(text)
+fn tell_mask(
+    text: &mut String,
+    before: &str,
+    registers: Option<&Registers<'_>>,
+) -> Result<(), AllocError> {
+    match registers {
+        Some(registers) => write!(text, "{before}{:#x}", registers.mask),
+        None => Ok(()),
     }
 }
 
 /// Writes a configuration: the sample type and the read format, whether there are sample ids and the
 /// hardware's index, the registers of a user and those at an interrupt, and the misc.
 pub fn tell_config<E>(text: &mut String, config: &ParseConfig<E>) -> Result<(), AllocError> {
-    let (sample_type, read_format) = (config.sample_type().bits(), config.read_format().bits());
-    write!(text, "{sample_type:#x} {read_format:#x}")?;
-    let (has_ids, has_index) = (config.sample_id_all(), config.branch_hw_index());
-    write!(text, " {has_ids} {has_index}")?;
-    let (user, interrupt) = (config.regs_user(), config.regs_intr());
-    write!(text, " {user:#x} {interrupt:#x} {}", config.misc())
-}
-
-// The fields of which tests know.
-impl Tell for perf_event_attr {
-    fn tell(&self, text: &mut String) -> Result<(), AllocError> {
-        write!(text, "size {} config2 {}", self.size, self.config2)?;
-        write!(
-            text,
-            " branch {} clock {}",
-            self.branch_sample_type, self.clockid
-        )?;
-        write!(
-            text,
-            " stack {} {}",
-            self.sample_stack_user, self.sample_max_stack
-        )?;
-        write!(text, " aux {} {}", self.aux_watermark, self.aux_sample_size)?;
-        write!(
-            text,
-            " regs {} sig {}",
-            self.sample_regs_intr, self.sig_data
-        )?;
-        write!(text, " config3 {}", self.config3)
-    }
-}
-
-impl Tell for ReadValue {
-    fn tell(&self, text: &mut String) -> Result<(), AllocError> {
-        let (enabled, running) = (self.time_enabled(), self.time_running());
-        write!(text, "{} {enabled:?} {running:?}", self.value())?;
-        write!(text, " {:?} {:?}", self.id(), self.lost())
-    }
-}
-
-impl Tell for Read {
-    fn tell(&self, text: &mut String) -> Result<(), AllocError> {
-        write!(text, "Read {} {} ", self.pid, self.tid)?;
-        self.values.tell(text)
-    }
-}
-
-impl Tell for Mmap<'_> {
-    fn tell(&self, text: &mut String) -> Result<(), AllocError> {
-        write!(text, "Mmap {} {} {}", self.pid, self.tid, self.addr)?;
-        let filename = name_of(self.filename.as_slice());
-        write!(text, " {} {} {filename}", self.len, self.pgoff)
-    }
-}
-
-impl Tell for Mmap2<'_> {
-    fn tell(&self, text: &mut String) -> Result<(), AllocError> {
-        write!(text, "Mmap2 {} {} {}", self.pid, self.tid, self.addr)?;
-        write!(text, " {} {} ", self.len, self.pgoff)?;
-        match self.build_id() {
-            Some(id) => write!(text, "{id:?} ")?,
-            None => {}
-        }
-        for number in [self.maj(), self.min()] {
-            if let Some(number) = number {
-                write!(text, "{number} ")?;
-            }
-        }
-        for number in [self.ino(), self.ino_generation()] {
-            if let Some(number) = number {
-                write!(text, "{number} ")?;
-            }
-        }
-        let filename = name_of(self.filename.as_slice());
-        write!(text, "{} {} {filename}", self.prot, self.flags)
-    }
-}
-
-impl Tell for Lost {
-    fn tell(&self, text: &mut String) -> Result<(), AllocError> {
-        write!(text, "Lost {} {}", self.id, self.lost)
-    }
-}
-
-impl Tell for LostSamples {
-    fn tell(&self, text: &mut String) -> Result<(), AllocError> {
-        write!(text, "LostSamples {}", self.lost)
-    }
-}
-
-impl Tell for Comm<'_> {
-    fn tell(&self, text: &mut String) -> Result<(), AllocError> {
-        let comm = name_of(self.comm.as_slice());
-        write!(text, "Comm {} {} {comm}", self.pid, self.tid)
-    }
-}
-
-// Of a task that ended or began.
-impl Tell for Exit {
-    fn tell(&self, text: &mut String) -> Result<(), AllocError> {
-        write!(text, "{} {} {}", self.pid, self.ppid, self.tid)?;
-        write!(text, " {} {}", self.ptid, self.time)
-    }
-}
-
-impl Tell for Throttle {
-    fn tell(&self, text: &mut String) -> Result<(), AllocError> {
-        write!(text, "{} {} {}", self.time, self.id, self.stream_id)
-    }
-}
-
-impl Tell for SwitchCpuWide {
-    fn tell(&self, text: &mut String) -> Result<(), AllocError> {
-        match self {
-            SwitchCpuWide::In { pid, tid } => write!(text, "In {pid} {tid}"),
-            SwitchCpuWide::Out { pid, tid } => write!(text, "Out {pid} {tid}"),
-        }
-    }
-}
-
-impl Tell for Namespaces<'_> {
-    fn tell(&self, text: &mut String) -> Result<(), AllocError> {
-        write!(text, "Namespaces {} {}", self.pid, self.tid)?;
-        for entry in self.namespaces.as_slice().iter() {
-            write!(text, " {}:{}", entry.dev, entry.inode)?;
-        }
-        Ok(())
-    }
-}
-
-impl Tell for KSymbol<'_> {
-    fn tell(&self, text: &mut String) -> Result<(), AllocError> {
-        let (ty, flags) = (self.ksym_type.get(), self.flags.bits());
-        let name = name_of(self.name.as_slice());
-        write!(
-            text,
-            "KSymbol {} {} {ty} {flags} {name}",
-            self.addr, self.len
-        )
-    }
-}
-
-impl Tell for Record<'_> {
-    fn tell(&self, text: &mut String) -> Result<(), AllocError> {
-        match self {
-            Record::Mmap(r) => r.tell(text),
-            Record::Lost(r) => r.tell(text),
-            Record::Comm(r) => r.tell(text),
-            Record::Exit(r) => tell_after(text, "Exit ", r),
-            Record::Fork(r) => tell_after(text, "Fork ", r),
-            Record::Read(r) => r.tell(text),
-            Record::Sample(r) => tell_sample(text, r),
-            Record::Mmap2(r) => r.tell(text),
-            _ => tell_later_record(text, self),
-        }
-    }
-}
-
-// Records of throttles, of lost samples, of switches, of namespaces and of symbols of the kernel.
-fn tell_later_record(text: &mut String, record: &Record<'_>) -> Result<(), AllocError> {
-    match record {
-        Record::Throttle(r) => tell_after(text, "Throttle ", r),
-        Record::Unthrottle(r) => tell_after(text, "Unthrottle ", r),
-        Record::LostSamples(r) => r.tell(text),
-        Record::Switch => text.push_str("Switch"),
-        Record::SwitchCpuWide(r) => r.tell(text),
-        Record::Namespaces(r) => r.tell(text),
-        Record::KSymbol(r) => r.tell(text),
-        _ => tell_other_record(text, record),
-    }
-}
-
-fn tell_after<T: Tell>(text: &mut String, word: &str, value: &T) -> Result<(), AllocError> {
-    text.push_str(word)?;
-    value.tell(text)
-}
-
-fn tell_other_record(text: &mut String, record: &Record<'_>) -> Result<(), AllocError> {
-    match record {
-        Record::Aux(r) => {
-            let flags = r.flags.bits();
-            write!(text, "Aux {} {} {flags}", r.aux_offset, r.aux_size)
-        }
-        Record::ITraceStart(r) => write!(text, "ITraceStart {} {}", r.pid, r.tid),
-        Record::BpfEvent(r) => {
-            let ty = r.ty.get();
-            write!(text, "BpfEvent {ty} {} {} {:?}", r.flags, r.id, r.tag)
-        }
-        Record::CGroup(r) => {
-            let path = name_of(r.path.as_slice());
-            write!(text, "CGroup {} {path}", r.id)
-        }
-        Record::TextPoke(r) => {
-            let (old, new) = (r.old_bytes.as_slice(), r.new_bytes.as_slice());
-            write!(text, "TextPoke {} {old:?} {new:?}", r.addr)
-        }
-        Record::AuxOutputHwId(r) => write!(text, "AuxOutputHwId {}", r.hw_id),
-        Record::Unknown { ty, bytes } => write!(text, "Unknown {ty} {:?}", bytes.as_slice()),
-        _ => text.push_str("(told elsewhere)"),
-    }
-}
-
-// Bytes, and whether they are those of the buffer.
-fn tell_lent_bytes(
-    text: &mut String,
-    word: &str,
-    bytes: &CowSlice<'_, u8>,
-) -> Result<(), AllocError> {
-    tell_semicolon(text)?;
-    match bytes {
-        CowSlice::Borrowed(bytes) => write!(text, "{word} lent {bytes:?}"),
-        CowSlice::Owned(bytes) => write!(text, "{word} owned {:?}", bytes.as_slice()),
-    }
+    let sets = [config.sample_type().bits(), config.read_format().bits()];
+    let are_there = [config.sample_id_all(), config.branch_hw_index()];
+    let masks = [config.regs_user(), config.regs_intr()];
+    write!(text, "{:?}", (sets, are_there, masks, config.misc()))
 }
 
 /// Writes what stands between one answer and the next.
@@ -320,93 +98,74 @@ pub fn tell_semicolon(text: &mut String) -> Result<(), AllocError> {
     }
 }
 
-/// Writes the bytes of a record, and whether they are those of the buffer.
-pub fn tell_lent(text: &mut String, record: &Record<'_>) -> Result<(), AllocError> {
-    match record {
-        Record::Comm(r) => tell_lent_bytes(text, "Comm", &r.comm),
-        Record::KSymbol(r) => tell_lent_bytes(text, "KSymbol", &r.name),
-        Record::CGroup(r) => tell_lent_bytes(text, "CGroup", &r.path),
-        Record::Mmap2(r) => tell_lent_bytes(text, "Mmap2", &r.filename),
-        Record::Unknown { bytes, .. } => tell_lent_bytes(text, "Unknown", bytes),
-        Record::TextPoke(r) => {
-            tell_lent_bytes(text, "old", &r.old_bytes)?;
-            tell_lent_bytes(text, "new", &r.new_bytes)
-        }
-        _ => {
-            tell_semicolon(text)?;
-            text.push_str("no bytes")
-        }
-    }
-}
-
-/// Writes what namespaces a record says, each kind by its name.
-pub fn tell_spaces(text: &mut String, record: &Record<'_>) -> Result<(), AllocError> {
-    let Record::Namespaces(spaces) = record else {
-        return text.push_str("not NAMESPACES");
+/// Writes a record and, of its namespaces, those that have a name: network, uts, ipc, pid, user and
+/// cgroup.
+pub fn tell_spaces(text: &mut String, answer: &ParseResult<Record<'_>>) -> Result<(), AllocError> {
+    tell_record(text, answer)?;
+    let Ok(Record::Namespaces(spaces)) = answer else {
+        return text.push_str(" not NAMESPACES");
     };
-    spaces.tell(text)?;
-    write!(text, ", network {:?}", spaces.network())?;
-    write!(text, ", uts {:?}", spaces.uts())?;
-    write!(text, ", ipc {:?}, pid {:?}", spaces.ipc(), spaces.pid())?;
-    write!(
-        text,
-        ", user {:?}, cgroup {:?}",
+    let named = [
+        spaces.network(),
+        spaces.uts(),
+        spaces.ipc(),
+        spaces.pid(),
         spaces.user(),
-        spaces.cgroup()
-    )
+        spaces.cgroup(),
+    ];
+    write!(text, " {named:?}")
 }
 
-fn value_of(entry: Option<GroupEntry>) -> Option<u64> {
-    entry.map(|entry| entry.value())
-}
-
-/// Writes a group of counters: how many and its times, each entry as `value id`, the first three
-/// by their places, those of the ids 0xBD and 0xBE, and whether it is that of one counter.
-pub fn tell_group(text: &mut String, group: ReadGroup<'_>) -> Result<(), AllocError> {
-    write!(text, "{} {}", group.len(), group.is_empty())?;
-    write!(
-        text,
-        " {:?} {:?}",
-        group.time_enabled(),
-        group.time_running()
-    )?;
-    tell_entries(text, &group)?;
-    tell_found(text, &group)?;
-    match ReadValue::try_from(group) {
-        Ok(_) => text.push_str(", one"),
-        Err(_) => text.push_str(", not one"),
+/// Writes a group of counters: how many and whether none, its times, the first three entries as they
+/// come and by their places, those of the ids 1, 2, 3, 0xBD and 0xBE, and whether it is that of one
+/// counter.
+pub fn tell_group(text: &mut String, answer: ParseResult<ReadGroup<'_>>) -> Result<(), AllocError> {
+    match answer {
+        Ok(group) => {
+            write!(text, "{} {}", group.len(), group.is_empty())?;
+            tell_entries(text, &group)?;
+            write!(text, " {}", ReadValue::try_from(group).is_ok())
+        }
+        Err(error) => tell_error(text, &error),
     }
-}
-
-fn tell_found(text: &mut String, group: &ReadGroup<'_>) -> Result<(), AllocError> {
-    for place in [0, 1, 2] {
-        write!(text, " {:?}", value_of(group.get(place)))?;
-    }
-    for id in [0xBD, 0xBE] {
-        write!(text, ", of {id} {:?}", value_of(group.get_by_id(id)))?;
-    }
-    Ok(())
 }
 
 fn tell_entries(text: &mut String, group: &ReadGroup<'_>) -> Result<(), AllocError> {
+    let times = [group.time_enabled(), group.time_running()];
     let mut entries = group.entries();
-    for _ in 0..3 {
-        match entries.next() {
-            Some(entry) => write!(text, ", {} {:?}", entry.value(), entry.id())?,
-            None => text.push_str(", none")?,
-        }
-    }
-    text.push_str(",")
+    let first = [entries.next(), entries.next(), entries.next()];
+    let by_places = [group.get(0), group.get(1), group.get(2)];
+    write!(text, " {times:?} {first:?} {by_places:?}")?;
+    let by_ids = [
+        group.get_by_id(1),
+        group.get_by_id(2),
+        group.get_by_id(3),
+        group.get_by_id(0xBD),
+        group.get_by_id(0xBE),
+    ];
+    write!(text, " {by_ids:?}")
 }
 
-/// Writes a group of counters whose entries are taken from both ends.
-pub fn tell_from_both_ends(text: &mut String, group: &ReadGroup<'_>) -> Result<(), AllocError> {
-    let (enabled, running) = (group.time_enabled(), group.time_running());
-    write!(text, "{} {enabled:?} {running:?}", group.len())?;
-    let mut entries: GroupIter<'_> = group.entries();
-    write!(text, ", {:?}", value_of(entries.nth(1)))?;
-    write!(text, " {:?}", value_of(entries.next_back()))?;
-    write!(text, " {:?}", value_of(entries.nth_back(1)))?;
-    write!(text, ", {}", entries.len())?;
-    write!(text, " {:?}", value_of(entries.next()))
+/// Writes a group of counters whose entries are taken from both ends: how many there are and its
+/// times, the second entry, the last of what is left and the last but one of that, how many are left
+/// then, and the next one.
+pub fn tell_from_both_ends(
+    text: &mut String,
+    answer: ParseResult<ReadGroup<'_>>,
+) -> Result<(), AllocError> {
+    match answer {
+        Ok(group) => {
+            let times = [group.time_enabled(), group.time_running()];
+            write!(text, "{} {times:?}", group.len())?;
+            tell_taken(text, group.entries())
+        }
+        Err(error) => tell_error(text, &error),
+    }
+}
+
+fn tell_taken(text: &mut String, entries: GroupIter<'_>) -> Result<(), AllocError> {
+    let mut entries = entries;
+    let taken = [entries.nth(1), entries.next_back(), entries.nth_back(1)];
+    write!(text, " {taken:?} {}", entries.len())?;
+    write!(text, " {:?}", entries.next())
 }
