@@ -2,7 +2,7 @@
 
 use crate::perfrec;
 use anyhow::{Context, Result, bail};
-use perf_event_data::endian::Little;
+use perf_event_data::endian::{Big, Little};
 use perf_event_data::sys::perf_event_attr;
 use perf_testing::asks::tell_asked;
 use perf_testing::runs::{tell_behind, tell_everywhere, tell_shown};
@@ -20,6 +20,8 @@ pub struct Case<'a> {
     big: Vec<u8>,
     // Whether the next bytes begin anew.
     is_told: bool,
+    // Whether a parser is asked with the highest byte of a number first.
+    is_big: bool,
     // How it is asked, and what.
     how: &'a str,
     asked: &'a str,
@@ -34,6 +36,7 @@ impl<'a> Case<'a> {
             little: Vec::new(alloc),
             big: Vec::new(alloc),
             is_told: false,
+            is_big: false,
             how: "",
             asked: "",
         }
@@ -47,6 +50,7 @@ impl<'a> Case<'a> {
     pub fn set(&mut self, word: &'a str, rest: &'a str) -> Result<()> {
         match word {
             "under" => self.attr = attribute(rest)?,
+            "big" | "little" => self.is_big = word == "big",
             "run" | "behind" | "ask" | "shown" | "sample" | "perfrec" => {
                 self.how = word;
                 self.asked = rest;
@@ -97,13 +101,22 @@ impl<'a> Case<'a> {
     pub fn told(&mut self) -> Result<String> {
         self.is_told = true;
         match self.how {
-            "ask" => Ok(tell_asked(self.alloc, &self.little, self.attr, self.asked)?),
+            "ask" => self.told_answers(),
             "run" => self.told_runs(),
             "behind" => Ok(tell_behind(self.alloc, &self.little, &self.limits()?)?),
             "shown" => Ok(tell_shown(self.alloc, &self.little)?),
             "sample" => self.told_sample(),
             "perfrec" => perfrec::told(self.alloc, self.asked, &self.little),
             _ => bail!("nothing is asked in {}", self.name),
+        }
+    }
+
+    fn told_answers(&self) -> Result<String> {
+        let (attr, asked) = (self.attr, self.asked);
+        if self.is_big {
+            Ok(tell_asked(self.alloc, &self.big, Big, attr, asked)?)
+        } else {
+            Ok(tell_asked(self.alloc, &self.little, Little, attr, asked)?)
         }
     }
 

@@ -10,10 +10,12 @@
 //!   `branch_sample_type`, `sample_regs_user` and `sample_regs_intr`, 0 where they are not named.
 //! - `bytes DIGITS ..`, `zeros COUNT`, and `u16`, `u32` and `u64 NUMBER ..` are the bytes, one behind
 //!   another. The first such line behind an answer begins anew.
-//! - `ask WORD ..` asks a parser ([`perf_testing::asks`]).
+//! - `ask WORD ..` asks a parser ([`perf_testing::asks`]); behind the line `big` with the highest byte
+//!   of each number first.
 //! - `run LIMIT ..` reads the records of a stream, each time so many at most, and `behind LIMIT ..`
-//!   those behind the attribute with which the bytes begin.
-//! - `lent` says whose the bytes of the records are.
+//!   those behind the attribute with which the bytes begin. Each frame is its line of `perfrec`, and
+//!   behind that what it leaves out ([`perf_testing::told`]).
+//! - `shown` is what `{:?}` shows of the records of a slice: bytes that are its own are `Borrowed`.
 //! - `sample LEFT` reads a sample, alone and as a frame, behind which so many bytes are left, also
 //!   with the highest byte of each number first.
 //! - `perfrec WORD ..` is what that program writes, its lines one behind another, and its status.

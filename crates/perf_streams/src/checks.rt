@@ -4,7 +4,6 @@
 use perf_event_data::endian::Endian;
 use perf_event_data::sys::perf_event_attr;
 use perf_testing::runs::tell_everywhere;
-use perf_testing::sample_bytes::tell_sample_bytes;
 use std::alloc::AllocError;
 use std::fmt::Debug;
 use std::process::Abort;
@@ -48,18 +47,5 @@ pub fn check_everywhere<E: Endian + Copy>(
 ) {
     let attr = perf_event_attr::default();
     let told = tell_everywhere(rt.alloc(), bytes, endian, attr, limits);
-    check_text(rt, told, want);
-}
-
-/// Asserts what a body says whose numbers have their highest byte first or last: the sample, as
-/// text, or the kind of the refusal.
-pub fn check_sample(
-    rt: &(impl AllocGlobal + Abort),
-    attr: perf_event_attr,
-    is_big: bool,
-    body: &[u8],
-    want: &str,
-) {
-    let told = tell_sample_bytes(rt.alloc(), is_big, attr, body, 0);
     check_text(rt, told, want);
 }

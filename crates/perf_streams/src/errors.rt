@@ -1,6 +1,7 @@
 //! What an error says, and lists that may be borrowed.
 
 use crate::check;
+use crate::checks::check_text;
 use anyhow::anyhow;
 use perf_base::config::ParseConfig;
 use perf_base::cow::CowSlice;
@@ -13,126 +14,110 @@ use std::io::{self, BufReader, Read};
 use std::process::Abort;
 use std::test::Fail;
 
+// Writes the kind of an error, its message, its cause if it has one, and what the error says.
+fn told(alloc: Global, error: &ParseError) -> Result<String, AllocError> {
+    let mut text = String::new(alloc);
+    write!(text, "{:?}, {:?}, ", error.kind(), error.message())?;
+    match error.cause() {
+        Some(cause) => write!(text, "{cause}")?,
+        None => text.push_str("no cause")?,
+    }
+    write!(text, ", {error}")?;
+    Ok(text)
+}
+
+fn check_told(rt: &(impl AllocGlobal + Abort), error: ParseError, want: &str) {
+    check_text(rt, told(rt.alloc(), &error), want);
+}
+
 const KINDS: [(ErrorKind, &str); 6] = [
-    (ErrorKind::Eof, "unexpected EOF during parsing: why"),
-    (ErrorKind::InvalidRecord, "invalid record: why"),
-    (ErrorKind::UnsupportedConfig, "unsupported config: why"),
+    (
+        ErrorKind::Eof,
+        "Eof, Some(\"why\"), no cause, unexpected EOF during parsing: why",
+    ),
+    (
+        ErrorKind::InvalidRecord,
+        "InvalidRecord, Some(\"why\"), no cause, invalid record: why",
+    ),
+    (
+        ErrorKind::UnsupportedConfig,
+        "UnsupportedConfig, Some(\"why\"), no cause, unsupported config: why",
+    ),
     (
         ErrorKind::UnsupportedData,
-        "unsupported serialized data: why",
+        "UnsupportedData, Some(\"why\"), no cause, unsupported serialized data: why",
     ),
-    (ErrorKind::External, "user-provided error: why"),
-    (ErrorKind::OutOfMemory, "out of memory: why"),
+    (
+        ErrorKind::External,
+        "External, Some(\"why\"), no cause, user-provided error: why",
+    ),
+    (
+        ErrorKind::OutOfMemory,
+        "OutOfMemory, Some(\"why\"), no cause, out of memory: why",
+    ),
 ];
 
 #[test]
-fn an_error_is_written_with_its_message(rt: HostRuntime) -> Result<(), Fail> {
+fn an_error_is_written_with_its_message(rt: HostRuntime) {
     for (kind, want) in KINDS {
-        let error = ParseError::custom(kind, "why");
-        check!(rt; error.kind(), kind);
-        check!(rt; error.message(), Some("why"));
-        check!(rt; error.cause().is_none());
-        check!(rt; error.to_string(rt.alloc())?.as_str(), want);
+        check_told(&rt, ParseError::custom(kind, "why"), want);
     }
-    Ok(())
 }
 
 #[test]
-fn an_error_is_written_with_its_cause(rt: HostRuntime) -> Result<(), Fail> {
-    for error in [
-        ParseError::new(anyhow!("no disk")),
-        ParseError::from(anyhow!("no disk")),
-    ] {
-        check!(rt; error.kind(), ErrorKind::External);
-        check!(rt; error.message().is_none());
-        check!(rt;
-            error.to_string(rt.alloc())?.as_str(),
-            "user-provided error: no disk"
-        );
-        let Some(cause) = error.cause() else {
-            panic!(rt; "no cause");
-        };
-        check!(rt; cause.to_string(rt.alloc())?.as_str(), "no disk");
-    }
-    Ok(())
-}
-
-fn check_plain(
-    rt: &impl Abort,
-    alloc: Global,
-    error: ParseError,
-    kind: ErrorKind,
-    text: &str,
-) -> Result<(), AllocError> {
-    check!(rt; error.kind(), kind);
-    check!(rt; error.message().is_none() && error.cause().is_none());
-    check!(rt; error.to_string(alloc)?.as_str(), text);
-    Ok(())
+fn an_error_is_written_with_its_cause(rt: HostRuntime) {
+    let want = "External, None, no disk, user-provided error: no disk";
+    check_told(&rt, ParseError::new(anyhow!("no disk")), want);
+    check_told(&rt, ParseError::from(anyhow!("no disk")), want);
 }
 
 #[test]
-fn refused_memory_and_an_early_end_say_no_more(rt: HostRuntime) -> Result<(), Fail> {
-    let eof = "unexpected EOF during parsing";
-    check_plain(&rt, rt.alloc(), ParseError::eof(), ErrorKind::Eof, eof)?;
+fn refused_memory_and_an_early_end_say_no_more(rt: HostRuntime) {
+    let eof = "Eof, None, no cause, unexpected EOF during parsing";
+    check_told(&rt, ParseError::eof(), eof);
+    let want = "OutOfMemory, None, no cause, out of memory";
     let failed = AllocFailed { value: 1u8 };
-    for error in [
-        ParseError::out_of_memory(),
-        AllocError.into(),
-        failed.into(),
-    ] {
-        check_plain(
-            &rt,
-            rt.alloc(),
-            error,
-            ErrorKind::OutOfMemory,
-            "out of memory",
-        )?;
+    check_told(&rt, ParseError::out_of_memory(), want);
+    check_told(&rt, AllocError.into(), want);
+    check_told(&rt, failed.into(), want);
+}
+
+const EXTERNAL: &str = "External, None, no cause, user-provided error";
+
+const INPUT_ERRORS: [(io::ErrorKind, &str); 4] = [
+    (
+        io::ErrorKind::UnexpectedEof,
+        "Eof, None, no cause, unexpected EOF during parsing",
+    ),
+    (io::ErrorKind::Interrupted, EXTERNAL),
+    (io::ErrorKind::OutOfMemory, EXTERNAL),
+    (io::ErrorKind::Other, EXTERNAL),
+];
+
+#[test]
+fn an_input_error_is_an_early_end_or_external(rt: HostRuntime) {
+    for (kind, want) in INPUT_ERRORS {
+        check_told(&rt, io::Error::from(kind).into(), want);
     }
-    Ok(())
+}
+
+fn tell_list(text: &mut String, list: CowSlice<'_, u16>) -> Result<(), AllocError> {
+    write!(text, "{:?}", list.as_slice())?;
+    write!(text, " {} {}; ", list.len(), list.is_empty())
+}
+
+fn told_lists(alloc: Global, items: &[u16]) -> Result<String, AllocError> {
+    let mut text = String::new(alloc);
+    tell_list(&mut text, CowSlice::Borrowed(items))?;
+    tell_list(&mut text, CowSlice::Owned(items.to_vec(alloc)?))?;
+    Ok(text)
 }
 
 #[test]
-fn an_input_error_is_an_early_end_or_external(rt: HostRuntime) -> Result<(), Fail> {
-    let error = io::Error::from(io::ErrorKind::UnexpectedEof);
-    let eof = "unexpected EOF during parsing";
-    check_plain(&rt, rt.alloc(), error.into(), ErrorKind::Eof, eof)?;
-    for kind in [
-        io::ErrorKind::Interrupted,
-        io::ErrorKind::OutOfMemory,
-        io::ErrorKind::Other,
-    ] {
-        let error = io::Error::from(kind);
-        check_plain(
-            &rt,
-            rt.alloc(),
-            error.into(),
-            ErrorKind::External,
-            "user-provided error",
-        )?;
-    }
-    Ok(())
-}
-
-#[test]
-fn a_list_reads_alike_borrowed_and_owned(rt: HostRuntime) -> Result<(), Fail> {
-    let items: &[u16] = &[7, 8, 9];
-    for list in [
-        CowSlice::Borrowed(items),
-        CowSlice::Owned(items.to_vec(rt.alloc())?),
-    ] {
-        check!(rt; list.as_slice(), items);
-        check!(rt; list.len(), 3);
-        check!(rt; !list.is_empty());
-    }
-    for list in [
-        CowSlice::Borrowed(&[]),
-        CowSlice::Owned(Vec::<u16>::new(rt.alloc())),
-    ] {
-        check!(rt; list.as_slice(), [].as_slice());
-        check!(rt; list.len(), 0);
-        check!(rt; list.is_empty());
-    }
-    Ok(())
+fn a_list_reads_alike_borrowed_and_owned(rt: HostRuntime) {
+    let want = "[7, 8, 9] 3 false; [7, 8, 9] 3 false; ";
+    check_text(&rt, told_lists(rt.alloc(), &[7, 8, 9]), want);
+    check_text(&rt, told_lists(rt.alloc(), &[]), "[] 0 true; [] 0 true; ");
 }
 
 // A reader that fails.
@@ -151,8 +136,8 @@ fn a_fault_keeps_its_cause(rt: HostRuntime) -> Result<(), Fail> {
     let mut parser = Parser::new(rt.alloc(), reader, ParseConfig::<Little>::default());
     match next_record(&mut parser) {
         Err(error) => {
-            check!(rt; matches!(error.kind(), ErrorKind::External));
-            check!(rt; error.cause().is_some());
+            let kept = (error.kind(), error.cause().is_some());
+            check!(rt; kept, (ErrorKind::External, true));
         }
         Ok(_) => panic!(rt; "a record of a reader that fails"),
     }

@@ -10,11 +10,7 @@ mod configurations;
 #[cfg(test)]
 mod cursors;
 #[cfg(test)]
-mod debug_texts;
-#[cfg(test)]
 mod errors;
-#[cfg(test)]
-mod flags;
 #[cfg(test)]
 mod metadata;
 #[cfg(test)]
@@ -23,10 +19,6 @@ mod parser_calls;
 mod reads;
 #[cfg(test)]
 mod sample_counts;
-#[cfg(test)]
-mod sample_fields;
-#[cfg(test)]
-mod sample_parts;
 #[cfg(test)]
 mod streams;
 #[cfg(test)]

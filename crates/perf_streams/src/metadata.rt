@@ -3,6 +3,7 @@
 use crate::check;
 use perf_event_data::endian::Little;
 use perf_event_data::parse::ParseConfig;
+use perf_event_data::sys::perf_event_attr;
 use perf_sample_types::sample_id::SampleId;
 use perf_testing::attributes::{attribute, ids_attribute};
 
@@ -20,23 +21,36 @@ const IDENTIFIER: u64 = 1 << 16;
 
 const ALL_SIX: u64 = TID | TIME | ID | CPU | STREAM_ID | IDENTIFIER;
 
-// The configuration of an event that has `sample_id_all` and these fields in its samples.
-fn with_ids(sample_type: u64) -> ParseConfig<Little> {
-    ParseConfig::from(ids_attribute(sample_type))
+// Sample types of events that have `sample_id_all`, and how many bytes their sample ids have.
+const LENGTHS: [(u64, usize); 14] = [
+    (0, 0),
+    (ALL_SIX, 48),
+    (TID, 8),
+    (TIME, 8),
+    (ID, 8),
+    (CPU, 8),
+    (STREAM_ID, 8),
+    (IDENTIFIER, 8),
+    (ALL_SIX - TID, 40),
+    (ALL_SIX - TIME, 40),
+    (ALL_SIX - ID, 40),
+    (ALL_SIX - CPU, 40),
+    (ALL_SIX - STREAM_ID, 40),
+    (ALL_SIX - IDENTIFIER, 40),
+];
+
+fn length(attr: perf_event_attr) -> usize {
+    SampleId::estimate_len(&ParseConfig::<Little>::from(attr))
 }
 
 #[test]
 fn a_sample_id_has_eight_bytes_for_each_flag(rt: HostRuntime) {
-    let without = ParseConfig::<Little>::from(attribute(ALL_SIX, 0));
-    check!(rt; SampleId::estimate_len(&without), 0);
-    check!(rt; SampleId::estimate_len(&with_ids(0)), 0);
-    check!(rt; SampleId::estimate_len(&with_ids(ALL_SIX)), 48);
-    for flag in [TID, TIME, ID, CPU, STREAM_ID, IDENTIFIER] {
-        assert_eq!(rt; SampleId::estimate_len(&with_ids(flag)), 8, "of {flag}");
+    check!(rt; length(attribute(ALL_SIX, 0)), 0);
+    for (sample_type, want) in LENGTHS {
         assert_eq!(rt;
-            SampleId::estimate_len(&with_ids(ALL_SIX - flag)),
-            40,
-            "without {flag}"
+            length(ids_attribute(sample_type)),
+            want,
+            "of {sample_type}"
         );
     }
 }

@@ -1,6 +1,7 @@
 //! Reads of counters, alone and in groups.
 
 use crate::check;
+use crate::checks::check_text;
 use perf_event_data::endian::Little;
 use perf_event_data::parse::{ParseConfig, Parser};
 use perf_event_data::sys::perf_event_attr;
@@ -8,13 +9,12 @@ use perf_event_data::{Read, ReadGroup, ReadValue};
 use perf_testing::asks::next_group;
 use perf_testing::attributes::attribute;
 use std::alloc::{AllocError, Global};
+use std::process::Abort;
 use std::test::Fail;
 
 const ID: u64 = 1 << 2;
 
 const GROUP: u64 = 1 << 3;
-
-const UNKNOWN: u64 = 1 << 6;
 
 // All but GROUP.
 const ALL_OF_ONE: u64 = 0x17;
@@ -33,17 +33,19 @@ fn with_format(read_format: u64) -> ParseConfig<Little> {
 const SEVEN: &[u8] = b"\x08\0\0\0\0\0\x38\0\x01\0\0\0\x02\0\0\0\x03\0\0\0\0\0\0\0\
     \x04\0\0\0\0\0\0\0\x05\0\0\0\0\0\0\0\x06\0\0\0\0\0\0\0\x07\0\0\0\0\0\0\0";
 
+fn check_read(rt: &(impl AllocGlobal + Abort), read: &ReadValue, want: &str) {
+    check_text(rt, format!(in rt.alloc(); "{read:?}"), want);
+}
+
 #[test]
 fn a_read_as_a_group_and_back(rt: HostRuntime) -> Result<(), Fail> {
     let mut parser = Parser::new(rt.alloc(), &SEVEN[8..], with_format(ALL_OF_ONE));
     let read = parser.parse::<Read>()?;
     let group = ReadGroup::from_value(rt.alloc(), read.values)?;
     check!(rt; group.len(), 1);
-    let value = ReadValue::try_from(group)?;
-    check!(rt; value.value(), 3);
-    check!(rt; value.time_enabled(), Some(4));
-    check!(rt; value.time_running(), Some(5));
-    check!(rt; (value.id(), value.lost()), (Some(6), Some(7)));
+    let want = "ReadValue { value: 3, time_enabled: Some(4), time_running: Some(5), id: Some(6), \
+        lost: Some(7) }";
+    check_read(&rt, &ReadValue::try_from(group)?, want);
     Ok(())
 }
 
@@ -65,53 +67,8 @@ fn an_entry_with_the_numbers_of_another_group(rt: HostRuntime) -> Result<(), Fai
     let mut parser = parser.reconfigure(with_format(GROUP | ID));
     let with_ids = next_group(&mut parser)?;
     let read = ReadValue::from_group_and_entry(&with_ids, &entry);
-    check!(rt; (read.value(), read.id(), read.lost()), (5, Some(0), None));
-    check!(rt; (read.time_enabled(), read.time_running()), (None, None));
+    let want =
+        "ReadValue { value: 5, time_enabled: None, time_running: None, id: Some(0), lost: None }";
+    check_read(&rt, &read, want);
     Ok(())
-}
-
-const GROUP_IS_SET: &str =
-    "attempted to parse a SingleRead with a config that has GROUP set in read_format";
-
-const GROUP_IS_NOT_SET: &str =
-    "attempted to parse a GroupRead with a config that does not have GROUP set in read_format";
-
-const UNSUPPORTED: &str = "read_format contains unsupported flags";
-
-const TOO_LARGE: &str = "number of elements in group read was too large for data type";
-
-const NO_READS: [(u64, &str); 3] = [
-    (GROUP, GROUP_IS_SET),
-    (GROUP | UNKNOWN, GROUP_IS_SET),
-    (UNKNOWN, UNSUPPORTED),
-];
-
-#[test]
-fn a_refused_read_says_why(rt: HostRuntime) {
-    for (read_format, message) in NO_READS {
-        let mut parser = Parser::new(rt.alloc(), SEVEN, with_format(read_format));
-        match parser.parse::<ReadValue>() {
-            Ok(_) => panic!(rt; "not refused"),
-            Err(error) => check!(rt; error.message(), Some(message)),
-        }
-    }
-}
-
-const NO_GROUPS: [(u64, &str); 4] = [
-    (ID, GROUP_IS_NOT_SET),
-    (UNKNOWN, GROUP_IS_NOT_SET),
-    (GROUP | UNKNOWN, UNSUPPORTED),
-    (GROUP | ID, TOO_LARGE),
-];
-
-#[test]
-fn a_refused_group_says_why(rt: HostRuntime) {
-    let most = [0xFF; 8];
-    for (read_format, message) in NO_GROUPS {
-        let mut parser = Parser::new(rt.alloc(), most.as_slice(), with_format(read_format));
-        match next_group(&mut parser) {
-            Ok(_) => panic!(rt; "not refused"),
-            Err(error) => check!(rt; error.message(), Some(message)),
-        }
-    }
 }

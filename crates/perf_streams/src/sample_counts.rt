@@ -1,11 +1,10 @@
 //! Samples that claim more than there is.
 
 use crate::checks::check_that;
-use crate::flags::{AUX, BRANCH_STACK, CALLCHAIN, RAW, READ, STACK_USER};
 use perf_event_data::PieceBuf;
 use perf_event_data::parse::ParseBuf;
 use perf_event_data::sys::perf_event_attr;
-use perf_testing::attributes::{attribute, attribute_with_index};
+use perf_testing::attributes::attribute;
 use perf_testing::orders::Counting;
 use perf_testing::runs::tell_under;
 use perf_testing::sample_bytes::Part::{self, Bytes, U32, U64};
@@ -13,6 +12,21 @@ use perf_testing::sample_bytes::frames_of;
 use std::cell::Cell;
 use std::io::BufReader;
 use std::process::Abort;
+
+const READ: u64 = 1 << 4;
+
+const CALLCHAIN: u64 = 1 << 5;
+
+const RAW: u64 = 1 << 10;
+
+const BRANCH_STACK: u64 = 1 << 11;
+
+const STACK_USER: u64 = 1 << 13;
+
+const AUX: u64 = 1 << 20;
+
+// Branch stacks have the hardware's index.
+const HW_INDEX: u64 = 1 << 17;
 
 // Among them are counts whose product with 8 or with 24 is small modulo 2^64.
 const HOSTILE: [u64; 13] = [
@@ -39,7 +53,7 @@ fn conversions<'p, B: ParseBuf<'p> + Drop>(
 ) -> u64 {
     let calls = Cell::new(0);
     match tell_under(rt.alloc(), buf, Counting { calls: &calls }, attr, &[1]) {
-        Ok(text) => check_that(rt, text.as_str(), text.ends_with(" Eof; limit")),
+        Ok(text) => check_that(rt, text.as_str(), text.ends_with(" refused Eof; limit")),
         Err(_) => panic!(rt; "no memory"),
     }
     calls.get()
@@ -56,9 +70,15 @@ fn check_conversions(rt: &impl Abort, calls: u64, most: u64) {
 
 // Asserts that of a frame of this body at most so many numbers are made, and one at least where
 // there may be any.
-fn check_most(rt: &(impl AllocGlobal + Abort), attr: perf_event_attr, parts: &[Part], most: u64) {
+fn check_most(
+    rt: &(impl AllocGlobal + Abort),
+    attr: perf_event_attr,
+    first: Part,
+    rest: &[Part],
+    most: u64,
+) {
     let alloc = rt.alloc();
-    let Ok(bytes) = frames_of(alloc, parts) else {
+    let Ok(bytes) = frames_of(alloc, first, rest) else {
         panic!(rt; "no memory");
     };
     let Ok(reader) = BufReader::with_capacity(alloc, 1, bytes.as_slice()) else {
@@ -70,30 +90,36 @@ fn check_most(rt: &(impl AllocGlobal + Abort), attr: perf_event_attr, parts: &[P
     check_conversions(rt, conversions(rt, pieces, attr), most);
 }
 
-// Bytes are no numbers.
+const THREE_BYTES: &[Part] = &[Bytes(b"\x01\x02\x03")];
+
+const FOUR_NUMBERS: &[Part] = &[U64(1), U64(2), U64(3), U32(4)];
+
+// A sample type, a read format, which branches are asked for, what stands behind a count, and how
+// many numbers of eight bytes there may be with it. Bytes are no numbers.
+const BODIES: [(u64, u64, u64, &[Part], u64); 8] = [
+    (CALLCHAIN, 0, 0, &[U64(1)], 2),
+    (BRANCH_STACK, 0, 0, &[U64(1)], 2),
+    (BRANCH_STACK, 0, HW_INDEX, &[U64(1)], 2),
+    (READ, 0x08, 0, &[U64(1)], 2),
+    (STACK_USER, 0, 0, THREE_BYTES, 1),
+    (AUX, 0, 0, THREE_BYTES, 1),
+    (CALLCHAIN, 0, 0, FOUR_NUMBERS, 4),
+    (BRANCH_STACK, 0, 0, FOUR_NUMBERS, 4),
+];
+
+fn check_count(rt: &(impl AllocGlobal + Abort), count: u64) {
+    for (sample_type, read_format, branch_sample_type, rest, most) in BODIES {
+        let mut attr = attribute(sample_type, read_format);
+        attr.branch_sample_type = branch_sample_type;
+        check_most(rt, attr, U64(count), rest, most);
+    }
+}
+
 #[test]
 fn a_hostile_count_converts_no_more_than_the_numbers_of_its_body(rt: HostRuntime) {
     for count in HOSTILE {
-        let body = [U64(count), U64(1)];
-        check_most(&rt, attribute(CALLCHAIN, 0), &body, 2);
-        check_most(&rt, attribute(BRANCH_STACK, 0), &body, 2);
-        check_most(&rt, attribute_with_index(BRANCH_STACK, 0), &body, 2);
-        check_most(&rt, attribute(READ, 0x08), &body, 2);
-        check_most(
-            &rt,
-            attribute(STACK_USER, 0),
-            &[U64(count), Bytes(b"\x01\x02\x03")],
-            1,
-        );
-        check_most(
-            &rt,
-            attribute(AUX, 0),
-            &[U64(count), Bytes(b"\x01\x02\x03")],
-            1,
-        );
-        let body = [U64(count), U64(1), U64(2), U64(3), U32(4)];
-        check_most(&rt, attribute(CALLCHAIN, 0), &body, 4);
-        check_most(&rt, attribute(BRANCH_STACK, 0), &body, 4);
+        check_count(&rt, count);
     }
-    check_most(&rt, attribute(RAW, 0), &[U32(u32::MAX), U64(1), U64(2)], 0);
+    let rest = [U64(1), U64(2)];
+    check_most(&rt, attribute(RAW, 0), U32(u32::MAX), &rest, 0);
 }

@@ -1,23 +1,48 @@
 //! Single values.
 
 use crate::check;
+use crate::checks::check_text;
 use perf_event_data::sys::{
     PERF_RECORD_EXIT, PERF_RECORD_FORK, PERF_RECORD_LOST, PERF_RECORD_LOST_SAMPLES,
 };
+use perf_event_data::{Sample, SampleFields};
 use perf_records::record::Record;
+use perf_testing::told::tell_record;
 use perf_types::lost::Lost;
 use perf_types::lost_samples::LostSamples;
+use std::alloc::{AllocError, Global};
 
 #[test]
 fn a_record_is_made_from_what_it_holds(rt: HostRuntime) {
     let lost = Record::from(Lost { id: 1, lost: 2 });
-    check!(rt; matches!(lost, Record::Lost(Lost { id: 1, lost: 2 })));
-    let lost = Record::from(LostSamples { lost: 3 });
-    check!(rt; matches!(lost, Record::LostSamples(LostSamples { lost: 3 })));
+    let samples = Record::from(LostSamples { lost: 3 });
+    let want = "Lost(Lost { id: 1, lost: 2 }) LostSamples(LostSamples { lost: 3 })";
+    check_text(&rt, format!(in rt.alloc(); "{lost:?} {samples:?}"), want);
+}
+
+// A sample of a process and a CPU.
+fn told_sample(alloc: Global) -> Result<String, AllocError> {
+    let mut fields = SampleFields::default();
+    fields.pid = Some(5);
+    fields.cpu = Some(6);
+    let mut text = String::new(alloc);
+    let answer = Record::from_sample(alloc, Sample::from_fields(fields));
+    tell_record(&mut text, &answer)?;
+    Ok(text)
+}
+
+#[test]
+fn a_sample_that_is_made_is_a_record(rt: HostRuntime) {
+    check_text(&rt, told_sample(rt.alloc()), "Sample pid=5 cpu=6");
 }
 
 #[test]
 fn types_have_the_numbers_of_the_kernel(rt: HostRuntime) {
-    check!(rt; (PERF_RECORD_LOST, PERF_RECORD_EXIT), (2, 4));
-    check!(rt; (PERF_RECORD_FORK, PERF_RECORD_LOST_SAMPLES), (7, 13));
+    let numbers = [
+        PERF_RECORD_LOST,
+        PERF_RECORD_EXIT,
+        PERF_RECORD_FORK,
+        PERF_RECORD_LOST_SAMPLES,
+    ];
+    check!(rt; numbers, [2, 4, 7, 13]);
 }

@@ -3,16 +3,17 @@
 use crate::everywhere::{Says, say_everywhere};
 use crate::told::{
     tell_config, tell_error, tell_frame, tell_from_both_ends, tell_group, tell_record,
-    tell_semicolon, tell_spaces,
+    tell_semicolon, tell_spaces, tell_values,
 };
-use perf_event_data::endian::{Endian, Little, Native};
+use perf_event_data::endian::{Endian, Native};
 use perf_event_data::parse::{
-    Parse, ParseBuf, ParseBufCursor, ParseConfig, ParseRecord, ParseResult, Parser,
+    Parse, ParseBuf, ParseBufCursor, ParseConfig, ParseRecord, ParseRegisters, ParseResult, Parser,
 };
 use perf_event_data::sys::{perf_event_attr, perf_event_header};
 use perf_event_data::{
-    Comm, CowSlice, Exit, Lost, LostSamples, Mmap, Read, ReadGroup, ReadValue, Record,
-    RecordMetadata, SampleId, SwitchCpuWide, Throttle,
+    BranchEntry, Comm, CowSlice, DataSource, Exit, Lost, LostSamples, Mmap, Read, ReadGroup,
+    ReadValue, Record, RecordMetadata, Registers, Sample, SampleId, SampleRegsAbi, SwitchCpuWide,
+    Throttle, Txn,
 };
 use std::alloc::{AllocError, Global};
 use std::fmt::Debug;
@@ -169,9 +170,12 @@ pub fn next_record<'p, B: ParseBuf<'p>, E: Endian>(
     parser.parse()
 }
 
-// What the refusal of a record says.
-fn tell_why(text: &mut String, answer: ParseResult<Record<'_>>) -> Result<(), AllocError> {
-    match answer {
+// What the refusal of a type says.
+fn tell_why<'p, B: ParseBuf<'p>, E: Endian, P: Parse<'p, B> + Drop>(
+    text: &mut String,
+    parser: &mut Parser<B, E>,
+) -> Result<(), AllocError> {
+    match parser.parse::<P>() {
         Ok(_) => text.push_str("not refused"),
         Err(error) => write!(text, "{error}"),
     }
@@ -218,9 +222,52 @@ fn tell_beside<'p, B: ParseBuf<'p>, E: Endian>(
         "config" => tell_config(text, parser.config()),
         "Record" => tell_record(text, &next_record(parser)),
         "parse_with_header" => tell_behind_header(text, parser),
-        "why" => tell_why(text, next_record(parser)),
+        "why" => tell_why::<B, E, Record<'p>>(text, parser),
         "namespaces" => tell_spaces(text, &next_record(parser)),
+        _ => tell_part_of_sample(text, parser, name),
+    }
+}
+
+// Parts of samples, and what refusals of parts say.
+fn tell_part_of_sample<'p, B: ParseBuf<'p>, E: Endian>(
+    text: &mut String,
+    parser: &mut Parser<B, E>,
+    name: &str,
+) -> Result<(), AllocError> {
+    match name {
+        "parse_user" => tell_debug(text, Registers::parse_user(parser)),
+        "parse_intr" => tell_debug(text, Registers::parse_intr(parser)),
+        "BranchEntry" => tell_branch(text, parser.parse()),
+        "DataSource" => tell_source(text, parser.parse()),
+        "Txn" => tell_value::<B, E, Txn>(text, parser),
+        "SampleRegsAbi" => tell_value::<B, E, SampleRegsAbi>(text, parser),
+        "values" => tell_values(text, parser.parse()),
+        "why_Sample" => tell_why::<B, E, Sample<'p>>(text, parser),
+        "why_ReadValue" => tell_why::<B, E, ReadValue>(text, parser),
+        "why_ReadGroup" => tell_why::<B, E, ReadGroup<'p>>(text, parser),
         _ => write!(text, "what is {name}?"),
+    }
+}
+
+// A branch: its addresses, its four bits, its cycles and its type.
+fn tell_branch(text: &mut String, answer: ParseResult<BranchEntry>) -> Result<(), AllocError> {
+    match answer {
+        Ok(branch) => {
+            let addresses = [branch.from(), branch.to()];
+            let predictions = [branch.mispred(), branch.predicted()];
+            let transactions = [branch.in_tx(), branch.abort()];
+            write!(text, "{addresses:?} {predictions:?} {transactions:?}")?;
+            write!(text, " {} {:?}", branch.cycles(), branch.ty())
+        }
+        Err(error) => tell_error(text, &error),
+    }
+}
+
+// The word of a data source.
+fn tell_source(text: &mut String, answer: ParseResult<DataSource>) -> Result<(), AllocError> {
+    match answer {
+        Ok(source) => write!(text, "{:#x}", source.bits()),
+        Err(error) => tell_error(text, &error),
     }
 }
 
@@ -297,14 +344,15 @@ fn tell_part<'p, B: ParseBuf<'p>, E: Endian>(
     }
 }
 
-// What a parser over a buffer answers, the lowest byte of a number first.
-fn told<'p, B: ParseBuf<'p> + Drop>(
+// What a parser over a buffer answers.
+fn told<'p, B: ParseBuf<'p> + Drop, E: Endian>(
     alloc: Global,
     buf: B,
+    endian: E,
     attr: perf_event_attr,
     parts: &str,
 ) -> Result<String, AllocError> {
-    let config = ParseConfig::<Native>::from(attr).with_endian(Little);
+    let config = ParseConfig::<Native>::from(attr).with_endian(endian);
     let mut parser = Parser::new(alloc, buf, config);
     let mut text = String::new(alloc);
     for part in parts.split(" | ") {
@@ -315,25 +363,35 @@ fn told<'p, B: ParseBuf<'p> + Drop>(
 
 // Answers of one parser.
 #[derive(Copy, Clone)]
-struct Answers<'a> {
+struct Answers<'a, E> {
+    endian: E,
     attr: perf_event_attr,
     parts: &'a str,
 }
 
-impl<'p, B: ParseBuf<'p> + Drop> Says<'p, B> for Answers<'_> {
+impl<'p, B: ParseBuf<'p> + Drop, E: Endian + Copy> Says<'p, B> for Answers<'_, E> {
     fn say(&self, alloc: Global, buf: B) -> Result<String, AllocError> {
-        told(alloc, buf, self.attr, self.parts)
+        told(alloc, buf, self.endian, self.attr, self.parts)
     }
 }
 
 /// What parsers over these bytes answer behind an attribute, through a slice, buffered readers and
 /// pieces. The words name what is asked, one thing behind another: a call, a type or, behind `|`, a
 /// frame and what the parser of its body is asked until the next `|`.
-pub fn tell_asked(
+pub fn tell_asked<E: Endian + Copy>(
     alloc: Global,
     bytes: &[u8],
+    endian: E,
     attr: perf_event_attr,
     parts: &str,
 ) -> Result<String, AllocError> {
-    say_everywhere(alloc, bytes, &Answers { attr, parts })
+    say_everywhere(
+        alloc,
+        bytes,
+        &Answers {
+            endian,
+            attr,
+            parts,
+        },
+    )
 }

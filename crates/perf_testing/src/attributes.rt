@@ -19,14 +19,6 @@ pub fn attribute(sample_type: u64, read_format: u64) -> perf_event_attr {
     }
 }
 
-/// The same, and branch stacks have the hardware's index.
-pub fn attribute_with_index(sample_type: u64, read_format: u64) -> perf_event_attr {
-    perf_event_attr {
-        branch_sample_type: 1 << 17,
-        ..attribute(sample_type, read_format)
-    }
-}
-
 /// The attribute of an event that has `sample_id_all` and these fields in its samples.
 pub fn ids_attribute(sample_type: u64) -> perf_event_attr {
     perf_event_attr {

@@ -92,10 +92,12 @@ fn frames(alloc: Global, is_big: bool, body: &[u8]) -> Result<Vec<u8>, AllocErro
     Ok(bytes)
 }
 
-/// The bytes of such frames, the lowest byte of each number first.
-pub fn frames_of(alloc: Global, parts: &[Part]) -> Result<Vec<u8>, AllocError> {
+/// The bytes of such frames, whose body is one part and the rest of them, the lowest byte of each
+/// number first.
+pub fn frames_of(alloc: Global, first: Part, rest: &[Part]) -> Result<Vec<u8>, AllocError> {
     let mut body = Vec::new(alloc);
-    put_parts(&mut body, false, parts)?;
+    put_parts(&mut body, false, &[first])?;
+    put_parts(&mut body, false, rest)?;
     frames(alloc, false, &body)
 }
 

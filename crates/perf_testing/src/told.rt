@@ -122,20 +122,45 @@ pub fn tell_spaces(text: &mut String, answer: &ParseResult<Record<'_>>) -> Resul
 pub fn tell_group(text: &mut String, answer: ParseResult<ReadGroup<'_>>) -> Result<(), AllocError> {
     match answer {
         Ok(group) => {
-            write!(text, "{} {}", group.len(), group.is_empty())?;
             tell_entries(text, &group)?;
-            write!(text, " {}", ReadValue::try_from(group).is_ok())
+            tell_if_one(text, Ok(group))
         }
+        Err(error) => tell_error(text, &error),
+    }
+}
+
+/// Writes the same of the group of a sample.
+pub fn tell_values(text: &mut String, answer: ParseResult<Sample<'_>>) -> Result<(), AllocError> {
+    match answer {
+        Ok(sample) => tell_group_of(text, &sample),
+        Err(error) => tell_error(text, &error),
+    }
+}
+
+fn tell_group_of(text: &mut String, sample: &Sample<'_>) -> Result<(), AllocError> {
+    match sample.values() {
+        Some(group) => {
+            tell_entries(text, group)?;
+            tell_if_one(text, group.clone(*text.allocator()))
+        }
+        None => text.push_str("no group"),
+    }
+}
+
+fn tell_if_one(text: &mut String, answer: ParseResult<ReadGroup<'_>>) -> Result<(), AllocError> {
+    match answer {
+        Ok(group) => write!(text, " {}", ReadValue::try_from(group).is_ok()),
         Err(error) => tell_error(text, &error),
     }
 }
 
 fn tell_entries(text: &mut String, group: &ReadGroup<'_>) -> Result<(), AllocError> {
     let times = [group.time_enabled(), group.time_running()];
+    write!(text, "{} {} {times:?}", group.len(), group.is_empty())?;
     let mut entries = group.entries();
     let first = [entries.next(), entries.next(), entries.next()];
     let by_places = [group.get(0), group.get(1), group.get(2)];
-    write!(text, " {times:?} {first:?} {by_places:?}")?;
+    write!(text, " {first:?} {by_places:?}")?;
     let by_ids = [
         group.get_by_id(1),
         group.get_by_id(2),
