@@ -68,8 +68,8 @@ fn a_failing_reader_ends_the_run_behind_whole_frames(rt: HostRuntime) -> Result<
     for n in 0..33 {
         let want = match n {
             0..=15 => "fault External",
-            16..=31 => "13 0 16 LostSamples 5; fault External",
-            _ => "13 0 16 LostSamples 5; 13 0 16 LostSamples 6; fault External",
+            16..=31 => "0 13 0 16 LostSamples lost=5; fault External",
+            _ => "0 13 0 16 LostSamples lost=5; 1 13 0 16 LostSamples lost=6; fault External",
         };
         for kind in IO_KINDS {
             for capacity in [1, 7, 8192] {
@@ -98,7 +98,8 @@ fn a_run_goes_on_behind_a_reader_that_failed_once(rt: HostRuntime) -> Result<(),
                 once: true,
             };
             let text = told_of(rt.alloc(), reader, capacity, &[10, 10])?;
-            let want = "13 0 16 LostSamples 5; fault External | 13 0 16 LostSamples 6; done";
+            let want =
+                "0 13 0 16 LostSamples lost=5; fault External | 0 13 0 16 LostSamples lost=6; done";
             check_same(&rt, "the runs", text.as_str(), want);
         }
     }
@@ -172,12 +173,13 @@ impl<'p> ParseBuf<'p> for Counting<'p> {
     }
 }
 
-const NEVER: &str = "13 0 16 LostSamples 5; 13 0 16 LostSamples 6; done";
+const NEVER: &str = "0 13 0 16 LostSamples lost=5; 1 13 0 16 LostSamples lost=6; done";
 
-const ONCE: &str = "13 0 16 LostSamples 5; fault External | 13 0 16 LostSamples 6; done";
+const ONCE: &str =
+    "0 13 0 16 LostSamples lost=5; fault External | 0 13 0 16 LostSamples lost=6; done";
 
 const TWICE: &str =
-    "13 0 16 LostSamples 5; fault External | fault External | 13 0 16 LostSamples 6; done";
+    "0 13 0 16 LostSamples lost=5; fault External | fault External | 0 13 0 16 LostSamples lost=6; done";
 
 // How many faults come and how many there were, the limits of the runs, and what they say.
 const FAULTS: [(u64, u64, &[usize], &str); 5] = [
@@ -208,8 +210,8 @@ fn a_counted_fault_ends_the_run_wherever_it_comes(rt: HostRuntime) -> Result<(),
     for before in 0..33 {
         let want = match before {
             0..=15 => "fault External",
-            16..=31 => "13 0 16 LostSamples 5; fault External",
-            _ => "13 0 16 LostSamples 5; 13 0 16 LostSamples 6; fault External",
+            16..=31 => "0 13 0 16 LostSamples lost=5; fault External",
+            _ => "0 13 0 16 LostSamples lost=5; 1 13 0 16 LostSamples lost=6; fault External",
         };
         let buf = Counting {
             bytes: TWO,

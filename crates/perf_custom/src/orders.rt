@@ -114,21 +114,27 @@ impl Endian for Single {
 
 #[test]
 fn an_order_of_eights_has_frames_of_eight_bytes(rt: HostRuntime) {
-    let want = "0 8 8 Unknown 0 []; 0 8 8 Unknown 0 []; done";
+    let want = "0 0 8 8 Unknown data= ty=0; 1 0 8 8 Unknown data= ty=0; done";
     check_everywhere(&rt, &[0; 16], Eights, &[10], want);
 }
 
 #[test]
 fn an_order_of_words_reads_its_own_bytes(rt: HostRuntime) {
     let bytes = b"\0\0\x0D\0\0\0\x10\0\0\0\0\0\0\0\x05\0";
-    check_everywhere(&rt, bytes, Words, &[10], "13 0 16 LostSamples 5; done");
+    check_everywhere(
+        &rt,
+        bytes,
+        Words,
+        &[10],
+        "0 13 0 16 LostSamples lost=5; done",
+    );
 }
 
 // A run lends its order to each frame's body.
 #[test]
 fn a_run_asks_for_no_second_order(rt: HostRuntime) {
     let bytes = b"\x02\0\0\0\0\0\x07\0\x0D\0\0\0\0\0\x10\0\x05\0\0\0\0\0\0\0";
-    let want = "2 0 7 InvalidRecord; 13 0 16 LostSamples 5; done | done";
+    let want = "0 2 0 7 refused InvalidRecord; 1 13 0 16 LostSamples lost=5; done | done";
     check_everywhere(&rt, bytes, Single, &[10, 10], want);
 }
 
@@ -195,7 +201,7 @@ fn check_calls<'p, B: ParseBuf<'p> + Drop>(
 ) -> Result<(), Fail> {
     let calls = Cell::new(0);
     let text = tell(alloc, buf, Counting { calls: &calls }, &[1])?;
-    let want = format!(in alloc; "16 0 {size} Eof; limit")?;
+    let want = format!(in alloc; "0 16 0 {size} refused Eof; limit")?;
     check!(rt; text.as_str(), want.as_str());
     assert!(rt;
         calls.get() >= 1 && calls.get() <= numbers,

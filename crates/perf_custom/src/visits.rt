@@ -308,6 +308,6 @@ fn check_records(rt: &(impl AllocGlobal + Abort), attr: perf_event_attr, want: &
 
 #[test]
 fn the_visitor_of_records_makes_them(rt: HostRuntime) {
-    let want = "LostSamples 5; Switch; Comm 1 2 a; Eof; ";
+    let want = "LostSamples lost=5; Switch; Comm pid=1 tid=2 comm=61; Eof; ";
     check_records(&rt, ids_attribute(1 << 2 | 1 << 7), want);
 }
