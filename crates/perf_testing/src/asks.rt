@@ -2,8 +2,8 @@
 
 use crate::everywhere::{Says, say_everywhere};
 use crate::told::{
-    tell_config, tell_error, tell_frame, tell_from_both_ends, tell_group, tell_record,
-    tell_semicolon, tell_spaces, tell_values,
+    tell_config, tell_frame, tell_from_both_ends, tell_group, tell_record, tell_semicolon,
+    tell_spaces, tell_values,
 };
 use perf_event_data::endian::{Endian, Native};
 use perf_event_data::parse::{
@@ -12,20 +12,20 @@ use perf_event_data::parse::{
 use perf_event_data::sys::{perf_event_attr, perf_event_header};
 use perf_event_data::{
     BranchEntry, Comm, CowSlice, DataSource, Exit, Lost, LostSamples, Mmap, Read, ReadGroup,
-    ReadValue, Record, RecordMetadata, Registers, Sample, SampleId, SampleRegsAbi, SwitchCpuWide,
-    Throttle, Txn,
+    ReadValue, Record, RecordMetadata, Registers, SampleId, SampleRegsAbi, SwitchCpuWide, Throttle,
+    Txn,
 };
 use std::alloc::{AllocError, Global};
 use std::fmt::Debug;
 
-// A value, or the kind of a refusal.
+// A value, or what its refusal says.
 fn tell_debug<T: Debug + Drop>(
     text: &mut String,
     answer: ParseResult<T>,
 ) -> Result<(), AllocError> {
     match answer {
         Ok(value) => write!(text, "{value:?}"),
-        Err(error) => tell_error(text, &error),
+        Err(error) => write!(text, "{error}"),
     }
 }
 
@@ -57,7 +57,7 @@ fn tell_repeated<'p, B: ParseBuf<'p>, E: Endian, P: Parse<'p, B> + Debug + Drop>
 fn tell_rest(text: &mut String, answer: ParseResult<CowSlice<'_, u8>>) -> Result<(), AllocError> {
     match answer {
         Ok(bytes) => write!(text, "{:?}", bytes.as_slice()),
-        Err(error) => tell_error(text, &error),
+        Err(error) => write!(text, "{error}"),
     }
 }
 
@@ -135,7 +135,7 @@ fn tell_comm(text: &mut String, answer: ParseResult<Comm<'_>>) -> Result<(), All
             write!(text, "{:?} ", named.comm_os())?;
             tell_record(text, &Ok(Record::from(named)))
         }
-        Err(error) => tell_error(text, &error),
+        Err(error) => write!(text, "{error}"),
     }
 }
 
@@ -145,7 +145,7 @@ fn tell_mmap(text: &mut String, answer: ParseResult<Mmap<'_>>) -> Result<(), All
             write!(text, "{:?} ", mapped.filename_os())?;
             tell_record(text, &Ok(Record::from(mapped)))
         }
-        Err(error) => tell_error(text, &error),
+        Err(error) => write!(text, "{error}"),
     }
 }
 
@@ -159,7 +159,7 @@ fn tell_behind_header<'p, B: ParseBuf<'p>, E: Endian>(
             let answer = Record::parse_with_header(parser, header);
             tell_frame(text, 0, &header, &answer)
         }
-        Err(error) => tell_error(text, &error),
+        Err(error) => write!(text, "{error}"),
     }
 }
 
@@ -170,13 +170,10 @@ pub fn next_record<'p, B: ParseBuf<'p>, E: Endian>(
     parser.parse()
 }
 
-// What the refusal of a type says.
-fn tell_why<'p, B: ParseBuf<'p>, E: Endian, P: Parse<'p, B> + Drop>(
-    text: &mut String,
-    parser: &mut Parser<B, E>,
-) -> Result<(), AllocError> {
-    match parser.parse::<P>() {
-        Ok(_) => text.push_str("not refused"),
+// A record, or what its refusal says.
+fn tell_found(text: &mut String, answer: &ParseResult<Record<'_>>) -> Result<(), AllocError> {
+    match answer {
+        Ok(_) => tell_record(text, answer),
         Err(error) => write!(text, "{error}"),
     }
 }
@@ -206,8 +203,7 @@ fn tell_body<'p, B: ParseBuf<'p>, E: Endian>(
     }
 }
 
-// What stands beside records, and records: at once, behind their headers, with what a refusal says,
-// and the namespaces of one.
+// What stands beside records, and records: at once, behind their headers, and with their namespaces.
 fn tell_beside<'p, B: ParseBuf<'p>, E: Endian>(
     text: &mut String,
     parser: &mut Parser<B, E>,
@@ -220,15 +216,14 @@ fn tell_beside<'p, B: ParseBuf<'p>, E: Endian>(
         "perf_event_attr" => tell_value::<B, E, perf_event_attr>(text, parser),
         "SampleId" => tell_value::<B, E, SampleId>(text, parser),
         "config" => tell_config(text, parser.config()),
-        "Record" => tell_record(text, &next_record(parser)),
+        "Record" => tell_found(text, &next_record(parser)),
         "parse_with_header" => tell_behind_header(text, parser),
-        "why" => tell_why::<B, E, Record<'p>>(text, parser),
         "namespaces" => tell_spaces(text, &next_record(parser)),
         _ => tell_part_of_sample(text, parser, name),
     }
 }
 
-// Parts of samples, and what refusals of parts say.
+// Parts of samples.
 fn tell_part_of_sample<'p, B: ParseBuf<'p>, E: Endian>(
     text: &mut String,
     parser: &mut Parser<B, E>,
@@ -242,9 +237,6 @@ fn tell_part_of_sample<'p, B: ParseBuf<'p>, E: Endian>(
         "Txn" => tell_value::<B, E, Txn>(text, parser),
         "SampleRegsAbi" => tell_value::<B, E, SampleRegsAbi>(text, parser),
         "values" => tell_values(text, parser.parse()),
-        "why_Sample" => tell_why::<B, E, Sample<'p>>(text, parser),
-        "why_ReadValue" => tell_why::<B, E, ReadValue>(text, parser),
-        "why_ReadGroup" => tell_why::<B, E, ReadGroup<'p>>(text, parser),
         _ => write!(text, "what is {name}?"),
     }
 }
@@ -259,7 +251,7 @@ fn tell_branch(text: &mut String, answer: ParseResult<BranchEntry>) -> Result<()
             write!(text, "{addresses:?} {predictions:?} {transactions:?}")?;
             write!(text, " {} {:?}", branch.cycles(), branch.ty())
         }
-        Err(error) => tell_error(text, &error),
+        Err(error) => write!(text, "{error}"),
     }
 }
 
@@ -267,7 +259,7 @@ fn tell_branch(text: &mut String, answer: ParseResult<BranchEntry>) -> Result<()
 fn tell_source(text: &mut String, answer: ParseResult<DataSource>) -> Result<(), AllocError> {
     match answer {
         Ok(source) => write!(text, "{:#x}", source.bits()),
-        Err(error) => tell_error(text, &error),
+        Err(error) => write!(text, "{error}"),
     }
 }
 
@@ -311,7 +303,7 @@ fn tell_inside<'p, E: Endian>(
             write!(text, "{metadata:?}")?;
             tell_answers(text, &mut inner, words)
         }
-        Err(error) => tell_error(text, &error),
+        Err(error) => write!(text, "{error}"),
     }
 }
 
@@ -326,7 +318,7 @@ fn tell_inside_behind_header<'p, B: ParseBuf<'p>, E: Endian>(
             write!(text, "{header:?}")?;
             tell_inside(text, parser.parse_metadata_with_header(header), words)
         }
-        Err(error) => tell_error(text, &error),
+        Err(error) => write!(text, "{error}"),
     }
 }
 

@@ -125,7 +125,7 @@ pub fn tell_group(text: &mut String, answer: ParseResult<ReadGroup<'_>>) -> Resu
             tell_entries(text, &group)?;
             tell_if_one(text, Ok(group))
         }
-        Err(error) => tell_error(text, &error),
+        Err(error) => write!(text, "{error}"),
     }
 }
 
@@ -133,7 +133,7 @@ pub fn tell_group(text: &mut String, answer: ParseResult<ReadGroup<'_>>) -> Resu
 pub fn tell_values(text: &mut String, answer: ParseResult<Sample<'_>>) -> Result<(), AllocError> {
     match answer {
         Ok(sample) => tell_group_of(text, &sample),
-        Err(error) => tell_error(text, &error),
+        Err(error) => write!(text, "{error}"),
     }
 }
 
@@ -150,7 +150,7 @@ fn tell_group_of(text: &mut String, sample: &Sample<'_>) -> Result<(), AllocErro
 fn tell_if_one(text: &mut String, answer: ParseResult<ReadGroup<'_>>) -> Result<(), AllocError> {
     match answer {
         Ok(group) => write!(text, " {}", ReadValue::try_from(group).is_ok()),
-        Err(error) => tell_error(text, &error),
+        Err(error) => write!(text, "{error}"),
     }
 }
 
@@ -184,7 +184,7 @@ pub fn tell_from_both_ends(
             write!(text, "{} {times:?}", group.len())?;
             tell_taken(text, group.entries())
         }
-        Err(error) => tell_error(text, &error),
+        Err(error) => write!(text, "{error}"),
     }
 }
 
