@@ -5,7 +5,7 @@ use anyhow::{Context, Result, bail};
 use perf_event_data::endian::{Big, Little};
 use perf_event_data::sys::perf_event_attr;
 use perf_testing::asks::tell_asked;
-use perf_testing::runs::{tell_behind, tell_everywhere, tell_shown};
+use perf_testing::runs::{tell_all, tell_behind, tell_shown};
 use perf_testing::sample_bytes::{Part, put_parts, tell_sample_bytes};
 use std::alloc::{AllocError, Global};
 
@@ -112,11 +112,10 @@ impl<'a> Case<'a> {
     }
 
     fn told_answers(&self) -> Result<String> {
-        let (attr, asked) = (self.attr, self.asked);
         if self.is_big {
-            Ok(tell_asked(self.alloc, &self.big, Big, attr, asked)?)
+            Ok(tell_asked(self.alloc, &self.big, Big, &self.attr, self.asked)?)
         } else {
-            Ok(tell_asked(self.alloc, &self.little, Little, attr, asked)?)
+            Ok(tell_asked(self.alloc, &self.little, Little, &self.attr, self.asked)?)
         }
     }
 
@@ -129,14 +128,20 @@ impl<'a> Case<'a> {
     }
 
     fn told_runs(&self) -> Result<String> {
-        Ok(tell_everywhere(self.alloc, &self.little, Little, self.attr, &self.limits()?)?)
+        Ok(tell_all(
+            self.alloc,
+            &self.little,
+            Little,
+            &self.attr,
+            &self.limits()?,
+        )?)
     }
 
     // What is said in one order, and where the other one says something else, that too.
     fn told_sample(&self) -> Result<String> {
         let left = self.asked.parse::<usize>()?;
-        let mut text = tell_sample_bytes(self.alloc, false, self.attr, &self.little, left)?;
-        let other = tell_sample_bytes(self.alloc, true, self.attr, &self.big, left)?;
+        let mut text = tell_sample_bytes(self.alloc, false, &self.attr, &self.little, left)?;
+        let other = tell_sample_bytes(self.alloc, true, &self.attr, &self.big, left)?;
         if other.as_str() != text.as_str() {
             write!(text, " but {other}")?;
         }

@@ -1,13 +1,13 @@
 //! What a parser is asked for, one thing behind another, and its answers as text.
 
-use crate::everywhere::{Says, say_everywhere};
+use crate::everywhere::{Says, parser_of, say_everywhere};
 use crate::told::{
     tell_config, tell_frame, tell_from_both_ends, tell_group, tell_record, tell_semicolon,
     tell_spaces, tell_values,
 };
-use perf_event_data::endian::{Endian, Native};
+use perf_event_data::endian::Endian;
 use perf_event_data::parse::{
-    Parse, ParseBuf, ParseBufCursor, ParseConfig, ParseRecord, ParseRegisters, ParseResult, Parser,
+    Parse, ParseBuf, ParseBufCursor, ParseRecord, ParseRegisters, ParseResult, Parser,
 };
 use perf_event_data::sys::{perf_event_attr, perf_event_header};
 use perf_event_data::{
@@ -128,22 +128,38 @@ fn tell_list<'p, B: ParseBuf<'p>, E: Endian>(
     }
 }
 
-// A name as text, and the record.
+// A task, its name as bytes and as text.
 fn tell_comm(text: &mut String, answer: ParseResult<Comm<'_>>) -> Result<(), AllocError> {
     match answer {
         Ok(named) => {
-            write!(text, "{:?} ", named.comm_os())?;
-            tell_record(text, &Ok(Record::from(named)))
+            write!(
+                text,
+                "{:?} {:?}",
+                [named.pid, named.tid],
+                named.comm.as_slice()
+            )?;
+            write!(text, " {:?}", named.comm_os())
         }
         Err(error) => write!(text, "{error}"),
     }
 }
 
+// A task, where it sees a file, and that file's name as bytes and as text.
 fn tell_mmap(text: &mut String, answer: ParseResult<Mmap<'_>>) -> Result<(), AllocError> {
     match answer {
-        Ok(mapped) => {
-            write!(text, "{:?} ", mapped.filename_os())?;
-            tell_record(text, &Ok(Record::from(mapped)))
+        Ok(map) => {
+            write!(
+                text,
+                "{:?} {:?}",
+                [map.pid, map.tid],
+                [map.addr, map.len, map.pgoff]
+            )?;
+            write!(
+                text,
+                " {:?} {:?}",
+                map.filename.as_slice(),
+                map.filename_os()
+            )
         }
         Err(error) => write!(text, "{error}"),
     }
@@ -155,10 +171,7 @@ fn tell_behind_header<'p, B: ParseBuf<'p>, E: Endian>(
     parser: &mut Parser<B, E>,
 ) -> Result<(), AllocError> {
     match parser.parse::<perf_event_header>() {
-        Ok(header) => {
-            let answer = Record::parse_with_header(parser, header);
-            tell_frame(text, 0, &header, &answer)
-        }
+        Ok(header) => tell_frame(text, 0, &header, &Record::parse_with_header(parser, header)),
         Err(error) => write!(text, "{error}"),
     }
 }
@@ -171,9 +184,9 @@ pub fn next_record<'p, B: ParseBuf<'p>, E: Endian>(
 }
 
 // A record, or what its refusal says.
-fn tell_found(text: &mut String, answer: &ParseResult<Record<'_>>) -> Result<(), AllocError> {
-    match answer {
-        Ok(_) => tell_record(text, answer),
+fn tell_found(text: &mut String, answer: ParseResult<Record<'_>>) -> Result<(), AllocError> {
+    match &answer {
+        Ok(_) => tell_record(text, &answer),
         Err(error) => write!(text, "{error}"),
     }
 }
@@ -216,9 +229,9 @@ fn tell_beside<'p, B: ParseBuf<'p>, E: Endian>(
         "perf_event_attr" => tell_value::<B, E, perf_event_attr>(text, parser),
         "SampleId" => tell_value::<B, E, SampleId>(text, parser),
         "config" => tell_config(text, parser.config()),
-        "Record" => tell_found(text, &next_record(parser)),
+        "Record" => tell_found(text, next_record(parser)),
         "parse_with_header" => tell_behind_header(text, parser),
-        "namespaces" => tell_spaces(text, &next_record(parser)),
+        "namespaces" => tell_spaces(text, next_record(parser)),
         _ => tell_part_of_sample(text, parser, name),
     }
 }
@@ -336,34 +349,32 @@ fn tell_part<'p, B: ParseBuf<'p>, E: Endian>(
     }
 }
 
-// What a parser over a buffer answers.
-fn told<'p, B: ParseBuf<'p> + Drop, E: Endian>(
-    alloc: Global,
-    buf: B,
-    endian: E,
-    attr: perf_event_attr,
+// The answers of a parser to each part.
+fn tell_parts<'p, B: ParseBuf<'p>, E: Endian>(
+    text: &mut String,
+    parser: &mut Parser<B, E>,
     parts: &str,
-) -> Result<String, AllocError> {
-    let config = ParseConfig::<Native>::from(attr).with_endian(endian);
-    let mut parser = Parser::new(alloc, buf, config);
-    let mut text = String::new(alloc);
+) -> Result<(), AllocError> {
     for part in parts.split(" | ") {
-        tell_part(&mut text, &mut parser, part)?;
+        tell_part(text, parser, part)?;
     }
-    Ok(text)
+    Ok(())
 }
 
 // Answers of one parser.
 #[derive(Copy, Clone)]
 struct Answers<'a, E> {
     endian: E,
-    attr: perf_event_attr,
+    attr: &'a perf_event_attr,
     parts: &'a str,
 }
 
 impl<'p, B: ParseBuf<'p> + Drop, E: Endian + Copy> Says<'p, B> for Answers<'_, E> {
     fn say(&self, alloc: Global, buf: B) -> Result<String, AllocError> {
-        told(alloc, buf, self.endian, self.attr, self.parts)
+        let mut parser = parser_of(alloc, buf, self.endian, self.attr);
+        let mut text = String::new(alloc);
+        tell_parts(&mut text, &mut parser, self.parts)?;
+        Ok(text)
     }
 }
 
@@ -374,16 +385,13 @@ pub fn tell_asked<E: Endian + Copy>(
     alloc: Global,
     bytes: &[u8],
     endian: E,
-    attr: perf_event_attr,
+    attr: &perf_event_attr,
     parts: &str,
 ) -> Result<String, AllocError> {
-    say_everywhere(
-        alloc,
-        bytes,
-        &Answers {
-            endian,
-            attr,
-            parts,
-        },
-    )
+    let says = Answers {
+        endian,
+        attr,
+        parts,
+    };
+    say_everywhere(alloc, bytes, &says)
 }

@@ -2,11 +2,11 @@
 
 use perf_event_data::sys::perf_event_attr;
 
-/// The registers of a user that the attributes of samples ask for.
-pub const USER_MASK: u64 = 0x3;
+// The registers of a user that the attributes of samples ask for.
+const USER_MASK: u64 = 0x3;
 
-/// The same at an interrupt.
-pub const INTERRUPT_MASK: u64 = 0x15;
+// The same at an interrupt.
+const INTERRUPT_MASK: u64 = 0x15;
 
 /// The attribute of an event with this sample type and this read format.
 pub fn attribute(sample_type: u64, read_format: u64) -> perf_event_attr {

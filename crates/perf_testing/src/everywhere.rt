@@ -1,9 +1,22 @@
 //! What is said over each of many buffers.
 
 use perf_event_data::PieceBuf;
-use perf_event_data::parse::ParseBuf;
+use perf_event_data::endian::{Endian, Native};
+use perf_event_data::parse::{ParseBuf, ParseConfig, Parser};
+use perf_event_data::sys::perf_event_attr;
 use std::alloc::{AllocError, Global};
 use std::io::BufReader;
+
+/// A parser over a buffer behind an attribute.
+pub fn parser_of<'p, B: ParseBuf<'p>, E: Endian>(
+    alloc: Global,
+    buf: B,
+    endian: E,
+    attr: &perf_event_attr,
+) -> Parser<B, E> {
+    let config = ParseConfig::<Native>::from(*attr);
+    Parser::new(alloc, buf, config.with_endian(endian))
+}
 
 /// What is said over a buffer.
 pub trait Says<'p, B: ParseBuf<'p>> {

@@ -1,7 +1,7 @@
 //! Runs over streams as text.
 
 use crate::asks::next_record;
-use crate::everywhere::{Says, say_everywhere};
+use crate::everywhere::{Says, parser_of, say_everywhere};
 use crate::told::{tell_config, tell_error, tell_frame};
 use perf_event_data::endian::{Endian, Little, Native};
 use perf_event_data::parse::{ParseBuf, ParseConfig, ParseError, ParseResult, Parser};
@@ -66,7 +66,7 @@ pub fn tell<'p, B: ParseBuf<'p> + Drop, E: Endian>(
     endian: E,
     limits: &[usize],
 ) -> Result<String, AllocError> {
-    tell_under(alloc, buf, endian, perf_event_attr::default(), limits)
+    tell_under(alloc, buf, endian, &perf_event_attr::default(), limits)
 }
 
 /// The same behind an attribute.
@@ -74,11 +74,10 @@ pub fn tell_under<'p, B: ParseBuf<'p> + Drop, E: Endian>(
     alloc: Global,
     buf: B,
     endian: E,
-    attr: perf_event_attr,
+    attr: &perf_event_attr,
     limits: &[usize],
 ) -> Result<String, AllocError> {
-    let config = ParseConfig::<Native>::from(attr).with_endian(endian);
-    let mut parser = Parser::new(alloc, buf, config);
+    let mut parser = parser_of(alloc, buf, endian, attr);
     let mut text = String::new(alloc);
     tell_runs(alloc, &mut text, &mut parser, limits)?;
     Ok(text)
@@ -150,7 +149,7 @@ pub fn tell_behind(alloc: Global, bytes: &[u8], limits: &[usize]) -> Result<Stri
 #[derive(Copy, Clone)]
 struct Runs<'a, E> {
     endian: E,
-    attr: perf_event_attr,
+    attr: &'a perf_event_attr,
     limits: &'a [usize],
 }
 
@@ -169,15 +168,23 @@ pub fn tell_everywhere<E: Endian + Copy>(
     attr: perf_event_attr,
     limits: &[usize],
 ) -> Result<String, AllocError> {
-    say_everywhere(
-        alloc,
-        bytes,
-        &Runs {
-            endian,
-            attr,
-            limits,
-        },
-    )
+    tell_all(alloc, bytes, endian, &attr, limits)
+}
+
+/// The same of an attribute that is lent.
+pub fn tell_all<E: Endian + Copy>(
+    alloc: Global,
+    bytes: &[u8],
+    endian: E,
+    attr: &perf_event_attr,
+    limits: &[usize],
+) -> Result<String, AllocError> {
+    let says = Runs {
+        endian,
+        attr,
+        limits,
+    };
+    say_everywhere(alloc, bytes, &says)
 }
 
 /// What `{:?}` shows of the records of a slice, one behind another, and why there is no further one.

@@ -1,11 +1,11 @@
 //! Bodies of samples, written in both byte orders and read through every buffer.
 
-use crate::everywhere::{Says, say_everywhere};
-use crate::runs::tell_everywhere;
+use crate::everywhere::{Says, parser_of, say_everywhere};
+use crate::runs::tell_all;
 use crate::told::{tell_error, tell_record};
 use perf_event_data::Record;
-use perf_event_data::endian::{Big, Endian, Little, Native};
-use perf_event_data::parse::{ParseBuf, ParseConfig, ParseResult, Parser};
+use perf_event_data::endian::{Big, Endian, Little};
+use perf_event_data::parse::{ParseBuf, ParseResult, Parser};
 use perf_event_data::sys::perf_event_attr;
 use std::alloc::{AllocError, Global};
 
@@ -59,24 +59,6 @@ fn tell_left<'p, B: ParseBuf<'p>, E: Endian>(
     }
 }
 
-// What a parser says of a body. Behind a sample so many bytes are left.
-fn told<'p, B: ParseBuf<'p> + Drop, E: Endian>(
-    alloc: Global,
-    buf: B,
-    endian: E,
-    attr: perf_event_attr,
-    left: usize,
-) -> Result<String, AllocError> {
-    let config = ParseConfig::<Native>::from(attr).with_endian(endian);
-    let mut parser = Parser::new(alloc, buf, config);
-    let mut text = String::new(alloc);
-    tell_record(&mut text, &next_sample(alloc, &mut parser))?;
-    if text.starts_with("Sample") {
-        tell_left(&mut text, &mut parser, left)?;
-    }
-    Ok(text)
-}
-
 // The frame of a body, and one of LOST_SAMPLES behind it.
 fn frames(alloc: Global, is_big: bool, body: &[u8]) -> Result<Vec<u8>, AllocError> {
     let mut bytes = Vec::new(alloc);
@@ -103,15 +85,22 @@ pub fn frames_of(alloc: Global, first: Part, rest: &[Part]) -> Result<Vec<u8>, A
 
 // The sample of a body.
 #[derive(Copy, Clone)]
-struct Body<E> {
+struct Body<'a, E> {
     endian: E,
-    attr: perf_event_attr,
+    attr: &'a perf_event_attr,
     left: usize,
 }
 
-impl<'p, B: ParseBuf<'p> + Drop, E: Endian + Copy> Says<'p, B> for Body<E> {
+// Behind a sample so many bytes are left.
+impl<'p, B: ParseBuf<'p> + Drop, E: Endian + Copy> Says<'p, B> for Body<'_, E> {
     fn say(&self, alloc: Global, buf: B) -> Result<String, AllocError> {
-        told(alloc, buf, self.endian, self.attr, self.left)
+        let mut parser = parser_of(alloc, buf, self.endian, self.attr);
+        let mut text = String::new(alloc);
+        tell_record(&mut text, &next_sample(alloc, &mut parser))?;
+        if text.starts_with("Sample") {
+            tell_left(&mut text, &mut parser, self.left)?;
+        }
+        Ok(text)
     }
 }
 
@@ -120,13 +109,13 @@ fn add_frames<E: Endian + Copy>(
     text: &mut String,
     alloc: Global,
     (endian, is_big): (E, bool),
-    attr: perf_event_attr,
+    attr: &perf_event_attr,
     body: &[u8],
 ) -> Result<(), AllocError> {
     let bytes = frames(alloc, is_big, body)?;
     let size = body.len().saturating_add(8);
     let want = format!(in alloc; "0 9 2 {size} {text}; 1 13 0 16 LostSamples lost=5; done")?;
-    let said = tell_everywhere(alloc, &bytes, endian, attr, &[10])?;
+    let said = tell_all(alloc, &bytes, endian, attr, &[10])?;
     if said.as_str() != want.as_str() {
         write!(text, " but {said}")?;
     }
@@ -136,7 +125,7 @@ fn add_frames<E: Endian + Copy>(
 fn tell_in<E: Endian + Copy>(
     alloc: Global,
     (endian, is_big): (E, bool),
-    attr: perf_event_attr,
+    attr: &perf_event_attr,
     body: &[u8],
     left: usize,
 ) -> Result<String, AllocError> {
@@ -153,7 +142,7 @@ fn tell_in<E: Endian + Copy>(
 pub fn tell_sample_bytes(
     alloc: Global,
     is_big: bool,
-    attr: perf_event_attr,
+    attr: &perf_event_attr,
     body: &[u8],
     left: usize,
 ) -> Result<String, AllocError> {

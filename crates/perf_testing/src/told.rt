@@ -3,7 +3,7 @@
 use bitflags::Flags;
 use perf_event_data::parse::{ParseConfig, ParseError, ParseResult};
 use perf_event_data::sys::perf_event_header;
-use perf_event_data::{GroupIter, ReadGroup, ReadValue, Record, Registers, Sample};
+use perf_event_data::{GroupIter, Namespaces, ReadGroup, ReadValue, Record, Registers, Sample};
 use perf_lines::line::line_of;
 use std::alloc::AllocError;
 
@@ -100,11 +100,15 @@ pub fn tell_semicolon(text: &mut String) -> Result<(), AllocError> {
 
 /// Writes a record and, of its namespaces, those that have a name: network, uts, ipc, pid, user and
 /// cgroup.
-pub fn tell_spaces(text: &mut String, answer: &ParseResult<Record<'_>>) -> Result<(), AllocError> {
-    tell_record(text, answer)?;
-    let Ok(Record::Namespaces(spaces)) = answer else {
-        return text.push_str(" not NAMESPACES");
-    };
+pub fn tell_spaces(text: &mut String, answer: ParseResult<Record<'_>>) -> Result<(), AllocError> {
+    tell_record(text, &answer)?;
+    match &answer {
+        Ok(Record::Namespaces(spaces)) => tell_named(text, spaces),
+        _ => text.push_str(" not NAMESPACES"),
+    }
+}
+
+fn tell_named(text: &mut String, spaces: &Namespaces<'_>) -> Result<(), AllocError> {
     let named = [
         spaces.network(),
         spaces.uts(),
@@ -123,7 +127,7 @@ pub fn tell_group(text: &mut String, answer: ParseResult<ReadGroup<'_>>) -> Resu
     match answer {
         Ok(group) => {
             tell_entries(text, &group)?;
-            tell_if_one(text, Ok(group))
+            tell_if_one(text, group)
         }
         Err(error) => write!(text, "{error}"),
     }
@@ -139,19 +143,21 @@ pub fn tell_values(text: &mut String, answer: ParseResult<Sample<'_>>) -> Result
 
 fn tell_group_of(text: &mut String, sample: &Sample<'_>) -> Result<(), AllocError> {
     match sample.values() {
-        Some(group) => {
-            tell_entries(text, group)?;
-            tell_if_one(text, group.clone(*text.allocator()))
-        }
+        Some(group) => tell_lent_group(text, group),
         None => text.push_str("no group"),
     }
 }
 
-fn tell_if_one(text: &mut String, answer: ParseResult<ReadGroup<'_>>) -> Result<(), AllocError> {
-    match answer {
-        Ok(group) => write!(text, " {}", ReadValue::try_from(group).is_ok()),
+fn tell_lent_group(text: &mut String, group: &ReadGroup<'_>) -> Result<(), AllocError> {
+    tell_entries(text, group)?;
+    match group.clone(*text.allocator()) {
+        Ok(copy) => tell_if_one(text, copy),
         Err(error) => write!(text, "{error}"),
     }
+}
+
+fn tell_if_one(text: &mut String, group: ReadGroup<'_>) -> Result<(), AllocError> {
+    write!(text, " {}", ReadValue::try_from(group).is_ok())
 }
 
 fn tell_entries(text: &mut String, group: &ReadGroup<'_>) -> Result<(), AllocError> {
