@@ -3,8 +3,11 @@
 ghost use Rattle.std.specs.Prelude.{◌<◌, true};
 ghost use Rattle.std.specs.Int.{w16, w32, w64, from_le_bytes};
 
-use crate::check;
-use crate::texts::{FIVE_LOST, attr_bytes, check, check_all, plain_attr};
+use crate::checks::check_same;
+use crate::streams::{
+    FIVE_LOST, PLAIN_64, PLAIN_72, PLAIN_100, REFUSED, REFUSED_TEXT, TEXT, TWO, Told, check_run,
+    joined,
+};
 use perf_event_data::endian::{Endian, Little};
 use perf_event_data::parse::{ParseError, ParseResult};
 use perf_lines::outcome::Outcome;
@@ -15,22 +18,6 @@ use std::cell::Cell;
 use std::io;
 use std::io::{Read, Write};
 use std::process::Abort;
-
-// Five lost samples twice, the lowest byte first, and their text.
-const TWO: [u8; 32] = [
-    13, 0, 0, 0, 0, 0, 16, 0, 5, 0, 0, 0, 0, 0, 0, 0, 13, 0, 0, 0, 0, 0, 16, 0, 5, 0, 0, 0, 0, 0,
-    0, 0,
-];
-
-const TEXT: &str = "0 13 0 16 LostSamples lost=5\n1 13 0 16 LostSamples lost=5\nend done\n";
-
-// A frame that is refused and five lost samples, and their text.
-const REFUSED: [u8; 24] = [
-    2, 0, 0, 0, 0, 0, 7, 0, 13, 0, 0, 0, 0, 0, 16, 0, 5, 0, 0, 0, 0, 0, 0, 0,
-];
-
-const REFUSED_TEXT: &str =
-    "0 2 0 7 refused InvalidRecord\n1 13 0 16 LostSamples lost=5\nend done\n";
 
 // ---- readers
 
@@ -55,32 +42,7 @@ impl Read for Failing<'_> {
     }
 }
 
-fn check_reader(
-    rt: &(impl AllocGlobal + Abort),
-    with_attr: bool,
-    reader: Failing,
-    text: &str,
-    outcome: Outcome,
-    piece: usize,
-)
-    requires { 0 < piece }
-{
-    let mut written = Vec::new(rt.alloc());
-    let ended = run(
-        rt.alloc(),
-        reader,
-        &mut written,
-        Little,
-        10,
-        with_attr,
-        piece,
-    );
-    assert_eq!(rt; written.as_slice(), text.as_bytes(), "in pieces of {piece}");
-    assert_eq!(rt; ended, outcome, "in pieces of {piece}");
-}
-
-// What is written of a reader that gives one byte a read, seven or all that there are, in pieces of
-// one byte, of seven and of more than there are.
+// Asserts what is written of a reader that gives one byte a read, seven or all that there are.
 fn check_reads(
     rt: &(impl AllocGlobal + Abort),
     with_attr: bool,
@@ -89,202 +51,222 @@ fn check_reads(
     text: &str,
     outcome: Outcome,
 ) {
+    let told = Told {
+        limit: 10,
+        with_attr,
+        text,
+        outcome,
+    };
     for most in [1, 7, 8192] {
-        let reader = Failing { bytes, most, fault };
-        check_reader(rt, with_attr, reader, text, outcome, 1);
-        check_reader(rt, with_attr, reader, text, outcome, 7);
-        check_reader(rt, with_attr, reader, text, outcome, 8192);
+        check_run(rt, Failing { bytes, most, fault }, Little, told);
     }
 }
 
-fn check_fault(
-    rt: &(impl AllocGlobal + Abort),
-    with_attr: bool,
-    bytes: &[u8],
-    kind: io::ErrorKind,
-    text: &str,
-) {
-    check_reads(rt, with_attr, bytes, Some(kind), text, Outcome::Faulted);
-}
+const NOTHING: &str = "end fault External\n";
+
+const ONE: &str = "0 13 0 16 LostSamples lost=5\nend fault External\n";
+
+const BOTH: &str =
+    "0 13 0 16 LostSamples lost=5\n1 13 0 16 LostSamples lost=5\nend fault External\n";
 
 #[test]
 fn a_fault_ends_the_text_behind_whole_frames(rt: HostRuntime) {
     for count in 0..33 {
         let text = match count {
-            0..=15 => "end fault External\n",
-            16..=31 => "0 13 0 16 LostSamples lost=5\nend fault External\n",
-            _ => {
-                "0 13 0 16 LostSamples lost=5\n1 13 0 16 LostSamples lost=5\n\
-                end fault External\n"
-            }
+            0..=15 => NOTHING,
+            16..=31 => ONE,
+            _ => BOTH,
         };
-        check_fault(&rt, false, &TWO[..count], io::ErrorKind::Other, text);
+        let fault = Some(io::ErrorKind::Other);
+        check_reads(&rt, false, &TWO[..count], fault, text, Outcome::Faulted);
     }
 }
+
+// Bytes, how the reader fails behind them, and what is written.
+const FAULTS: [(&[u8], io::ErrorKind, &str); 3] = [
+    (
+        &[1, 0, 0, 0, 0, 0, 48, 0, 0x16, 0x4c, 1, 0],
+        io::ErrorKind::UnexpectedEof,
+        NOTHING,
+    ),
+    (&[], io::ErrorKind::Interrupted, NOTHING),
+    (&FIVE_LOST, io::ErrorKind::Other, ONE),
+];
 
 #[test]
 fn a_fault_of_the_reader_ends_the_text(rt: HostRuntime) {
-    let line = "end fault External\n";
-    let cut = [1, 0, 0, 0, 0, 0, 48, 0, 0x16, 0x4c, 1, 0];
-    check_fault(&rt, false, &cut, io::ErrorKind::UnexpectedEof, line);
-    check_fault(&rt, false, &[], io::ErrorKind::Interrupted, line);
-    let text = "0 13 0 16 LostSamples lost=5\nend fault External\n";
-    check_fault(&rt, false, &FIVE_LOST, io::ErrorKind::Other, text);
+    for (bytes, kind, text) in FAULTS {
+        check_reads(&rt, false, bytes, Some(kind), text, Outcome::Faulted);
+    }
 }
+
+// How many bytes there are of an attribute of 72 bytes and five lost samples, how the reader fails
+// behind them, and what is written.
+const INSIDE: [(usize, io::ErrorKind, &str); 9] = [
+    (0, io::ErrorKind::UnexpectedEof, NOTHING),
+    (7, io::ErrorKind::UnexpectedEof, NOTHING),
+    (71, io::ErrorKind::UnexpectedEof, NOTHING),
+    (72, io::ErrorKind::UnexpectedEof, NOTHING),
+    (0, io::ErrorKind::Other, NOTHING),
+    (7, io::ErrorKind::Other, NOTHING),
+    (71, io::ErrorKind::Other, NOTHING),
+    (72, io::ErrorKind::Other, NOTHING),
+    (88, io::ErrorKind::Other, ONE),
+];
 
 #[test]
 fn a_fault_inside_the_attribute_is_no_refusal(rt: HostRuntime) -> Result<(), AllocError> {
-    let line = "end fault External\n";
-    for kind in [io::ErrorKind::UnexpectedEof, io::ErrorKind::Other] {
-        for count in [0, 7, 71, 72] {
-            let cut = attr_bytes(rt.alloc(), 72, count, 0, 0)?;
-            check_fault(&rt, true, &cut, kind, line);
-        }
+    let input = joined(rt.alloc(), &PLAIN_72, &FIVE_LOST)?;
+    for (count, kind, text) in INSIDE {
+        let bytes = &input[..count.min(input.len())];
+        check_reads(&rt, true, bytes, Some(kind), text, Outcome::Faulted);
     }
-    let mut input = plain_attr(rt.alloc(), 72)?;
-    input.extend_from_slice(&FIVE_LOST)?;
-    let text = "0 13 0 16 LostSamples lost=5\nend fault External\n";
-    check_fault(&rt, true, &input, io::ErrorKind::Other, text);
     Ok(())
 }
 
+// Bytes that end, and what is written.
+const ENDING: [(&[u8], &str, Outcome); 3] = [
+    (&TWO, TEXT, Outcome::Clean),
+    (&REFUSED, REFUSED_TEXT, Outcome::Refused),
+    (&[13, 0, 0], "end cut\n", Outcome::Refused),
+];
+
 #[test]
 fn a_reader_may_give_one_byte_a_read(rt: HostRuntime) -> Result<(), AllocError> {
-    check_reads(&rt, false, &TWO, None, TEXT, Outcome::Clean);
-    check_reads(&rt, false, &REFUSED, None, REFUSED_TEXT, Outcome::Refused);
-    check_reads(&rt, false, &TWO[..3], None, "end cut\n", Outcome::Refused);
-    let mut input = plain_attr(rt.alloc(), 72)?;
-    input.extend_from_slice(&TWO)?;
+    for (bytes, text, outcome) in ENDING {
+        check_reads(&rt, false, bytes, None, text, outcome);
+    }
+    let input = joined(rt.alloc(), &PLAIN_72, &TWO)?;
     check_reads(&rt, true, &input, None, TEXT, Outcome::Clean);
     Ok(())
 }
 
 // ---- writers
 
-// Takes at most `most` bytes a write, and `room` of them. Then one write fails or takes nothing,
-// and those behind it would take more.
-#[derive(Drop)]
-struct FailingOnce {
-    kept: Vec<u8>,
+// How a writer fails: it takes at most `most` bytes a write, and `room` of them. Then a write fails
+// or takes nothing, and so do all behind it, and each flush, or those behind it take more.
+#[derive(Copy, Clone)]
+struct Limits {
     most: usize,
     room: usize,
     fails: bool,
+    lasts: bool,
 }
 
-impl Write for FailingOnce {
+#[derive(Drop)]
+struct Limited {
+    kept: Vec<u8>,
+    limits: Limits,
+}
+
+impl Write for Limited {
     fn write(&mut self, buf: &[u8]) -> io::Result<usize> {
-        if self.room == 0 {
-            self.room = usize::MAX;
-            return if self.fails {
+        if self.limits.room == 0 {
+            if !self.limits.lasts {
+                self.limits.room = usize::MAX;
+            }
+            return if self.limits.fails {
                 Err(io::Error::from(io::ErrorKind::Interrupted))
             } else {
                 Ok(0)
             };
         }
-        let taken = buf.len().min(self.most).min(self.room);
-        self.room -= taken;
+        let taken = buf.len().min(self.limits.most).min(self.limits.room);
+        self.limits.room -= taken;
         self.kept.extend_from_slice(&buf[..taken])?;
         Ok(taken)
     }
 
     fn flush(&mut self) -> io::Result<()> {
-        Ok(())
+        if self.limits.lasts {
+            Err(io::Error::from(io::ErrorKind::Other))
+        } else {
+            Ok(())
+        }
     }
 }
 
-fn failing_once(rt: &impl AllocGlobal, most: usize, room: usize, fails: bool) -> FailingOnce {
-    FailingOnce {
+// Asserts what a writer has kept of the text of a run.
+fn check_writer(
+    rt: &(impl AllocGlobal + Abort),
+    limits: Limits,
+    input: &[u8],
+    kept: &[u8],
+    outcome: Outcome,
+) {
+    let mut writer = Limited {
         kept: Vec::new(rt.alloc()),
-        most,
-        room,
-        fails,
-    }
+        limits,
+    };
+    let ended = run(rt.alloc(), input, &mut writer, Little, 10, false, 8192);
+    let told = (writer.kept.as_slice(), ended);
+    check_same(rt, "what is kept", told, (kept, outcome));
 }
 
-// What a writer has got that fails once behind `room` bytes.
-fn check_room(rt: &(impl AllocGlobal + Abort), most: usize, room: usize, fails: bool) {
-    let text = REFUSED_TEXT.as_bytes();
-    let kept = &text[..room.min(text.len())];
-    let mut writer = failing_once(rt, most, room, fails);
-    let input: &[u8] = &REFUSED;
-    let ended = run(rt.alloc(), input, &mut writer, Little, 10, false, 8192);
-    assert_eq!(rt; writer.kept.as_slice(), kept, "room for {room}");
-    check!(rt; ended, Outcome::Stopped);
-    check!(rt; ended.status(), 3);
-    let mut writer = failing_once(rt, most, room, fails);
-    check!(rt; !write_whole(&mut writer, text));
-    assert_eq!(rt; writer.kept.as_slice(), kept, "room for {room}");
+// Asserts what a writer has kept of a text, of which it could not take all.
+fn check_part(rt: &(impl AllocGlobal + Abort), limits: Limits, text: &[u8], kept: &[u8]) {
+    let mut writer = Limited {
+        kept: Vec::new(rt.alloc()),
+        limits,
+    };
+    let is_whole = write_whole(&mut writer, text);
+    let told = (writer.kept.as_slice(), is_whole);
+    check_same(rt, "what is kept", told, (kept, false));
 }
 
 #[test]
 fn nothing_is_written_after_a_failure(rt: HostRuntime) {
-    for room in 0..REFUSED_TEXT.len() {
+    let text = REFUSED_TEXT.as_bytes();
+    for room in 0..text.len() {
+        let kept = &text[..room.min(text.len())];
         for most in [1, 4, 8192] {
-            check_room(&rt, most, room, true);
-            check_room(&rt, most, room, false);
+            for fails in [true, false] {
+                let limits = Limits {
+                    most,
+                    room,
+                    fails,
+                    lasts: false,
+                };
+                check_writer(&rt, limits, &REFUSED, kept, Outcome::Stopped);
+                check_part(&rt, limits, text, kept);
+            }
         }
     }
 }
 
 #[test]
 fn a_writer_may_take_one_byte_a_write(rt: HostRuntime) {
+    let text = REFUSED_TEXT.as_bytes();
     for most in [1, 4] {
-        let mut writer = failing_once(&rt, most, REFUSED_TEXT.len(), true);
-        let input: &[u8] = &REFUSED;
-        let ended = run(rt.alloc(), input, &mut writer, Little, 10, false, 8192);
-        check!(rt; writer.kept.as_slice(), REFUSED_TEXT.as_bytes());
-        check!(rt; ended, Outcome::Refused);
+        let limits = Limits {
+            most,
+            room: text.len(),
+            fails: true,
+            lasts: false,
+        };
+        check_writer(&rt, limits, &REFUSED, text, Outcome::Refused);
     }
 }
 
-// Keeps what it is given, a few bytes at a time, up to a number of calls; then it fails or takes
-// nothing.
-#[derive(Drop)]
-struct Full {
-    kept: Vec<u8>,
-    calls: usize,
-    fails: bool,
-}
-
-impl Write for Full {
-    fn write(&mut self, buf: &[u8]) -> io::Result<usize> {
-        if self.calls == 0 {
-            return if self.fails {
-                Err(io::Error::from(io::ErrorKind::Interrupted))
-            } else {
-                Ok(0)
-            };
-        }
-        self.calls -= 1;
-        let taken = buf.len().min(4);
-        self.kept.extend_from_slice(&buf[..taken])?;
-        Ok(taken)
-    }
-
-    fn flush(&mut self) -> io::Result<()> {
-        Err(io::Error::from(io::ErrorKind::Other))
-    }
-}
-
-// What a writer has that is full after some calls, which is tried once more and no further.
-fn check_full(rt: &(impl AllocGlobal + Abort), calls: usize, fails: bool, kept: &str) {
-    let mut writer = Full {
-        kept: Vec::new(rt.alloc()),
-        calls,
-        fails,
-    };
-    let input: &[u8] = &FIVE_LOST;
-    let ended = run(rt.alloc(), input, &mut writer, Little, 10, false, 8192);
-    check!(rt; writer.kept.as_slice(), kept.as_bytes());
-    check!(rt; ended, Outcome::Stopped);
-}
+// How much room a writer has that takes four bytes a write, and what it keeps.
+const ROOMS: [(usize, &[u8]); 3] = [
+    (0, b""),
+    (8, b"0 13 0 1"),
+    (400, b"0 13 0 16 LostSamples lost=5\nend done\n"),
+];
 
 #[test]
 fn a_writer_that_fails_stops_the_run(rt: HostRuntime) {
-    for fails in [false, true] {
-        check_full(&rt, 0, fails, "");
-        check_full(&rt, 2, fails, "0 13 0 1");
-        check_full(&rt, 100, fails, "0 13 0 16 LostSamples lost=5\nend done\n");
+    for (room, kept) in ROOMS {
+        for fails in [false, true] {
+            let limits = Limits {
+                most: 4,
+                room,
+                fails,
+                lasts: true,
+            };
+            check_writer(&rt, limits, &FIVE_LOST, kept, Outcome::Stopped);
+        }
     }
 }
 
@@ -329,7 +311,8 @@ impl Write for LoggedWriter<'_> {
     }
 }
 
-// How many reads there are of the two frames, each of one byte, all of them before the first write.
+// Asserts how many reads there are of the two frames, each of one byte, all of them before the first
+// write.
 fn check_order_of_calls(
     rt: &(impl AllocGlobal + Abort),
     fault: Option<io::ErrorKind>,
@@ -343,29 +326,34 @@ fn check_order_of_calls(
         reads: Cell::new(0),
         before: Cell::new(None),
     };
-    let reader = LoggedReader {
-        reader: Failing {
-            bytes: &TWO,
-            most: 1,
-            fault,
-        },
-        log: &log,
+    let reader = Failing {
+        bytes: &TWO,
+        most: 1,
+        fault,
     };
+    let reader = LoggedReader { reader, log: &log };
     let mut writer = LoggedWriter { log: &log };
     let _ = run(rt.alloc(), reader, &mut writer, Little, limit, false, piece);
-    check!(rt; log.reads.get(), reads);
-    check!(rt; log.before.get(), Some(reads));
+    let told = (log.reads.get(), log.before.get());
+    check_same(rt, "how many reads", told, (reads, Some(reads)));
 }
 
-// The read behind the last byte gives the end or a fault; a limit needs none.
+// A limit, how long pieces are, and how many reads there are: the read behind the last byte gives
+// the end or a fault; a limit needs none.
+const READS: [(usize, usize, usize); 5] = [
+    (10, 1, 33),
+    (10, 8192, 33),
+    (1, 1, 16),
+    (1, 8192, 16),
+    (0, 7, 0),
+];
+
 #[test]
 fn all_reading_comes_before_all_writing(rt: HostRuntime) {
     for fault in [None, Some(io::ErrorKind::Other)] {
-        check_order_of_calls(&rt, fault, 10, 1, 33);
-        check_order_of_calls(&rt, fault, 10, 8192, 33);
-        check_order_of_calls(&rt, fault, 1, 1, 16);
-        check_order_of_calls(&rt, fault, 1, 8192, 16);
-        check_order_of_calls(&rt, fault, 0, 7, 0);
+        for (limit, piece, reads) in READS {
+            check_order_of_calls(&rt, fault, limit, piece.max(1), reads);
+        }
     }
 }
 
@@ -401,24 +389,44 @@ impl Endian for Single {
     }
 }
 
-// The configuration behind the attribute has an order of its own.
+const WITHOUT_MEMORY: &str = "end fault OutOfMemory\n";
+
+// Attributes of 64 bytes alone and with five lost samples behind it, and one that is refused, with
+// the limit and what is written. The configuration behind the attribute has an order of its own.
 #[test]
 fn a_refused_order_ends_the_text_for_want_of_memory(rt: HostRuntime) -> Result<(), AllocError> {
-    let line = "end fault OutOfMemory\n";
-    let mut input = plain_attr(rt.alloc(), 64)?;
-    check_all(&rt, Single, 10, true, &input, line, Outcome::Faulted);
-    input.extend_from_slice(&FIVE_LOST)?;
-    check_all(&rt, Single, 10, true, &input, line, Outcome::Faulted);
-    check_all(&rt, Single, 0, true, &input, line, Outcome::Faulted);
-    check!(rt; Outcome::Faulted.status(), 3);
-    let line = "attr refused InvalidRecord\n";
-    let input = plain_attr(rt.alloc(), 100)?;
-    check_all(&rt, Single, 10, true, &input, line, Outcome::BadAttr);
+    let input = joined(rt.alloc(), &PLAIN_64, &FIVE_LOST)?;
+    for (limit, bytes, text, outcome) in [
+        (10, PLAIN_64.as_slice(), WITHOUT_MEMORY, Outcome::Faulted),
+        (10, input.as_slice(), WITHOUT_MEMORY, Outcome::Faulted),
+        (0, input.as_slice(), WITHOUT_MEMORY, Outcome::Faulted),
+        (
+            10,
+            PLAIN_100.as_slice(),
+            "attr refused InvalidRecord\n",
+            Outcome::BadAttr,
+        ),
+    ] {
+        let told = Told {
+            limit,
+            with_attr: true,
+            text,
+            outcome,
+        };
+        check_run(&rt, bytes, Single, told);
+    }
     Ok(())
 }
 
 #[test]
 fn a_run_without_an_attribute_lends_its_order(rt: HostRuntime) {
-    check(&rt, Single, 10, &TWO, TEXT, Outcome::Clean);
-    check(&rt, Single, 10, &REFUSED, REFUSED_TEXT, Outcome::Refused);
+    for (bytes, text, outcome) in ENDING {
+        let told = Told {
+            limit: 10,
+            with_attr: false,
+            text,
+            outcome,
+        };
+        check_run(&rt, bytes, Single, told);
+    }
 }

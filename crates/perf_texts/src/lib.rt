@@ -9,10 +9,10 @@ mod counts;
 #[cfg(test)]
 mod failing;
 #[cfg(test)]
+mod lines;
+#[cfg(test)]
 mod printing;
 #[cfg(test)]
-mod sample_lines;
-#[cfg(test)]
-mod task_lines;
+mod streams;
 #[cfg(test)]
 mod texts;

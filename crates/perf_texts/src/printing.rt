@@ -1,60 +1,77 @@
 //! What is printed of a recording, also where a record is refused or a header is cut.
 
-use crate::check;
-use crate::texts::plain_attr;
+use crate::checks::check_same;
+use crate::streams::{PLAIN_64, joined};
 use perf_reports::printing::{Report, print_recording};
-use std::alloc::Global;
-use std::test::Fail;
+use std::alloc::AllocError;
+use std::process::Abort;
+
+// What is printed of an attribute that says nothing and of the bytes behind it, whether nothing is
+// printed of errors, and whether no record was refused, if all could be read.
+#[derive(Copy, Clone)]
+struct Printed<'a> {
+    name: &'a str,
+    report: Report,
+    behind: &'a [u8],
+    output: &'a [u8],
+    no_errors: bool,
+    clean: Option<bool>,
+}
 
 // COMM of process 1 and thread 2, whose name is `sh`.
-const COMM: [u8; 24] = [
-    3, 0, 0, 0, 0, 0, 24, 0, 1, 0, 0, 0, 2, 0, 0, 0, b's', b'h', 0, 0, 0, 0, 0, 0,
+const COMM: &[u8] = b"\x03\0\0\0\0\0\x18\0\x01\0\0\0\x02\0\0\0sh\0\0\0\0\0\0";
+
+const PRINTED: [Printed; 4] = [
+    Printed {
+        name: "a record that tells of a task has a line",
+        report: Report::Tasks,
+        behind: COMM,
+        output: b"comm 1 2 sh\n",
+        no_errors: true,
+        clean: Some(true),
+    },
+    Printed {
+        name: "and none where samples are told",
+        report: Report::Samples,
+        behind: COMM,
+        output: b"",
+        no_errors: true,
+        clean: Some(true),
+    },
+    Printed {
+        name: "a refused record is told as an error",
+        report: Report::Tasks,
+        behind: b"\x02\0\0\0\0\0\x07\0\x03\0\0\0\0\0\x18\0\x01\0\0\0\x02\0\0\0sh\0\0\0\0\0\0",
+        output: b"comm 1 2 sh\n",
+        no_errors: false,
+        clean: Some(false),
+    },
+    Printed {
+        name: "a cut header is an error behind the lines",
+        report: Report::Tasks,
+        behind: b"\x03\0\0\0\0\0\x18\0\x01\0\0\0\x02\0\0\0sh\0\0\0\0\0\0\x0D\0\0",
+        output: b"comm 1 2 sh\n",
+        no_errors: true,
+        clean: None,
+    },
 ];
 
-// What is printed of an attribute that says nothing and of these bytes behind it, what of errors,
-// and whether no record was refused, if all could be read.
-fn printed(
-    alloc: Global,
-    report: Report,
-    behind: &[u8],
-) -> Result<(Vec<u8>, Vec<u8>, Option<bool>), Fail> {
-    let mut input = plain_attr(alloc, 64)?;
-    input.extend_from_slice(behind)?;
-    let (mut output, mut errors) = (Vec::new(alloc), Vec::new(alloc));
+// Asserts what is printed of a recording.
+fn check_printed(rt: &(impl AllocGlobal + Abort), case: Printed<'_>) -> Result<(), AllocError> {
+    let input = joined(rt.alloc(), &PLAIN_64, case.behind)?;
     let input = input.as_slice();
-    let clean = print_recording(alloc, input, &mut output, &mut errors, report).ok();
-    Ok((output, errors, clean))
-}
-
-#[test]
-fn a_record_that_tells_of_a_task_has_a_line(rt: HostRuntime) -> Result<(), Fail> {
-    let (output, errors, clean) = printed(rt.alloc(), Report::Tasks, &COMM)?;
-    check!(rt; output.as_slice(), b"comm 1 2 sh\n".as_slice());
-    check!(rt; errors.is_empty());
-    check!(rt; clean, Some(true));
-    let (output, _, clean) = printed(rt.alloc(), Report::Samples, &COMM)?;
-    check!(rt; output.is_empty());
-    check!(rt; clean, Some(true));
+    let (mut output, mut errors) = (Vec::new(rt.alloc()), Vec::new(rt.alloc()));
+    let printed = print_recording(rt.alloc(), input, &mut output, &mut errors, case.report);
+    let told = (output.as_slice(), errors.is_empty(), printed.ok());
+    let want = (case.output, case.no_errors, case.clean);
+    check_same(rt, case.name, told, want);
     Ok(())
 }
 
 #[test]
-fn a_refused_record_is_told_as_an_error(rt: HostRuntime) -> Result<(), Fail> {
-    let mut frames = Vec::from_slice(rt.alloc(), &[2, 0, 0, 0, 0, 0, 7, 0])?;
-    frames.extend_from_slice(&COMM)?;
-    let (output, errors, clean) = printed(rt.alloc(), Report::Tasks, &frames)?;
-    check!(rt; output.as_slice(), b"comm 1 2 sh\n".as_slice());
-    check!(rt; !errors.is_empty());
-    check!(rt; clean, Some(false));
-    Ok(())
-}
-
-#[test]
-fn a_cut_header_is_an_error_behind_the_lines(rt: HostRuntime) -> Result<(), Fail> {
-    let mut frames = Vec::from_slice(rt.alloc(), &COMM)?;
-    frames.extend_from_slice(&[13, 0, 0])?;
-    let (output, _, clean) = printed(rt.alloc(), Report::Tasks, &frames)?;
-    check!(rt; output.as_slice(), b"comm 1 2 sh\n".as_slice());
-    check!(rt; clean, None);
+fn recordings_are_printed(rt: HostRuntime) -> Result<(), AllocError> {
+    for case in PRINTED {
+        check_printed(&rt, case)?;
+    }
     Ok(())
 }

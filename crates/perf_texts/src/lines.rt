@@ -1,0 +1,93 @@
+//! Lines of tasks and of samples: what the recordings have no record of.
+
+use crate::checks::check_same;
+use perf_event_data::parse::ParseResult;
+use perf_event_data::{Comm, CowSlice, Mmap2, MmapDetail, Record, Sample, SampleFields};
+use perf_reports::printing::Report;
+use perf_reports::{samples, tasks};
+use std::process::Abort;
+
+// Asserts the line of a record, or that there is none.
+fn check_line(
+    rt: &(impl AllocGlobal + Abort),
+    report: Report,
+    found: ParseResult<Record<'_>>,
+    want: &str,
+) {
+    let Ok(record) = found else {
+        panic!(rt; "no record");
+    };
+    let line = match report {
+        Report::Tasks => tasks::line_of(rt.alloc(), &record),
+        Report::Samples => samples::line_of(rt.alloc(), &record),
+    };
+    match line {
+        Ok(Some(line)) => check_same(rt, "the line", line.as_str(), want),
+        Ok(None) => check_same(rt, "the line", "none", want),
+        Err(_) => panic!(rt; "no memory"),
+    }
+}
+
+const BUILD_ID: [u8; 20] = [
+    0x0f, 0xa1, 0, 0, 0, 0, 0, 0, 0, 0, 0, 0, 0, 0, 0, 0, 0, 0, 0, 0,
+];
+
+#[test]
+fn build_id_stands_for_the_file(rt: HostRuntime) {
+    let detail = MmapDetail::BuildId {
+        build_id: BUILD_ID,
+        len: 3,
+    };
+    let filename = CowSlice::Borrowed(b"/bin/true".as_slice());
+    let record = Record::Mmap2(Mmap2::from_parts(1, 2, 4096, 8192, 0, 6, 1, filename, detail));
+    let want = "mmap2 1 2 0x1000 0x2000 0x0 0fa100 -wxs /bin/true";
+    check_line(&rt, Report::Tasks, Ok(record), want);
+}
+
+#[test]
+fn name_need_not_be_text(rt: HostRuntime) {
+    let comm = CowSlice::Borrowed(b"a\xffb".as_slice());
+    let record = Record::Comm(Comm {
+        pid: 1,
+        tid: 2,
+        comm,
+    });
+    check_line(&rt, Report::Tasks, Ok(record), "comm 1 2 a\u{FFFD}b");
+}
+
+#[test]
+fn other_records_have_no_line(rt: HostRuntime) {
+    check_line(&rt, Report::Tasks, Ok(Record::Switch), "none");
+    check_line(&rt, Report::Samples, Ok(Record::Switch), "none");
+}
+
+#[test]
+fn absent_fields_are_dashes(rt: HostRuntime) {
+    let sample = Sample::from_fields(SampleFields::default());
+    let found = Record::from_sample(rt.alloc(), sample);
+    check_line(&rt, Report::Samples, found, "- - -/- - - -: -");
+}
+
+// Of the hypervisor, which has no word here, of the kernel, and of the program.
+const CHAIN: [u64; 6] = [
+    u64::MAX - 31,
+    u64::MAX - 127,
+    0x10,
+    u64::MAX - 511,
+    0,
+    u64::MAX,
+];
+
+#[test]
+fn marks_of_a_call_chain_are_words(rt: HostRuntime) {
+    let mut fields = SampleFields::default();
+    fields.ip = Some(0x10);
+    fields.pid = Some(u32::MAX);
+    fields.tid = Some(2);
+    fields.cpu = Some(3);
+    fields.callchain = Some(CowSlice::Borrowed(CHAIN.as_slice()));
+    let want = "- 3 4294967295/2 - - 0x10: 0xffffffffffffffe0 kernel 0x10 user 0x0 \
+        0xffffffffffffffff";
+    let found = Record::from_sample(rt.alloc(), Sample::from_fields(fields));
+    check_line(&rt, Report::Samples, found, want);
+}
