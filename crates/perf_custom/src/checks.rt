@@ -1,10 +1,7 @@
 //! What tests assert. Each assertion stands here once: written out, every one of them is proved
 //! anew, which takes a second.
 
-use perf_event_data::endian::Endian;
-use perf_event_data::sys::perf_event_attr;
-use perf_testing::runs::tell_everywhere;
-use std::alloc::AllocError;
+use perf_event_data::parse::ParseResult;
 use std::fmt::Debug;
 use std::process::Abort;
 
@@ -13,39 +10,10 @@ pub fn check_same<T: PartialEq + Debug + Drop>(rt: &impl Abort, what: &str, valu
     assert_eq!(rt; value, want, "{what}");
 }
 
-/// Asserts what is said.
-pub fn check_that(rt: &impl Abort, what: &str, is_so: bool) {
-    assert!(rt; is_so, "{what}");
-}
-
 /// Asserts what a text is.
-pub fn check_text(rt: &impl Abort, answer: Result<String, AllocError>, want: &str) {
+pub fn check_text(rt: &impl Abort, what: &str, answer: ParseResult<String>, want: &str) {
     match answer {
-        Ok(text) => check_same(rt, "the text", text.as_str(), want),
-        Err(_) => panic!(rt; "no memory"),
+        Ok(text) => check_same(rt, what, text.as_str(), want),
+        Err(error) => panic!(rt; "{what}: {error}"),
     }
-}
-
-/// Asserts that two values are equal, or that one is true, and says of which text it is not so.
-#[macro_export]
-macro_rules! check {
-    ($rt:expr; $value:expr, $want:expr) => {
-        $crate::checks::check_same(&$rt, stringify!($value), $value, $want)
-    };
-    ($rt:expr; $is_so:expr) => {
-        $crate::checks::check_that(&$rt, stringify!($is_so), $is_so)
-    };
-}
-
-/// Asserts what the runs over these bytes are, through a slice, buffered readers and pieces.
-pub fn check_everywhere<E: Endian + Copy>(
-    rt: &(impl AllocGlobal + Abort),
-    bytes: &[u8],
-    endian: E,
-    limits: &[usize],
-    want: &str,
-) {
-    let attr = perf_event_attr::default();
-    let told = tell_everywhere(rt.alloc(), bytes, endian, attr, limits);
-    check_text(rt, told, want);
 }

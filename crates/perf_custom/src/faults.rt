@@ -2,7 +2,7 @@
 
 ghost use Rattle.std.specs.Prelude.{◌≡◌, true, false, None, Some, take, nat_lt};
 
-use crate::check;
+use crate::asked::kind_of;
 use crate::checks::check_same;
 use anyhow::anyhow;
 use perf_event_data::endian::Little;
@@ -11,9 +11,9 @@ use perf_event_data::parse::{
 };
 use perf_event_data::{RunEnd, read_records};
 use perf_testing::runs::tell;
-use std::alloc::Global;
 use std::io;
 use std::io::{BufReader, Read};
+use std::process::Abort;
 use std::test::Fail;
 
 // Two frames of 16 bytes, which lost 5 and 6.
@@ -52,58 +52,59 @@ const IO_KINDS: [io::ErrorKind; 3] = [
     io::ErrorKind::Interrupted,
 ];
 
-// The runs over a faulty reader, read ahead into so many bytes, with these limits.
-fn told_of(
-    alloc: Global,
-    reader: Faulty,
-    capacity: usize,
+const NEVER: &str = "0 13 0 16 LostSamples lost=5; 1 13 0 16 LostSamples lost=6; done";
+
+const ONCE: &str =
+    "0 13 0 16 LostSamples lost=5; fault External | 0 13 0 16 LostSamples lost=6; done";
+
+const TWICE: &str =
+    "0 13 0 16 LostSamples lost=5; fault External | fault External | 0 13 0 16 LostSamples lost=6; done";
+
+// What a run says that a fault ends behind so many bytes.
+fn ended_behind(before: usize) -> &'static str {
+    match before {
+        0..=15 => "fault External",
+        16..=31 => "0 13 0 16 LostSamples lost=5; fault External",
+        _ => "0 13 0 16 LostSamples lost=5; 1 13 0 16 LostSamples lost=6; fault External",
+    }
+}
+
+// Asserts what the runs with these limits say over a reader that fails behind so many bytes,
+// whatever its error is, and however many bytes are read ahead.
+fn check_reader(
+    rt: &(impl AllocGlobal + Abort),
+    before: usize,
+    once: bool,
     limits: &[usize],
-) -> Result<String, Fail> {
-    let reader = BufReader::with_capacity(alloc, capacity, reader)?;
-    Ok(tell(alloc, reader, Little, limits)?)
+    want: &str,
+) -> Result<(), Fail> {
+    for kind in IO_KINDS {
+        for capacity in [1, 7, 8192] {
+            let reader = Faulty {
+                bytes: TWO,
+                before: Some(before),
+                kind,
+                once,
+            };
+            let reader = BufReader::with_capacity(rt.alloc(), capacity, reader)?;
+            let text = tell(rt.alloc(), reader, Little, limits)?;
+            check_same(rt, "the runs", text.as_str(), want);
+        }
+    }
+    Ok(())
 }
 
 #[test]
 fn a_failing_reader_ends_the_run_behind_whole_frames(rt: HostRuntime) -> Result<(), Fail> {
-    for n in 0..33 {
-        let want = match n {
-            0..=15 => "fault External",
-            16..=31 => "0 13 0 16 LostSamples lost=5; fault External",
-            _ => "0 13 0 16 LostSamples lost=5; 1 13 0 16 LostSamples lost=6; fault External",
-        };
-        for kind in IO_KINDS {
-            for capacity in [1, 7, 8192] {
-                let reader = Faulty {
-                    bytes: TWO,
-                    before: Some(n),
-                    kind,
-                    once: false,
-                };
-                let text = told_of(rt.alloc(), reader, capacity, &[10])?;
-                check_same(&rt, "the runs", text.as_str(), want);
-            }
-        }
+    for before in 0..33 {
+        check_reader(&rt, before, false, &[10], ended_behind(before))?;
     }
     Ok(())
 }
 
 #[test]
 fn a_run_goes_on_behind_a_reader_that_failed_once(rt: HostRuntime) -> Result<(), Fail> {
-    for kind in IO_KINDS {
-        for capacity in [1, 7, 8192] {
-            let reader = Faulty {
-                bytes: TWO,
-                before: Some(16),
-                kind,
-                once: true,
-            };
-            let text = told_of(rt.alloc(), reader, capacity, &[10, 10])?;
-            let want =
-                "0 13 0 16 LostSamples lost=5; fault External | 0 13 0 16 LostSamples lost=6; done";
-            check_same(&rt, "the runs", text.as_str(), want);
-        }
-    }
-    Ok(())
+    check_reader(&rt, 16, true, &[10, 10], ONCE)
 }
 
 #[test]
@@ -119,8 +120,13 @@ fn a_fault_of_a_reader_has_it_as_its_cause(rt: HostRuntime) -> Result<(), Fail> 
     let RunEnd::Fault(error) = read_records(&mut parser, 10).end else {
         panic!(rt; "no fault");
     };
-    check!(rt; error.kind(), ErrorKind::External);
-    check!(rt; error.cause().is_some());
+    let kind_and_cause = (error.kind(), error.cause().is_some());
+    check_same(
+        &rt,
+        "the fault",
+        kind_and_cause,
+        (ErrorKind::External, true),
+    );
     Ok(())
 }
 
@@ -173,34 +179,39 @@ impl<'p> ParseBuf<'p> for Counting<'p> {
     }
 }
 
-const NEVER: &str = "0 13 0 16 LostSamples lost=5; 1 13 0 16 LostSamples lost=6; done";
-
-const ONCE: &str =
-    "0 13 0 16 LostSamples lost=5; fault External | 0 13 0 16 LostSamples lost=6; done";
-
-const TWICE: &str =
-    "0 13 0 16 LostSamples lost=5; fault External | fault External | 0 13 0 16 LostSamples lost=6; done";
+// Asserts what the runs with these limits say over a buffer that has so many faults to come behind
+// so many bytes, and has had so many.
+fn check_counted(
+    rt: &(impl AllocGlobal + Abort),
+    before: usize,
+    (to_come, faults): (u64, u64),
+    limits: &[usize],
+    want: &str,
+) -> Result<(), Fail> {
+    let buf = Counting {
+        bytes: TWO,
+        before,
+        to_come,
+        faults,
+    };
+    let text = tell(rt.alloc(), buf, Little, limits)?;
+    check_same(rt, "the runs", text.as_str(), want);
+    Ok(())
+}
 
 // How many faults come and how many there were, the limits of the runs, and what they say.
-const FAULTS: [(u64, u64, &[usize], &str); 5] = [
-    (0, 0, &[10], NEVER),
-    (1, 0, &[10, 10], ONCE),
-    (2, 0, &[10, 10, 10], TWICE),
-    (2, u64::MAX - 1, &[10, 10], ONCE),
-    (1, u64::MAX, &[10], NEVER),
+const FAULTS: [((u64, u64), &[usize], &str); 5] = [
+    ((0, 0), &[10], NEVER),
+    ((1, 0), &[10, 10], ONCE),
+    ((2, 0), &[10, 10, 10], TWICE),
+    ((2, u64::MAX - 1), &[10, 10], ONCE),
+    ((1, u64::MAX), &[10], NEVER),
 ];
 
 #[test]
 fn a_run_goes_on_behind_counted_faults(rt: HostRuntime) -> Result<(), Fail> {
-    for (to_come, faults, limits, want) in FAULTS {
-        let buf = Counting {
-            bytes: TWO,
-            before: 16,
-            to_come,
-            faults,
-        };
-        let text = tell(rt.alloc(), buf, Little, limits)?;
-        assert_eq!(rt; text.as_str(), want, "{to_come} faults behind {faults}");
+    for (faults, limits, want) in FAULTS {
+        check_counted(&rt, 16, faults, limits, want)?;
     }
     Ok(())
 }
@@ -208,19 +219,7 @@ fn a_run_goes_on_behind_counted_faults(rt: HostRuntime) -> Result<(), Fail> {
 #[test]
 fn a_counted_fault_ends_the_run_wherever_it_comes(rt: HostRuntime) -> Result<(), Fail> {
     for before in 0..33 {
-        let want = match before {
-            0..=15 => "fault External",
-            16..=31 => "0 13 0 16 LostSamples lost=5; fault External",
-            _ => "0 13 0 16 LostSamples lost=5; 1 13 0 16 LostSamples lost=6; fault External",
-        };
-        let buf = Counting {
-            bytes: TWO,
-            before,
-            to_come: 1,
-            faults: 0,
-        };
-        let text = tell(rt.alloc(), buf, Little, &[10])?;
-        assert_eq!(rt; text.as_str(), want, "after {before} bytes");
+        check_counted(&rt, before, (1, 0), &[10], ended_behind(before))?;
     }
     Ok(())
 }
@@ -235,9 +234,7 @@ fn a_fault_is_no_end_of_the_rest(rt: HostRuntime) {
             faults: 0,
         };
         let mut parser = Parser::new(rt.alloc(), buf, ParseConfig::<Little>::default());
-        let Err(error) = parser.parse_rest() else {
-            panic!(rt; "no fault after {before} bytes");
-        };
-        check!(rt; error.kind(), ErrorKind::External);
+        let refused = kind_of(parser.parse_rest());
+        check_same(&rt, "the rest", refused, Some(ErrorKind::External));
     }
 }

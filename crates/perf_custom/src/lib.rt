@@ -3,6 +3,10 @@
 #![tactic(auto)]
 
 #[cfg(test)]
+mod asked;
+#[cfg(test)]
+mod bodies;
+#[cfg(test)]
 mod checks;
 #[cfg(test)]
 mod closures;
@@ -14,7 +18,5 @@ mod orders;
 mod own_types;
 #[cfg(test)]
 mod partial_visits;
-#[cfg(test)]
-mod through;
 #[cfg(test)]
 mod visits;

@@ -3,21 +3,35 @@
 ghost use Rattle.std.specs.Prelude.{◌++◌, take, drop, true, false};
 ghost use Rattle.std.specs.Int.{w16, w32, w64, from_le_bytes};
 
-use crate::check;
-use crate::checks::check_everywhere;
+use crate::asked::{Asked, Case, check_cases, kind_of};
+use crate::checks::{check_same, check_text};
 use perf_base::config::ParseConfig;
 use perf_base::endian::{Big, Dynamic, Endian, Little, Native};
 use perf_base::error::{ErrorKind, ParseError, ParseResult};
 use perf_base::sys::perf_event_header;
-use perf_event_data::PieceBuf;
 use perf_event_data::parse::{ParseBuf, Parser};
 use perf_testing::orders::Counting;
 use perf_testing::runs::tell;
 use std::alloc::Global;
 use std::cell::Cell;
-use std::io::BufReader;
 use std::process::Abort;
 use std::test::Fail;
+
+/// What is asked in an order of a user's own.
+#[derive(Copy, Clone)]
+pub enum Asking {
+    /// A run in eights.
+    Eights,
+    /// A run in words.
+    Words,
+    /// Two runs in an order that has no second.
+    Single,
+    /// A parser of a frame's body in that order.
+    Body,
+    /// A run of one frame, and whether at least one number of eight bytes is converted, and no more
+    /// than so many.
+    Count(u64),
+}
 
 // Every number of two bytes is 8. The others have their lowest byte first.
 #[derive(Copy, Clone)]
@@ -112,179 +126,214 @@ impl Endian for Single {
     }
 }
 
-#[test]
-fn an_order_of_eights_has_frames_of_eight_bytes(rt: HostRuntime) {
-    let want = "0 0 8 8 Unknown data= ty=0; 1 0 8 8 Unknown data= ty=0; done";
-    check_everywhere(&rt, &[0; 16], Eights, &[10], want);
-}
-
-#[test]
-fn an_order_of_words_reads_its_own_bytes(rt: HostRuntime) {
-    let bytes = b"\0\0\x0D\0\0\0\x10\0\0\0\0\0\0\0\x05\0";
-    check_everywhere(
-        &rt,
-        bytes,
-        Words,
-        &[10],
-        "0 13 0 16 LostSamples lost=5; done",
-    );
-}
-
-// A run lends its order to each frame's body.
-#[test]
-fn a_run_asks_for_no_second_order(rt: HostRuntime) {
-    let bytes = b"\x02\0\0\0\0\0\x07\0\x0D\0\0\0\0\0\x10\0\x05\0\0\0\0\0\0\0";
-    let want = "0 2 0 7 refused InvalidRecord; 1 13 0 16 LostSamples lost=5; done | done";
-    check_everywhere(&rt, bytes, Single, &[10, 10], want);
+// All that is left is a number.
+fn told_left<'p, B: ParseBuf<'p>, E: Endian>(
+    alloc: Global,
+    parser: &mut Parser<B, E>,
+) -> ParseResult<String> {
+    let number = parser.parse_u64()?;
+    let rest = parser.parse_rest()?;
+    Ok(format!(in alloc; "{number} {:?}", rest.as_slice())?)
 }
 
 // The frame is taken, for whose body there is no parser, and the next one is read.
-fn check_refused_body<'p, B: ParseBuf<'p> + Drop>(
-    rt: &impl Abort,
+fn told_refusals<'p, B: ParseBuf<'p>, E: Endian>(
+    alloc: Global,
+    parser: &mut Parser<B, E>,
+) -> ParseResult<String> {
+    let first = kind_of(parser.parse_metadata());
+    let header = parser.parse::<perf_event_header>()?;
+    let second = kind_of(parser.parse_metadata_with_header(header));
+    let left = told_left(alloc, parser)?;
+    Ok(format!(in alloc; "{first:?} {header:?} {second:?} {left}")?)
+}
+
+fn told_refused_body<'p, B: ParseBuf<'p> + Drop>(alloc: Global, buf: B) -> ParseResult<String> {
+    let config = ParseConfig::<Little>::default().with_endian(Single);
+    told_refusals(alloc, &mut Parser::new(alloc, buf, config))
+}
+
+fn told_count<'p, B: ParseBuf<'p> + Drop>(alloc: Global, buf: B, most: u64) -> ParseResult<String> {
+    let calls = Cell::new(0);
+    let text = tell(alloc, buf, Counting { calls: &calls }, &[1])?;
+    let is_within = calls.get() >= 1 && calls.get() <= most;
+    Ok(format!(in alloc; "{text}, {is_within}")?)
+}
+
+/// What is answered in an order of a user's own.
+pub fn told_by_order<'p, B: ParseBuf<'p> + Drop>(
     alloc: Global,
     buf: B,
-) -> Result<(), Fail> {
-    let config = ParseConfig::<Little>::default().with_endian(Single);
-    let mut parser = Parser::new(alloc, buf, config);
-    let refused = parser.parse_metadata().map_err(|error| error.kind());
-    check!(rt; matches!(refused, Err(ErrorKind::OutOfMemory)));
-    let header = parser.parse::<perf_event_header>()?;
-    check!(rt; (header.type_, header.misc, header.size), (13, 0, 16));
-    let refused = parser
-        .parse_metadata_with_header(header)
-        .map_err(|error| error.kind());
-    check!(rt; matches!(refused, Err(ErrorKind::OutOfMemory)));
-    check_seven_is_left(rt, &mut parser)
+    asking: Asking,
+) -> ParseResult<String> {
+    match asking {
+        Asking::Eights => Ok(tell(alloc, buf, Eights, &[10])?),
+        Asking::Words => Ok(tell(alloc, buf, Words, &[10])?),
+        Asking::Single => Ok(tell(alloc, buf, Single, &[10, 10])?),
+        Asking::Body => told_refused_body(alloc, buf),
+        Asking::Count(most) => told_count(alloc, buf, most),
+    }
 }
 
-// All that is left is a 7 of eight bytes.
-fn check_seven_is_left<'p, B: ParseBuf<'p>, E: Endian>(
-    rt: &impl Abort,
-    parser: &mut Parser<B, E>,
-) -> Result<(), Fail> {
-    check!(rt; parser.parse_u64()?, 7);
-    check!(rt; parser.parse_rest()?.is_empty());
-    Ok(())
-}
+const CASES: [Case; 9] = [
+    Case {
+        name: "an order of eights has frames of eight bytes",
+        asked: Asked::InOrder(Asking::Eights),
+        bytes: &[0; 16],
+        want: "0 0 8 8 Unknown data= ty=0; 1 0 8 8 Unknown data= ty=0; done",
+    },
+    Case {
+        name: "an order of words reads its own bytes",
+        asked: Asked::InOrder(Asking::Words),
+        bytes: b"\0\0\x0D\0\0\0\x10\0\0\0\0\0\0\0\x05\0",
+        want: "0 13 0 16 LostSamples lost=5; done",
+    },
+    // A run lends its order to each frame's body.
+    Case {
+        name: "a run asks for no second order",
+        asked: Asked::InOrder(Asking::Single),
+        bytes: b"\x02\0\0\0\0\0\x07\0\x0D\0\0\0\0\0\x10\0\x05\0\0\0\0\0\0\0",
+        want: "0 2 0 7 refused InvalidRecord; 1 13 0 16 LostSamples lost=5; done | done",
+    },
+    Case {
+        name: "a refused duplicate refuses a parser of the body",
+        asked: Asked::InOrder(Asking::Body),
+        bytes: b"\x0D\0\0\0\0\0\x10\0\x05\0\0\0\0\0\0\0\
+            \x0D\0\0\0\0\0\x10\0\x06\0\0\0\0\0\0\0\x07\0\0\0\0\0\0\0",
+        want: "Some(OutOfMemory) perf_event_header { type_: 13, misc: 0, size: 16 } \
+            Some(OutOfMemory) 7 []",
+    },
+    // Frames of NAMESPACES that say they have 2^63 of them, and have so many numbers instead, of
+    // which the count itself is the first.
+    Case {
+        name: "a hostile count in 24 bytes",
+        asked: Asked::InOrder(Asking::Count(1)),
+        bytes: b"\x10\0\0\0\0\0\x18\0\x01\0\0\0\x02\0\0\0\0\0\0\0\0\0\0\x80",
+        want: "0 16 0 24 refused Eof; limit, true",
+    },
+    Case {
+        name: "a hostile count in 32 bytes",
+        asked: Asked::InOrder(Asking::Count(2)),
+        bytes: b"\x10\0\0\0\0\0\x20\0\x01\0\0\0\x02\0\0\0\0\0\0\0\0\0\0\x80\
+            \x01\x01\x01\x01\x01\x01\x01\x01",
+        want: "0 16 0 32 refused Eof; limit, true",
+    },
+    Case {
+        name: "a hostile count in 40 bytes",
+        asked: Asked::InOrder(Asking::Count(3)),
+        bytes: b"\x10\0\0\0\0\0\x28\0\x01\0\0\0\x02\0\0\0\0\0\0\0\0\0\0\x80\
+            \x01\x01\x01\x01\x01\x01\x01\x01\x01\x01\x01\x01\x01\x01\x01\x01",
+        want: "0 16 0 40 refused Eof; limit, true",
+    },
+    Case {
+        name: "a hostile count in 47 bytes",
+        asked: Asked::InOrder(Asking::Count(3)),
+        bytes: b"\x10\0\0\0\0\0\x2F\0\x01\0\0\0\x02\0\0\0\0\0\0\0\0\0\0\x80\
+            \x01\x01\x01\x01\x01\x01\x01\x01\x01\x01\x01\x01\x01\x01\x01\x01\
+            \x01\x01\x01\x01\x01\x01\x01",
+        want: "0 16 0 47 refused Eof; limit, true",
+    },
+    Case {
+        name: "a hostile count in 48 bytes",
+        asked: Asked::InOrder(Asking::Count(4)),
+        bytes: b"\x10\0\0\0\0\0\x30\0\x01\0\0\0\x02\0\0\0\0\0\0\0\0\0\0\x80\
+            \x01\x01\x01\x01\x01\x01\x01\x01\x01\x01\x01\x01\x01\x01\x01\x01\
+            \x01\x01\x01\x01\x01\x01\x01\x01",
+        want: "0 16 0 48 refused Eof; limit, true",
+    },
+];
 
 #[test]
-fn a_refused_duplicate_refuses_a_parser_of_the_body(rt: HostRuntime) -> Result<(), Fail> {
-    let bytes: &[u8] = b"\x0D\0\0\0\0\0\x10\0\x05\0\0\0\0\0\0\0\
-        \x0D\0\0\0\0\0\x10\0\x06\0\0\0\0\0\0\0\x07\0\0\0\0\0\0\0";
-    check_refused_body(&rt, rt.alloc(), bytes)?;
-    for capacity in [1, 7, 8192] {
-        let reader = BufReader::with_capacity(rt.alloc(), capacity, bytes)?;
-        check_refused_body(&rt, rt.alloc(), reader)?;
-    }
-    for most in [1, 3, 64] {
-        for lasting in [true, false] {
-            check_refused_body(&rt, rt.alloc(), PieceBuf::new(bytes, most, lasting))?;
-        }
-    }
-    Ok(())
+fn orders_of_ones_own_are_asked(rt: HostRuntime) {
+    check_cases(&rt, &CASES);
 }
 
 #[test]
 fn a_refused_duplicate_refuses_the_configuration(rt: HostRuntime) {
     let config = ParseConfig::<Little>::default().with_endian(Single);
-    let refused = config.duplicate().map_err(|error| error.kind());
-    check!(rt; matches!(refused, Err(ErrorKind::OutOfMemory)));
-}
-
-// A frame of NAMESPACES that says it has 2^63 of them, and has so many numbers instead.
-fn check_calls<'p, B: ParseBuf<'p> + Drop>(
-    rt: &impl Abort,
-    alloc: Global,
-    buf: B,
-    size: u8,
-    numbers: u64,
-) -> Result<(), Fail> {
-    let calls = Cell::new(0);
-    let text = tell(alloc, buf, Counting { calls: &calls }, &[1])?;
-    let want = format!(in alloc; "0 16 0 {size} refused Eof; limit")?;
-    check!(rt; text.as_str(), want.as_str());
-    assert!(rt;
-        calls.get() >= 1 && calls.get() <= numbers,
-        "{numbers} numbers"
+    let refused = kind_of(config.duplicate());
+    check_same(
+        &rt,
+        "a second configuration",
+        refused,
+        Some(ErrorKind::OutOfMemory),
     );
-    Ok(())
 }
 
-// Sizes of a frame, and how many numbers of eight bytes its body has, of which the count itself is
-// the first.
-const SIZES: [(u8, u64); 5] = [(24, 1), (32, 2), (40, 3), (47, 3), (48, 4)];
-
-#[test]
-fn a_hostile_count_converts_no_more_than_the_numbers_of_its_body(
-    rt: HostRuntime,
-) -> Result<(), Fail> {
-    for (size, numbers) in SIZES {
-        let mut bytes = b"\x10\0\0\0\0\0\0\0\x01\0\0\0\x02\0\0\0".to_vec(rt.alloc())?;
-        bytes[6] = size;
-        bytes.extend_from_slice(&(1u64 << 63).to_le_bytes())?;
-        bytes.resize(usize::from(size), 1)?;
-        let bytes = bytes.as_slice();
-        check_calls(&rt, rt.alloc(), bytes, size, numbers)?;
-        let reader = BufReader::with_capacity(rt.alloc(), 1, bytes)?;
-        check_calls(&rt, rt.alloc(), reader, size, numbers)?;
-        let pieces = PieceBuf::new(bytes, 1, false);
-        check_calls(&rt, rt.alloc(), pieces, size, numbers)?;
-    }
-    Ok(())
+// What an order makes of the bytes 1 to 8.
+fn converted<E: Endian>(order: &E) -> (u16, u32, u64) {
+    (
+        order.convert_u16([1, 2]),
+        order.convert_u32([1, 2, 3, 4]),
+        order.convert_u64([1, 2, 3, 4, 5, 6, 7, 8]),
+    )
 }
 
-// Asserts what an order makes of the bytes 1 to 8.
-fn check_order<E: Endian>(rt: &impl Abort, order: &E, two: u16, four: u32, eight: u64) {
-    check!(rt; order.convert_u16([1, 2]), two);
-    check!(rt; order.convert_u32([1, 2, 3, 4]), four);
-    check!(rt; order.convert_u64([1, 2, 3, 4, 5, 6, 7, 8]), eight);
-}
+const LOWEST_FIRST: (u16, u32, u64) = (0x0201, 0x04030201, 0x0807060504030201);
+
+const HIGHEST_FIRST: (u16, u32, u64) = (0x0102, 0x01020304, 0x0102030405060708);
 
 #[test]
 fn orders_convert_as_they_are_named(rt: HostRuntime) {
-    check_order(&rt, &Little, 0x0201, 0x04030201, 0x0807060504030201);
-    check_order(&rt, &Native, 0x0201, 0x04030201, 0x0807060504030201);
-    check_order(
-        &rt,
-        &Dynamic::Little,
-        0x0201,
-        0x04030201,
-        0x0807060504030201,
-    );
-    check_order(&rt, &Big, 0x0102, 0x01020304, 0x0102030405060708);
-    check_order(&rt, &Dynamic::Big, 0x0102, 0x01020304, 0x0102030405060708);
-    check_order(&rt, &Words, 0x0201, 0x02010403, 0x0201040306050807);
+    let told = [
+        converted(&Little),
+        converted(&Native),
+        converted(&Dynamic::Little),
+        converted(&Big),
+        converted(&Dynamic::Big),
+        converted(&Words),
+    ];
+    let want = [
+        LOWEST_FIRST,
+        LOWEST_FIRST,
+        LOWEST_FIRST,
+        HIGHEST_FIRST,
+        HIGHEST_FIRST,
+        (0x0201, 0x02010403, 0x0201040306050807),
+    ];
+    check_same(&rt, "the orders", told, want);
 }
 
 #[test]
 fn the_little_orders_are_native(rt: HostRuntime) {
-    check!(rt; Native.is_native() && Little.is_native() && Dynamic::Little.is_native());
-    check!(rt; !Big.is_native() && !Dynamic::Big.is_native());
-    check!(rt; !Eights.is_native() && !Words.is_native() && !Single.is_native());
+    let told = [
+        Native.is_native(),
+        Little.is_native(),
+        Dynamic::Little.is_native(),
+        Big.is_native(),
+        Dynamic::Big.is_native(),
+        Eights.is_native(),
+        Words.is_native(),
+        Single.is_native(),
+    ];
+    let want = [true, true, true, false, false, false, false, false];
+    check_same(&rt, "which are native", told, want);
 }
 
 #[test]
 fn a_configuration_keeps_its_order(rt: HostRuntime) -> Result<(), Fail> {
     let config = ParseConfig::<Native>::default().with_endian(Dynamic::Big);
-    check!(rt; *config.endian(), Dynamic::Big);
     let second = config.duplicate()?;
-    check!(rt; *second.endian(), Dynamic::Big);
+    let orders = [*config.endian(), *second.endian()];
+    check_same(&rt, "the orders", orders, [Dynamic::Big, Dynamic::Big]);
     Ok(())
 }
 
-// Asserts the order of a parser, that of its configuration, and what it makes of a header.
-fn check_parser(rt: &impl Abort, parser: &mut Parser<&[u8], Dynamic>) -> Result<(), Fail> {
-    check!(rt; *parser.endian(), Dynamic::Big);
-    check!(rt; *parser.config().endian(), Dynamic::Big);
+// The order of a parser, that of its configuration, and the next header.
+fn told_parser<'p, B: ParseBuf<'p>>(
+    alloc: Global,
+    parser: &mut Parser<B, Dynamic>,
+) -> ParseResult<String> {
+    let orders = [*parser.endian(), *parser.config().endian()];
     let header = parser.parse::<perf_event_header>()?;
-    check!(rt; (header.type_, header.misc, header.size), (13, 1, 16));
-    Ok(())
+    Ok(format!(in alloc; "{orders:?} {header:?}")?)
 }
 
 #[test]
-fn a_parser_keeps_the_order_of_its_configuration(rt: HostRuntime) -> Result<(), Fail> {
+fn a_parser_keeps_the_order_of_its_configuration(rt: HostRuntime) {
     let config = ParseConfig::<Native>::default().with_endian(Dynamic::Big);
     let bytes: &[u8] = b"\0\0\0\x0D\0\x01\0\x10";
-    let mut parser = Parser::new(rt.alloc(), bytes, config);
-    check_parser(&rt, &mut parser)
+    let told = told_parser(rt.alloc(), &mut Parser::new(rt.alloc(), bytes, config));
+    let want = "[Big, Big] perf_event_header { type_: 13, misc: 1, size: 16 }";
+    check_text(&rt, "the parser", told, want);
 }

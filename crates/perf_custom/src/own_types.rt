@@ -2,15 +2,23 @@
 
 ghost use Rattle.std.specs.Prelude.{◌≡◌, ◌+◌, None, ⊤};
 
-use crate::check;
-use crate::through::{Check, check_through};
+use crate::asked::{Asked, Case, check_cases, kind_of};
+use crate::bodies::Body;
 use perf_event_data::CowSlice;
-use perf_event_data::endian::{Endian, Little};
+use perf_event_data::endian::Endian;
 use perf_event_data::parse::{
-    ErrorKind, Layout, Parse, ParseBuf, ParseConfig, ParseError, ParseResult, Parser,
+    ErrorKind, Layout, Parse, ParseBuf, ParseBufCursor, ParseError, ParseResult, Parser,
 };
-use std::process::Abort;
-use std::test::Fail;
+use std::alloc::{AllocError, Global};
+
+/// What is asked of types of a user's own.
+#[derive(Copy, Clone)]
+pub enum Own {
+    /// Two lists, and one that is refused.
+    Lists,
+    /// An even number and an odd one.
+    Evens,
+}
 
 #[derive(Drop)]
 struct Task {
@@ -38,7 +46,7 @@ impl<'p, B: ParseBuf<'p>> Parse<'p, B> for Task {
 struct OwnSample {
     ip: u64,
     task: Task,
-    list: Vec<u64>,
+    list: OwnList,
     cgroup: u64,
 }
 
@@ -52,11 +60,10 @@ impl Layout for OwnSample {
 impl<'p, B: ParseBuf<'p>> Parse<'p, B> for OwnSample {
     #[tactic(auto, using(perf_parser::proofs::Paying::chain))]
     fn parse<E: Endian>(parser: &mut Parser<B, E>) -> ParseResult<Self> {
-        let ip = parser.parse()?;
+        let ip = parser.parse_u64()?;
         let task = parser.parse()?;
-        let count = parser.parse::<u64>()?;
-        let list = parser.parse_repeated(count as usize)?;
-        let cgroup = parser.parse()?;
+        let list = parser.parse()?;
+        let cgroup = parser.parse_u64()?;
         Ok(OwnSample {
             ip,
             task,
@@ -66,57 +73,35 @@ impl<'p, B: ParseBuf<'p>> Parse<'p, B> for OwnSample {
     }
 }
 
-fn check_sample(rt: &impl Abort, sample: &OwnSample) {
-    check!(rt; sample.ip, 0x3C2B_1A99_4833_1210);
-    check!(rt; (sample.task.pid, sample.task.tid), (2, 3));
-    check!(rt;
-        sample.list.as_slice(),
-        [0xF001, 0xF002, 0xF003, 0xF004].as_slice()
-    );
-    check!(rt; sample.cgroup, 0xC940_6500_0065_40C9);
-}
-
-// A frame whose body is parsed as a type of one's own.
-struct ByType;
-
-impl<'p, B: ParseBuf<'p>> Check<'p, B> for ByType {
-    fn check<E: Endian>(rt: &impl Abort, parser: &mut Parser<B, E>) -> Result<(), Fail> {
-        let (mut inner, metadata) = parser.parse_metadata()?;
-        check!(rt; (metadata.ty(), metadata.misc()), (9, 0));
-        let id = metadata.sample_id();
-        check!(rt; (id.pid(), id.tid(), id.time()), (None, None, None));
-        check!(rt; (id.id(), id.stream_id(), id.cpu()), (None, None, None));
-        let sample = inner.parse::<OwnSample>()?;
-        check_sample(rt, &sample);
-        let rest = inner.parse_rest()?;
-        check!(rt; rest.is_empty());
-        Ok(())
+// The rest of a frame's body, as a sample.
+fn own_sample<'p, E: Endian>(
+    inner: &mut Parser<ParseBufCursor<'p>, E>,
+    by_closure: bool,
+) -> ParseResult<OwnSample> {
+    if by_closure {
+        inner.parse_with(|parser| parser.parse())
+    } else {
+        inner.parse()
     }
 }
 
-// The same by a closure.
-struct ByClosure;
+fn tell_fields(text: &mut String, sample: &OwnSample) -> Result<(), AllocError> {
+    let (pid, tid) = (sample.task.pid, sample.task.tid);
+    let numbers = sample.list.numbers.as_slice();
+    let (ip, cgroup) = (sample.ip, sample.cgroup);
+    write!(text, ": {ip:#x} {pid} {tid} {numbers:?} {cgroup:#x}")
+}
 
-impl<'p, B: ParseBuf<'p>> Check<'p, B> for ByClosure {
-    fn check<E: Endian>(rt: &impl Abort, parser: &mut Parser<B, E>) -> Result<(), Fail> {
-        let (mut inner, metadata) = parser.parse_metadata()?;
-        check!(rt; (metadata.ty(), metadata.misc()), (9, 0));
-        let sample = inner.parse_with(|parser| {
-            let ip = parser.parse_u64()?;
-            let task = parser.parse::<Task>()?;
-            let count = parser.parse_u64()?;
-            let list = parser.parse_repeated::<u64>(count as usize)?;
-            let cgroup = parser.parse_u64()?;
-            Ok(OwnSample {
-                ip,
-                task,
-                list,
-                cgroup,
-            })
-        })?;
-        check_sample(rt, &sample);
-        Ok(())
-    }
+/// Writes a body that is parsed as a sample, and its rest.
+pub fn tell_sample<'p, E: Endian>(
+    text: &mut String,
+    inner: &mut Parser<ParseBufCursor<'p>, E>,
+    by_closure: bool,
+) -> ParseResult<()> {
+    let sample = own_sample(inner, by_closure)?;
+    tell_fields(text, &sample)?;
+    let rest = inner.parse_rest()?;
+    Ok(write!(text, " {:?}", rest.as_slice())?)
 }
 
 // A number of numbers, and the numbers.
@@ -152,42 +137,20 @@ impl Layout for OwnSlice<'_> {
 impl<'p, B: ParseBuf<'p>> Parse<'p, B> for OwnSlice<'p> {
     #[tactic(auto, using(perf_parser::proofs::InRow::items))]
     fn parse<E: Endian>(parser: &mut Parser<B, E>) -> ParseResult<Self> {
-        let count = parser.parse::<u64>()?;
+        let count = parser.parse_u64()?;
         let numbers = parser.parse_slice::<u64>(count as usize)?;
         Ok(OwnSlice { numbers })
     }
 }
 
-struct ByList;
-
-impl<'p, B: ParseBuf<'p>> Check<'p, B> for ByList {
-    fn check<E: Endian>(rt: &impl Abort, parser: &mut Parser<B, E>) -> Result<(), Fail> {
-        let list = parser.parse::<OwnList>()?;
-        check!(rt; list.numbers.as_slice(), [7, 8].as_slice());
-        let list = parser.parse::<OwnSlice>()?;
-        check!(rt; list.numbers.as_slice(), [9].as_slice());
-        let refused = parser.parse::<OwnList>().map_err(|error| error.kind());
-        check!(rt; matches!(refused, Err(ErrorKind::Eof)));
-        Ok(())
-    }
-}
-
-// Behind the list is one that says it has more numbers than there are.
-#[test]
-fn a_list_of_ones_own_counts_as_all_that_is_parsed(rt: HostRuntime) -> Result<(), Fail> {
-    let bytes = b"\x02\0\0\0\0\0\0\0\x07\0\0\0\0\0\0\0\x08\0\0\0\0\0\0\0\
-        \x01\0\0\0\0\0\0\0\x09\0\0\0\0\0\0\0\
-        \x02\0\0\0\0\0\0\0\x01\0\0\0\0\0\0\0";
-    check_through::<ByList>(&rt, rt.alloc(), bytes)
-}
-
-#[test]
-fn a_type_of_ones_own_is_parsed_out_of_a_frame(rt: HostRuntime) -> Result<(), Fail> {
-    let bytes = b"\x09\0\0\0\0\0\x48\0\x10\x12\x33\x48\x99\x1A\x2B\x3C\x02\0\0\0\x03\0\0\0\
-        \x04\0\0\0\0\0\0\0\x01\xF0\0\0\0\0\0\0\x02\xF0\0\0\0\0\0\0\x03\xF0\0\0\0\0\0\0\
-        \x04\xF0\0\0\0\0\0\0\xC9\x40\x65\0\0\x65\x40\xC9";
-    check_through::<ByType>(&rt, rt.alloc(), bytes)?;
-    check_through::<ByClosure>(&rt, rt.alloc(), bytes)
+fn told_lists<'p, B: ParseBuf<'p>, E: Endian>(
+    alloc: Global,
+    parser: &mut Parser<B, E>,
+) -> ParseResult<String> {
+    let OwnList { numbers } = parser.parse()?;
+    let slice = parser.parse::<OwnSlice>()?.numbers;
+    let refused = kind_of(parser.parse::<OwnList>());
+    Ok(format!(in alloc; "{numbers:?} {slice:?} {refused:?}")?)
 }
 
 // It refuses odd numbers.
@@ -211,16 +174,70 @@ impl<'p, B: ParseBuf<'p>> Parse<'p, B> for Even {
     }
 }
 
+fn told_evens<'p, B: ParseBuf<'p>, E: Endian>(
+    alloc: Global,
+    parser: &mut Parser<B, E>,
+) -> ParseResult<String> {
+    let Even(number) = parser.parse()?;
+    Ok(match parser.parse::<Even>() {
+        Ok(Even(other)) => format!(in alloc; "{number} {other}")?,
+        Err(error) => format!(in alloc; "{number} {:?} {:?}", error.kind(), error.message())?,
+    })
+}
+
+/// What a parser answers that is asked for types of a user's own.
+pub fn told_own<'p, B: ParseBuf<'p>, E: Endian>(
+    alloc: Global,
+    parser: &mut Parser<B, E>,
+    own: Own,
+) -> ParseResult<String> {
+    match own {
+        Own::Lists => told_lists(alloc, parser),
+        Own::Evens => told_evens(alloc, parser),
+    }
+}
+
+// A frame of type 9, without a sample id.
+const SAMPLE: &[u8] = b"\x09\0\0\0\0\0\x48\0\x10\x12\x33\x48\x99\x1A\x2B\x3C\x02\0\0\0\x03\0\0\0\
+    \x04\0\0\0\0\0\0\0\x01\xF0\0\0\0\0\0\0\x02\xF0\0\0\0\0\0\0\x03\xF0\0\0\0\0\0\0\
+    \x04\xF0\0\0\0\0\0\0\xC9\x40\x65\0\0\x65\x40\xC9";
+
+// Its type and misc, what its sample id has, its fields, of which the list is 0xF001 to 0xF004, and
+// its rest.
+const SAMPLE_TEXT: &str = "9 0 (None, None, None) (None, None, None): \
+    0x3c2b1a9948331210 2 3 [61441, 61442, 61443, 61444] 0xc9406500006540c9 []";
+
+const CASES: [Case; 4] = [
+    Case {
+        name: "a type of one's own is parsed out of a frame",
+        asked: Asked::Body(Body::Sample),
+        bytes: SAMPLE,
+        want: SAMPLE_TEXT,
+    },
+    Case {
+        name: "a closure parses it too",
+        asked: Asked::Body(Body::SampleByClosure),
+        bytes: SAMPLE,
+        want: SAMPLE_TEXT,
+    },
+    // Behind the lists is one that says it has more numbers than there are.
+    Case {
+        name: "a list of one's own counts as all that is parsed",
+        asked: Asked::Own(Own::Lists),
+        bytes: b"\x02\0\0\0\0\0\0\0\x07\0\0\0\0\0\0\0\x08\0\0\0\0\0\0\0\
+            \x01\0\0\0\0\0\0\0\x09\0\0\0\0\0\0\0\
+            \x02\0\0\0\0\0\0\0\x01\0\0\0\0\0\0\0",
+        want: "[7, 8] Owned([9]) Some(Eof)",
+    },
+    Case {
+        name: "a type of one's own refuses by its own error",
+        asked: Asked::Own(Own::Evens),
+        bytes: &[4, 5],
+        want: "4 InvalidRecord Some(\"odd\")",
+    },
+];
+
 #[test]
-fn a_type_of_ones_own_refuses_by_its_own_error(rt: HostRuntime) -> Result<(), Fail> {
-    let bytes: &[u8] = &[4, 5];
-    let mut parser = Parser::new(rt.alloc(), bytes, ParseConfig::<Little>::default());
-    let Even(number) = parser.parse::<Even>()?;
-    check!(rt; number, 4);
-    let Err(error) = parser.parse::<Even>() else {
-        panic!(rt; "not refused");
-    };
-    check!(rt; error.kind(), ErrorKind::InvalidRecord);
-    check!(rt; error.message(), Some("odd"));
-    Ok(())
+fn types_of_ones_own_are_parsed(rt: HostRuntime) {
+    check_cases(&rt, &CASES);
 }

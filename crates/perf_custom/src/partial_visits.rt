@@ -2,23 +2,21 @@
 
 ghost use Rattle.std.specs.Prelude.{⊤};
 
-use crate::checks::{check_same, check_text};
-use perf_event_data::endian::{Endian, Little, Native};
-use perf_event_data::parse::{ParseBuf, ParseConfig, Parser};
+use crate::asked::{Asked, Case, check_cases};
+use crate::visits::Visits;
 use perf_event_data::{
     Aux, AuxOutputHwId, BpfEvent, CGroup, Comm, CowSlice, Exit, Fork, ITraceStart, KSymbol, Lost,
-    LostSamples, Mmap, Mmap2, Namespaces, Partial, PartialVisitor, Read, RecordMetadata, Sample,
+    LostSamples, Mmap, Mmap2, Namespaces, PartialVisitor, Read, RecordMetadata, Sample,
     SwitchCpuWide, TextPoke, Throttle,
 };
-use perf_testing::frames::{BY_BUILD_ID, zero_frames};
-use perf_testing::told::{Tell, tell_error};
-use std::alloc::{AllocError, Global};
+use perf_testing::frames::BY_BUILD_ID;
+use perf_testing::told::Tell;
+use std::alloc::AllocError;
 use std::cell::Cell;
-use std::process::Abort;
 
-// The name of each call, all of which it has itself.
+/// The name of each call, all of which it has itself.
 #[derive(Copy, Clone)]
-struct OwnCalls;
+pub struct OwnCalls;
 
 impl PartialVisitor for OwnCalls {
     type Output = &'static str;
@@ -129,128 +127,93 @@ impl PartialVisitor for OwnCalls {
     }
 }
 
-// It has a call of its own for mappings alone, and each visit is counted.
+/// It has a call of its own for mappings alone, and each visit is counted.
 #[derive(Copy, Clone)]
-struct Mappings<'v> {
-    visits: &'v Cell<u32>,
+pub struct Mappings<'v> {
+    pub visits: &'v Cell<u32>,
+}
+
+/// Which call was made, and the time, the CPU and the type of the record, by its metadata alone.
+#[derive(Copy, Clone)]
+pub struct Moment {
+    call: &'static str,
+    time: Option<u64>,
+    cpu: Option<u32>,
+    ty: u32,
+}
+
+impl Tell for Moment {
+    fn tell(&self, text: &mut String) -> Result<(), AllocError> {
+        let (call, time, cpu, ty) = (self.call, self.time, self.cpu, self.ty);
+        write!(text, "{call} {time:?} {cpu:?} {ty}")
+    }
+}
+
+impl Mappings<'_> {
+    fn visited(self, call: &'static str, metadata: &RecordMetadata) -> Moment {
+        self.visits.set(self.visits.get().wrapping_add(1));
+        let id = metadata.sample_id();
+        Moment {
+            call,
+            time: id.time(),
+            cpu: id.cpu(),
+            ty: metadata.ty(),
+        }
+    }
 }
 
 impl PartialVisitor for Mappings<'_> {
-    type Output = &'static str;
+    type Output = Moment;
 
     // Nothing is said of it.
     ghost gives = { λ seen output. ⊤ };
 
     ghost left_out = { λ metadata output. ⊤ };
 
-    fn visit_unimplemented(self, _metadata: RecordMetadata) -> Self::Output {
-        self.visits.set(self.visits.get().wrapping_add(1));
-        "unimplemented"
+    fn visit_unimplemented(self, metadata: RecordMetadata) -> Self::Output {
+        self.visited("unimplemented", &metadata)
     }
 
-    fn visit_mmap(self, _held: Mmap<'_>, _metadata: RecordMetadata) -> Self::Output {
-        self.visits.set(self.visits.get().wrapping_add(1));
-        "mmap"
+    fn visit_mmap(self, _held: Mmap<'_>, metadata: RecordMetadata) -> Self::Output {
+        self.visited("mmap", &metadata)
     }
 }
 
-// Writes what a partial visitor makes of each frame, until one is refused.
-fn tell_visits<V: PartialVisitor + Copy>(
-    alloc: Global,
-    bytes: &[u8],
-    visitor: V,
-) -> Result<String, AllocError>
-where
-    V::Output: Tell + Drop,
-{
-    let config = ParseConfig::<Native>::default().with_endian(Little);
-    let mut parser = Parser::new(alloc, bytes, config);
-    let mut text = String::new(alloc);
-    for _ in 0..100 {
-        if !tell_visit(&mut text, &mut parser, visitor)? {
-            break;
-        }
-    }
-    Ok(text)
-}
-
-// Writes what it makes of the next frame, and answers whether that was not refused.
-fn tell_visit<'p, B: ParseBuf<'p>, E: Endian, V: PartialVisitor + Copy>(
-    text: &mut String,
-    parser: &mut Parser<B, E>,
-    visitor: V,
-) -> Result<bool, AllocError>
-where
-    V::Output: Tell + Drop,
-{
-    match parser.parse_record(Partial(visitor)) {
-        Ok(output) => {
-            output.tell(text)?;
-            text.push_str("; ")?;
-            Ok(true)
-        }
-        Err(error) => {
-            tell_error(text, &error)?;
-            Ok(false)
-        }
-    }
-}
-
-// Asserts what a partial visitor makes of these frames.
-fn check_visits<V: PartialVisitor + Copy>(
-    rt: &(impl AllocGlobal + Abort),
-    bytes: &[u8],
-    visitor: V,
-    want: &str,
-)
-where
-    V::Output: Tell + Drop,
-{
-    check_text(rt, tell_visits(rt.alloc(), bytes, visitor), want);
-}
-
-// The same of a frame of each type.
-fn check_zero_frames(rt: &(impl AllocGlobal + Abort), want: &str) {
-    match zero_frames(rt.alloc()) {
-        Ok(bytes) => check_visits(rt, bytes.as_slice(), OwnCalls, want),
-        Err(_) => panic!(rt; "no memory"),
-    }
-}
-
-#[test]
-fn own_calls_are_made(rt: HostRuntime) {
-    let want = "mmap; lost; comm; exit; throttle; unthrottle; \
-        fork; read; sample; mmap2; aux; itrace_start; \
-        lost_samples; switch; switch_cpu_wide; namespaces; ksymbol; bpf_event; \
-        cgroup; text_poke; aux_output_hw_id; unknown; Eof";
-    check_zero_frames(&rt, want);
-}
-
-// The length of its build id is 21.
+// MMAP2 whose build id has the length 21.
 const BY_LONG_BUILD_ID: &[u8] = b"\x0A\0\0\0\0\x40\x50\0\x01\0\0\0\x02\0\0\0\
     \0\x10\0\0\0\0\0\0\0\x20\0\0\0\0\0\0\0\0\0\0\0\0\0\0\
     \x15\0\0\0\x01\x02\x03\x04\x05\x06\x07\x08\x09\x0A\x0B\x0C\x0D\x0E\x0F\x10\x11\x12\x13\x14\
     \x05\0\0\0\x02\0\0\0\x61\x62\0\0\0\0\0\0";
 
-// A frame, what the visitor of mappings makes of it, and how many visits that takes. An MMAP2 goes
-// to its own call for mappings.
-const MAPPINGS: [(&[u8], &str, u32); 4] = [
-    (BY_BUILD_ID, "mmap; Eof", 1),
-    (
-        b"\x0D\0\0\0\0\0\x10\0\x05\0\0\0\0\0\0\0",
-        "unimplemented; Eof",
-        1,
-    ),
-    (b"\x0E\0\0\0\0\0\x08\0", "unimplemented; Eof", 1),
-    // A frame that is refused is not visited.
-    (BY_LONG_BUILD_ID, "InvalidRecord", 0),
+// What the visitor of mappings makes of frames, and how many visits that takes.
+const CASES: [Case; 4] = [
+    Case {
+        name: "MMAP2 goes to its own call for mappings",
+        asked: Asked::Visited(Visits::Mappings),
+        bytes: BY_BUILD_ID,
+        want: "mmap None None 10; Eof, 1",
+    },
+    Case {
+        name: "LOST_SAMPLES goes the default way",
+        asked: Asked::Visited(Visits::Mappings),
+        bytes: b"\x0D\0\0\0\0\0\x10\0\x05\0\0\0\0\0\0\0",
+        want: "unimplemented None None 13; Eof, 1",
+    },
+    Case {
+        name: "SWITCH goes the default way",
+        asked: Asked::Visited(Visits::Mappings),
+        bytes: b"\x0E\0\0\0\0\0\x08\0",
+        want: "unimplemented None None 14; Eof, 1",
+    },
+    Case {
+        name: "a frame that is refused is not visited",
+        asked: Asked::Visited(Visits::Mappings),
+        bytes: BY_LONG_BUILD_ID,
+        want: "InvalidRecord, 0",
+    },
 ];
 
 #[test]
 fn what_is_left_out_goes_the_default_way(rt: HostRuntime) {
-    for (bytes, want, count) in MAPPINGS {
-        let visits = Cell::new(0);
-        check_visits(&rt, bytes, Mappings { visits: &visits }, want);
-        check_same(&rt, "how many visits", visits.get(), count);
-    }
+    check_cases(&rt, &CASES);
 }

@@ -2,85 +2,55 @@
 
 ghost use Rattle.std.specs.Prelude.{⊤};
 
-use crate::checks::check_text;
+use crate::asked::{Asked, Case, check_case, check_cases};
+use crate::partial_visits::{Mappings, OwnCalls};
 use perf_event_data::endian::{Endian, Little, Native};
-use perf_event_data::parse::{ParseBuf, ParseConfig, Parser};
+use perf_event_data::parse::{ParseBuf, ParseConfig, ParseResult, Parser};
 use perf_event_data::sys::perf_event_attr;
 use perf_event_data::{
     Aux, AuxOutputHwId, BpfEvent, CGroup, Comm, CowSlice, Exit, Fork, ITraceStart, KSymbol, Lost,
-    LostSamples, Mmap, Mmap2, Namespaces, Partial, PartialVisitor, PieceBuf, Read, RecordMetadata,
-    RecordVisitor, Sample, SwitchCpuWide, TextPoke, Throttle, Visitor,
+    LostSamples, Mmap, Mmap2, Namespaces, Partial, Read, RecordMetadata, RecordVisitor, Sample,
+    SwitchCpuWide, TextPoke, Throttle, Visitor,
 };
 use perf_testing::attributes::ids_attribute;
 use perf_testing::frames::zero_frames;
 use perf_testing::told::{Tell, tell_error};
 use std::alloc::{AllocError, Global};
-use std::io::BufReader;
-use std::process::Abort;
+use std::cell::Cell;
+use std::test::Fail;
 
-// Writes what a visitor makes of each frame, until one is refused.
-fn tell_visits<'p, B: ParseBuf<'p> + Drop, V: Visitor<'p> + Copy>(
-    alloc: Global,
-    buf: B,
-    attr: perf_event_attr,
-    visitor: V,
-) -> Result<String, AllocError>
-where
-    V::Output: Tell + Drop,
-{
-    let config = ParseConfig::<Native>::from(attr).with_endian(Little);
-    let mut parser = Parser::new(alloc, buf, config);
-    let mut text = String::new(alloc);
-    for _ in 0..100 {
-        match parser.parse_record(visitor) {
-            Ok(output) => {
-                output.tell(&mut text)?;
-                text.push_str("; ")?;
-            }
-            Err(error) => {
-                tell_error(&mut text, &error)?;
-                break;
-            }
+/// Which visitor is asked.
+#[derive(Copy, Clone)]
+pub enum Visits {
+    /// That of the names of calls.
+    Names,
+    /// The partial one that has every call itself.
+    OwnCalls,
+    /// That of mappings, and how many visits are made.
+    Mappings,
+    /// The same, where each record has a sample id.
+    TimedMappings,
+    /// That of records, where each record has a sample id.
+    TimedRecords,
+}
+
+impl Visits {
+    // An attribute with time and CPU as sample ids, or the default one.
+    fn attr(self) -> perf_event_attr {
+        match self {
+            Visits::Names | Visits::OwnCalls | Visits::Mappings => perf_event_attr::default(),
+            Visits::TimedMappings | Visits::TimedRecords => ids_attribute(1 << 2 | 1 << 7),
         }
     }
-    Ok(text)
-}
 
-fn check_visits_over<'p, B: ParseBuf<'p> + Drop, V: Visitor<'p> + Copy>(
-    rt: &(impl AllocGlobal + Abort),
-    buf: B,
-    attr: perf_event_attr,
-    visitor: V,
-    want: &str,
-)
-where
-    V::Output: Tell + Drop,
-{
-    check_text(rt, tell_visits(rt.alloc(), buf, attr, visitor), want);
-}
-
-// Asserts what a visitor makes of each frame, through a slice, a buffered reader and pieces.
-fn check_visits<'p, V: Visitor<'p> + Copy>(
-    rt: &(impl AllocGlobal + Abort),
-    bytes: &'p [u8],
-    attr: perf_event_attr,
-    visitor: V,
-    want: &str,
-)
-where
-    V::Output: Tell + Drop,
-{
-    check_visits_over(rt, bytes, attr, visitor, want);
-    check_visits_over(rt, PieceBuf::new(bytes, 3, false), attr, visitor, want);
-    match BufReader::with_capacity(rt.alloc(), 7, bytes) {
-        Ok(reader) => check_visits_over(rt, reader, attr, visitor, want),
-        Err(_) => panic!(rt; "no memory"),
+    fn are_counted(self) -> bool {
+        matches!(self, Visits::Mappings | Visits::TimedMappings)
     }
 }
 
-// The name of each call.
+/// The name of each call.
 #[derive(Copy, Clone)]
-struct Names;
+pub struct Names;
 
 impl<'a> Visitor<'a> for Names {
     type Output = &'static str;
@@ -189,63 +159,84 @@ impl<'a> Visitor<'a> for Names {
     }
 }
 
-// Asserts what a visitor makes of these frames.
-fn check_zero_frames(rt: &(impl AllocGlobal + Abort), want: &str) {
-    match zero_frames(rt.alloc()) {
-        Ok(bytes) => check_visits(
-            rt,
-            bytes.as_slice(),
-            perf_event_attr::default(),
-            Names,
-            want,
-        ),
-        Err(_) => panic!(rt; "no memory"),
-    }
-}
-
-#[test]
-fn each_type_has_its_call(rt: HostRuntime) {
-    let want = "mmap; lost; comm; exit; throttle; unthrottle; \
-        fork; read; sample; mmap2; aux; itrace_start; \
-        lost_samples; switch; switch_cpu_wide; namespaces; ksymbol; bpf_event; \
-        cgroup; text_poke; aux_output_hw_id; unknown; Eof";
-    check_zero_frames(&rt, want);
-}
-
-// The time, the CPU and the type of each record, by its metadata alone.
-#[derive(Copy, Clone)]
-struct Timeline;
-
-// A moment of a timeline.
-#[derive(Copy, Clone)]
-struct Moment {
-    time: Option<u64>,
-    cpu: Option<u32>,
-    ty: u32,
-}
-
-impl Tell for Moment {
-    fn tell(&self, text: &mut String) -> Result<(), AllocError> {
-        write!(text, "{:?} {:?} {}", self.time, self.cpu, self.ty)
-    }
-}
-
-impl PartialVisitor for Timeline {
-    type Output = Moment;
-
-    // Nothing is said of it.
-    ghost gives = { λ seen output. ⊤ };
-
-    ghost left_out = { λ metadata output. ⊤ };
-
-    fn visit_unimplemented(self, metadata: RecordMetadata) -> Self::Output {
-        let id = metadata.sample_id();
-        Moment {
-            time: id.time(),
-            cpu: id.cpu(),
-            ty: metadata.ty(),
+// Writes what is made of a frame, and answers whether that was not refused.
+fn tell_made<T: Tell + Drop>(
+    text: &mut String,
+    answer: ParseResult<T>,
+) -> Result<bool, AllocError> {
+    match answer {
+        Ok(output) => {
+            output.tell(text)?;
+            text.push_str("; ")?;
+            Ok(true)
+        }
+        Err(error) => {
+            tell_error(text, &error)?;
+            Ok(false)
         }
     }
+}
+
+// Writes what a visitor makes of the next frame, and answers whether that was not refused.
+fn tell_visit<'p, B: ParseBuf<'p>, E: Endian>(
+    alloc: Global,
+    text: &mut String,
+    parser: &mut Parser<B, E>,
+    visitor: Visits,
+    visits: &Cell<u32>,
+) -> Result<bool, AllocError> {
+    match visitor {
+        Visits::Names => tell_made(text, parser.parse_record(Names)),
+        Visits::OwnCalls => tell_made(text, parser.parse_record(Partial(OwnCalls))),
+        Visits::Mappings | Visits::TimedMappings => {
+            tell_made(text, parser.parse_record(Partial(Mappings { visits })))
+        }
+        Visits::TimedRecords => tell_made(text, parser.parse_record(RecordVisitor::new(alloc))),
+    }
+}
+
+/// What a visitor makes of each frame, until one is refused.
+pub fn told_visits<'p, B: ParseBuf<'p> + Drop>(
+    alloc: Global,
+    buf: B,
+    visitor: Visits,
+) -> Result<String, AllocError> {
+    let config = ParseConfig::<Native>::from(visitor.attr()).with_endian(Little);
+    let mut parser = Parser::new(alloc, buf, config);
+    let mut text = String::new(alloc);
+    let visits = Cell::new(0);
+    for _ in 0..100 {
+        if !tell_visit(alloc, &mut text, &mut parser, visitor, &visits)? {
+            break;
+        }
+    }
+    if visitor.are_counted() {
+        write!(&mut text, ", {}", visits.get())?;
+    }
+    Ok(text)
+}
+
+const CALLS: &str = "mmap; lost; comm; exit; throttle; unthrottle; \
+    fork; read; sample; mmap2; aux; itrace_start; \
+    lost_samples; switch; switch_cpu_wide; namespaces; ksymbol; bpf_event; \
+    cgroup; text_poke; aux_output_hw_id; unknown; Eof";
+
+#[test]
+fn each_type_has_its_call(rt: HostRuntime) -> Result<(), Fail> {
+    let bytes = zero_frames(rt.alloc())?;
+    for (name, visitor) in [
+        ("a visitor", Visits::Names),
+        ("own calls", Visits::OwnCalls),
+    ] {
+        let case = Case {
+            name,
+            asked: Asked::Visited(visitor),
+            bytes: bytes.as_slice(),
+            want: CALLS,
+        };
+        check_case(&rt, &case);
+    }
+    Ok(())
 }
 
 // LOST_SAMPLES, SWITCH and COMM, each with time and CPU as its sample id.
@@ -255,59 +246,23 @@ const TIMED: &[u8] = b"\x0D\0\0\0\0\0\x20\0\x05\0\0\0\0\0\0\0\
     \x03\0\0\0\0\0\x28\0\x01\0\0\0\x02\0\0\0\x61\0\0\0\0\0\0\0\
     \x09\0\0\0\0\0\0\0\x01\0\0\0\0\0\0\0";
 
-fn tell_timeline(alloc: Global, attr: perf_event_attr) -> Result<String, AllocError> {
-    let config = ParseConfig::<Native>::from(attr).with_endian(Little);
-    let mut parser = Parser::new(alloc, TIMED, config);
-    let mut text = String::new(alloc);
-    for _ in 0..4 {
-        match parser.parse_record(Partial(Timeline)) {
-            Ok(moment) => moment.tell(&mut text)?,
-            Err(error) => tell_error(&mut text, &error)?,
-        }
-        text.push_str("; ")?;
-    }
-    Ok(text)
-}
-
-fn check_timeline(rt: &(impl AllocGlobal + Abort), attr: perf_event_attr, want: &str) {
-    check_text(rt, tell_timeline(rt.alloc(), attr), want);
-}
+const CASES: [Case; 2] = [
+    Case {
+        name: "a timeline is made of sample ids",
+        asked: Asked::Visited(Visits::TimedMappings),
+        bytes: TIMED,
+        want: "unimplemented Some(7) Some(3) 13; unimplemented Some(8) Some(2) 14; \
+            unimplemented Some(9) Some(1) 3; Eof, 3",
+    },
+    Case {
+        name: "the visitor of records makes them",
+        asked: Asked::Visited(Visits::TimedRecords),
+        bytes: TIMED,
+        want: "LostSamples lost=5; Switch; Comm pid=1 tid=2 comm=61; Eof",
+    },
+];
 
 #[test]
-fn a_timeline_is_made_of_sample_ids(rt: HostRuntime) {
-    let want = "Some(7) Some(3) 13; Some(8) Some(2) 14; Some(9) Some(1) 3; Eof; ";
-    check_timeline(&rt, ids_attribute(1 << 2 | 1 << 7), want);
-}
-
-fn tell_records(alloc: Global, attr: perf_event_attr) -> Result<String, AllocError> {
-    let config = ParseConfig::<Native>::from(attr).with_endian(Little);
-    let mut parser = Parser::new(alloc, TIMED, config);
-    let mut text = String::new(alloc);
-    for _ in 0..4 {
-        tell_visited(alloc, &mut text, &mut parser)?;
-    }
-    Ok(text)
-}
-
-// What the visitor of records makes of the next frame.
-fn tell_visited<'p, B: ParseBuf<'p>, E: Endian>(
-    alloc: Global,
-    text: &mut String,
-    parser: &mut Parser<B, E>,
-) -> Result<(), AllocError> {
-    match parser.parse_record(RecordVisitor::new(alloc)) {
-        Ok(answer) => answer.tell(text)?,
-        Err(error) => tell_error(text, &error)?,
-    }
-    text.push_str("; ")
-}
-
-fn check_records(rt: &(impl AllocGlobal + Abort), attr: perf_event_attr, want: &str) {
-    check_text(rt, tell_records(rt.alloc(), attr), want);
-}
-
-#[test]
-fn the_visitor_of_records_makes_them(rt: HostRuntime) {
-    let want = "LostSamples lost=5; Switch; Comm pid=1 tid=2 comm=61; Eof; ";
-    check_records(&rt, ids_attribute(1 << 2 | 1 << 7), want);
+fn records_with_sample_ids_are_visited(rt: HostRuntime) {
+    check_cases(&rt, &CASES);
 }

@@ -17,7 +17,7 @@ returns-in_err-numbers g c = record {
     counted = λ start k.
         let source = g.B.ParseBuf.source in
         let order = g.E.Endian.order in
-        let mid = meaning source order c.parse.new.self in
+        let mid = meaning source order c.parse_u64.new.self in
         let new = meaning source order c.parse_slice.new.self in
         let error = c.in_err-numbers.field-0.0 in
         let short = short_kept _ start mid new c.in_ok-count.count (kind_of error) c.in_err-numbers.ensures.err (c.in_ok-count.ensures.call.counted start k) in
@@ -37,7 +37,7 @@ returns g c = record {
     counted = λ start k.
         let source = g.B.ParseBuf.source in
         let order = g.E.Endian.order in
-        let mid = meaning source order c.parse.new.self in
+        let mid = meaning source order c.parse_u64.new.self in
         let new = meaning source order c.parse_slice.new.self in
         runs_kept _ start mid new (cow_items c.in_ok-numbers.numbers) c.in_ok-numbers.ensures.ok.1 (c.in_ok-count.ensures.call.counted start k);
     follows = λ start f. c.parse_slice.ensures.call.follows start (c.in_ok-count.ensures.call.follows start f);

@@ -1,0 +1,89 @@
+//! What is asked of a parser over every buffer, and what that answers as text.
+
+use crate::bodies::{Body, told_frame};
+use crate::checks::check_text;
+use crate::orders::{Asking, told_by_order};
+use crate::own_types::{Own, told_own};
+use crate::visits::{Visits, told_visits};
+use perf_event_data::PieceBuf;
+use perf_event_data::endian::Little;
+use perf_event_data::parse::{ErrorKind, ParseBuf, ParseConfig, ParseResult, Parser};
+use std::alloc::Global;
+use std::io::BufReader;
+use std::process::Abort;
+
+/// What is asked.
+#[derive(Copy, Clone)]
+pub enum Asked {
+    /// Types of a user's own.
+    Own(Own),
+    /// What the parser of a frame's body parses.
+    Body(Body),
+    /// What is read in an order of a user's own.
+    InOrder(Asking),
+    /// What a visitor makes of each frame.
+    Visited(Visits),
+}
+
+/// What is asked of these bytes, and the answer.
+#[derive(Copy, Clone)]
+pub struct Case<'a> {
+    pub name: &'a str,
+    pub asked: Asked,
+    pub bytes: &'a [u8],
+    pub want: &'a str,
+}
+
+// What a parser over a buffer answers, the lowest byte of a number first where the order is no
+// other.
+fn told<'p, B: ParseBuf<'p> + Drop>(alloc: Global, buf: B, asked: Asked) -> ParseResult<String> {
+    match asked {
+        Asked::Own(own) => told_own(alloc, &mut little(alloc, buf), own),
+        Asked::Body(body) => told_frame(alloc, &mut little(alloc, buf), body),
+        Asked::InOrder(asking) => told_by_order(alloc, buf, asking),
+        Asked::Visited(visits) => Ok(told_visits(alloc, buf, visits)?),
+    }
+}
+
+fn little<'p, B: ParseBuf<'p>>(alloc: Global, buf: B) -> Parser<B, Little> {
+    Parser::new(alloc, buf, ParseConfig::default())
+}
+
+fn check_over<'p, B: ParseBuf<'p> + Drop>(
+    rt: &(impl AllocGlobal + Abort),
+    buf: B,
+    case: &Case<'_>,
+) {
+    check_text(rt, case.name, told(rt.alloc(), buf, case.asked), case.want);
+}
+
+/// Asserts what is answered through a slice, buffered readers and pieces.
+pub fn check_case(rt: &(impl AllocGlobal + Abort), case: &Case<'_>) {
+    check_over(rt, case.bytes, case);
+    for capacity in [1, 7, 8192] {
+        match BufReader::with_capacity(rt.alloc(), capacity, case.bytes) {
+            Ok(reader) => check_over(rt, reader, case),
+            Err(_) => panic!(rt; "no memory"),
+        }
+    }
+    for most in [1, 3, 7, 64] {
+        for lasting in [true, false] {
+            check_over(rt, PieceBuf::new(case.bytes, most, lasting), case);
+        }
+    }
+}
+
+/// Asserts the answers of each case.
+pub fn check_cases(rt: &(impl AllocGlobal + Abort), cases: &[Case<'_>]) {
+    for case in cases {
+        check_case(rt, case);
+    }
+}
+
+/// The kind of a refusal.
+pub fn kind_of<T: Drop>(answer: ParseResult<T>) -> Option<ErrorKind> {
+    match answer {
+        Ok(_) => None,
+        Err(error) => Some(error.kind()),
+    }
+}

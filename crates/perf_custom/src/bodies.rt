@@ -1,0 +1,57 @@
+//! What is parsed of a frame's body.
+
+use crate::closures::tell_closures;
+use crate::own_types::tell_sample;
+use perf_event_data::RecordMetadata;
+use perf_event_data::endian::Endian;
+use perf_event_data::parse::{ParseBuf, ParseBufCursor, ParseResult, Parser};
+use std::alloc::{AllocError, Global};
+
+/// What is asked of the parser of a frame's body.
+#[derive(Copy, Clone)]
+pub enum Body {
+    /// A sample of a user's own.
+    Sample,
+    /// The same by a closure.
+    SampleByClosure,
+    /// What closures parse.
+    Closures,
+}
+
+fn tell_metadata(text: &mut String, metadata: &RecordMetadata) -> Result<(), AllocError> {
+    let id = metadata.sample_id();
+    let task = (id.pid(), id.tid(), id.time());
+    let event = (id.id(), id.stream_id(), id.cpu());
+    write!(
+        text,
+        "{} {} {task:?} {event:?}",
+        metadata.ty(),
+        metadata.misc()
+    )
+}
+
+// Writes what the parser of a body answers, behind what the text has.
+fn told_behind<'p, E: Endian>(
+    mut text: String,
+    mut inner: Parser<ParseBufCursor<'p>, E>,
+    body: Body,
+) -> ParseResult<String> {
+    match body {
+        Body::Sample => tell_sample(&mut text, &mut inner, false)?,
+        Body::SampleByClosure => tell_sample(&mut text, &mut inner, true)?,
+        Body::Closures => tell_closures(&mut text, &mut inner)?,
+    }
+    Ok(text)
+}
+
+/// What is known of a frame beside its body, and what the parser of that answers.
+pub fn told_frame<'p, B: ParseBuf<'p>, E: Endian>(
+    alloc: Global,
+    parser: &mut Parser<B, E>,
+    body: Body,
+) -> ParseResult<String> {
+    let (inner, metadata) = parser.parse_metadata()?;
+    let mut text = String::new(alloc);
+    tell_metadata(&mut text, &metadata)?;
+    told_behind(text, inner, body)
+}
