@@ -11,7 +11,7 @@
 //! - `bytes DIGITS ..`, `zeros COUNT`, and `u16`, `u32` and `u64 NUMBER ..` are the bytes, one behind
 //!   another. The first such line behind an answer begins anew.
 //! - `ask WORD ..` asks a parser ([`perf_testing::asks`]); behind the line `big` with the highest byte
-//!   of each number first.
+//!   of each number first, and behind `little` with the lowest again.
 //! - `run LIMIT ..` reads the records of a stream, each time so many at most, and `behind LIMIT ..`
 //!   those behind the attribute with which the bytes begin. Each frame is its line of `perfrec`, and
 //!   behind that what it leaves out ([`perf_testing::told`]).
