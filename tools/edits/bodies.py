@@ -16,6 +16,8 @@ NOTE = re.compile(r"note: (?:\./)?(src/\S+?):(\d+):(\d+): (it is not proved .*)"
 GAVE_UP = re.compile(r"note: what antt said of .*?: (?:\./)?(src/\S+?):(\d+):(\d+): error: (.*)")
 UNREAD = re.compile(r"(?:\./)?src/\S+?:\d+:\d+: error: [^`].*")
 ERROR = re.compile(r"(?:\./)?proofs/(\S+?)/(\w+)\.antt:\d+:\d+: error: (.*)")
+# What says the numbers of a set or of a named number.
+TABLES = ("flags", "names")
 # The answers of a proof name what the edit, or the refusal of a callee, took away.
 NAMES = re.compile(r"has no field|is not in scope|has no `|was not admitted")
 
@@ -141,11 +143,15 @@ def refusal(body, path, output):
 
 
 def proves(body, path, folder):
-    """Whether a folder of proofs is that of a body's function: a method's is below its type."""
+    """Whether a folder of proofs is that of a body's function: a method's is below its type. A
+    number outside any function is refused by the table of its own type."""
     *around, name = folder.split("/")
     if body.owner:
-        owner = around[-1].partition("+")[0] if around else ""
-        return name in body.names and owner.lower() == body.owner.lower()
+        owner = (around[-1].partition("+")[0] if around else "").lower()
+        own = body.owner.lower()
+        if body.names == ["?"]:
+            return name in TABLES and owner in (own, own + "flags")
+        return name in body.names and owner == own
     module = "" if path == "src/lib.rt" else path[len("src/") : -len(".rt")]
     return name in body.names and "/".join(around) == module
 
