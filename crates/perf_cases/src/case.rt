@@ -5,7 +5,7 @@ use anyhow::{Context, Result, bail};
 use perf_event_data::endian::{Big, Little};
 use perf_event_data::sys::perf_event_attr;
 use perf_testing::asks::tell_asked;
-use perf_testing::runs::{tell_all, tell_behind, tell_shown};
+use perf_testing::runs::{tell_behind, tell_everywhere, tell_shown};
 use perf_testing::sample_bytes::{Part, put_parts, tell_sample_bytes};
 use std::alloc::{AllocError, Global};
 
@@ -128,7 +128,7 @@ impl<'a> Case<'a> {
     }
 
     fn told_runs(&self) -> Result<String> {
-        Ok(tell_all(
+        Ok(tell_everywhere(
             self.alloc,
             &self.little,
             Little,

@@ -46,6 +46,6 @@ pub fn check_everywhere<E: Endian + Copy>(
     want: &str,
 ) {
     let attr = perf_event_attr::default();
-    let told = tell_everywhere(rt.alloc(), bytes, endian, attr, limits);
+    let told = tell_everywhere(rt.alloc(), bytes, endian, &attr, limits);
     check_text(rt, told, want);
 }

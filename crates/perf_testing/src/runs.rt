@@ -165,17 +165,6 @@ pub fn tell_everywhere<E: Endian + Copy>(
     alloc: Global,
     bytes: &[u8],
     endian: E,
-    attr: perf_event_attr,
-    limits: &[usize],
-) -> Result<String, AllocError> {
-    tell_all(alloc, bytes, endian, &attr, limits)
-}
-
-/// The same of an attribute that is lent.
-pub fn tell_all<E: Endian + Copy>(
-    alloc: Global,
-    bytes: &[u8],
-    endian: E,
     attr: &perf_event_attr,
     limits: &[usize],
 ) -> Result<String, AllocError> {

@@ -1,7 +1,7 @@
 //! Bodies of samples, written in both byte orders and read through every buffer.
 
 use crate::everywhere::{Says, parser_of, say_everywhere};
-use crate::runs::tell_all;
+use crate::runs::tell_everywhere;
 use crate::told::{tell_error, tell_record};
 use perf_event_data::Record;
 use perf_event_data::endian::{Big, Endian, Little};
@@ -115,7 +115,7 @@ fn add_frames<E: Endian + Copy>(
     let bytes = frames(alloc, is_big, body)?;
     let size = body.len().saturating_add(8);
     let want = format!(in alloc; "0 9 2 {size} {text}; 1 13 0 16 LostSamples lost=5; done")?;
-    let said = tell_all(alloc, &bytes, endian, attr, &[10])?;
+    let said = tell_everywhere(alloc, &bytes, endian, attr, &[10])?;
     if said.as_str() != want.as_str() {
         write!(text, " but {said}")?;
     }
