@@ -2,11 +2,11 @@
 
 use crate::perfrec;
 use anyhow::{Context, Result, bail};
-use perf_event_data::endian::{Big, Little};
+use perf_event_data::endian::{Big, Endian, Little};
 use perf_event_data::sys::perf_event_attr;
 use perf_testing::asks::tell_asked;
 use perf_testing::runs::{tell_behind, tell_everywhere, tell_shown};
-use perf_testing::sample_bytes::{Part, put_parts, tell_sample_bytes};
+use perf_testing::sample_bytes::{Part, frames, put_parts};
 use std::alloc::{AllocError, Global};
 
 /// What the lines of a case have set so far.
@@ -139,11 +139,34 @@ impl<'a> Case<'a> {
 
     // What is said in one order, and where the other one says something else, that too.
     fn told_sample(&self) -> Result<String> {
-        let left = self.asked.parse::<usize>()?;
-        let mut text = tell_sample_bytes(self.alloc, false, &self.attr, &self.little, left)?;
-        let other = tell_sample_bytes(self.alloc, true, &self.attr, &self.big, left)?;
+        let frame = frames(self.alloc, false, &self.little)?;
+        let mut text = self.told_body(Little, &self.little, &frame)?;
+        let frame = frames(self.alloc, true, &self.big)?;
+        let other = self.told_body(Big, &self.big, &frame)?;
         if other.as_str() != text.as_str() {
             write!(text, " but {other}")?;
+        }
+        Ok(text)
+    }
+
+    // What a body says: the sample, or the kind of its refusal, how many bytes are left behind a
+    // sample, where these are not as many as they should be, or where buffers say that differently,
+    // and what is said of its frame and the next one, where that is not what the body itself says.
+    fn told_body<E: Endian + Copy>(&self, endian: E, body: &[u8], frame: &[u8]) -> Result<String> {
+        let asked = tell_asked(self.alloc, body, endian, &self.attr, "Sample left")?;
+        let (sample, left) = asked.as_str().split_once("; ").context("one answer")?;
+        let size = body.len().saturating_add(8);
+        let want = format!(in self.alloc;
+            "0 9 2 {size} {sample}; 1 13 0 16 LostSamples lost=5; done"
+        )?;
+        let said = tell_everywhere(self.alloc, frame, endian, &self.attr, &[10])?;
+        let mut text = String::from_str(self.alloc, sample)?;
+        let is_other = sample.starts_with("Sample") && left != self.asked;
+        if is_other || left.contains(' ') {
+            write!(text, ", {left} left")?;
+        }
+        if said.as_str() != want.as_str() {
+            write!(text, " but {said}")?;
         }
         Ok(text)
     }

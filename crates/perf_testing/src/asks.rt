@@ -2,8 +2,7 @@
 
 use crate::everywhere::{Says, parser_of, say_everywhere};
 use crate::told::{
-    tell_config, tell_frame, tell_from_both_ends, tell_group, tell_record, tell_semicolon,
-    tell_spaces, tell_values,
+    Found, Framed, FromBothEnds, OfGroup, Tell, tell_answer, tell_config, tell_last, tell_semicolon,
 };
 use perf_event_data::endian::Endian;
 use perf_event_data::parse::{
@@ -12,8 +11,8 @@ use perf_event_data::parse::{
 use perf_event_data::sys::{perf_event_attr, perf_event_header};
 use perf_event_data::{
     BranchEntry, Comm, CowSlice, DataSource, Exit, Lost, LostSamples, Mmap, Read, ReadGroup,
-    ReadValue, Record, RecordMetadata, Registers, SampleId, SampleRegsAbi, SwitchCpuWide, Throttle,
-    Txn,
+    ReadValue, Record, RecordMetadata, Registers, Sample, SampleId, SampleRegsAbi, SwitchCpuWide,
+    Throttle, Txn,
 };
 use std::alloc::{AllocError, Global};
 use std::fmt::Debug;
@@ -37,26 +36,42 @@ fn tell_value<'p, B: ParseBuf<'p>, E: Endian, P: Parse<'p, B> + Debug + Drop>(
     tell_debug(text, parser.parse::<P>())
 }
 
-fn tell_if<'p, B: ParseBuf<'p>, E: Endian, P: Parse<'p, B> + Debug + Drop>(
+// Numbers of a type: one, one under a condition, which holds where the count is not zero, or a list of
+// so many.
+fn tell_numbers<'p, B: ParseBuf<'p>, E: Endian, P: Parse<'p, B> + Debug + Drop>(
     text: &mut String,
     parser: &mut Parser<B, E>,
-    condition: bool,
+    name: &str,
+    count: usize,
 ) -> Result<(), AllocError> {
-    tell_debug(text, parser.parse_if::<P>(condition))
+    if name.starts_with("parse_if") {
+        tell_debug(text, parser.parse_if::<P>(count != 0))
+    } else if name.starts_with("parse_repeated") {
+        tell_debug(text, parser.parse_repeated::<P>(count))
+    } else {
+        tell_debug(text, parser.parse::<P>())
+    }
 }
 
-fn tell_repeated<'p, B: ParseBuf<'p>, E: Endian, P: Parse<'p, B> + Debug + Drop>(
+// What a value of a type tells.
+fn tell_parsed<'p, B: ParseBuf<'p>, E: Endian, P: Parse<'p, B> + Tell + Drop>(
     text: &mut String,
     parser: &mut Parser<B, E>,
-    len: usize,
 ) -> Result<(), AllocError> {
-    tell_debug(text, parser.parse_repeated::<P>(len))
+    tell_answer(text, parser.parse::<P>())
 }
 
 // Bytes, whoever has them.
-fn tell_rest(text: &mut String, answer: ParseResult<CowSlice<'_, u8>>) -> Result<(), AllocError> {
+impl Tell for CowSlice<'_, u8> {
+    fn tell(&self, text: &mut String) -> Result<(), AllocError> {
+        write!(text, "{:?}", self.as_slice())
+    }
+}
+
+// How many bytes they are.
+fn tell_left(text: &mut String, answer: ParseResult<CowSlice<'_, u8>>) -> Result<(), AllocError> {
     match answer {
-        Ok(bytes) => write!(text, "{:?}", bytes.as_slice()),
+        Ok(bytes) => write!(text, "{}", bytes.len()),
         Err(error) => write!(text, "{error}"),
     }
 }
@@ -65,11 +80,11 @@ fn tell_rest(text: &mut String, answer: ParseResult<CowSlice<'_, u8>>) -> Result
 fn tell_bytes(text: &mut String, answer: ParseResult<CowSlice<'_, u8>>) -> Result<(), AllocError> {
     match answer {
         Ok(CowSlice::Owned(bytes)) if bytes.is_empty() => text.push_str("owned []"),
-        other => tell_rest(text, other),
+        other => tell_answer(text, other),
     }
 }
 
-// Numbers by calls of their own, and as types.
+// Numbers and a list of them by calls of their own, and as types.
 fn tell_simple<'p, B: ParseBuf<'p>, E: Endian>(
     text: &mut String,
     parser: &mut Parser<B, E>,
@@ -81,35 +96,28 @@ fn tell_simple<'p, B: ParseBuf<'p>, E: Endian>(
         "parse_u16" => tell_debug(text, parser.parse_u16()),
         "parse_u32" => tell_debug(text, parser.parse_u32()),
         "parse_u64" => tell_debug(text, parser.parse_u64()),
-        "u8" => tell_value::<B, E, u8>(text, parser),
-        "u16" => tell_value::<B, E, u16>(text, parser),
-        "u32" => tell_value::<B, E, u32>(text, parser),
-        "u64" => tell_value::<B, E, u64>(text, parser),
-        _ => tell_other(text, parser, name, count),
+        "parse_slice_u64" => tell_debug(text, parser.parse_slice::<u64>(count)),
+        _ => tell_typed(text, parser, name, count),
     }
 }
 
-// Arrays of bytes, and numbers under a condition, which holds where the count is not zero.
-fn tell_other<'p, B: ParseBuf<'p>, E: Endian>(
+fn tell_typed<'p, B: ParseBuf<'p>, E: Endian>(
     text: &mut String,
     parser: &mut Parser<B, E>,
     name: &str,
     count: usize,
 ) -> Result<(), AllocError> {
-    match name {
-        "[u8;0]" => tell_value::<B, E, [u8; 0]>(text, parser),
-        "[u8;1]" => tell_value::<B, E, [u8; 1]>(text, parser),
-        "[u8;2]" => tell_value::<B, E, [u8; 2]>(text, parser),
-        "[u8;4]" => tell_value::<B, E, [u8; 4]>(text, parser),
-        "parse_if_u8" => tell_if::<B, E, u8>(text, parser, count != 0),
-        "parse_if_u16" => tell_if::<B, E, u16>(text, parser, count != 0),
-        "parse_if_u32" => tell_if::<B, E, u32>(text, parser, count != 0),
-        "parse_if_u64" => tell_if::<B, E, u64>(text, parser, count != 0),
+    let (_, ty) = name.rsplit_once('_').unwrap_or(("", name));
+    match ty {
+        "u8" => tell_numbers::<B, E, u8>(text, parser, name, count),
+        "u16" => tell_numbers::<B, E, u16>(text, parser, name, count),
+        "u32" => tell_numbers::<B, E, u32>(text, parser, name, count),
+        "u64" => tell_numbers::<B, E, u64>(text, parser, name, count),
         _ => tell_list(text, parser, name, count),
     }
 }
 
-// Lists and strings of so many, and the rest without and with its zero bytes.
+// Strings of so many, the rest without and with its zero bytes, and how long that is.
 fn tell_list<'p, B: ParseBuf<'p>, E: Endian>(
     text: &mut String,
     parser: &mut Parser<B, E>,
@@ -117,52 +125,50 @@ fn tell_list<'p, B: ParseBuf<'p>, E: Endian>(
     count: usize,
 ) -> Result<(), AllocError> {
     match name {
-        "parse_repeated_u8" => tell_repeated::<B, E, u8>(text, parser, count),
-        "parse_repeated_u16" => tell_repeated::<B, E, u16>(text, parser, count),
-        "parse_repeated_u64" => tell_repeated::<B, E, u64>(text, parser, count),
-        "parse_slice_u64" => tell_debug(text, parser.parse_slice::<u64>(count)),
         "parse_bytes" => tell_bytes(text, parser.parse_bytes(count)),
-        "parse_rest_trim_nul" => tell_rest(text, parser.parse_rest_trim_nul()),
-        "parse_rest" => tell_rest(text, parser.parse_rest()),
+        "parse_rest_trim_nul" => tell_answer(text, parser.parse_rest_trim_nul()),
+        "parse_rest" => tell_answer(text, parser.parse_rest()),
+        "left" => tell_left(text, parser.parse_rest()),
+        _ => tell_array(text, parser, name),
+    }
+}
+
+// Arrays of bytes.
+fn tell_array<'p, B: ParseBuf<'p>, E: Endian>(
+    text: &mut String,
+    parser: &mut Parser<B, E>,
+    name: &str,
+) -> Result<(), AllocError> {
+    match name {
+        "[u8;0]" => tell_value::<B, E, [u8; 0]>(text, parser),
+        "[u8;1]" => tell_value::<B, E, [u8; 1]>(text, parser),
+        "[u8;2]" => tell_value::<B, E, [u8; 2]>(text, parser),
+        "[u8;4]" => tell_value::<B, E, [u8; 4]>(text, parser),
         _ => tell_body(text, parser, name),
     }
 }
 
 // A task, its name as bytes and as text.
-fn tell_comm(text: &mut String, answer: ParseResult<Comm<'_>>) -> Result<(), AllocError> {
-    match answer {
-        Ok(named) => {
-            write!(
-                text,
-                "{:?} {:?}",
-                [named.pid, named.tid],
-                named.comm.as_slice()
-            )?;
-            write!(text, " {:?}", named.comm_os())
-        }
-        Err(error) => write!(text, "{error}"),
+impl Tell for Comm<'_> {
+    fn tell(&self, text: &mut String) -> Result<(), AllocError> {
+        let (task, name) = ([self.pid, self.tid], self.comm.as_slice());
+        write!(text, "{task:?} {name:?} {:?}", self.comm_os())
     }
 }
 
 // A task, where it sees a file, and that file's name as bytes and as text.
-fn tell_mmap(text: &mut String, answer: ParseResult<Mmap<'_>>) -> Result<(), AllocError> {
-    match answer {
-        Ok(map) => {
-            write!(
-                text,
-                "{:?} {:?}",
-                [map.pid, map.tid],
-                [map.addr, map.len, map.pgoff]
-            )?;
-            write!(
-                text,
-                " {:?} {:?}",
-                map.filename.as_slice(),
-                map.filename_os()
-            )
-        }
-        Err(error) => write!(text, "{error}"),
+impl Tell for Mmap<'_> {
+    fn tell(&self, text: &mut String) -> Result<(), AllocError> {
+        let (task, place) = ([self.pid, self.tid], [self.addr, self.len, self.pgoff]);
+        write!(text, "{task:?} {place:?} {:?} ", self.filename.as_slice())?;
+        write!(text, "{:?}", self.filename_os())
     }
+}
+
+fn next_header<'p, B: ParseBuf<'p>, E: Endian>(
+    parser: &mut Parser<B, E>,
+) -> ParseResult<perf_event_header> {
+    parser.parse()
 }
 
 // The record behind a header that is parsed before.
@@ -170,8 +176,16 @@ fn tell_behind_header<'p, B: ParseBuf<'p>, E: Endian>(
     text: &mut String,
     parser: &mut Parser<B, E>,
 ) -> Result<(), AllocError> {
-    match parser.parse::<perf_event_header>() {
-        Ok(header) => tell_frame(text, 0, &header, &Record::parse_with_header(parser, header)),
+    match next_header(parser) {
+        Ok(header) => {
+            let answer = Record::parse_with_header(parser, header);
+            let framed = Framed {
+                index: 0,
+                header,
+                answer,
+            };
+            tell_last(text, framed)
+        }
         Err(error) => write!(text, "{error}"),
     }
 }
@@ -183,12 +197,27 @@ pub fn next_record<'p, B: ParseBuf<'p>, E: Endian>(
     parser.parse()
 }
 
-// A record, or what its refusal says.
-fn tell_found(text: &mut String, answer: ParseResult<Record<'_>>) -> Result<(), AllocError> {
-    match &answer {
-        Ok(_) => tell_record(text, &answer),
-        Err(error) => write!(text, "{error}"),
-    }
+// The next sample, as a record.
+fn next_sample<'p, B: ParseBuf<'p>, E: Endian>(
+    alloc: Global,
+    parser: &mut Parser<B, E>,
+) -> ParseResult<Record<'p>> {
+    Record::from_sample(alloc, parser.parse()?)
+}
+
+fn tell_next_record<'p, B: ParseBuf<'p>, E: Endian>(
+    text: &mut String,
+    parser: &mut Parser<B, E>,
+    with_spaces: bool,
+) -> Result<(), AllocError> {
+    let answer = next_record(parser);
+    tell_last(
+        text,
+        Found {
+            answer,
+            with_spaces,
+        },
+    )
 }
 
 /// The next group of counters.
@@ -198,17 +227,31 @@ pub fn next_group<'p, B: ParseBuf<'p>, E: Endian>(
     parser.parse()
 }
 
+fn tell_both_ends(text: &mut String, answer: ParseResult<ReadGroup<'_>>) -> Result<(), AllocError> {
+    match answer {
+        Ok(group) => tell_last(text, FromBothEnds(group)),
+        Err(error) => write!(text, "{error}"),
+    }
+}
+
+fn tell_values(text: &mut String, answer: ParseResult<Sample<'_>>) -> Result<(), AllocError> {
+    match answer {
+        Ok(sample) => tell_last(text, OfGroup(sample)),
+        Err(error) => write!(text, "{error}"),
+    }
+}
+
 fn tell_body<'p, B: ParseBuf<'p>, E: Endian>(
     text: &mut String,
     parser: &mut Parser<B, E>,
     name: &str,
 ) -> Result<(), AllocError> {
     match name {
-        "Comm" => tell_comm(text, parser.parse()),
+        "Comm" => tell_parsed::<B, E, Comm<'p>>(text, parser),
         "Exit" => tell_value::<B, E, Exit>(text, parser),
         "Lost" => tell_value::<B, E, Lost>(text, parser),
         "LostSamples" => tell_value::<B, E, LostSamples>(text, parser),
-        "Mmap" => tell_mmap(text, parser.parse()),
+        "Mmap" => tell_parsed::<B, E, Mmap<'p>>(text, parser),
         "Read" => tell_value::<B, E, Read>(text, parser),
         "SwitchCpuWide" => tell_value::<B, E, SwitchCpuWide>(text, parser),
         "Throttle" => tell_value::<B, E, Throttle>(text, parser),
@@ -224,19 +267,19 @@ fn tell_beside<'p, B: ParseBuf<'p>, E: Endian>(
 ) -> Result<(), AllocError> {
     match name {
         "ReadValue" => tell_value::<B, E, ReadValue>(text, parser),
-        "ReadGroup" => tell_group(text, next_group(parser)),
-        "both_ends" => tell_from_both_ends(text, next_group(parser)),
+        "ReadGroup" => tell_answer(text, next_group(parser)),
+        "both_ends" => tell_both_ends(text, next_group(parser)),
         "perf_event_attr" => tell_value::<B, E, perf_event_attr>(text, parser),
         "SampleId" => tell_value::<B, E, SampleId>(text, parser),
         "config" => tell_config(text, parser.config()),
-        "Record" => tell_found(text, next_record(parser)),
+        "Record" => tell_next_record(text, parser, false),
         "parse_with_header" => tell_behind_header(text, parser),
-        "namespaces" => tell_spaces(text, next_record(parser)),
+        "namespaces" => tell_next_record(text, parser, true),
         _ => tell_part_of_sample(text, parser, name),
     }
 }
 
-// Parts of samples.
+// Samples and parts of them.
 fn tell_part_of_sample<'p, B: ParseBuf<'p>, E: Endian>(
     text: &mut String,
     parser: &mut Parser<B, E>,
@@ -245,34 +288,31 @@ fn tell_part_of_sample<'p, B: ParseBuf<'p>, E: Endian>(
     match name {
         "parse_user" => tell_debug(text, Registers::parse_user(parser)),
         "parse_intr" => tell_debug(text, Registers::parse_intr(parser)),
-        "BranchEntry" => tell_branch(text, parser.parse()),
-        "DataSource" => tell_source(text, parser.parse()),
+        "BranchEntry" => tell_parsed::<B, E, BranchEntry>(text, parser),
+        "DataSource" => tell_parsed::<B, E, DataSource>(text, parser),
         "Txn" => tell_value::<B, E, Txn>(text, parser),
         "SampleRegsAbi" => tell_value::<B, E, SampleRegsAbi>(text, parser),
+        "Sample" => tell_last(text, next_sample(*text.allocator(), parser)),
         "values" => tell_values(text, parser.parse()),
         _ => write!(text, "what is {name}?"),
     }
 }
 
 // A branch: its addresses, its four bits, its cycles and its type.
-fn tell_branch(text: &mut String, answer: ParseResult<BranchEntry>) -> Result<(), AllocError> {
-    match answer {
-        Ok(branch) => {
-            let addresses = [branch.from(), branch.to()];
-            let predictions = [branch.mispred(), branch.predicted()];
-            let transactions = [branch.in_tx(), branch.abort()];
-            write!(text, "{addresses:?} {predictions:?} {transactions:?}")?;
-            write!(text, " {} {:?}", branch.cycles(), branch.ty())
-        }
-        Err(error) => write!(text, "{error}"),
+impl Tell for BranchEntry {
+    fn tell(&self, text: &mut String) -> Result<(), AllocError> {
+        let addresses = [self.from(), self.to()];
+        let predictions = [self.mispred(), self.predicted()];
+        let transactions = [self.in_tx(), self.abort()];
+        write!(text, "{addresses:?} {predictions:?} {transactions:?}")?;
+        write!(text, " {} {:?}", self.cycles(), self.ty())
     }
 }
 
 // The word of a data source.
-fn tell_source(text: &mut String, answer: ParseResult<DataSource>) -> Result<(), AllocError> {
-    match answer {
-        Ok(source) => write!(text, "{:#x}", source.bits()),
-        Err(error) => write!(text, "{error}"),
+impl Tell for DataSource {
+    fn tell(&self, text: &mut String) -> Result<(), AllocError> {
+        write!(text, "{:#x}", self.bits())
     }
 }
 
@@ -326,7 +366,7 @@ fn tell_inside_behind_header<'p, B: ParseBuf<'p>, E: Endian>(
     words: &str,
 ) -> Result<(), AllocError> {
     tell_semicolon(text)?;
-    match parser.parse::<perf_event_header>() {
+    match next_header(parser) {
         Ok(header) => {
             write!(text, "{header:?}")?;
             tell_inside(text, parser.parse_metadata_with_header(header), words)
@@ -362,7 +402,7 @@ fn tell_parts<'p, B: ParseBuf<'p>, E: Endian>(
 }
 
 // Answers of one parser.
-#[derive(Copy, Clone)]
+#[derive(Drop)]
 struct Answers<'a, E> {
     endian: E,
     attr: &'a perf_event_attr,

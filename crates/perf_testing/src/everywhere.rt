@@ -38,6 +38,40 @@ fn add_over<'p, B: ParseBuf<'p>, S: Says<'p, B>>(
     Ok(())
 }
 
+// The same for buffered readers of each capacity.
+fn add_over_readers<'p, S: Says<'p, BufReader<&'p [u8]>>>(
+    others: &mut String,
+    alloc: Global,
+    bytes: &'p [u8],
+    says: &S,
+    first: &str,
+) -> Result<(), AllocError> {
+    for capacity in [1, 7, 8192] {
+        match BufReader::with_capacity(alloc, capacity, bytes) {
+            Ok(reader) => add_over(others, alloc, reader, says, first)?,
+            Err(_) => return Err(AllocError),
+        }
+    }
+    Ok(())
+}
+
+// The same for pieces, which last or do not.
+fn add_over_pieces<'p, S: Says<'p, PieceBuf<'p>>>(
+    others: &mut String,
+    alloc: Global,
+    bytes: &'p [u8],
+    says: &S,
+    first: &str,
+) -> Result<(), AllocError> {
+    for most in [1, 3, 7, 64] {
+        for lasting in [true, false] {
+            let pieces = PieceBuf::new(bytes, most, lasting);
+            add_over(others, alloc, pieces, says, first)?;
+        }
+    }
+    Ok(())
+}
+
 /// What is said over these bytes, through a slice, buffered readers and pieces: one text where it is
 /// one over all of them, and else the others behind it.
 pub fn say_everywhere<'p, S>(alloc: Global, bytes: &'p [u8], says: &S) -> Result<String, AllocError>
@@ -46,18 +80,8 @@ where
 {
     let mut text = says.say(alloc, bytes)?;
     let mut others = String::new(alloc);
-    for capacity in [1, 7, 8192] {
-        let Ok(reader) = BufReader::with_capacity(alloc, capacity, bytes) else {
-            return Err(AllocError);
-        };
-        add_over(&mut others, alloc, reader, says, text.as_str())?;
-    }
-    for most in [1, 3, 7, 64] {
-        for lasting in [true, false] {
-            let pieces = PieceBuf::new(bytes, most, lasting);
-            add_over(&mut others, alloc, pieces, says, text.as_str())?;
-        }
-    }
+    add_over_readers(&mut others, alloc, bytes, says, text.as_str())?;
+    add_over_pieces(&mut others, alloc, bytes, says, text.as_str())?;
     text.push_str(others.as_str())?;
     Ok(text)
 }

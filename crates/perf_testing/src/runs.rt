@@ -2,12 +2,13 @@
 
 use crate::asks::next_record;
 use crate::everywhere::{Says, parser_of, say_everywhere};
-use crate::told::{tell_config, tell_error, tell_frame};
+use crate::told::{Framed, Tell, tell_config, tell_error, tell_frame, tell_last};
 use perf_event_data::endian::{Endian, Little, Native};
 use perf_event_data::parse::{ParseBuf, ParseConfig, ParseError, ParseResult, Parser};
 use perf_event_data::sys::{perf_event_attr, perf_event_header};
 use perf_event_data::{Record, Run, RunEnd, read_records};
 use std::alloc::{AllocError, Global};
+use std::fmt::Debug;
 
 // A frame's header and the answer to it.
 type Frame<'a> = (perf_event_header, ParseResult<Record<'a>>);
@@ -21,30 +22,42 @@ fn tell_frames(text: &mut String, frames: &[Frame<'_>]) -> Result<(), AllocError
     Ok(())
 }
 
-// The same frames, with a clone of each record.
-fn clones<'a>(alloc: Global, frames: &[Frame<'a>]) -> Result<Vec<Frame<'a>>, AllocError> {
-    let mut copies = Vec::new(alloc);
-    for (header, answer) in frames {
-        let copy = match answer {
-            Ok(record) => record.clone(alloc),
-            Err(error) => Err(ParseError::custom(error.kind(), "")),
-        };
-        copies.push((*header, copy))?;
+// The same record, or the same refusal.
+fn copy_of<'a>(alloc: Global, answer: &ParseResult<Record<'a>>) -> ParseResult<Record<'a>> {
+    match answer {
+        Ok(record) => record.clone(alloc),
+        Err(error) => Err(ParseError::custom(error.kind(), "")),
     }
-    Ok(copies)
 }
 
-// Writes each frame of a run, where clones of its records say something else, that too, and how the
-// run ended.
-fn tell_run(alloc: Global, text: &mut String, run: &Run<'_>) -> Result<(), AllocError> {
-    let (mut told, mut again) = (String::new(alloc), String::new(alloc));
-    tell_frames(&mut told, &run.frames)?;
-    tell_frames(&mut again, &clones(alloc, &run.frames)?)?;
-    text.push_str(told.as_str())?;
-    if again.as_str() != told.as_str() {
-        write!(text, "and not {again}")?;
+// The same frames, with a clone of each record.
+fn tell_clones(text: &mut String, frames: &[Frame<'_>]) -> Result<(), AllocError> {
+    for (index, (header, answer)) in frames.iter().enumerate() {
+        let framed = Framed {
+            index,
+            header: *header,
+            answer: copy_of(*text.allocator(), answer),
+        };
+        tell_last(text, framed)?;
+        text.push_str("; ")?;
     }
-    tell_end(text, &run.end)
+    Ok(())
+}
+
+// Each frame of a run, where clones of its records say something else, that too, and how the run
+// ended.
+impl Tell for Run<'_> {
+    fn tell(&self, text: &mut String) -> Result<(), AllocError> {
+        let mut told = String::new(*text.allocator());
+        let mut again = String::new(*text.allocator());
+        tell_frames(&mut told, &self.frames)?;
+        tell_clones(&mut again, &self.frames)?;
+        text.push_str(told.as_str())?;
+        if again.as_str() != told.as_str() {
+            write!(text, "and not {again}")?;
+        }
+        tell_end(text, &self.end)
+    }
 }
 
 fn tell_end(text: &mut String, end: &RunEnd) -> Result<(), AllocError> {
@@ -79,29 +92,26 @@ pub fn tell_under<'p, B: ParseBuf<'p> + Drop, E: Endian>(
 ) -> Result<String, AllocError> {
     let mut parser = parser_of(alloc, buf, endian, attr);
     let mut text = String::new(alloc);
-    tell_runs(alloc, &mut text, &mut parser, limits)?;
+    tell_runs(&mut text, &mut parser, limits)?;
     Ok(text)
 }
 
 // Writes the runs of a parser with these limits, in turn, behind what the text has.
 fn tell_runs<'p, B: ParseBuf<'p>, E: Endian>(
-    alloc: Global,
     text: &mut String,
     parser: &mut Parser<B, E>,
     limits: &[usize],
 ) -> Result<(), AllocError> {
     for limit in limits {
-        let run = read_records(parser, *limit);
         if !text.is_empty() {
             text.push_str(" | ")?;
         }
-        tell_run(alloc, text, &run)?;
+        tell_last(text, read_records(parser, *limit))?;
     }
     Ok(())
 }
 
-// What is said behind the attribute with which the bytes begin: its size, its configuration and the
-// runs; or what its refusal says.
+// What is said behind the attribute with which the bytes begin; or what its refusal says.
 fn told_behind<'p, B: ParseBuf<'p> + Drop>(
     alloc: Global,
     buf: B,
@@ -110,15 +120,24 @@ fn told_behind<'p, B: ParseBuf<'p> + Drop>(
     let mut parser = Parser::new(alloc, buf, ParseConfig::<Little>::default());
     let mut text = String::new(alloc);
     match next_attribute(&mut parser) {
-        Ok(attr) => {
-            write!(text, "{} ", attr.size)?;
-            let config = ParseConfig::<Native>::from(attr).with_endian(Little);
-            tell_config(&mut text, &config)?;
-            tell_runs(alloc, &mut text, &mut parser.reconfigure(config), limits)?;
-        }
+        Ok(attr) => tell_under_own(&mut text, parser, attr, limits)?,
         Err(error) => write!(text, "{error}")?,
     }
     Ok(text)
+}
+
+// Writes an attribute's size, its configuration and the runs behind it.
+fn tell_under_own<'p, B: ParseBuf<'p> + Drop>(
+    text: &mut String,
+    parser: Parser<B, Little>,
+    attr: perf_event_attr,
+    limits: &[usize],
+) -> Result<(), AllocError> {
+    write!(text, "{} ", attr.size)?;
+    let config = ParseConfig::<Native>::from(attr).with_endian(Little);
+    tell_config(text, &config)?;
+    let mut parser = parser.reconfigure(config);
+    tell_runs(text, &mut parser, limits)
 }
 
 fn next_attribute<'p, B: ParseBuf<'p>, E: Endian>(
@@ -128,7 +147,7 @@ fn next_attribute<'p, B: ParseBuf<'p>, E: Endian>(
 }
 
 // Runs of one parser behind the attribute that comes first.
-#[derive(Copy, Clone)]
+#[derive(Drop)]
 struct Behind<'a> {
     limits: &'a [usize],
 }
@@ -146,7 +165,7 @@ pub fn tell_behind(alloc: Global, bytes: &[u8], limits: &[usize]) -> Result<Stri
 }
 
 // Runs of one parser.
-#[derive(Copy, Clone)]
+#[derive(Drop)]
 struct Runs<'a, E> {
     endian: E,
     attr: &'a perf_event_attr,
@@ -176,18 +195,29 @@ pub fn tell_everywhere<E: Endian + Copy>(
     say_everywhere(alloc, bytes, &says)
 }
 
+// Writes what `{:?}` shows of an answer, or the kind of its refusal, and answers whether it is none.
+fn tell_shown_one<T: Debug + Drop>(
+    text: &mut String,
+    answer: ParseResult<T>,
+) -> Result<bool, AllocError> {
+    match answer {
+        Ok(value) => write!(text, "{value:?}; ")?,
+        Err(error) => {
+            tell_error(text, &error)?;
+            return Ok(false);
+        }
+    }
+    Ok(true)
+}
+
 /// What `{:?}` shows of the records of a slice, one behind another, and why there is no further one.
 /// Bytes that are those of the slice are `Borrowed`.
 pub fn tell_shown(alloc: Global, bytes: &[u8]) -> Result<String, AllocError> {
     let mut parser = Parser::new(alloc, bytes, ParseConfig::<Little>::default());
     let mut text = String::new(alloc);
     for _ in 0..=bytes.len() {
-        match next_record(&mut parser) {
-            Ok(record) => write!(text, "{record:?}; ")?,
-            Err(error) => {
-                tell_error(&mut text, &error)?;
-                break;
-            }
+        if !tell_shown_one(&mut text, next_record(&mut parser))? {
+            break;
         }
     }
     Ok(text)

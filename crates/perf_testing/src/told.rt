@@ -24,6 +24,22 @@ impl Tell for ParseResult<Record<'_>> {
     }
 }
 
+/// Writes what a value tells, and lets it go.
+pub fn tell_last<T: Tell + Drop>(text: &mut String, value: T) -> Result<(), AllocError> {
+    value.tell(text)
+}
+
+/// Writes what an answer tells, or what its refusal says, and lets it go.
+pub fn tell_answer<T: Tell + Drop>(
+    text: &mut String,
+    answer: ParseResult<T>,
+) -> Result<(), AllocError> {
+    match answer {
+        Ok(value) => value.tell(text),
+        Err(error) => write!(text, "{error}"),
+    }
+}
+
 /// Writes the kind of a refusal.
 pub fn tell_error(text: &mut String, error: &ParseError) -> Result<(), AllocError> {
     write!(text, "{:?}", error.kind())
@@ -41,6 +57,20 @@ pub fn tell_frame(
         Err(_) => return Err(AllocError),
     }
     tell_left_out(text, answer)
+}
+
+/// A frame of a record.
+#[derive(Drop)]
+pub struct Framed<'a> {
+    pub index: usize,
+    pub header: perf_event_header,
+    pub answer: ParseResult<Record<'a>>,
+}
+
+impl Tell for Framed<'_> {
+    fn tell(&self, text: &mut String) -> Result<(), AllocError> {
+        tell_frame(text, self.index, &self.header, &self.answer)
+    }
 }
 
 /// Writes the same of a record alone, of whose header nothing is said.
@@ -98,12 +128,32 @@ pub fn tell_semicolon(text: &mut String) -> Result<(), AllocError> {
     }
 }
 
-/// Writes a record and, of its namespaces, those that have a name: network, uts, ipc, pid, user and
-/// cgroup.
-pub fn tell_spaces(text: &mut String, answer: ParseResult<Record<'_>>) -> Result<(), AllocError> {
-    tell_record(text, &answer)?;
-    match &answer {
-        Ok(Record::Namespaces(spaces)) => tell_named(text, spaces),
+/// A record, or what its refusal says, and, if that is asked, of its namespaces those that have a
+/// name: network, uts, ipc, pid, user and cgroup.
+#[derive(Drop)]
+pub struct Found<'a> {
+    pub answer: ParseResult<Record<'a>>,
+    pub with_spaces: bool,
+}
+
+impl Tell for Found<'_> {
+    fn tell(&self, text: &mut String) -> Result<(), AllocError> {
+        match &self.answer {
+            Ok(record) => {
+                tell_record(text, &self.answer)?;
+                if self.with_spaces {
+                    tell_spaces(text, record)?;
+                }
+                Ok(())
+            }
+            Err(error) => write!(text, "{error}"),
+        }
+    }
+}
+
+fn tell_spaces(text: &mut String, record: &Record<'_>) -> Result<(), AllocError> {
+    match record {
+        Record::Namespaces(spaces) => tell_named(text, spaces),
         _ => text.push_str(" not NAMESPACES"),
     }
 }
@@ -120,39 +170,28 @@ fn tell_named(text: &mut String, spaces: &Namespaces<'_>) -> Result<(), AllocErr
     write!(text, " {named:?}")
 }
 
-/// Writes a group of counters: how many and whether none, its times, the first three entries as they
-/// come and by their places, those of the ids 1, 2, 3, 0xBD and 0xBE, and whether it is that of one
-/// counter.
-pub fn tell_group(text: &mut String, answer: ParseResult<ReadGroup<'_>>) -> Result<(), AllocError> {
-    match answer {
-        Ok(group) => {
-            tell_entries(text, &group)?;
-            tell_if_one(text, group)
+// A group of counters: how many and whether none, its times, the first three entries as they come
+// and by their places, those of the ids 1, 2, 3, 0xBD and 0xBE, and whether it is that of one counter.
+impl Tell for ReadGroup<'_> {
+    fn tell(&self, text: &mut String) -> Result<(), AllocError> {
+        tell_entries(text, self)?;
+        match self.clone(*text.allocator()) {
+            Ok(copy) => tell_if_one(text, copy),
+            Err(error) => write!(text, "{error}"),
         }
-        Err(error) => write!(text, "{error}"),
     }
 }
 
-/// Writes the same of the group of a sample.
-pub fn tell_values(text: &mut String, answer: ParseResult<Sample<'_>>) -> Result<(), AllocError> {
-    match answer {
-        Ok(sample) => tell_group_of(text, &sample),
-        Err(error) => write!(text, "{error}"),
-    }
-}
+/// A sample of which the group is told.
+#[derive(Drop)]
+pub struct OfGroup<'a>(pub Sample<'a>);
 
-fn tell_group_of(text: &mut String, sample: &Sample<'_>) -> Result<(), AllocError> {
-    match sample.values() {
-        Some(group) => tell_lent_group(text, group),
-        None => text.push_str("no group"),
-    }
-}
-
-fn tell_lent_group(text: &mut String, group: &ReadGroup<'_>) -> Result<(), AllocError> {
-    tell_entries(text, group)?;
-    match group.clone(*text.allocator()) {
-        Ok(copy) => tell_if_one(text, copy),
-        Err(error) => write!(text, "{error}"),
+impl Tell for OfGroup<'_> {
+    fn tell(&self, text: &mut String) -> Result<(), AllocError> {
+        match self.0.values() {
+            Some(group) => group.tell(text),
+            None => text.push_str("no group"),
+        }
     }
 }
 
@@ -165,8 +204,12 @@ fn tell_entries(text: &mut String, group: &ReadGroup<'_>) -> Result<(), AllocErr
     write!(text, "{} {} {times:?}", group.len(), group.is_empty())?;
     let mut entries = group.entries();
     let first = [entries.next(), entries.next(), entries.next()];
+    write!(text, " {first:?}")?;
+    tell_found_entries(text, group)
+}
+
+fn tell_found_entries(text: &mut String, group: &ReadGroup<'_>) -> Result<(), AllocError> {
     let by_places = [group.get(0), group.get(1), group.get(2)];
-    write!(text, " {first:?} {by_places:?}")?;
     let by_ids = [
         group.get_by_id(1),
         group.get_by_id(2),
@@ -174,23 +217,20 @@ fn tell_entries(text: &mut String, group: &ReadGroup<'_>) -> Result<(), AllocErr
         group.get_by_id(0xBD),
         group.get_by_id(0xBE),
     ];
-    write!(text, " {by_ids:?}")
+    write!(text, " {by_places:?} {by_ids:?}")
 }
 
-/// Writes a group of counters whose entries are taken from both ends: how many there are and its
-/// times, the second entry, the last of what is left and the last but one of that, how many are left
-/// then, and the next one.
-pub fn tell_from_both_ends(
-    text: &mut String,
-    answer: ParseResult<ReadGroup<'_>>,
-) -> Result<(), AllocError> {
-    match answer {
-        Ok(group) => {
-            let times = [group.time_enabled(), group.time_running()];
-            write!(text, "{} {times:?}", group.len())?;
-            tell_taken(text, group.entries())
-        }
-        Err(error) => write!(text, "{error}"),
+/// A group of counters whose entries are taken from both ends: how many there are and its times, the
+/// second entry, the last of what is left and the last but one of that, how many are left then, and
+/// the next one.
+#[derive(Drop)]
+pub struct FromBothEnds<'a>(pub ReadGroup<'a>);
+
+impl Tell for FromBothEnds<'_> {
+    fn tell(&self, text: &mut String) -> Result<(), AllocError> {
+        let times = [self.0.time_enabled(), self.0.time_running()];
+        write!(text, "{} {times:?}", self.0.len())?;
+        tell_taken(text, self.0.entries())
     }
 }
 

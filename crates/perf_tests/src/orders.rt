@@ -4,7 +4,7 @@ ghost use Rattle.std.specs.Prelude.{◌++◌, take, drop, true, false};
 ghost use Rattle.std.specs.Int.{w16, w32, w64, from_le_bytes};
 
 use crate::asked::{Asked, Case, check_cases, kind_of};
-use crate::checks::{check_same, check_text};
+use crate::checks::{check_answer, check_same};
 use perf_base::config::ParseConfig;
 use perf_base::endian::{Big, Dynamic, Endian, Little, Native};
 use perf_base::error::{ErrorKind, ParseError, ParseResult};
@@ -335,5 +335,5 @@ fn a_parser_keeps_the_order_of_its_configuration(rt: HostRuntime) {
     let bytes: &[u8] = b"\0\0\0\x0D\0\x01\0\x10";
     let told = told_parser(rt.alloc(), &mut Parser::new(rt.alloc(), bytes, config));
     let want = "[Big, Big] perf_event_header { type_: 13, misc: 1, size: 16 }";
-    check_text(&rt, "the parser", told, want);
+    check_answer(&rt, "the parser", told, want);
 }

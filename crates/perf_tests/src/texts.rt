@@ -1,7 +1,7 @@
 //! What `perfrec` is asked by its words, and what it writes.
 
 use crate::checks::check_same;
-use crate::streams::{Told, check_run};
+use crate::runs::{Told, check_run};
 use perf_event_data::endian::Little;
 use perf_event_data::parse::{ErrorKind, ParseError, ParseResult};
 use perf_event_data::sys::perf_event_header;

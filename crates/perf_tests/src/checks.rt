@@ -2,6 +2,7 @@
 //! anew, which takes a second.
 
 use perf_event_data::endian::Endian;
+use perf_event_data::parse::ParseResult;
 use perf_event_data::sys::perf_event_attr;
 use perf_testing::runs::tell_everywhere;
 use std::alloc::AllocError;
@@ -23,6 +24,14 @@ pub fn check_text(rt: &impl Abort, answer: Result<String, AllocError>, want: &st
     match answer {
         Ok(text) => check_same(rt, "the text", text.as_str(), want),
         Err(_) => panic!(rt; "no memory"),
+    }
+}
+
+/// Asserts what a case answers.
+pub fn check_answer(rt: &impl Abort, what: &str, answer: ParseResult<String>, want: &str) {
+    match answer {
+        Ok(text) => check_same(rt, what, text.as_str(), want),
+        Err(error) => panic!(rt; "{what}: {error}"),
     }
 }
 

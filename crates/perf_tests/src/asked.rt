@@ -1,7 +1,7 @@
 //! What is asked of a parser over every buffer, and what that answers as text.
 
 use crate::bodies::{Body, told_frame};
-use crate::checks::check_text;
+use crate::checks::check_answer;
 use crate::orders::{Asking, told_by_order};
 use crate::own_types::{Own, told_own};
 use crate::visits::{Visits, told_visits};
@@ -54,7 +54,7 @@ fn check_over<'p, B: ParseBuf<'p> + Drop>(
     buf: B,
     case: &Case<'_>,
 ) {
-    check_text(rt, case.name, told(rt.alloc(), buf, case.asked), case.want);
+    check_answer(rt, case.name, told(rt.alloc(), buf, case.asked), case.want);
 }
 
 /// Asserts what is answered through a slice, buffered readers and pieces.

@@ -1,7 +1,7 @@
 //! What is printed of a recording, also where a record is refused or a header is cut.
 
 use crate::checks::check_same;
-use crate::streams::{PLAIN_64, joined};
+use crate::runs::{PLAIN_64, joined};
 use perf_reports::printing::{Report, print_recording};
 use std::alloc::AllocError;
 use std::process::Abort;

@@ -4,7 +4,7 @@ ghost use Rattle.std.specs.Prelude.{◌<◌, true};
 ghost use Rattle.std.specs.Int.{w16, w32, w64, from_le_bytes};
 
 use crate::checks::check_same;
-use crate::streams::{
+use crate::runs::{
     FIVE_LOST, PLAIN_64, PLAIN_72, PLAIN_100, REFUSED, REFUSED_TEXT, TEXT, TWO, Told, check_run,
     joined,
 };

@@ -1,0 +1,54 @@
+//! Tests that cross the crates and are no row of a list (`perf_cases` reads those): cursors,
+//! configurations, whose bytes a parser lends, visitors, byte orders, buffers, readers, writers,
+//! types and closures of a user's own, runs of `perfrec`, what the small programs say, and what
+//! lies outside the contracts, such as the texts of errors. Without its tests this crate is empty.
+#![tactic(auto)]
+
+#[cfg(test)]
+mod asked;
+#[cfg(test)]
+mod bodies;
+#[cfg(test)]
+mod checks;
+#[cfg(test)]
+mod closures;
+#[cfg(test)]
+mod configurations;
+#[cfg(test)]
+mod counts;
+#[cfg(test)]
+mod cursors;
+#[cfg(test)]
+mod errors;
+#[cfg(test)]
+mod failing;
+#[cfg(test)]
+mod faults;
+#[cfg(test)]
+mod lines;
+#[cfg(test)]
+mod metadata;
+#[cfg(test)]
+mod orders;
+#[cfg(test)]
+mod own_types;
+#[cfg(test)]
+mod parser_calls;
+#[cfg(test)]
+mod partial_visits;
+#[cfg(test)]
+mod printing;
+#[cfg(test)]
+mod reads;
+#[cfg(test)]
+mod runs;
+#[cfg(test)]
+mod sample_counts;
+#[cfg(test)]
+mod streams;
+#[cfg(test)]
+mod texts;
+#[cfg(test)]
+mod values;
+#[cfg(test)]
+mod visits;
