@@ -1,6 +1,8 @@
 pub mod BranchLists
+pub mod FlaggedFields
 pub mod Flags
 pub mod Forms
+pub mod GroupRuns
 mod Origins
 pub mod SampleGetters
 pub mod SampleTable

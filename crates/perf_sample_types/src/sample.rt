@@ -393,7 +393,6 @@ impl Meant for Sample<'_> {
 /// was used. No claimed count makes room for numbers or branches. Byte strings are borrowed from a
 /// whole buffer.
 impl<'p, I: Input<'p>> ReadFrom<'p, I> for Sample<'p> {
-    #[tactic(auto, using(crate::proofs::SampleTable::places_sample))]
     fn read<E: Endian>(reader: &mut Reader<I, E>) -> ReadResult<Self> {
         let moment = match Moment::read(reader) {
             Ok(moment) => moment,

@@ -1,15 +1,19 @@
 //! Fields of a sample, each there or absent.
 
-ghost use Rattle.std.specs.Prelude.{⊤, IfSome, option_map};
+ghost use Rattle.std.specs.Prelude.{◌==◌, ⊤, IfSome, option_map};
+ghost use Rattle.std.specs.Int.RustNames.{bit_and};
 ghost use Rattle.perf_base.specs.Configuration.{Configuration};
 ghost use Rattle.perf_base.specs.Table.{present_if};
 ghost use Rattle.perf_sample_types.specs.Sample as sample;
 ghost use Rattle.perf_sample_types.specs.SampleWords.{Call, Parts, ReadsBorrowed, ReadsField, kinds};
+ghost use Rattle.perf_words.specs.SetBits.{sample_flags_bits};
 
+use bitflags::Flags;
 use perf_base::endian::Endian;
 use perf_base::refusal::ReadResult;
 use perf_buffers::input::Input;
 use perf_reader::reader::Reader;
+use perf_words::SampleFlags;
 
 // What a field of a sample says. One type stands for each kind of field.
 pub(crate) trait SampleField: Sized {
@@ -50,4 +54,21 @@ pub(crate) fn read_field_if<'p, I: Input<'p>, E: Endian, T: ReadField<'p, I>>(
         Ok(field) => Ok(Some(field)),
         Err(refusal) => Err(refusal),
     }
+}
+
+// A field where the sample type has its flag.
+#[inline]
+pub(crate) fn read_flagged<'p, I: Input<'p>, E: Endian, T: ReadField<'p, I>>(
+    reader: &mut Reader<I, E>,
+    flags: SampleFlags,
+    flag: SampleFlags,
+) -> ReadResult<Option<T>>
+    ensures call { Call I.source E.order
+        (ReadsField (λ c. present_if
+        (bit_and (sample_flags_bits flags) (sample_flags_bits flag) == sample_flags_bits flag)
+        (T.parts (sample.settings_of c)))
+        (option_map T.value) (λ x. IfSome x T.borrowed))
+        reader.old (kinds result) reader.new }
+{
+    read_field_if(reader, flags.contains(flag))
 }

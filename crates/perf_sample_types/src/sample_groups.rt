@@ -1,11 +1,12 @@
 //! The groups in which a sample's fields are read.
 
-ghost use Rattle.std.specs.Prelude.{⊤};
+ghost use Rattle.std.specs.Prelude.{◌≡◌, ⊤, [], ◌∷◌};
 ghost use Rattle.perf_sample_types.specs.Sample as sample;
 ghost use Rattle.perf_sample_types.specs.SampleGroups as groups;
 ghost use Rattle.perf_sample_types.specs.SampleWords.{Call, ReadsTable, kinds};
+ghost use Rattle.perf_words.specs.SetBits.{sample_flags_bits};
 
-use crate::sample_field::read_field_if;
+use crate::sample_field::{read_field_if, read_flagged};
 use crate::sample_parts::{
     AuxBytes, Branches, CallChain, Cpu, InterruptRegisters, RawData, Stack, Task, UserRegisters,
 };
@@ -30,7 +31,6 @@ pub(crate) struct Moment {
 
 impl Moment {
     #[inline]
-    #[tactic(auto, using(crate::proofs::Flags::moment_flags))]
     pub(crate) fn read<'p, I: Input<'p>, E: Endian>(reader: &mut Reader<I, E>) -> ReadResult<Moment>
         ensures call { Call I.source E.order
             (ReadsTable (λ c. sample.fields_under c sample.moment_fields) groups.moment_value
@@ -39,12 +39,12 @@ impl Moment {
     {
         let flags = reader.config().sample_type();
         Ok(Moment {
-            identifier: read_field_if(reader, flags.contains(SampleFlags::IDENTIFIER))?,
-            ip: read_field_if(reader, flags.contains(SampleFlags::IP))?,
-            task: read_field_if(reader, flags.contains(SampleFlags::TID))?,
-            time: read_field_if(reader, flags.contains(SampleFlags::TIME))?,
-            addr: read_field_if(reader, flags.contains(SampleFlags::ADDR))?,
-            id: read_field_if(reader, flags.contains(SampleFlags::ID))?,
+            identifier: read_flagged(reader, flags, SampleFlags::IDENTIFIER)?,
+            ip: read_flagged(reader, flags, SampleFlags::IP)?,
+            task: read_flagged(reader, flags, SampleFlags::TID)?,
+            time: read_flagged(reader, flags, SampleFlags::TIME)?,
+            addr: read_flagged(reader, flags, SampleFlags::ADDR)?,
+            id: read_flagged(reader, flags, SampleFlags::ID)?,
         })
     }
 }
@@ -61,7 +61,6 @@ pub(crate) struct Counts<'a> {
 
 impl<'p> Counts<'p> {
     #[inline]
-    #[tactic(auto, using(crate::proofs::Flags::count_flags))]
     pub(crate) fn read<I: Input<'p>, E: Endian>(reader: &mut Reader<I, E>) -> ReadResult<Counts<'p>>
         ensures call { Call I.source E.order
             (ReadsTable (λ c. sample.fields_under c sample.count_fields) groups.counts_value
@@ -70,11 +69,11 @@ impl<'p> Counts<'p> {
     {
         let flags = reader.config().sample_type();
         Ok(Counts {
-            stream_id: read_field_if(reader, flags.contains(SampleFlags::STREAM_ID))?,
-            cpu: read_field_if(reader, flags.contains(SampleFlags::CPU))?,
-            period: read_field_if(reader, flags.contains(SampleFlags::PERIOD))?,
-            values: read_field_if(reader, flags.contains(SampleFlags::READ))?,
-            call_chain: read_field_if(reader, flags.contains(SampleFlags::CALLCHAIN))?,
+            stream_id: read_flagged(reader, flags, SampleFlags::STREAM_ID)?,
+            cpu: read_flagged(reader, flags, SampleFlags::CPU)?,
+            period: read_flagged(reader, flags, SampleFlags::PERIOD)?,
+            values: read_flagged(reader, flags, SampleFlags::READ)?,
+            call_chain: read_flagged(reader, flags, SampleFlags::CALLCHAIN)?,
         })
     }
 }
@@ -90,7 +89,6 @@ pub(crate) struct State<'a> {
 
 impl<'p> State<'p> {
     #[inline]
-    #[tactic(auto, using(crate::proofs::Flags::state_flags))]
     pub(crate) fn read<I: Input<'p>, E: Endian>(reader: &mut Reader<I, E>) -> ReadResult<State<'p>>
         ensures call { Call I.source E.order
             (ReadsTable (λ c. sample.fields_under c sample.state_fields) groups.state_value
@@ -99,10 +97,10 @@ impl<'p> State<'p> {
     {
         let flags = reader.config().sample_type();
         Ok(State {
-            raw: read_field_if(reader, flags.contains(SampleFlags::RAW))?,
-            branches: read_field_if(reader, flags.contains(SampleFlags::BRANCH_STACK))?,
-            regs_user: read_field_if(reader, flags.contains(SampleFlags::REGS_USER))?,
-            stack_user: read_field_if(reader, flags.contains(SampleFlags::STACK_USER))?,
+            raw: read_flagged(reader, flags, SampleFlags::RAW)?,
+            branches: read_flagged(reader, flags, SampleFlags::BRANCH_STACK)?,
+            regs_user: read_flagged(reader, flags, SampleFlags::REGS_USER)?,
+            stack_user: read_flagged(reader, flags, SampleFlags::STACK_USER)?,
         })
     }
 }
@@ -116,9 +114,16 @@ pub(crate) struct Costs<'a> {
     pub(crate) regs_intr: Option<InterruptRegisters<'a>>,
 }
 
+// The weight is there by one of two flags.
+#[inline]
+fn is_weighed(flags: SampleFlags) -> bool
+    ensures { result ≡ sample.has_one (sample_flags_bits flags) (14 ∷ 24 ∷ []) }
+{
+    flags.contains(SampleFlags::WEIGHT) || flags.contains(SampleFlags::WEIGHT_STRUCT)
+}
+
 impl<'p> Costs<'p> {
     #[inline]
-    #[tactic(auto, using(crate::proofs::Flags::cost_flags))]
     pub(crate) fn read<I: Input<'p>, E: Endian>(reader: &mut Reader<I, E>) -> ReadResult<Costs<'p>>
         ensures call { Call I.source E.order
             (ReadsTable (λ c. sample.fields_under c sample.cost_fields) groups.costs_value
@@ -126,13 +131,11 @@ impl<'p> Costs<'p> {
             reader.old (kinds result) reader.new }
     {
         let flags = reader.config().sample_type();
-        let weighed = flags.contains(SampleFlags::WEIGHT)
-            || flags.contains(SampleFlags::WEIGHT_STRUCT);
         Ok(Costs {
-            weight: read_field_if(reader, weighed)?,
-            data_src: read_field_if(reader, flags.contains(SampleFlags::DATA_SRC))?,
-            transaction: read_field_if(reader, flags.contains(SampleFlags::TRANSACTION))?,
-            regs_intr: read_field_if(reader, flags.contains(SampleFlags::REGS_INTR))?,
+            weight: read_field_if(reader, is_weighed(flags))?,
+            data_src: read_flagged(reader, flags, SampleFlags::DATA_SRC)?,
+            transaction: read_flagged(reader, flags, SampleFlags::TRANSACTION)?,
+            regs_intr: read_flagged(reader, flags, SampleFlags::REGS_INTR)?,
         })
     }
 }
@@ -150,7 +153,6 @@ pub(crate) struct Memory<'a> {
 impl<'p> Memory<'p> {
     // It is inlined, so that no place is made for a group that is absent.
     #[inline(always)]
-    #[tactic(auto, using(crate::proofs::Flags::memory_flags))]
     pub(crate) fn read<I: Input<'p>, E: Endian>(reader: &mut Reader<I, E>) -> ReadResult<Memory<'p>>
         ensures call { Call I.source E.order
             (ReadsTable (λ c. sample.fields_under c sample.memory_fields) groups.memory_value
@@ -159,11 +161,11 @@ impl<'p> Memory<'p> {
     {
         let flags = reader.config().sample_type();
         Ok(Memory {
-            phys_addr: read_field_if(reader, flags.contains(SampleFlags::PHYS_ADDR))?,
-            cgroup: read_field_if(reader, flags.contains(SampleFlags::CGROUP))?,
-            data_page_size: read_field_if(reader, flags.contains(SampleFlags::DATA_PAGE_SIZE))?,
-            code_page_size: read_field_if(reader, flags.contains(SampleFlags::CODE_PAGE_SIZE))?,
-            aux: read_field_if(reader, flags.contains(SampleFlags::AUX))?,
+            phys_addr: read_flagged(reader, flags, SampleFlags::PHYS_ADDR)?,
+            cgroup: read_flagged(reader, flags, SampleFlags::CGROUP)?,
+            data_page_size: read_flagged(reader, flags, SampleFlags::DATA_PAGE_SIZE)?,
+            code_page_size: read_flagged(reader, flags, SampleFlags::CODE_PAGE_SIZE)?,
+            aux: read_flagged(reader, flags, SampleFlags::AUX)?,
         })
     }
 }

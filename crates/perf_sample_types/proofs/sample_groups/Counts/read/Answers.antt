@@ -1,97 +1,75 @@
-use Rattle.std.proofs.Common.{◌≡◌, [], ◌∷◌, Err, ap, refl, sym, ◌∙◌}
-use Rattle.perf_words.specs.Bits.{has_bit}
+use Rattle.std.proofs.Common.{◌≡◌, Err, ap, refl, ◌∙◌}
 use Rattle.perf_words.specs.SetBits.{sample_flags_bits}
 use Rattle.perf_base.specs.Configured.{configuration_of}
-use Rattle.perf_reader.proofs.Asked.{field_behind, field_stops, fields_give, of_row}
-use Rattle.perf_sample_types.proofs.Flags.{contains_call_chain, contains_cpu, contains_period, contains_sample_read, contains_stream_id, only_flag}
-use Rattle.perf_sample_types.specs.Sample.{has_one}
+use Rattle.perf_reader.proofs.Asked.{fields_give, of_row}
 use Rattle.perf_types.proofs.Readings.{came_up}
+use Rattle.perf_sample_types.proofs.FlaggedFields.{flag_behind, flag_stops}
 use Rattle.perf_sample_types.proofs.sample_groups.Counts.read.Goals as goal
 
-pub returns-in_err-read_field_if : goal.returns-in_err-read_field_if
-returns-in_err-read_field_if g c =
+pub returns-in_err-read_flagged : goal.returns-in_err-read_flagged
+returns-in_err-read_flagged g c =
     let asked : sample_flags_bits c.sample_type-flags.result ≡ (configuration_of c.args.reader.now.config).sample_type = c.sample_type-flags.ensures ∙ ap (λ k. (configuration_of k).sample_type) c.config.ensures in
-    let f1 : has_one (configuration_of c.args.reader.now.config).sample_type (9 ∷ []) ≡ c.contains.result = only_flag _ ∙ (ap (λ w. has_bit w 9) (sym asked) ∙ (sym (contains_stream_id _) ∙ sym (c.contains.ensures tt))) in
-    let up : c.from_residual.result ≡ Err c.in_err-read_field_if.field-0.0 = came_up _ _ c.from_residual.ensures in rw up (
+    let up : c.from_residual.result ≡ Err c.in_err-read_flagged.field-0.0 = came_up _ _ c.from_residual.ensures in rw up (
     record {
       call = of_row _ _ _ (λ t w. tt) (
-          field_stops _ _ _ _ _ _ (λ left m. refl) f1 c.in_err-read_field_if.ensures.call);
+          flag_stops _ _ 9 _ _ (λ left m. refl) refl asked c.in_err-read_flagged.ensures.call);
     })
 
-pub returns-in_err-read_field_if-2 : goal.returns-in_err-read_field_if-2
-returns-in_err-read_field_if-2 g c =
+pub returns-in_err-read_flagged-2 : goal.returns-in_err-read_flagged-2
+returns-in_err-read_flagged-2 g c =
     let asked : sample_flags_bits c.sample_type-flags.result ≡ (configuration_of c.args.reader.now.config).sample_type = c.sample_type-flags.ensures ∙ ap (λ k. (configuration_of k).sample_type) c.config.ensures in
-    let f1 : has_one (configuration_of c.args.reader.now.config).sample_type (9 ∷ []) ≡ c.contains.result = only_flag _ ∙ (ap (λ w. has_bit w 9) (sym asked) ∙ (sym (contains_stream_id _) ∙ sym (c.contains.ensures tt))) in
-    let f2 : has_one (configuration_of c.args.reader.now.config).sample_type (7 ∷ []) ≡ c.contains-2.result = only_flag _ ∙ (ap (λ w. has_bit w 7) (sym asked) ∙ (sym (contains_cpu _) ∙ sym (c.contains-2.ensures tt))) in
-    let up : c.from_residual-in_err-read_field_if-2.result ≡ Err c.in_err-read_field_if-2.field-0.0 = came_up _ _ c.from_residual-in_err-read_field_if-2.ensures in rw up (
+    let up : c.from_residual-in_err-read_flagged-2.result ≡ Err c.in_err-read_flagged-2.field-0.0 = came_up _ _ c.from_residual-in_err-read_flagged-2.ensures in rw up (
     record {
       call = of_row _ _ _ (λ t w. tt) (
-          field_behind _ _ _ _ _ _ f1 c.in_ok-read_field_if.ensures.call (
-          field_stops _ _ _ _ _ _ (λ left m. refl) (ap (λ k. has_one (configuration_of k).sample_type (7 ∷ [])) (c.in_ok-read_field_if.ensures.call.config) ∙ f2) c.in_err-read_field_if-2.ensures.call));
+          flag_behind _ _ 9 _ _ refl asked c.in_ok-read_flagged.ensures.call (λ kept.
+          flag_stops _ _ 7 _ _ (λ left m. refl) kept asked c.in_err-read_flagged-2.ensures.call));
     })
 
-pub returns-in_err-read_field_if-3 : goal.returns-in_err-read_field_if-3
-returns-in_err-read_field_if-3 g c =
+pub returns-in_err-read_flagged-3 : goal.returns-in_err-read_flagged-3
+returns-in_err-read_flagged-3 g c =
     let asked : sample_flags_bits c.sample_type-flags.result ≡ (configuration_of c.args.reader.now.config).sample_type = c.sample_type-flags.ensures ∙ ap (λ k. (configuration_of k).sample_type) c.config.ensures in
-    let f1 : has_one (configuration_of c.args.reader.now.config).sample_type (9 ∷ []) ≡ c.contains.result = only_flag _ ∙ (ap (λ w. has_bit w 9) (sym asked) ∙ (sym (contains_stream_id _) ∙ sym (c.contains.ensures tt))) in
-    let f2 : has_one (configuration_of c.args.reader.now.config).sample_type (7 ∷ []) ≡ c.contains-2.result = only_flag _ ∙ (ap (λ w. has_bit w 7) (sym asked) ∙ (sym (contains_cpu _) ∙ sym (c.contains-2.ensures tt))) in
-    let f3 : has_one (configuration_of c.args.reader.now.config).sample_type (8 ∷ []) ≡ c.contains-3.result = only_flag _ ∙ (ap (λ w. has_bit w 8) (sym asked) ∙ (sym (contains_period _) ∙ sym (c.contains-3.ensures tt))) in
-    let up : c.from_residual-in_err-read_field_if-3.result ≡ Err c.in_err-read_field_if-3.field-0.0 = came_up _ _ c.from_residual-in_err-read_field_if-3.ensures in rw up (
+    let up : c.from_residual-in_err-read_flagged-3.result ≡ Err c.in_err-read_flagged-3.field-0.0 = came_up _ _ c.from_residual-in_err-read_flagged-3.ensures in rw up (
     record {
       call = of_row _ _ _ (λ t w. tt) (
-          field_behind _ _ _ _ _ _ f1 c.in_ok-read_field_if.ensures.call (
-          field_behind _ _ _ _ _ _ (ap (λ k. has_one (configuration_of k).sample_type (7 ∷ [])) (c.in_ok-read_field_if.ensures.call.config) ∙ f2) c.in_ok-read_field_if-2.ensures.call (
-          field_stops _ _ _ _ _ _ (λ left m. refl) (ap (λ k. has_one (configuration_of k).sample_type (8 ∷ [])) (c.in_ok-read_field_if-2.ensures.call.config ∙ c.in_ok-read_field_if.ensures.call.config) ∙ f3) c.in_err-read_field_if-3.ensures.call)));
+          flag_behind _ _ 9 _ _ refl asked c.in_ok-read_flagged.ensures.call (λ kept.
+          flag_behind _ _ 7 _ _ kept asked c.in_ok-read_flagged-2.ensures.call (λ kept.
+          flag_stops _ _ 8 _ _ (λ left m. refl) kept asked c.in_err-read_flagged-3.ensures.call)));
     })
 
-pub returns-in_err-read_field_if-4 : goal.returns-in_err-read_field_if-4
-returns-in_err-read_field_if-4 g c =
+pub returns-in_err-read_flagged-4 : goal.returns-in_err-read_flagged-4
+returns-in_err-read_flagged-4 g c =
     let asked : sample_flags_bits c.sample_type-flags.result ≡ (configuration_of c.args.reader.now.config).sample_type = c.sample_type-flags.ensures ∙ ap (λ k. (configuration_of k).sample_type) c.config.ensures in
-    let f1 : has_one (configuration_of c.args.reader.now.config).sample_type (9 ∷ []) ≡ c.contains.result = only_flag _ ∙ (ap (λ w. has_bit w 9) (sym asked) ∙ (sym (contains_stream_id _) ∙ sym (c.contains.ensures tt))) in
-    let f2 : has_one (configuration_of c.args.reader.now.config).sample_type (7 ∷ []) ≡ c.contains-2.result = only_flag _ ∙ (ap (λ w. has_bit w 7) (sym asked) ∙ (sym (contains_cpu _) ∙ sym (c.contains-2.ensures tt))) in
-    let f3 : has_one (configuration_of c.args.reader.now.config).sample_type (8 ∷ []) ≡ c.contains-3.result = only_flag _ ∙ (ap (λ w. has_bit w 8) (sym asked) ∙ (sym (contains_period _) ∙ sym (c.contains-3.ensures tt))) in
-    let f4 : has_one (configuration_of c.args.reader.now.config).sample_type (4 ∷ []) ≡ c.contains-4.result = only_flag _ ∙ (ap (λ w. has_bit w 4) (sym asked) ∙ (sym (contains_sample_read _) ∙ sym (c.contains-4.ensures tt))) in
-    let up : c.from_residual-in_err-read_field_if-4.result ≡ Err c.in_err-read_field_if-4.field-0.0 = came_up _ _ c.from_residual-in_err-read_field_if-4.ensures in rw up (
+    let up : c.from_residual-in_err-read_flagged-4.result ≡ Err c.in_err-read_flagged-4.field-0.0 = came_up _ _ c.from_residual-in_err-read_flagged-4.ensures in rw up (
     record {
       call = of_row _ _ _ (λ t w. tt) (
-          field_behind _ _ _ _ _ _ f1 c.in_ok-read_field_if.ensures.call (
-          field_behind _ _ _ _ _ _ (ap (λ k. has_one (configuration_of k).sample_type (7 ∷ [])) (c.in_ok-read_field_if.ensures.call.config) ∙ f2) c.in_ok-read_field_if-2.ensures.call (
-          field_behind _ _ _ _ _ _ (ap (λ k. has_one (configuration_of k).sample_type (8 ∷ [])) (c.in_ok-read_field_if-2.ensures.call.config ∙ c.in_ok-read_field_if.ensures.call.config) ∙ f3) c.in_ok-read_field_if-3.ensures.call (
-          field_stops _ _ _ _ _ _ (λ left m. refl) (ap (λ k. has_one (configuration_of k).sample_type (4 ∷ [])) (c.in_ok-read_field_if-3.ensures.call.config ∙ c.in_ok-read_field_if-2.ensures.call.config ∙ c.in_ok-read_field_if.ensures.call.config) ∙ f4) c.in_err-read_field_if-4.ensures.call))));
+          flag_behind _ _ 9 _ _ refl asked c.in_ok-read_flagged.ensures.call (λ kept.
+          flag_behind _ _ 7 _ _ kept asked c.in_ok-read_flagged-2.ensures.call (λ kept.
+          flag_behind _ _ 8 _ _ kept asked c.in_ok-read_flagged-3.ensures.call (λ kept.
+          flag_stops _ _ 4 _ _ (λ left m. refl) kept asked c.in_err-read_flagged-4.ensures.call))));
     })
 
-pub returns-in_err-read_field_if-5 : goal.returns-in_err-read_field_if-5
-returns-in_err-read_field_if-5 g c =
+pub returns-in_err-read_flagged-5 : goal.returns-in_err-read_flagged-5
+returns-in_err-read_flagged-5 g c =
     let asked : sample_flags_bits c.sample_type-flags.result ≡ (configuration_of c.args.reader.now.config).sample_type = c.sample_type-flags.ensures ∙ ap (λ k. (configuration_of k).sample_type) c.config.ensures in
-    let f1 : has_one (configuration_of c.args.reader.now.config).sample_type (9 ∷ []) ≡ c.contains.result = only_flag _ ∙ (ap (λ w. has_bit w 9) (sym asked) ∙ (sym (contains_stream_id _) ∙ sym (c.contains.ensures tt))) in
-    let f2 : has_one (configuration_of c.args.reader.now.config).sample_type (7 ∷ []) ≡ c.contains-2.result = only_flag _ ∙ (ap (λ w. has_bit w 7) (sym asked) ∙ (sym (contains_cpu _) ∙ sym (c.contains-2.ensures tt))) in
-    let f3 : has_one (configuration_of c.args.reader.now.config).sample_type (8 ∷ []) ≡ c.contains-3.result = only_flag _ ∙ (ap (λ w. has_bit w 8) (sym asked) ∙ (sym (contains_period _) ∙ sym (c.contains-3.ensures tt))) in
-    let f4 : has_one (configuration_of c.args.reader.now.config).sample_type (4 ∷ []) ≡ c.contains-4.result = only_flag _ ∙ (ap (λ w. has_bit w 4) (sym asked) ∙ (sym (contains_sample_read _) ∙ sym (c.contains-4.ensures tt))) in
-    let f5 : has_one (configuration_of c.args.reader.now.config).sample_type (5 ∷ []) ≡ c.contains-5.result = only_flag _ ∙ (ap (λ w. has_bit w 5) (sym asked) ∙ (sym (contains_call_chain _) ∙ sym (c.contains-5.ensures tt))) in
-    let up : c.from_residual-in_err-read_field_if-5.result ≡ Err c.in_err-read_field_if-5.field-0.0 = came_up _ _ c.from_residual-in_err-read_field_if-5.ensures in rw up (
+    let up : c.from_residual-in_err-read_flagged-5.result ≡ Err c.in_err-read_flagged-5.field-0.0 = came_up _ _ c.from_residual-in_err-read_flagged-5.ensures in rw up (
     record {
       call = of_row _ _ _ (λ t w. tt) (
-          field_behind _ _ _ _ _ _ f1 c.in_ok-read_field_if.ensures.call (
-          field_behind _ _ _ _ _ _ (ap (λ k. has_one (configuration_of k).sample_type (7 ∷ [])) (c.in_ok-read_field_if.ensures.call.config) ∙ f2) c.in_ok-read_field_if-2.ensures.call (
-          field_behind _ _ _ _ _ _ (ap (λ k. has_one (configuration_of k).sample_type (8 ∷ [])) (c.in_ok-read_field_if-2.ensures.call.config ∙ c.in_ok-read_field_if.ensures.call.config) ∙ f3) c.in_ok-read_field_if-3.ensures.call (
-          field_behind _ _ _ _ _ _ (ap (λ k. has_one (configuration_of k).sample_type (4 ∷ [])) (c.in_ok-read_field_if-3.ensures.call.config ∙ c.in_ok-read_field_if-2.ensures.call.config ∙ c.in_ok-read_field_if.ensures.call.config) ∙ f4) c.in_ok-read_field_if-4.ensures.call (
-          field_stops _ _ _ _ _ _ (λ left m. refl) (ap (λ k. has_one (configuration_of k).sample_type (5 ∷ [])) (c.in_ok-read_field_if-4.ensures.call.config ∙ c.in_ok-read_field_if-3.ensures.call.config ∙ c.in_ok-read_field_if-2.ensures.call.config ∙ c.in_ok-read_field_if.ensures.call.config) ∙ f5) c.in_err-read_field_if-5.ensures.call)))));
+          flag_behind _ _ 9 _ _ refl asked c.in_ok-read_flagged.ensures.call (λ kept.
+          flag_behind _ _ 7 _ _ kept asked c.in_ok-read_flagged-2.ensures.call (λ kept.
+          flag_behind _ _ 8 _ _ kept asked c.in_ok-read_flagged-3.ensures.call (λ kept.
+          flag_behind _ _ 4 _ _ kept asked c.in_ok-read_flagged-4.ensures.call (λ kept.
+          flag_stops _ _ 5 _ _ (λ left m. refl) kept asked c.in_err-read_flagged-5.ensures.call)))));
     })
 
 pub returns : goal.returns
 returns g c =
     let asked : sample_flags_bits c.sample_type-flags.result ≡ (configuration_of c.args.reader.now.config).sample_type = c.sample_type-flags.ensures ∙ ap (λ k. (configuration_of k).sample_type) c.config.ensures in
-    let f1 : has_one (configuration_of c.args.reader.now.config).sample_type (9 ∷ []) ≡ c.contains.result = only_flag _ ∙ (ap (λ w. has_bit w 9) (sym asked) ∙ (sym (contains_stream_id _) ∙ sym (c.contains.ensures tt))) in
-    let f2 : has_one (configuration_of c.args.reader.now.config).sample_type (7 ∷ []) ≡ c.contains-2.result = only_flag _ ∙ (ap (λ w. has_bit w 7) (sym asked) ∙ (sym (contains_cpu _) ∙ sym (c.contains-2.ensures tt))) in
-    let f3 : has_one (configuration_of c.args.reader.now.config).sample_type (8 ∷ []) ≡ c.contains-3.result = only_flag _ ∙ (ap (λ w. has_bit w 8) (sym asked) ∙ (sym (contains_period _) ∙ sym (c.contains-3.ensures tt))) in
-    let f4 : has_one (configuration_of c.args.reader.now.config).sample_type (4 ∷ []) ≡ c.contains-4.result = only_flag _ ∙ (ap (λ w. has_bit w 4) (sym asked) ∙ (sym (contains_sample_read _) ∙ sym (c.contains-4.ensures tt))) in
-    let f5 : has_one (configuration_of c.args.reader.now.config).sample_type (5 ∷ []) ≡ c.contains-5.result = only_flag _ ∙ (ap (λ w. has_bit w 5) (sym asked) ∙ (sym (contains_call_chain _) ∙ sym (c.contains-5.ensures tt))) in
     record {
       call = of_row _ _ _ (λ t w. tt) (
-          field_behind _ _ _ _ _ _ f1 c.in_ok-read_field_if.ensures.call (
-          field_behind _ _ _ _ _ _ (ap (λ k. has_one (configuration_of k).sample_type (7 ∷ [])) (c.in_ok-read_field_if.ensures.call.config) ∙ f2) c.in_ok-read_field_if-2.ensures.call (
-          field_behind _ _ _ _ _ _ (ap (λ k. has_one (configuration_of k).sample_type (8 ∷ [])) (c.in_ok-read_field_if-2.ensures.call.config ∙ c.in_ok-read_field_if.ensures.call.config) ∙ f3) c.in_ok-read_field_if-3.ensures.call (
-          field_behind _ _ _ _ _ _ (ap (λ k. has_one (configuration_of k).sample_type (4 ∷ [])) (c.in_ok-read_field_if-3.ensures.call.config ∙ c.in_ok-read_field_if-2.ensures.call.config ∙ c.in_ok-read_field_if.ensures.call.config) ∙ f4) c.in_ok-read_field_if-4.ensures.call (
-          field_behind _ _ _ _ _ _ (ap (λ k. has_one (configuration_of k).sample_type (5 ∷ [])) (c.in_ok-read_field_if-4.ensures.call.config ∙ c.in_ok-read_field_if-3.ensures.call.config ∙ c.in_ok-read_field_if-2.ensures.call.config ∙ c.in_ok-read_field_if.ensures.call.config) ∙ f5) c.in_ok-read_field_if-5.ensures.call (
+          flag_behind _ _ 9 _ _ refl asked c.in_ok-read_flagged.ensures.call (λ kept.
+          flag_behind _ _ 7 _ _ kept asked c.in_ok-read_flagged-2.ensures.call (λ kept.
+          flag_behind _ _ 8 _ _ kept asked c.in_ok-read_flagged-3.ensures.call (λ kept.
+          flag_behind _ _ 4 _ _ kept asked c.in_ok-read_flagged-4.ensures.call (λ kept.
+          flag_behind _ _ 5 _ _ kept asked c.in_ok-read_flagged-5.ensures.call (λ kept.
           fields_give _ _ (λ left m. refl)))))));
     }

@@ -1,119 +1,90 @@
-use Rattle.std.proofs.Common.{◌≡◌, [], ◌∷◌, Err, ap, refl, sym, ◌∙◌}
-use Rattle.perf_words.specs.Bits.{has_bit}
+use Rattle.std.proofs.Common.{◌≡◌, Err, ap, refl, ◌∙◌}
 use Rattle.perf_words.specs.SetBits.{sample_flags_bits}
 use Rattle.perf_base.specs.Configured.{configuration_of}
-use Rattle.perf_reader.proofs.Asked.{field_behind, field_stops, fields_give, of_row}
-use Rattle.perf_sample_types.proofs.Flags.{contains_addr, contains_id, contains_identifier, contains_ip, contains_tid, contains_time, only_flag}
+use Rattle.perf_reader.proofs.Asked.{fields_give, of_row}
 use Rattle.perf_types.proofs.Readings.{came_up}
-use Rattle.perf_sample_types.specs.Sample.{has_one}
+use Rattle.perf_sample_types.proofs.FlaggedFields.{flag_behind, flag_stops}
 use Rattle.perf_sample_types.proofs.sample_groups.Moment.read.Goals as goal
 
-pub returns-in_err-read_field_if : goal.returns-in_err-read_field_if
-returns-in_err-read_field_if g c =
+pub returns-in_err-read_flagged : goal.returns-in_err-read_flagged
+returns-in_err-read_flagged g c =
     let asked : sample_flags_bits c.sample_type-flags.result ≡ (configuration_of c.args.reader.now.config).sample_type = c.sample_type-flags.ensures ∙ ap (λ k. (configuration_of k).sample_type) c.config.ensures in
-    let f1 : has_one (configuration_of c.args.reader.now.config).sample_type (16 ∷ []) ≡ c.contains.result = only_flag _ ∙ (ap (λ w. has_bit w 16) (sym asked) ∙ (sym (contains_identifier _) ∙ sym (c.contains.ensures tt))) in
-    let up : c.from_residual.result ≡ Err c.in_err-read_field_if.field-0.0 = came_up _ _ c.from_residual.ensures in rw up (
+    let up : c.from_residual.result ≡ Err c.in_err-read_flagged.field-0.0 = came_up _ _ c.from_residual.ensures in rw up (
     record {
       call = of_row _ _ _ (λ t w. tt) (
-          field_stops _ _ _ _ _ _ (λ left m. refl) f1 c.in_err-read_field_if.ensures.call);
+          flag_stops _ _ 16 _ _ (λ left m. refl) refl asked c.in_err-read_flagged.ensures.call);
     })
 
-pub returns-in_err-read_field_if-2 : goal.returns-in_err-read_field_if-2
-returns-in_err-read_field_if-2 g c =
+pub returns-in_err-read_flagged-2 : goal.returns-in_err-read_flagged-2
+returns-in_err-read_flagged-2 g c =
     let asked : sample_flags_bits c.sample_type-flags.result ≡ (configuration_of c.args.reader.now.config).sample_type = c.sample_type-flags.ensures ∙ ap (λ k. (configuration_of k).sample_type) c.config.ensures in
-    let f1 : has_one (configuration_of c.args.reader.now.config).sample_type (16 ∷ []) ≡ c.contains.result = only_flag _ ∙ (ap (λ w. has_bit w 16) (sym asked) ∙ (sym (contains_identifier _) ∙ sym (c.contains.ensures tt))) in
-    let f2 : has_one (configuration_of c.args.reader.now.config).sample_type (0 ∷ []) ≡ c.contains-2.result = only_flag _ ∙ (ap (λ w. has_bit w 0) (sym asked) ∙ (sym (contains_ip _) ∙ sym (c.contains-2.ensures tt))) in
-    let up : c.from_residual-in_err-read_field_if-2.result ≡ Err c.in_err-read_field_if-2.field-0.0 = came_up _ _ c.from_residual-in_err-read_field_if-2.ensures in rw up (
+    let up : c.from_residual-in_err-read_flagged-2.result ≡ Err c.in_err-read_flagged-2.field-0.0 = came_up _ _ c.from_residual-in_err-read_flagged-2.ensures in rw up (
     record {
       call = of_row _ _ _ (λ t w. tt) (
-          field_behind _ _ _ _ _ _ f1 c.in_ok-read_field_if.ensures.call (
-          field_stops _ _ _ _ _ _ (λ left m. refl) (ap (λ k. has_one (configuration_of k).sample_type (0 ∷ [])) (c.in_ok-read_field_if.ensures.call.config) ∙ f2) c.in_err-read_field_if-2.ensures.call));
+          flag_behind _ _ 16 _ _ refl asked c.in_ok-read_flagged.ensures.call (λ kept.
+          flag_stops _ _ 0 _ _ (λ left m. refl) kept asked c.in_err-read_flagged-2.ensures.call));
     })
 
-pub returns-in_err-read_field_if-3 : goal.returns-in_err-read_field_if-3
-returns-in_err-read_field_if-3 g c =
+pub returns-in_err-read_flagged-3 : goal.returns-in_err-read_flagged-3
+returns-in_err-read_flagged-3 g c =
     let asked : sample_flags_bits c.sample_type-flags.result ≡ (configuration_of c.args.reader.now.config).sample_type = c.sample_type-flags.ensures ∙ ap (λ k. (configuration_of k).sample_type) c.config.ensures in
-    let f1 : has_one (configuration_of c.args.reader.now.config).sample_type (16 ∷ []) ≡ c.contains.result = only_flag _ ∙ (ap (λ w. has_bit w 16) (sym asked) ∙ (sym (contains_identifier _) ∙ sym (c.contains.ensures tt))) in
-    let f2 : has_one (configuration_of c.args.reader.now.config).sample_type (0 ∷ []) ≡ c.contains-2.result = only_flag _ ∙ (ap (λ w. has_bit w 0) (sym asked) ∙ (sym (contains_ip _) ∙ sym (c.contains-2.ensures tt))) in
-    let f3 : has_one (configuration_of c.args.reader.now.config).sample_type (1 ∷ []) ≡ c.contains-3.result = only_flag _ ∙ (ap (λ w. has_bit w 1) (sym asked) ∙ (sym (contains_tid _) ∙ sym (c.contains-3.ensures tt))) in
-    let up : c.from_residual-in_err-read_field_if-3.result ≡ Err c.in_err-read_field_if-3.field-0.0 = came_up _ _ c.from_residual-in_err-read_field_if-3.ensures in rw up (
+    let up : c.from_residual-in_err-read_flagged-3.result ≡ Err c.in_err-read_flagged-3.field-0.0 = came_up _ _ c.from_residual-in_err-read_flagged-3.ensures in rw up (
     record {
       call = of_row _ _ _ (λ t w. tt) (
-          field_behind _ _ _ _ _ _ f1 c.in_ok-read_field_if.ensures.call (
-          field_behind _ _ _ _ _ _ (ap (λ k. has_one (configuration_of k).sample_type (0 ∷ [])) (c.in_ok-read_field_if.ensures.call.config) ∙ f2) c.in_ok-read_field_if-2.ensures.call (
-          field_stops _ _ _ _ _ _ (λ left m. refl) (ap (λ k. has_one (configuration_of k).sample_type (1 ∷ [])) (c.in_ok-read_field_if-2.ensures.call.config ∙ c.in_ok-read_field_if.ensures.call.config) ∙ f3) c.in_err-read_field_if-3.ensures.call)));
+          flag_behind _ _ 16 _ _ refl asked c.in_ok-read_flagged.ensures.call (λ kept.
+          flag_behind _ _ 0 _ _ kept asked c.in_ok-read_flagged-2.ensures.call (λ kept.
+          flag_stops _ _ 1 _ _ (λ left m. refl) kept asked c.in_err-read_flagged-3.ensures.call)));
     })
 
-pub returns-in_err-read_field_if-4 : goal.returns-in_err-read_field_if-4
-returns-in_err-read_field_if-4 g c =
+pub returns-in_err-read_flagged-4 : goal.returns-in_err-read_flagged-4
+returns-in_err-read_flagged-4 g c =
     let asked : sample_flags_bits c.sample_type-flags.result ≡ (configuration_of c.args.reader.now.config).sample_type = c.sample_type-flags.ensures ∙ ap (λ k. (configuration_of k).sample_type) c.config.ensures in
-    let f1 : has_one (configuration_of c.args.reader.now.config).sample_type (16 ∷ []) ≡ c.contains.result = only_flag _ ∙ (ap (λ w. has_bit w 16) (sym asked) ∙ (sym (contains_identifier _) ∙ sym (c.contains.ensures tt))) in
-    let f2 : has_one (configuration_of c.args.reader.now.config).sample_type (0 ∷ []) ≡ c.contains-2.result = only_flag _ ∙ (ap (λ w. has_bit w 0) (sym asked) ∙ (sym (contains_ip _) ∙ sym (c.contains-2.ensures tt))) in
-    let f3 : has_one (configuration_of c.args.reader.now.config).sample_type (1 ∷ []) ≡ c.contains-3.result = only_flag _ ∙ (ap (λ w. has_bit w 1) (sym asked) ∙ (sym (contains_tid _) ∙ sym (c.contains-3.ensures tt))) in
-    let f4 : has_one (configuration_of c.args.reader.now.config).sample_type (2 ∷ []) ≡ c.contains-4.result = only_flag _ ∙ (ap (λ w. has_bit w 2) (sym asked) ∙ (sym (contains_time _) ∙ sym (c.contains-4.ensures tt))) in
-    let up : c.from_residual-in_err-read_field_if-4.result ≡ Err c.in_err-read_field_if-4.field-0.0 = came_up _ _ c.from_residual-in_err-read_field_if-4.ensures in rw up (
+    let up : c.from_residual-in_err-read_flagged-4.result ≡ Err c.in_err-read_flagged-4.field-0.0 = came_up _ _ c.from_residual-in_err-read_flagged-4.ensures in rw up (
     record {
       call = of_row _ _ _ (λ t w. tt) (
-          field_behind _ _ _ _ _ _ f1 c.in_ok-read_field_if.ensures.call (
-          field_behind _ _ _ _ _ _ (ap (λ k. has_one (configuration_of k).sample_type (0 ∷ [])) (c.in_ok-read_field_if.ensures.call.config) ∙ f2) c.in_ok-read_field_if-2.ensures.call (
-          field_behind _ _ _ _ _ _ (ap (λ k. has_one (configuration_of k).sample_type (1 ∷ [])) (c.in_ok-read_field_if-2.ensures.call.config ∙ c.in_ok-read_field_if.ensures.call.config) ∙ f3) c.in_ok-read_field_if-3.ensures.call (
-          field_stops _ _ _ _ _ _ (λ left m. refl) (ap (λ k. has_one (configuration_of k).sample_type (2 ∷ [])) (c.in_ok-read_field_if-3.ensures.call.config ∙ c.in_ok-read_field_if-2.ensures.call.config ∙ c.in_ok-read_field_if.ensures.call.config) ∙ f4) c.in_err-read_field_if-4.ensures.call))));
+          flag_behind _ _ 16 _ _ refl asked c.in_ok-read_flagged.ensures.call (λ kept.
+          flag_behind _ _ 0 _ _ kept asked c.in_ok-read_flagged-2.ensures.call (λ kept.
+          flag_behind _ _ 1 _ _ kept asked c.in_ok-read_flagged-3.ensures.call (λ kept.
+          flag_stops _ _ 2 _ _ (λ left m. refl) kept asked c.in_err-read_flagged-4.ensures.call))));
     })
 
-pub returns-in_err-read_field_if-5 : goal.returns-in_err-read_field_if-5
-returns-in_err-read_field_if-5 g c =
+pub returns-in_err-read_flagged-5 : goal.returns-in_err-read_flagged-5
+returns-in_err-read_flagged-5 g c =
     let asked : sample_flags_bits c.sample_type-flags.result ≡ (configuration_of c.args.reader.now.config).sample_type = c.sample_type-flags.ensures ∙ ap (λ k. (configuration_of k).sample_type) c.config.ensures in
-    let f1 : has_one (configuration_of c.args.reader.now.config).sample_type (16 ∷ []) ≡ c.contains.result = only_flag _ ∙ (ap (λ w. has_bit w 16) (sym asked) ∙ (sym (contains_identifier _) ∙ sym (c.contains.ensures tt))) in
-    let f2 : has_one (configuration_of c.args.reader.now.config).sample_type (0 ∷ []) ≡ c.contains-2.result = only_flag _ ∙ (ap (λ w. has_bit w 0) (sym asked) ∙ (sym (contains_ip _) ∙ sym (c.contains-2.ensures tt))) in
-    let f3 : has_one (configuration_of c.args.reader.now.config).sample_type (1 ∷ []) ≡ c.contains-3.result = only_flag _ ∙ (ap (λ w. has_bit w 1) (sym asked) ∙ (sym (contains_tid _) ∙ sym (c.contains-3.ensures tt))) in
-    let f4 : has_one (configuration_of c.args.reader.now.config).sample_type (2 ∷ []) ≡ c.contains-4.result = only_flag _ ∙ (ap (λ w. has_bit w 2) (sym asked) ∙ (sym (contains_time _) ∙ sym (c.contains-4.ensures tt))) in
-    let f5 : has_one (configuration_of c.args.reader.now.config).sample_type (3 ∷ []) ≡ c.contains-5.result = only_flag _ ∙ (ap (λ w. has_bit w 3) (sym asked) ∙ (sym (contains_addr _) ∙ sym (c.contains-5.ensures tt))) in
-    let up : c.from_residual-in_err-read_field_if-5.result ≡ Err c.in_err-read_field_if-5.field-0.0 = came_up _ _ c.from_residual-in_err-read_field_if-5.ensures in rw up (
+    let up : c.from_residual-in_err-read_flagged-5.result ≡ Err c.in_err-read_flagged-5.field-0.0 = came_up _ _ c.from_residual-in_err-read_flagged-5.ensures in rw up (
     record {
       call = of_row _ _ _ (λ t w. tt) (
-          field_behind _ _ _ _ _ _ f1 c.in_ok-read_field_if.ensures.call (
-          field_behind _ _ _ _ _ _ (ap (λ k. has_one (configuration_of k).sample_type (0 ∷ [])) (c.in_ok-read_field_if.ensures.call.config) ∙ f2) c.in_ok-read_field_if-2.ensures.call (
-          field_behind _ _ _ _ _ _ (ap (λ k. has_one (configuration_of k).sample_type (1 ∷ [])) (c.in_ok-read_field_if-2.ensures.call.config ∙ c.in_ok-read_field_if.ensures.call.config) ∙ f3) c.in_ok-read_field_if-3.ensures.call (
-          field_behind _ _ _ _ _ _ (ap (λ k. has_one (configuration_of k).sample_type (2 ∷ [])) (c.in_ok-read_field_if-3.ensures.call.config ∙ c.in_ok-read_field_if-2.ensures.call.config ∙ c.in_ok-read_field_if.ensures.call.config) ∙ f4) c.in_ok-read_field_if-4.ensures.call (
-          field_stops _ _ _ _ _ _ (λ left m. refl) (ap (λ k. has_one (configuration_of k).sample_type (3 ∷ [])) (c.in_ok-read_field_if-4.ensures.call.config ∙ c.in_ok-read_field_if-3.ensures.call.config ∙ c.in_ok-read_field_if-2.ensures.call.config ∙ c.in_ok-read_field_if.ensures.call.config) ∙ f5) c.in_err-read_field_if-5.ensures.call)))));
+          flag_behind _ _ 16 _ _ refl asked c.in_ok-read_flagged.ensures.call (λ kept.
+          flag_behind _ _ 0 _ _ kept asked c.in_ok-read_flagged-2.ensures.call (λ kept.
+          flag_behind _ _ 1 _ _ kept asked c.in_ok-read_flagged-3.ensures.call (λ kept.
+          flag_behind _ _ 2 _ _ kept asked c.in_ok-read_flagged-4.ensures.call (λ kept.
+          flag_stops _ _ 3 _ _ (λ left m. refl) kept asked c.in_err-read_flagged-5.ensures.call)))));
     })
 
-pub returns-in_err-read_field_if-6 : goal.returns-in_err-read_field_if-6
-returns-in_err-read_field_if-6 g c =
+pub returns-in_err-read_flagged-6 : goal.returns-in_err-read_flagged-6
+returns-in_err-read_flagged-6 g c =
     let asked : sample_flags_bits c.sample_type-flags.result ≡ (configuration_of c.args.reader.now.config).sample_type = c.sample_type-flags.ensures ∙ ap (λ k. (configuration_of k).sample_type) c.config.ensures in
-    let f1 : has_one (configuration_of c.args.reader.now.config).sample_type (16 ∷ []) ≡ c.contains.result = only_flag _ ∙ (ap (λ w. has_bit w 16) (sym asked) ∙ (sym (contains_identifier _) ∙ sym (c.contains.ensures tt))) in
-    let f2 : has_one (configuration_of c.args.reader.now.config).sample_type (0 ∷ []) ≡ c.contains-2.result = only_flag _ ∙ (ap (λ w. has_bit w 0) (sym asked) ∙ (sym (contains_ip _) ∙ sym (c.contains-2.ensures tt))) in
-    let f3 : has_one (configuration_of c.args.reader.now.config).sample_type (1 ∷ []) ≡ c.contains-3.result = only_flag _ ∙ (ap (λ w. has_bit w 1) (sym asked) ∙ (sym (contains_tid _) ∙ sym (c.contains-3.ensures tt))) in
-    let f4 : has_one (configuration_of c.args.reader.now.config).sample_type (2 ∷ []) ≡ c.contains-4.result = only_flag _ ∙ (ap (λ w. has_bit w 2) (sym asked) ∙ (sym (contains_time _) ∙ sym (c.contains-4.ensures tt))) in
-    let f5 : has_one (configuration_of c.args.reader.now.config).sample_type (3 ∷ []) ≡ c.contains-5.result = only_flag _ ∙ (ap (λ w. has_bit w 3) (sym asked) ∙ (sym (contains_addr _) ∙ sym (c.contains-5.ensures tt))) in
-    let f6 : has_one (configuration_of c.args.reader.now.config).sample_type (6 ∷ []) ≡ c.contains-6.result = only_flag _ ∙ (ap (λ w. has_bit w 6) (sym asked) ∙ (sym (contains_id _) ∙ sym (c.contains-6.ensures tt))) in
-    let up : c.from_residual-in_err-read_field_if-6.result ≡ Err c.in_err-read_field_if-6.field-0.0 = came_up _ _ c.from_residual-in_err-read_field_if-6.ensures in rw up (
+    let up : c.from_residual-in_err-read_flagged-6.result ≡ Err c.in_err-read_flagged-6.field-0.0 = came_up _ _ c.from_residual-in_err-read_flagged-6.ensures in rw up (
     record {
       call = of_row _ _ _ (λ t w. tt) (
-          field_behind _ _ _ _ _ _ f1 c.in_ok-read_field_if.ensures.call (
-          field_behind _ _ _ _ _ _ (ap (λ k. has_one (configuration_of k).sample_type (0 ∷ [])) (c.in_ok-read_field_if.ensures.call.config) ∙ f2) c.in_ok-read_field_if-2.ensures.call (
-          field_behind _ _ _ _ _ _ (ap (λ k. has_one (configuration_of k).sample_type (1 ∷ [])) (c.in_ok-read_field_if-2.ensures.call.config ∙ c.in_ok-read_field_if.ensures.call.config) ∙ f3) c.in_ok-read_field_if-3.ensures.call (
-          field_behind _ _ _ _ _ _ (ap (λ k. has_one (configuration_of k).sample_type (2 ∷ [])) (c.in_ok-read_field_if-3.ensures.call.config ∙ c.in_ok-read_field_if-2.ensures.call.config ∙ c.in_ok-read_field_if.ensures.call.config) ∙ f4) c.in_ok-read_field_if-4.ensures.call (
-          field_behind _ _ _ _ _ _ (ap (λ k. has_one (configuration_of k).sample_type (3 ∷ [])) (c.in_ok-read_field_if-4.ensures.call.config ∙ c.in_ok-read_field_if-3.ensures.call.config ∙ c.in_ok-read_field_if-2.ensures.call.config ∙ c.in_ok-read_field_if.ensures.call.config) ∙ f5) c.in_ok-read_field_if-5.ensures.call (
-          field_stops _ _ _ _ _ _ (λ left m. refl) (ap (λ k. has_one (configuration_of k).sample_type (6 ∷ [])) (c.in_ok-read_field_if-5.ensures.call.config ∙ c.in_ok-read_field_if-4.ensures.call.config ∙ c.in_ok-read_field_if-3.ensures.call.config ∙ c.in_ok-read_field_if-2.ensures.call.config ∙ c.in_ok-read_field_if.ensures.call.config) ∙ f6) c.in_err-read_field_if-6.ensures.call))))));
+          flag_behind _ _ 16 _ _ refl asked c.in_ok-read_flagged.ensures.call (λ kept.
+          flag_behind _ _ 0 _ _ kept asked c.in_ok-read_flagged-2.ensures.call (λ kept.
+          flag_behind _ _ 1 _ _ kept asked c.in_ok-read_flagged-3.ensures.call (λ kept.
+          flag_behind _ _ 2 _ _ kept asked c.in_ok-read_flagged-4.ensures.call (λ kept.
+          flag_behind _ _ 3 _ _ kept asked c.in_ok-read_flagged-5.ensures.call (λ kept.
+          flag_stops _ _ 6 _ _ (λ left m. refl) kept asked c.in_err-read_flagged-6.ensures.call))))));
     })
 
 pub returns : goal.returns
 returns g c =
     let asked : sample_flags_bits c.sample_type-flags.result ≡ (configuration_of c.args.reader.now.config).sample_type = c.sample_type-flags.ensures ∙ ap (λ k. (configuration_of k).sample_type) c.config.ensures in
-    let f1 : has_one (configuration_of c.args.reader.now.config).sample_type (16 ∷ []) ≡ c.contains.result = only_flag _ ∙ (ap (λ w. has_bit w 16) (sym asked) ∙ (sym (contains_identifier _) ∙ sym (c.contains.ensures tt))) in
-    let f2 : has_one (configuration_of c.args.reader.now.config).sample_type (0 ∷ []) ≡ c.contains-2.result = only_flag _ ∙ (ap (λ w. has_bit w 0) (sym asked) ∙ (sym (contains_ip _) ∙ sym (c.contains-2.ensures tt))) in
-    let f3 : has_one (configuration_of c.args.reader.now.config).sample_type (1 ∷ []) ≡ c.contains-3.result = only_flag _ ∙ (ap (λ w. has_bit w 1) (sym asked) ∙ (sym (contains_tid _) ∙ sym (c.contains-3.ensures tt))) in
-    let f4 : has_one (configuration_of c.args.reader.now.config).sample_type (2 ∷ []) ≡ c.contains-4.result = only_flag _ ∙ (ap (λ w. has_bit w 2) (sym asked) ∙ (sym (contains_time _) ∙ sym (c.contains-4.ensures tt))) in
-    let f5 : has_one (configuration_of c.args.reader.now.config).sample_type (3 ∷ []) ≡ c.contains-5.result = only_flag _ ∙ (ap (λ w. has_bit w 3) (sym asked) ∙ (sym (contains_addr _) ∙ sym (c.contains-5.ensures tt))) in
-    let f6 : has_one (configuration_of c.args.reader.now.config).sample_type (6 ∷ []) ≡ c.contains-6.result = only_flag _ ∙ (ap (λ w. has_bit w 6) (sym asked) ∙ (sym (contains_id _) ∙ sym (c.contains-6.ensures tt))) in
     record {
       call = of_row _ _ _ (λ t w. tt) (
-          field_behind _ _ _ _ _ _ f1 c.in_ok-read_field_if.ensures.call (
-          field_behind _ _ _ _ _ _ (ap (λ k. has_one (configuration_of k).sample_type (0 ∷ [])) (c.in_ok-read_field_if.ensures.call.config) ∙ f2) c.in_ok-read_field_if-2.ensures.call (
-          field_behind _ _ _ _ _ _ (ap (λ k. has_one (configuration_of k).sample_type (1 ∷ [])) (c.in_ok-read_field_if-2.ensures.call.config ∙ c.in_ok-read_field_if.ensures.call.config) ∙ f3) c.in_ok-read_field_if-3.ensures.call (
-          field_behind _ _ _ _ _ _ (ap (λ k. has_one (configuration_of k).sample_type (2 ∷ [])) (c.in_ok-read_field_if-3.ensures.call.config ∙ c.in_ok-read_field_if-2.ensures.call.config ∙ c.in_ok-read_field_if.ensures.call.config) ∙ f4) c.in_ok-read_field_if-4.ensures.call (
-          field_behind _ _ _ _ _ _ (ap (λ k. has_one (configuration_of k).sample_type (3 ∷ [])) (c.in_ok-read_field_if-4.ensures.call.config ∙ c.in_ok-read_field_if-3.ensures.call.config ∙ c.in_ok-read_field_if-2.ensures.call.config ∙ c.in_ok-read_field_if.ensures.call.config) ∙ f5) c.in_ok-read_field_if-5.ensures.call (
-          field_behind _ _ _ _ _ _ (ap (λ k. has_one (configuration_of k).sample_type (6 ∷ [])) (c.in_ok-read_field_if-5.ensures.call.config ∙ c.in_ok-read_field_if-4.ensures.call.config ∙ c.in_ok-read_field_if-3.ensures.call.config ∙ c.in_ok-read_field_if-2.ensures.call.config ∙ c.in_ok-read_field_if.ensures.call.config) ∙ f6) c.in_ok-read_field_if-6.ensures.call (
+          flag_behind _ _ 16 _ _ refl asked c.in_ok-read_flagged.ensures.call (λ kept.
+          flag_behind _ _ 0 _ _ kept asked c.in_ok-read_flagged-2.ensures.call (λ kept.
+          flag_behind _ _ 1 _ _ kept asked c.in_ok-read_flagged-3.ensures.call (λ kept.
+          flag_behind _ _ 2 _ _ kept asked c.in_ok-read_flagged-4.ensures.call (λ kept.
+          flag_behind _ _ 3 _ _ kept asked c.in_ok-read_flagged-5.ensures.call (λ kept.
+          flag_behind _ _ 6 _ _ kept asked c.in_ok-read_flagged-6.ensures.call (λ kept.
           fields_give _ _ (λ left m. refl))))))));
     }

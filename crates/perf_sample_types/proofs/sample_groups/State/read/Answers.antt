@@ -1,78 +1,62 @@
-use Rattle.std.proofs.Common.{◌≡◌, [], ◌∷◌, Err, ap, refl, subst, sym, ◌∙◌}
+use Rattle.std.proofs.Common.{◌≡◌, Err, ap, refl, subst, sym, ◌∙◌}
 use Rattle.std.specs.Prelude.{IsTrue}
-use Rattle.perf_words.specs.Bits.{has_bit}
 use Rattle.perf_words.specs.SetBits.{sample_flags_bits}
 use Rattle.perf_base.specs.Configured.{configuration_of}
-use Rattle.perf_reader.proofs.Asked.{field_behind, field_stops, fields_give, of_row}
-use Rattle.perf_sample_types.proofs.Flags.{contains_branch_stack, contains_raw, contains_regs_user, contains_stack_user, only_flag}
-use Rattle.perf_sample_types.specs.Sample.{has_one}
+use Rattle.perf_reader.proofs.Asked.{fields_give, of_row}
 use Rattle.perf_types.proofs.Readings.{came_up}
+use Rattle.perf_sample_types.proofs.FlaggedFields.{flag_behind, flag_stops}
 use Rattle.perf_sample_types.proofs.sample_groups.State.read.Goals as goal
 
-pub returns-in_err-read_field_if : goal.returns-in_err-read_field_if
-returns-in_err-read_field_if g c =
+pub returns-in_err-read_flagged : goal.returns-in_err-read_flagged
+returns-in_err-read_flagged g c =
     let asked : sample_flags_bits c.sample_type-flags.result ≡ (configuration_of c.args.reader.now.config).sample_type = c.sample_type-flags.ensures ∙ ap (λ k. (configuration_of k).sample_type) c.config.ensures in
-    let f1 : has_one (configuration_of c.args.reader.now.config).sample_type (10 ∷ []) ≡ c.contains.result = only_flag _ ∙ (ap (λ w. has_bit w 10) (sym asked) ∙ (sym (contains_raw _) ∙ sym (c.contains.ensures tt))) in
-    let up : c.from_residual.result ≡ Err c.in_err-read_field_if.field-0.0 = came_up _ _ c.from_residual.ensures in rw up (
+    let up : c.from_residual.result ≡ Err c.in_err-read_flagged.field-0.0 = came_up _ _ c.from_residual.ensures in rw up (
     record {
       call = of_row _ _ _ (λ t w. tt) (
-          field_stops _ _ _ _ _ _ (λ left m. refl) f1 c.in_err-read_field_if.ensures.call);
+          flag_stops _ _ 10 _ _ (λ left m. refl) refl asked c.in_err-read_flagged.ensures.call);
     })
 
-pub returns-in_err-read_field_if-2 : goal.returns-in_err-read_field_if-2
-returns-in_err-read_field_if-2 g c =
+pub returns-in_err-read_flagged-2 : goal.returns-in_err-read_flagged-2
+returns-in_err-read_flagged-2 g c =
     let asked : sample_flags_bits c.sample_type-flags.result ≡ (configuration_of c.args.reader.now.config).sample_type = c.sample_type-flags.ensures ∙ ap (λ k. (configuration_of k).sample_type) c.config.ensures in
-    let f1 : has_one (configuration_of c.args.reader.now.config).sample_type (10 ∷ []) ≡ c.contains.result = only_flag _ ∙ (ap (λ w. has_bit w 10) (sym asked) ∙ (sym (contains_raw _) ∙ sym (c.contains.ensures tt))) in
-    let f2 : has_one (configuration_of c.args.reader.now.config).sample_type (11 ∷ []) ≡ c.contains-2.result = only_flag _ ∙ (ap (λ w. has_bit w 11) (sym asked) ∙ (sym (contains_branch_stack _) ∙ sym (c.contains-2.ensures tt))) in
-    let up : c.from_residual-in_err-read_field_if-2.result ≡ Err c.in_err-read_field_if-2.field-0.0 = came_up _ _ c.from_residual-in_err-read_field_if-2.ensures in rw up (
+    let up : c.from_residual-in_err-read_flagged-2.result ≡ Err c.in_err-read_flagged-2.field-0.0 = came_up _ _ c.from_residual-in_err-read_flagged-2.ensures in rw up (
     record {
       call = of_row _ _ _ (λ t w. tt) (
-          field_behind _ _ _ _ _ _ f1 c.in_ok-read_field_if.ensures.call (
-          field_stops _ _ _ _ _ _ (λ left m. refl) (ap (λ k. has_one (configuration_of k).sample_type (11 ∷ [])) (c.in_ok-read_field_if.ensures.call.config) ∙ f2) c.in_err-read_field_if-2.ensures.call));
+          flag_behind _ _ 10 _ _ refl asked c.in_ok-read_flagged.ensures.call (λ kept.
+          flag_stops _ _ 11 _ _ (λ left m. refl) kept asked c.in_err-read_flagged-2.ensures.call));
     })
 
-pub returns-in_err-read_field_if-3 : goal.returns-in_err-read_field_if-3
-returns-in_err-read_field_if-3 g c =
+pub returns-in_err-read_flagged-3 : goal.returns-in_err-read_flagged-3
+returns-in_err-read_flagged-3 g c =
     let asked : sample_flags_bits c.sample_type-flags.result ≡ (configuration_of c.args.reader.now.config).sample_type = c.sample_type-flags.ensures ∙ ap (λ k. (configuration_of k).sample_type) c.config.ensures in
-    let f1 : has_one (configuration_of c.args.reader.now.config).sample_type (10 ∷ []) ≡ c.contains.result = only_flag _ ∙ (ap (λ w. has_bit w 10) (sym asked) ∙ (sym (contains_raw _) ∙ sym (c.contains.ensures tt))) in
-    let f2 : has_one (configuration_of c.args.reader.now.config).sample_type (11 ∷ []) ≡ c.contains-2.result = only_flag _ ∙ (ap (λ w. has_bit w 11) (sym asked) ∙ (sym (contains_branch_stack _) ∙ sym (c.contains-2.ensures tt))) in
-    let f3 : has_one (configuration_of c.args.reader.now.config).sample_type (12 ∷ []) ≡ c.contains-3.result = only_flag _ ∙ (ap (λ w. has_bit w 12) (sym asked) ∙ (sym (contains_regs_user _) ∙ sym (c.contains-3.ensures tt))) in
-    let up : c.from_residual-in_err-read_field_if-3.result ≡ Err c.in_err-read_field_if-3.field-0.0 = came_up _ _ c.from_residual-in_err-read_field_if-3.ensures in rw up (
+    let up : c.from_residual-in_err-read_flagged-3.result ≡ Err c.in_err-read_flagged-3.field-0.0 = came_up _ _ c.from_residual-in_err-read_flagged-3.ensures in rw up (
     record {
       call = of_row _ _ _ (λ t w. tt) (
-          field_behind _ _ _ _ _ _ f1 c.in_ok-read_field_if.ensures.call (
-          field_behind _ _ _ _ _ _ (ap (λ k. has_one (configuration_of k).sample_type (11 ∷ [])) (c.in_ok-read_field_if.ensures.call.config) ∙ f2) c.in_ok-read_field_if-2.ensures.call (
-          field_stops _ _ _ _ _ _ (λ left m. refl) (ap (λ k. has_one (configuration_of k).sample_type (12 ∷ [])) (c.in_ok-read_field_if-2.ensures.call.config ∙ c.in_ok-read_field_if.ensures.call.config) ∙ f3) c.in_err-read_field_if-3.ensures.call)));
+          flag_behind _ _ 10 _ _ refl asked c.in_ok-read_flagged.ensures.call (λ kept.
+          flag_behind _ _ 11 _ _ kept asked c.in_ok-read_flagged-2.ensures.call (λ kept.
+          flag_stops _ _ 12 _ _ (λ left m. refl) kept asked c.in_err-read_flagged-3.ensures.call)));
     })
 
-pub returns-in_err-read_field_if-4 : goal.returns-in_err-read_field_if-4
-returns-in_err-read_field_if-4 g c =
+pub returns-in_err-read_flagged-4 : goal.returns-in_err-read_flagged-4
+returns-in_err-read_flagged-4 g c =
     let asked : sample_flags_bits c.sample_type-flags.result ≡ (configuration_of c.args.reader.now.config).sample_type = c.sample_type-flags.ensures ∙ ap (λ k. (configuration_of k).sample_type) c.config.ensures in
-    let f1 : has_one (configuration_of c.args.reader.now.config).sample_type (10 ∷ []) ≡ c.contains.result = only_flag _ ∙ (ap (λ w. has_bit w 10) (sym asked) ∙ (sym (contains_raw _) ∙ sym (c.contains.ensures tt))) in
-    let f2 : has_one (configuration_of c.args.reader.now.config).sample_type (11 ∷ []) ≡ c.contains-2.result = only_flag _ ∙ (ap (λ w. has_bit w 11) (sym asked) ∙ (sym (contains_branch_stack _) ∙ sym (c.contains-2.ensures tt))) in
-    let f3 : has_one (configuration_of c.args.reader.now.config).sample_type (12 ∷ []) ≡ c.contains-3.result = only_flag _ ∙ (ap (λ w. has_bit w 12) (sym asked) ∙ (sym (contains_regs_user _) ∙ sym (c.contains-3.ensures tt))) in
-    let f4 : has_one (configuration_of c.args.reader.now.config).sample_type (13 ∷ []) ≡ c.contains-4.result = only_flag _ ∙ (ap (λ w. has_bit w 13) (sym asked) ∙ (sym (contains_stack_user _) ∙ sym (c.contains-4.ensures tt))) in
-    let up : c.from_residual-in_err-read_field_if-4.result ≡ Err c.in_err-read_field_if-4.field-0.0 = came_up _ _ c.from_residual-in_err-read_field_if-4.ensures in rw up (
+    let up : c.from_residual-in_err-read_flagged-4.result ≡ Err c.in_err-read_flagged-4.field-0.0 = came_up _ _ c.from_residual-in_err-read_flagged-4.ensures in rw up (
     record {
       call = of_row _ _ _ (λ t w. tt) (
-          field_behind _ _ _ _ _ _ f1 c.in_ok-read_field_if.ensures.call (
-          field_behind _ _ _ _ _ _ (ap (λ k. has_one (configuration_of k).sample_type (11 ∷ [])) (c.in_ok-read_field_if.ensures.call.config) ∙ f2) c.in_ok-read_field_if-2.ensures.call (
-          field_behind _ _ _ _ _ _ (ap (λ k. has_one (configuration_of k).sample_type (12 ∷ [])) (c.in_ok-read_field_if-2.ensures.call.config ∙ c.in_ok-read_field_if.ensures.call.config) ∙ f3) c.in_ok-read_field_if-3.ensures.call (
-          field_stops _ _ _ _ _ _ (λ left m. refl) (ap (λ k. has_one (configuration_of k).sample_type (13 ∷ [])) (c.in_ok-read_field_if-3.ensures.call.config ∙ c.in_ok-read_field_if-2.ensures.call.config ∙ c.in_ok-read_field_if.ensures.call.config) ∙ f4) c.in_err-read_field_if-4.ensures.call))));
+          flag_behind _ _ 10 _ _ refl asked c.in_ok-read_flagged.ensures.call (λ kept.
+          flag_behind _ _ 11 _ _ kept asked c.in_ok-read_flagged-2.ensures.call (λ kept.
+          flag_behind _ _ 12 _ _ kept asked c.in_ok-read_flagged-3.ensures.call (λ kept.
+          flag_stops _ _ 13 _ _ (λ left m. refl) kept asked c.in_err-read_flagged-4.ensures.call))));
     })
 
 pub returns : goal.returns
 returns g c =
     let asked : sample_flags_bits c.sample_type-flags.result ≡ (configuration_of c.args.reader.now.config).sample_type = c.sample_type-flags.ensures ∙ ap (λ k. (configuration_of k).sample_type) c.config.ensures in
-    let f1 : has_one (configuration_of c.args.reader.now.config).sample_type (10 ∷ []) ≡ c.contains.result = only_flag _ ∙ (ap (λ w. has_bit w 10) (sym asked) ∙ (sym (contains_raw _) ∙ sym (c.contains.ensures tt))) in
-    let f2 : has_one (configuration_of c.args.reader.now.config).sample_type (11 ∷ []) ≡ c.contains-2.result = only_flag _ ∙ (ap (λ w. has_bit w 11) (sym asked) ∙ (sym (contains_branch_stack _) ∙ sym (c.contains-2.ensures tt))) in
-    let f3 : has_one (configuration_of c.args.reader.now.config).sample_type (12 ∷ []) ≡ c.contains-3.result = only_flag _ ∙ (ap (λ w. has_bit w 12) (sym asked) ∙ (sym (contains_regs_user _) ∙ sym (c.contains-3.ensures tt))) in
-    let f4 : has_one (configuration_of c.args.reader.now.config).sample_type (13 ∷ []) ≡ c.contains-4.result = only_flag _ ∙ (ap (λ w. has_bit w 13) (sym asked) ∙ (sym (contains_stack_user _) ∙ sym (c.contains-4.ensures tt))) in
     record {
-      call = of_row _ _ _ (λ t w. ((c.in_ok-read_field_if.ensures.call.answer t).1 w, (c.in_ok-read_field_if-4.ensures.call.answer (c.in_ok-read_field_if-3.ensures.call.told (c.in_ok-read_field_if-2.ensures.call.told (c.in_ok-read_field_if.ensures.call.told t)))).1 (subst IsTrue (sym c.in_ok-read_field_if-3.ensures.call.whole) (subst IsTrue (sym c.in_ok-read_field_if-2.ensures.call.whole) (subst IsTrue (sym c.in_ok-read_field_if.ensures.call.whole) w))))) (
-          field_behind _ _ _ _ _ _ f1 c.in_ok-read_field_if.ensures.call (
-          field_behind _ _ _ _ _ _ (ap (λ k. has_one (configuration_of k).sample_type (11 ∷ [])) (c.in_ok-read_field_if.ensures.call.config) ∙ f2) c.in_ok-read_field_if-2.ensures.call (
-          field_behind _ _ _ _ _ _ (ap (λ k. has_one (configuration_of k).sample_type (12 ∷ [])) (c.in_ok-read_field_if-2.ensures.call.config ∙ c.in_ok-read_field_if.ensures.call.config) ∙ f3) c.in_ok-read_field_if-3.ensures.call (
-          field_behind _ _ _ _ _ _ (ap (λ k. has_one (configuration_of k).sample_type (13 ∷ [])) (c.in_ok-read_field_if-3.ensures.call.config ∙ c.in_ok-read_field_if-2.ensures.call.config ∙ c.in_ok-read_field_if.ensures.call.config) ∙ f4) c.in_ok-read_field_if-4.ensures.call (
+      call = of_row _ _ _ (λ t w. ((c.in_ok-read_flagged.ensures.call.answer t).1 w, (c.in_ok-read_flagged-4.ensures.call.answer (c.in_ok-read_flagged-3.ensures.call.told (c.in_ok-read_flagged-2.ensures.call.told (c.in_ok-read_flagged.ensures.call.told t)))).1 (subst IsTrue (sym c.in_ok-read_flagged-3.ensures.call.whole) (subst IsTrue (sym c.in_ok-read_flagged-2.ensures.call.whole) (subst IsTrue (sym c.in_ok-read_flagged.ensures.call.whole) w))))) (
+          flag_behind _ _ 10 _ _ refl asked c.in_ok-read_flagged.ensures.call (λ kept.
+          flag_behind _ _ 11 _ _ kept asked c.in_ok-read_flagged-2.ensures.call (λ kept.
+          flag_behind _ _ 12 _ _ kept asked c.in_ok-read_flagged-3.ensures.call (λ kept.
+          flag_behind _ _ 13 _ _ kept asked c.in_ok-read_flagged-4.ensures.call (λ kept.
           fields_give _ _ (λ left m. refl))))));
     }
