@@ -1,6 +1,6 @@
 -- Lists that are all borrowed, or all owned: those in front and those behind. The lists of groups are
 -- those of their fields.
-use Rattle.std.proofs.Common.{◌≡◌, Bool, List, [], ◌∷◌, ◌++◌, append_assoc}
+use Rattle.std.proofs.Common.{◌≡◌, Bool, List, [], ◌∷◌, ◌++◌, append_assoc, sym, ◌∙◌, ap}
 use Rattle.perf_base.specs.Copies.{AllAre}
 
 pub all_front : (borrowed : Bool) (xs ys : List Bool) → AllAre borrowed (xs ++ ys) → AllAre borrowed xs
@@ -17,3 +17,15 @@ pub list_by_list : (xs ys zs : List Bool) → (xs ++ ys) ++ zs ≡ xs ++ (ys ++ 
 list_by_list xs ys zs = append_assoc xs ys zs
 
 pub ruleset lists_of_groups = (list_by_list)
+
+-- four lists and those behind them
+pub four_ahead : (xs ys zs us vs : List Bool) → (xs ++ (ys ++ (zs ++ us))) ++ vs ≡ xs ++ (ys ++ (zs ++ (us ++ vs)))
+four_ahead xs ys zs us vs =
+    append_assoc xs (ys ++ (zs ++ us)) vs
+    ∙ ap (λ ls. xs ++ ls) (append_assoc ys (zs ++ us) vs ∙ ap (λ ls. ys ++ ls) (append_assoc zs us vs))
+
+-- they stay, where the four and those behind them do
+pub four_stay : (xs ys zs us vs xs' ys' zs' us' vs' : List Bool) → xs ++ (ys ++ (zs ++ us)) ≡ xs' ++ (ys' ++ (zs' ++ us')) → vs ≡ vs' →
+    xs ++ (ys ++ (zs ++ (us ++ vs))) ≡ xs' ++ (ys' ++ (zs' ++ (us' ++ vs')))
+four_stay xs ys zs us vs xs' ys' zs' us' vs' four behind =
+    sym (four_ahead xs ys zs us vs) ∙ ap (λ ls. ls ++ vs) four ∙ ap (λ ls. (xs' ++ (ys' ++ (zs' ++ us'))) ++ ls) behind ∙ four_ahead xs' ys' zs' us' vs'

@@ -2,6 +2,8 @@
 
 ghost use Rattle.std.specs.Prelude.{◌≡◌};
 ghost use Rattle.perf_base.specs.Copies.{IsClone};
+ghost use Rattle.perf_sample_types.specs.SampleCopies.{trace_value, trace_form, trace_of};
+ghost use Rattle.perf_sample_types.specs.SampleCopies.{held_value, held_form, held_of};
 ghost use Rattle.perf_sample_types.specs.SampleForms.{fields_form};
 ghost use Rattle.perf_sample_types.specs.SampleGetters.{fields_getters, no_getters};
 
@@ -70,20 +72,63 @@ pub struct SampleFields<'a> {
     pub code_page_size: Option<u64>,
 }
 
+// The counters, the call chain, raw bytes and branches of a sample's fields.
+#[derive(Drop)]
+struct Trace<'a> {
+    values: Option<ReadGroup<'a>>,
+    callchain: Option<CowSlice<'a, u64>>,
+    raw: Option<CowSlice<'a, u8>>,
+    lbr: Option<CowSlice<'a, BranchEntry>>,
+}
+
+// Their registers, the stack and bytes of the AUX area.
+#[derive(Drop)]
+struct Held<'a> {
+    regs_user: Option<Registers<'a>>,
+    stack_user: Option<CowSlice<'a, u8>>,
+    regs_intr: Option<Registers<'a>>,
+    aux: Option<CowSlice<'a, u8>>,
+}
+
 impl<'a> SampleFields<'a> {
-    /// The same fields. They take no memory where no list of them is owned.
-    #[tactic(auto, using(crate::proofs::Forms::parts_of_a_form))]
-    pub fn clone(&self, alloc: Global) -> ParseResult<SampleFields<'a>>
-        ensures { IsClone fields_getters fields_form self.now result }
+    // The same counters, call chain, raw bytes and branches.
+    fn clone_trace(&self, alloc: Global) -> ParseResult<Trace<'a>>
+        ensures { IsClone trace_value trace_form (trace_of self.now) result }
     {
         let values = clone_group(&self.values, alloc)?;
         let callchain = clone_list(&self.callchain, alloc)?;
         let raw = clone_list(&self.raw, alloc)?;
         let lbr = clone_list(&self.lbr, alloc)?;
+        Ok(Trace {
+            values,
+            callchain,
+            raw,
+            lbr,
+        })
+    }
+
+    // The same registers, stack and bytes of the AUX area.
+    fn clone_held(&self, alloc: Global) -> ParseResult<Held<'a>>
+        ensures { IsClone held_value held_form (held_of self.now) result }
+    {
         let regs_user = clone_registers(&self.regs_user, alloc)?;
         let stack_user = clone_list(&self.stack_user, alloc)?;
         let regs_intr = clone_registers(&self.regs_intr, alloc)?;
         let aux = clone_list(&self.aux, alloc)?;
+        Ok(Held {
+            regs_user,
+            stack_user,
+            regs_intr,
+            aux,
+        })
+    }
+
+    /// The same fields. They take no memory where no list of them is owned.
+    pub fn clone(&self, alloc: Global) -> ParseResult<SampleFields<'a>>
+        ensures { IsClone fields_getters fields_form self.now result }
+    {
+        let trace = self.clone_trace(alloc)?;
+        let held = self.clone_held(alloc)?;
         Ok(SampleFields {
             ip: self.ip,
             pid: self.pid,
@@ -94,19 +139,19 @@ impl<'a> SampleFields<'a> {
             stream_id: self.stream_id,
             cpu: self.cpu,
             period: self.period,
-            values,
-            callchain,
-            raw,
+            values: trace.values,
+            callchain: trace.callchain,
+            raw: trace.raw,
             lbr_hw_index: self.lbr_hw_index,
-            lbr,
-            regs_user,
-            stack_user,
+            lbr: trace.lbr,
+            regs_user: held.regs_user,
+            stack_user: held.stack_user,
             weight: self.weight,
             data_src: self.data_src,
             transaction: self.transaction,
-            regs_intr,
+            regs_intr: held.regs_intr,
             phys_addr: self.phys_addr,
-            aux,
+            aux: held.aux,
             cgroup: self.cgroup,
             data_page_size: self.data_page_size,
             code_page_size: self.code_page_size,

@@ -1,193 +1,45 @@
-use Rattle.std.proofs.Common.{◌≡◌, Bool, true, List, ◌++◌, Err, refl}
-use Rattle.perf_sample_types.proofs.Forms.{all_front, all_back}
+use Rattle.std.proofs.Common.{◌≡◌, true, ◌++◌, Err, refl, sym, ap, subst}
+use Rattle.perf_base.specs.Copies.{AllAre}
 use Rattle.perf_base.specs.Cow.{cow_form}
 use Rattle.perf_types.specs.ReadGroup.{read_group_form}
-use Rattle.perf_sample_types.specs.Registers.{registers_form}
-use Rattle.perf_sample_types.specs.SampleForms.{form_if}
+use Rattle.perf_sample_types.specs.SampleCopies.{TraceValue, HeldValue, trace_form, trace_of, held_form, held_of}
+use Rattle.perf_sample_types.specs.SampleForms.{form_if, fields_form}
+use Rattle.perf_sample_types.specs.declared.sample_fields.Held.{Held}
+use Rattle.perf_sample_types.specs.declared.sample_fields.SampleFields.{SampleFields}
+use Rattle.perf_sample_types.specs.declared.sample_fields.Trace.{Trace}
+use Rattle.perf_sample_types.proofs.Forms.{all_front, all_back, four_ahead, four_stay}
 use Rattle.perf_types.proofs.Readings.{came_up}
 use Rattle.perf_sample_types.proofs.sample_fields.SampleFields.clone.Goals as goal
 
-pub returns-in_err-values : goal.returns-in_err-values
-returns-in_err-values c =
-    let s = c.args.self.now in
-    let of_aux : List Bool = form_if cow_form s.aux in
-    let from_aux : List Bool = of_aux in
-    let of_regs_intr : List Bool = form_if registers_form s.regs_intr in
-    let from_regs_intr : List Bool = of_regs_intr ++ from_aux in
-    let of_stack_user : List Bool = form_if cow_form s.stack_user in
-    let from_stack_user : List Bool = of_stack_user ++ from_regs_intr in
-    let of_regs_user : List Bool = form_if registers_form s.regs_user in
-    let from_regs_user : List Bool = of_regs_user ++ from_stack_user in
-    let of_lbr : List Bool = form_if cow_form s.lbr in
-    let from_lbr : List Bool = of_lbr ++ from_regs_user in
-    let of_raw : List Bool = form_if cow_form s.raw in
-    let from_raw : List Bool = of_raw ++ from_lbr in
-    let of_callchain : List Bool = form_if cow_form s.callchain in
-    let from_callchain : List Bool = of_callchain ++ from_raw in
-    let of_values : List Bool = form_if read_group_form s.values in
-    let from_values : List Bool = of_values ++ from_callchain in
-    let up : c.from_residual.result ≡ Err c.in_err-values.field-0.0 = came_up _ _ c.from_residual.ensures in rw up (
-    record { same = tt; form_is = tt; refused = c.in_err-values.ensures.refused; no_memory = λ all. c.in_err-values.ensures.no_memory (all_front true of_values from_callchain all) })
+halves : (f : SampleFields) → AllAre true (fields_form f) → AllAre true (trace_form (trace_of f) ++ held_form (held_of f))
+halves f all =
+    subst (AllAre true) (sym (four_ahead (form_if read_group_form f.values) (form_if cow_form f.callchain) (form_if cow_form f.raw) (form_if cow_form f.lbr) (held_form (held_of f)))) all
 
-pub returns-in_err-callchain : goal.returns-in_err-callchain
-returns-in_err-callchain c =
-    let s = c.args.self.now in
-    let of_aux : List Bool = form_if cow_form s.aux in
-    let from_aux : List Bool = of_aux in
-    let of_regs_intr : List Bool = form_if registers_form s.regs_intr in
-    let from_regs_intr : List Bool = of_regs_intr ++ from_aux in
-    let of_stack_user : List Bool = form_if cow_form s.stack_user in
-    let from_stack_user : List Bool = of_stack_user ++ from_regs_intr in
-    let of_regs_user : List Bool = form_if registers_form s.regs_user in
-    let from_regs_user : List Bool = of_regs_user ++ from_stack_user in
-    let of_lbr : List Bool = form_if cow_form s.lbr in
-    let from_lbr : List Bool = of_lbr ++ from_regs_user in
-    let of_raw : List Bool = form_if cow_form s.raw in
-    let from_raw : List Bool = of_raw ++ from_lbr in
-    let of_callchain : List Bool = form_if cow_form s.callchain in
-    let from_callchain : List Bool = of_callchain ++ from_raw in
-    let of_values : List Bool = form_if read_group_form s.values in
-    let from_values : List Bool = of_values ++ from_callchain in
-    let up : c.from_residual-in_err-callchain.result ≡ Err c.in_err-callchain.field-0.0 = came_up _ _ c.from_residual-in_err-callchain.ensures in rw up (
-    record { same = tt; form_is = tt; refused = c.in_err-callchain.ensures.refused; no_memory = λ all. c.in_err-callchain.ensures.no_memory (all_front true of_callchain from_raw (all_back true of_values from_callchain all)) })
+forms_stay : (t : Trace) (h : Held) (g : SampleFields) → trace_form t ≡ trace_form (trace_of g) → held_form h ≡ held_form (held_of g) →
+    form_if read_group_form t.values ++ (form_if cow_form t.callchain ++ (form_if cow_form t.raw ++ (form_if cow_form t.lbr ++ held_form h))) ≡ fields_form g
+forms_stay t h g trace held =
+    four_stay (form_if read_group_form t.values) (form_if cow_form t.callchain) (form_if cow_form t.raw) (form_if cow_form t.lbr) (held_form h)
+    (form_if read_group_form g.values) (form_if cow_form g.callchain) (form_if cow_form g.raw) (form_if cow_form g.lbr) (held_form (held_of g)) trace held
 
-pub returns-in_err-raw : goal.returns-in_err-raw
-returns-in_err-raw c =
+pub returns-in_err-trace : goal.returns-in_err-trace
+returns-in_err-trace c =
     let s = c.args.self.now in
-    let of_aux : List Bool = form_if cow_form s.aux in
-    let from_aux : List Bool = of_aux in
-    let of_regs_intr : List Bool = form_if registers_form s.regs_intr in
-    let from_regs_intr : List Bool = of_regs_intr ++ from_aux in
-    let of_stack_user : List Bool = form_if cow_form s.stack_user in
-    let from_stack_user : List Bool = of_stack_user ++ from_regs_intr in
-    let of_regs_user : List Bool = form_if registers_form s.regs_user in
-    let from_regs_user : List Bool = of_regs_user ++ from_stack_user in
-    let of_lbr : List Bool = form_if cow_form s.lbr in
-    let from_lbr : List Bool = of_lbr ++ from_regs_user in
-    let of_raw : List Bool = form_if cow_form s.raw in
-    let from_raw : List Bool = of_raw ++ from_lbr in
-    let of_callchain : List Bool = form_if cow_form s.callchain in
-    let from_callchain : List Bool = of_callchain ++ from_raw in
-    let of_values : List Bool = form_if read_group_form s.values in
-    let from_values : List Bool = of_values ++ from_callchain in
-    let up : c.from_residual-in_err-raw.result ≡ Err c.in_err-raw.field-0.0 = came_up _ _ c.from_residual-in_err-raw.ensures in rw up (
-    record { same = tt; form_is = tt; refused = c.in_err-raw.ensures.refused; no_memory = λ all. c.in_err-raw.ensures.no_memory (all_front true of_raw from_lbr (all_back true of_callchain from_raw (all_back true of_values from_callchain all))) })
+    let up : c.from_residual.result ≡ Err c.in_err-trace.field-0.0 = came_up _ _ c.from_residual.ensures in rw up (
+    record { same = tt; form_is = tt; refused = c.in_err-trace.ensures.refused; no_memory = λ all. c.in_err-trace.ensures.no_memory (all_front true (trace_form (trace_of s)) (held_form (held_of s)) (halves s all)) })
 
-pub returns-in_err-lbr : goal.returns-in_err-lbr
-returns-in_err-lbr c =
+pub returns-in_err-held : goal.returns-in_err-held
+returns-in_err-held c =
     let s = c.args.self.now in
-    let of_aux : List Bool = form_if cow_form s.aux in
-    let from_aux : List Bool = of_aux in
-    let of_regs_intr : List Bool = form_if registers_form s.regs_intr in
-    let from_regs_intr : List Bool = of_regs_intr ++ from_aux in
-    let of_stack_user : List Bool = form_if cow_form s.stack_user in
-    let from_stack_user : List Bool = of_stack_user ++ from_regs_intr in
-    let of_regs_user : List Bool = form_if registers_form s.regs_user in
-    let from_regs_user : List Bool = of_regs_user ++ from_stack_user in
-    let of_lbr : List Bool = form_if cow_form s.lbr in
-    let from_lbr : List Bool = of_lbr ++ from_regs_user in
-    let of_raw : List Bool = form_if cow_form s.raw in
-    let from_raw : List Bool = of_raw ++ from_lbr in
-    let of_callchain : List Bool = form_if cow_form s.callchain in
-    let from_callchain : List Bool = of_callchain ++ from_raw in
-    let of_values : List Bool = form_if read_group_form s.values in
-    let from_values : List Bool = of_values ++ from_callchain in
-    let up : c.from_residual-in_err-lbr.result ≡ Err c.in_err-lbr.field-0.0 = came_up _ _ c.from_residual-in_err-lbr.ensures in rw up (
-    record { same = tt; form_is = tt; refused = c.in_err-lbr.ensures.refused; no_memory = λ all. c.in_err-lbr.ensures.no_memory (all_front true of_lbr from_regs_user (all_back true of_raw from_lbr (all_back true of_callchain from_raw (all_back true of_values from_callchain all)))) })
-
-pub returns-in_err-regs_user : goal.returns-in_err-regs_user
-returns-in_err-regs_user c =
-    let s = c.args.self.now in
-    let of_aux : List Bool = form_if cow_form s.aux in
-    let from_aux : List Bool = of_aux in
-    let of_regs_intr : List Bool = form_if registers_form s.regs_intr in
-    let from_regs_intr : List Bool = of_regs_intr ++ from_aux in
-    let of_stack_user : List Bool = form_if cow_form s.stack_user in
-    let from_stack_user : List Bool = of_stack_user ++ from_regs_intr in
-    let of_regs_user : List Bool = form_if registers_form s.regs_user in
-    let from_regs_user : List Bool = of_regs_user ++ from_stack_user in
-    let of_lbr : List Bool = form_if cow_form s.lbr in
-    let from_lbr : List Bool = of_lbr ++ from_regs_user in
-    let of_raw : List Bool = form_if cow_form s.raw in
-    let from_raw : List Bool = of_raw ++ from_lbr in
-    let of_callchain : List Bool = form_if cow_form s.callchain in
-    let from_callchain : List Bool = of_callchain ++ from_raw in
-    let of_values : List Bool = form_if read_group_form s.values in
-    let from_values : List Bool = of_values ++ from_callchain in
-    let up : c.from_residual-in_err-regs_user.result ≡ Err c.in_err-regs_user.field-0.0 = came_up _ _ c.from_residual-in_err-regs_user.ensures in rw up (
-    record { same = tt; form_is = tt; refused = c.in_err-regs_user.ensures.refused; no_memory = λ all. c.in_err-regs_user.ensures.no_memory (all_front true of_regs_user from_stack_user (all_back true of_lbr from_regs_user (all_back true of_raw from_lbr (all_back true of_callchain from_raw (all_back true of_values from_callchain all))))) })
-
-pub returns-in_err-stack_user : goal.returns-in_err-stack_user
-returns-in_err-stack_user c =
-    let s = c.args.self.now in
-    let of_aux : List Bool = form_if cow_form s.aux in
-    let from_aux : List Bool = of_aux in
-    let of_regs_intr : List Bool = form_if registers_form s.regs_intr in
-    let from_regs_intr : List Bool = of_regs_intr ++ from_aux in
-    let of_stack_user : List Bool = form_if cow_form s.stack_user in
-    let from_stack_user : List Bool = of_stack_user ++ from_regs_intr in
-    let of_regs_user : List Bool = form_if registers_form s.regs_user in
-    let from_regs_user : List Bool = of_regs_user ++ from_stack_user in
-    let of_lbr : List Bool = form_if cow_form s.lbr in
-    let from_lbr : List Bool = of_lbr ++ from_regs_user in
-    let of_raw : List Bool = form_if cow_form s.raw in
-    let from_raw : List Bool = of_raw ++ from_lbr in
-    let of_callchain : List Bool = form_if cow_form s.callchain in
-    let from_callchain : List Bool = of_callchain ++ from_raw in
-    let of_values : List Bool = form_if read_group_form s.values in
-    let from_values : List Bool = of_values ++ from_callchain in
-    let up : c.from_residual-in_err-stack_user.result ≡ Err c.in_err-stack_user.field-0.0 = came_up _ _ c.from_residual-in_err-stack_user.ensures in rw up (
-    record { same = tt; form_is = tt; refused = c.in_err-stack_user.ensures.refused; no_memory = λ all. c.in_err-stack_user.ensures.no_memory (all_front true of_stack_user from_regs_intr (all_back true of_regs_user from_stack_user (all_back true of_lbr from_regs_user (all_back true of_raw from_lbr (all_back true of_callchain from_raw (all_back true of_values from_callchain all)))))) })
-
-pub returns-in_err-regs_intr : goal.returns-in_err-regs_intr
-returns-in_err-regs_intr c =
-    let s = c.args.self.now in
-    let of_aux : List Bool = form_if cow_form s.aux in
-    let from_aux : List Bool = of_aux in
-    let of_regs_intr : List Bool = form_if registers_form s.regs_intr in
-    let from_regs_intr : List Bool = of_regs_intr ++ from_aux in
-    let of_stack_user : List Bool = form_if cow_form s.stack_user in
-    let from_stack_user : List Bool = of_stack_user ++ from_regs_intr in
-    let of_regs_user : List Bool = form_if registers_form s.regs_user in
-    let from_regs_user : List Bool = of_regs_user ++ from_stack_user in
-    let of_lbr : List Bool = form_if cow_form s.lbr in
-    let from_lbr : List Bool = of_lbr ++ from_regs_user in
-    let of_raw : List Bool = form_if cow_form s.raw in
-    let from_raw : List Bool = of_raw ++ from_lbr in
-    let of_callchain : List Bool = form_if cow_form s.callchain in
-    let from_callchain : List Bool = of_callchain ++ from_raw in
-    let of_values : List Bool = form_if read_group_form s.values in
-    let from_values : List Bool = of_values ++ from_callchain in
-    let up : c.from_residual-in_err-regs_intr.result ≡ Err c.in_err-regs_intr.field-0.0 = came_up _ _ c.from_residual-in_err-regs_intr.ensures in rw up (
-    record { same = tt; form_is = tt; refused = c.in_err-regs_intr.ensures.refused; no_memory = λ all. c.in_err-regs_intr.ensures.no_memory (all_front true of_regs_intr from_aux (all_back true of_stack_user from_regs_intr (all_back true of_regs_user from_stack_user (all_back true of_lbr from_regs_user (all_back true of_raw from_lbr (all_back true of_callchain from_raw (all_back true of_values from_callchain all))))))) })
-
-pub returns-in_err-aux : goal.returns-in_err-aux
-returns-in_err-aux c =
-    let s = c.args.self.now in
-    let of_aux : List Bool = form_if cow_form s.aux in
-    let from_aux : List Bool = of_aux in
-    let of_regs_intr : List Bool = form_if registers_form s.regs_intr in
-    let from_regs_intr : List Bool = of_regs_intr ++ from_aux in
-    let of_stack_user : List Bool = form_if cow_form s.stack_user in
-    let from_stack_user : List Bool = of_stack_user ++ from_regs_intr in
-    let of_regs_user : List Bool = form_if registers_form s.regs_user in
-    let from_regs_user : List Bool = of_regs_user ++ from_stack_user in
-    let of_lbr : List Bool = form_if cow_form s.lbr in
-    let from_lbr : List Bool = of_lbr ++ from_regs_user in
-    let of_raw : List Bool = form_if cow_form s.raw in
-    let from_raw : List Bool = of_raw ++ from_lbr in
-    let of_callchain : List Bool = form_if cow_form s.callchain in
-    let from_callchain : List Bool = of_callchain ++ from_raw in
-    let of_values : List Bool = form_if read_group_form s.values in
-    let from_values : List Bool = of_values ++ from_callchain in
-    let up : c.from_residual-in_err-aux.result ≡ Err c.in_err-aux.field-0.0 = came_up _ _ c.from_residual-in_err-aux.ensures in rw up (
-    record { same = tt; form_is = tt; refused = c.in_err-aux.ensures.refused; no_memory = λ all. c.in_err-aux.ensures.no_memory (all_back true of_regs_intr from_aux (all_back true of_stack_user from_regs_intr (all_back true of_regs_user from_stack_user (all_back true of_lbr from_regs_user (all_back true of_raw from_lbr (all_back true of_callchain from_raw (all_back true of_values from_callchain all))))))) })
+    let up : c.from_residual-in_err-held.result ≡ Err c.in_err-held.field-0.0 = came_up _ _ c.from_residual-in_err-held.ensures in rw up (
+    record { same = tt; form_is = tt; refused = c.in_err-held.ensures.refused; no_memory = λ all. c.in_err-held.ensures.no_memory (all_back true (trace_form (trace_of s)) (held_form (held_of s)) (halves s all)) })
 
 pub returns : goal.returns
 returns c =
+    let trace = c.in_ok-trace.ensures.same in
+    let held = c.in_ok-held.ensures.same in
     record {
-      same = rw (c.in_ok-values.ensures.same, c.in_ok-callchain.ensures.same, c.in_ok-raw.ensures.same, c.in_ok-lbr.ensures.same, c.in_ok-regs_user.ensures.same, c.in_ok-stack_user.ensures.same, c.in_ok-regs_intr.ensures.same, c.in_ok-aux.ensures.same) refl;
-      form_is = rw (c.in_ok-values.ensures.form_is, c.in_ok-callchain.ensures.form_is, c.in_ok-raw.ensures.form_is, c.in_ok-lbr.ensures.form_is, c.in_ok-regs_user.ensures.form_is, c.in_ok-stack_user.ensures.form_is, c.in_ok-regs_intr.ensures.form_is, c.in_ok-aux.ensures.form_is) refl;
+      same = rw (ap (λ (t : TraceValue). t.values) trace, ap (λ (t : TraceValue). t.callchain) trace, ap (λ (t : TraceValue). t.raw) trace, ap (λ (t : TraceValue). t.lbr) trace, ap (λ (h : HeldValue). h.regs_user) held, ap (λ (h : HeldValue). h.stack_user) held, ap (λ (h : HeldValue). h.regs_intr) held, ap (λ (h : HeldValue). h.aux) held) refl;
+      form_is = forms_stay c.in_ok-trace.trace c.in_ok-held.held c.args.self.now c.in_ok-trace.ensures.form_is c.in_ok-held.ensures.form_is;
       refused = tt;
       no_memory = λ all. refl;
     }
