@@ -1,19 +1,22 @@
 -- Fields that are there by flags of the sample type, as calls one behind another read them.
-use Rattle.std.proofs.Common.{◌≡◌, ℕ, ◌^◌, ◌==◌, List, [], ◌∷◌, Bool, sym, ◌∙◌, ap}
-use Rattle.std.specs.Prelude.{Result, Ok, Err, Option}
+use Rattle.std.proofs.Common.{◌≡◌, ℕ, ◌^◌, ◌==◌, List, [], ◌∷◌, Bool, true, false, refl, sym, ◌∙◌, ap}
+use Rattle.std.specs.Prelude.{Result, Ok, Err, Option, Some, None, option_map, IfSome}
 use Rattle.std.specs.Int.RustNames.{bit_and}
 use Rattle.perf_base.specs.Configuration.{Configuration}
 use Rattle.perf_base.specs.Configured.{configuration_of}
 use Rattle.perf_base.specs.Layout.{Parts}
 use Rattle.perf_base.specs.Order.{Order}
 use Rattle.perf_base.specs.Table.{present_if}
-use Rattle.perf_base.specs.Took.{Took, quit}
+use Rattle.perf_base.specs.Took.{Took, took, quit}
+use Rattle.perf_base.proofs.Took.{then_take}
 use Rattle.perf_base.specs.declared.error.ErrorKind.{ErrorKind}
 use Rattle.perf_buffers.specs.Buffer.{Source}
 use Rattle.perf_reader.specs.Calls.{Call}
-use Rattle.perf_reader.specs.TableRuns.{ReadsField, before}
+use Rattle.perf_reader.specs.Meaning.{Meaning, meaning}
+use Rattle.perf_reader.specs.TableRuns.{ReadsBorrowed, ReadsField, before}
 use Rattle.perf_reader.specs.declared.reader.Reader.{Reader}
 use Rattle.perf_reader.proofs.Asked.{Row, field_behind, field_stops}
+use Rattle.perf_reader.proofs.TableRuns.{field_there, field_absent}
 use Rattle.perf_words.specs.Bits.{has_bit}
 use Rattle.perf_words.proofs.Contained.{contains_bit}
 use Rattle.perf_sample_types.specs.Sample.{has_one}
@@ -24,6 +27,50 @@ pub flag_asked : (bit : ℕ) {word type : ℕ} → word ≡ type → has_one typ
 flag_asked bit {word} {type} asked = only_flag (has_bit type bit) ∙ sym (contains_bit word bit ∙ ap (λ w. has_bit w bit) asked)
 
 module _ {I E : Type 0} {source : I → Source} {order : E → Order} where
+  -- ---- one field
+
+  -- it is absent
+  pub field_kept_out : {X A : Type 0} {value : X → A} {borrowed : X → Type 0} {a : Reader I E} (present : Bool) (p : Configuration → Parts A) → present ≡ false →
+      Call {X = Option X} source order (ReadsField (λ s. present_if present (p s)) (option_map value) (λ x. IfSome x borrowed)) a (Ok None) a
+  field_kept_out {a = a} present p absent =
+      let old : Meaning = meaning source order a in record {
+        config = refl;
+        whole = refl;
+        told = λ h. h;
+        answer = λ h. (field_absent old.order present (p old.settings) old.source.left old.reads absent, λ w. tt);
+        keeps = λ start k. k;
+      }
+
+  -- it is there, and was read
+  pub field_read : {X A : Type 0} {value : X → A} {borrowed : X → Type 0} {a b : Reader I E} {x : X} (present : Bool) (p : Configuration → Parts A) → present ≡ true →
+      Call source order (ReadsBorrowed p value borrowed) a (Ok x) b →
+      Call {X = Option X} source order (ReadsField (λ s. present_if present (p s)) (option_map value) (λ x. IfSome x borrowed)) a (Ok (Some x)) b
+  field_read {a = a} present p there first =
+      let old : Meaning = meaning source order a in record {
+        config = first.config;
+        whole = first.whole;
+        told = first.told;
+        answer = λ h.
+            (field_there old.order present (p old.settings) old.source.left old.reads there ∙ ap (then_take (λ v left m. took (Some v) left m)) (first.answer h).0, (first.answer h).1);
+        keeps = first.keeps;
+      }
+
+  -- it is there, and was refused
+  pub field_refused : {X A : Type 0} {value : X → A} {borrowed : X → Type 0} {a b : Reader I E} {e : ErrorKind} (present : Bool) (p : Configuration → Parts A) → present ≡ true →
+      Call source order (ReadsBorrowed p value borrowed) a (Err e) b →
+      Call {X = Option X} source order (ReadsField (λ s. present_if present (p s)) (option_map value) (λ x. IfSome x borrowed)) a (Err e) b
+  field_refused {a = a} present p there first =
+      let old : Meaning = meaning source order a in record {
+        config = first.config;
+        whole = first.whole;
+        told = first.told;
+        answer = λ h.
+            ((λ kind. field_there old.order present (p old.settings) old.source.left old.reads there ∙ ap (then_take (λ v left m. took (Some v) left m)) ((first.answer h).0 kind)), λ w. tt);
+        keeps = first.keeps;
+      }
+
+  -- ---- fields one behind another
+
   -- one that was read, there or absent; the sample type stays for those behind it
   pub flags_behind : {X Y A : Type 0} {value : X → Option A} {borrowed : X → Type 0} {a b c : Reader I E} {x : X} {seen : Result Y ErrorKind} {type : ℕ}
       (view : Y → List (Option A)) (f : Took (List (Option A)) → Took (List (Option A))) (flags : List ℕ) (present : Bool) (p : Configuration → Parts A) (fields : Configuration → List (Option (Parts A))) →

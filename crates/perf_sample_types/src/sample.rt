@@ -372,8 +372,8 @@ impl<'a> Sample<'a> {
     {
         let memory = self.memory.clone(alloc)?;
         let costs = self.costs.clone(alloc)?;
-        let state = self.state.clone(alloc)?;
         let counts = self.counts.clone(alloc)?;
+        let state = self.state.clone(alloc)?;
         Ok(Sample {
             moment: self.moment.copied(),
             counts,
