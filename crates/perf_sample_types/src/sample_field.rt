@@ -56,8 +56,8 @@ pub(crate) fn read_field_if<'p, I: Input<'p>, E: Endian, T: ReadField<'p, I>>(
     }
 }
 
-// A field where the sample type has its flag.
-#[inline]
+// A field where the sample type has its flag. It is inlined, so that it costs no more than that test.
+#[inline(always)]
 pub(crate) fn read_flagged<'p, I: Input<'p>, E: Endian, T: ReadField<'p, I>>(
     reader: &mut Reader<I, E>,
     flags: SampleFlags,

@@ -1,4 +1,3 @@
-use Rattle.std.proofs.Common.{◌≡◌}
 use Rattle.perf_sample_types.proofs.sample_field.read_flagged.Goals as goal
 
 pub returns : goal.returns
