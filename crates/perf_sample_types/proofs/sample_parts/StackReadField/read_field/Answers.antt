@@ -48,8 +48,8 @@ returns-then-used-size g c =
 
 pub returns : goal.returns
 returns g c =
-    let fits : nat_le (unwrap_or c.in_ok-read_u64_if.field-0 0) c.in_ok-size.size ≡ true = grind arith steps 200000 in
-    let kept : take (unwrap_or c.in_ok-read_u64_if.field-0 0) (cow_items c.in_ok-bytes.bytes) ≡ cow_items c.truncate.new.self = grind arith steps 200000 in
+    let fits : nat_le (unwrap_or c.in_ok-read_u64_if.field-0 0) c.in_ok-size.size ≡ true = grind arith steps 400000 in
+    let kept : take (unwrap_or c.in_ok-read_u64_if.field-0 0) (cow_items c.in_ok-bytes.bytes) ≡ cow_items c.truncate.new.self = grind arith steps 400000 in
     record {
       call = loan _ _ _ (λ t w. subst IsTrue (sym c.truncate.ensures.form) (c.in_ok-bytes.ensures.whole (subst IsTrue (sym c.in_ok-size.ensures.call.whole) w))) (
           part_behind _ _ _ c.in_ok-size.ensures.call (
