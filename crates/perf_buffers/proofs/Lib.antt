@@ -1,3 +1,5 @@
 pub mod Taking
 pub mod Options
 pub mod Hints
+pub mod Chunks
+pub mod Behind
