@@ -34,7 +34,7 @@ returns-in-Err-append g c =
     let none = c.in-Ok.ensures in record {
       stays = e.stays;
       can_fail = e.can_fail;
-      beforehand = λ told made kind. let room = c.first_room-room.ensures ∙ made_room c.args.hinted c.args.len made in absurd (e.room (omega (arith, none.len, none.exact, room)) kind);
+      beforehand = λ told made kind. let all = made_room c.args.hinted c.args.len made in absurd (e.room (omega (arith, none.len, none.exact, c.first_room-room.ensures, all)) kind);
       count = tt;
       ok = λ told. tt;
       err = e.err;
