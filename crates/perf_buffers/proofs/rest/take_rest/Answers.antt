@@ -1,5 +1,5 @@
 use Rattle.std.proofs.Common.{length, [], ◌≡◌, ◌++◌, ◌∙◌, sym, refl, None, Some, take, drop, ◌<◌, ap, arith}
-use Rattle.std.proofs.lemmas.List.{take-append-drop}
+use Rattle.std.proofs.lemmas.List.{nil_from_length, take-append-drop}
 use Rattle.std.specs.Prelude.{IsTrue}
 use Rattle.perf_base.specs.Errors.{kind_of}
 use Rattle.perf_buffers.specs.Buffer.{Source}
@@ -32,6 +32,25 @@ returns-in-Err g c =
       nothing = λ told none. (e.memory, tt);
       ok = λ told. tt;
       err = e.err;
+    }
+
+pub returns-in-Some-eq0 : goal.returns-in-Some-eq0
+returns-in-Some-eq0 g c =
+    let mid : Source = g.B.ParseBuf.source c.lend_first.new.buf in
+    let l = c.in-Ok-Some.ensures in record {
+      stays = l.stays;
+      can_fail = tt;
+      whole = λ w. refl;
+      whole_memory = λ w. tt;
+      nothing = λ told none. (tt, refl);
+      ok = λ told.
+          let first = some_matches _ _ c.in-Ok-Some.field-0 c.in-Ok-Some.first c.in-Ok-Some.field-0-is (l.ok told) in
+          let exact = some_holds _ c.remaining_hint.result c.in-Some-eq0.field-0 c.in-Some-eq0.is c.remaining_hint.ensures.exact in
+          let ended : mid.left ≡ [] = nil_from_length mid.left (sym (exact (l.stays.3 told)) ∙ c.in-Some-eq0.field-0-test) in (
+            took_all (length c.in-Ok-Some.first.now) c.in-Ok-Some.first.now _ _ first.1 first.0.1 ended,
+            ended,
+          );
+      err = λ told. tt;
     }
 
 pub returns-in-Ok-true : goal.returns-in-Ok-true
