@@ -1,12 +1,13 @@
 -- A call behind others, and what its answer says of all of them.
-use Rattle.std.proofs.Common.{◌≡◌, ℕ, ◌+◌, ◌-◌, ◌<◌, ◌≤◌, List, [], ◌++◌, length, take, drop, sym, ◌∙◌, ap, arith, length-drop, refl}
+use Rattle.std.proofs.Common.{◌≡◌, ℕ, ◌-◌, ◌<◌, ◌≤◌, List, length, drop, ◌∙◌, ap, arith, length-drop, refl}
 use Rattle.std.proofs.lemmas.Bool.Decides.{nat_tests}
-use Rattle.std.specs.Prelude.{Option, None, Some, Result, Ok, Err, IfErr, Bool, true, false, is_some}
+use Rattle.std.specs.Prelude.{Option, None, Some, Result, Ok, Err, IfErr, Bool, true, false, is_some, nat_lt}
 use Rattle.perf_base.specs.declared.error.ErrorKind.{ErrorKind}
 use Rattle.perf_base.specs.declared.error.ErrorKind.TheVariants.{Eof, InvalidRecord, UnsupportedConfig, UnsupportedData, External, OutOfMemory}
-use Rattle.perf_buffers.specs.Buffer.{Source}
+use Rattle.perf_buffers.specs.Buffer.{Source, faults_after}
 use Rattle.perf_buffers.specs.Room.{falls_short, is_made_beforehand, makes_all_room, room_made}
-use Rattle.perf_buffers.specs.Taking.{Moves, MovesWithin, Takes, FailsToTake, FailsToKeep, FailsInRest, consumed}
+use Rattle.perf_buffers.specs.Taking.{Moves, MovesWithin, Takes, FailsToTake, FailsToKeep, FailsInRest, FailsBehind, CanFail, consumed}
+use Rattle.perf_buffers.proofs.Chunks.{within_none}
 use Rattle.perf_buffers.proofs.Taking.{takes_moves, moves_more}
 
 -- some bytes were taken, and then fewer than were asked for
@@ -111,3 +112,31 @@ all_room (Some left) len made = refl
 pub made_room : (hinted : Bool) (len : ℕ) → makes_all_room hinted len ≡ true → room_made hinted len ≡ len
 made_room true len made = refl
 made_room false len made = grind (arith, nat_tests)
+
+-- a hint that is the number of bytes does not fall short of fewer
+pub enough : (left len : ℕ) → len ≤ left → nat_lt left len ≡ true → ⊥
+enough left len there short = grind (arith, nat_tests)
+
+pub fewer : (left len : ℕ) → nat_lt left len ≡ true → left < len
+fewer left len short = grind (arith, nat_tests)
+
+-- the bytes behind a place of one's own
+abbrev pub own : List ℕ → ℕ → Source
+own bytes place = record { left = drop place bytes; told = true; whole = false; can_fault = false; faults = None }
+
+-- what a refused copy of them is for a read
+pub record RefusedBehind (n : ℕ) (k : ErrorKind) (bytes : List ℕ) (old new : ℕ) : Type 0 where
+  pub faults : None ≡ faults_after None (Some k)
+  pub can_fail : CanFail (own bytes old) (Some k)
+  pub keeps : FailsToKeep (own bytes old) n k (own bytes new)
+  pub nothing : k ≡ OutOfMemory → drop new bytes ≡ drop old bytes
+
+pub refused_behind : (n : ℕ) (k : ErrorKind) (bytes : List ℕ) (old new : ℕ) → FailsBehind k n bytes old new → RefusedBehind n k bytes old new
+refused_behind n Eof bytes old new q = record { faults = refl; can_fail = tt; keeps = q; nothing = λ k. cc }
+refused_behind n External bytes old new q = absurd q
+refused_behind n InvalidRecord bytes old new q = absurd q
+refused_behind n UnsupportedConfig bytes old new q = absurd q
+refused_behind n UnsupportedData bytes old new q = absurd q
+refused_behind n OutOfMemory bytes old new q =
+    let same : drop new bytes ≡ drop old bytes = ap (λ p. drop p bytes) q in
+    record { faults = refl; can_fail = tt; keeps = within_none (own bytes old) (own bytes new) n same; nothing = λ k. same }

@@ -1,5 +1,5 @@
 -- A chunk that a buffer showed or refused, and what follows for the call that asked for it.
-use Rattle.std.proofs.Common.{◌≡◌, ℕ, ◌+◌, ◌-◌, ◌<◌, ◌≤◌, List, [], length, take, drop, sym, ◌∙◌, ap, subst, arith, refl, rules}
+use Rattle.std.proofs.Common.{◌≡◌, ℕ, ◌+◌, ◌<◌, ◌≤◌, List, [], length, take, drop, sym, ◌∙◌, ap, subst, arith, refl, rules}
 use Rattle.std.proofs.lemmas.List.{length-take, length-take-le, take-take, take-append-le}
 use denote.Enum.Bare.{sameb, same_true, same_false}
 use Rattle.std.specs.Prelude.{◌≢◌, Option, None, Some, Result, Ok, Err, IsErr, IsErrAnd, IsTrue, IfOk, IsOk, is_ok, Bool, true, false, if◌then◌else◌, ◌++◌}

@@ -1,4 +1,4 @@
-use Rattle.std.proofs.Common.{◌++◌, ◌∙◌, ap, take, refl, arith}
+use Rattle.std.proofs.Common.{List, ℕ, ◌++◌, ◌∙◌, ap, take, refl, arith}
 use Rattle.perf_buffers.specs.Buffer.{Source}
 use Rattle.perf_buffers.proofs.Behind.{made_room}
 use Rattle.perf_buffers.proofs.Chunks.{memory_refused}
@@ -24,7 +24,7 @@ returns-in-Ok-append g c =
       can_fail = tt;
       beforehand = λ told made. tt;
       count = omega (arith, e.count, none.len);
-      ok = λ told. let x = e.ok told in (x.0, x.1 ∙ ap (λ xs. xs ++ take c.args.len (g.B.ParseBuf.source c.args.buf.now).left) none.items);
+      ok = λ told. let x = e.ok told in (x.0, ◌∙◌ {A = List ℕ} x.1 (ap (λ (xs : List ℕ). xs ++ take c.args.len (g.B.ParseBuf.source c.args.buf.now).left) none.items));
       err = λ told. tt;
     }
 

@@ -1,4 +1,4 @@
-use Rattle.std.proofs.Common.{◌≡◌, ◌∙◌, sym, subst, Some, refl}
+use Rattle.std.proofs.Common.{◌∙◌, sym, subst, Some, refl}
 use Rattle.perf_buffers.specs.Buffer.{Source, Stays}
 use Rattle.perf_buffers.specs.Taking.{CanFail, FailsToKeep}
 use Rattle.perf_buffers.proofs.cut.cut_slowly.Goals as goal

@@ -1,4 +1,4 @@
-use Rattle.std.proofs.Common.{◌≡◌, ◌∙◌, sym, subst, Some, arith}
+use Rattle.std.proofs.Common.{◌∙◌, sym, subst, Some, arith}
 use Rattle.perf_base.specs.Errors.{kind_of}
 use Rattle.perf_buffers.specs.Buffer.{Source, Stays}
 use Rattle.perf_buffers.specs.Taking.{CanFail, FailsToKeep}

@@ -1,4 +1,4 @@
-use Rattle.std.proofs.Common.{◌≡◌, ◌-◌, ◌≤◌, Err, None, Some, refl, arith, sym}
+use Rattle.std.proofs.Common.{◌≡◌, Err, None, Some, refl, arith, sym}
 use Rattle.perf_base.specs.Errors.{kind_of}
 use Rattle.perf_buffers.specs.Buffer.{Source}
 use Rattle.perf_buffers.proofs.Behind.{fails_on}

@@ -1,5 +1,4 @@
-use Rattle.std.proofs.Common.{ap, ◌≡◌, ◌≤◌, length, arith, ◌∙◌, refl, Ok, sym, subst}
-use Rattle.std.specs.Prelude.{IsTrue}
+use Rattle.std.proofs.Common.{ap, length, arith, ◌∙◌, refl, Ok, sym}
 use Rattle.perf_buffers.specs.Buffer.{Source}
 use Rattle.perf_buffers.specs.declared.parsebuf.ParseBufChunk.TheVariants.{Temporary, External}
 use Rattle.perf_buffers.proofs.Chunks.{refused_chunk, shown_chunk, taken_chunk, ended_chunk, is_eof, is_not_eof}

@@ -1,7 +1,6 @@
-use Rattle.std.proofs.Common.{◌≡◌, ◌<◌, ap, sym, refl, ◌∙◌, length, arith, take, List, ℕ}
+use Rattle.std.proofs.Common.{◌<◌, ap, sym, refl, ◌∙◌, length, arith}
 use Rattle.std.proofs.lemmas.Bool.Decides.{nat_tests}
 use Rattle.std.proofs.lemmas.List.{take_all}
-use Rattle.std.specs.Prelude.{◌≢◌}
 use Rattle.perf_buffers.proofs.cursor.ParseBufCursorParseBuf.chunk.Goals as goal
 
 pub returns-in-Some : goal.returns-in-Some

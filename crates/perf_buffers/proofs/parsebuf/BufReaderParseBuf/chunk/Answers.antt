@@ -1,9 +1,9 @@
-use Rattle.std.proofs.Common.{◌≡◌, Bool, true, false, List, ℕ, Option, None, Some, length, take, refl, ap, sym, subst, ◌∙◌, arith}
+use Rattle.std.proofs.Common.{Bool, true, false, List, ℕ, Option, None, Some, length, refl, ap, sym, subst, ◌∙◌}
 use Rattle.std.proofs.lemmas.List.{take_at}
 use Rattle.std.specs.Prelude.{if◌then◌else◌, IsTrue}
 use Rattle.std.specs.Io.{StartsWith}
 use Rattle.std.specs.Io.KnownBytes.{prepend_known}
-use Rattle.perf_buffers.specs.Words.{reader_remaining, reader_buffer, known, is_known}
+use Rattle.perf_buffers.specs.Words.{reader_remaining, known, is_known}
 use Rattle.perf_buffers.proofs.parsebuf.BufReaderParseBuf.chunk.Goals as goal
 
 -- bytes that were read ahead are the first of those that are known

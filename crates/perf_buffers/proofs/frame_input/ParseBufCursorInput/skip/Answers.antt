@@ -1,0 +1,11 @@
+use Rattle.perf_buffers.proofs.frame_input.ParseBufCursorInput.skip.Goals as goal
+
+pub returns-in-Lent : goal.returns-in-Lent
+returns-in-Lent c =
+    let e = c.skip.ensures in rw c.in-Lent.is (record {
+      stays = e.stays;
+      can_fail = e.can_fail;
+      memory = e.memory;
+      ok = e.ok;
+      err = e.err;
+    })
