@@ -4,3 +4,6 @@ use Rattle.perf_base.proofs.error.ParseError.custom.Goals as goal
 
 pub returns-clause-whole : goal.returns-clause-whole
 returns-clause-whole c = λ h. search (rules, cut_to-whole 120 c.args.message.now h)
+
+pub returns-clause-cut : goal.returns-clause-cut
+returns-clause-cut c = search rules steps 300000
