@@ -77,14 +77,25 @@ def item_start(lines, at):
 
 
 def owner_of(header):
-    """What the folder of an impl's proofs is called: its type, and behind that its trait."""
+    """What the folder of an impl's proofs is called: its type, and behind that its trait and what
+    the trait is of."""
     header = re.sub(r"^impl(<.*?>)? (?=[\w&\[])", "", header)
     trait, is_trait, of = header.rpartition(" for ")
-    of = re.sub(r"'\w+|&|\s", "", of)
-    name = re.match(r"\[?(\w+)", of)
+    of = re.sub(r"'\w+|\s", "", of)
+    name = re.match(r"&?\[?(\w+)", of)
     name = name[1] if name else ""
-    name = "Any" if len(name) == 1 else f"Array{name}" if of.startswith("[") else name
-    return name + (re.match(r"[\w:]*", trait)[0].split("::")[-1] if is_trait else "")
+    if of.startswith("&"):
+        name = f"RefSlice{name}" if of.startswith("&[") else "Ref"
+    else:
+        name = "Any" if len(name) == 1 else f"Array{name}" if of.startswith("[") else name
+    return name + (trait_of(trait) if is_trait else "")
+
+
+def trait_of(trait):
+    """A trait's part of such a name. A parameter, which is one letter, is none."""
+    name, _, of = re.sub(r"'\w+,?\s*", "", trait).partition("<")
+    of = re.match(r"&?[\w:]*", of)[0].replace("::", "").replace("&", "Ref")
+    return name.split("::")[-1] + (of if len(of) > 1 else "")
 
 
 def read_edit(edit):
