@@ -1,6 +1,7 @@
 -- Parts one behind another, and calls that read them so.
 use Rattle.std.proofs.Common.{◌≡◌, ℕ, List, Bool, true, false, refl, sym, ◌∙◌, ap, subst, arith}
-use Rattle.std.specs.Prelude.{Result, Ok, Err, Some, None, IsTrue, IfOk}
+use Rattle.std.specs.Prelude.{Result, Ok, Err, Some, None, IsTrue, IfOk, IsErr}
+use Rattle.std.specs.Result.{IsErrAnd}
 use Rattle.perf_base.specs.Configuration.{Configuration}
 use Rattle.perf_base.specs.Configured.{configuration_of, endian_of}
 use Rattle.perf_base.specs.Layout.{Answer, Shape, padding, Parts, done, part, check, ◌>>=◌}
@@ -45,6 +46,11 @@ places_behind o p f bytes n =
     ∙ ap (then_take (λ v left m. took_by_places o (f v) left m)) (sym (places_took o p bytes n))
 
 -- ---- calls
+
+-- an error that a `?` hands on as it is
+pub came_up : {X E : Type 0} (r : Result X E) (e : E) → IsErr r × IsErrAnd r (λ x. x ≡ e) → r ≡ Err e
+came_up (Ok x) e h = cc
+came_up (Err x) e h = ap Err h.1
 
 module _ {I E : Type 0} {source : I → Source} {order : E → Order} where
   -- a call that was answered, and one of the parts that follow from its value

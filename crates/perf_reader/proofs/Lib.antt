@@ -1,6 +1,7 @@
 pub mod InRow
 pub mod Paying
 pub mod Steps
+mod Single
 pub mod Trimming
 pub mod Behind
 pub mod TableRuns

@@ -1,4 +1,5 @@
 pub mod Blocks
+mod Copies
 pub mod Entries
 pub mod Flags
 mod Lacking

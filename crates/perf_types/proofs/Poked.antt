@@ -1,7 +1,7 @@
 -- How many bytes of code a TEXT_POKE record has: the least number that is at least the sum of both lengths and is four
--- modulo eight.
-use Rattle.std.proofs.Common.{◌≡◌, ◌≤◌, ℕ, ◌%◌, arith}
-use Rattle.perf_types.specs.TextPoke.{poked_len}
+-- modulo eight. And its value and its form, by those of its byte strings.
+use Rattle.std.proofs.Common.{◌≡◌, ◌≤◌, ℕ, ◌%◌, List, Bool, ◌++◌, arith}
+use Rattle.perf_types.specs.TextPoke.{TextPokeValue, poked_len}
 
 pub poked_len-enough : (n : ℕ) → n ≤ poked_len n
 poked_len-enough n = omega arith
@@ -11,3 +11,10 @@ poked_len-four n = omega arith
 
 pub poked_len-least : (n m : ℕ) → n ≤ m → m % 8 ≡ 4 → poked_len n ≤ m
 poked_len-least n m enough four = omega arith
+
+pub both_parts : (addr : ℕ) {o n p m : List ℕ} → o ≡ p → n ≡ m →
+    ◌≡◌ {A = TextPokeValue} (record { addr = addr; old_bytes = o; new_bytes = n }) (record { addr = addr; old_bytes = p; new_bytes = m })
+both_parts addr old new = cc
+
+pub both_forms : {o n p m : List Bool} → o ≡ p → n ≡ m → o ++ n ≡ p ++ m
+both_forms old new = cc

@@ -5,6 +5,7 @@ ghost use Rattle.std.specs.Prelude.{◌≡◌, option_map};
 ghost use Rattle.perf_types.specs.Mmap.{mmap, mmap_value, IsBorrowedMmap, mmap_form};
 ghost use Rattle.perf_types.specs.Words.{ReadsLent, cow_items, text_of, IsClone, IsOwnedCopy};
 
+use crate::mmap2::Place;
 use crate::text::text;
 use perf_base::cow::CowSlice;
 use perf_base::endian::Endian;
@@ -88,13 +89,15 @@ impl Meant for Mmap<'_> {
 impl<'p, I: Input<'p>> ReadFrom<'p, I> for Mmap<'p> {
     #[inline]
     fn read<E: Endian>(reader: &mut Reader<I, E>) -> ReadResult<Self> {
+        let place = Place::read(reader)?;
+        let filename = reader.read_rest_trim_nul()?;
         Ok(Mmap {
-            pid: reader.read_u32()?,
-            tid: reader.read_u32()?,
-            addr: reader.read_u64()?,
-            len: reader.read_u64()?,
-            pgoff: reader.read_u64()?,
-            filename: reader.read_rest_trim_nul()?,
+            pid: place.pid,
+            tid: place.tid,
+            addr: place.addr,
+            len: place.len,
+            pgoff: place.pgoff,
+            filename,
         })
     }
 }

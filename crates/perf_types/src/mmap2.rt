@@ -386,19 +386,19 @@ impl<'p, I: Input<'p>> ReadFrom<'p, I> for MmapDetail {
 
 // The task, and what it mapped where.
 #[derive(Copy, Clone)]
-struct Place {
-    pid: u32,
-    tid: u32,
-    addr: u64,
-    len: u64,
-    pgoff: u64,
+pub(crate) struct Place {
+    pub(crate) pid: u32,
+    pub(crate) tid: u32,
+    pub(crate) addr: u64,
+    pub(crate) len: u64,
+    pub(crate) pgoff: u64,
 }
 
 impl Place {
     ghost use Rattle.perf_types.specs.Mmap2.{place};
 
     #[inline]
-    fn read<'p, I: Input<'p>, E: Endian>(reader: &mut Reader<I, E>) -> ReadResult<Place>
+    pub(crate) fn read<'p, I: Input<'p>, E: Endian>(reader: &mut Reader<I, E>) -> ReadResult<Place>
         ensures memory { TakesNoMemory (kinds result) }
         ensures call { Call I.source E.order (Reads (λ _. place) (λ p. p))
             reader.old (kinds result) reader.new }

@@ -1,17 +1,18 @@
-use Rattle.std.proofs.Common.{◌≡◌, Err, arith}
+use Rattle.std.proofs.Common.{◌≡◌, Err}
+use Rattle.perf_reader.proofs.Behind.{came_up}
 use Rattle.perf_reader.proofs.Attributes.{front_stops, event_stops, wakeup_stops, registers_stop, aux_stops, last_stops, tail_stops}
 use Rattle.perf_reader.proofs.Attributes.{front_read, event_read, wakeup_read, registers_read, aux_read, last_read, tail_read}
 use Rattle.perf_reader.proofs.attribute.read_groups.Goals as goal
 
 pub returns-in_err-front-clause-call : goal.returns-in_err-front-clause-call
 returns-in_err-front-clause-call g c =
-    let up : c.from_residual.result ≡ Err c.in_err-front.field-0.0 = grind arith in rw up (
+    let up : c.from_residual.result ≡ Err c.in_err-front.field-0.0 = came_up _ _ c.from_residual.ensures in rw up (
     front_stops c.in_err-front.ensures.call)
 
 pub returns-in_err-event-clause-call : goal.returns-in_err-event-clause-call
 returns-in_err-event-clause-call g c =
     let f = c.in_ok-front.front in
-    let up : c.from_residual-in_err-event.result ≡ Err c.in_err-event.field-0.0 = grind arith in rw up (
+    let up : c.from_residual-in_err-event.result ≡ Err c.in_err-event.field-0.0 = came_up _ _ c.from_residual-in_err-event.ensures in rw up (
     front_read f c.in_ok-front.ensures.call (
     event_stops f c.in_err-event.ensures.call))
 
@@ -19,7 +20,7 @@ pub returns-in_err-wakeup-clause-call : goal.returns-in_err-wakeup-clause-call
 returns-in_err-wakeup-clause-call g c =
     let f = c.in_ok-front.front in
     let v = c.in_ok-event.event in
-    let up : c.from_residual-in_err-wakeup.result ≡ Err c.in_err-wakeup.field-0.0 = grind arith in rw up (
+    let up : c.from_residual-in_err-wakeup.result ≡ Err c.in_err-wakeup.field-0.0 = came_up _ _ c.from_residual-in_err-wakeup.ensures in rw up (
     front_read f c.in_ok-front.ensures.call (
     event_read f v c.in_ok-event.ensures.call (
     wakeup_stops f v c.in_err-wakeup.ensures.call)))
@@ -29,7 +30,7 @@ returns-in_err-registers-clause-call g c =
     let f = c.in_ok-front.front in
     let v = c.in_ok-event.event in
     let w = c.in_ok-wakeup.wakeup in
-    let up : c.from_residual-in_err-registers.result ≡ Err c.in_err-registers.field-0.0 = grind arith in rw up (
+    let up : c.from_residual-in_err-registers.result ≡ Err c.in_err-registers.field-0.0 = came_up _ _ c.from_residual-in_err-registers.ensures in rw up (
     front_read f c.in_ok-front.ensures.call (
     event_read f v c.in_ok-event.ensures.call (
     wakeup_read f v w c.in_ok-wakeup.ensures.call (
@@ -41,7 +42,7 @@ returns-in_err-aux-clause-call g c =
     let v = c.in_ok-event.event in
     let w = c.in_ok-wakeup.wakeup in
     let r = c.in_ok-registers.registers in
-    let up : c.from_residual-in_err-aux.result ≡ Err c.in_err-aux.field-0.0 = grind arith in rw up (
+    let up : c.from_residual-in_err-aux.result ≡ Err c.in_err-aux.field-0.0 = came_up _ _ c.from_residual-in_err-aux.ensures in rw up (
     front_read f c.in_ok-front.ensures.call (
     event_read f v c.in_ok-event.ensures.call (
     wakeup_read f v w c.in_ok-wakeup.ensures.call (
@@ -55,7 +56,7 @@ returns-in_err-last-clause-call g c =
     let w = c.in_ok-wakeup.wakeup in
     let r = c.in_ok-registers.registers in
     let x = c.in_ok-aux.aux in
-    let up : c.from_residual-in_err-last.result ≡ Err c.in_err-last.field-0.0 = grind arith in rw up (
+    let up : c.from_residual-in_err-last.result ≡ Err c.in_err-last.field-0.0 = came_up _ _ c.from_residual-in_err-last.ensures in rw up (
     front_read f c.in_ok-front.ensures.call (
     event_read f v c.in_ok-event.ensures.call (
     wakeup_read f v w c.in_ok-wakeup.ensures.call (
@@ -71,7 +72,7 @@ returns-in_err-read_zero_tail-clause-call g c =
     let r = c.in_ok-registers.registers in
     let x = c.in_ok-aux.aux in
     let y = c.in_ok-last.last in
-    let up : c.from_residual-in_err-read_zero_tail.result ≡ Err c.in_err-read_zero_tail.field-0.0 = grind arith in rw up (
+    let up : c.from_residual-in_err-read_zero_tail.result ≡ Err c.in_err-read_zero_tail.field-0.0 = came_up _ _ c.from_residual-in_err-read_zero_tail.ensures in rw up (
     front_read f c.in_ok-front.ensures.call (
     event_read f v c.in_ok-event.ensures.call (
     wakeup_read f v w c.in_ok-wakeup.ensures.call (
@@ -96,3 +97,34 @@ returns-clause-call g c =
     aux_read f v w r x c.in_ok-aux.ensures.call (
     last_read f v w r x y c.in_ok-last.ensures.call (
     tail_read f v w r x y _ c.saturating_sub.ensures c.in_ok-read_zero_tail.ensures.call)))))))
+
+pub returns-in_err-front-clause-memory : goal.returns-in_err-front-clause-memory
+returns-in_err-front-clause-memory g c =
+    let up : c.from_residual.result ≡ Err c.in_err-front.field-0.0 = came_up _ _ c.from_residual.ensures in rw up c.in_err-front.ensures.memory
+
+pub returns-clause-memory : goal.returns-clause-memory
+returns-clause-memory g c = tt
+
+pub returns-in_err-event-clause-memory : goal.returns-in_err-event-clause-memory
+returns-in_err-event-clause-memory g c =
+    let up : c.from_residual-in_err-event.result ≡ Err c.in_err-event.field-0.0 = came_up _ _ c.from_residual-in_err-event.ensures in rw up c.in_err-event.ensures.memory
+
+pub returns-in_err-wakeup-clause-memory : goal.returns-in_err-wakeup-clause-memory
+returns-in_err-wakeup-clause-memory g c =
+    let up : c.from_residual-in_err-wakeup.result ≡ Err c.in_err-wakeup.field-0.0 = came_up _ _ c.from_residual-in_err-wakeup.ensures in rw up c.in_err-wakeup.ensures.memory
+
+pub returns-in_err-registers-clause-memory : goal.returns-in_err-registers-clause-memory
+returns-in_err-registers-clause-memory g c =
+    let up : c.from_residual-in_err-registers.result ≡ Err c.in_err-registers.field-0.0 = came_up _ _ c.from_residual-in_err-registers.ensures in rw up c.in_err-registers.ensures.memory
+
+pub returns-in_err-aux-clause-memory : goal.returns-in_err-aux-clause-memory
+returns-in_err-aux-clause-memory g c =
+    let up : c.from_residual-in_err-aux.result ≡ Err c.in_err-aux.field-0.0 = came_up _ _ c.from_residual-in_err-aux.ensures in rw up c.in_err-aux.ensures.memory
+
+pub returns-in_err-last-clause-memory : goal.returns-in_err-last-clause-memory
+returns-in_err-last-clause-memory g c =
+    let up : c.from_residual-in_err-last.result ≡ Err c.in_err-last.field-0.0 = came_up _ _ c.from_residual-in_err-last.ensures in rw up c.in_err-last.ensures.memory
+
+pub returns-in_err-read_zero_tail-clause-memory : goal.returns-in_err-read_zero_tail-clause-memory
+returns-in_err-read_zero_tail-clause-memory g c =
+    let up : c.from_residual-in_err-read_zero_tail.result ≡ Err c.in_err-read_zero_tail.field-0.0 = came_up _ _ c.from_residual-in_err-read_zero_tail.ensures in rw up c.in_err-read_zero_tail.ensures.memory

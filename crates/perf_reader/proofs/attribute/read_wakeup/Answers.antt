@@ -1,29 +1,29 @@
-use Rattle.std.proofs.Common.{◌≡◌, Err, arith}
+use Rattle.std.proofs.Common.{◌≡◌, Err}
 use Rattle.perf_base.specs.Attribute.{or_zero}
-use Rattle.perf_reader.proofs.Behind.{part_behind, part_stops, call_none}
+use Rattle.perf_reader.proofs.Behind.{part_behind, part_stops, call_none, came_up}
 use Rattle.perf_reader.proofs.attribute.read_wakeup.Goals as goal
 
 pub returns-in_err-read_u32-clause-call : goal.returns-in_err-read_u32-clause-call
 returns-in_err-read_u32-clause-call g c =
-    let up : c.from_residual.result ≡ Err c.in_err-read_u32.field-0.0 = grind arith in rw up (
+    let up : c.from_residual.result ≡ Err c.in_err-read_u32.field-0.0 = came_up _ _ c.from_residual.ensures in rw up (
     part_stops _ _ _ c.in_err-read_u32.ensures.call)
 
 pub returns-in_err-read_u32-2-clause-call : goal.returns-in_err-read_u32-2-clause-call
 returns-in_err-read_u32-2-clause-call g c =
-    let up : c.from_residual-in_err-read_u32-2.result ≡ Err c.in_err-read_u32-2.field-0.0 = grind arith in rw up (
+    let up : c.from_residual-in_err-read_u32-2.result ≡ Err c.in_err-read_u32-2.field-0.0 = came_up _ _ c.from_residual-in_err-read_u32-2.ensures in rw up (
     part_behind _ _ _ c.in_ok-read_u32.ensures.call (
     part_stops _ _ _ c.in_err-read_u32-2.ensures.call))
 
 pub returns-in_err-read_u64-clause-call : goal.returns-in_err-read_u64-clause-call
 returns-in_err-read_u64-clause-call g c =
-    let up : c.from_residual-in_err-read_u64.result ≡ Err c.in_err-read_u64.field-0.0 = grind arith in rw up (
+    let up : c.from_residual-in_err-read_u64.result ≡ Err c.in_err-read_u64.field-0.0 = came_up _ _ c.from_residual-in_err-read_u64.ensures in rw up (
     part_behind _ _ _ c.in_ok-read_u32.ensures.call (
     part_behind _ _ _ c.in_ok-read_u32-2.ensures.call (
     part_stops _ _ _ c.in_err-read_u64.ensures.call)))
 
 pub returns-in_err-read_u64_if-clause-call : goal.returns-in_err-read_u64_if-clause-call
 returns-in_err-read_u64_if-clause-call g c =
-    let up : c.from_residual-in_err-read_u64_if.result ≡ Err c.in_err-read_u64_if.field-0.0 = grind arith in rw up (
+    let up : c.from_residual-in_err-read_u64_if.result ≡ Err c.in_err-read_u64_if.field-0.0 = came_up _ _ c.from_residual-in_err-read_u64_if.ensures in rw up (
     part_behind _ _ _ c.in_ok-read_u32.ensures.call (
     part_behind _ _ _ c.in_ok-read_u32-2.ensures.call (
     part_behind _ _ _ c.in_ok-read_u64.ensures.call (
@@ -31,7 +31,7 @@ returns-in_err-read_u64_if-clause-call g c =
 
 pub returns-in_err-read_u64_if-2-clause-call : goal.returns-in_err-read_u64_if-2-clause-call
 returns-in_err-read_u64_if-2-clause-call g c =
-    let up : c.from_residual-in_err-read_u64_if-2.result ≡ Err c.in_err-read_u64_if-2.field-0.0 = grind arith in rw up (
+    let up : c.from_residual-in_err-read_u64_if-2.result ≡ Err c.in_err-read_u64_if-2.field-0.0 = came_up _ _ c.from_residual-in_err-read_u64_if-2.ensures in rw up (
     part_behind _ _ _ c.in_ok-read_u32.ensures.call (
     part_behind _ _ _ c.in_ok-read_u32-2.ensures.call (
     part_behind _ _ _ c.in_ok-read_u64.ensures.call (
@@ -40,11 +40,34 @@ returns-in_err-read_u64_if-2-clause-call g c =
 
 pub returns-clause-call : goal.returns-clause-call
 returns-clause-call g c =
-    let v1 : c.unwrap_or.result ≡ or_zero c.in_ok-read_u64_if.field-0 = grind arith in
-    let v2 : c.unwrap_or-2.result ≡ or_zero c.in_ok-read_u64_if-2.field-0 = grind arith in rw (v1, v2) (
+    let v1 : c.unwrap_or.result ≡ or_zero c.in_ok-read_u64_if.field-0 = c.unwrap_or.ensures in
+    let v2 : c.unwrap_or-2.result ≡ or_zero c.in_ok-read_u64_if-2.field-0 = c.unwrap_or-2.ensures in rw (v1, v2) (
     part_behind _ _ _ c.in_ok-read_u32.ensures.call (
     part_behind _ _ _ c.in_ok-read_u32-2.ensures.call (
     part_behind _ _ _ c.in_ok-read_u64.ensures.call (
     part_behind _ _ _ c.in_ok-read_u64_if.ensures.call (
     part_behind _ _ _ c.in_ok-read_u64_if-2.ensures.call (
     call_none {show = λ v. v}))))))
+
+pub returns-in_err-read_u32-clause-memory : goal.returns-in_err-read_u32-clause-memory
+returns-in_err-read_u32-clause-memory g c =
+    let up : c.from_residual.result ≡ Err c.in_err-read_u32.field-0.0 = came_up _ _ c.from_residual.ensures in rw up c.in_err-read_u32.ensures.memory
+
+pub returns-in_err-read_u32-2-clause-memory : goal.returns-in_err-read_u32-2-clause-memory
+returns-in_err-read_u32-2-clause-memory g c =
+    let up : c.from_residual-in_err-read_u32-2.result ≡ Err c.in_err-read_u32-2.field-0.0 = came_up _ _ c.from_residual-in_err-read_u32-2.ensures in rw up c.in_err-read_u32-2.ensures.memory
+
+pub returns-in_err-read_u64-clause-memory : goal.returns-in_err-read_u64-clause-memory
+returns-in_err-read_u64-clause-memory g c =
+    let up : c.from_residual-in_err-read_u64.result ≡ Err c.in_err-read_u64.field-0.0 = came_up _ _ c.from_residual-in_err-read_u64.ensures in rw up c.in_err-read_u64.ensures.memory
+
+pub returns-in_err-read_u64_if-clause-memory : goal.returns-in_err-read_u64_if-clause-memory
+returns-in_err-read_u64_if-clause-memory g c =
+    let up : c.from_residual-in_err-read_u64_if.result ≡ Err c.in_err-read_u64_if.field-0.0 = came_up _ _ c.from_residual-in_err-read_u64_if.ensures in rw up c.in_err-read_u64_if.ensures.memory
+
+pub returns-in_err-read_u64_if-2-clause-memory : goal.returns-in_err-read_u64_if-2-clause-memory
+returns-in_err-read_u64_if-2-clause-memory g c =
+    let up : c.from_residual-in_err-read_u64_if-2.result ≡ Err c.in_err-read_u64_if-2.field-0.0 = came_up _ _ c.from_residual-in_err-read_u64_if-2.ensures in rw up c.in_err-read_u64_if-2.ensures.memory
+
+pub returns-clause-memory : goal.returns-clause-memory
+returns-clause-memory g c = tt

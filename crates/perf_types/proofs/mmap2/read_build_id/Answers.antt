@@ -32,3 +32,27 @@ returns-clause-call g c =
     part_behind _ _ _ c.in_ok-build_id.ensures.call (
     check_holds _ _ _ fits (
     call_none {show = detail_value}))))
+
+pub returns-in_err-len-clause-memory : goal.returns-in_err-len-clause-memory
+returns-in_err-len-clause-memory g c =
+    let up : c.from_residual.result ≡ Err c.in_err-len.field-0.0 = came_up _ _ c.from_residual.ensures in rw up c.in_err-len.ensures.memory
+
+pub returns-in_err-len-clause-fitting : goal.returns-in_err-len-clause-fitting
+returns-in_err-len-clause-fitting g c =
+    let up : c.from_residual.result ≡ Err c.in_err-len.field-0.0 = came_up _ _ c.from_residual.ensures in rw up tt
+
+pub returns-in_err-skip-clause-memory : goal.returns-in_err-skip-clause-memory
+returns-in_err-skip-clause-memory g c =
+    let up : c.from_residual-in_err-skip.result ≡ Err c.in_err-skip.field-0.0 = came_up _ _ c.from_residual-in_err-skip.ensures in rw up c.in_err-skip.ensures.memory
+
+pub returns-in_err-skip-clause-fitting : goal.returns-in_err-skip-clause-fitting
+returns-in_err-skip-clause-fitting g c =
+    let up : c.from_residual-in_err-skip.result ≡ Err c.in_err-skip.field-0.0 = came_up _ _ c.from_residual-in_err-skip.ensures in rw up tt
+
+pub returns-in_err-build_id-clause-memory : goal.returns-in_err-build_id-clause-memory
+returns-in_err-build_id-clause-memory g c =
+    let up : c.from_residual-in_err-build_id.result ≡ Err c.in_err-build_id.field-0.0 = came_up _ _ c.from_residual-in_err-build_id.ensures in rw up c.in_err-build_id.ensures.memory
+
+pub returns-in_err-build_id-clause-fitting : goal.returns-in_err-build_id-clause-fitting
+returns-in_err-build_id-clause-fitting g c =
+    let up : c.from_residual-in_err-build_id.result ≡ Err c.in_err-build_id.field-0.0 = came_up _ _ c.from_residual-in_err-build_id.ensures in rw up tt

@@ -1,4 +1,4 @@
-use Rattle.std.proofs.Common.{◌≡◌, Err}
+use Rattle.std.proofs.Common.{◌≡◌, Err, refl}
 use Rattle.perf_types.specs.MmapDetail.{detail_value}
 use Rattle.perf_reader.proofs.Behind.{part_behind, part_stops, call_none}
 use Rattle.perf_types.proofs.Readings.{came_up}
@@ -37,3 +37,41 @@ returns-clause-call g c =
     part_behind _ _ _ c.in_ok-read_u64.ensures.call (
     part_behind _ _ _ c.in_ok-read_u64-2.ensures.call (
     call_none {show = detail_value}))))
+
+pub returns-in_err-read_u32-clause-memory : goal.returns-in_err-read_u32-clause-memory
+returns-in_err-read_u32-clause-memory g c =
+    let up : c.from_residual.result ≡ Err c.in_err-read_u32.field-0.0 = came_up _ _ c.from_residual.ensures in rw up c.in_err-read_u32.ensures.memory
+
+pub returns-in_err-read_u32-clause-fitting : goal.returns-in_err-read_u32-clause-fitting
+returns-in_err-read_u32-clause-fitting g c =
+    let up : c.from_residual.result ≡ Err c.in_err-read_u32.field-0.0 = came_up _ _ c.from_residual.ensures in rw up tt
+
+pub returns-in_err-read_u32-2-clause-memory : goal.returns-in_err-read_u32-2-clause-memory
+returns-in_err-read_u32-2-clause-memory g c =
+    let up : c.from_residual-in_err-read_u32-2.result ≡ Err c.in_err-read_u32-2.field-0.0 = came_up _ _ c.from_residual-in_err-read_u32-2.ensures in rw up c.in_err-read_u32-2.ensures.memory
+
+pub returns-in_err-read_u32-2-clause-fitting : goal.returns-in_err-read_u32-2-clause-fitting
+returns-in_err-read_u32-2-clause-fitting g c =
+    let up : c.from_residual-in_err-read_u32-2.result ≡ Err c.in_err-read_u32-2.field-0.0 = came_up _ _ c.from_residual-in_err-read_u32-2.ensures in rw up tt
+
+pub returns-in_err-read_u64-clause-memory : goal.returns-in_err-read_u64-clause-memory
+returns-in_err-read_u64-clause-memory g c =
+    let up : c.from_residual-in_err-read_u64.result ≡ Err c.in_err-read_u64.field-0.0 = came_up _ _ c.from_residual-in_err-read_u64.ensures in rw up c.in_err-read_u64.ensures.memory
+
+pub returns-in_err-read_u64-clause-fitting : goal.returns-in_err-read_u64-clause-fitting
+returns-in_err-read_u64-clause-fitting g c =
+    let up : c.from_residual-in_err-read_u64.result ≡ Err c.in_err-read_u64.field-0.0 = came_up _ _ c.from_residual-in_err-read_u64.ensures in rw up tt
+
+pub returns-in_err-read_u64-2-clause-memory : goal.returns-in_err-read_u64-2-clause-memory
+returns-in_err-read_u64-2-clause-memory g c =
+    let up : c.from_residual-in_err-read_u64-2.result ≡ Err c.in_err-read_u64-2.field-0.0 = came_up _ _ c.from_residual-in_err-read_u64-2.ensures in rw up c.in_err-read_u64-2.ensures.memory
+
+pub returns-in_err-read_u64-2-clause-fitting : goal.returns-in_err-read_u64-2-clause-fitting
+returns-in_err-read_u64-2-clause-fitting g c =
+    let up : c.from_residual-in_err-read_u64-2.result ≡ Err c.in_err-read_u64-2.field-0.0 = came_up _ _ c.from_residual-in_err-read_u64-2.ensures in rw up tt
+
+pub returns-clause-memory : goal.returns-clause-memory
+returns-clause-memory g c = tt
+
+pub returns-clause-fitting : goal.returns-clause-fitting
+returns-clause-fitting g c = refl

@@ -1,84 +1,43 @@
-use Rattle.std.proofs.Common.{◌≡◌, Err, subst, sym}
+use Rattle.std.proofs.Common.{◌≡◌, ℕ, List, Err, subst, sym}
 use Rattle.std.specs.Prelude.{IsTrue}
-use Rattle.perf_base.specs.Layout.{done}
+use Rattle.perf_base.specs.Layout.{Parts, done, ◌>>=◌}
 use Rattle.perf_base.specs.FieldWords.{name}
-use Rattle.perf_types.specs.Mmap.{mmap_value}
-use Rattle.perf_reader.proofs.Behind.{part_behind, part_stops, call_behind, call_stops, call_none, lent}
+use Rattle.perf_types.specs.Mmap.{MmapValue, mmap_value}
+use Rattle.perf_types.specs.Mmap2.{place}
+use Rattle.perf_types.specs.declared.mmap2.Place.{Place}
+use Rattle.perf_reader.proofs.Behind.{call_behind, call_stops, call_none, lent}
 use Rattle.perf_types.proofs.Readings.{came_up}
 use Rattle.perf_types.proofs.mmap.MmapReadFrom.read.Goals as goal
 
-pub returns-in_err-read_u32 : goal.returns-in_err-read_u32
-returns-in_err-read_u32 g c =
-    let up : c.from_residual.result ≡ Err c.in_err-read_u32.field-0.0 = came_up _ _ c.from_residual.ensures in rw up (
+-- the record of a place and a path, and what is left to read behind the place
+abbrev mapped : Place → List ℕ → Parts MmapValue
+mapped p filename = done (record { pid = p.pid; tid = p.tid; addr = p.addr; len = p.len; pgoff = p.pgoff; filename = filename })
+
+abbrev behind : Place → Parts MmapValue
+behind p = name >>= mapped p
+
+pub returns-in_err-place : goal.returns-in_err-place
+returns-in_err-place g c =
+    let up : c.from_residual.result ≡ Err c.in_err-place.field-0.0 = came_up _ _ c.from_residual.ensures in rw up (
     record {
-      call = lent _ _ _ (λ t w. (tt, c.in_err-read_u32.ensures.memory)) (
-          part_stops _ _ _ c.in_err-read_u32.ensures.call);
+      call = lent _ _ _ (λ t w. (tt, c.in_err-place.ensures.memory)) (
+          call_stops (λ _. place) (λ _. behind) c.in_err-place.ensures.call);
     })
 
-pub returns-in_err-read_u32-2 : goal.returns-in_err-read_u32-2
-returns-in_err-read_u32-2 g c =
-    let up : c.from_residual-in_err-read_u32-2.result ≡ Err c.in_err-read_u32-2.field-0.0 = came_up _ _ c.from_residual-in_err-read_u32-2.ensures in rw up (
+pub returns-in_err-filename : goal.returns-in_err-filename
+returns-in_err-filename g c =
+    let up : c.from_residual-in_err-filename.result ≡ Err c.in_err-filename.field-0.0 = came_up _ _ c.from_residual-in_err-filename.ensures in rw up (
     record {
-      call = lent _ _ _ (λ t w. (tt, c.in_err-read_u32-2.ensures.memory)) (
-          part_behind _ _ _ c.in_ok-read_u32.ensures.call (
-          part_stops _ _ _ c.in_err-read_u32-2.ensures.call));
-    })
-
-pub returns-in_err-read_u64 : goal.returns-in_err-read_u64
-returns-in_err-read_u64 g c =
-    let up : c.from_residual-in_err-read_u64.result ≡ Err c.in_err-read_u64.field-0.0 = came_up _ _ c.from_residual-in_err-read_u64.ensures in rw up (
-    record {
-      call = lent _ _ _ (λ t w. (tt, c.in_err-read_u64.ensures.memory)) (
-          part_behind _ _ _ c.in_ok-read_u32.ensures.call (
-          part_behind _ _ _ c.in_ok-read_u32-2.ensures.call (
-          part_stops _ _ _ c.in_err-read_u64.ensures.call)));
-    })
-
-pub returns-in_err-read_u64-2 : goal.returns-in_err-read_u64-2
-returns-in_err-read_u64-2 g c =
-    let up : c.from_residual-in_err-read_u64-2.result ≡ Err c.in_err-read_u64-2.field-0.0 = came_up _ _ c.from_residual-in_err-read_u64-2.ensures in rw up (
-    record {
-      call = lent _ _ _ (λ t w. (tt, c.in_err-read_u64-2.ensures.memory)) (
-          part_behind _ _ _ c.in_ok-read_u32.ensures.call (
-          part_behind _ _ _ c.in_ok-read_u32-2.ensures.call (
-          part_behind _ _ _ c.in_ok-read_u64.ensures.call (
-          part_stops _ _ _ c.in_err-read_u64-2.ensures.call))));
-    })
-
-pub returns-in_err-read_u64-3 : goal.returns-in_err-read_u64-3
-returns-in_err-read_u64-3 g c =
-    let up : c.from_residual-in_err-read_u64-3.result ≡ Err c.in_err-read_u64-3.field-0.0 = came_up _ _ c.from_residual-in_err-read_u64-3.ensures in rw up (
-    record {
-      call = lent _ _ _ (λ t w. (tt, c.in_err-read_u64-3.ensures.memory)) (
-          part_behind _ _ _ c.in_ok-read_u32.ensures.call (
-          part_behind _ _ _ c.in_ok-read_u32-2.ensures.call (
-          part_behind _ _ _ c.in_ok-read_u64.ensures.call (
-          part_behind _ _ _ c.in_ok-read_u64-2.ensures.call (
-          part_stops _ _ _ c.in_err-read_u64-3.ensures.call)))));
-    })
-
-pub returns-in_err-read_rest_trim_nul : goal.returns-in_err-read_rest_trim_nul
-returns-in_err-read_rest_trim_nul g c =
-    let up : c.from_residual-in_err-read_rest_trim_nul.result ≡ Err c.in_err-read_rest_trim_nul.field-0.0 = came_up _ _ c.from_residual-in_err-read_rest_trim_nul.ensures in rw up (
-    record {
-      call = lent _ _ _ (λ t w. (tt, c.in_err-read_rest_trim_nul.ensures.whole_memory (subst IsTrue (sym c.in_ok-read_u64-3.ensures.call.whole) (subst IsTrue (sym c.in_ok-read_u64-2.ensures.call.whole) (subst IsTrue (sym c.in_ok-read_u64.ensures.call.whole) (subst IsTrue (sym c.in_ok-read_u32-2.ensures.call.whole) (subst IsTrue (sym c.in_ok-read_u32.ensures.call.whole) w))))))) (
-          part_behind _ _ _ c.in_ok-read_u32.ensures.call (
-          part_behind _ _ _ c.in_ok-read_u32-2.ensures.call (
-          part_behind _ _ _ c.in_ok-read_u64.ensures.call (
-          part_behind _ _ _ c.in_ok-read_u64-2.ensures.call (
-          part_behind _ _ _ c.in_ok-read_u64-3.ensures.call (
-          call_stops (λ _. name) (λ _ v. done (record { pid = c.in_ok-read_u32.field-0; tid = c.in_ok-read_u32-2.field-0; addr = c.in_ok-read_u64.field-0; len = c.in_ok-read_u64-2.field-0; pgoff = c.in_ok-read_u64-3.field-0; filename = v })) c.in_err-read_rest_trim_nul.ensures.call))))));
+      call = lent _ _ _ (λ t w. (tt, c.in_err-filename.ensures.whole_memory (subst IsTrue (sym c.in_ok-place.ensures.call.whole) w))) (
+          call_behind (λ _. place) (λ _. behind) c.in_ok-place.ensures.call (
+          call_stops {show = mmap_value} (λ _. name) (λ _. mapped c.in_ok-place.place) c.in_err-filename.ensures.call));
     })
 
 pub returns : goal.returns
 returns g c =
     record {
-      call = lent _ _ _ (λ t w. (c.in_ok-read_rest_trim_nul.ensures.whole (subst IsTrue (sym c.in_ok-read_u64-3.ensures.call.whole) (subst IsTrue (sym c.in_ok-read_u64-2.ensures.call.whole) (subst IsTrue (sym c.in_ok-read_u64.ensures.call.whole) (subst IsTrue (sym c.in_ok-read_u32-2.ensures.call.whole) (subst IsTrue (sym c.in_ok-read_u32.ensures.call.whole) w))))), tt)) (
-          part_behind _ _ _ c.in_ok-read_u32.ensures.call (
-          part_behind _ _ _ c.in_ok-read_u32-2.ensures.call (
-          part_behind _ _ _ c.in_ok-read_u64.ensures.call (
-          part_behind _ _ _ c.in_ok-read_u64-2.ensures.call (
-          part_behind _ _ _ c.in_ok-read_u64-3.ensures.call (
-          call_behind (λ _. name) (λ _ v. done (record { pid = c.in_ok-read_u32.field-0; tid = c.in_ok-read_u32-2.field-0; addr = c.in_ok-read_u64.field-0; len = c.in_ok-read_u64-2.field-0; pgoff = c.in_ok-read_u64-3.field-0; filename = v })) c.in_ok-read_rest_trim_nul.ensures.call (
-          call_none {show = mmap_value})))))));
+      call = lent _ _ _ (λ t w. (c.in_ok-filename.ensures.whole (subst IsTrue (sym c.in_ok-place.ensures.call.whole) w), tt)) (
+          call_behind (λ _. place) (λ _. behind) c.in_ok-place.ensures.call (
+          call_behind (λ _. name) (λ _. mapped c.in_ok-place.place) c.in_ok-filename.ensures.call (
+          call_none {show = mmap_value})));
     }

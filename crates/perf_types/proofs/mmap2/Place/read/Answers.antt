@@ -46,3 +46,26 @@ returns-clause-call g c =
     part_behind _ _ _ c.in_ok-read_u64-2.ensures.call (
     part_behind _ _ _ c.in_ok-read_u64-3.ensures.call (
     call_none {show = λ v. v})))))
+
+pub returns-in_err-read_u32-clause-memory : goal.returns-in_err-read_u32-clause-memory
+returns-in_err-read_u32-clause-memory g c =
+    let up : c.from_residual.result ≡ Err c.in_err-read_u32.field-0.0 = came_up _ _ c.from_residual.ensures in rw up c.in_err-read_u32.ensures.memory
+
+pub returns-in_err-read_u32-2-clause-memory : goal.returns-in_err-read_u32-2-clause-memory
+returns-in_err-read_u32-2-clause-memory g c =
+    let up : c.from_residual-in_err-read_u32-2.result ≡ Err c.in_err-read_u32-2.field-0.0 = came_up _ _ c.from_residual-in_err-read_u32-2.ensures in rw up c.in_err-read_u32-2.ensures.memory
+
+pub returns-in_err-read_u64-clause-memory : goal.returns-in_err-read_u64-clause-memory
+returns-in_err-read_u64-clause-memory g c =
+    let up : c.from_residual-in_err-read_u64.result ≡ Err c.in_err-read_u64.field-0.0 = came_up _ _ c.from_residual-in_err-read_u64.ensures in rw up c.in_err-read_u64.ensures.memory
+
+pub returns-in_err-read_u64-2-clause-memory : goal.returns-in_err-read_u64-2-clause-memory
+returns-in_err-read_u64-2-clause-memory g c =
+    let up : c.from_residual-in_err-read_u64-2.result ≡ Err c.in_err-read_u64-2.field-0.0 = came_up _ _ c.from_residual-in_err-read_u64-2.ensures in rw up c.in_err-read_u64-2.ensures.memory
+
+pub returns-in_err-read_u64-3-clause-memory : goal.returns-in_err-read_u64-3-clause-memory
+returns-in_err-read_u64-3-clause-memory g c =
+    let up : c.from_residual-in_err-read_u64-3.result ≡ Err c.in_err-read_u64-3.field-0.0 = came_up _ _ c.from_residual-in_err-read_u64-3.ensures in rw up c.in_err-read_u64-3.ensures.memory
+
+pub returns-clause-memory : goal.returns-clause-memory
+returns-clause-memory g c = tt

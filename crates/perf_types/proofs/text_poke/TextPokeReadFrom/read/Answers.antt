@@ -1,16 +1,13 @@
-use Rattle.std.proofs.Common.{◌≡◌, ℕ, List, Err, take, drop, ap, sym, subst, ◌∙◌}
+use Rattle.std.proofs.Common.{◌≡◌, Err, take, drop, ap, sym, subst, ◌∙◌}
 use Rattle.std.proofs.lemmas.Bool.{false≢true}
 use Rattle.std.specs.Prelude.{IsTrue}
 use Rattle.perf_base.specs.Cow.{cow_items, is_borrowed}
 use Rattle.perf_reader.proofs.Asked.{call_gives}
 use Rattle.perf_reader.proofs.Behind.{part_behind, part_stops, lent}
 use Rattle.perf_types.proofs.Readings.{call_starves, bytes_many, came_up}
-use Rattle.perf_types.specs.TextPoke.{TextPokeValue, text_poke_value}
+use Rattle.perf_types.proofs.Poked.{both_parts}
+use Rattle.perf_types.specs.TextPoke.{text_poke_value}
 use Rattle.perf_types.proofs.text_poke.TextPokeReadFrom.read.Goals as goal
-
-both_parts : (addr : ℕ) {o n p m : List ℕ} → o ≡ p → n ≡ m →
-    ◌≡◌ {A = TextPokeValue} (record { addr = addr; old_bytes = o; new_bytes = n }) (record { addr = addr; old_bytes = p; new_bytes = m })
-both_parts addr old new = cc
 
 pub returns-in_err-addr : goal.returns-in_err-addr
 returns-in_err-addr g c =
