@@ -1,7 +1,6 @@
 -- Calls of a reader that the lemmas of `perf_reader` on parts one behind another do not have.
 use Rattle.std.proofs.Common.{◌≡◌, ℕ, List, Bool, refl, sym, ◌∙◌, subst, ap, arith}
-use Rattle.std.specs.Prelude.{Result, Ok, Err, None, Some, IsErr}
-use Rattle.std.specs.Result.{IsErrAnd}
+use Rattle.std.specs.Prelude.{Result, Err, None, Some}
 use Rattle.perf_base.specs.Configuration.{Configuration}
 use Rattle.perf_base.specs.Configured.{configuration_of}
 use Rattle.perf_base.specs.Layout.{Parts, byte_string}
@@ -10,6 +9,7 @@ use Rattle.perf_base.specs.Took.{took_by_places}
 use Rattle.perf_base.specs.declared.error.ErrorKind.{ErrorKind}
 use Rattle.perf_base.specs.declared.error.ErrorKind.TheVariants.{OutOfMemory}
 use Rattle.perf_buffers.specs.Buffer.{Source}
+pub use Rattle.perf_reader.proofs.Behind.{came_up}
 use Rattle.perf_reader.specs.Calls.{Call}
 use Rattle.perf_reader.specs.Meaning.{Meaning, meaning}
 use Rattle.perf_reader.specs.Reading.{AnswersRun, Reads, ReadsOne, Keeps}
@@ -27,11 +27,6 @@ starving start m h = record {
   cost = λ t. let c = h.cost t in (c.0, omega (arith, c.1));
   place = h.place;
 }
-
--- an error that a `?` hands on as it is
-pub came_up : {X E : Type 0} (r : Result X E) (e : E) → IsErr r × IsErrAnd r (λ x. x ≡ e) → r ≡ Err e
-came_up (Ok x) e h = cc
-came_up (Err x) e h = ap Err h.1
 
 module _ {I E : Type 0} {source : I → Source} {order : E → Order} where
   -- memory was refused, and nothing more is read
