@@ -14,7 +14,8 @@ use Rattle.perf_base.specs.LayoutReads.{one_if_any, reads_of}
 use Rattle.perf_base.specs.Took.{took, quit, one_took}
 use Rattle.perf_base.proofs.Took.{took_yes, took_no, then_take}
 
-any : (n : ℕ) → 0 < n → one_if_any n ≡ 1
+-- a read of some bytes is one
+pub any : (n : ℕ) → 0 < n → one_if_any n ≡ 1
 any zero h = omega arith
 any (suc n) h = refl
 

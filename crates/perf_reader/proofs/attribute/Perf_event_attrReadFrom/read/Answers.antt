@@ -15,3 +15,15 @@ returns-in-Ok g c =
         keeps = e.keeps;
       };
     }
+
+pub returns-in-Err : goal.returns-in-Err
+returns-in-Err g c =
+    let e = c.in-Err.ensures.call in record {
+      call = record {
+        config = e.config;
+        whole = e.whole;
+        told = e.told;
+        answer = λ told. (e.answer told, c.in-Err.ensures.memory, tt);
+        keeps = e.keeps;
+      };
+    }

@@ -36,3 +36,15 @@ returns-in-Ok-clause-within g c = λ told.
 pub returns-in-Err-clause-within : goal.returns-in-Err-clause-within
 returns-in-Err-clause-within g c = λ told.
     within_failed (g.I.Input.source c.args.self.now.input) (g.I.Input.source c.take_array.new.input) g.row.N (refusal_kind c.in-Err.refusal) (c.in-Err.ensures.err told)
+
+pub returns-in-Ok-clause-counted : goal.returns-in-Ok-clause-counted
+returns-in-Ok-clause-counted g c = c.tick.ensures
+
+pub returns-in-Err-clause-counted : goal.returns-in-Err-clause-counted
+returns-in-Err-clause-counted g c = c.tick.ensures
+
+pub returns-in-Ok-clause-memory : goal.returns-in-Ok-clause-memory
+returns-in-Ok-clause-memory g c = tt
+
+pub returns-in-Err-clause-memory : goal.returns-in-Err-clause-memory
+returns-in-Err-clause-memory g c = c.in-Err.ensures.memory
