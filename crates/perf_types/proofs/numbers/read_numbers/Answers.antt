@@ -1,4 +1,5 @@
 use Rattle.std.proofs.Common.{rules, ◌≡◌, suc, ℕ, List, ◌+◌, ◌++◌, ◌∷◌, [], length, ap, refl, sym, ◌∙◌, arith}
+use Rattle.std.proofs.lemmas.Bool.{false≢true}
 use Rattle.std.proofs.lemmas.List.{length-append}
 use Rattle.perf_base.specs.Refusals.{refusal_kind}
 use Rattle.perf_reader.proofs.InRow.{row_none, row_cast, row_more, row_further, row_stops, row_ceases, row_starves, row_gives}
@@ -108,3 +109,42 @@ returns-clause-call g c =
     let all : c.loop.counter ≡ c.args.count = omega (arith, c.loop-test.false, c.loop.invariant.0) in
     row_gives s o (λ v. v.items) c.args.count c.args.reader.now c.loop.reader c.loop.numbers
     (row_cast s o c.loop.counter c.args.count c.args.reader.now c.loop.reader ys ys all refl c.loop.invariant.2)
+
+pub returns-in-Err-clause-length : goal.returns-in-Err-clause-length
+returns-in-Err-clause-length g c = tt
+
+pub returns-in-Err-clause-short : goal.returns-in-Err-clause-short
+returns-in-Err-clause-short g c = λ short. absurd (false≢true (sym c.if-lacks.false ∙ (c.lacks.ensures.is ∙ short)))
+
+pub returns-in-Err-read_eight-clause-length : goal.returns-in-Err-read_eight-clause-length
+returns-in-Err-read_eight-clause-length g c = tt
+
+pub returns-in-Err-read_eight-clause-short : goal.returns-in-Err-read_eight-clause-short
+returns-in-Err-read_eight-clause-short g c = λ short. absurd (false≢true (sym c.if-lacks.false ∙ (c.lacks.ensures.is ∙ short)))
+
+pub returns-then-is_err-clause-length : goal.returns-then-is_err-clause-length
+returns-then-is_err-clause-length g c = tt
+
+pub returns-then-is_err-clause-short : goal.returns-then-is_err-clause-short
+returns-then-is_err-clause-short g c = λ short. absurd (false≢true (sym c.if-lacks.false ∙ (c.lacks.ensures.is ∙ short)))
+
+pub returns-in-Err-read_u64-clause-length : goal.returns-in-Err-read_u64-clause-length
+returns-in-Err-read_u64-clause-length g c = tt
+
+pub returns-in-Err-read_u64-clause-short : goal.returns-in-Err-read_u64-clause-short
+returns-in-Err-read_u64-clause-short g c = λ short. absurd (false≢true (sym c.if-lacks.false ∙ (c.lacks.ensures.is ∙ short)))
+
+pub returns-then-is_err-2-clause-length : goal.returns-then-is_err-2-clause-length
+returns-then-is_err-2-clause-length g c = tt
+
+pub returns-then-is_err-2-clause-short : goal.returns-then-is_err-2-clause-short
+returns-then-is_err-2-clause-short g c = λ short. absurd (false≢true (sym c.if-lacks.false ∙ (c.lacks.ensures.is ∙ short)))
+
+pub returns-clause-short : goal.returns-clause-short
+returns-clause-short g c = λ short. absurd (false≢true (sym c.if-lacks.false ∙ (c.lacks.ensures.is ∙ short)))
+
+pub returns-then-lacks-clause-length : goal.returns-then-lacks-clause-length
+returns-then-lacks-clause-length g c = tt
+
+pub returns-then-lacks-clause-short : goal.returns-then-lacks-clause-short
+returns-then-lacks-clause-short g c = λ short. (c.read_to_the_end.ensures.memory, tt)
