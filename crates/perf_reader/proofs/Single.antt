@@ -1,16 +1,17 @@
 -- Calls that read one part, by a call that reads its bytes or its number.
 use Rattle.std.proofs.Common.{◌≡◌, ℕ, List, Bool, true, false, sym, ◌∙◌, ap, refl}
-use Rattle.std.specs.Prelude.{Ok, Err, Option, Some, None}
+use Rattle.std.specs.Prelude.{Result, Ok, Err, Option, Some, None}
 use Rattle.perf_base.specs.Configured.{endian_of}
 use Rattle.perf_base.specs.Layout.{Width, number, optional, byte_string, bytes_in, number_of}
 use Rattle.perf_base.specs.Order.{Order}
+use Rattle.perf_base.specs.Refusals.{TakesNoMemory}
 use Rattle.perf_base.specs.Took.{took}
 use Rattle.perf_base.specs.declared.error.ErrorKind.{ErrorKind}
 use Rattle.perf_base.proofs.Took.{then_take}
 use Rattle.perf_buffers.specs.Buffer.{Source}
 use Rattle.perf_reader.specs.Calls.{Call}
 use Rattle.perf_reader.specs.Meaning.{Meaning, meaning}
-use Rattle.perf_reader.specs.Reading.{ReadsOne}
+use Rattle.perf_reader.specs.Reading.{ReadsOne, ReadsNumber}
 use Rattle.perf_reader.specs.declared.reader.Reader.{Reader}
 use Rattle.perf_reader.proofs.Steps.{number_run, option_there, option_absent}
 
@@ -47,6 +48,17 @@ module _ {I E : Type 0} {source : I → Source} {order : E → Order} where
             ∙ ap (then_take (λ xs left m. took (number_of old.order w xs) left m)) (first.answer t kind);
         keeps = first.keeps;
       }
+
+  -- a number for which no memory was taken
+  pub number_told : {a b : Reader I E} {seen : Result ℕ ErrorKind} (w : Width) → TakesNoMemory seen →
+      Call {X = ℕ} source order (ReadsOne (number w) (λ n. n)) a seen b → Call source order (ReadsNumber w) a seen b
+  number_told {a} {b} {seen} w none first = record {
+    config = first.config;
+    whole = first.whole;
+    told = first.told;
+    answer = λ t. (first.answer t, none);
+    keeps = first.keeps;
+  }
 
   -- a number that is there
   pub option_read : {a b : Reader I E} {n : ℕ} {present : Bool} (w : Width) → present ≡ true →
