@@ -1,6 +1,7 @@
-use Rattle.std.proofs.Common.{◌≡◌, Err, arith, true}
+use Rattle.std.proofs.Common.{◌≡◌, Err, refl, arith, true, false}
 use Rattle.std.specs.Prelude.{nat_le}
-use Rattle.perf_reader.proofs.Asked.{check_holds}
+use Rattle.perf_base.specs.declared.error.ErrorKind.TheVariants.{InvalidRecord}
+use Rattle.perf_reader.proofs.Asked.{check_holds, check_fails, not_for_memory}
 use Rattle.perf_reader.proofs.Behind.{part_behind, part_stops, call_none}
 use Rattle.perf_types.specs.MmapDetail.{detail_value}
 use Rattle.perf_types.proofs.Readings.{came_up}
@@ -56,3 +57,23 @@ returns-in_err-build_id-clause-memory g c =
 pub returns-in_err-build_id-clause-fitting : goal.returns-in_err-build_id-clause-fitting
 returns-in_err-build_id-clause-fitting g c =
     let up : c.from_residual-in_err-build_id.result ≡ Err c.in_err-build_id.field-0.0 = came_up _ _ c.from_residual-in_err-build_id.ensures in rw up tt
+
+pub returns-then-len-gt-BUILD_ID_SIZE_MAX-clause-memory : goal.returns-then-len-gt-BUILD_ID_SIZE_MAX-clause-memory
+returns-then-len-gt-BUILD_ID_SIZE_MAX-clause-memory g c = not_for_memory InvalidRecord refl
+
+pub returns-then-len-gt-BUILD_ID_SIZE_MAX-clause-fitting : goal.returns-then-len-gt-BUILD_ID_SIZE_MAX-clause-fitting
+returns-then-len-gt-BUILD_ID_SIZE_MAX-clause-fitting g c = tt
+
+pub returns-then-len-gt-BUILD_ID_SIZE_MAX-clause-call : goal.returns-then-len-gt-BUILD_ID_SIZE_MAX-clause-call
+returns-then-len-gt-BUILD_ID_SIZE_MAX-clause-call g c =
+    let long : nat_le c.in_ok-len.len 20 ≡ false = grind arith in
+    part_behind _ _ _ c.in_ok-len.ensures.call (
+    part_behind _ _ _ c.in_ok-skip.ensures.call (
+    part_behind _ _ _ c.in_ok-build_id.ensures.call (
+    check_fails _ _ _ refl long)))
+
+pub returns-clause-memory : goal.returns-clause-memory
+returns-clause-memory g c = tt
+
+pub returns-clause-fitting : goal.returns-clause-fitting
+returns-clause-fitting g c = grind arith
