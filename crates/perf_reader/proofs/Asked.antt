@@ -14,7 +14,7 @@ use Rattle.perf_buffers.specs.Buffer.{Source}
 use Rattle.perf_reader.specs.Calls.{Call}
 use Rattle.perf_reader.specs.Meaning.{Meaning, meaning}
 use Rattle.perf_reader.specs.Reading.{Says, AnswersRun, Reads, ReadsOne, Keeps, of_layout}
-use Rattle.perf_reader.specs.TableRuns.{ReadsBorrowed, ReadsField, ReadsTable, before, field_took, table_took, table_by_places}
+use Rattle.perf_reader.specs.TableRuns.{ReadsBorrowed, ReadsField, ReadsTable, before, field_took, table_took}
 use Rattle.perf_reader.specs.declared.reader.Reader.{Reader}
 use Rattle.perf_reader.proofs.Behind.{call_behind, call_stops}
 use Rattle.perf_reader.proofs.TableRuns.{places_table}

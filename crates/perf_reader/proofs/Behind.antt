@@ -1,6 +1,6 @@
 -- Parts one behind another, and calls that read them so.
-use Rattle.std.proofs.Common.{◌≡◌, ℕ, List, Bool, true, false, refl, sym, ◌∙◌, ap, subst, arith}
-use Rattle.std.specs.Prelude.{Result, Ok, Err, Some, None, IsTrue, IfOk, IsErr}
+use Rattle.std.proofs.Common.{◌≡◌, ℕ, List, true, false, refl, sym, ◌∙◌, ap, subst}
+use Rattle.std.specs.Prelude.{Result, Ok, Err, IsTrue, IfOk, IsErr}
 use Rattle.std.specs.Result.{IsErrAnd}
 use Rattle.perf_base.specs.Configuration.{Configuration}
 use Rattle.perf_base.specs.Configured.{configuration_of, endian_of}
@@ -9,12 +9,11 @@ use Rattle.perf_base.specs.Order.{Order}
 use Rattle.perf_base.specs.Took.{Took, took, quit, one_took, take_parts, took_by_places}
 use Rattle.perf_base.specs.Refusals.{TakesNoMemory}
 use Rattle.perf_base.specs.declared.error.ErrorKind.{ErrorKind}
-use Rattle.perf_base.specs.declared.error.ErrorKind.TheVariants.{Eof, InvalidRecord, UnsupportedConfig, UnsupportedData, External, OutOfMemory}
 use Rattle.perf_base.proofs.Took.{places_took, then_take}
 use Rattle.perf_buffers.specs.Buffer.{Source}
 use Rattle.perf_reader.specs.Calls.{Call}
 use Rattle.perf_reader.specs.Meaning.{Meaning, meaning}
-use Rattle.perf_reader.specs.Reading.{AnswersRun, Reads, ReadsPlain, ReadsLent, ReadsOne, Keeps, of_layout}
+use Rattle.perf_reader.specs.Reading.{AnswersRun, Reads, ReadsPlain, ReadsLent, ReadsOne}
 use Rattle.perf_reader.specs.declared.reader.Reader.{Reader}
 
 -- what follows, where both do the same
