@@ -1,23 +1,29 @@
-use Rattle.std.proofs.Common.{◌≡◌, ℕ, ◌+◌, ◌≤◌, ◌<◌, List, length, refl, None, Some, Err, arith, sym, ◌∙◌, ap, subst}
+use Rattle.std.proofs.Common.{◌≡◌, ℕ, ◌+◌, ◌-◌, ◌≤◌, ◌<◌, List, length, refl, None, Some, Err, arith, sym, ◌∙◌, ap, subst, length-drop}
+use Rattle.std.specs.Prelude.{IsTrue}
+use Rattle.std.proofs.lemmas.List.{length-take-le}
 use Rattle.std.proofs.lemmas.Bool.Decides.{nat_tests}
 use Rattle.perf_base.specs.Configured.{configuration_of, endian_of}
 use Rattle.perf_base.specs.Refusals.{refusal_kind}
 use Rattle.perf_base.specs.declared.config.ParseConfig.{ParseConfig}
 use Rattle.perf_base.specs.declared.error.ErrorKind.{ErrorKind}
-use Rattle.perf_base.specs.declared.error.ErrorKind.TheVariants.{InvalidRecord}
+use Rattle.perf_base.specs.declared.error.ErrorKind.TheVariants.{InvalidRecord, OutOfMemory}
 use Rattle.perf_buffers.specs.Buffer.{Source, Stays}
 use Rattle.perf_buffers.specs.Cursor.{cursor_left}
-use Rattle.perf_buffers.specs.Taking.{Moves}
+use Rattle.perf_buffers.specs.Taking.{Moves, MovesWithin}
 use Rattle.perf_buffers.proofs.Taking.{takes_moves}
 use Rattle.perf_reader.specs.Calls.{Call}
 use Rattle.perf_reader.specs.Meaning.{Meaning, meaning}
 use Rattle.perf_reader.specs.Reading.{Keeps}
-use Rattle.perf_reader.proofs.Paying.{keeps_more, can_fault}
+use Rattle.perf_reader.proofs.Paying.{keeps_more, can_fault, within_taken}
 use Rattle.perf_records.specs.Answers.{body_length, FrameParts, answered_parts, parts_of, id_reads, SplitsBehind}
 use Rattle.perf_records.specs.Metadata.{id_length}
 use Rattle.perf_records.proofs.Keeping.{moved_keeps, stays_refused, within_kept, taken_pays}
 use Rattle.perf_records.proofs.Splitting.{unsplit_cut, unsplit_room, split_made}
 use Rattle.perf_records.proofs.frame.split.Goals as goal
+
+-- a frame without room for its sample id is not refused for want of memory
+no_room_no_memory : (e : ErrorKind) → e ≡ InvalidRecord → e ≡ OutOfMemory → ⊥
+no_room_no_memory e is memory = cc
 
 -- the cut was refused
 pub returns-in-Err-clause-call : goal.returns-in-Err-clause-call
@@ -101,3 +107,105 @@ returns-in-Err-take_id-clause-call g c =
           (u.0, o.0.1, omega (arith, e.reads, u.1));
       keeps = λ start p. keeps_more start old new (Some InvalidRecord) p kept;
     })
+
+-- ---- what else is said where the cut was refused
+pub returns-in-Err-clause-within : goal.returns-in-Err-clause-within
+returns-in-Err-clause-within g c = λ told.
+    within_kept (g.I.Input.source c.args.reader.now.input) (g.I.Input.source c.cut.new.self.input) (body_length c.args.header) (refusal_kind c.in-Err.refusal) (c.in-Err.ensures.err told)
+
+pub returns-in-Err-clause-named : goal.returns-in-Err-clause-named
+returns-in-Err-clause-named g c = tt
+
+pub returns-in-Err-clause-whole : goal.returns-in-Err-clause-whole
+returns-in-Err-clause-whole g c = λ whole. tt
+
+pub returns-in-Err-clause-whole_memory : goal.returns-in-Err-clause-whole_memory
+returns-in-Err-clause-whole_memory g c = λ whole. c.in-Err.ensures.whole_memory whole
+
+pub returns-in-Err-clause-small : goal.returns-in-Err-clause-small
+returns-in-Err-clause-small g c = λ small. absurd (omega arith)
+
+pub returns-in-Err-clause-nothing : goal.returns-in-Err-clause-nothing
+returns-in-Err-clause-nothing g c = λ empty. let no = (c.in-Err.ensures.nothing empty).1 in absurd (cc)
+
+pub returns-in-Err-clause-short : goal.returns-in-Err-clause-short
+returns-in-Err-clause-short g c = λ lacks. ((c.in-Err.ensures.short lacks).0, tt)
+
+pub returns-in-Err-clause-beforehand : goal.returns-in-Err-clause-beforehand
+returns-in-Err-clause-beforehand g c = λ told made. c.in-Err.ensures.beforehand told made
+
+pub returns-in-Err-clause-paid : goal.returns-in-Err-clause-paid
+returns-in-Err-clause-paid g c = λ told. tt
+
+-- ---- and where the frame fell apart
+pub returns-in-Ok-take_id-clause-within : goal.returns-in-Ok-take_id-clause-within
+returns-in-Ok-take_id-clause-within g c = λ told.
+    subst (λ (s : Source). MovesWithin (g.I.Input.source c.args.reader.now.input) (body_length c.args.header) s) (sym (ap g.I.Input.source c.count.ensures.input))
+    (within_taken (g.I.Input.source c.args.reader.now.input) (g.I.Input.source c.cut.new.self.input) (body_length c.args.header) (c.in-Ok.ensures.ok told).0)
+
+pub returns-in-Ok-take_id-clause-named : goal.returns-in-Ok-take_id-clause-named
+returns-in-Ok-take_id-clause-named g c =
+    let parts = c.in-Ok-take_id.ensures.parts.1 in (ap (λ (p : FrameParts). p.metadata.ty) parts, ap (λ (p : FrameParts). p.metadata.misc) parts)
+
+pub returns-in-Ok-take_id-clause-whole : goal.returns-in-Ok-take_id-clause-whole
+returns-in-Ok-take_id-clause-whole g c = λ whole. subst IsTrue (sym c.in-Ok-take_id.ensures.form) (c.in-Ok.ensures.whole whole)
+
+pub returns-in-Ok-take_id-clause-whole_memory : goal.returns-in-Ok-take_id-clause-whole_memory
+returns-in-Ok-take_id-clause-whole_memory g c = λ whole. tt
+
+pub returns-in-Ok-take_id-clause-small : goal.returns-in-Ok-take_id-clause-small
+returns-in-Ok-take_id-clause-small g c = λ small. absurd (omega arith)
+
+pub returns-in-Ok-take_id-clause-nothing : goal.returns-in-Ok-take_id-clause-nothing
+returns-in-Ok-take_id-clause-nothing g c = λ empty. (tt, subst IsTrue (sym c.in-Ok-take_id.ensures.form) (c.in-Ok.ensures.nothing empty).0)
+
+pub returns-in-Ok-take_id-clause-short : goal.returns-in-Ok-take_id-clause-short
+returns-in-Ok-take_id-clause-short g c = λ lacks. absurd (c.in-Ok.ensures.short lacks).1
+
+pub returns-in-Ok-take_id-clause-beforehand : goal.returns-in-Ok-take_id-clause-beforehand
+returns-in-Ok-take_id-clause-beforehand g c = λ told made. tt
+
+pub returns-in-Ok-take_id-clause-paid : goal.returns-in-Ok-take_id-clause-paid
+returns-in-Ok-take_id-clause-paid g c = λ told.
+    let old : Source = g.I.Input.source c.args.reader.now.input in
+    let mid : Source = g.I.Input.source c.cut.new.self.input in
+    let new : Source = g.I.Input.source c.count.new.self.input in
+    let n : ℕ = body_length c.args.header in
+    let frame : ℕ = length (cursor_left c.in-Ok.frame) in
+    let id : ℕ = id_length (configuration_of c.config.result.now) c.args.header.type_ in
+    let e = c.in-Ok.ensures in
+    let t = c.in-Ok-take_id.ensures in
+    let took = (e.ok told).0 in
+    let body : length (cursor_left c.in-Ok-take_id.taken.body) ≡ frame - id = ap (λ (p : FrameParts). length p.body) t.parts.1 ∙ length-take-le (frame - id) (cursor_left c.in-Ok.frame) (omega arith) in
+    let left : length mid.left ≡ length old.left - n = ap length took.1 ∙ length-drop n old.left in
+    let same : length new.left ≡ length mid.left = ap (λ i. length (g.I.Input.source i).left) c.count.ensures.input in
+    omega (arith, c.count.ensures.reads, e.reads, t.bound, t.parts.0, body, left, same, e.count, took.0)
+
+-- ---- and where it has no room for its sample id
+pub returns-in-Err-take_id-clause-within : goal.returns-in-Err-take_id-clause-within
+returns-in-Err-take_id-clause-within g c = λ told.
+    within_taken (g.I.Input.source c.args.reader.now.input) (g.I.Input.source c.cut.new.self.input) (body_length c.args.header) (c.in-Ok.ensures.ok told).0
+
+pub returns-in-Err-take_id-clause-named : goal.returns-in-Err-take_id-clause-named
+returns-in-Err-take_id-clause-named g c = tt
+
+pub returns-in-Err-take_id-clause-whole : goal.returns-in-Err-take_id-clause-whole
+returns-in-Err-take_id-clause-whole g c = λ whole. tt
+
+pub returns-in-Err-take_id-clause-whole_memory : goal.returns-in-Err-take_id-clause-whole_memory
+returns-in-Err-take_id-clause-whole_memory g c = λ whole memory. no_room_no_memory _ c.in-Err-take_id.ensures.refused.0 memory
+
+pub returns-in-Err-take_id-clause-small : goal.returns-in-Err-take_id-clause-small
+returns-in-Err-take_id-clause-small g c = λ small. absurd (omega arith)
+
+pub returns-in-Err-take_id-clause-nothing : goal.returns-in-Err-take_id-clause-nothing
+returns-in-Err-take_id-clause-nothing g c = λ empty. ((λ memory. no_room_no_memory _ c.in-Err-take_id.ensures.refused.0 memory), tt)
+
+pub returns-in-Err-take_id-clause-short : goal.returns-in-Err-take_id-clause-short
+returns-in-Err-take_id-clause-short g c = λ lacks. absurd (c.in-Ok.ensures.short lacks).1
+
+pub returns-in-Err-take_id-clause-beforehand : goal.returns-in-Err-take_id-clause-beforehand
+returns-in-Err-take_id-clause-beforehand g c = λ told made memory. absurd (no_room_no_memory _ c.in-Err-take_id.ensures.refused.0 memory)
+
+pub returns-in-Err-take_id-clause-paid : goal.returns-in-Err-take_id-clause-paid
+returns-in-Err-take_id-clause-paid g c = λ told. tt
