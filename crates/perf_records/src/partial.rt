@@ -51,7 +51,7 @@ pub trait PartialVisitor: Drop + Sized {
             (event (words.mmap_is (words.mmap_value held.entry))
             (words.is_borrowed held.entry.filename) metadata) result }
     {
-        let _ = held;
+        drop(held);
         self.visit_unimplemented(metadata)
     }
 
@@ -72,7 +72,7 @@ pub trait PartialVisitor: Drop + Sized {
             (event (words.comm_is (words.comm_value held.entry))
             (words.is_borrowed held.entry.comm) metadata) result }
     {
-        let _ = held;
+        drop(held);
         self.visit_unimplemented(metadata)
     }
 
@@ -82,7 +82,7 @@ pub trait PartialVisitor: Drop + Sized {
         ensures { GivesOrLeavesOut gives left_out
             (event (words.exit_is held) true metadata) result }
     {
-        let _ = held;
+        drop(held);
         self.visit_unimplemented(metadata)
     }
 
@@ -92,7 +92,7 @@ pub trait PartialVisitor: Drop + Sized {
         ensures { GivesOrLeavesOut gives left_out
             (event (words.throttle_is held) true metadata) result }
     {
-        let _ = held;
+        drop(held);
         self.visit_unimplemented(metadata)
     }
 
@@ -102,7 +102,7 @@ pub trait PartialVisitor: Drop + Sized {
         ensures { GivesOrLeavesOut gives left_out
             (event (words.unthrottle_is held) true metadata) result }
     {
-        let _ = held;
+        drop(held);
         self.visit_unimplemented(metadata)
     }
 
@@ -112,7 +112,7 @@ pub trait PartialVisitor: Drop + Sized {
         ensures { GivesOrLeavesOut gives left_out
             (event (words.fork_is held) true metadata) result }
     {
-        let _ = held;
+        drop(held);
         self.visit_unimplemented(metadata)
     }
 
@@ -122,7 +122,7 @@ pub trait PartialVisitor: Drop + Sized {
         ensures { GivesOrLeavesOut gives left_out
             (event (words.read_is (words.task_read held)) true metadata) result }
     {
-        let _ = held;
+        drop(held);
         self.visit_unimplemented(metadata)
     }
 
@@ -133,7 +133,7 @@ pub trait PartialVisitor: Drop + Sized {
             (event (words.sample_is (words.sample_value held.entry))
             (words.is_lent_sample held.entry) metadata) result }
     {
-        let _ = held;
+        drop(held);
         self.visit_unimplemented(metadata)
     }
 
@@ -155,7 +155,7 @@ pub trait PartialVisitor: Drop + Sized {
         ensures { GivesOrLeavesOut gives left_out
             (event (words.aux_is (words.aux_value held)) true metadata) result }
     {
-        let _ = held;
+        drop(held);
         self.visit_unimplemented(metadata)
     }
 
@@ -165,7 +165,7 @@ pub trait PartialVisitor: Drop + Sized {
         ensures { GivesOrLeavesOut gives left_out
             (event (words.itrace_start_is held) true metadata) result }
     {
-        let _ = held;
+        drop(held);
         self.visit_unimplemented(metadata)
     }
 
@@ -175,7 +175,7 @@ pub trait PartialVisitor: Drop + Sized {
         ensures { GivesOrLeavesOut gives left_out
             (event (words.lost_samples_is held) true metadata) result }
     {
-        let _ = held;
+        drop(held);
         self.visit_unimplemented(metadata)
     }
 
@@ -204,7 +204,7 @@ pub trait PartialVisitor: Drop + Sized {
         ensures { GivesOrLeavesOut gives left_out
             (event (words.namespaces_is (words.namespaces_value held.entry)) true metadata) result }
     {
-        let _ = held;
+        drop(held);
         self.visit_unimplemented(metadata)
     }
 
@@ -215,7 +215,7 @@ pub trait PartialVisitor: Drop + Sized {
             (event (words.ksymbol_is (words.ksymbol_value held.entry))
             (words.is_borrowed held.entry.name) metadata) result }
     {
-        let _ = held;
+        drop(held);
         self.visit_unimplemented(metadata)
     }
 
@@ -236,7 +236,7 @@ pub trait PartialVisitor: Drop + Sized {
             (event (words.cgroup_is (words.cgroup_value held.entry))
             (words.is_borrowed held.entry.path) metadata) result }
     {
-        let _ = held;
+        drop(held);
         self.visit_unimplemented(metadata)
     }
 
@@ -247,7 +247,7 @@ pub trait PartialVisitor: Drop + Sized {
             (event (words.text_poke_is (words.text_poke_value held.entry))
             (words.is_lent_text_poke held.entry) metadata) result }
     {
-        let _ = held;
+        drop(held);
         self.visit_unimplemented(metadata)
     }
 
@@ -270,7 +270,7 @@ pub trait PartialVisitor: Drop + Sized {
             (event (words.unknown_is metadata.ty (words.cow_items bytes.entry))
             (words.is_borrowed bytes.entry) metadata) result }
     {
-        let _ = bytes;
+        drop(bytes);
         self.visit_unimplemented(metadata)
     }
 }

@@ -183,7 +183,10 @@ impl<'a, A: Answer<'a>> Visitor<'a> for Recording<A> {
     fn visit_sample(self, held: Sample<'a>, _metadata: RecordMetadata) -> Self::Output {
         match Box::new(self.alloc, held) {
             Ok(held) => self.answer.record(Record::Sample(held)),
-            Err(_) => self.answer.no_memory(),
+            Err(failed) => {
+                drop(failed);
+                self.answer.no_memory()
+            }
         }
     }
 

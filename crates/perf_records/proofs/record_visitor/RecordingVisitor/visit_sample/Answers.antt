@@ -10,5 +10,5 @@ returns-in-Ok g c =
     c.record.ensures _ (ap (λ (s : Sample). sample_is (sample_value s)) c.in-Ok.ensures.ok)
     (λ lent. subst IsBorrowedSample (sym c.in-Ok.ensures.ok) (lent_sample c.args.held lent))
 
-pub returns : goal.returns
-returns g c = c.no_memory.ensures _ tt
+pub returns-in-Err : goal.returns-in-Err
+returns-in-Err g c = c.no_memory.ensures _ tt
