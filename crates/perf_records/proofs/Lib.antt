@@ -6,3 +6,4 @@ pub mod Headers
 pub mod Lending
 pub mod Visiting
 pub mod Seeing
+pub mod Making
