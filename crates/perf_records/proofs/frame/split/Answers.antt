@@ -14,16 +14,16 @@ use Rattle.perf_buffers.proofs.Taking.{takes_moves}
 use Rattle.perf_reader.specs.Calls.{Call}
 use Rattle.perf_reader.specs.Meaning.{Meaning, meaning}
 use Rattle.perf_reader.specs.Reading.{Keeps}
-use Rattle.perf_reader.proofs.Paying.{keeps_more, can_fault, within_taken}
+use Rattle.perf_reader.proofs.Paying.{keeps_none, keeps_more, can_fault, within_taken}
 use Rattle.perf_records.specs.Answers.{body_length, FrameParts, answered_parts, parts_of, id_reads, SplitsBehind}
 use Rattle.perf_records.specs.Metadata.{id_length}
-use Rattle.perf_records.proofs.Keeping.{moved_keeps, stays_refused, within_kept, taken_pays}
-use Rattle.perf_records.proofs.Splitting.{unsplit_cut, unsplit_room, split_made}
+use Rattle.perf_records.proofs.Keeping.{moved_keeps, stays_refused, within_none, within_kept, taken_pays}
+use Rattle.perf_records.proofs.Splitting.{unsplit_small, unsplit_cut, unsplit_room, split_made}
 use Rattle.perf_records.proofs.frame.split.Goals as goal
 
--- a frame without room for its sample id is not refused for want of memory
-no_room_no_memory : (e : ErrorKind) → e ≡ InvalidRecord → e ≡ OutOfMemory → ⊥
-no_room_no_memory e is memory = cc
+-- what is no record is not refused for want of memory
+invalid_no_memory : (e : ErrorKind) → e ≡ InvalidRecord → e ≡ OutOfMemory → ⊥
+invalid_no_memory e is memory = cc
 
 -- the cut was refused
 pub returns-in-Err-clause-call : goal.returns-in-Err-clause-call
@@ -193,19 +193,63 @@ pub returns-in-Err-take_id-clause-whole : goal.returns-in-Err-take_id-clause-who
 returns-in-Err-take_id-clause-whole g c = λ whole. tt
 
 pub returns-in-Err-take_id-clause-whole_memory : goal.returns-in-Err-take_id-clause-whole_memory
-returns-in-Err-take_id-clause-whole_memory g c = λ whole memory. no_room_no_memory _ c.in-Err-take_id.ensures.refused.0 memory
+returns-in-Err-take_id-clause-whole_memory g c = λ whole memory. invalid_no_memory _ c.in-Err-take_id.ensures.refused.0 memory
 
 pub returns-in-Err-take_id-clause-small : goal.returns-in-Err-take_id-clause-small
 returns-in-Err-take_id-clause-small g c = λ small. absurd (omega arith)
 
 pub returns-in-Err-take_id-clause-nothing : goal.returns-in-Err-take_id-clause-nothing
-returns-in-Err-take_id-clause-nothing g c = λ empty. ((λ memory. no_room_no_memory _ c.in-Err-take_id.ensures.refused.0 memory), tt)
+returns-in-Err-take_id-clause-nothing g c = λ empty. ((λ memory. invalid_no_memory _ c.in-Err-take_id.ensures.refused.0 memory), tt)
 
 pub returns-in-Err-take_id-clause-short : goal.returns-in-Err-take_id-clause-short
 returns-in-Err-take_id-clause-short g c = λ lacks. absurd (c.in-Ok.ensures.short lacks).1
 
 pub returns-in-Err-take_id-clause-beforehand : goal.returns-in-Err-take_id-clause-beforehand
-returns-in-Err-take_id-clause-beforehand g c = λ told made memory. absurd (no_room_no_memory _ c.in-Err-take_id.ensures.refused.0 memory)
+returns-in-Err-take_id-clause-beforehand g c = λ told made memory. absurd (invalid_no_memory _ c.in-Err-take_id.ensures.refused.0 memory)
 
 pub returns-in-Err-take_id-clause-paid : goal.returns-in-Err-take_id-clause-paid
 returns-in-Err-take_id-clause-paid g c = λ told. tt
+
+-- ---- and where the size does not count the header
+pub returns-then-header-lt8-clause-within : goal.returns-then-header-lt8-clause-within
+returns-then-header-lt8-clause-within g c = λ told.
+    within_none (g.I.Input.source c.args.reader.now.input) (g.I.Input.source c.args.reader.now.input) (body_length c.args.header) refl
+
+pub returns-then-header-lt8-clause-named : goal.returns-then-header-lt8-clause-named
+returns-then-header-lt8-clause-named g c = tt
+
+pub returns-then-header-lt8-clause-whole : goal.returns-then-header-lt8-clause-whole
+returns-then-header-lt8-clause-whole g c = λ whole. tt
+
+pub returns-then-header-lt8-clause-whole_memory : goal.returns-then-header-lt8-clause-whole_memory
+returns-then-header-lt8-clause-whole_memory g c = λ whole memory. invalid_no_memory _ refl memory
+
+pub returns-then-header-lt8-clause-small : goal.returns-then-header-lt8-clause-small
+returns-then-header-lt8-clause-small g c = λ small. (refl, refl)
+
+pub returns-then-header-lt8-clause-nothing : goal.returns-then-header-lt8-clause-nothing
+returns-then-header-lt8-clause-nothing g c = λ empty. ((λ memory. invalid_no_memory _ refl memory), tt)
+
+pub returns-then-header-lt8-clause-short : goal.returns-then-header-lt8-clause-short
+returns-then-header-lt8-clause-short g c = λ lacks. ((λ memory. invalid_no_memory _ refl memory), tt)
+
+pub returns-then-header-lt8-clause-beforehand : goal.returns-then-header-lt8-clause-beforehand
+returns-then-header-lt8-clause-beforehand g c = λ told made memory. refl
+
+pub returns-then-header-lt8-clause-paid : goal.returns-then-header-lt8-clause-paid
+returns-then-header-lt8-clause-paid g c = λ told. tt
+
+pub returns-then-header-lt8-clause-call : goal.returns-then-header-lt8-clause-call
+returns-then-header-lt8-clause-call g c =
+    let old : Meaning = meaning g.I.Input.source g.E.Endian.order c.args.reader.now in
+    let h = c.args.header in
+    let small : h.size < 8 = omega arith in
+    let stays : Stays old.source (Some InvalidRecord) old.source = stays_refused old.source old.source InvalidRecord refl (keeps_none old).buffer in
+    let kept : Keeps old (Some InvalidRecord) old = moved_keeps old old (Some InvalidRecord) 0 (omega arith) stays (λ x. cc) (λ told.
+    ((within_none old.source old.source 0 refl).1, omega arith)) in record {
+      config = refl;
+      whole = refl;
+      told = λ told. told;
+      answer = λ told layout. let u = unsplit_small old.settings old.order h old.source.left small in (u.0.0, u.1, omega (arith, u.0.1));
+      keeps = λ start p. keeps_more start old old (Some InvalidRecord) p kept;
+    }
