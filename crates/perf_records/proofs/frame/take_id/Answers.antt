@@ -1,4 +1,4 @@
-use Rattle.std.proofs.Common.{◌≡◌, ℕ, List, ◌-◌, ◌≤◌, take, drop, length, arith, ◌∙◌, ap}
+use Rattle.std.proofs.Common.{◌≡◌, ℕ, List, ◌-◌, ◌≤◌, take, drop, length, arith, refl, ◌∙◌, ap}
 use Rattle.std.proofs.lemmas.Bool.Decides.{nat_tests}
 use Rattle.std.proofs.lemmas.List.{length-drop}
 use Rattle.perf_base.specs.Configuration.{Configuration}
@@ -72,3 +72,22 @@ returns-clause-parts g c =
       ap (λ m. made m (cursor_left c.drop_last.new.self)) (c.from_parts.ensures ∙ ap known id)
           ∙ ap (made (known (value o (drop (length frame - id_length settings h.type_) frame) 0 (id_of_type settings h.type_)))) body,
     )
+
+pub returns-clause-refused : goal.returns-clause-refused
+returns-clause-refused g c = tt
+
+-- ---- there is no room for it
+pub returns-then-len-clause-parts : goal.returns-then-len-clause-parts
+returns-then-len-clause-parts g c = tt
+
+pub returns-then-len-clause-reads : goal.returns-then-len-clause-reads
+returns-then-len-clause-reads g c = tt
+
+pub returns-then-len-clause-bound : goal.returns-then-len-clause-bound
+returns-then-len-clause-bound g c = tt
+
+pub returns-then-len-clause-form : goal.returns-then-len-clause-form
+returns-then-len-clause-form g c = tt
+
+pub returns-then-len-clause-refused : goal.returns-then-len-clause-refused
+returns-then-len-clause-refused g c = (refl, omega (arith, c.id_len-len.ensures))
