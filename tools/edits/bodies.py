@@ -12,6 +12,7 @@ import tempfile
 from pathlib import Path
 
 FUNCTION = re.compile(r"\bfn\s+(\w+)")
+TRAIT = re.compile(r"(?:pub(?:\(\w+\))? )?trait (\w+)")
 NOTE = re.compile(r"note: (?:\./)?(src/\S+?):(\d+):(\d+): (it is not proved .*)")
 GAVE_UP = re.compile(r"note: what antt said of .*?: (?:\./)?(src/\S+?):(\d+):(\d+): error: (.*)")
 UNREAD = re.compile(r"(?:\./)?src/\S+?:\d+:\d+: error: [^`].*")
@@ -27,7 +28,7 @@ class Body:
 
     def __init__(self, line):
         self.line = self.first = self.last = line
-        self.names, self.owner, self.text = [], "", ""
+        self.names, self.owner, self.others, self.text = [], "", [], ""
 
     def place(self, lines):
         """Finds the function around the edited line, and the type whose impl it stands in."""
@@ -42,9 +43,11 @@ class Body:
         self.names += FUNCTION.findall(self.text) or ["?"]
         for text in lines[: self.first]:
             if text.startswith("impl"):
-                self.owner = owner_of(text)
+                self.owner, self.others = owner_of(text), other_owners(text)
+            elif trait := TRAIT.match(text):
+                self.owner, self.others = trait[1], []
             elif text.startswith("}"):
-                self.owner = ""
+                self.owner, self.others = "", []
 
     def at(self, line, column):
         """The function at a place, where the edited line holds several."""
@@ -96,6 +99,17 @@ def trait_of(trait):
     name, _, of = re.sub(r"'\w+,?\s*", "", trait).partition("<")
     of = re.match(r"&?[\w:]*", of)[0].replace("::", "").replace("&", "Ref")
     return name.split("::")[-1] + (of if len(of) > 1 else "")
+
+
+def other_owners(header):
+    """What else that folder may be called: with the types of the trait, or as any type's."""
+    header = re.sub(r"^impl(<.*?>)? (?=[\w&\[])", "", header)
+    trait, is_trait, of = header.rpartition(" for ")
+    if not is_trait:
+        return []
+    given = re.findall(r"\w{2,}", re.sub(r"'\w+", "", trait))
+    name = re.match(r"\w*", of)[0]
+    return [name + "".join(given), name + "Any" + "".join(given[:1])]
 
 
 def read_edit(edit):
@@ -162,7 +176,7 @@ def proves(body, path, folder):
         own = body.owner.lower()
         if body.names == ["?"]:
             return name in TABLES and owner in (own, own + "flags")
-        return name in body.names and owner == own
+        return name in body.names and owner in (own, *(it.lower() for it in body.others))
     module = "" if path == "src/lib.rt" else path[len("src/") : -len(".rt")]
     return name in body.names and "/".join(around) == module
 

@@ -1,14 +1,13 @@
 -- Records that are made of what was visited.
 use Rattle.std.proofs.Common.{◌≡◌, Bool, true, false, arith, sym, ◌∙◌, ap, subst}
-use Rattle.std.specs.Prelude.{Result, None, Some, Ok, Err, IsTrue, ◌≢◌}
+use Rattle.std.specs.Prelude.{Result, None, Some, Ok, Err, IsTrue}
 use Rattle.perf_base.specs.Refusals.{kinds, refusal_kind}
-use Rattle.perf_base.specs.declared.error.ErrorKind.{ErrorKind}
 use Rattle.perf_base.specs.declared.error.ErrorKind.TheVariants.{OutOfMemory}
 use Rattle.perf_base.specs.declared.refusal.Refusal.{Refusal}
 use Rattle.perf_base.specs.declared.sys.perf_event_header.{perf_event_header}
 use Rattle.perf_reader.specs.Meaning.{Meaning}
 use Rattle.perf_reader.specs.Reading.{Keeps}
-use Rattle.perf_records.specs.Answers.{SaysBehind, body_length}
+use Rattle.perf_records.specs.Answers.{SaysBehind}
 use Rattle.perf_records.specs.Bodies.{wants_memory}
 use Rattle.perf_records.specs.Records.{IsBorrowed}
 use Rattle.perf_records.specs.Visits.{Event, event, GivesRecord, VisitsBehind, BelongsTo}

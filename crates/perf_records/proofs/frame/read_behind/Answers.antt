@@ -1,7 +1,5 @@
-use Rattle.std.proofs.Common.{◌≡◌, Err, Some, inr, sym, subst}
-use Rattle.perf_base.specs.Refusals.{kinds, refusal_kind}
+use Rattle.std.proofs.Common.{Err, inr, sym, subst}
 use Rattle.perf_base.specs.declared.error.ErrorKind.{ErrorKind}
-use Rattle.perf_base.specs.declared.error.ErrorKind.TheVariants.{OutOfMemory}
 use Rattle.perf_reader.specs.Calls.{Call}
 use Rattle.perf_reader.specs.Meaning.{Meaning, meaning}
 use Rattle.perf_records.specs.Answers.{SaysBehind}
@@ -34,7 +32,7 @@ pub returns-in-Err-clause-spent : goal.returns-in-Err-clause-spent
 returns-in-Err-clause-spent g c = λ told whole. c.in-Err.ensures.spent told whole
 
 pub returns-in-Err-clause-call : goal.returns-in-Err-clause-call
-returns-in-Err-clause-call g c = 
+returns-in-Err-clause-call g c =
     let call = c.in-Err.ensures.call in record {
       config = call.config;
       whole = call.whole;
@@ -69,7 +67,7 @@ pub returns-in-Ok-Ok-clause-spent : goal.returns-in-Ok-Ok-clause-spent
 returns-in-Ok-Ok-clause-spent g c = λ told whole. tt
 
 pub returns-in-Ok-Ok-clause-call : goal.returns-in-Ok-Ok-clause-call
-returns-in-Ok-Ok-clause-call g c = 
+returns-in-Ok-Ok-clause-call g c =
     let old : Meaning = meaning g.I.Input.source g.E.Endian.order c.args.reader.now in
     let new : Meaning = meaning g.I.Input.source g.E.Endian.order c.visit_behind.new.reader in
     let call = c.in-Ok-Ok.ensures.call in record {
@@ -106,7 +104,7 @@ pub returns-in-Ok-Err-clause-spent : goal.returns-in-Ok-Err-clause-spent
 returns-in-Ok-Err-clause-spent g c = λ told whole memory. (c.in-Ok-Err.ensures.call.answer told).6.1
 
 pub returns-in-Ok-Err-clause-call : goal.returns-in-Ok-Err-clause-call
-returns-in-Ok-Err-clause-call g c = 
+returns-in-Ok-Err-clause-call g c =
     let old : Meaning = meaning g.I.Input.source g.E.Endian.order c.args.reader.now in
     let new : Meaning = meaning g.I.Input.source g.E.Endian.order c.visit_behind.new.reader in
     let memory = (unmade_memory c.args.header (g.I.Input.source c.args.reader.now.input).whole c.in-Ok-Err.field-0 c.in-Ok-Err.refusal c.in-Ok-Err.field-0-is c.in-Ok-Err.ensures.event).0 in
