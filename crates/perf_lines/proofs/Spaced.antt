@@ -1,11 +1,17 @@
 -- Words one behind another.
-use Rattle.std.proofs.Common.{◌≡◌, ℕ, List, [], ◌∷◌, ◌++◌, Option, Some, None, Result, OnOk, refl, sym, ap, ◌∙◌, append-nil, append_assoc, codes, decimal}
+use Rattle.std.proofs.Common.{◌≡◌, ℕ, List, [], ◌∷◌, ◌++◌, Option, Some, None, Result, Ok, Err, OnOk, refl, sym, ap, ◌∙◌, append-nil, append_assoc, codes, decimal}
 use Rattle.std.proofs.lemmas.Result.{on_ok_weaker}
 use Rattle.std.proofs.lemmas.Grind.{flat_map-append}
+use Rattle.std.specs.Prelude.{is_ok, if◌then◌else◌}
 use Rattle.std.specs.List.{flat_map}
 use Rattle.perf_sample_types.specs.Registers.{RegistersValue}
 use Rattle.perf_lines.specs.Fields.{spaced, present, word_as, words_of, listed}
 use Rattle.perf_lines.specs.SampleText.{register_words}
+
+-- a text that was pushed to, at an `Ok`
+pub pushed : {T E : Type 0} (result : Result T E) (new old more : List ℕ) → new ≡ (if is_ok result then old ++ more else old) → OnOk result (new ≡ old ++ more)
+pushed (Ok x) new old more h = h
+pushed (Err e) new old more h = tt
 
 -- a text that grew by words, and then by words once more
 pub words_more : (words others : List (List ℕ)) (old middle new : List ℕ) → middle ≡ old ++ spaced words → new ≡ middle ++ spaced others → new ≡ old ++ spaced (words ++ others)

@@ -1,5 +1,6 @@
 -- The words that contracts of a run of the program are written in.
 pub use Rattle.std.specs.List.{list_any}
+pub use Rattle.perf_base.specs.Configuration.{plain}
 pub use Rattle.perf_base.specs.Configured.{configuration_of, endian_of}
 pub use Rattle.perf_base.specs.Errors.{kind_of}
 pub use Rattle.perf_parser.specs.Meaning.{buffer_of, config_of}

@@ -4,6 +4,7 @@ ghost use Rattle.std.specs.Prelude.{◌≡◌, ◌<◌, ◌++◌, List, ℕ, IsT
 ghost use Rattle.std.specs.Prelude.{codes, string_bytes, if◌then◌else◌, true};
 ghost use Rattle.perf_lines.specs.RunWords.{configuration_of, endian_of, kind_of, buffer_of};
 ghost use Rattle.perf_lines.specs.RunWords.{config_of, of_layout, list_any, IsWritten, Writes};
+ghost use Rattle.perf_lines.specs.RunWords.{plain};
 ghost use Rattle.perf_lines.specs.Text as shown;
 
 use crate::line::{push_attr_refused, push_end, push_fault, push_lines};
@@ -71,13 +72,31 @@ fn text_of<R: Read + Drop, E: Endian>(
         return Ok((text, Outcome::Faulted));
     };
     let config = ParseConfig::<Native>::default().with_endian(order);
-    let mut parser = Parser::new(alloc, buffer, config);
-    if with_attr {
-        let outcome = push_run_with_attr(&mut text, parser, limit)?;
-        return Ok((text, outcome));
-    }
-    let outcome = push_run(&mut text, &mut parser, limit)?;
+    let parser = Parser::new(alloc, buffer, config);
+    let outcome = push_stream(&mut text, parser, limit, with_attr)?;
     Ok((text, outcome))
+}
+
+// Appends the text of what a parser of the plain configuration reads, which may begin with an
+// attribute.
+fn push_stream<'p, B: ParseBuf<'p> + Drop, E: Endian>(
+    text: &mut String,
+    mut parser: Parser<B, E>,
+    limit: usize,
+    with_attr: bool,
+) -> Result<Outcome, AllocError>
+    requires { configuration_of (config_of parser) ≡ plain }
+    ensures { IsTrue (B.source (buffer_of parser)).told → IfOk result (λ outcome. (written : List ℕ)
+        × (string_bytes text.new ≡ string_bytes text.old ++ written)
+        × IsWritten (B.source (buffer_of parser)).can_fault (E.order (endian_of (config_of parser)))
+        limit (shown.stream_of with_attr (E.order (endian_of (config_of parser)))
+        (B.source (buffer_of parser)).left) outcome written) }
+{
+    if with_attr {
+        push_run_with_attr(text, parser, limit)
+    } else {
+        push_run(text, &mut parser, limit)
+    }
 }
 
 // Appends the text of what a parser reads, the attribute first.

@@ -1,0 +1,6 @@
+use Rattle.std.proofs.Common.{◌∙◌, refl}
+use Rattle.std.proofs.lemmas.Result.{on_ok_weaker}
+use Rattle.perf_lines.proofs.records.push_exit.Goals as goal
+
+pub returns : goal.returns
+returns c = on_ok_weaker c.push_fields.result (λ grown. grown ∙ rw (c.from.ensures, c.from-2.ensures, c.from-3.ensures, c.from-4.ensures) refl) c.push_fields.ensures
