@@ -26,3 +26,16 @@ returns g c =
     (λ bytes. Writes order c.args.limit (stream_of c.args.with_attr order bytes) Stopped old new)
     (λ bytes says. (take part.0 text, part.1, says_beginning true order c.args.limit (stream_of c.args.with_attr order bytes) c.in-Ok.outcome text part.0 says))
     c.in-Ok.ensures
+
+pub returns-then-write_whole : goal.returns-then-write_whole
+returns-then-write_whole g c =
+    let order = g.E.Endian.order c.args.order in
+    let old = g.W.Write.contents c.args.writer.now in
+    let new = g.W.Write.contents c.write_whole.new.writer in
+    let text : List ℕ = string_bytes c.in-Ok.text in
+    let all = subst (λ bytes. Appends old new bytes) c.as_bytes.ensures.value (c.write_whole.ensures.whole c.if-write_whole.true) in
+    if_some_map (g.R.Read.remaining c.args.reader)
+    (λ bytes. IsWritten true order c.args.limit (stream_of c.args.with_attr order bytes) c.in-Ok.outcome text)
+    (λ bytes. Writes order c.args.limit (stream_of c.args.with_attr order bytes) c.in-Ok.outcome old new)
+    (λ bytes says. (text, all, says))
+    c.in-Ok.ensures
