@@ -3,5 +3,6 @@ pub mod Batches
 pub mod Known
 pub mod Progress
 pub mod Endings
+pub mod Ended
 pub mod Spaced
 mod Digits

@@ -8,6 +8,9 @@ use Rattle.perf_base.specs.Order.{Order}
 use Rattle.perf_base.specs.Configuration.{Configuration}
 use Rattle.perf_base.specs.declared.error.ErrorKind.{ErrorKind}
 use Rattle.perf_base.specs.declared.error.ErrorKind.TheVariants.{External, OutOfMemory}
+use Rattle.perf_base.specs.Errors.{kind_of}
+use Rattle.perf_parser.specs.declared.runs.RunEnd.{RunEnd}
+use Rattle.perf_parser.specs.declared.runs.RunEnd.TheVariants as end
 use Rattle.perf_records.specs.Frames.{StreamEnd, done, cut_header, stream_end}
 use Rattle.perf_lines.specs.declared.outcome.Outcome.{Outcome}
 use Rattle.perf_lines.specs.declared.outcome.Outcome.TheVariants.{Clean, Refused, BadAttr, Faulted}
@@ -62,6 +65,22 @@ IsFaultText can_fault o limit stream written =
     × (written
     ≡ lines_from 0 (take k (stream_answers o stream))
     ++ end_line (codes "fault " ++ kind_name kind))
+
+-- ---- the end of a run
+
+-- the line that says how a run ended
+abbrev pub ending_line : RunEnd → List ℕ
+ending_line end.Limit = end_line (codes "limit")
+ending_line end.Done = end_line (codes "done")
+ending_line end.CutHeader = end_line (codes "cut")
+ending_line (end.Fault e) = end_line (codes "fault " ++ kind_name (kind_of e))
+
+-- what it amounts to, where a record was refused or none was
+abbrev pub ending_outcome : RunEnd → (refused : Bool) → Outcome
+ending_outcome end.Limit refused = if refused then Refused else Clean
+ending_outcome end.Done refused = if refused then Refused else Clean
+ending_outcome end.CutHeader refused = Refused
+ending_outcome (end.Fault e) refused = Faulted
 
 -- ---- what an outcome says
 

@@ -5,4 +5,4 @@ pub use Rattle.perf_base.specs.Configured.{configuration_of, endian_of}
 pub use Rattle.perf_base.specs.Errors.{kind_of}
 pub use Rattle.perf_parser.specs.Meaning.{buffer_of, config_of}
 pub use Rattle.perf_reader.specs.Reading.{of_layout}
-pub use Rattle.perf_lines.specs.Outcomes.{IsWritten, Writes}
+pub use Rattle.perf_lines.specs.Outcomes.{IsWritten, Writes, ending_line, ending_outcome}

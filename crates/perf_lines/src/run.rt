@@ -4,7 +4,7 @@ ghost use Rattle.std.specs.Prelude.{◌≡◌, ◌<◌, ◌++◌, List, ℕ, IsT
 ghost use Rattle.std.specs.Prelude.{codes, string_bytes, if◌then◌else◌, true};
 ghost use Rattle.perf_lines.specs.RunWords.{configuration_of, endian_of, kind_of, buffer_of};
 ghost use Rattle.perf_lines.specs.RunWords.{config_of, of_layout, list_any, IsWritten, Writes};
-ghost use Rattle.perf_lines.specs.RunWords.{plain};
+ghost use Rattle.perf_lines.specs.RunWords.{plain, ending_line, ending_outcome};
 ghost use Rattle.perf_lines.specs.Text as shown;
 
 use crate::line::{push_attr_refused, push_end, push_fault, push_lines};
@@ -201,15 +201,27 @@ fn push_run<'p, B: ParseBuf<'p>, E: Endian>(
         refused |= has_refusal(&run.frames);
         match run.end {
             RunEnd::Limit => count += batch,
-            RunEnd::Done => return push_last(text, "done", refused),
-            RunEnd::CutHeader => return push_last(text, "cut", true),
-            RunEnd::Fault(error) => {
-                push_fault(text, error.kind())?;
-                return Ok(Outcome::Faulted);
-            }
+            end => return push_ending(text, end, refused),
         }
     }
     push_last(text, "limit", refused)
+}
+
+// Appends the line that says how a run ended.
+fn push_ending(text: &mut String, end: RunEnd, refused: bool) -> Result<Outcome, AllocError>
+    ensures { IfOk result (λ outcome.
+        (string_bytes text.new ≡ string_bytes text.old ++ ending_line end)
+        × (outcome ≡ ending_outcome end refused)) }
+{
+    match end {
+        RunEnd::Limit => push_last(text, "limit", refused),
+        RunEnd::Done => push_last(text, "done", refused),
+        RunEnd::CutHeader => push_last(text, "cut", true),
+        RunEnd::Fault(error) => {
+            push_fault(text, error.kind())?;
+            Ok(Outcome::Faulted)
+        }
+    }
 }
 
 fn has_refusal(frames: &[(perf_event_header, ParseResult<Record>)]) -> bool

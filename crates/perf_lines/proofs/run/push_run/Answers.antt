@@ -1,17 +1,17 @@
 use Rattle.std.proofs.Common.{◌≡◌, ℕ, ◌+◌, ◌<◌, ◌≤◌, ◌^◌, List, length, take, string_bytes, arith, subst, sym, ap, ◌∙◌}
-use Rattle.std.specs.Prelude.{◌||◌, IsTrue, Some}
+use Rattle.std.specs.Prelude.{◌||◌, IsTrue}
 use Rattle.perf_records.specs.Frames.{behind_frames}
-use Rattle.perf_reader.specs.Reading.{of_layout}
 use Rattle.perf_base.specs.Configured.{configuration_of, endian_of}
 use Rattle.perf_records.specs.Answers.{answers}
-use Rattle.perf_parser.specs.Runs.{seen_answers, EndsWith, end_refusal}
+use Rattle.perf_parser.specs.Runs.{seen_answers, EndsWith}
 use Rattle.perf_lines.proofs.Batches.{behind_more}
-use Rattle.perf_lines.proofs.Progress.{Listed, batch_more, all_listed, ends_alike}
-use Rattle.perf_lines.proofs.Endings.{Made, if_ok_map, made_to_end, made_to_cut, made_to_fault, ends_early, fault_within}
+use Rattle.perf_lines.proofs.Progress.{Listed, batch_more}
+use Rattle.perf_lines.proofs.Endings.{Made, if_ok_map}
+use Rattle.perf_lines.proofs.Ended.{made_to_ending}
 use Rattle.perf_lines.proofs.run.push_run.Goals as goal
 
-pub returns-in-Done : goal.returns-in-Done
-returns-in-Done g c = λ told.
+pub returns-in_default : goal.returns-in_default
+returns-in_default g c = λ told.
     let i = c.loop-count.invariant in
     let r = c.read_records-run in
     let start = c.args.parser.now in
@@ -22,89 +22,25 @@ returns-in-Done g c = λ told.
     let order = g.E.Endian.order (endian_of start.reader.config) in
     let config = configuration_of start.reader.config in
     let bytes : List ℕ = (g.B.ParseBuf.source start.reader.input.buf).left in
-    let left : List ℕ = (g.B.ParseBuf.source c.loop-count.parser.reader.input.buf).left in
+    let buffer = g.B.ParseBuf.source c.loop-count.parser.reader.input.buf in
+    let left : List ℕ = buffer.left in
+    let behind : List ℕ = (g.B.ParseBuf.source r.new.parser.reader.input.buf).left in
     let n : ℕ = c.loop-count.count in
     let pairs = r.result.frames.items in
     let k : ℕ = length pairs in
     let t = i.told told in
     let are = subst (λ p. seen_answers pairs ≡ take k (answers (configuration_of p) (g.E.Endian.order (endian_of p)) left)) i.config (r.ensures.answers t) in
-    let ends = rw c.in-Done.is at (subst (λ p. EndsWith (g.E.Endian.order (endian_of p)) c.min-batch.result left k r.result.end (g.B.ParseBuf.source r.new.parser.reader.input.buf).left) i.config (r.ensures.end t)) in
+    let ends = subst (λ p. EndsWith (g.E.Endian.order (endian_of p)) c.min-batch.result left k r.result.end behind) i.config (r.ensures.end t) in
     let listed = i.listed told in
     let within : n + c.min-batch.result ≤ c.args.limit = omega (arith, c.min-batch.ensures, c.loop-count-test.true) in
-    let fits : n + length c.deref.result.now < 2 ^ 64 = omega (arith, ap length c.deref.ensures.value, ends.0, within, c.ranges.limit.fits) in
+    let fits : n + length c.deref.result.now < 2 ^ 64 = omega (arith, ap length c.deref.ensures.value, r.ensures.count, within, c.ranges.limit.fits) in
     let batch : Listed config order bytes old (n + k) now (c.loop-count.refused || c.has_refusal-refused.result) =
     batch_more config order bytes old n made c.loop-count.refused listed left (i.left told) pairs are
     c.deref.result.now c.deref.ensures.value now (c.in_ok-push_lines.ensures fits)
     c.deref-in-loop-count.result.now c.deref-in-loop-count.ensures.value c.has_refusal-refused.result c.has_refusal-refused.ensures in
-    let all : n + k ≡ length (answers config order bytes) = all_listed config order bytes n k left listed.within (i.left told) ends.1 in
-    let end = ends_alike config order bytes n left _ listed.within (i.left told) ends.2 in
-    let below : n + k < c.args.limit = omega (arith, ends.0, within) in
-    if_ok_map c.push_last.result _ (λ outcome. Made f config order c.args.limit bytes old outcome (string_bytes c.push_last.new.text))
-    (λ outcome last. made_to_end f config order c.args.limit bytes old (n + k) now _ batch all below end (string_bytes c.push_last.new.text) last.0 outcome last.1) c.push_last.ensures
-
-pub returns-in-CutHeader : goal.returns-in-CutHeader
-returns-in-CutHeader g c = λ told.
-    let i = c.loop-count.invariant in
-    let r = c.read_records-run in
-    let start = c.args.parser.now in
-    let f = (g.B.ParseBuf.source start.reader.input.buf).can_fault in
-    let old : List ℕ = string_bytes c.args.text.now in
-    let made : List ℕ = string_bytes c.loop-count.text in
-    let now : List ℕ = string_bytes c.push_lines.new.text in
-    let order = g.E.Endian.order (endian_of start.reader.config) in
-    let config = configuration_of start.reader.config in
-    let bytes : List ℕ = (g.B.ParseBuf.source start.reader.input.buf).left in
-    let left : List ℕ = (g.B.ParseBuf.source c.loop-count.parser.reader.input.buf).left in
-    let n : ℕ = c.loop-count.count in
-    let pairs = r.result.frames.items in
-    let k : ℕ = length pairs in
-    let t = i.told told in
-    let are = subst (λ p. seen_answers pairs ≡ take k (answers (configuration_of p) (g.E.Endian.order (endian_of p)) left)) i.config (r.ensures.answers t) in
-    let ends = rw c.in-CutHeader.is at (subst (λ p. EndsWith (g.E.Endian.order (endian_of p)) c.min-batch.result left k r.result.end (g.B.ParseBuf.source r.new.parser.reader.input.buf).left) i.config (r.ensures.end t)) in
-    let listed = i.listed told in
-    let within : n + c.min-batch.result ≤ c.args.limit = omega (arith, c.min-batch.ensures, c.loop-count-test.true) in
-    let fits : n + length c.deref.result.now < 2 ^ 64 = omega (arith, ap length c.deref.ensures.value, ends.0, within, c.ranges.limit.fits) in
-    let batch : Listed config order bytes old (n + k) now (c.loop-count.refused || c.has_refusal-refused.result) =
-    batch_more config order bytes old n made c.loop-count.refused listed left (i.left told) pairs are
-    c.deref.result.now c.deref.ensures.value now (c.in_ok-push_lines.ensures fits)
-    c.deref-in-loop-count.result.now c.deref-in-loop-count.ensures.value c.has_refusal-refused.result c.has_refusal-refused.ensures in
-    let all : n + k ≡ length (answers config order bytes) = all_listed config order bytes n k left listed.within (i.left told) ends.1 in
-    let end = ends_alike config order bytes n left _ listed.within (i.left told) ends.2 in
-    let below : n + k < c.args.limit = omega (arith, ends.0, within) in
-    if_ok_map c.push_last-in-CutHeader.result _ (λ outcome. Made f config order c.args.limit bytes old outcome (string_bytes c.push_last-in-CutHeader.new.text))
-    (λ outcome last. made_to_cut f config order c.args.limit bytes old (n + k) now _ batch all below end (string_bytes c.push_last-in-CutHeader.new.text) last.0 outcome last.1) c.push_last-in-CutHeader.ensures
-
-pub returns-in-Fault : goal.returns-in-Fault
-returns-in-Fault g c = λ told.
-    let i = c.loop-count.invariant in
-    let r = c.read_records-run in
-    let start = c.args.parser.now in
-    let f = (g.B.ParseBuf.source start.reader.input.buf).can_fault in
-    let old : List ℕ = string_bytes c.args.text.now in
-    let made : List ℕ = string_bytes c.loop-count.text in
-    let now : List ℕ = string_bytes c.push_lines.new.text in
-    let order = g.E.Endian.order (endian_of start.reader.config) in
-    let config = configuration_of start.reader.config in
-    let bytes : List ℕ = (g.B.ParseBuf.source start.reader.input.buf).left in
-    let left : List ℕ = (g.B.ParseBuf.source c.loop-count.parser.reader.input.buf).left in
-    let n : ℕ = c.loop-count.count in
-    let pairs = r.result.frames.items in
-    let k : ℕ = length pairs in
-    let t = i.told told in
-    let are = subst (λ p. seen_answers pairs ≡ take k (answers (configuration_of p) (g.E.Endian.order (endian_of p)) left)) i.config (r.ensures.answers t) in
-    let ends = rw c.in-Fault.is at (subst (λ p. EndsWith (g.E.Endian.order (endian_of p)) c.min-batch.result left k r.result.end (g.B.ParseBuf.source r.new.parser.reader.input.buf).left) i.config (r.ensures.end t)) in
-    let listed = i.listed told in
-    let within : n + c.min-batch.result ≤ c.args.limit = omega (arith, c.min-batch.ensures, c.loop-count-test.true) in
-    let fits : n + length c.deref.result.now < 2 ^ 64 = omega (arith, ap length c.deref.ensures.value, ends.0, within, c.ranges.limit.fits) in
-    let batch : Listed config order bytes old (n + k) now (c.loop-count.refused || c.has_refusal-refused.result) =
-    batch_more config order bytes old n made c.loop-count.refused listed left (i.left told) pairs are
-    c.deref.result.now c.deref.ensures.value now (c.in_ok-push_lines.ensures fits)
-    c.deref-in-loop-count.result.now c.deref-in-loop-count.ensures.value c.has_refusal-refused.result c.has_refusal-refused.ensures in
-    let below : n + k < c.args.limit = omega (arith, ends.0, within) in
-    let fault = fault_within f (g.B.ParseBuf.source c.loop-count.parser.reader.input.buf).can_fault (end_refusal r.result.end) c.kind.result
-    (ap end_refusal c.in-Fault.is ∙ ap (λ kind. Some kind) (sym c.kind.ensures)) r.ensures.keeps.fault i.can_fault in
-    let early = ends_early f c.kind.result (λ h. ends.1 (subst (λ kind. IsTrue (of_layout kind)) c.kind.ensures h)) fault in
-    made_to_fault f config order c.args.limit bytes old (n + k) now _ batch below c.kind.result early (string_bytes c.push_fault.new.text) c.in_ok-push_fault-in-Fault.ensures
+    if_ok_map c.push_ending.result _ (λ outcome. Made f config order c.args.limit bytes old outcome (string_bytes c.push_ending.new.text))
+    (λ outcome last. made_to_ending f buffer.can_fault i.can_fault config order c.args.limit n c.min-batch.result within bytes old left behind k r.result.end c.in_default.not-Limit ends r.ensures.keeps.fault listed.within (i.left told) now _ batch (string_bytes c.push_ending.new.text) outcome last.0 last.1)
+    c.push_ending.ensures
 
 pub loop-count-preserved : goal.loop-count-preserved
 loop-count-preserved g c = record {
