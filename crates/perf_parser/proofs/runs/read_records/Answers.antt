@@ -1,4 +1,4 @@
-use Rattle.std.proofs.Common.{arith, ◌≡◌, ℕ, ◌+◌, [], ◌∷◌, length, take, sym, ◌∙◌, ap, subst, refl, None, length-append}
+use Rattle.std.proofs.Common.{rules, arith, ◌≡◌, ℕ, ◌+◌, [], ◌∷◌, length, take, sym, ◌∙◌, ap, subst, refl, None, length-append}
 use Rattle.perf_base.specs.Configured.{configuration_of, endian_of}
 use Rattle.perf_base.specs.declared.config.ParseConfig.{ParseConfig}
 use Rattle.perf_buffers.specs.declared.outer.Outer.{Outer}
@@ -106,3 +106,9 @@ returns-clause-answers g c = λ told.
 pub returns-clause-keeps : goal.returns-clause-keeps
 returns-clause-keeps g c =
     run_limit (meaning g.B.ParseBuf.source g.E.Endian.order c.args.parser.now) (meaning g.B.ParseBuf.source g.E.Endian.order c.loop.parser) (refused_count c.loop.frames.items) c.loop.invariant.2
+
+pub returns-clause-count : goal.returns-clause-count
+returns-clause-count g c = search rules steps 500000
+
+pub returns-clause-end : goal.returns-clause-end
+returns-clause-end g c = search rules steps 500000

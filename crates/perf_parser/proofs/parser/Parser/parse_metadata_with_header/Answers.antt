@@ -54,3 +54,14 @@ returns-clause-call g c =
       counted = λ start p. keeps_unparsed start new (read.keeps start p);
       follows = λ start p. follows_more start old new p (keeps_follows old new None (read.keeps old (keeps_none old)));
     })
+
+-- how far it goes
+
+pub returns-in-Err-clause-within : goal.returns-in-Err-clause-within
+returns-in-Err-clause-within g c = λ told. rw c.answer.ensures.buf (c.in-Err.ensures.within told)
+
+pub returns-in-Ok-duplicate-clause-within : goal.returns-in-Ok-duplicate-clause-within
+returns-in-Ok-duplicate-clause-within g c = c.in-Ok.ensures.within
+
+pub returns-clause-within : goal.returns-clause-within
+returns-clause-within g c = c.in-Ok.ensures.within
