@@ -1,7 +1,8 @@
 -- Words one behind another.
-use Rattle.std.proofs.Common.{◌≡◌, ℕ, List, [], ◌∷◌, ◌++◌, Option, Some, None, Result, Ok, Err, OnOk, refl, sym, ap, ◌∙◌, append-nil, append_assoc, codes, decimal}
+use Rattle.std.proofs.Common.{◌≡◌, ℕ, List, [], ◌∷◌, ◌++◌, Option, Some, None, Result, Ok, Err, OnOk, ◌≤◌, length, take, refl, sym, ap, ◌∙◌, append-nil, append_assoc, codes, decimal}
 use Rattle.std.proofs.lemmas.Result.{on_ok_weaker}
 use Rattle.std.proofs.lemmas.Grind.{flat_map-append}
+use Rattle.std.proofs.lemmas.List.{take_all}
 use Rattle.std.specs.Prelude.{is_ok, if◌then◌else◌}
 use Rattle.std.specs.List.{flat_map}
 use Rattle.perf_sample_types.specs.Registers.{RegistersValue}
@@ -51,3 +52,10 @@ listed_to_end {X} item old before pushed first_text text x left rest items named
     ∙ ap (λ last. text ++ flat_map (λ (other : X). codes "," ++ item other) last) (sym none)
     ∙ others
     ∙ rw (first, named, all) (simp append_assoc)
+
+-- the same of a list that a loop goes over by its places
+pub listed_taken : {X : Type 0} (item : X → List ℕ) (old before pushed first_text text : List ℕ) (x : X) (i : ℕ) (rest items : List X) → pushed ≡ old ++ before → first_text ≡ pushed ++ item x → text ≡ first_text ++ flat_map (λ other. codes "," ++ item other) (take i rest) → length rest ≤ i → items ≡ x ∷ rest → text ≡ old ++ (before ++ listed item items)
+listed_taken {X} item old before pushed first_text text x i rest items named first others all is =
+    others
+    ∙ ap (λ (taken : List X). first_text ++ flat_map (λ (other : X). codes "," ++ item other) taken) (take_all i rest all)
+    ∙ rw (first, named, is) (simp append_assoc)

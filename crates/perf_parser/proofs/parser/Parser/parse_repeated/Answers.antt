@@ -57,3 +57,6 @@ returns-clause-call g c =
     let a : Meaning = meaning g.B.ParseBuf.source g.E.Endian.order c.args.self.now in
     let b : Meaning = meaning g.B.ParseBuf.source g.E.Endian.order c.loop.self in
     only _ _ _ _ _ c.loop.invariant.0 (runs_follow g.P.Layout.parses g.P.Layout.counts a b c.loop.items.items c.loop.invariant.2)
+
+pub returns-clause-ok : goal.returns-clause-ok
+returns-clause-ok g c = (omega (arith, c.loop.invariant.1), c.loop.invariant.2)
