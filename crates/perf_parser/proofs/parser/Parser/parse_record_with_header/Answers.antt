@@ -1,4 +1,4 @@
-use Rattle.std.proofs.Common.{◌∙◌, sym, ap, Err}
+use Rattle.std.proofs.Common.{rules, ◌∙◌, sym, ap, Err}
 use Rattle.perf_parser.proofs.Lifting.{lifted, answered}
 use Rattle.perf_parser.proofs.parser.Parser.parse_record_with_header.Goals as goal
 
@@ -8,7 +8,7 @@ pub returns-in-Ok-clause-within : goal.returns-in-Ok-clause-within
 returns-in-Ok-clause-within g c = c.in-Ok.ensures.within
 
 pub returns-in-Ok-clause-event : goal.returns-in-Ok-clause-event
-returns-in-Ok-clause-event g c = c.in-Ok.ensures.event
+returns-in-Ok-clause-event g c = search rules steps 200000
 
 pub returns-in-Ok-clause-whole_memory : goal.returns-in-Ok-clause-whole_memory
 returns-in-Ok-clause-whole_memory g c = c.in-Ok.ensures.whole_memory
