@@ -1,0 +1,5 @@
+use Rattle.std.proofs.Common.{rules}
+use Rattle.perf_lines.proofs.run.push_ending.Goals as goal
+
+pub returns-in-CutHeader : goal.returns-in-CutHeader
+returns-in-CutHeader c = search rules steps 300000
