@@ -3,3 +3,6 @@ use Rattle.perf_lines.proofs.run.push_ending.Goals as goal
 
 pub returns-in-CutHeader : goal.returns-in-CutHeader
 returns-in-CutHeader c = search rules steps 300000
+
+pub returns-in_ok-push_fault-in-Fault : goal.returns-in_ok-push_fault-in-Fault
+returns-in_ok-push_fault-in-Fault c = search rules steps 300000
