@@ -20,7 +20,7 @@ ERROR = re.compile(r"(?:\./)?proofs/(\S+?)/(\w+)\.antt:\d+:\d+: error: (.*)")
 # What says the numbers of a set or of a named number.
 TABLES = ("flags", "names")
 # The answers of a proof name what the edit, or the refusal of a callee, took away.
-NAMES = re.compile(r"has no field|is not in scope|has no `|was not admitted")
+NAMES = re.compile(r"has no field|is not in scope|has no `|was not admitted|\(nearest:")
 
 
 class Body:

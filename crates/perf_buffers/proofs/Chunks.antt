@@ -116,7 +116,6 @@ taken_chunk a m b c ready n within h on = record {
   same = λ t. ap (λ xs. take n xs) (sym (h.shows.1 t)) ∙ take-take n (length (chunk_bytes c)) a.left within;
 }
 
-
 -- bytes that were appended, or not
 pub appended : (b : Bool) (out now more left : List ℕ) (n : ℕ) → out ≡ if b then (now ++ take n more) else now → b ≡ true → take n more ≡ take n left → out ≡ now ++ take n left
 appended b out now more left n p q r = p ∙ rw q (ap (λ xs. now ++ xs) r)

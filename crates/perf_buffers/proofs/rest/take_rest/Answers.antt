@@ -105,9 +105,9 @@ returns-in-Ok g c =
     let first : IsTrue old.told → Takes old (length c.in-Ok-Some.first.now) mid × (c.in-Ok-Some.first.now ≡ take (length c.in-Ok-Some.first.now) old.left) × (0 < length old.left) = λ told. some_matches _ _ c.in-Ok-Some.field-0 c.in-Ok-Some.first c.in-Ok-Some.field-0-is (l.ok told) in
     let stays = stays_then old mid new None l.stays e.stays in
     let not_whole : IsTrue old.whole → ⊥ = λ w.
-        let h = some_holds _ c.in-Ok-Some.field-0 c.in-Ok-Some.first c.in-Ok-Some.field-0-is (l.whole w) in
-        let ended : mid.left ≡ [] = took_everything old mid c.in-Ok-Some.first.now (first h.0).0 h.1 in
-        let never = sym c.in-Ok-false.field-0-test ∙ (e.ok (l.stays.3 h.0)).1 ended in cc in
+    let h = some_holds _ c.in-Ok-Some.field-0 c.in-Ok-Some.first c.in-Ok-Some.field-0-is (l.whole w) in
+    let ended : mid.left ≡ [] = took_everything old mid c.in-Ok-Some.first.now (first h.0).0 h.1 in
+    let never = sym c.in-Ok-false.field-0-test ∙ (e.ok (l.stays.3 h.0)).1 ended in cc in
     let not_nothing : IsTrue old.told → old.left ≡ [] → ⊥ = λ told none. let some = (first told).2 in let short = ap length none in omega arith in
     let r = c.in-Ok.ensures in record {
       stays = stays_then old new last None stays r.stays;
@@ -137,9 +137,9 @@ returns-in-Err-copy_rest g c =
     let first : IsTrue old.told → Takes old (length c.in-Ok-Some.first.now) mid × (c.in-Ok-Some.first.now ≡ take (length c.in-Ok-Some.first.now) old.left) × (0 < length old.left) = λ told. some_matches _ _ c.in-Ok-Some.field-0 c.in-Ok-Some.first c.in-Ok-Some.field-0-is (l.ok told) in
     let stays = stays_then old mid new None l.stays e.stays in
     let not_whole : IsTrue old.whole → ⊥ = λ w.
-        let h = some_holds _ c.in-Ok-Some.field-0 c.in-Ok-Some.first c.in-Ok-Some.field-0-is (l.whole w) in
-        let ended : mid.left ≡ [] = took_everything old mid c.in-Ok-Some.first.now (first h.0).0 h.1 in
-        let never = sym c.in-Ok-false.field-0-test ∙ (e.ok (l.stays.3 h.0)).1 ended in cc in
+    let h = some_holds _ c.in-Ok-Some.field-0 c.in-Ok-Some.first c.in-Ok-Some.field-0-is (l.whole w) in
+    let ended : mid.left ≡ [] = took_everything old mid c.in-Ok-Some.first.now (first h.0).0 h.1 in
+    let never = sym c.in-Ok-false.field-0-test ∙ (e.ok (l.stays.3 h.0)).1 ended in cc in
     let not_nothing : IsTrue old.told → old.left ≡ [] → ⊥ = λ told none. let some = (first told).2 in let short = ap length none in omega arith in
     let kind = Some (kind_of c.in-Err-copy_rest.error) in
     let r = c.in-Err-copy_rest.ensures in record {

@@ -53,7 +53,7 @@ pub returns-in-Ok-clause-whole_memory : goal.returns-in-Ok-clause-whole_memory
 returns-in-Ok-clause-whole_memory g c = λ w. tt
 
 pub returns-in-Ok-clause-nothing : goal.returns-in-Ok-clause-nothing
-returns-in-Ok-clause-nothing g c = 
+returns-in-Ok-clause-nothing g c =
     let some : 0 < c.args.len = grind (arith, nat_tests) in λ z. absurd (omega arith)
 
 pub returns-in-Ok-clause-short : goal.returns-in-Ok-clause-short
@@ -63,7 +63,7 @@ pub returns-in-Ok-clause-beforehand : goal.returns-in-Ok-clause-beforehand
 returns-in-Ok-clause-beforehand g c = λ t b. tt
 
 pub returns-in-Ok-clause-counted : goal.returns-in-Ok-clause-counted
-returns-in-Ok-clause-counted g c = 
+returns-in-Ok-clause-counted g c =
     let some : 0 < c.args.len = grind (arith, nat_tests) in c.tick.ensures ∙ ap (λ k. c.args.self.now.reads + k) (sym (any c.args.len some))
 
 pub returns-in-Ok-clause-length : goal.returns-in-Ok-clause-length
@@ -76,7 +76,7 @@ pub returns-in-Err-clause-whole_memory : goal.returns-in-Err-clause-whole_memory
 returns-in-Err-clause-whole_memory g c = c.in-Err.ensures.whole_memory
 
 pub returns-in-Err-clause-nothing : goal.returns-in-Err-clause-nothing
-returns-in-Err-clause-nothing g c = 
+returns-in-Err-clause-nothing g c =
     let some : 0 < c.args.len = grind (arith, nat_tests) in λ z. absurd (omega arith)
 
 pub returns-in-Err-clause-short : goal.returns-in-Err-clause-short
@@ -86,14 +86,14 @@ pub returns-in-Err-clause-beforehand : goal.returns-in-Err-clause-beforehand
 returns-in-Err-clause-beforehand g c = c.in-Err.ensures.beforehand
 
 pub returns-in-Err-clause-counted : goal.returns-in-Err-clause-counted
-returns-in-Err-clause-counted g c = 
+returns-in-Err-clause-counted g c =
     let some : 0 < c.args.len = grind (arith, nat_tests) in c.tick.ensures ∙ ap (λ k. c.args.self.now.reads + k) (sym (any c.args.len some))
 
 pub returns-in-Err-clause-length : goal.returns-in-Err-clause-length
 returns-in-Err-clause-length g c = tt
 
 pub returns-then-len-eq0-clause-call : goal.returns-then-len-eq0-clause-call
-returns-then-len-eq0-clause-call g c = 
+returns-then-len-eq0-clause-call g c =
     let old : Meaning = meaning g.I.Input.source g.E.Endian.order c.args.self.now in record {
       config = refl;
       whole = refl;

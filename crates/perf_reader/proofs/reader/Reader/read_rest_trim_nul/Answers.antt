@@ -15,7 +15,7 @@ pub returns-in-Ok-clause-nothing : goal.returns-in-Ok-clause-nothing
 returns-in-Ok-clause-nothing g c = λ t l. (tt, c.truncate.ensures.form ∙ (c.in-Ok.ensures.nothing t l).1)
 
 pub returns-in-Ok-clause-call : goal.returns-in-Ok-clause-call
-returns-in-Ok-clause-call g c = 
+returns-in-Ok-clause-call g c =
     let same : c.as_slice.result.now ≡ cow_items c.in-Ok.bytes = c.as_slice.ensures in
     part_behind _ _ _ c.in-Ok.ensures.call (
     call_gives {show = cow_items} (λ _. trimmed (cow_items c.in-Ok.bytes)) (sym (c.truncate.ensures.items ∙ (ap (take c.trimmed_len-len.result) (sym same) ∙ (c.trimmed_len-len.ensures.trimmed ∙ ap trimmed same)))))

@@ -42,7 +42,7 @@ pub returns-in-Err-clause-memory : goal.returns-in-Err-clause-memory
 returns-in-Err-clause-memory g c = c.in-Err.ensures.memory
 
 pub returns-then-len-eq0-clause-call : goal.returns-then-len-eq0-clause-call
-returns-then-len-eq0-clause-call g c = 
+returns-then-len-eq0-clause-call g c =
     let old : Meaning = meaning g.I.Input.source g.E.Endian.order c.args.self.now in record {
       config = refl;
       whole = refl;
