@@ -102,14 +102,10 @@ def trait_of(trait):
 
 
 def other_owners(header):
-    """What else that folder may be called: with the types of the trait, or as any type's."""
+    """What else that folder may be called, where a trait of the crate has that name itself."""
     header = re.sub(r"^impl(<.*?>)? (?=[\w&\[])", "", header)
     trait, is_trait, of = header.rpartition(" for ")
-    if not is_trait:
-        return []
-    given = re.findall(r"\w{2,}", re.sub(r"'\w+", "", trait))
-    name = re.match(r"\w*", of)[0]
-    return [name + "".join(given), name + "Any" + "".join(given[:1])]
+    return [re.match(r"\w*", of)[0] + "Any" + trait_of(trait)] if is_trait else []
 
 
 def read_edit(edit):
