@@ -36,7 +36,7 @@ pub(crate) trait ReadField<'p, I: Input<'p>>: SampleField {
 }
 
 // A field where it is there. One that is absent costs the test of its flag.
-#[inline]
+#[inline(always)]
 #[tactic(auto, using(perf_reader::proofs::TableRuns::optional_fields))]
 pub(crate) fn read_field_if<'p, I: Input<'p>, E: Endian, T: ReadField<'p, I>>(
     reader: &mut Reader<I, E>,

@@ -74,9 +74,7 @@ impl From<Sample<'_>> for SampleId {
     ghost from_gives = { λ sample id. id ≡ shown.sample_id_of (shown.sample_value sample) };
 
     fn from(sample: Sample<'_>) -> SampleId {
-        let id = SampleId::from_sample(&sample);
-        drop(sample);
-        id
+        SampleId::from_sample(&sample)
     }
 }
 
