@@ -35,6 +35,26 @@ pub fn check_answer(rt: &impl Abort, what: &str, answer: ParseResult<String>, wa
     }
 }
 
+/// Asserts what is told.
+pub fn check_told(rt: &impl Abort, told: ParseResult<String>, want: &str) {
+    check_answer(rt, "the text", told, want);
+}
+
+/// Asserts what is told of a value: all of its fields, and of each list whether it is borrowed.
+pub fn check_debug<T: Debug>(rt: &(impl AllocGlobal + Abort), value: &T, want: &str) {
+    check_text(rt, format!(in rt.alloc(); "{value:?}"), want);
+}
+
+/// Asserts numbers.
+pub fn check_numbers(rt: &impl Abort, told: &[u64], want: &[u64]) {
+    check_same(rt, "the numbers", told, want);
+}
+
+/// Asserts numbers, each of which may be lacking.
+pub fn check_answers(rt: &impl Abort, told: &[Option<u64>], want: &[Option<u64>]) {
+    check_same(rt, "the answers", told, want);
+}
+
 /// Asserts that two values are equal, or that one is true, and says of which text it is not so.
 #[macro_export]
 macro_rules! check {

@@ -1,7 +1,8 @@
-//! Tests that cross the crates and are no row of a list (`perf_cases` reads those): cursors,
-//! configurations, whose bytes a parser lends, visitors, byte orders, buffers, readers, writers,
-//! types and closures of a user's own, runs of `perfrec`, what the small programs say, and what
-//! lies outside the contracts, such as the texts of errors. Without its tests this crate is empty.
+//! Tests that are no row of a list (`perf_cases` reads those): plain values and how they are copied,
+//! cursors, configurations, whose bytes a parser lends, visitors, byte orders, buffers, readers,
+//! writers, types and closures of a user's own, runs of `perfrec`, what the small programs say, and
+//! what lies outside the contracts, such as the texts of errors. Without its tests this crate is
+//! empty.
 #![tactic(auto)]
 
 #[cfg(test)]
@@ -15,6 +16,8 @@ mod closures;
 #[cfg(test)]
 mod configurations;
 #[cfg(test)]
+mod copies;
+#[cfg(test)]
 mod counts;
 #[cfg(test)]
 mod cursors;
@@ -24,6 +27,8 @@ mod errors;
 mod failing;
 #[cfg(test)]
 mod faults;
+#[cfg(test)]
+mod groups;
 #[cfg(test)]
 mod lines;
 #[cfg(test)]
@@ -41,9 +46,15 @@ mod printing;
 #[cfg(test)]
 mod reads;
 #[cfg(test)]
+mod records;
+#[cfg(test)]
 mod runs;
 #[cfg(test)]
 mod sample_counts;
+#[cfg(test)]
+mod samples;
+#[cfg(test)]
+mod sizes;
 #[cfg(test)]
 mod streams;
 #[cfg(test)]
@@ -52,3 +63,5 @@ mod texts;
 mod values;
 #[cfg(test)]
 mod visits;
+#[cfg(test)]
+mod words;

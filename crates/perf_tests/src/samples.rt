@@ -1,6 +1,6 @@
 //! Samples that are made of their fields.
 
-use crate::checks::{check_debug, check_text};
+use crate::checks::{check_debug, check_told};
 use bitflags::Flags;
 use perf_base::cow::CowSlice;
 use perf_base::error::ParseResult;
@@ -193,7 +193,7 @@ fn a_sample_answers_each_of_its_fields(rt: HostRuntime) {
     let branches = [branch()];
     let want = every_field_told!("Borrowed");
     let told = told_with_copies(rt.alloc(), every_field(&branches));
-    check_text(&rt, told, want);
+    check_told(&rt, told, want);
 }
 
 // A list in memory of its own.
@@ -263,7 +263,7 @@ fn told_owned(alloc: Global, branches: &[BranchEntry]) -> ParseResult<String> {
 fn a_sample_that_owns_its_lists_is_copied(rt: HostRuntime) {
     let branches = [branch()];
     let want = every_field_told!("Owned");
-    check_text(&rt, told_owned(rt.alloc(), &branches), want);
+    check_told(&rt, told_owned(rt.alloc(), &branches), want);
 }
 
 // What is told of a sample of no more than these fields.
@@ -328,7 +328,7 @@ const ALONE: [(Option<u32>, Option<u32>, Option<u64>, &str); 4] = [
 #[test]
 fn a_sample_has_the_fields_alone_that_are_given(rt: HostRuntime) {
     for (pid, tid, index, want) in ALONE {
-        check_text(&rt, told_alone(rt.alloc(), (pid, tid), index, None), want);
+        check_told(&rt, told_alone(rt.alloc(), (pid, tid), index, None), want);
     }
 }
 
@@ -342,7 +342,7 @@ fn branches_need_no_index(rt: HostRuntime) {
     let branches = [branch()];
     let lent = Some(CowSlice::Borrowed(&branches));
     let told = told_alone(rt.alloc(), (None, None), None, lent);
-    check_text(&rt, told, want);
+    check_told(&rt, told, want);
 }
 
 // Asserts what a sample id says that is made of a sample.

@@ -1,6 +1,6 @@
 //! Reads of counters and groups of them.
 
-use crate::checks::{check_answers, check_debug, check_text};
+use crate::checks::{check_answers, check_debug, check_told};
 use bitflags::Flags;
 use perf_base::cow::CowSlice;
 use perf_base::error::ParseResult;
@@ -169,7 +169,7 @@ fn told_of_a_copy(alloc: Global, group: &ReadGroup<'_>) -> ParseResult<String> {
 
 #[test]
 fn a_copy_of_entries_goes_on_alone(rt: HostRuntime) {
-    check_text(
+    check_told(
         &rt,
         told_of_a_copy(rt.alloc(), &five()),
         "(0, (3, Some(3))) [Some(GroupEntry { value: 4, id: None, lost: None }), \
@@ -339,6 +339,6 @@ fn told_refusal(alloc: Global, group: ReadGroup<'_>) -> ParseResult<String> {
 #[test]
 fn groups_of_none_or_several_are_no_read(rt: HostRuntime) {
     let want = "can only convert groups with a single element to ReadValues";
-    check_text(&rt, told_refusal(rt.alloc(), of_none()), want);
-    check_text(&rt, told_refusal(rt.alloc(), with_ids()), want);
+    check_told(&rt, told_refusal(rt.alloc(), of_none()), want);
+    check_told(&rt, told_refusal(rt.alloc(), with_ids()), want);
 }
