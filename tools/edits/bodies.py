@@ -79,11 +79,15 @@ def item_start(lines, at):
     return at
 
 
+def parts_of(header):
+    """The trait of an impl, whether it has one, and what the impl is for."""
+    return re.sub(r"^impl(<.*?>)? (?=[\w&\[])", "", header).rpartition(" for ")
+
+
 def owner_of(header):
     """What the folder of an impl's proofs is called: its type, and behind that its trait and what
     the trait is of."""
-    header = re.sub(r"^impl(<.*?>)? (?=[\w&\[])", "", header)
-    trait, is_trait, of = header.rpartition(" for ")
+    trait, is_trait, of = parts_of(header)
     of = re.sub(r"'\w+|\s", "", of)
     name = re.match(r"&?\[?(\w+)", of)
     name = name[1] if name else ""
@@ -103,8 +107,7 @@ def trait_of(trait):
 
 def other_owners(header):
     """What else that folder may be called, where a trait of the crate has that name itself."""
-    header = re.sub(r"^impl(<.*?>)? (?=[\w&\[])", "", header)
-    trait, is_trait, of = header.rpartition(" for ")
+    trait, is_trait, of = parts_of(header)
     return [re.match(r"\w*", of)[0] + "Any" + trait_of(trait)] if is_trait else []
 
 
