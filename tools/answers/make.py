@@ -1,9 +1,9 @@
 #!/usr/bin/env python3
-"""Makes the list of answers that crates/perf_answers replays: see README.md beside this file.
+"""Makes the list of answers that crates/perf_cases replays: see README.md beside this file.
 
     make.py --streams            lists the cases and counts their frames; runs nothing
     make.py --page PROGRAM WORD.. compares what PROGRAM prints with page.py, also for what the lists leave out
-    make.py PROGRAM WORD..       writes the list, and what its replay must print
+    make.py PROGRAM WORD..       writes the list behind the cases that are written by hand, and what a replay must print
 
 PROGRAM is the original under a program that prints perfrec's lines. It takes perfrec's words (order, limit, and `attr`
 where the stream begins with an attribute), and in front of them the WORDs, which ask it to hide what README.md calls
@@ -21,7 +21,9 @@ sys.dont_write_bytecode = True
 import page  # noqa: E402
 
 HERE = os.path.dirname(os.path.abspath(__file__))
-REPLAY = os.path.join(HERE, "..", "..", "crates", "perf_answers")
+REPLAY = os.path.join(HERE, "..", "..", "crates", "perf_cases")
+# What stands in front of the list; what is in front of that is written by hand.
+MARK = "# What the original answers: tools/answers/make.py writes all that follows.\n"
 LIMIT = 1000
 
 # The sizes of an attribute, one behind another.
@@ -570,22 +572,25 @@ def compare(program):
 
 
 def write(blocks):
-    """The list, as the program that replays it reads it, and what that prints where nothing differs."""
+    """The list, behind what is written by hand, and what the program that replays both prints where nothing differs."""
+    with open(os.path.join(REPLAY, "stdin")) as it:
+        by_hand = it.read().partition(MARK)[0].rstrip("\n")
+    whole = "\n".join([by_hand + "\n", MARK, *blocks])
     with open(os.path.join(REPLAY, "stdin"), "w") as it:
-        it.write("".join(blocks))
-    lines = sum(line[:2] in ("> ", "~ ") for block in blocks for line in block.splitlines())
+        it.write(whole)
+    counts = [sum(line.startswith(word) for line in whole.splitlines()) for word in ("case ", "= ")]
     with open(os.path.join(REPLAY, "stdout"), "w") as it:
-        it.write("%d cases, %d lines, 0 differences\n" % (len(blocks), lines))
+        it.write("%d cases, %d answers, 0 differences\n" % tuple(counts))
 
 
 def block_of(case, text, status, alone):
     """A case's text. A line is marked by ~ where the original alone, that is nothing hidden, says something else."""
-    lines = ["case %s %s" % (case.name, " ".join(words_of(case)))]
     digits = case.stream.hex()
-    lines += [digits[at : at + 112] for at in range(0, len(digits), 112)]
+    lines = ["case %s" % case.name, *["bytes %s" % digits[at : at + 112] for at in range(0, len(digits), 112)]]
+    lines.append("perfrec %s" % " ".join(words_of(case)))
     told = alone.splitlines()
     lines += [("> " if line in told else "~ ") + line for line in text.splitlines()]
-    return "\n".join(lines + ["= %d" % status, ""])
+    return "\n".join(lines + ["= status %d" % status, ""])
 
 
 class Tally:

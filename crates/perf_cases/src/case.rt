@@ -2,7 +2,7 @@
 
 use crate::perfrec;
 use anyhow::{Context, Result, bail};
-use perf_event_data::endian::{Big, Endian, Little};
+use perf_event_data::endian::Dynamic;
 use perf_event_data::sys::perf_event_attr;
 use perf_testing::asks::tell_asked;
 use perf_testing::runs::{tell_behind, tell_everywhere, tell_shown};
@@ -20,11 +20,13 @@ pub struct Case<'a> {
     big: Vec<u8>,
     // Whether the next bytes begin anew.
     is_told: bool,
-    // Whether a parser is asked with the highest byte of a number first.
-    is_big: bool,
+    // Which byte of a number comes first where a parser is asked.
+    order: Dynamic,
     // How it is asked, and what.
     how: &'a str,
     asked: &'a str,
+    // The lines of a longer answer so far.
+    lines: String,
 }
 
 impl<'a> Case<'a> {
@@ -36,10 +38,16 @@ impl<'a> Case<'a> {
             little: Vec::new(alloc),
             big: Vec::new(alloc),
             is_told: false,
-            is_big: false,
+            order: Dynamic::Little,
             how: "",
             asked: "",
+            lines: String::new(alloc),
         }
+    }
+
+    /// Begins another case, in which nothing is set yet.
+    pub fn begin(&mut self, name: &'a str) {
+        *self = Case::new(self.alloc, name);
     }
 
     pub fn name(&self) -> &'a str {
@@ -50,14 +58,23 @@ impl<'a> Case<'a> {
     pub fn set(&mut self, word: &'a str, rest: &'a str) -> Result<()> {
         match word {
             "under" => self.attr = attribute(rest)?,
-            "big" | "little" => self.is_big = word == "big",
+            "big" => self.order = Dynamic::Big,
+            "little" => self.order = Dynamic::Little,
             "run" | "behind" | "ask" | "shown" | "sample" | "perfrec" => {
                 self.how = word;
                 self.asked = rest;
             }
+            ">" | "~" => write!(self.lines, "{rest}; ")?,
             _ => self.append(word, rest)?,
         }
         Ok(())
+    }
+
+    /// What is wanted: the lines that there were, and the rest.
+    pub fn wanted(&mut self, rest: &str) -> Result<String, AllocError> {
+        let want = format!(in self.alloc; "{}{rest}", self.lines)?;
+        self.lines.clear();
+        Ok(want)
     }
 
     fn append(&mut self, word: &str, rest: &str) -> Result<()> {
@@ -112,11 +129,11 @@ impl<'a> Case<'a> {
     }
 
     fn told_answers(&self) -> Result<String> {
-        if self.is_big {
-            Ok(tell_asked(self.alloc, &self.big, Big, &self.attr, self.asked)?)
-        } else {
-            Ok(tell_asked(self.alloc, &self.little, Little, &self.attr, self.asked)?)
-        }
+        let bytes = match self.order {
+            Dynamic::Big => &self.big,
+            Dynamic::Little => &self.little,
+        };
+        Ok(tell_asked(self.alloc, bytes, self.order, &self.attr, self.asked)?)
     }
 
     fn limits(&self) -> Result<Vec<usize>> {
@@ -131,7 +148,7 @@ impl<'a> Case<'a> {
         Ok(tell_everywhere(
             self.alloc,
             &self.little,
-            Little,
+            Dynamic::Little,
             &self.attr,
             &self.limits()?,
         )?)
@@ -140,9 +157,9 @@ impl<'a> Case<'a> {
     // What is said in one order, and where the other one says something else, that too.
     fn told_sample(&self) -> Result<String> {
         let frame = frames(self.alloc, false, &self.little)?;
-        let mut text = self.told_body(Little, &self.little, &frame)?;
+        let mut text = self.told_body(Dynamic::Little, &self.little, &frame)?;
         let frame = frames(self.alloc, true, &self.big)?;
-        let other = self.told_body(Big, &self.big, &frame)?;
+        let other = self.told_body(Dynamic::Big, &self.big, &frame)?;
         if other.as_str() != text.as_str() {
             write!(text, " but {other}")?;
         }
@@ -152,14 +169,14 @@ impl<'a> Case<'a> {
     // What a body says: the sample, or the kind of its refusal, how many bytes are left behind a
     // sample, where these are not as many as they should be, or where buffers say that differently,
     // and what is said of its frame and the next one, where that is not what the body itself says.
-    fn told_body<E: Endian + Copy>(&self, endian: E, body: &[u8], frame: &[u8]) -> Result<String> {
-        let asked = tell_asked(self.alloc, body, endian, &self.attr, "Sample left")?;
+    fn told_body(&self, order: Dynamic, body: &[u8], frame: &[u8]) -> Result<String> {
+        let asked = tell_asked(self.alloc, body, order, &self.attr, "Sample left")?;
         let (sample, left) = asked.as_str().split_once("; ").context("one answer")?;
         let size = body.len().saturating_add(8);
         let want = format!(in self.alloc;
             "0 9 2 {size} {sample}; 1 13 0 16 LostSamples lost=5; done"
         )?;
-        let said = tell_everywhere(self.alloc, frame, endian, &self.attr, &[10])?;
+        let said = tell_everywhere(self.alloc, frame, order, &self.attr, &[10])?;
         let mut text = String::from_str(self.alloc, sample)?;
         let is_other = sample.starts_with("Sample") && left != self.asked;
         if is_other || left.contains(' ') {

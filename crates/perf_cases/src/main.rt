@@ -1,4 +1,4 @@
-//! Checks cases that are written by hand.
+//! Checks cases that are written by hand, and what the original answered for others.
 //!
 //! `perf_cases` reads a list from standard input: of each case the bytes, what is asked of a parser
 //! over them, and what it answers. It asks over a slice, buffered readers and pieces, prints each
@@ -20,6 +20,9 @@
 //!   with the highest byte of each number first.
 //! - `perfrec WORD ..` is what that program writes, its lines one behind another, and its status.
 //! - `= ANSWER` is what that answers. What is set stays, so that one thing may be said of many.
+//! - `> LINE` or `~ LINE` is a line of a longer answer, of which `=` has the rest, the status of
+//!   `perfrec` say. `make.py` writes the cases that have such lines, and its README says which
+//!   (`tools/answers`).
 //! - `#` begins a remark.
 #![tactic(auto)]
 
@@ -31,25 +34,30 @@ use anyhow::Result;
 use std::io;
 use std::process::ExitCode;
 
+// How many cases and answers there were, and how many answers are others.
+#[derive(Drop)]
+struct Counts {
+    cases: u64,
+    answers: u64,
+    differences: u64,
+}
+
 fn main(rt: HostRuntime) -> Result<ExitCode> {
     let list = io::read_to_string(rt.alloc(), rt.stdin())?;
-    let (mut cases, mut answers, mut differences) = (0_u64, 0_u64, 0_u64);
+    let mut counts = Counts {
+        cases: 0,
+        answers: 0,
+        differences: 0,
+    };
     let mut case = Case::new(rt.alloc(), "");
     for line in list.as_str().lines() {
-        let (word, rest) = line.split_once(' ').unwrap_or((line, ""));
-        match word {
-            "case" => {
-                case = Case::new(rt.alloc(), rest);
-                cases = cases.wrapping_add(1);
-            }
-            "=" => {
-                answers = answers.wrapping_add(1);
-                differences = differences.wrapping_add(compare(&rt, &mut case, rest)?);
-            }
-            "#" | "" => {}
-            _ => case.set(word, rest)?,
-        }
+        replay(&rt, &mut counts, &mut case, line)?;
     }
+    let Counts {
+        cases,
+        answers,
+        differences,
+    } = counts;
     println!(rt; "{cases} cases, {answers} answers, {differences} differences")?;
     if differences == 0 {
         Ok(ExitCode::SUCCESS)
@@ -58,10 +66,35 @@ fn main(rt: HostRuntime) -> Result<ExitCode> {
     }
 }
 
+// Does what a line says.
+fn replay<'a>(
+    rt: &HostRuntime,
+    counts: &mut Counts,
+    case: &mut Case<'a>,
+    line: &'a str,
+) -> Result<()> {
+    let (word, rest) = line.split_once(' ').unwrap_or((line, ""));
+    match word {
+        "case" => {
+            case.begin(rest);
+            counts.cases = counts.cases.wrapping_add(1);
+        }
+        "=" => {
+            let difference = compare(rt, case, rest)?;
+            counts.answers = counts.answers.wrapping_add(1);
+            counts.differences = counts.differences.wrapping_add(difference);
+        }
+        "#" | "" => {}
+        _ => case.set(word, rest)?,
+    }
+    Ok(())
+}
+
 // Prints an answer that is another one, and answers how many these are.
-fn compare(rt: &HostRuntime, case: &mut Case, want: &str) -> Result<u64> {
+fn compare(rt: &HostRuntime, case: &mut Case, rest: &str) -> Result<u64> {
+    let want = case.wanted(rest)?;
     let told = case.told()?;
-    if told.as_str() == want {
+    if told.as_str() == want.as_str() {
         return Ok(0);
     }
     println!(rt; "{}: {told}, not {want}", case.name())?;
