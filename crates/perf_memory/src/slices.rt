@@ -2,7 +2,7 @@
 
 use perf_event_data::Record;
 use perf_event_data::endian::Little;
-use perf_event_data::parse::{ParseConfig, ParseResult, Parser};
+use perf_event_data::parse::{Parse, ParseConfig, ParseResult, Parser};
 use perf_event_data::sys::{perf_event_attr, perf_event_header};
 use perf_lines::line::line_of;
 use std::alloc::Global;
@@ -27,13 +27,14 @@ fn with_ids(sample_type: u64) -> perf_event_attr {
 
 // The record of a frame over a slice.
 fn record_of<'a>(alloc: Global, bytes: &'a [u8], attr: perf_event_attr) -> ParseResult<Record<'a>> {
-    Parser::new(alloc, bytes, ParseConfig::<Little>::from(attr)).parse::<Record<'a>>()
+    let mut parser = Parser::new(alloc, bytes, ParseConfig::<Little>::from(attr));
+    Record::parse(&mut parser)
 }
 
 // Its line, with its header and the number 0.
 fn line(alloc: Global, bytes: &[u8], answer: &ParseResult<Record<'_>>) -> ParseResult<String> {
-    let config = ParseConfig::<Little>::default();
-    let header = Parser::new(alloc, bytes, config).parse::<perf_event_header>()?;
+    let mut parser = Parser::new(alloc, bytes, ParseConfig::<Little>::default());
+    let header = perf_event_header::parse(&mut parser)?;
     line_of(alloc, 0, &header, answer)
 }
 

@@ -28,14 +28,6 @@ fn tell_debug<T: Debug + Drop>(
     }
 }
 
-// A value of a type.
-fn tell_value<'p, B: ParseBuf<'p>, E: Endian, P: Parse<'p, B> + Debug + Drop>(
-    text: &mut String,
-    parser: &mut Parser<B, E>,
-) -> Result<(), AllocError> {
-    tell_debug(text, parser.parse::<P>())
-}
-
 // Numbers of a type: one, one under a condition, which holds where the count is not zero, or a list of
 // so many.
 fn tell_numbers<'p, B: ParseBuf<'p>, E: Endian, P: Parse<'p, B> + Debug + Drop>(
@@ -51,14 +43,6 @@ fn tell_numbers<'p, B: ParseBuf<'p>, E: Endian, P: Parse<'p, B> + Debug + Drop>(
     } else {
         tell_debug(text, parser.parse::<P>())
     }
-}
-
-// What a value of a type tells.
-fn tell_parsed<'p, B: ParseBuf<'p>, E: Endian, P: Parse<'p, B> + Tell + Drop>(
-    text: &mut String,
-    parser: &mut Parser<B, E>,
-) -> Result<(), AllocError> {
-    tell_answer(text, parser.parse::<P>())
 }
 
 // Bytes, whoever has them.
@@ -140,10 +124,10 @@ fn tell_array<'p, B: ParseBuf<'p>, E: Endian>(
     name: &str,
 ) -> Result<(), AllocError> {
     match name {
-        "[u8;0]" => tell_value::<B, E, [u8; 0]>(text, parser),
-        "[u8;1]" => tell_value::<B, E, [u8; 1]>(text, parser),
-        "[u8;2]" => tell_value::<B, E, [u8; 2]>(text, parser),
-        "[u8;4]" => tell_value::<B, E, [u8; 4]>(text, parser),
+        "[u8;0]" => tell_debug(text, <[u8; 0]>::parse(parser)),
+        "[u8;1]" => tell_debug(text, <[u8; 1]>::parse(parser)),
+        "[u8;2]" => tell_debug(text, <[u8; 2]>::parse(parser)),
+        "[u8;4]" => tell_debug(text, <[u8; 4]>::parse(parser)),
         _ => tell_body(text, parser, name),
     }
 }
@@ -168,7 +152,7 @@ impl Tell for Mmap<'_> {
 fn next_header<'p, B: ParseBuf<'p>, E: Endian>(
     parser: &mut Parser<B, E>,
 ) -> ParseResult<perf_event_header> {
-    parser.parse()
+    perf_event_header::parse(parser)
 }
 
 // The record behind a header that is parsed before.
@@ -194,7 +178,7 @@ fn tell_behind_header<'p, B: ParseBuf<'p>, E: Endian>(
 pub fn next_record<'p, B: ParseBuf<'p>, E: Endian>(
     parser: &mut Parser<B, E>,
 ) -> ParseResult<Record<'p>> {
-    parser.parse()
+    Record::parse(parser)
 }
 
 // The next sample, as a record.
@@ -202,7 +186,7 @@ fn next_sample<'p, B: ParseBuf<'p>, E: Endian>(
     alloc: Global,
     parser: &mut Parser<B, E>,
 ) -> ParseResult<Record<'p>> {
-    Record::from_sample(alloc, parser.parse()?)
+    Record::from_sample(alloc, Sample::parse(parser)?)
 }
 
 fn tell_next_record<'p, B: ParseBuf<'p>, E: Endian>(
@@ -224,7 +208,7 @@ fn tell_next_record<'p, B: ParseBuf<'p>, E: Endian>(
 pub fn next_group<'p, B: ParseBuf<'p>, E: Endian>(
     parser: &mut Parser<B, E>,
 ) -> ParseResult<ReadGroup<'p>> {
-    parser.parse()
+    ReadGroup::parse(parser)
 }
 
 fn tell_both_ends(text: &mut String, answer: ParseResult<ReadGroup<'_>>) -> Result<(), AllocError> {
@@ -247,14 +231,14 @@ fn tell_body<'p, B: ParseBuf<'p>, E: Endian>(
     name: &str,
 ) -> Result<(), AllocError> {
     match name {
-        "Comm" => tell_parsed::<B, E, Comm<'p>>(text, parser),
-        "Exit" => tell_value::<B, E, Exit>(text, parser),
-        "Lost" => tell_value::<B, E, Lost>(text, parser),
-        "LostSamples" => tell_value::<B, E, LostSamples>(text, parser),
-        "Mmap" => tell_parsed::<B, E, Mmap<'p>>(text, parser),
-        "Read" => tell_value::<B, E, Read>(text, parser),
-        "SwitchCpuWide" => tell_value::<B, E, SwitchCpuWide>(text, parser),
-        "Throttle" => tell_value::<B, E, Throttle>(text, parser),
+        "Comm" => tell_answer(text, Comm::parse(parser)),
+        "Exit" => tell_debug(text, Exit::parse(parser)),
+        "Lost" => tell_debug(text, Lost::parse(parser)),
+        "LostSamples" => tell_debug(text, LostSamples::parse(parser)),
+        "Mmap" => tell_answer(text, Mmap::parse(parser)),
+        "Read" => tell_debug(text, Read::parse(parser)),
+        "SwitchCpuWide" => tell_debug(text, SwitchCpuWide::parse(parser)),
+        "Throttle" => tell_debug(text, Throttle::parse(parser)),
         _ => tell_beside(text, parser, name),
     }
 }
@@ -266,11 +250,11 @@ fn tell_beside<'p, B: ParseBuf<'p>, E: Endian>(
     name: &str,
 ) -> Result<(), AllocError> {
     match name {
-        "ReadValue" => tell_value::<B, E, ReadValue>(text, parser),
+        "ReadValue" => tell_debug(text, ReadValue::parse(parser)),
         "ReadGroup" => tell_answer(text, next_group(parser)),
         "both_ends" => tell_both_ends(text, next_group(parser)),
-        "perf_event_attr" => tell_value::<B, E, perf_event_attr>(text, parser),
-        "SampleId" => tell_value::<B, E, SampleId>(text, parser),
+        "perf_event_attr" => tell_debug(text, perf_event_attr::parse(parser)),
+        "SampleId" => tell_debug(text, SampleId::parse(parser)),
         "config" => tell_config(text, parser.config()),
         "Record" => tell_next_record(text, parser, false),
         "parse_with_header" => tell_behind_header(text, parser),
@@ -288,12 +272,12 @@ fn tell_part_of_sample<'p, B: ParseBuf<'p>, E: Endian>(
     match name {
         "parse_user" => tell_debug(text, Registers::parse_user(parser)),
         "parse_intr" => tell_debug(text, Registers::parse_intr(parser)),
-        "BranchEntry" => tell_parsed::<B, E, BranchEntry>(text, parser),
-        "DataSource" => tell_parsed::<B, E, DataSource>(text, parser),
-        "Txn" => tell_value::<B, E, Txn>(text, parser),
-        "SampleRegsAbi" => tell_value::<B, E, SampleRegsAbi>(text, parser),
+        "BranchEntry" => tell_answer(text, BranchEntry::parse(parser)),
+        "DataSource" => tell_answer(text, DataSource::parse(parser)),
+        "Txn" => tell_debug(text, Txn::parse(parser)),
+        "SampleRegsAbi" => tell_debug(text, SampleRegsAbi::parse(parser)),
         "Sample" => tell_last(text, next_sample(*text.allocator(), parser)),
-        "values" => tell_values(text, parser.parse()),
+        "values" => tell_values(text, Sample::parse(parser)),
         _ => write!(text, "what is {name}?"),
     }
 }

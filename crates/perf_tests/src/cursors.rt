@@ -1,111 +1,123 @@
-//! The bytes of one frame.
+//! The bytes of one frame, and the buffers that they are cut off.
 
-use crate::check;
+use crate::asked::kind_of;
+use crate::checks::check_told;
 use perf_event_data::PieceBuf;
-use perf_event_data::parse::{ErrorKind, ParseBuf, ParseBufChunk, ParseBufCursor};
+use perf_event_data::parse::{ParseBuf, ParseBufCursor, ParseResult};
 use std::alloc::Global;
 use std::io::BufReader;
-use std::process::Abort;
 use std::test::Fail;
 
-#[test]
-fn a_cursor_over_a_slice_lends_it(rt: HostRuntime) -> Result<(), Fail> {
-    let mut bytes: &[u8] = b"abcde";
-    let mut cursor = ParseBufCursor::new(rt.alloc(), &mut bytes, 3)?;
-    check!(rt; bytes, b"de".as_slice());
-    check!(rt; cursor.as_slice(), Some(b"abc".as_slice()));
-    check!(rt; cursor.remaining_hint(), Some(3));
-    let shown = cursor.chunk()?.as_bytes().len();
-    check!(rt; shown, 3);
-    cursor.advance(2);
-    check!(rt; cursor.as_slice(), Some(b"c".as_slice()));
-    check!(rt; cursor.remaining_hint(), Some(1));
+const BYTES: &[u8] = b"abcde";
+
+// Writes the bytes that a buffer shows, with how long they last, and how many it says that it has.
+fn tell_shown<'p, B: ParseBuf<'p>>(text: &mut String, buf: &mut B) -> ParseResult<()> {
+    let left = buf.remaining_hint();
+    Ok(write!(text, "{:?} {left:?}; ", buf.chunk()?)?)
+}
+
+// Goes on by two bytes, where as many are shown.
+fn skip_two<'p, B: ParseBuf<'p>>(buf: &mut B) -> ParseResult<()> {
+    let shown = buf.chunk()?.as_bytes().len();
+    if shown >= 2 {
+        buf.advance(2);
+    }
     Ok(())
 }
 
-// Three bytes of five out of a buffer whose bytes do not last, and then too many.
-fn check_own<'p, B: ParseBuf<'p>>(rt: &impl Abort, alloc: Global, buf: &mut B) -> Result<(), Fail> {
-    let mut cursor = ParseBufCursor::new(alloc, buf, 3)?;
-    check!(rt; cursor.as_slice().is_none());
-    check!(rt; cursor.remaining_hint(), Some(3));
-    check!(rt; cursor.chunk()?.as_bytes(), b"abc".as_slice());
-    cursor.advance(2);
-    check!(rt; cursor.as_slice().is_none());
-    check!(rt; cursor.remaining_hint(), Some(1));
-    check!(rt; cursor.chunk()?.as_bytes(), b"c".as_slice());
-    check_behind(rt, alloc, buf)
+// Writes what a buffer shows, and what it shows two bytes on.
+fn tell_both<'p, B: ParseBuf<'p>>(text: &mut String, buf: &mut B) -> ParseResult<()> {
+    tell_shown(text, buf)?;
+    skip_two(buf)?;
+    tell_shown(text, buf)
 }
 
-// Behind it are two bytes, which a cursor of three takes.
-fn check_behind<'p, B: ParseBuf<'p>>(
-    rt: &impl Abort,
+// Writes the byte that a buffer shows next, why there is no cursor over three of its bytes, whether it
+// shows any behind that, and what a cursor over none lends.
+fn tell_behind<'p, B: ParseBuf<'p>>(
+    text: &mut String,
     alloc: Global,
     buf: &mut B,
-) -> Result<(), Fail> {
-    check!(rt; buf.chunk()?.as_bytes().first().copied(), Some(b'd'));
-    let refused = ParseBufCursor::new(alloc, buf, 3).map_err(|error| error.kind());
-    check!(rt; matches!(refused, Err(ErrorKind::Eof)));
-    check!(rt; buf.chunk().is_err());
+) -> ParseResult<()> {
+    write!(text, "{:?} ", buf.chunk()?.as_bytes().first())?;
+    let refused = kind_of(ParseBufCursor::new(alloc, buf, 3));
+    let shows = buf.chunk().is_ok();
     let empty = ParseBufCursor::new(alloc, buf, 0)?;
-    check!(rt; empty.as_slice().is_some_and(|bytes| bytes.is_empty()));
-    Ok(())
+    Ok(write!(text, "{refused:?} {shows} {:?}", empty.as_slice())?)
+}
+
+// What a cursor over the first three bytes of a buffer lends and shows, and what the buffer does
+// behind it.
+fn told<'p, B: ParseBuf<'p> + Drop>(alloc: Global, buf: B) -> ParseResult<String> {
+    let (mut buf, mut text) = (buf, String::new(alloc));
+    let mut cursor = ParseBufCursor::new(alloc, &mut buf, 3)?;
+    write!(text, "{:?}: ", cursor.as_slice())?;
+    tell_both(&mut text, &mut cursor)?;
+    tell_behind(&mut text, alloc, &mut buf)?;
+    Ok(text)
+}
+
+const LENT: &str = "Some([97, 98, 99]): External([97, 98, 99]) Some(3); External([99]) Some(1); \
+    Some(100) Some(Eof) false Some([])";
+
+const OWN: &str = "None: Temporary([97, 98, 99]) Some(3); Temporary([99]) Some(1); \
+    Some(100) Some(Eof) false Some([])";
+
+#[test]
+fn a_cursor_over_a_slice_lends_it(rt: HostRuntime) {
+    check_told(&rt, told(rt.alloc(), BYTES), LENT);
 }
 
 #[test]
 fn a_cursor_over_bytes_that_do_not_last_keeps_its_own(rt: HostRuntime) -> Result<(), Fail> {
-    let bytes: &[u8] = b"abcde";
     for n in [1, 3, 64] {
-        check_own(&rt, rt.alloc(), &mut PieceBuf::new(bytes, n, false))?;
+        check_told(&rt, told(rt.alloc(), PieceBuf::new(BYTES, n, false)), OWN);
     }
     for n in [1, 7, 8192] {
-        check_own(
-            &rt,
-            rt.alloc(),
-            &mut BufReader::with_capacity(rt.alloc(), n, bytes)?,
-        )?;
+        let reader = BufReader::with_capacity(rt.alloc(), n, BYTES)?;
+        check_told(&rt, told(rt.alloc(), reader), OWN);
     }
     Ok(())
 }
 
 #[test]
-fn a_cursor_over_lasting_pieces_has_their_bytes(rt: HostRuntime) -> Result<(), Fail> {
-    let bytes: &[u8] = b"abcde";
-    for n in [1, 3, 64] {
-        let mut pieces = PieceBuf::new(bytes, n, true);
-        let mut cursor = ParseBufCursor::new(rt.alloc(), &mut pieces, 3)?;
-        check!(rt; cursor.chunk()?.as_bytes(), b"abc".as_slice());
-        if let Some(lent) = cursor.as_slice() {
-            check!(rt; lent, b"abc".as_slice());
-        }
-        check!(rt; pieces.remaining_hint(), Some(2));
+fn a_cursor_lends_what_one_lasting_piece_has(rt: HostRuntime) {
+    for (n, want) in [(1, OWN), (3, LENT), (64, LENT)] {
+        check_told(&rt, told(rt.alloc(), PieceBuf::new(BYTES, n, true)), want);
     }
-    Ok(())
+}
+
+// What a buffer shows, twice, and two bytes on.
+fn told_alone<'p, B: ParseBuf<'p> + Drop>(alloc: Global, buf: B) -> ParseResult<String> {
+    let (mut buf, mut text) = (buf, String::new(alloc));
+    tell_shown(&mut text, &mut buf)?;
+    tell_both(&mut text, &mut buf)?;
+    Ok(text)
 }
 
 #[test]
-fn pieces_last_where_they_are_told_to(rt: HostRuntime) -> Result<(), Fail> {
-    let mut lasting = PieceBuf::new(b"abcde", 2, true);
-    check!(rt; matches!(lasting.chunk()?, ParseBufChunk::External(b"ab")));
-    check!(rt; matches!(lasting.chunk()?, ParseBufChunk::External(b"ab")));
-    let mut fleeting = PieceBuf::new(b"abcde", 2, false);
-    check!(rt; matches!(fleeting.chunk()?, ParseBufChunk::Temporary(b"ab")));
-    check!(rt; matches!(fleeting.chunk()?, ParseBufChunk::Temporary(b"ab")));
-    Ok(())
-}
-
-#[test]
-fn only_a_reader_does_not_say_how_many_bytes_are_left(rt: HostRuntime) -> Result<(), Fail> {
-    let bytes: &[u8] = b"abcde";
-    check!(rt; ParseBuf::remaining_hint(&bytes), Some(5));
-    check!(rt;
-        BufReader::with_capacity(rt.alloc(), 7, bytes)?.remaining_hint(),
-        None
+fn buffers_say_what_they_have(rt: HostRuntime) -> Result<(), Fail> {
+    let want =
+        "External([97, 98, 99, 100, 101]) Some(5); External([97, 98, 99, 100, 101]) Some(5); \
+        External([99, 100, 101]) Some(3); ";
+    check_told(&rt, told_alone(rt.alloc(), BYTES), want);
+    let want = "Temporary([97, 98, 99, 100, 101]) None; Temporary([97, 98, 99, 100, 101]) None; \
+        Temporary([99, 100, 101]) None; ";
+    let reader = BufReader::with_capacity(rt.alloc(), 7, BYTES)?;
+    check_told(&rt, told_alone(rt.alloc(), reader), want);
+    let want = "External([97, 98, 99]) Some(5); External([97, 98, 99]) Some(5); \
+        External([99, 100, 101]) Some(3); ";
+    check_told(
+        &rt,
+        told_alone(rt.alloc(), PieceBuf::new(BYTES, 3, true)),
+        want,
     );
-    let mut pieces = PieceBuf::new(bytes, 3, true);
-    check!(rt; pieces.remaining_hint(), Some(5));
-    check!(rt; pieces.chunk()?.as_bytes(), b"abc".as_slice());
-    pieces.advance(2);
-    check!(rt; pieces.remaining_hint(), Some(3));
-    check!(rt; pieces.chunk()?.as_bytes(), b"cde".as_slice());
+    let want = "Temporary([97, 98]) Some(5); Temporary([97, 98]) Some(5); \
+        Temporary([99, 100]) Some(3); ";
+    check_told(
+        &rt,
+        told_alone(rt.alloc(), PieceBuf::new(BYTES, 2, false)),
+        want,
+    );
     Ok(())
 }
