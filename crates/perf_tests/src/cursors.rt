@@ -1,6 +1,7 @@
 //! The bytes of one frame, and the buffers that they are cut off.
 
 use crate::asked::kind_of;
+use crate::check;
 use crate::checks::check_told;
 use perf_event_data::PieceBuf;
 use perf_event_data::parse::{ParseBuf, ParseBufCursor, ParseResult};
@@ -32,14 +33,15 @@ fn tell_both<'p, B: ParseBuf<'p>>(text: &mut String, buf: &mut B) -> ParseResult
     tell_shown(text, buf)
 }
 
-// Writes the byte that a buffer shows next, why there is no cursor over three of its bytes, whether it
-// shows any behind that, and what a cursor over none lends.
+// Writes how many bytes a buffer says that it has, which it shows first, why there is no cursor over
+// three of them, whether it shows any behind that, and what a cursor over none lends.
 fn tell_behind<'p, B: ParseBuf<'p>>(
     text: &mut String,
     alloc: Global,
     buf: &mut B,
 ) -> ParseResult<()> {
-    write!(text, "{:?} ", buf.chunk()?.as_bytes().first())?;
+    let left = buf.remaining_hint();
+    write!(text, "{left:?} {:?} ", buf.chunk()?.as_bytes().first())?;
     let refused = kind_of(ParseBufCursor::new(alloc, buf, 3));
     let shows = buf.chunk().is_ok();
     let empty = ParseBufCursor::new(alloc, buf, 0)?;
@@ -58,14 +60,21 @@ fn told<'p, B: ParseBuf<'p> + Drop>(alloc: Global, buf: B) -> ParseResult<String
 }
 
 const LENT: &str = "Some([97, 98, 99]): External([97, 98, 99]) Some(3); External([99]) Some(1); \
-    Some(100) Some(Eof) false Some([])";
+    Some(2) Some(100) Some(Eof) false Some([])";
 
 const OWN: &str = "None: Temporary([97, 98, 99]) Some(3); Temporary([99]) Some(1); \
-    Some(100) Some(Eof) false Some([])";
+    Some(2) Some(100) Some(Eof) false Some([])";
+
+const OF_A_READER: &str = "None: Temporary([97, 98, 99]) Some(3); Temporary([99]) Some(1); \
+    None Some(100) Some(Eof) false Some([])";
 
 #[test]
-fn a_cursor_over_a_slice_lends_it(rt: HostRuntime) {
+fn a_cursor_over_a_slice_lends_it(rt: HostRuntime) -> Result<(), Fail> {
     check_told(&rt, told(rt.alloc(), BYTES), LENT);
+    let mut bytes = BYTES;
+    ParseBufCursor::new(rt.alloc(), &mut bytes, 3)?;
+    check!(rt; bytes, b"de".as_slice());
+    Ok(())
 }
 
 #[test]
@@ -75,7 +84,7 @@ fn a_cursor_over_bytes_that_do_not_last_keeps_its_own(rt: HostRuntime) -> Result
     }
     for n in [1, 7, 8192] {
         let reader = BufReader::with_capacity(rt.alloc(), n, BYTES)?;
-        check_told(&rt, told(rt.alloc(), reader), OWN);
+        check_told(&rt, told(rt.alloc(), reader), OF_A_READER);
     }
     Ok(())
 }
