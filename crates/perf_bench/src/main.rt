@@ -1,0 +1,52 @@
+//! Measures nothing itself: it does what readers of performance events wait for, on recordings that
+//! it makes, so that its time can be taken.
+//!
+//! `perf_bench WORKLOAD ROUNDS SEED` makes the recordings of a workload from a seed, reads each of
+//! them by the public calls, and prints how many frames it read, how many of them were refused, and
+//! a number of all that was answered. The workloads are `profile`, `pipe`, `ring`, `fields`, `text`
+//! and `awkward`; `all` is each of them, a line each. No recording is read twice.
+#![tactic(auto)]
+
+mod digest;
+mod pool;
+mod random;
+mod recording;
+mod ring;
+mod stream;
+mod workloads;
+
+use crate::workloads::Workload;
+use anyhow::{Result, bail};
+use std::env;
+
+const USAGE: &str = "usage: perf_bench profile|pipe|ring|fields|text|awkward|all ROUNDS SEED";
+
+// Each workload by its name.
+const WORKLOADS: &[(&str, Workload)] = &[
+    ("profile", Workload::Profile),
+    ("pipe", Workload::Pipe),
+    ("ring", Workload::Ring),
+    ("fields", Workload::Fields),
+    ("text", Workload::Text),
+    ("awkward", Workload::Awkward),
+];
+
+fn main(rt: HostRuntime) -> Result<()> {
+    let words: Vec<String> = env::args(&rt)?.skip(1).collect(rt.alloc())?;
+    let [name, rounds, seed] = words.as_slice() else {
+        bail!("{USAGE}");
+    };
+    let (Ok(rounds), Ok(seed)) = (rounds.parse::<u64>(), seed.parse::<u64>()) else {
+        bail!("{USAGE}");
+    };
+    for (other, workload) in WORKLOADS {
+        if name.as_str() == *other || name.as_str() == "all" {
+            let digest = workload.measure(rt.alloc(), rounds, seed)?;
+            println!(rt;
+                "{other} {} {} {}",
+                digest.frames, digest.refused, digest.sum
+            )?;
+        }
+    }
+    Ok(())
+}

@@ -1,0 +1,295 @@
+//! Recordings that are made: frames of one kind of recording, behind their attribute.
+
+use crate::pool::{Kind, Pool};
+use crate::random::Random;
+use crate::stream::{ByteOrder, Event, Stream};
+use std::alloc::{AllocError, Global};
+
+// Flags of a sample type.
+const IP: u64 = 1 << 0;
+
+const TID: u64 = 1 << 1;
+
+const TIME: u64 = 1 << 2;
+
+const ADDR: u64 = 1 << 3;
+
+const READ: u64 = 1 << 4;
+
+const CALLCHAIN: u64 = 1 << 5;
+
+const ID: u64 = 1 << 6;
+
+const CPU: u64 = 1 << 7;
+
+const PERIOD: u64 = 1 << 8;
+
+const STREAM_ID: u64 = 1 << 9;
+
+const RAW: u64 = 1 << 10;
+
+const BRANCH_STACK: u64 = 1 << 11;
+
+const REGS_USER: u64 = 1 << 12;
+
+const STACK_USER: u64 = 1 << 13;
+
+const WEIGHT: u64 = 1 << 14;
+
+const DATA_SRC: u64 = 1 << 15;
+
+const IDENTIFIER: u64 = 1 << 16;
+
+const TRANSACTION: u64 = 1 << 17;
+
+const PHYS_ADDR: u64 = 1 << 19;
+
+const CGROUP: u64 = 1 << 21;
+
+const DATA_PAGE_SIZE: u64 = 1 << 22;
+
+const CODE_PAGE_SIZE: u64 = 1 << 23;
+
+const FLAT: u64 = IP | TID | TIME | CPU | PERIOD;
+
+const MEMORY: u64 = FLAT
+    | ADDR
+    | ID
+    | STREAM_ID
+    | WEIGHT
+    | DATA_SRC
+    | IDENTIFIER
+    | TRANSACTION
+    | PHYS_ADDR
+    | CGROUP
+    | DATA_PAGE_SIZE
+    | CODE_PAGE_SIZE;
+
+// A group, its two times, and an id for each counter.
+const GROUP_FORMAT: u64 = 1 << 3 | 1 << 2 | 1 << 1 | 1 << 0;
+
+/// Kinds of recordings.
+#[derive(Copy, Clone, PartialEq, Eq)]
+pub enum Recording {
+    /// Samples without a list, and what the kernel tells of tasks.
+    Flat,
+    /// Samples with call chains, and what the kernel tells of tasks.
+    Chains,
+    /// What the kernel tells of tasks alone.
+    Tasks,
+    /// Samples with registers and a copy of the stack.
+    Stacks,
+    /// Samples with branches.
+    Branches,
+    /// Samples of memory, with 16 fields.
+    Memory,
+    /// Samples of tracepoints.
+    Raw,
+    /// Samples with groups of counters, and reads of such groups.
+    Groups,
+    /// Samples without a list, where the attribute claims one.
+    Refused,
+    /// Samples whose chain claims to be longer than all memory.
+    Lies,
+    /// Frames of 60 kB of no known type.
+    Unknown,
+}
+
+impl Recording {
+    // What its attribute says.
+    fn event(self) -> Event {
+        let sample_type = match self {
+            Recording::Flat | Recording::Tasks | Recording::Unknown => FLAT,
+            Recording::Chains | Recording::Refused | Recording::Lies => FLAT | CALLCHAIN,
+            Recording::Stacks => IP | TID | TIME | REGS_USER | STACK_USER,
+            Recording::Branches => IP | TID | TIME | PERIOD | BRANCH_STACK,
+            Recording::Memory => MEMORY,
+            Recording::Raw => FLAT | RAW,
+            Recording::Groups => TID | TIME | READ,
+        };
+        Event {
+            sample_type,
+            read_format: GROUP_FORMAT,
+            branch_type: 1 << 3,
+            regs_user: 0xFF_0FFF,
+        }
+    }
+
+    // What its frames choose among.
+    fn kind(self) -> Kind {
+        match self {
+            Recording::Stacks => Kind::Stacks,
+            Recording::Branches => Kind::Branches,
+            Recording::Raw => Kind::Raw,
+            Recording::Groups => Kind::Groups,
+            Recording::Unknown => Kind::Unknown,
+            Recording::Flat
+            | Recording::Chains
+            | Recording::Tasks
+            | Recording::Memory
+            | Recording::Refused
+            | Recording::Lies => Kind::Chains,
+        }
+    }
+}
+
+/// What makes recordings of one kind.
+#[derive(Drop)]
+pub struct Maker {
+    recording: Recording,
+    lists: Pool,
+    files: Pool,
+    tasks: Pool,
+    order: ByteOrder,
+}
+
+impl Maker {
+    /// A maker of recordings.
+    pub fn new(
+        alloc: Global,
+        recording: Recording,
+        order: ByteOrder,
+        random: &mut Random,
+    ) -> Result<Maker, AllocError> {
+        Ok(Maker {
+            recording,
+            lists: Pool::new(alloc, recording.kind(), order, random)?,
+            files: Pool::new(alloc, Kind::Files, order, random)?,
+            tasks: Pool::new(alloc, Kind::Tasks, order, random)?,
+            order,
+        })
+    }
+
+    /// Makes a recording of about so many bytes.
+    pub fn make(&self, stream: &mut Stream, size: usize) -> Result<(), AllocError> {
+        stream.begin(self.order, self.recording.event())?;
+        for _ in 0..size {
+            if stream.bytes.len() >= size {
+                break;
+            }
+            self.push_next(stream)?;
+        }
+        Ok(())
+    }
+
+    // Appends a frame.
+    fn push_next(&self, stream: &mut Stream) -> Result<(), AllocError> {
+        match self.recording {
+            Recording::Flat | Recording::Chains => {
+                if stream.random.bits(6) < 58 {
+                    self.push_sample(stream)
+                } else {
+                    self.push_task(stream)
+                }
+            }
+            Recording::Tasks => self.push_task(stream),
+            Recording::Memory => push_memory(stream),
+            Recording::Groups => self.push_group(stream),
+            Recording::Unknown => {
+                let number = stream.random.number();
+                let bytes = self.lists.pick(&mut stream.random);
+                stream.push_frame(77, [number], bytes, &[])
+            }
+            Recording::Stacks
+            | Recording::Branches
+            | Recording::Raw
+            | Recording::Refused
+            | Recording::Lies => self.push_sample(stream),
+        }
+    }
+
+    // Appends a sample that ends with a list, where it has one.
+    fn push_sample(&self, stream: &mut Stream) -> Result<(), AllocError> {
+        let ip = 0x5500_0000_0000 | stream.random.bits(24);
+        let task = stream.order.pair(4_321, stream.random.short(12));
+        let time = stream.tick();
+        let cpu = stream.order.pair(stream.random.short(5), 0);
+        let period = stream.random.bits(20);
+        let flat = [ip, task, time, cpu, period];
+        let list = self.lists.pick(&mut stream.random);
+        match self.recording {
+            Recording::Stacks => stream.push_frame(9, [ip, task, time], list, &[]),
+            Recording::Branches => stream.push_frame(9, [ip, task, time, period], list, &[]),
+            Recording::Chains | Recording::Raw => stream.push_frame(9, flat, list, &[]),
+            Recording::Lies => stream.push_frame(9, flat, &[], &[u64::MAX / 8, ip, time]),
+            _ => stream.push_frame(9, flat, &[], &[]),
+        }
+    }
+
+    // Appends a sample or a read of a group of counters.
+    fn push_group(&self, stream: &mut Stream) -> Result<(), AllocError> {
+        let task = stream.order.pair(4_321, stream.random.short(12));
+        let time = stream.tick();
+        let group = self.lists.pick(&mut stream.random);
+        stream.push_frame(9, [task, time], group, &[])
+    }
+
+    // Appends what the kernel tells of a task.
+    fn push_task(&self, stream: &mut Stream) -> Result<(), AllocError> {
+        let order = stream.order;
+        let task = order.pair(4_321, stream.random.short(12));
+        let time = stream.tick();
+        let cpu = order.pair(stream.random.short(5), 0);
+        let last = [task, time, cpu];
+        let other = stream.random.number();
+        match stream.random.bits(4) {
+            0..=7 => {
+                let place = other % (1 << 47);
+                let words = [
+                    task,
+                    place,
+                    1 << 16,
+                    0,
+                    order.pair(8, 1),
+                    other,
+                    1,
+                    order.pair(5, 2),
+                ];
+                let name = self.files.pick(&mut stream.random);
+                stream.push_frame(10, words, name, &last)
+            }
+            8..=10 => {
+                let name = self.tasks.pick(&mut stream.random);
+                stream.push_frame(3, [task], name, &last)
+            }
+            11 => stream.push_frame(7, [task, task, time], &[], &last),
+            12 => stream.push_frame(4, [task, task, time], &[], &last),
+            13 => stream.push_frame(2, [other, 17], &[], &last),
+            14 => stream.push_frame(5, [time, other, other], &[], &last),
+            _ => {
+                let name = self.tasks.pick(&mut stream.random);
+                let words = [other, order.pair(4_096, 0x1_0000)];
+                stream.push_frame(17, words, name, &last)
+            }
+        }
+    }
+}
+
+// Appends a sample of memory, with all fields of one number.
+fn push_memory(stream: &mut Stream) -> Result<(), AllocError> {
+    let task = stream.order.pair(4_321, stream.random.short(12));
+    let time = stream.tick();
+    let cpu = stream.order.pair(stream.random.short(5), 0);
+    let ip = 0x5500_0000_0000 | stream.random.bits(24);
+    let place = stream.random.number();
+    let weight = stream.random.bits(10);
+    let words = [
+        7,
+        ip,
+        task,
+        time,
+        place,
+        7,
+        7,
+        cpu,
+        1_000,
+        weight,
+        0x2_6810_0842,
+        0,
+        place,
+        4_242,
+        4_096,
+        4_096,
+    ];
+    stream.push_frame(9, words, &[], &[])
+}

@@ -1,0 +1,112 @@
+//! Small batches out of a ring buffer, whose bytes come in pieces that do not last.
+
+ghost use Rattle.std.specs.Prelude.{⊤, ◌<◌};
+
+use crate::digest::Digest;
+use anyhow::Result;
+use perf_event_data::endian::Little;
+use perf_event_data::parse::{ParseBuf, ParseConfig, ParseResult, Parser};
+use perf_event_data::sys::perf_event_attr;
+use perf_event_data::{
+    Comm, Mmap2, Partial, PartialVisitor, PieceBuf, Record, RecordMetadata, Sample,
+};
+use std::alloc::Global;
+
+/// A number of the samples, mappings and names that are visited.
+#[derive(Copy, Clone)]
+struct Numbers;
+
+impl PartialVisitor for Numbers {
+    type Output = u64;
+
+    // Nothing is said of it.
+    ghost gives = { λ seen output. ⊤ };
+
+    ghost left_out = { λ metadata output. ⊤ };
+
+    fn visit_unimplemented(self, metadata: RecordMetadata) -> Self::Output {
+        u64::from(metadata.ty())
+    }
+
+    fn visit_sample(self, held: Sample<'_>, _metadata: RecordMetadata) -> Self::Output {
+        let mut digest = Digest::new();
+        digest.sample(&held);
+        drop(held);
+        digest.sum
+    }
+
+    fn visit_mmap2(self, held: Mmap2<'_>, _metadata: RecordMetadata) -> Self::Output {
+        let mut digest = Digest::new();
+        digest.mmap2(&held);
+        drop(held);
+        digest.sum
+    }
+
+    fn visit_comm(self, held: Comm<'_>, metadata: RecordMetadata) -> Self::Output {
+        let mut digest = Digest::new();
+        digest.bytes(held.comm.as_slice());
+        digest.metadata(&metadata);
+        drop(held);
+        digest.sum
+    }
+}
+
+/// How the frames of a ring are taken.
+#[derive(Copy, Clone)]
+pub enum Taken {
+    /// Each by its metadata, and its record out of the bytes that are left.
+    ByMetadata,
+    /// Each by a visitor.
+    ByVisitor,
+}
+
+/// Reads a recording as a ring buffer of pages of `most` bytes.
+pub fn read_ring(
+    alloc: Global,
+    bytes: &[u8],
+    most: usize,
+    taken: Taken,
+    digest: &mut Digest,
+) -> Result<()>
+    requires { 0 < most }
+{
+    let buffer = PieceBuf::new(bytes, most, false);
+    let mut parser = Parser::new(alloc, buffer, ParseConfig::<Little>::default());
+    let attr = parser.parse::<perf_event_attr>()?;
+    let mut parser = parser.reconfigure(ParseConfig::<Little>::from(attr));
+    for _ in 0..u64::MAX {
+        let answer = match taken {
+            Taken::ByMetadata => by_metadata(&mut parser, digest),
+            Taken::ByVisitor => by_visitor(&mut parser, digest),
+        };
+        match answer {
+            Ok(()) => digest.frame(),
+            Err(_) => break,
+        }
+    }
+    Ok(())
+}
+
+fn by_visitor<'p, B: ParseBuf<'p>>(
+    parser: &mut Parser<B, Little>,
+    digest: &mut Digest,
+) -> ParseResult<()> {
+    let number = parser.parse_record(Partial(Numbers))?;
+    digest.number(number);
+    Ok(())
+}
+
+fn by_metadata<'p, B: ParseBuf<'p>>(
+    parser: &mut Parser<B, Little>,
+    digest: &mut Digest,
+) -> ParseResult<()> {
+    let (mut body, metadata) = parser.parse_metadata()?;
+    digest.metadata(&metadata);
+    match metadata.ty() {
+        9 => digest.sample(&body.parse::<Sample>()?),
+        10 => digest.mmap2(&body.parse::<Mmap2>()?),
+        3 => digest.bytes(body.parse::<Comm>()?.comm.as_slice()),
+        _ => digest.bytes(body.parse_rest()?.as_slice()),
+    }
+    Ok(())
+}

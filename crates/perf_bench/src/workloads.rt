@@ -1,0 +1,263 @@
+//! What is measured: recordings are made, a batch at a time, and read.
+
+use crate::digest::Digest;
+use crate::recording::{Maker, Recording};
+use crate::ring::{Taken, read_ring};
+use crate::stream::{ByteOrder, Stream};
+use anyhow::Result;
+use perf_event_data::endian::{Dynamic, Endian, Little, Native};
+use perf_event_data::parse::{ParseBuf, ParseConfig, Parser};
+use perf_event_data::sys::perf_event_attr;
+use perf_event_data::{PieceBuf, RunEnd, read_records};
+use perf_lines::run::run;
+use perf_reports::printing::{Report, print_recording};
+use std::alloc::Global;
+use std::io::BufReader;
+
+// How many answers are held at a time.
+const BATCH: usize = 256;
+
+// How many bytes are read at a time.
+const PIECE: usize = 8_192;
+
+// How many bytes a recording has.
+const LARGE: usize = 1 << 20;
+
+const MIDDLE: usize = 1 << 18;
+
+const SMALL: usize = 1 << 12;
+
+/// How a recording is read.
+#[derive(Copy, Clone)]
+enum Way {
+    // As a slice, in the byte order of the machine.
+    Slice,
+    // As a slice, in an order that is chosen as it runs.
+    Chosen,
+    // Through a buffered reader.
+    Reader,
+    // In pieces of so many bytes.
+    Pieces(usize),
+    // As a ring buffer of pages of 4096 bytes.
+    Ring(Taken),
+    // As text, a line a frame.
+    Lines,
+    // As text of samples or of tasks.
+    Report(Report),
+}
+
+// A kind of recordings, their order, how large each is, how it is read, and how many of them there
+// are in each round.
+#[derive(Copy, Clone)]
+struct Part(Recording, ByteOrder, usize, Way, usize);
+
+const PROFILE: &[Part] = &[
+    Part(Recording::Chains, ByteOrder::Little, LARGE, Way::Slice, 3),
+    Part(Recording::Flat, ByteOrder::Little, MIDDLE, Way::Slice, 2),
+];
+
+const PIPE: &[Part] = &[
+    Part(Recording::Chains, ByteOrder::Little, LARGE, Way::Reader, 3),
+    Part(Recording::Flat, ByteOrder::Little, MIDDLE, Way::Reader, 2),
+];
+
+const RING: &[Part] = &[
+    Part(
+        Recording::Chains,
+        ByteOrder::Little,
+        SMALL,
+        Way::Ring(Taken::ByMetadata),
+        64,
+    ),
+    Part(
+        Recording::Flat,
+        ByteOrder::Little,
+        SMALL,
+        Way::Ring(Taken::ByVisitor),
+        24,
+    ),
+    Part(
+        Recording::Tasks,
+        ByteOrder::Little,
+        SMALL,
+        Way::Ring(Taken::ByMetadata),
+        24,
+    ),
+];
+
+const FIELDS: &[Part] = &[
+    Part(Recording::Stacks, ByteOrder::Little, LARGE, Way::Slice, 4),
+    Part(
+        Recording::Branches,
+        ByteOrder::Little,
+        MIDDLE,
+        Way::Slice,
+        2,
+    ),
+    Part(Recording::Memory, ByteOrder::Little, MIDDLE, Way::Slice, 1),
+    Part(Recording::Raw, ByteOrder::Little, MIDDLE, Way::Slice, 1),
+    Part(Recording::Groups, ByteOrder::Little, MIDDLE, Way::Slice, 1),
+    Part(Recording::Chains, ByteOrder::Big, MIDDLE, Way::Chosen, 2),
+    Part(Recording::Tasks, ByteOrder::Little, MIDDLE, Way::Chosen, 1),
+];
+
+const TEXT: &[Part] = &[
+    Part(Recording::Chains, ByteOrder::Little, MIDDLE, Way::Lines, 2),
+    Part(
+        Recording::Chains,
+        ByteOrder::Little,
+        MIDDLE,
+        Way::Report(Report::Samples),
+        1,
+    ),
+    Part(Recording::Tasks, ByteOrder::Little, MIDDLE, Way::Lines, 1),
+    Part(
+        Recording::Tasks,
+        ByteOrder::Little,
+        MIDDLE,
+        Way::Report(Report::Tasks),
+        1,
+    ),
+];
+
+const AWKWARD: &[Part] = &[
+    Part(Recording::Refused, ByteOrder::Little, MIDDLE, Way::Slice, 2),
+    Part(Recording::Lies, ByteOrder::Little, MIDDLE, Way::Slice, 1),
+    Part(Recording::Unknown, ByteOrder::Little, LARGE, Way::Reader, 4),
+    Part(
+        Recording::Tasks,
+        ByteOrder::Little,
+        SMALL,
+        Way::Pieces(1),
+        4,
+    ),
+    Part(
+        Recording::Refused,
+        ByteOrder::Little,
+        MIDDLE,
+        Way::Reader,
+        1,
+    ),
+];
+
+/// What is measured.
+#[derive(Copy, Clone)]
+pub enum Workload {
+    /// Profiles as files that are mapped.
+    Profile,
+    /// Profiles through a pipe.
+    Pipe,
+    /// Profiles and tasks in the pages of a ring buffer.
+    Ring,
+    /// Stacks, branches, memory, tracepoints, groups, and other orders.
+    Fields,
+    /// Recordings as text.
+    Text,
+    /// Refused frames, lies, large frames that nobody reads, and single bytes.
+    Awkward,
+}
+
+impl Workload {
+    fn parts(self) -> &'static [Part] {
+        match self {
+            Workload::Profile => PROFILE,
+            Workload::Pipe => PIPE,
+            Workload::Ring => RING,
+            Workload::Fields => FIELDS,
+            Workload::Text => TEXT,
+            Workload::Awkward => AWKWARD,
+        }
+    }
+
+    /// So many rounds of a seed.
+    pub fn measure(self, alloc: Global, rounds: u64, seed: u64) -> Result<Digest> {
+        let mut digest = Digest::new();
+        let mut stream = Stream::new(alloc, seed);
+        let mut text = Vec::new(alloc);
+        for Part(recording, order, size, way, count) in self.parts() {
+            let maker = Maker::new(alloc, *recording, *order, &mut stream.random)?;
+            for _ in 0..rounds.saturating_mul(*count as u64) {
+                maker.make(&mut stream, *size)?;
+                way.read(alloc, &stream, &mut text, &mut digest)?;
+            }
+        }
+        Ok(digest)
+    }
+}
+
+impl Way {
+    // Reads a recording.
+    fn read(
+        self,
+        alloc: Global,
+        stream: &Stream,
+        text: &mut Vec<u8>,
+        digest: &mut Digest,
+    ) -> Result<()> {
+        let bytes = stream.bytes.as_slice();
+        match self {
+            Way::Slice => read_all(alloc, bytes, Little, digest),
+            Way::Chosen => read_all(alloc, bytes, chosen(stream.order), digest),
+            Way::Reader => {
+                let reader = BufReader::with_capacity(alloc, PIECE, bytes)?;
+                read_all(alloc, reader, Native, digest)
+            }
+            Way::Pieces(most) => {
+                let pieces = PieceBuf::new(bytes, most.max(1), false);
+                read_all(alloc, pieces, Little, digest)
+            }
+            Way::Ring(taken) => read_ring(alloc, bytes, 4_096, taken, digest),
+            Way::Lines => {
+                text.clear();
+                let outcome = run(alloc, bytes, text, Little, usize::MAX, true, PIECE);
+                digest.number(u64::from(outcome.status()));
+                digest.text(text);
+                Ok(())
+            }
+            Way::Report(report) => {
+                text.clear();
+                let mut errors = Vec::new(alloc);
+                print_recording(alloc, bytes, text, &mut errors, report)?;
+                digest.text(text);
+                Ok(())
+            }
+        }
+    }
+}
+
+// An order by the type that is one for all.
+fn chosen(order: ByteOrder) -> Dynamic {
+    match order {
+        ByteOrder::Little => Dynamic::Little,
+        ByteOrder::Big => Dynamic::Big,
+    }
+}
+
+// Reads a buffer to its end.
+fn read_all<'p, B: ParseBuf<'p> + Drop, E: Endian>(
+    alloc: Global,
+    buffer: B,
+    order: E,
+    digest: &mut Digest,
+) -> Result<()> {
+    let config = ParseConfig::<Native>::default().with_endian(order);
+    let mut parser = Parser::new(alloc, buffer, config);
+    let attr = parser.parse::<perf_event_attr>()?;
+    let order = parser.endian().duplicate()?;
+    let config = ParseConfig::<Native>::from(attr).with_endian(order);
+    let mut parser = parser.reconfigure(config);
+    for _ in 0..u64::MAX {
+        let run = read_records(&mut parser, BATCH);
+        digest.run(&run.frames);
+        match run.end {
+            RunEnd::Limit => {}
+            RunEnd::Done => break,
+            RunEnd::CutHeader => {
+                digest.number(1);
+                break;
+            }
+            RunEnd::Fault(error) => return Err(error.into()),
+        }
+    }
+    Ok(())
+}
