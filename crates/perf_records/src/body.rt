@@ -14,7 +14,7 @@ use perf_base::endian::Endian;
 use perf_base::refusal::ReadResult;
 use perf_buffers::input::Input;
 use perf_reader::reader::Reader;
-use perf_sample_types::sample::Sample;
+use perf_sample_types::sample::{empty_sample, fill_sample};
 use perf_types::aux_output_hw_id::AuxOutputHwId;
 use perf_types::aux_record::Aux;
 use perf_types::bpf_event::BpfEvent;
@@ -139,6 +139,7 @@ fn visit_read<'p, I: Input<'p>, E: Endian, V: Visitor<'p>>(
     visited!(reader, metadata, visitor, Read => visit_read)
 }
 
+// A sample is read where it stays, as it is large.
 #[inline(never)]
 fn visit_sample<'p, I: Input<'p>, E: Endian, V: Visitor<'p>>(
     reader: &mut Reader<I, E>,
@@ -148,7 +149,14 @@ fn visit_sample<'p, I: Input<'p>, E: Endian, V: Visitor<'p>>(
     ensures call { Call I.source E.order (VisitsType V.gives metadata RecordType.Sample)
         reader.old (kinds result) reader.new }
 {
-    visited!(reader, metadata, visitor, Sample<'p> => visit_sample)
+    let mut held = empty_sample();
+    match fill_sample(&mut held, reader) {
+        Ok(()) => Ok(visitor.visit_sample(held, metadata)),
+        Err(refusal) => {
+            drop(held);
+            Err(refusal)
+        }
+    }
 }
 
 #[inline(never)]

@@ -2,6 +2,7 @@ pub mod Branches
 pub mod Registers
 pub mod Sample
 pub mod SampleCopies
+pub mod SampleEmpty
 pub mod SampleForms
 pub mod SampleGetters
 pub mod SampleGroups

@@ -1,6 +1,7 @@
 //! SAMPLE.
 
 ghost use Rattle.std.specs.Prelude.{◌≡◌, option_map, ⊤};
+ghost use Rattle.perf_sample_types.specs.SampleEmpty.{filled, no_sample};
 ghost use Rattle.perf_sample_types.specs.SampleWords as shown;
 ghost use Rattle.perf_sample_types.specs.SampleWords.{Call, ReadsBorrowed, kinds, group_read};
 ghost use Rattle.perf_sample_types.specs.SampleWords.{registers_value, txn_bits};
@@ -393,32 +394,64 @@ impl Meant for Sample<'_> {
 /// was used. No claimed count makes room for numbers or branches. Byte strings are borrowed from a
 /// whole buffer.
 impl<'p, I: Input<'p>> ReadFrom<'p, I> for Sample<'p> {
+    #[inline]
     fn read<E: Endian>(reader: &mut Reader<I, E>) -> ReadResult<Self> {
-        let moment = match Moment::read(reader) {
-            Ok(moment) => moment,
-            Err(refusal) => return Err(refusal),
-        };
-        let counts = match Counts::read(reader) {
-            Ok(counts) => counts,
-            Err(refusal) => return Err(refusal),
-        };
-        let state = match State::read(reader) {
-            Ok(state) => state,
-            Err(refusal) => return Err(refusal),
-        };
-        let costs = match Costs::read(reader) {
-            Ok(costs) => costs,
-            Err(refusal) => return Err(refusal),
-        };
-        match Memory::read(reader) {
-            Ok(memory) => Ok(Sample {
-                moment,
-                counts,
-                state,
-                costs,
-                memory,
-            }),
-            Err(refusal) => Err(refusal),
+        let mut sample = empty_sample();
+        match fill_sample(&mut sample, reader) {
+            Ok(()) => Ok(sample),
+            Err(refusal) => {
+                drop(sample);
+                Err(refusal)
+            }
         }
+    }
+}
+
+/// A sample without fields.
+#[inline(always)]
+pub fn empty_sample<'p>() -> Sample<'p>
+    ensures { result ≡ no_sample }
+{
+    Sample {
+        moment: Moment::none(),
+        counts: Counts::none(),
+        state: State::none(),
+        costs: Costs::none(),
+        memory: Memory::none(),
+    }
+}
+
+/// Reads the fields of a sample into one that has none, where they stay: a sample is large. It is not
+/// inlined, so that the fields are no locals of the caller's, each of which would be moved once more.
+/// After a refusal there are the fields that were read before it.
+#[inline(never)]
+pub fn fill_sample<'p, I: Input<'p>, E: Endian>(
+    sample: &mut Sample<'p>,
+    reader: &mut Reader<I, E>,
+) -> ReadResult<()>
+    requires { sample.old ≡ no_sample }
+    ensures call { Call I.source E.order
+        (ReadsBorrowed shown.sample shown.sample_value shown.IsBorrowedSample)
+        reader.old (filled (kinds result) sample.new) reader.new }
+{
+    match sample.moment.fill(reader) {
+        Ok(()) => {}
+        Err(refusal) => return Err(refusal),
+    }
+    match sample.counts.fill(reader) {
+        Ok(()) => {}
+        Err(refusal) => return Err(refusal),
+    }
+    match sample.state.fill(reader) {
+        Ok(()) => {}
+        Err(refusal) => return Err(refusal),
+    }
+    match sample.costs.fill(reader) {
+        Ok(()) => {}
+        Err(refusal) => return Err(refusal),
+    }
+    match sample.memory.fill(reader) {
+        Ok(()) => Ok(()),
+        Err(refusal) => Err(refusal),
     }
 }

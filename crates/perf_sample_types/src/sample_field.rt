@@ -1,6 +1,7 @@
 //! Fields of a sample, each there or absent.
 
-ghost use Rattle.std.specs.Prelude.{◌==◌, ⊤, IfSome, option_map};
+ghost use Rattle.std.specs.Prelude.{◌≡◌, ◌==◌, ⊤, IfSome, None, option_map};
+ghost use Rattle.perf_sample_types.specs.SampleEmpty.{filled};
 ghost use Rattle.std.specs.Int.RustNames.{bit_and};
 ghost use Rattle.perf_base.specs.Configuration.{Configuration};
 ghost use Rattle.perf_base.specs.Table.{present_if};
@@ -35,40 +36,49 @@ pub(crate) trait ReadField<'p, I: Input<'p>>: SampleField {
             reader.old (kinds result) reader.new };
 }
 
-// A field where it is there. One that is absent costs the test of its flag.
+// Puts a field where it is there into its place, which holds none yet. One that is absent costs the
+// test of its flag.
 #[inline(always)]
 #[tactic(auto, using(perf_reader::proofs::TableRuns::optional_fields))]
-pub(crate) fn read_field_if<'p, I: Input<'p>, E: Endian, T: ReadField<'p, I>>(
+pub(crate) fn fill_field_if<'p, I: Input<'p>, E: Endian, T: ReadField<'p, I> + Drop>(
+    place: &mut Option<T>,
     reader: &mut Reader<I, E>,
     present: bool,
-) -> ReadResult<Option<T>>
+) -> ReadResult<()>
+    requires { place.old ≡ None }
     ensures call { Call I.source E.order
         (ReadsField (λ c. present_if present (T.parts (sample.settings_of c)))
         (option_map T.value) (λ x. IfSome x T.borrowed))
-        reader.old (kinds result) reader.new }
+        reader.old (filled (kinds result) place.new) reader.new }
 {
     if !present {
-        return Ok(None);
+        return Ok(());
     }
     match T::read_field(reader) {
-        Ok(field) => Ok(Some(field)),
+        Ok(field) => {
+            *place = Some(field);
+            Ok(())
+        }
         Err(refusal) => Err(refusal),
     }
 }
 
-// A field where the sample type has its flag. It is inlined, so that it costs no more than that test.
+// Puts a field into its place where the sample type has its flag. It is inlined, so that it costs no
+// more than that test.
 #[inline(always)]
-pub(crate) fn read_flagged<'p, I: Input<'p>, E: Endian, T: ReadField<'p, I>>(
+pub(crate) fn fill_flagged<'p, I: Input<'p>, E: Endian, T: ReadField<'p, I> + Drop>(
+    place: &mut Option<T>,
     reader: &mut Reader<I, E>,
     flags: SampleFlags,
     flag: SampleFlags,
-) -> ReadResult<Option<T>>
+) -> ReadResult<()>
+    requires { place.old ≡ None }
     ensures call { Call I.source E.order
         (ReadsField (λ c. present_if
         (bit_and (sample_flags_bits flags) (sample_flags_bits flag) == sample_flags_bits flag)
         (T.parts (sample.settings_of c)))
         (option_map T.value) (λ x. IfSome x T.borrowed))
-        reader.old (kinds result) reader.new }
+        reader.old (filled (kinds result) place.new) reader.new }
 {
-    read_field_if(reader, flags.contains(flag))
+    fill_field_if(place, reader, flags.contains(flag))
 }

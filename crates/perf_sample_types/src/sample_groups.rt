@@ -1,12 +1,14 @@
 //! The groups in which a sample's fields are read.
 
 ghost use Rattle.std.specs.Prelude.{◌≡◌, ⊤, [], ◌∷◌};
+ghost use Rattle.perf_sample_types.specs.SampleEmpty as empty;
+ghost use Rattle.perf_sample_types.specs.SampleEmpty.{filled};
 ghost use Rattle.perf_sample_types.specs.Sample as sample;
 ghost use Rattle.perf_sample_types.specs.SampleGroups as groups;
 ghost use Rattle.perf_sample_types.specs.SampleWords.{Call, ReadsTable, kinds};
 ghost use Rattle.perf_words.specs.SetBits.{sample_flags_bits};
 
-use crate::sample_field::{read_field_if, read_flagged};
+use crate::sample_field::{fill_field_if, fill_flagged};
 use crate::sample_parts::{
     AuxBytes, Branches, CallChain, Cpu, InterruptRegisters, RawData, Stack, Task, UserRegisters,
 };
@@ -30,22 +32,40 @@ pub(crate) struct Moment {
 }
 
 impl Moment {
-    #[inline]
-    pub(crate) fn read<'p, I: Input<'p>, E: Endian>(reader: &mut Reader<I, E>) -> ReadResult<Moment>
+    #[inline(always)]
+    pub(crate) fn none() -> Moment
+        ensures { result ≡ empty.no_moment }
+    {
+        Moment {
+            identifier: None,
+            ip: None,
+            task: None,
+            time: None,
+            addr: None,
+            id: None,
+        }
+    }
+
+    // Fills its places, which hold nothing yet.
+    #[inline(always)]
+    pub(crate) fn fill<'p, I: Input<'p>, E: Endian>(
+        &mut self,
+        reader: &mut Reader<I, E>,
+    ) -> ReadResult<()>
+        requires { self.old ≡ empty.no_moment }
         ensures call { Call I.source E.order
             (ReadsTable (λ c. sample.fields_under c sample.moment_fields) groups.moment_value
             (λ _. ⊤))
-            reader.old (kinds result) reader.new }
+            reader.old (filled (kinds result) self.new) reader.new }
     {
         let flags = reader.config().sample_type();
-        Ok(Moment {
-            identifier: read_flagged(reader, flags, SampleFlags::IDENTIFIER)?,
-            ip: read_flagged(reader, flags, SampleFlags::IP)?,
-            task: read_flagged(reader, flags, SampleFlags::TID)?,
-            time: read_flagged(reader, flags, SampleFlags::TIME)?,
-            addr: read_flagged(reader, flags, SampleFlags::ADDR)?,
-            id: read_flagged(reader, flags, SampleFlags::ID)?,
-        })
+        fill_flagged(&mut self.identifier, reader, flags, SampleFlags::IDENTIFIER)?;
+        fill_flagged(&mut self.ip, reader, flags, SampleFlags::IP)?;
+        fill_flagged(&mut self.task, reader, flags, SampleFlags::TID)?;
+        fill_flagged(&mut self.time, reader, flags, SampleFlags::TIME)?;
+        fill_flagged(&mut self.addr, reader, flags, SampleFlags::ADDR)?;
+        fill_flagged(&mut self.id, reader, flags, SampleFlags::ID)?;
+        Ok(())
     }
 }
 
@@ -60,21 +80,38 @@ pub(crate) struct Counts<'a> {
 }
 
 impl<'p> Counts<'p> {
-    #[inline]
-    pub(crate) fn read<I: Input<'p>, E: Endian>(reader: &mut Reader<I, E>) -> ReadResult<Counts<'p>>
+    #[inline(always)]
+    pub(crate) fn none() -> Counts<'p>
+        ensures { result ≡ empty.no_counts }
+    {
+        Counts {
+            stream_id: None,
+            cpu: None,
+            period: None,
+            values: None,
+            call_chain: None,
+        }
+    }
+
+    // Fills its places, which hold nothing yet.
+    #[inline(always)]
+    pub(crate) fn fill<I: Input<'p>, E: Endian>(
+        &mut self,
+        reader: &mut Reader<I, E>,
+    ) -> ReadResult<()>
+        requires { self.old ≡ empty.no_counts }
         ensures call { Call I.source E.order
             (ReadsTable (λ c. sample.fields_under c sample.count_fields) groups.counts_value
             (λ _. ⊤))
-            reader.old (kinds result) reader.new }
+            reader.old (filled (kinds result) self.new) reader.new }
     {
         let flags = reader.config().sample_type();
-        Ok(Counts {
-            stream_id: read_flagged(reader, flags, SampleFlags::STREAM_ID)?,
-            cpu: read_flagged(reader, flags, SampleFlags::CPU)?,
-            period: read_flagged(reader, flags, SampleFlags::PERIOD)?,
-            values: read_flagged(reader, flags, SampleFlags::READ)?,
-            call_chain: read_flagged(reader, flags, SampleFlags::CALLCHAIN)?,
-        })
+        fill_flagged(&mut self.stream_id, reader, flags, SampleFlags::STREAM_ID)?;
+        fill_flagged(&mut self.cpu, reader, flags, SampleFlags::CPU)?;
+        fill_flagged(&mut self.period, reader, flags, SampleFlags::PERIOD)?;
+        fill_flagged(&mut self.values, reader, flags, SampleFlags::READ)?;
+        fill_flagged(&mut self.call_chain, reader, flags, SampleFlags::CALLCHAIN)?;
+        Ok(())
     }
 }
 
@@ -88,20 +125,36 @@ pub(crate) struct State<'a> {
 }
 
 impl<'p> State<'p> {
-    #[inline]
-    pub(crate) fn read<I: Input<'p>, E: Endian>(reader: &mut Reader<I, E>) -> ReadResult<State<'p>>
+    #[inline(always)]
+    pub(crate) fn none() -> State<'p>
+        ensures { result ≡ empty.no_state }
+    {
+        State {
+            raw: None,
+            branches: None,
+            regs_user: None,
+            stack_user: None,
+        }
+    }
+
+    // Fills its places, which hold nothing yet.
+    #[inline(always)]
+    pub(crate) fn fill<I: Input<'p>, E: Endian>(
+        &mut self,
+        reader: &mut Reader<I, E>,
+    ) -> ReadResult<()>
+        requires { self.old ≡ empty.no_state }
         ensures call { Call I.source E.order
             (ReadsTable (λ c. sample.fields_under c sample.state_fields) groups.state_value
             groups.IsBorrowedState)
-            reader.old (kinds result) reader.new }
+            reader.old (filled (kinds result) self.new) reader.new }
     {
         let flags = reader.config().sample_type();
-        Ok(State {
-            raw: read_flagged(reader, flags, SampleFlags::RAW)?,
-            branches: read_flagged(reader, flags, SampleFlags::BRANCH_STACK)?,
-            regs_user: read_flagged(reader, flags, SampleFlags::REGS_USER)?,
-            stack_user: read_flagged(reader, flags, SampleFlags::STACK_USER)?,
-        })
+        fill_flagged(&mut self.raw, reader, flags, SampleFlags::RAW)?;
+        fill_flagged(&mut self.branches, reader, flags, SampleFlags::BRANCH_STACK)?;
+        fill_flagged(&mut self.regs_user, reader, flags, SampleFlags::REGS_USER)?;
+        fill_flagged(&mut self.stack_user, reader, flags, SampleFlags::STACK_USER)?;
+        Ok(())
     }
 }
 
@@ -123,20 +176,41 @@ fn is_weighed(flags: SampleFlags) -> bool
 }
 
 impl<'p> Costs<'p> {
-    #[inline]
-    pub(crate) fn read<I: Input<'p>, E: Endian>(reader: &mut Reader<I, E>) -> ReadResult<Costs<'p>>
+    #[inline(always)]
+    pub(crate) fn none() -> Costs<'p>
+        ensures { result ≡ empty.no_costs }
+    {
+        Costs {
+            weight: None,
+            data_src: None,
+            transaction: None,
+            regs_intr: None,
+        }
+    }
+
+    // Fills its places, which hold nothing yet.
+    #[inline(always)]
+    pub(crate) fn fill<I: Input<'p>, E: Endian>(
+        &mut self,
+        reader: &mut Reader<I, E>,
+    ) -> ReadResult<()>
+        requires { self.old ≡ empty.no_costs }
         ensures call { Call I.source E.order
             (ReadsTable (λ c. sample.fields_under c sample.cost_fields) groups.costs_value
             (λ _. ⊤))
-            reader.old (kinds result) reader.new }
+            reader.old (filled (kinds result) self.new) reader.new }
     {
         let flags = reader.config().sample_type();
-        Ok(Costs {
-            weight: read_field_if(reader, is_weighed(flags))?,
-            data_src: read_flagged(reader, flags, SampleFlags::DATA_SRC)?,
-            transaction: read_flagged(reader, flags, SampleFlags::TRANSACTION)?,
-            regs_intr: read_flagged(reader, flags, SampleFlags::REGS_INTR)?,
-        })
+        fill_field_if(&mut self.weight, reader, is_weighed(flags))?;
+        fill_flagged(&mut self.data_src, reader, flags, SampleFlags::DATA_SRC)?;
+        fill_flagged(
+            &mut self.transaction,
+            reader,
+            flags,
+            SampleFlags::TRANSACTION,
+        )?;
+        fill_flagged(&mut self.regs_intr, reader, flags, SampleFlags::REGS_INTR)?;
+        Ok(())
     }
 }
 
@@ -151,21 +225,47 @@ pub(crate) struct Memory<'a> {
 }
 
 impl<'p> Memory<'p> {
-    // It is inlined, so that no place is made for a group that is absent.
     #[inline(always)]
-    pub(crate) fn read<I: Input<'p>, E: Endian>(reader: &mut Reader<I, E>) -> ReadResult<Memory<'p>>
+    pub(crate) fn none() -> Memory<'p>
+        ensures { result ≡ empty.no_memory }
+    {
+        Memory {
+            phys_addr: None,
+            cgroup: None,
+            data_page_size: None,
+            code_page_size: None,
+            aux: None,
+        }
+    }
+
+    // Fills its places, which hold nothing yet.
+    #[inline(always)]
+    pub(crate) fn fill<I: Input<'p>, E: Endian>(
+        &mut self,
+        reader: &mut Reader<I, E>,
+    ) -> ReadResult<()>
+        requires { self.old ≡ empty.no_memory }
         ensures call { Call I.source E.order
             (ReadsTable (λ c. sample.fields_under c sample.memory_fields) groups.memory_value
             groups.IsBorrowedMemory)
-            reader.old (kinds result) reader.new }
+            reader.old (filled (kinds result) self.new) reader.new }
     {
         let flags = reader.config().sample_type();
-        Ok(Memory {
-            phys_addr: read_flagged(reader, flags, SampleFlags::PHYS_ADDR)?,
-            cgroup: read_flagged(reader, flags, SampleFlags::CGROUP)?,
-            data_page_size: read_flagged(reader, flags, SampleFlags::DATA_PAGE_SIZE)?,
-            code_page_size: read_flagged(reader, flags, SampleFlags::CODE_PAGE_SIZE)?,
-            aux: read_flagged(reader, flags, SampleFlags::AUX)?,
-        })
+        fill_flagged(&mut self.phys_addr, reader, flags, SampleFlags::PHYS_ADDR)?;
+        fill_flagged(&mut self.cgroup, reader, flags, SampleFlags::CGROUP)?;
+        fill_flagged(
+            &mut self.data_page_size,
+            reader,
+            flags,
+            SampleFlags::DATA_PAGE_SIZE,
+        )?;
+        fill_flagged(
+            &mut self.code_page_size,
+            reader,
+            flags,
+            SampleFlags::CODE_PAGE_SIZE,
+        )?;
+        fill_flagged(&mut self.aux, reader, flags, SampleFlags::AUX)?;
+        Ok(())
     }
 }

@@ -14,7 +14,7 @@ returns-in-Err g c =
 
 pub returns-in-Ok : goal.returns-in-Ok
 returns-in-Ok g c =
-    let held = c.in-Ok.held in
+    let held = c.fill_sample.new.sample in
     let call = c.in-Ok.ensures.call in record {
       call = visited g.V.Visitor.gives c.args.metadata sample sample_value sample_is (is_lent_sample held) true c.visit_sample.ensures (λ t w. sample_lent held ((call.answer t).1 w)) (λ is. refl) (of_said (λ says. says.0) call);
     }

@@ -5,52 +5,52 @@ use Rattle.perf_reader.proofs.Asked.{fields_give, of_row}
 use Rattle.perf_types.proofs.Readings.{came_up}
 use Rattle.perf_sample_types.proofs.FlaggedFields.{flags_behind, flags_stop, flag_behind, flag_stops}
 use Rattle.perf_sample_types.specs.Sample.{has_one}
-use Rattle.perf_sample_types.proofs.sample_groups.Costs.read.Goals as goal
+use Rattle.perf_sample_types.proofs.sample_groups.Costs.fill.Goals as goal
 
-pub returns-in_err-read_field_if : goal.returns-in_err-read_field_if
-returns-in_err-read_field_if g c =
+pub returns-in_err-fill_field_if : goal.returns-in_err-fill_field_if
+returns-in_err-fill_field_if g c =
     let asked : sample_flags_bits c.sample_type-flags.result ≡ (configuration_of c.args.reader.now.config).sample_type = c.sample_type-flags.ensures ∙ ap (λ k. (configuration_of k).sample_type) c.config.ensures in
     let weighed : has_one (configuration_of c.args.reader.now.config).sample_type (14 ∷ 24 ∷ []) ≡ c.is_weighed.result = sym (c.is_weighed.ensures ∙ ap (λ t. has_one t (14 ∷ 24 ∷ [])) asked) in
-    let up : c.from_residual.result ≡ Err c.in_err-read_field_if.field-0.0 = came_up _ _ c.from_residual.ensures in rw up (
+    let up : c.from_residual.result ≡ Err c.in_err-fill_field_if.field-0.0 = came_up _ _ c.from_residual.ensures in rw up (
     record {
       call = of_row _ _ _ (λ t w. tt) (
-          flags_stop _ _ (14 ∷ 24 ∷ []) _ _ _ (λ left m. refl) refl weighed c.in_err-read_field_if.ensures.call);
+          flags_stop _ _ (14 ∷ 24 ∷ []) _ _ _ (λ left m. refl) refl weighed c.in_err-fill_field_if.ensures.call);
     })
 
-pub returns-in_err-read_flagged : goal.returns-in_err-read_flagged
-returns-in_err-read_flagged g c =
+pub returns-in_err-fill_flagged : goal.returns-in_err-fill_flagged
+returns-in_err-fill_flagged g c =
     let asked : sample_flags_bits c.sample_type-flags.result ≡ (configuration_of c.args.reader.now.config).sample_type = c.sample_type-flags.ensures ∙ ap (λ k. (configuration_of k).sample_type) c.config.ensures in
     let weighed : has_one (configuration_of c.args.reader.now.config).sample_type (14 ∷ 24 ∷ []) ≡ c.is_weighed.result = sym (c.is_weighed.ensures ∙ ap (λ t. has_one t (14 ∷ 24 ∷ [])) asked) in
-    let up : c.from_residual-in_err-read_flagged.result ≡ Err c.in_err-read_flagged.field-0.0 = came_up _ _ c.from_residual-in_err-read_flagged.ensures in rw up (
+    let up : c.from_residual-in_err-fill_flagged.result ≡ Err c.in_err-fill_flagged.field-0.0 = came_up _ _ c.from_residual-in_err-fill_flagged.ensures in rw up (
     record {
       call = of_row _ _ _ (λ t w. tt) (
-          flags_behind _ _ (14 ∷ 24 ∷ []) _ _ _ refl weighed c.in_ok-read_field_if.ensures.call (λ kept.
-          flag_stops _ _ 15 _ _ (λ left m. refl) kept asked c.in_err-read_flagged.ensures.call));
+          flags_behind _ _ (14 ∷ 24 ∷ []) _ _ _ refl weighed c.in_ok-fill_field_if.ensures.call (λ kept.
+          flag_stops _ _ 15 _ _ (λ left m. refl) kept asked c.in_err-fill_flagged.ensures.call));
     })
 
-pub returns-in_err-read_flagged-2 : goal.returns-in_err-read_flagged-2
-returns-in_err-read_flagged-2 g c =
+pub returns-in_err-fill_flagged-2 : goal.returns-in_err-fill_flagged-2
+returns-in_err-fill_flagged-2 g c =
     let asked : sample_flags_bits c.sample_type-flags.result ≡ (configuration_of c.args.reader.now.config).sample_type = c.sample_type-flags.ensures ∙ ap (λ k. (configuration_of k).sample_type) c.config.ensures in
     let weighed : has_one (configuration_of c.args.reader.now.config).sample_type (14 ∷ 24 ∷ []) ≡ c.is_weighed.result = sym (c.is_weighed.ensures ∙ ap (λ t. has_one t (14 ∷ 24 ∷ [])) asked) in
-    let up : c.from_residual-in_err-read_flagged-2.result ≡ Err c.in_err-read_flagged-2.field-0.0 = came_up _ _ c.from_residual-in_err-read_flagged-2.ensures in rw up (
+    let up : c.from_residual-in_err-fill_flagged-2.result ≡ Err c.in_err-fill_flagged-2.field-0.0 = came_up _ _ c.from_residual-in_err-fill_flagged-2.ensures in rw up (
     record {
       call = of_row _ _ _ (λ t w. tt) (
-          flags_behind _ _ (14 ∷ 24 ∷ []) _ _ _ refl weighed c.in_ok-read_field_if.ensures.call (λ kept.
-          flag_behind _ _ 15 _ _ kept asked c.in_ok-read_flagged.ensures.call (λ kept.
-          flag_stops _ _ 17 _ _ (λ left m. refl) kept asked c.in_err-read_flagged-2.ensures.call)));
+          flags_behind _ _ (14 ∷ 24 ∷ []) _ _ _ refl weighed c.in_ok-fill_field_if.ensures.call (λ kept.
+          flag_behind _ _ 15 _ _ kept asked c.in_ok-fill_flagged.ensures.call (λ kept.
+          flag_stops _ _ 17 _ _ (λ left m. refl) kept asked c.in_err-fill_flagged-2.ensures.call)));
     })
 
-pub returns-in_err-read_flagged-3 : goal.returns-in_err-read_flagged-3
-returns-in_err-read_flagged-3 g c =
+pub returns-in_err-fill_flagged-3 : goal.returns-in_err-fill_flagged-3
+returns-in_err-fill_flagged-3 g c =
     let asked : sample_flags_bits c.sample_type-flags.result ≡ (configuration_of c.args.reader.now.config).sample_type = c.sample_type-flags.ensures ∙ ap (λ k. (configuration_of k).sample_type) c.config.ensures in
     let weighed : has_one (configuration_of c.args.reader.now.config).sample_type (14 ∷ 24 ∷ []) ≡ c.is_weighed.result = sym (c.is_weighed.ensures ∙ ap (λ t. has_one t (14 ∷ 24 ∷ [])) asked) in
-    let up : c.from_residual-in_err-read_flagged-3.result ≡ Err c.in_err-read_flagged-3.field-0.0 = came_up _ _ c.from_residual-in_err-read_flagged-3.ensures in rw up (
+    let up : c.from_residual-in_err-fill_flagged-3.result ≡ Err c.in_err-fill_flagged-3.field-0.0 = came_up _ _ c.from_residual-in_err-fill_flagged-3.ensures in rw up (
     record {
       call = of_row _ _ _ (λ t w. tt) (
-          flags_behind _ _ (14 ∷ 24 ∷ []) _ _ _ refl weighed c.in_ok-read_field_if.ensures.call (λ kept.
-          flag_behind _ _ 15 _ _ kept asked c.in_ok-read_flagged.ensures.call (λ kept.
-          flag_behind _ _ 17 _ _ kept asked c.in_ok-read_flagged-2.ensures.call (λ kept.
-          flag_stops _ _ 18 _ _ (λ left m. refl) kept asked c.in_err-read_flagged-3.ensures.call))));
+          flags_behind _ _ (14 ∷ 24 ∷ []) _ _ _ refl weighed c.in_ok-fill_field_if.ensures.call (λ kept.
+          flag_behind _ _ 15 _ _ kept asked c.in_ok-fill_flagged.ensures.call (λ kept.
+          flag_behind _ _ 17 _ _ kept asked c.in_ok-fill_flagged-2.ensures.call (λ kept.
+          flag_stops _ _ 18 _ _ (λ left m. refl) kept asked c.in_err-fill_flagged-3.ensures.call))));
     })
 
 pub returns : goal.returns
@@ -59,9 +59,9 @@ returns g c =
     let weighed : has_one (configuration_of c.args.reader.now.config).sample_type (14 ∷ 24 ∷ []) ≡ c.is_weighed.result = sym (c.is_weighed.ensures ∙ ap (λ t. has_one t (14 ∷ 24 ∷ [])) asked) in
     record {
       call = of_row _ _ _ (λ t w. tt) (
-          flags_behind _ _ (14 ∷ 24 ∷ []) _ _ _ refl weighed c.in_ok-read_field_if.ensures.call (λ kept.
-          flag_behind _ _ 15 _ _ kept asked c.in_ok-read_flagged.ensures.call (λ kept.
-          flag_behind _ _ 17 _ _ kept asked c.in_ok-read_flagged-2.ensures.call (λ kept.
-          flag_behind _ _ 18 _ _ kept asked c.in_ok-read_flagged-3.ensures.call (λ kept.
+          flags_behind _ _ (14 ∷ 24 ∷ []) _ _ _ refl weighed c.in_ok-fill_field_if.ensures.call (λ kept.
+          flag_behind _ _ 15 _ _ kept asked c.in_ok-fill_flagged.ensures.call (λ kept.
+          flag_behind _ _ 17 _ _ kept asked c.in_ok-fill_flagged-2.ensures.call (λ kept.
+          flag_behind _ _ 18 _ _ kept asked c.in_ok-fill_flagged-3.ensures.call (λ kept.
           fields_give _ _ (λ left m. refl))))));
     }
