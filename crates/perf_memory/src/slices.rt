@@ -205,6 +205,30 @@ fn longer_changed_code(rt: HostRuntime) {
     check_plain(&rt, bytes, want);
 }
 
+// STACK_USER of a sample type.
+const STACK_USER: u64 = 1 << 13;
+
+// The attribute of an event whose samples are stacks alone.
+fn with_stacks() -> perf_event_attr {
+    perf_event_attr {
+        sample_type: STACK_USER,
+        ..Default::default()
+    }
+}
+
+// A sample that is refused is refused for what its bytes are, also where its box is refused.
+#[test]
+fn a_stack_of_which_too_much_was_used(rt: HostRuntime) {
+    let bytes = b"\x09\0\0\0\0\0\x20\0\x08\0\0\0\0\0\0\0abcdefgh\x09\0\0\0\0\0\0\0";
+    check_line(&rt, bytes, with_stacks(), "0 9 0 32 refused InvalidRecord");
+}
+
+#[test]
+fn a_sample_without_its_only_field(rt: HostRuntime) {
+    let bytes = b"\x09\0\0\0\0\0\x0C\0\0\0\0\0";
+    check_line(&rt, bytes, with_stacks(), "0 9 0 12 refused Eof");
+}
+
 // A sample of raw bytes alone.
 const RAW_BYTES: &[u8] = b"\x09\0\0\0\0\0\x10\0\x02\0\0\0\xAA\xBB\0\0";
 

@@ -1,16 +1,22 @@
 -- Records that are made of what was visited.
 use Rattle.std.proofs.Common.{◌≡◌, Bool, true, false, arith, sym, ◌∙◌, ap, subst}
-use Rattle.std.specs.Prelude.{Result, None, Some, Ok, Err, IsTrue}
+use Rattle.std.specs.Prelude.{Result, None, Some, Ok, Err, IfOk, IsTrue}
 use Rattle.perf_base.specs.Refusals.{kinds, refusal_kind}
+use Rattle.perf_base.specs.declared.error.ErrorKind.{ErrorKind}
 use Rattle.perf_base.specs.declared.error.ErrorKind.TheVariants.{OutOfMemory}
+use Rattle.perf_base.specs.Order.{Order}
+use Rattle.perf_buffers.specs.Buffer.{Source}
+use Rattle.perf_reader.specs.Calls.{Call}
+use Rattle.perf_reader.specs.declared.reader.Reader.{Reader}
 use Rattle.perf_base.specs.declared.refusal.Refusal.{Refusal}
 use Rattle.perf_base.specs.declared.sys.perf_event_header.{perf_event_header}
-use Rattle.perf_reader.specs.Meaning.{Meaning}
+use Rattle.perf_reader.specs.Meaning.{Meaning, meaning}
 use Rattle.perf_reader.specs.Reading.{Keeps}
 use Rattle.perf_records.specs.Answers.{SaysBehind}
 use Rattle.perf_records.specs.Bodies.{wants_memory}
 use Rattle.perf_records.specs.Records.{IsBorrowed}
-use Rattle.perf_records.specs.Visits.{Event, event, GivesRecord, VisitsBehind, BelongsTo}
+use Rattle.perf_records.specs.Metadata.{MetadataValue}
+use Rattle.perf_records.specs.Visits.{Event, event, GivesRecord, IsRecordOf, VisitsBody, VisitsBehind, BelongsTo}
 use Rattle.perf_records.specs.declared.record.Record.{Record}
 
 -- what belongs to an event, where records are made
@@ -50,3 +56,48 @@ keeps_unmade start new p = record {
   cost = λ t. let k = p.cost t in (k.0, omega (arith, k.1));
   place = p.place;
 }
+
+-- ---- bodies
+
+module _ {I E : Type 0} {source : I → Source} {order : E → Order} (m : MetadataValue) {a b : Reader I E} where
+  -- the record that was made is what the body says
+  pub made_body : (output : Result Record Refusal) (r : Record) → output ≡ Ok r → Call source order (VisitsBody Gives m) a (Ok output) b → Call source order (VisitsBody IsRecordOf m) a (Ok r) b
+  unfolding GivesRecord
+  made_body output r is call = record {
+    config = call.config;
+    whole = call.whole;
+    told = call.told;
+    answer = λ t.
+        let v = call.answer t in
+        let gave : GivesRecord (event v.0 v.1 m) (Ok r) = subst (λ (o : Result Record Refusal). GivesRecord (event v.0 v.1 m) (kinds o)) is v.2 in
+        (v.0, v.1, gave, v.3, v.4, v.5);
+    keeps = call.keeps;
+  }
+
+  -- one that was not made is refused for want of memory
+  pub unmade_body : (output : Result Record Refusal) (e : Refusal) → output ≡ Err e → IsTrue (source a.input).told → Call source order (VisitsBody Gives m) a (Ok output) b →
+      Call source order (VisitsBody IsRecordOf m) a (Err (refusal_kind e)) b
+  unfolding GivesRecord
+  unmade_body output e is told call =
+      let v = call.answer told in
+      let gave : GivesRecord (event v.0 v.1 m) (Err (refusal_kind e)) = subst (λ (o : Result Record Refusal). GivesRecord (event v.0 v.1 m) (kinds o)) is v.2 in
+      subst (λ (k : ErrorKind). Call source order (VisitsBody IsRecordOf m) a (Err k) b) (sym gave.0) (record {
+        config = call.config;
+        whole = call.whole;
+        told = call.told;
+        answer = λ t. ((λ kind. absurd (cc)), (λ w none. let never : true ≡ false = sym (v.5 gave.1) ∙ none in absurd (cc)));
+        keeps = λ start p. keeps_unmade start (meaning source order b) (call.keeps start p);
+      })
+
+-- the record of a frame's body is what the frame says
+pub body_says : (h : perf_event_header) (old new : Meaning) (seen : Result Record ErrorKind) → VisitsBehind IsRecordOf h old seen new → SaysBehind h old seen new
+body_says h old new (Ok r) v = (v.6.0 ∙ ap Ok (sym v.3.0), v.6.1, v.6.2)
+body_says h old new (Err e) v = v
+
+-- and nothing of it was copied
+pub body_borrows : (h : perf_event_header) (from : Bool) (r : Record) → BelongsTo IsRecordOf h from r → IsTrue from → IsBorrowed r
+body_borrows h from r b whole = b.1.1 (b.4 whole)
+
+pub body_borrows_if : (h : perf_event_header) (from : Bool) (result : Result Record Refusal) → IfOk result (λ r. BelongsTo IsRecordOf h from r) → IsTrue from → IfOk result (λ r. IsBorrowed r)
+body_borrows_if h from (Ok r) b whole = body_borrows h from r b whole
+body_borrows_if h from (Err e) b whole = tt

@@ -66,6 +66,10 @@ unfoldable pub GivesRecord : Event → Result Record ErrorKind → Type 0
 GivesRecord seen (Ok r) = (record_value r ≡ seen.value) × (IsTrue seen.lent → IsBorrowed r)
 GivesRecord seen (Err e) = (e ≡ OutOfMemory) × IsSample seen.value
 
+-- the record of that value, of which nothing was copied if the event's was not
+abbrev pub IsRecordOf : Event → Record → Type 0
+IsRecordOf seen r = (record_value r ≡ seen.value) × (IsTrue seen.lent → IsBorrowed r)
+
 -- what a record is answered by belongs to each event that it is the record of
 abbrev pub MakesRecord : {O : Type 0} → (Event → O → Type 0) → Record → O → Type 0
 MakesRecord gives r output =

@@ -9,7 +9,7 @@ ghost use Rattle.perf_records.specs.Words as words;
 use crate::body::visit_body;
 use crate::metadata::RecordMetadata;
 use crate::record::Record;
-use crate::record_visitor::Recording;
+use crate::record_body::read_body;
 use crate::visitor::Visitor;
 use perf_base::config::ParseConfig;
 use perf_base::endian::Endian;
@@ -97,6 +97,13 @@ fn take_id<'p, E: Endian>(
         × (length (cursor_left frame.entry)
         < words.id_length (configuration_of config.now) header.type_)) }
 {
+    if !carries_sample_id(header.type_) {
+        return Ok(Taken {
+            body: frame,
+            metadata: RecordMetadata::from_parts(header.type_, header.misc, SampleId::default()),
+            reads: ReadCounter::new(),
+        });
+    }
     let mut body = frame;
     let len = id_len(config, header.type_);
     if body.len() < len {
@@ -204,6 +211,32 @@ fn finish<'p, E: Endian, V: Visitor<'p>>(
     (output, reader.into_reads())
 }
 
+// The record that the bytes of a body are, and how many reads that took.
+// Bytes behind the record do not matter.
+#[inline]
+fn finish_record<'p, E: Endian>(
+    alloc: Global,
+    bytes: ParseBufCursor<'p>,
+    config: ParseConfig<E>,
+    metadata: RecordMetadata,
+) -> (ReadResult<Record<'p>>, ReadCounter)
+    ensures answer { words.VisitsAll words.IsRecordOf metadata (E.order (endian_of config))
+        (words.body (configuration_of config) metadata.ty) (cursor_left bytes.entry)
+        (words.cursor_lent bytes.entry) (kinds result.0) result.1 }
+    ensures faults { words.is_external (words.refused (kinds result.0)) ≡ false }
+    ensures cost { result.1
+        ≤ length (cursor_left bytes.entry) + words.one_if_refused (words.refused (kinds result.0)) }
+{
+    if let Some(bytes) = bytes.as_slice() {
+        let mut reader = Reader::new(alloc, bytes, config);
+        let output = read_body(&mut reader, metadata);
+        return (output, reader.into_reads());
+    }
+    let mut reader = Reader::new(alloc, bytes, config);
+    let output = read_body(&mut reader, metadata);
+    (output, reader.into_reads())
+}
+
 /// What a visitor makes of the record of a frame whose header was read. Exactly the frame is taken,
 /// also where it is refused, and then nothing is visited; after a fault, and where memory for the
 /// frame was refused, a beginning of it.
@@ -259,7 +292,6 @@ pub fn visit_behind<'p, I: Input<'p>, E: Endian, V: Visitor<'p>>(
 /// The record of a frame whose header was read. Exactly the frame is taken, also where it is
 /// refused; after a fault, and where memory for the frame was refused, a beginning of it.
 #[inline]
-#[tactic(auto, unfolding(crate::specs::Visits::GivesRecord))]
 pub fn read_behind<'p, I: Input<'p>, E: Endian>(
     reader: &mut Reader<I, E>,
     header: perf_event_header,
@@ -296,12 +328,15 @@ pub fn read_behind<'p, I: Input<'p>, E: Endian>(
     ensures call { Call I.source E.order (words.SaysBehind header)
         reader.old (kinds result) reader.new }
 {
-    let visitor = Recording::small(reader.alloc());
-    match visit_behind(reader, header, visitor) {
-        Ok(Ok(record)) => Ok(record),
-        Ok(Err(refusal)) => Err(refusal),
-        Err(refusal) => Err(refusal),
-    }
+    let (body, metadata) = match split(reader, header) {
+        Ok(parts) => parts,
+        Err(refusal) => return Err(refusal),
+    };
+    let mut under = reader.config().lent();
+    under.set_misc(header.misc);
+    let (record, taken) = finish_record(reader.alloc(), body, under, metadata);
+    reader.count(taken);
+    record
 }
 
 impl Meant for Record<'_> {

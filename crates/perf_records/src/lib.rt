@@ -6,6 +6,7 @@ pub mod frame;
 pub mod metadata;
 pub mod partial;
 pub mod record;
+mod record_body;
 mod record_clone;
 pub mod record_type;
 pub mod record_visitor;

@@ -15,6 +15,8 @@ use crate::sample_made::{
     user_registers_of,
 };
 use crate::sample_parts::Branches;
+use bitflags::Flags;
+use perf_base::config::ParseConfig;
 use perf_base::endian::Endian;
 use perf_base::error::ParseResult;
 use perf_base::refusal::ReadResult;
@@ -405,6 +407,15 @@ impl<'p, I: Input<'p>> ReadFrom<'p, I> for Sample<'p> {
             }
         }
     }
+}
+
+// The flags that have a field of their own: bits 0 to 23. `WEIGHT_STRUCT` is another of the weight.
+const FIELDS: u64 = (1 << 24) - 1;
+
+/// How many bytes a sample has at least: each of its fields takes eight or more.
+#[inline]
+pub fn least_len<E>(config: &ParseConfig<E>) -> usize {
+    8 * (config.sample_type().bits() & FIELDS).count_ones() as usize
 }
 
 /// A sample without fields.

@@ -69,7 +69,7 @@ returns-clause-parts g c =
     let known : SampleIdValue → MetadataValue = λ i. record { ty = h.type_; misc = h.misc; sample_id = i } in
     let made : MetadataValue → List ℕ → FrameParts = λ m b. record { metadata = m; body = b } in (
       omega (arith, room, len),
-      ap (λ m. made m (cursor_left c.drop_last.new.self)) (c.from_parts.ensures ∙ ap known id)
+      ap (λ m. made m (cursor_left c.drop_last.new.self)) (c.from_parts-2.ensures ∙ ap known id)
           ∙ ap (made (known (value o (drop (length frame - id_length settings h.type_) frame) 0 (id_of_type settings h.type_)))) body,
     )
 
