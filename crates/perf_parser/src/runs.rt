@@ -1,6 +1,6 @@
 //! Runs over a stream of records.
 
-ghost use Rattle.std.specs.Prelude.{◌≡◌, ◌+◌, ◌≤◌, ◌<◌, ◌++◌, take, None, Err};
+ghost use Rattle.std.specs.Prelude.{◌≡◌, ◌+◌, ◌≤◌, ◌<◌, ◌++◌, [], ◌∷◌, take, None, Ok, Err};
 ghost use Rattle.std.specs.Prelude.{vec_len, vec_capacity};
 ghost use Rattle.std.specs.Prelude.{IsTrue, IfOk, IfErr, OnOk, OnErr};
 ghost use Rattle.perf_parser.specs.Words.{header_of, buffer_of, config_of, reads_of, meaning};
@@ -18,6 +18,12 @@ use perf_buffers::parsebuf::ParseBuf;
 use perf_reader::reader::Reader;
 use perf_records::frame::read_behind;
 use perf_records::record::Record;
+
+// How many answers room is made for at first.
+const FIRST: usize = 256;
+
+// How many bytes a small frame has.
+const FRAME: usize = 32;
 
 /// The frames that a run met, each with its header and its answer, and how the run ended.
 #[derive(Debug, Drop)]
@@ -134,6 +140,20 @@ fn list_refused<'p, B: ParseBuf<'p>, E: Endian>(
     }
 }
 
+// Lists a record in room that was made. It is not inlined, so that the place for its answer, which is
+// large, is cleared once.
+#[inline(never)]
+fn list_record<'p>(
+    frames: &mut Vec<(perf_event_header, ParseResult<Record<'p>>)>,
+    header: perf_event_header,
+    held: Record<'p>,
+)
+    requires { vec_len frames.old < vec_capacity frames.old }
+    ensures { frames.new.items ≡ frames.old.items ++ ((header, Ok held.entry) ∷ []) }
+{
+    frames.push_reserved((header, Ok(held)));
+}
+
 // Lists the answer of a frame behind its header, in room that was made; or answers the fault or the
 // want of memory that stops the run. A record is listed here, without a place for an error, which is
 // large.
@@ -158,7 +178,7 @@ fn list_answer<'p, B: ParseBuf<'p>, E: Endian>(
 {
     match read_behind(reader, header) {
         Ok(record) => {
-            frames.push_reserved((header, Ok(record)));
+            list_record(frames, header, record);
             Ok(())
         }
         Err(refusal) => match list_refused(reader, frames, header, refusal) {
@@ -216,6 +236,26 @@ fn end_of<'p, B: ParseBuf<'p>, E: Endian>(reader: &mut Reader<Outer<B>, E>, stop
     }
 }
 
+// Room for the first answers of a run: for no more than are asked for, than the bytes that are left
+// can be small frames, and than `FIRST`. A run that ends before its limit gives back what it has too
+// much. Where memory is refused there is none, and it is asked for with the first frame.
+fn first_room<'p, B: ParseBuf<'p>, E: Endian>(
+    reader: &Reader<Outer<B>, E>,
+    limit: usize,
+) -> Vec<(perf_event_header, ParseResult<Record<'p>>)>
+    ensures { result.items ≡ [] }
+{
+    let left = match reader.input().remaining_hint() {
+        Some(left) => left,
+        None => usize::MAX,
+    };
+    let room = limit.min(left / FRAME).min(FIRST);
+    match Vec::with_capacity(reader.alloc(), room) {
+        Ok(frames) => frames,
+        Err(_) => Vec::new(reader.alloc()),
+    }
+}
+
 /// Reads the records of the next frames, at most `limit`.
 ///
 /// A refused frame costs that one answer, and the next frame begins at its end. Only a fault of the
@@ -257,12 +297,13 @@ pub fn read_records<'p, B: ParseBuf<'p>, E: Endian>(
     ensures borrowed { IsTrue (B.source (buffer_of parser.old)).whole →
         stream.AllBorrowed result.frames.items }
 {
-    let mut frames = Vec::new(parser.reader.alloc());
+    let mut frames = first_room(&parser.reader, limit);
     for _ in 0..limit {
         match read_next(&mut parser.reader, &mut frames) {
             Ok(()) => {}
             Err(stop) => {
                 let end = end_of(&mut parser.reader, stop);
+                frames.shrink_to_fit();
                 return Run { frames, end };
             }
         }
