@@ -1,1 +1,2 @@
+mod Hex
 mod Inode

@@ -3,6 +3,7 @@
 //! of frames (`counts`, `streams`).
 #![tactic(auto)]
 
+mod backward;
 pub mod counts;
 pub mod printing;
 pub mod samples;

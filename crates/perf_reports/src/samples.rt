@@ -1,16 +1,15 @@
 //! The line of a sample.
 
-ghost use Rattle.std.specs.Prelude.{◌≡◌, ◌++◌, option_map, string_bytes, Some, None, IfOk, OnOk};
-ghost use Rattle.std.specs.Prelude.{IsOk};
+ghost use Rattle.std.specs.Prelude.{◌≡◌, ◌+◌, ◌≤◌, ◌++◌, length, drop, option_map, unwrap_or, is_some};
+ghost use Rattle.std.specs.Prelude.{string_bytes, Some, None, IfOk, OnOk, IsOk, IsUtf8, []};
 ghost use Rattle.std.specs.List.{flat_map};
 ghost use Rattle.perf_records.specs.Records as values;
 ghost use Rattle.perf_sample_types.specs.SampleGetters.{getters_of};
 ghost use Rattle.perf_reports.specs.SampleLines as printed;
 
+use crate::backward::{ROOM, push_written, put_decimal_word, put_hex, put_hex_word, put_str};
 use perf_event_data::{Record, Sample};
 use std::alloc::{AllocError, Global};
-use std::fmt;
-use std::fmt::Write;
 
 // In a call chain, in front of addresses of the kernel: -128 (`PERF_CONTEXT_KERNEL`).
 const CONTEXT_KERNEL: u64 = u64::MAX - 127;
@@ -19,35 +18,11 @@ const CONTEXT_KERNEL: u64 = u64::MAX - 127;
 // (`PERF_CONTEXT_MAX`) say whose addresses follow, and are none.
 const CONTEXT_USER: u64 = u64::MAX - 511;
 
-// A number that may be absent.
-#[derive(Clone, Copy)]
-struct Decimal(Option<u64>);
+// How many bytes an entry of it takes at most.
+const ENTRY: usize = 19;
 
-impl fmt::Display for Decimal {
-    ghost output = { λ number. Some (printed.decimal_word number.0) };
-
-    fn fmt<W: fmt::Write>(&self, f: &mut fmt::Formatter<W>) -> fmt::Result {
-        match self.0 {
-            Some(number) => write!(f, "{number}"),
-            None => write!(f, "-"),
-        }
-    }
-}
-
-// The same, printed in hexadecimal.
-#[derive(Clone, Copy)]
-struct Hex(Option<u64>);
-
-impl fmt::Display for Hex {
-    ghost output = { λ number. Some (printed.hex_word number.0) };
-
-    fn fmt<W: fmt::Write>(&self, f: &mut fmt::Formatter<W>) -> fmt::Result {
-        match self.0 {
-            Some(number) => write!(f, "0x{number:x}"),
-            None => write!(f, "-"),
-        }
-    }
-}
+// How many entries are written at a time.
+const ENTRIES: usize = 16;
 
 /// The line of a record that is a sample, without the line feed behind it. Other records have none,
 /// and take no memory.
@@ -62,37 +37,74 @@ pub fn line_of(alloc: Global, found: &Record) -> Result<Option<String>, AllocErr
     }
 }
 
+// Appends the line of a record that is a sample, and says whether it is one.
+pub(crate) fn push_line(text: &mut String, found: &Record) -> Result<bool, AllocError>
+    ensures line { OnOk result (string_bytes text.new
+        ≡ string_bytes text.old ++ unwrap_or (printed.line_of (values.record_value found.now)) []) }
+    ensures told { IfOk result (λ told.
+        told ≡ is_some (printed.line_of (values.record_value found.now))) }
+{
+    match found {
+        Record::Sample(sample) => {
+            push_sample(text, sample)?;
+            Ok(true)
+        }
+        _ => Ok(false),
+    }
+}
+
 fn sample_line(alloc: Global, sample: &Sample) -> Result<String, AllocError>
     ensures { IfOk result (λ text. string_bytes text
         ≡ printed.sample_line (getters_of (values.sample_value sample.now))) }
 {
-    let moment = moment(alloc, sample)?;
-    let event = event(alloc, sample)?;
-    let chain = chain(alloc, sample.callchain())?;
-    format!(in alloc; "{moment} {event}{chain}")
+    let mut text = String::new(alloc);
+    push_sample(&mut text, sample)?;
+    Ok(text)
+}
+
+fn push_sample(text: &mut String, sample: &Sample) -> Result<(), AllocError>
+    ensures { OnOk result (string_bytes text.new ≡ string_bytes text.old
+        ++ printed.sample_line (getters_of (values.sample_value sample.now))) }
+{
+    let mut buffer = [0; ROOM];
+    let event = put_event(&mut buffer, ROOM, sample);
+    let space = put_str(&mut buffer, event, " ");
+    let start = put_moment(&mut buffer, space, sample);
+    push_written(text, &buffer, start)?;
+    push_chain(text, &mut buffer, sample.callchain())
 }
 
 // When it was, on which processor, and in which process and thread.
-fn moment(alloc: Global, sample: &Sample) -> Result<String, AllocError>
-    ensures { IfOk result (λ text. string_bytes text
-        ≡ printed.moment (getters_of (values.sample_value sample.now))) }
+fn put_moment(buffer: &mut [u8; ROOM], end: usize, sample: &Sample) -> usize
+    requires { (83 ≤ end) × (end ≤ ROOM) }
+    ensures start { (result ≤ end) × (end ≤ result + 83) }
+    ensures written { drop result buffer.new
+        ≡ printed.moment (getters_of (values.sample_value sample.now)) ++ drop end buffer.old }
+    ensures text { IsUtf8 (drop end buffer.old) → IsUtf8 (drop result buffer.new) }
 {
-    let time = Decimal(sample.time());
-    let cpu = Decimal(wide(sample.cpu()));
-    let pid = Decimal(wide(sample.pid()));
-    let tid = Decimal(wide(sample.tid()));
-    format!(in alloc; "{time} {cpu} {pid}/{tid}")
+    let tid = put_decimal_word(buffer, end, wide(sample.tid()));
+    let slash = put_str(buffer, tid, "/");
+    let pid = put_decimal_word(buffer, slash, wide(sample.pid()));
+    let behind_cpu = put_str(buffer, pid, " ");
+    let cpu = put_decimal_word(buffer, behind_cpu, wide(sample.cpu()));
+    let behind_time = put_str(buffer, cpu, " ");
+    put_decimal_word(buffer, behind_time, sample.time())
 }
 
 // How many events it stands for, which address was wanted, and where the code was.
-fn event(alloc: Global, sample: &Sample) -> Result<String, AllocError>
-    ensures { IfOk result (λ text. string_bytes text
-        ≡ printed.event (getters_of (values.sample_value sample.now))) }
+fn put_event(buffer: &mut [u8; ROOM], end: usize, sample: &Sample) -> usize
+    requires { (59 ≤ end) × (end ≤ ROOM) }
+    ensures start { (result ≤ end) × (end ≤ result + 59) }
+    ensures written { drop result buffer.new
+        ≡ printed.event (getters_of (values.sample_value sample.now)) ++ drop end buffer.old }
+    ensures text { IsUtf8 (drop end buffer.old) → IsUtf8 (drop result buffer.new) }
 {
-    let period = Decimal(sample.period());
-    let addr = Hex(sample.addr());
-    let ip = Hex(sample.ip());
-    format!(in alloc; "{period} {addr} {ip}:")
+    let colon = put_str(buffer, end, ":");
+    let ip = put_hex_word(buffer, colon, sample.ip());
+    let behind_addr = put_str(buffer, ip, " ");
+    let addr = put_hex_word(buffer, behind_addr, sample.addr());
+    let behind_period = put_str(buffer, addr, " ");
+    put_decimal_word(buffer, behind_period, sample.period())
 }
 
 // The same number in more bits.
@@ -105,38 +117,66 @@ fn wide(number: Option<u32>) -> Option<u64>
     }
 }
 
-// What stands in a call chain, if there is one.
-fn chain(alloc: Global, entries: Option<&[u64]>) -> Result<String, AllocError>
-    ensures { IfOk result (λ text. string_bytes text
-        ≡ printed.chain (option_map (λ list. list.now) entries.entry)) }
+// Appends what stands in a call chain, if there is one.
+fn push_chain(
+    text: &mut String,
+    buffer: &mut [u8; ROOM],
+    entries: Option<&[u64]>,
+) -> Result<(), AllocError>
+    ensures { OnOk result (string_bytes text.new ≡ string_bytes text.old
+        ++ printed.chain (option_map (λ list. list.now) entries.entry)) }
 {
-    let mut text = String::new(alloc);
     match entries {
-        Some(entries) => push_entries(&mut text, entries)?,
-        None => text.push_str(" -")?,
+        Some(entries) => push_entries(text, buffer, entries),
+        None => text.push_str(" -"),
     }
-    Ok(text)
 }
 
-fn push_entries(text: &mut String, entries: &[u64]) -> Result<(), AllocError>
+fn push_entries(
+    text: &mut String,
+    buffer: &mut [u8; ROOM],
+    entries: &[u64],
+) -> Result<(), AllocError>
     ensures { OnOk result (string_bytes text.new
         ≡ string_bytes text.old ++ flat_map printed.entry entries.now) }
 {
-    for entry in entries {
-        push_entry(text, *entry)?;
+    for some in entries.chunks(ENTRIES) {
+        let start = put_entries(buffer, some);
+        push_written(text, buffer, start)?;
     }
     Ok(())
 }
 
-// Appends an address, or whose addresses follow.
-fn push_entry(text: &mut String, entry: u64) -> Result<(), AllocError>
-    ensures { OnOk result (string_bytes text.new ≡ string_bytes text.old ++ printed.entry entry) }
+// Writes entries at the end of the array, and answers where they begin.
+fn put_entries(buffer: &mut [u8; ROOM], entries: &[u64]) -> usize
+    requires { length entries.now ≤ ENTRIES }
+    ensures start { result ≤ ROOM }
+    ensures written { drop result buffer.new ≡ flat_map printed.entry entries.now }
+    ensures text { IsUtf8 (drop result buffer.new) }
+{
+    let mut start = ROOM;
+    let mut left = entries.len();
+    while left > 0 {
+        left -= 1;
+        start = put_entry(buffer, start, entries[left]);
+    }
+    start
+}
+
+// Writes an address, or whose addresses follow.
+#[inline]
+fn put_entry(buffer: &mut [u8; ROOM], end: usize, entry: u64) -> usize
+    requires { (ENTRY ≤ end) × (end ≤ ROOM) }
+    ensures start { (result ≤ end) × (end ≤ result + ENTRY) }
+    ensures written { drop result buffer.new ≡ printed.entry entry ++ drop end buffer.old }
+    ensures text { IsUtf8 (drop end buffer.old) → IsUtf8 (drop result buffer.new) }
 {
     if entry == CONTEXT_KERNEL {
-        text.push_str(" kernel")
-    } else if entry == CONTEXT_USER {
-        text.push_str(" user")
-    } else {
-        write!(text, " 0x{entry:x}")
+        return put_str(buffer, end, " kernel");
     }
+    if entry == CONTEXT_USER {
+        return put_str(buffer, end, " user");
+    }
+    let address = put_hex(buffer, end, entry);
+    put_str(buffer, address, " ")
 }

@@ -1,7 +1,11 @@
-use Rattle.std.proofs.Common.{◌≡◌, ◌++◌, take, string_bytes}
+use Rattle.std.proofs.Common.{◌≡◌, ◌++◌, string_bytes}
 use Rattle.std.specs.List.{flat_map}
+use Rattle.std.specs.Slice.Iter.{chunks_rest, chunks_size}
 use Rattle.perf_reports.specs.SampleLines.{entry}
 use Rattle.perf_reports.proofs.samples.push_entries.Given as goal
 
-abbrev pub invariant-loop-entry : goal.invariant-loop-entry
-invariant-loop-entry l = string_bytes l.text ≡ string_bytes l.initial.text ++ flat_map entry (take l.entry-index l.entries)
+abbrev pub invariant-loop-some : goal.invariant-loop-some
+invariant-loop-some l = record {
+  size : chunks_size l.some-iterator ≡ 16;
+  written : string_bytes l.text ++ flat_map entry (chunks_rest l.some-iterator) ≡ string_bytes l.initial.text ++ flat_map entry l.entries;
+}
