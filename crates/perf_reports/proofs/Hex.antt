@@ -8,6 +8,7 @@ use Rattle.std.proofs.lemmas.Bool.Decides.{nat_tests}
 use Rattle.std.proofs.lemmas.Str.Ascii.{IsAscii-nil, IsAscii-cons}
 use Rattle.std.proofs.lemmas.Fmt.{hex_one_digit, hex_two_digits, IsAscii-decimal}
 use lib.Ieee.Fits.{and_l, and_r}
+use Rattle.perf_reports.specs.TaskLines.{hex_byte}
 use Rattle.perf_reports.specs.declared.backward.TheConstants.{PAIRS}
 
 abbrev pub pair : ℕ → List ℕ
@@ -129,3 +130,9 @@ IsUtf8-behind_digits n xs ys e behind = rw e (IsUtf8-append (digits 16 false n) 
 
 pub IsUtf8-behind_decimal : (n : ℕ) (xs ys : List ℕ) → n < 2 ^ 64 → xs ≡ decimal n ++ ys → IsUtf8 ys → IsUtf8 xs
 IsUtf8-behind_decimal n xs ys fits e behind = rw e (IsUtf8-append (decimal n) ys (IsUtf8-from_ascii _ (IsAscii-decimal n fits)) behind)
+
+pub IsUtf8-pair : (b : ℕ) → b < 256 → IsUtf8 (pair b)
+IsUtf8-pair b small = IsUtf8-from_ascii _ (IsAscii-cons _ (digit_glyph false (b % 16) ∷ []) (glyph_is_ascii (b / 16) (omega arith)) (IsAscii-cons _ [] (glyph_is_ascii (b % 16) (omega arith)) IsAscii-nil))
+
+pub hex_byte_is_pair : (b : ℕ) → b < 256 → hex_byte b ≡ pair b
+hex_byte_is_pair b small = rw (digits_one (b / 16) (omega arith), digits_one (b % 16) (omega arith))

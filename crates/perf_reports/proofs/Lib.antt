@@ -1,2 +1,3 @@
+mod Appended
 mod Hex
 mod Inode

@@ -83,12 +83,13 @@ fn put_byte(buffer: &mut [u8; ROOM], end: usize, byte: u8) -> usize
     end - 1
 }
 
-// Two digits.
+// The two digits of a byte.
 #[inline]
-fn put_pair(buffer: &mut [u8; ROOM], end: usize, byte: u64)
+pub(crate) fn put_pair(buffer: &mut [u8; ROOM], end: usize, byte: u64)
     requires { (byte < 256) × ((2 ≤ end) × (end ≤ ROOM)) }
-    ensures { drop (end - 2) buffer.new
+    ensures written { drop (end - 2) buffer.new
         ≡ digit_glyph false (byte / 16) ∷ digit_glyph false (byte % 16) ∷ drop end buffer.old }
+    ensures text { IsUtf8 (drop end buffer.old) → IsUtf8 (drop (end - 2) buffer.new) }
 {
     let from = 2 * byte as usize;
     let (high, low) = (PAIRS[from], PAIRS[from + 1]);

@@ -1,16 +1,15 @@
 //! The line of a record that tells of a task.
 
-ghost use Rattle.std.specs.Prelude.{◌≡◌, ◌++◌, option_map, string_bytes, Some, None, codes};
-ghost use Rattle.std.specs.Prelude.{IfOk, IsOk, OnOk};
+ghost use Rattle.std.specs.Prelude.{◌≡◌, ◌+◌, ◌-◌, ◌*◌, ◌≤◌, ◌++◌, length, drop, option_map, unwrap_or, is_some};
+ghost use Rattle.std.specs.Prelude.{string_bytes, Some, None, codes, decimal, IfOk, IsOk, OnOk, IsUtf8, []};
 ghost use Rattle.std.specs.List.{flat_map, join_by};
 ghost use Rattle.std.specs.Str.Lossy.{utf8_lossy};
 ghost use Rattle.perf_records.specs.Records as values;
 ghost use Rattle.perf_reports.specs.TaskLines as printed;
 
+use crate::backward::{ROOM, push_written, put_decimal, put_hex, put_pair, put_str};
 use perf_event_data::{Comm, Exit, Mmap, Mmap2, NamespaceEntry, Namespaces, Record};
 use std::alloc::{AllocError, Global};
-use std::fmt;
-use std::fmt::Write;
 
 // `PROT_READ` of mmap(2)
 const READ: u32 = 1;
@@ -24,17 +23,8 @@ const EXECUTE: u32 = 4;
 // `MAP_SHARED`
 const SHARED: u32 = 1;
 
-// A number that is printed in hexadecimal.
-#[derive(Clone, Copy)]
-struct Hex(u64);
-
-impl fmt::Display for Hex {
-    ghost output = { λ number. Some (printed.hex number.0) };
-
-    fn fmt<W: fmt::Write>(&self, f: &mut fmt::Formatter<W>) -> fmt::Result {
-        write!(f, "0x{:x}", self.0)
-    }
-}
+// How many bytes become digits at a time.
+const BYTES: usize = 128;
 
 /// The line of a record that tells of a task, without the line feed behind it. Other records have
 /// none, and take no memory.
@@ -43,95 +33,151 @@ pub fn line_of(alloc: Global, found: &Record) -> Result<Option<String>, AllocErr
         option_map string_bytes line ≡ printed.line_of (values.record_value found.now)) }
     ensures no_memory { printed.line_of (values.record_value found.now) ≡ None → IsOk result }
 {
-    let line = match found {
-        Record::Comm(comm) => comm_line(alloc, comm)?,
-        Record::Mmap(map) => mmap_line(alloc, map)?,
-        Record::Mmap2(map) => mmap2_line(alloc, map)?,
-        Record::Fork(fork) => task_line(alloc, "fork", fork)?,
-        Record::Exit(exit) => task_line(alloc, "exit", exit)?,
-        Record::Namespaces(namespaces) => namespaces_line(alloc, namespaces)?,
-        _ => return Ok(None),
-    };
-    Ok(Some(line))
+    let mut line = String::new(alloc);
+    if push_line(alloc, &mut line, found)? {
+        Ok(Some(line))
+    } else {
+        Ok(None)
+    }
 }
 
-fn comm_line(alloc: Global, comm: &Comm) -> Result<String, AllocError>
-    ensures { IfOk result (λ text.
-        string_bytes text ≡ printed.comm_line (values.comm_value comm.now)) }
+// Appends the line of a record that tells of a task, and says whether it does.
+pub(crate) fn push_line(
+    alloc: Global,
+    text: &mut String,
+    found: &Record,
+) -> Result<bool, AllocError>
+    ensures line { OnOk result (string_bytes text.new
+        ≡ string_bytes text.old ++ unwrap_or (printed.line_of (values.record_value found.now)) []) }
+    ensures told { IfOk result (λ told.
+        told ≡ is_some (printed.line_of (values.record_value found.now))) }
+    ensures no_memory { printed.line_of (values.record_value found.now) ≡ None → IsOk result }
 {
-    let name = name(alloc, comm.comm.as_slice())?;
-    line(alloc, "comm", comm.pid, comm.tid, name.as_str())
+    match found {
+        Record::Comm(comm) => push_comm(alloc, text, comm)?,
+        Record::Mmap(map) => push_mmap(alloc, text, map)?,
+        Record::Mmap2(map) => push_mmap2(alloc, text, map)?,
+        Record::Fork(fork) => push_task(text, "fork", fork)?,
+        Record::Exit(exit) => push_task(text, "exit", exit)?,
+        Record::Namespaces(namespaces) => push_namespaces(text, namespaces)?,
+        _ => return Ok(false),
+    }
+    Ok(true)
 }
 
-fn mmap_line(alloc: Global, map: &Mmap) -> Result<String, AllocError>
-    ensures { IfOk result (λ text.
-        string_bytes text ≡ printed.mmap_line (values.mmap_value map.now)) }
+fn push_comm(alloc: Global, text: &mut String, comm: &Comm) -> Result<(), AllocError>
+    ensures { OnOk result (string_bytes text.new
+        ≡ string_bytes text.old ++ printed.comm_line (values.comm_value comm.now)) }
 {
-    let place = place(alloc, map.addr, map.len, map.pgoff)?;
-    let name = name(alloc, map.filename.as_slice())?;
-    let says = format!(in alloc; "{place} {name}")?;
-    line(alloc, "mmap", map.pid, map.tid, says.as_str())
+    let mut buffer = [0; ROOM];
+    let start = put_head(&mut buffer, ROOM, "comm", comm.pid, comm.tid);
+    push_written(text, &buffer, start)?;
+    push_name(alloc, text, comm.comm.as_slice())
 }
 
-fn mmap2_line(alloc: Global, map: &Mmap2) -> Result<String, AllocError>
-    ensures { IfOk result (λ text.
-        string_bytes text ≡ printed.mmap2_line (values.mmap2_value map.now)) }
+fn push_mmap(alloc: Global, text: &mut String, map: &Mmap) -> Result<(), AllocError>
+    ensures { OnOk result (string_bytes text.new
+        ≡ string_bytes text.old ++ printed.mmap_line (values.mmap_value map.now)) }
 {
-    let place = place(alloc, map.addr, map.len, map.pgoff)?;
-    let file = file(alloc, map)?;
-    let protection = protection(alloc, map.prot, map.flags)?;
-    let name = name(alloc, map.filename.as_slice())?;
-    let says = format!(in alloc; "{place} {file} {protection} {name}")?;
-    line(alloc, "mmap2", map.pid, map.tid, says.as_str())
+    let mut buffer = [0; ROOM];
+    let space = put_str(&mut buffer, ROOM, " ");
+    let place = put_place(&mut buffer, space, map.addr, map.len, map.pgoff);
+    let start = put_head(&mut buffer, place, "mmap", map.pid, map.tid);
+    push_written(text, &buffer, start)?;
+    push_name(alloc, text, map.filename.as_slice())
+}
+
+fn push_mmap2(alloc: Global, text: &mut String, map: &Mmap2) -> Result<(), AllocError>
+    ensures { OnOk result (string_bytes text.new
+        ≡ string_bytes text.old ++ printed.mmap2_line (values.mmap2_value map.now)) }
+{
+    let mut buffer = [0; ROOM];
+    let space = put_str(&mut buffer, ROOM, " ");
+    let place = put_place(&mut buffer, space, map.addr, map.len, map.pgoff);
+    let start = put_head(&mut buffer, place, "mmap2", map.pid, map.tid);
+    push_written(text, &buffer, start)?;
+    push_file(text, &mut buffer, map)?;
+    push_protection(text, &mut buffer, map.prot, map.flags)?;
+    push_name(alloc, text, map.filename.as_slice())
 }
 
 // A task that was made or that ended, and the one that made it or its parent.
-fn task_line(alloc: Global, what: &str, task: &Exit) -> Result<String, AllocError>
-    ensures { IfOk result (λ text. string_bytes text ≡ printed.task_line what.now task.now) }
+fn push_task(text: &mut String, what: &str, task: &Exit) -> Result<(), AllocError>
+    requires { length what.now ≤ 16 }
+    ensures { OnOk result (string_bytes text.new
+        ≡ string_bytes text.old ++ printed.task_line what.now task.now) }
 {
-    let says = format!(in alloc; "{} {}", task.ppid, task.ptid)?;
-    line(alloc, what, task.pid, task.tid, says.as_str())
+    let mut buffer = [0; ROOM];
+    let ptid = put_decimal(&mut buffer, ROOM, u64::from(task.ptid));
+    let space = put_str(&mut buffer, ptid, " ");
+    let ppid = put_decimal(&mut buffer, space, u64::from(task.ppid));
+    let start = put_head(&mut buffer, ppid, what, task.pid, task.tid);
+    push_written(text, &buffer, start)
 }
 
-fn namespaces_line(alloc: Global, namespaces: &Namespaces) -> Result<String, AllocError>
-    ensures { IfOk result (λ text.
-        string_bytes text ≡ printed.namespaces_line (values.namespaces_value namespaces.now)) }
+fn push_namespaces(text: &mut String, namespaces: &Namespaces) -> Result<(), AllocError>
+    ensures { OnOk result (string_bytes text.new
+        ≡ string_bytes text.old
+        ++ printed.namespaces_line (values.namespaces_value namespaces.now)) }
 {
-    let says = listed(alloc, namespaces.namespaces.as_slice())?;
-    line(
-        alloc,
+    let mut buffer = [0; ROOM];
+    let start = put_head(
+        &mut buffer,
+        ROOM,
         "namespaces",
         namespaces.pid,
         namespaces.tid,
-        says.as_str(),
-    )
+    );
+    push_written(text, &buffer, start)?;
+    push_listed(text, &mut buffer, namespaces.namespaces.as_slice())
 }
 
-// What a line tells of, which task, and what it says.
-fn line(alloc: Global, what: &str, pid: u32, tid: u32, says: &str) -> Result<String, AllocError>
-    ensures { IfOk result (λ text. string_bytes text ≡ printed.line what.now pid tid says.now) }
+// Writes what a line tells of, and which task, in front of what it says.
+fn put_head(buffer: &mut [u8; ROOM], end: usize, what: &str, pid: u32, tid: u32) -> usize
+    requires { (length what.now ≤ 16) × ((59 ≤ end) × (end ≤ ROOM)) }
+    ensures start { (result ≤ end) × (end ≤ result + 59) }
+    ensures written { drop result buffer.new ≡ printed.line what.now pid tid (drop end buffer.old) }
+    ensures text { IsUtf8 (drop end buffer.old) → IsUtf8 (drop result buffer.new) }
 {
-    format!(in alloc; "{what} {pid} {tid} {says}")
+    let behind_tid = put_str(buffer, end, " ");
+    let tid = put_decimal(buffer, behind_tid, u64::from(tid));
+    let behind_pid = put_str(buffer, tid, " ");
+    let pid = put_decimal(buffer, behind_pid, u64::from(pid));
+    let behind_what = put_str(buffer, pid, " ");
+    put_str(buffer, behind_what, what)
 }
 
-// A name as text, with U+FFFD for what is not UTF-8.
-fn name(alloc: Global, bytes: &[u8]) -> Result<String, AllocError>
-    ensures { IfOk result (λ text. string_bytes text ≡ utf8_lossy bytes.now) }
+// Appends a name as text, with U+FFFD for what is not UTF-8.
+fn push_name(alloc: Global, text: &mut String, bytes: &[u8]) -> Result<(), AllocError>
+    ensures { OnOk result (string_bytes text.new
+        ≡ string_bytes text.old ++ utf8_lossy bytes.now) }
 {
-    String::from_utf8_lossy(alloc, bytes)
+    if let Ok(name) = str::from_utf8(bytes) {
+        return text.push_str(name);
+    }
+    let name = String::from_utf8_lossy(alloc, bytes)?;
+    text.push_str(name.as_str())
 }
 
 // Where a mapping lies in memory, its length, and where it begins in the file.
-fn place(alloc: Global, addr: u64, len: u64, pgoff: u64) -> Result<String, AllocError>
-    ensures { IfOk result (λ text. string_bytes text ≡ printed.place addr len pgoff) }
+fn put_place(buffer: &mut [u8; ROOM], end: usize, addr: u64, len: u64, pgoff: u64) -> usize
+    requires { (56 ≤ end) × (end ≤ ROOM) }
+    ensures start { (result ≤ end) × (end ≤ result + 56) }
+    ensures written { drop result buffer.new
+        ≡ printed.place addr len pgoff ++ drop end buffer.old }
+    ensures text { IsUtf8 (drop end buffer.old) → IsUtf8 (drop result buffer.new) }
 {
-    format!(in alloc; "{} {} {}", Hex(addr), Hex(len), Hex(pgoff))
+    let pgoff = put_hex(buffer, end, pgoff);
+    let behind_len = put_str(buffer, pgoff, " ");
+    let len = put_hex(buffer, behind_len, len);
+    let behind_addr = put_str(buffer, len, " ");
+    put_hex(buffer, behind_addr, addr)
 }
 
-// Which file was mapped: its inode, or the digits of its build id.
-fn file(alloc: Global, map: &Mmap2) -> Result<String, AllocError>
-    ensures { IfOk result (λ text.
-        string_bytes text ≡ printed.file (values.mmap2_value map.now).detail) }
+// Appends which file was mapped: its inode, or the digits of its build id.
+fn push_file(text: &mut String, buffer: &mut [u8; ROOM], map: &Mmap2) -> Result<(), AllocError>
+    ensures { OnOk result (string_bytes text.new
+        ≡ string_bytes text.old ++ printed.file (values.mmap2_value map.now).detail) }
 {
     if let (Some(maj), Some(min), Some(ino), Some(generation)) = (
         map.maj(),
@@ -139,77 +185,168 @@ fn file(alloc: Global, map: &Mmap2) -> Result<String, AllocError>
         map.ino(),
         map.ino_generation(),
     ) {
-        return inode(alloc, maj, min, ino, generation);
+        let start = put_inode(buffer, ROOM, maj, min, ino, generation);
+        return push_written(text, buffer, start);
     }
-    digits(alloc, map.build_id().unwrap_or_default())
+    push_digits(text, buffer, map.build_id().unwrap_or_default())
 }
 
 // A file by its device, its inode and its generation.
-fn inode(alloc: Global, maj: u32, min: u32, ino: u64, generation: u64) -> Result<String, AllocError>
-    ensures { IfOk result (λ text. string_bytes text ≡ printed.inode maj min ino generation) }
+fn put_inode(
+    buffer: &mut [u8; ROOM],
+    end: usize,
+    maj: u32,
+    min: u32,
+    ino: u64,
+    generation: u64,
+) -> usize
+    requires { (79 ≤ end) × (end ≤ ROOM) }
+    ensures start { (result ≤ end) × (end ≤ result + 79) }
+    ensures written { drop result buffer.new
+        ≡ printed.inode maj min ino generation ++ drop end buffer.old }
+    ensures text { IsUtf8 (drop end buffer.old) → IsUtf8 (drop result buffer.new) }
 {
-    let device = format!(in alloc; "{}:{}", Hex(u64::from(maj)), Hex(u64::from(min)))?;
-    format!(in alloc; "{device} {ino} {generation}")
+    let generation = put_decimal(buffer, end, generation);
+    let behind_ino = put_str(buffer, generation, " ");
+    let ino = put_decimal(buffer, behind_ino, ino);
+    let behind_min = put_str(buffer, ino, " ");
+    let min = put_hex(buffer, behind_min, u64::from(min));
+    let colon = put_str(buffer, min, ":");
+    put_hex(buffer, colon, u64::from(maj))
 }
 
-// Bytes in hexadecimal, two digits each.
-fn digits(alloc: Global, bytes: &[u8]) -> Result<String, AllocError>
-    ensures { IfOk result (λ text. string_bytes text ≡ flat_map printed.hex_byte bytes.now) }
+// Appends bytes in hexadecimal, two digits each.
+fn push_digits(text: &mut String, buffer: &mut [u8; ROOM], bytes: &[u8]) -> Result<(), AllocError>
+    ensures { OnOk result (string_bytes text.new
+        ≡ string_bytes text.old ++ flat_map printed.hex_byte bytes.now) }
 {
-    let mut digits = String::new(alloc);
-    for byte in bytes {
-        write!(digits, "{:x}{:x}", *byte / 16, *byte % 16)?;
+    for some in bytes.chunks(BYTES) {
+        let start = put_bytes(buffer, some);
+        push_written(text, buffer, start)?;
     }
-    Ok(digits)
+    Ok(())
+}
+
+// Writes the digits of bytes at the end of the array, and answers where they begin.
+fn put_bytes(buffer: &mut [u8; ROOM], bytes: &[u8]) -> usize
+    requires { length bytes.now ≤ BYTES }
+    ensures start { result ≤ ROOM }
+    ensures written { drop result buffer.new ≡ flat_map printed.hex_byte bytes.now }
+    ensures text { IsUtf8 (drop result buffer.new) }
+{
+    let mut start = ROOM;
+    let mut left = bytes.len();
+    while left > 0 {
+        left -= 1;
+        start = put_hex_byte(buffer, start, bytes[left]);
+    }
+    start
+}
+
+// The digits of a byte.
+#[inline]
+fn put_hex_byte(buffer: &mut [u8; ROOM], end: usize, byte: u8) -> usize
+    requires { (2 ≤ end) × (end ≤ ROOM) }
+    ensures start { result + 2 ≡ end }
+    ensures written { drop result buffer.new ≡ printed.hex_byte byte ++ drop end buffer.old }
+    ensures text { IsUtf8 (drop end buffer.old) → IsUtf8 (drop result buffer.new) }
+{
+    put_pair(buffer, end, u64::from(byte));
+    end - 2
+}
+
+// Appends how mapped memory may be used, with a space on either side.
+fn push_protection(
+    text: &mut String,
+    buffer: &mut [u8; ROOM],
+    prot: u32,
+    flags: u32,
+) -> Result<(), AllocError>
+    ensures { OnOk result (string_bytes text.new
+        ≡ string_bytes text.old ++ (codes " " ++ (printed.protection prot flags ++ codes " "))) }
+{
+    let space = put_str(buffer, ROOM, " ");
+    let protection = put_protection(buffer, space, prot, flags);
+    let start = put_str(buffer, protection, " ");
+    push_written(text, buffer, start)
 }
 
 // How mapped memory may be used: readable, writable, executable, and shared or private.
-fn protection(alloc: Global, prot: u32, flags: u32) -> Result<String, AllocError>
-    ensures { IfOk result (λ text. string_bytes text ≡ printed.protection prot flags) }
+fn put_protection(buffer: &mut [u8; ROOM], end: usize, prot: u32, flags: u32) -> usize
+    requires { (4 ≤ end) × (end ≤ ROOM) }
+    ensures start { result + 4 ≡ end }
+    ensures written { drop result buffer.new
+        ≡ printed.protection prot flags ++ drop end buffer.old }
+    ensures text { IsUtf8 (drop end buffer.old) → IsUtf8 (drop result buffer.new) }
 {
-    let read = letter(prot, READ, "r", "-");
-    let write = letter(prot, WRITE, "w", "-");
-    let execute = letter(prot, EXECUTE, "x", "-");
-    let shared = letter(flags, SHARED, "s", "p");
-    format!(in alloc; "{read}{write}{execute}{shared}")
+    let shared = put_letter(buffer, end, flags, SHARED, "s", "p");
+    let execute = put_letter(buffer, shared, prot, EXECUTE, "x", "-");
+    let write = put_letter(buffer, execute, prot, WRITE, "w", "-");
+    put_letter(buffer, write, prot, READ, "r", "-")
 }
 
 // A letter where a bit is set in a word, and where it is not.
-fn letter(word: u32, bit: u32, set: &'static str, unset: &'static str) -> &'static str
-    ensures { result.now ≡ printed.letter word bit set.now unset.now }
+fn put_letter(
+    buffer: &mut [u8; ROOM],
+    end: usize,
+    word: u32,
+    bit: u32,
+    set: &str,
+    unset: &str,
+) -> usize
+    requires { ((length set.now ≡ 1) × (length unset.now ≡ 1)) × ((1 ≤ end) × (end ≤ ROOM)) }
+    ensures start { result + 1 ≡ end }
+    ensures written { drop result buffer.new
+        ≡ printed.letter word bit set.now unset.now ++ drop end buffer.old }
+    ensures text { IsUtf8 (drop end buffer.old) → IsUtf8 (drop result buffer.new) }
 {
-    if word & bit == 0 { unset } else { set }
+    let letter = if word & bit == 0 { unset } else { set };
+    put_str(buffer, end, letter)
 }
 
-// Namespaces with a comma between each two.
-fn listed(alloc: Global, namespaces: &[NamespaceEntry]) -> Result<String, AllocError>
-    ensures { IfOk result (λ text.
-        string_bytes text ≡ join_by printed.namespace (codes ",") namespaces.now) }
+// Appends namespaces with a comma between each two.
+fn push_listed(
+    text: &mut String,
+    buffer: &mut [u8; ROOM],
+    namespaces: &[NamespaceEntry],
+) -> Result<(), AllocError>
+    ensures { OnOk result (string_bytes text.new
+        ≡ string_bytes text.old ++ join_by printed.namespace (codes ",") namespaces.now) }
 {
-    let mut text = String::new(alloc);
     if let Some((first, others)) = namespaces.split_first() {
-        push_namespace(&mut text, first)?;
-        push_others(&mut text, others)?;
+        push_namespace(text, buffer, first)?;
+        push_others(text, buffer, others)?;
     }
-    Ok(text)
+    Ok(())
 }
 
 // Appends the namespaces behind the first.
-fn push_others(text: &mut String, others: &[NamespaceEntry]) -> Result<(), AllocError>
+fn push_others(
+    text: &mut String,
+    buffer: &mut [u8; ROOM],
+    others: &[NamespaceEntry],
+) -> Result<(), AllocError>
     ensures { OnOk result (string_bytes text.new ≡ string_bytes text.old
         ++ flat_map (λ entry. codes "," ++ printed.namespace entry) others.now) }
 {
     for entry in others {
         text.push_str(",")?;
-        push_namespace(text, entry)?;
+        push_namespace(text, buffer, entry)?;
     }
     Ok(())
 }
 
 // Appends a namespace: the device and the inode of its file.
-fn push_namespace(text: &mut String, entry: &NamespaceEntry) -> Result<(), AllocError>
+fn push_namespace(
+    text: &mut String,
+    buffer: &mut [u8; ROOM],
+    entry: &NamespaceEntry,
+) -> Result<(), AllocError>
     ensures { OnOk result (string_bytes text.new
         ≡ string_bytes text.old ++ printed.namespace entry.now) }
 {
-    write!(text, "{}:{}", entry.dev, Hex(entry.inode))
+    let inode = put_hex(buffer, ROOM, entry.inode);
+    let colon = put_str(buffer, inode, ":");
+    let start = put_decimal(buffer, colon, entry.dev);
+    push_written(text, buffer, start)
 }

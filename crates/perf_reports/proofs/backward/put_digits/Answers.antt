@@ -23,7 +23,7 @@ loop-left-preserved c =
       room = omega arith;
       within = omega arith;
       start = omega arith;
-      written = rw c.put_pair.ensures (rw (digits_pair l.left c.loop-left-test.true l.auto.left-fits.fits, append_assoc) at l.invariant.written);
+      written = rw c.put_pair.ensures.written (rw (digits_pair l.left c.loop-left-test.true l.auto.left-fits.fits, append_assoc) at l.invariant.written);
     }
 
 pub put_pair-requires-then-left-ge16 : goal.put_pair-requires-then-left-ge16
@@ -37,7 +37,7 @@ returns-then-left-ge16-clause-start c = omega (arith, length_two c.loop-left.lef
 
 pub returns-then-left-ge16-clause-written : goal.returns-then-left-ge16-clause-written
 returns-then-left-ge16-clause-written c =
-    rw c.put_pair-then-left-ge16.ensures (rw (digits_two c.loop-left.left c.if-left-ge16.true (omega arith)) at c.loop-left.invariant.written)
+    rw c.put_pair-then-left-ge16.ensures.written (rw (digits_two c.loop-left.left c.if-left-ge16.true (omega arith)) at c.loop-left.invariant.written)
 
 pub put_byte-requires : goal.put_byte-requires
 put_byte-requires c = omega (arith, length_one c.loop-left.left (omega arith))

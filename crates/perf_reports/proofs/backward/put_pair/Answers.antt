@@ -1,11 +1,12 @@
 use Rattle.std.proofs.Common.{◌≡◌, ◌+◌, ◌-◌, ◌%◌, false, set, arith, length-set}
 use Rattle.std.specs.Fmt.{digit_glyph}
 use Rattle.std.proofs.lemmas.List.{set_comm, drop-set}
-use Rattle.perf_reports.proofs.Hex.{PAIRS_at}
+use Rattle.std.proofs.lemmas.Str.{IsUtf8-append}
+use Rattle.perf_reports.proofs.Hex.{PAIRS_at, IsUtf8-pair}
 use Rattle.perf_reports.proofs.backward.put_pair.Goals as goal
 
-pub returns : goal.returns
-returns c =
+pub returns-clause-written : goal.returns-clause-written
+returns-clause-written c =
     let p = PAIRS_at c.args.byte c.requires.0 in
     let end = c.args.end in
     let buffer = c.args.buffer.now in
@@ -13,3 +14,6 @@ returns c =
     let behind : end - 1 + 1 ≡ end = omega arith in
     let low = digit_glyph false (c.args.byte % 16) in
     rw (p.0, p.1, set_comm buffer (end - 2) (end - 1) _ _ (λ x. omega arith), drop-set (set buffer (end - 1) low) (end - 2) _ (omega (arith, length-set buffer (end - 1) low)), second, drop-set buffer (end - 1) _ (omega arith), behind)
+
+pub returns-clause-text : goal.returns-clause-text
+returns-clause-text c = λ behind. rw (returns-clause-written c) (IsUtf8-append _ _ (IsUtf8-pair c.args.byte c.requires.0) behind)

@@ -1,0 +1,14 @@
+use Rattle.std.proofs.Common.{◌≡◌, ◌++◌, ◌∙◌, List, ℕ, [], drop, codes, arith, ap, append_assoc, string_bytes}
+use Rattle.std.specs.List.{join_by}
+use Rattle.perf_reports.specs.TaskLines.{line, namespace, namespaces_line}
+use Rattle.perf_records.specs.Records.{namespaces_value}
+use Rattle.perf_reports.proofs.Appended.{appended, said}
+use Rattle.perf_reports.proofs.tasks.push_namespaces.Goals as goal
+
+pub returns : goal.returns
+returns c =
+    let r = namespaces_value c.args.namespaces.now in
+    let old : List ℕ = string_bytes c.args.text.now in
+    let listed : List ℕ = join_by namespace (codes ",") c.as_slice.result.now in
+    let e : string_bytes c.push_written.new.text ++ listed ≡ old ++ namespaces_line r = rw (← c.as_slice.ensures, c.in_ok-push_written.ensures, c.put_head-start.ensures.written, append_assoc) (ap (λ xs. old ++ xs) (said (codes "namespaces") r.pid r.tid [] listed)) in
+    appended c.push_listed.result _ _ _ e c.push_listed.ensures
