@@ -1,5 +1,5 @@
 -- What was appended is what was to be.
-use Rattle.std.proofs.Common.{◌≡◌, ℕ, List, [], ◌∷◌, ◌++◌, ◌∙◌, Result, Ok, Err, OnOk, append_assoc, codes}
+use Rattle.std.proofs.Common.{◌≡◌, ℕ, List, ◌∷◌, ◌++◌, ◌∙◌, Result, Ok, Err, OnOk, append_assoc, codes}
 use Rattle.perf_reports.specs.TaskLines.{line}
 
 pub appended : {T E : Type 0} (r : Result T E) (xs ys zs : List ℕ) → ys ≡ zs → OnOk r (xs ≡ ys) → OnOk r (xs ≡ zs)

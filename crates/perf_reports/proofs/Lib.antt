@@ -1,3 +1,4 @@
 mod Appended
 mod Hex
 mod Inode
+mod Printed

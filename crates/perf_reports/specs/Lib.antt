@@ -1,3 +1,4 @@
 pub mod Counting
+pub mod Printing
 pub mod SampleLines
 pub mod TaskLines

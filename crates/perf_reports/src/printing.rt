@@ -1,7 +1,11 @@
 //! Lines of a recording: one for each record that a report tells of.
 
-ghost use Rattle.std.specs.Prelude.{◌≡◌, is_ok};
+ghost use Rattle.std.specs.Prelude.{◌≡◌, ◌++◌, [], string_bytes, is_ok, OnOk};
 ghost use Rattle.std.specs.List.{list_all};
+ghost use Rattle.std.specs.Io.KnownBytes.{Appends};
+ghost use Rattle.perf_records.specs.Records as values;
+ghost use Rattle.perf_parser.specs.Runs.{seen_answers};
+ghost use Rattle.perf_reports.specs.Printing.{printed, printed_answers, Grows};
 
 use crate::{samples, tasks};
 use anyhow::{Result, bail};
@@ -15,6 +19,9 @@ use std::io::{BufReader, Read, Write};
 // How many records are held at a time.
 const BATCH: usize = 256;
 
+// How many bytes of lines are gathered before they go out.
+const GATHERED: usize = 1 << 15;
+
 /// What is told of a recording.
 #[derive(Copy, Clone, Debug)]
 pub enum Report {
@@ -25,13 +32,83 @@ pub enum Report {
 }
 
 impl Report {
-    // The line of a record, without the line feed behind it. Records that it does not tell of have
-    // none.
-    fn line_of(self, alloc: Global, found: &Record) -> Result<Option<String>, AllocError> {
-        match self {
-            Report::Tasks => tasks::line_of(alloc, found),
-            Report::Samples => samples::line_of(alloc, found),
+    // Appends the line of a record and a line feed behind it. Of records that it does not tell of it
+    // appends nothing.
+    fn push_line(self, alloc: Global, text: &mut String, found: &Record) -> Result<(), AllocError>
+        ensures { OnOk result (string_bytes text.new
+            ≡ string_bytes text.old ++ printed self (values.record_value found.now)) }
+    {
+        let told = match self {
+            Report::Tasks => tasks::push_line(alloc, text, found)?,
+            Report::Samples => samples::push_line(text, found)?,
+        };
+        if told {
+            text.push_str("\n")?;
         }
+        Ok(())
+    }
+}
+
+// Lines on their way to the output.
+#[derive(Drop)]
+struct Lines {
+    // Lines that have not gone out yet.
+    gathered: String,
+    // Where the next line is made.
+    next: String,
+}
+
+impl Lines {
+    // No line.
+    fn new(alloc: Global) -> Lines
+        ensures { string_bytes result.gathered ≡ [] }
+    {
+        Lines {
+            gathered: String::new(alloc),
+            next: String::new(alloc),
+        }
+    }
+
+    // Makes the line of a record, if it has one, and gathers it. Where memory is refused, the lines
+    // before it go out first.
+    fn add<W: Write>(
+        &mut self,
+        alloc: Global,
+        output: &mut W,
+        report: Report,
+        found: &Record,
+    ) -> Result<()>
+        ensures { OnOk result (Grows (W.contents output.old) (W.contents output.new)
+            (string_bytes self.old.gathered) (string_bytes self.new.gathered)
+            (printed report (values.record_value found.now))) }
+    {
+        self.next.clear();
+        if let Err(error) = report.push_line(alloc, &mut self.next, found) {
+            self.send(output)?;
+            return Err(error.into());
+        }
+        if self.gathered.push_str(self.next.as_str()).is_err() {
+            self.send(output)?;
+            output.write_all(self.next.as_bytes())?;
+        }
+        if self.gathered.len() >= GATHERED {
+            self.send(output)?;
+        }
+        Ok(())
+    }
+
+    // Sends the lines that were gathered.
+    fn send<W: Write>(&mut self, output: &mut W) -> Result<()>
+        ensures sent { OnOk result (Appends (W.contents output.old) (W.contents output.new)
+            (string_bytes self.old.gathered)) }
+        ensures none { OnOk result (string_bytes self.new.gathered ≡ []) }
+        ensures next { string_bytes self.new.next ≡ string_bytes self.old.next }
+    {
+        if !self.gathered.is_empty() {
+            output.write_all(self.gathered.as_bytes())?;
+            self.gathered.clear();
+        }
+        Ok(())
     }
 }
 
@@ -66,7 +143,8 @@ fn print_records<'p, B: ParseBuf<'p>, W: Write, E: Write>(
     for _ in 0..u64::MAX {
         let run = read_records(parser, BATCH);
         clean &= is_clean(&run.frames);
-        print_frames(alloc, &run.frames, output, errors, report)?;
+        let mut lines = Lines::new(alloc);
+        print_frames(alloc, &mut lines, &run.frames, output, errors, report)?;
         match run.end {
             RunEnd::Limit => {}
             RunEnd::Done => break,
@@ -77,26 +155,30 @@ fn print_records<'p, B: ParseBuf<'p>, W: Write, E: Write>(
     Ok(clean)
 }
 
-// Prints the line of each record that has one, and why others were refused.
+// Prints the line of each record that has one, and why others were refused. What was gathered goes
+// out before an error is printed, and in the end.
 fn print_frames<W: Write, E: Write>(
     alloc: Global,
+    lines: &mut Lines,
     frames: &[(perf_event_header, ParseResult<Record>)],
     output: &mut W,
     errors: &mut E,
     report: Report,
-) -> Result<()> {
+) -> Result<()>
+    ensures sent { OnOk result (Appends (W.contents output.old) (W.contents output.new)
+        (string_bytes lines.old.gathered ++ printed_answers report (seen_answers frames.now))) }
+    ensures none { OnOk result (string_bytes lines.new.gathered ≡ []) }
+{
     for (_, answer) in frames {
         match answer {
-            Ok(record) => {
-                if let Some(mut line) = report.line_of(alloc, record)? {
-                    line.push_str("\n")?;
-                    output.write_all(line.as_bytes())?;
-                }
+            Ok(record) => lines.add(alloc, output, report, record)?,
+            Err(error) => {
+                lines.send(output)?;
+                write!(errors, "{error}\n")?;
             }
-            Err(error) => write!(errors, "{error}\n")?,
         }
     }
-    Ok(())
+    lines.send(output)
 }
 
 // Whether no record was refused.

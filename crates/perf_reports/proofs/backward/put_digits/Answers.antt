@@ -1,4 +1,4 @@
-use Rattle.std.proofs.Common.{◌≡◌, ◌+◌, ◌-◌, ◌*◌, ◌%◌, refl, arith, append_assoc}
+use Rattle.std.proofs.Common.{◌≡◌, ◌%◌, refl, arith, append_assoc}
 use Rattle.perf_reports.proofs.Hex.{length_digits, length_pair, length_two, length_one, digits_pair, digits_two, digits_one, PAIRS_at, IsUtf8-behind_digits}
 use Rattle.perf_reports.proofs.backward.put_digits.Goals as goal
 

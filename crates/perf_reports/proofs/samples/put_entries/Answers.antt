@@ -1,8 +1,6 @@
-use Rattle.std.proofs.Common.{◌≡◌, ℕ, List, [], length, drop, refl, arith}
-use Rattle.std.specs.List.{flat_map}
+use Rattle.std.proofs.Common.{◌≡◌, [], length, drop, arith}
 use Rattle.std.proofs.lemmas.List.{drop_all}
 use Rattle.std.proofs.lemmas.Str.{IsUtf8-nil}
-use Rattle.perf_reports.specs.SampleLines.{entry}
 use Rattle.perf_reports.proofs.samples.put_entries.Goals as goal
 
 pub loop-left-init : goal.loop-left-init

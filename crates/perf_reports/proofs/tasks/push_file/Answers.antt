@@ -1,4 +1,4 @@
-use Rattle.std.proofs.Common.{◌≡◌, ◌++◌, ◌∙◌, [], drop, arith, append-nil}
+use Rattle.std.proofs.Common.{◌≡◌, ◌∙◌, [], drop, arith, append-nil}
 use Rattle.std.proofs.lemmas.List.{drop_all}
 use Rattle.std.proofs.lemmas.Str.{IsUtf8-nil}
 use Rattle.perf_types.specs.MmapDetail.{detail_value}

@@ -1,4 +1,4 @@
-use Rattle.std.proofs.Common.{◌≡◌, ◌++◌, ◌∙◌, List, ℕ, [], drop, codes, arith, ap, append_assoc, string_bytes}
+use Rattle.std.proofs.Common.{◌≡◌, ◌++◌, List, ℕ, codes, string_bytes}
 use Rattle.std.specs.Str.Lossy.{utf8_lossy}
 use Rattle.perf_reports.specs.TaskLines.{place, file, protection, mmap2_line}
 use Rattle.perf_records.specs.Records.{mmap2_value}

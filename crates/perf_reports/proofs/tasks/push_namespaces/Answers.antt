@@ -1,6 +1,6 @@
-use Rattle.std.proofs.Common.{◌≡◌, ◌++◌, ◌∙◌, List, ℕ, [], drop, codes, arith, ap, append_assoc, string_bytes}
+use Rattle.std.proofs.Common.{◌≡◌, ◌++◌, List, ℕ, [], codes, ap, append_assoc, string_bytes}
 use Rattle.std.specs.List.{join_by}
-use Rattle.perf_reports.specs.TaskLines.{line, namespace, namespaces_line}
+use Rattle.perf_reports.specs.TaskLines.{namespace, namespaces_line}
 use Rattle.perf_records.specs.Records.{namespaces_value}
 use Rattle.perf_reports.proofs.Appended.{appended, said}
 use Rattle.perf_reports.proofs.tasks.push_namespaces.Goals as goal

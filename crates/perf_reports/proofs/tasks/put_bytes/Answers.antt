@@ -1,8 +1,6 @@
-use Rattle.std.proofs.Common.{◌≡◌, ℕ, List, [], length, drop, refl, arith}
-use Rattle.std.specs.List.{flat_map}
+use Rattle.std.proofs.Common.{◌≡◌, [], length, drop, arith}
 use Rattle.std.proofs.lemmas.List.{drop_all}
 use Rattle.std.proofs.lemmas.Str.{IsUtf8-nil}
-use Rattle.perf_reports.specs.TaskLines.{hex_byte}
 use Rattle.perf_reports.proofs.tasks.put_bytes.Goals as goal
 
 pub loop-left-init : goal.loop-left-init

@@ -1,0 +1,7 @@
+use Rattle.std.proofs.Common.{take, string_bytes}
+use Rattle.perf_parser.specs.Runs.{seen_answers}
+use Rattle.perf_reports.specs.Printing.{printed_answers, Grows}
+use Rattle.perf_reports.proofs.printing.print_frames.Given as goal
+
+abbrev pub invariant-loop-answer : goal.invariant-loop-answer
+invariant-loop-answer g l = Grows (g.W.Write.contents l.initial.output) (g.W.Write.contents l.output) (string_bytes l.initial.lines.gathered) (string_bytes l.lines.gathered) (printed_answers l.report (seen_answers (take l.answer-index l.frames)))

@@ -1,0 +1,40 @@
+-- What is printed of a record, and what has gone out of it.
+use Rattle.std.specs.Prelude.{◌≡◌, ℕ, List, [], ◌++◌, Option, Some, None, ⊤, codes}
+use Rattle.std.specs.Prelude.{Result, Ok, Err}
+use Rattle.std.specs.List.{flat_map}
+use Rattle.perf_base.specs.declared.sys.perf_event_header.{perf_event_header}
+use Rattle.perf_base.specs.declared.error.ErrorKind.{ErrorKind}
+use Rattle.perf_records.specs.Records.{RecordValue}
+use Rattle.perf_reports.specs.declared.printing.Report.{Report}
+use Rattle.perf_reports.specs.declared.printing.Report.TheVariants.{Tasks, Samples}
+use Rattle.perf_reports.specs.SampleLines as samples
+use Rattle.perf_reports.specs.TaskLines as tasks
+
+-- the line of a record in a report, if it has one
+abbrev pub line_in : Report → RecordValue → Option (List ℕ)
+line_in Tasks r = tasks.line_of r
+line_in Samples r = samples.line_of r
+
+-- a line with the line feed behind it, or nothing
+abbrev pub with_feed : Option (List ℕ) → List ℕ
+with_feed (Some line) = line ++ codes "\n"
+with_feed None = []
+
+-- what is printed of a record
+abbrev pub printed : Report → RecordValue → List ℕ
+printed report r = with_feed (line_in report r)
+
+-- what is printed of the answer to a frame: of a refused one nothing
+abbrev pub printed_answer : Report → perf_event_header × Result RecordValue ErrorKind → List ℕ
+printed_answer report (header, Ok r) = printed report r
+printed_answer report (header, Err e) = []
+
+-- what is printed of answers, in order
+abbrev pub printed_answers : Report → List (perf_event_header × Result RecordValue ErrorKind) → List ℕ
+printed_answers report answers = flat_map (printed_answer report) answers
+
+-- known bytes that went out, and those that wait behind them, grew by a text
+abbrev pub Grows : (old new : Option (List ℕ)) (waited waits text : List ℕ) → Type 0
+Grows None new waited waits text = ⊤
+Grows (Some xs) None waited waits text = ⊥
+Grows (Some xs) (Some ys) waited waits text = ys ++ waits ≡ xs ++ (waited ++ text)
