@@ -1,11 +1,15 @@
 //! Fields of a line.
 
 ghost use Rattle.std.specs.Prelude.{◌≡◌, ◌*◌, ◌<◌, ◌≤◌, ◌++◌, length, take, decimal, string_bytes};
-ghost use Rattle.std.specs.Prelude.{OnOk, option_map};
+ghost use Rattle.std.specs.Prelude.{OnOk, option_map, codes};
 ghost use Rattle.std.specs.List.{flat_map};
 ghost use Rattle.perf_lines.specs.Fields.{hex_digit, hex, listed, present};
 
+use crate::strip::{MOST_DIGITS, ROOM, Strip};
 use std::alloc::AllocError;
+
+// How many numbers with a comma in front of each a strip has room for.
+const ITEMS: usize = ROOM / (MOST_DIGITS + 1);
 
 // How many bytes become digits at a time.
 const PIECE: usize = 64;
@@ -97,10 +101,26 @@ pub(crate) fn push_items(text: &mut String, before: &str, numbers: &[u64]) -> Re
         return Ok(());
     };
     push_number(text, "", *first)?;
-    for number in rest {
-        push_number(text, ",", *number)?;
+    for piece in rest.chunks(ITEMS) {
+        push_others(text, piece)?;
     }
     Ok(())
+}
+
+// Appends at most as many numbers as a strip has room for, with a comma in front of each.
+fn push_others(text: &mut String, numbers: &[u64]) -> Result<(), AllocError>
+    requires { length numbers.now ≤ ITEMS }
+    ensures { OnOk result (string_bytes text.new
+        ≡ string_bytes text.old ++ flat_map (λ n. codes "," ++ decimal n) numbers.now) }
+{
+    let mut strip = Strip::new();
+    let mut left = numbers.len();
+    while left > 0 {
+        left -= 1;
+        strip.put_number(numbers[left]);
+        strip.put(",");
+    }
+    text.push_str(strip.text())
 }
 
 // Appends the digits of bytes that are there behind what stands in front of them.

@@ -10,4 +10,5 @@ pub mod output;
 mod records;
 pub mod run;
 mod sample;
+mod strip;
 pub mod words;

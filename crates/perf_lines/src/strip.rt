@@ -1,0 +1,64 @@
+//! A short text that grows at its front, as digits are made from the last to the first.
+
+ghost use Rattle.std.specs.Prelude.{◌≡◌, ◌+◌, ◌≤◌, ◌++◌, [], drop, length, decimal};
+ghost use Rattle.std.specs.Str.{IsUtf8};
+
+// How many bytes a strip has room for.
+pub(crate) const ROOM: usize = 256;
+
+// How many digits the longest number has.
+pub(crate) const MOST_DIGITS: usize = 20;
+
+// A text of at most so many bytes, which are the last ones.
+#[derive(Drop)]
+pub(crate) struct Strip {
+    bytes: [u8; ROOM],
+    start: usize,
+    ghost within: { start ≤ 256 },
+    ghost is_text: { ∥ IsUtf8 (drop start bytes) ∥₁ },
+}
+
+impl Strip {
+    #[inline(always)]
+    pub(crate) fn new() -> Strip
+        ensures text { drop result.start result.bytes ≡ [] }
+        ensures room { result.start ≡ ROOM }
+    {
+        Strip {
+            bytes: [0; ROOM],
+            start: ROOM,
+        }
+    }
+
+    // Writes a number in front of the text.
+    #[inline(always)]
+    pub(crate) fn put_number(&mut self, number: u64)
+        requires { MOST_DIGITS ≤ self.old.start }
+        ensures text { drop self.new.start self.new.bytes
+            ≡ decimal number ++ drop self.old.start self.old.bytes }
+        ensures room { self.old.start ≤ self.new.start + MOST_DIGITS }
+    {
+        self.start = itoa::write_digits(number, &mut self.bytes, self.start);
+    }
+
+    // Writes a word in front of the text.
+    #[inline(always)]
+    pub(crate) fn put(&mut self, word: &str)
+        requires { length word.now ≤ self.old.start }
+        ensures text { drop self.new.start self.new.bytes
+            ≡ word.now ++ drop self.old.start self.old.bytes }
+        ensures room { self.new.start + length word.now ≡ self.old.start }
+    {
+        let start = self.start - word.len();
+        self.bytes[start..self.start].copy_from_slice(word.as_bytes());
+        self.start = start;
+    }
+
+    // The text.
+    #[inline(always)]
+    pub(crate) fn text(&self) -> &str
+        ensures { result.now ≡ drop self.now.start self.now.bytes }
+    {
+        unsafe { str::from_utf8_unchecked(&self.bytes[self.start..]) }
+    }
+}
