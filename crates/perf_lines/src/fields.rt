@@ -159,10 +159,7 @@ fn push_digits(text: &mut String, bytes: &[u8]) -> Result<(), AllocError>
 {
     let mut digits = [0; PIECE_DIGITS];
     write_digits(&mut digits, bytes);
-    let Ok(written) = str::from_utf8(&digits[..2 * bytes.len()]) else {
-        unreachable!();
-    };
-    text.push_str(written)
+    text.push_str(unsafe { str::from_utf8_unchecked(&digits[..2 * bytes.len()]) })
 }
 
 // Writes two digits for each byte.
