@@ -1,8 +1,8 @@
 //! Fields of a line.
 
 ghost use Rattle.std.specs.Prelude.{◌≡◌, ◌*◌, ◌<◌, ◌≤◌, ◌++◌, length, take, decimal, string_bytes};
-ghost use Rattle.std.specs.Prelude.{OnOk, option_map, codes};
-ghost use Rattle.std.specs.List.{flat_map};
+ghost use Rattle.std.specs.Prelude.{OnOk, option_map, codes, IsTrue, nat_le};
+ghost use Rattle.std.specs.List.{flat_map, list_all};
 ghost use Rattle.perf_lines.specs.Fields.{hex_digit, hex, listed, present};
 
 use crate::strip::{MOST_DIGITS, ROOM, Strip};
@@ -10,6 +10,12 @@ use std::alloc::AllocError;
 
 // How many numbers with a comma in front of each a strip has room for.
 const ITEMS: usize = ROOM / (MOST_DIGITS + 1);
+
+// How long a name is at most, and what stands in front of a number.
+const WORD: usize = 16;
+
+// How many numbers with a word in front of each a strip has room for, besides a name.
+const FIELDS: usize = (ROOM - WORD) / (MOST_DIGITS + WORD);
 
 // How many bytes become digits at a time.
 const PIECE: usize = 64;
@@ -23,15 +29,23 @@ pub(crate) fn push_fields(
     name: &str,
     fields: &[(&str, u64)],
 ) -> Result<(), AllocError>
+    requires name { length name.now ≤ WORD }
+    requires words { IsTrue (list_all (λ field. nat_le (length field.0.now) WORD) fields.now) }
+    requires count { length fields.now ≤ FIELDS }
     ensures { OnOk result (string_bytes text.new
         ≡ string_bytes text.old
         ++ (name.now ++ flat_map (λ field. field.0.now ++ decimal field.1) fields.now)) }
 {
-    text.push_str(name)?;
-    for (before, number) in fields {
-        push_number(text, before, *number)?;
+    let mut strip = Strip::new();
+    let mut left = fields.len();
+    while left > 0 {
+        left -= 1;
+        let (before, number) = &fields[left];
+        strip.put_number(*number);
+        strip.put(before);
     }
-    Ok(())
+    strip.put(name);
+    text.push_str(strip.text())
 }
 
 // Appends a number behind what stands in front of it.
@@ -64,14 +78,23 @@ pub(crate) fn push_numbers(
     text: &mut String,
     numbers: &[(&str, Option<u64>)],
 ) -> Result<(), AllocError>
+    requires words { IsTrue (list_all (λ field. nat_le (length field.0.now) WORD) numbers.now) }
+    requires count { length numbers.now ≤ FIELDS }
     ensures { OnOk result (string_bytes text.new
         ≡ string_bytes text.old
         ++ flat_map (λ field. present (λ n. field.0.now ++ decimal n) field.1) numbers.now) }
 {
-    for (before, number) in numbers {
-        push_present(text, before, *number)?;
+    let mut strip = Strip::new();
+    let mut left = numbers.len();
+    while left > 0 {
+        left -= 1;
+        let (before, number) = &numbers[left];
+        if let Some(number) = number {
+            strip.put_number(*number);
+            strip.put(before);
+        }
     }
-    Ok(())
+    text.push_str(strip.text())
 }
 
 // Appends a list that is there, with commas between its numbers, behind what stands in front of it.
@@ -114,12 +137,7 @@ fn push_others(text: &mut String, numbers: &[u64]) -> Result<(), AllocError>
         ≡ string_bytes text.old ++ flat_map (λ n. codes "," ++ decimal n) numbers.now) }
 {
     let mut strip = Strip::new();
-    let mut left = numbers.len();
-    while left > 0 {
-        left -= 1;
-        strip.put_number(numbers[left]);
-        strip.put(",");
-    }
+    strip.put_each(",", numbers);
     text.push_str(strip.text())
 }
 

@@ -7,8 +7,8 @@ ghost use Rattle.perf_parser.specs.Runs.{seen_answer, seen_answers};
 ghost use Rattle.perf_lines.specs.Fields.{spaced};
 ghost use Rattle.perf_lines.specs.Text as shown;
 
-use crate::fields::push_number;
 use crate::records::push_record;
+use crate::strip::Strip;
 use perf_event_data::Record;
 use perf_event_data::parse::{ErrorKind, ParseResult};
 use perf_event_data::sys::perf_event_header;
@@ -94,10 +94,15 @@ fn push_line(
     ensures { OnOk result (string_bytes text.new
         ≡ string_bytes text.old ++ shown.line index header.now (seen_answer answer.now)) }
 {
-    push_number(text, "", index as u64)?;
-    push_number(text, " ", u64::from(header.type_))?;
-    push_number(text, " ", u64::from(header.misc))?;
-    push_number(text, " ", u64::from(header.size))?;
+    let mut strip = Strip::new();
+    strip.put_number(u64::from(header.size));
+    strip.put(" ");
+    strip.put_number(u64::from(header.misc));
+    strip.put(" ");
+    strip.put_number(u64::from(header.type_));
+    strip.put(" ");
+    strip.put_number(index as u64);
+    text.push_str(strip.text())?;
     push_answer(text, answer)
 }
 

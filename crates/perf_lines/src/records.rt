@@ -1,6 +1,6 @@
 //! Records of each type, as a name and fields.
 
-ghost use Rattle.std.specs.Prelude.{◌≡◌, ◌++◌, string_bytes, OnOk};
+ghost use Rattle.std.specs.Prelude.{◌≡◌, ◌≤◌, ◌++◌, length, string_bytes, OnOk};
 ghost use Rattle.perf_records.specs.Records as value;
 ghost use Rattle.perf_lines.specs.Text as shown;
 ghost use Rattle.perf_lines.specs.Text.{namespace_item};
@@ -81,6 +81,7 @@ fn push_comm(text: &mut String, comm: &Comm) -> Result<(), AllocError>
 
 // The name has a space in front, as an exit and a fork have the same fields.
 fn push_exit(text: &mut String, name: &str, exit: &Exit) -> Result<(), AllocError>
+    requires { length name.now ≤ 16 }
     ensures { OnOk result (string_bytes text.new
         ≡ string_bytes text.old ++ (name.now ++ spaced (shown.exit_fields exit.now))) }
 {
@@ -96,6 +97,7 @@ fn push_exit(text: &mut String, name: &str, exit: &Exit) -> Result<(), AllocErro
 
 // The name has a space in front, as both ends of a throttle have the same fields.
 fn push_throttle(text: &mut String, name: &str, throttle: &Throttle) -> Result<(), AllocError>
+    requires { length name.now ≤ 16 }
     ensures { OnOk result (string_bytes text.new
         ≡ string_bytes text.old ++ (name.now ++ spaced (shown.throttle_fields throttle.now))) }
 {

@@ -1,14 +1,14 @@
 //! A sample, as a name and fields.
 
-ghost use Rattle.std.specs.Prelude.{◌≡◌, ◌++◌, string_bytes, OnOk, option_map, codes, decimal};
+ghost use Rattle.std.specs.Prelude.{◌≡◌, ◌≤◌, ◌++◌, length, string_bytes, OnOk, option_map};
+ghost use Rattle.std.specs.Prelude.{codes, decimal};
 ghost use Rattle.perf_sample_types.specs.SampleWords.{getters_of, sample_value, group_read};
 ghost use Rattle.perf_sample_types.specs.SampleWords.{registers_value, txn_bits};
 ghost use Rattle.perf_lines.specs.Fields.{spaced, listed, present};
 ghost use Rattle.perf_lines.specs.SampleText as shown;
 
-use crate::fields::{
-    push_bytes, push_fields, push_items, push_list, push_number, push_numbers, push_present,
-};
+use crate::fields::{push_bytes, push_items, push_list, push_number, push_numbers, push_present};
+use crate::strip::Strip;
 use bitflags::Flags;
 use perf_event_data::{BranchEntry, DataSource, GroupEntry, ReadGroup, Registers, Sample, Txn};
 use std::alloc::AllocError;
@@ -193,20 +193,24 @@ fn push_branches(text: &mut String, branches: Option<&[BranchEntry]>) -> Result<
 
 // Appends one branch behind what stands in front of it.
 fn push_branch(text: &mut String, before: &str, branch: &BranchEntry) -> Result<(), AllocError>
+    requires { length before.now ≤ 1 }
     ensures { OnOk result (string_bytes text.new
         ≡ string_bytes text.old ++ (before.now ++ shown.branch_item branch.now)) }
 {
-    let fields = [
-        (":", branch.to()),
-        (":", u64::from(branch.mispred())),
-        (":", u64::from(branch.predicted())),
-        (":", u64::from(branch.in_tx())),
-        (":", u64::from(branch.abort())),
-        (":", u64::from(branch.cycles())),
-        (":", u64::from(branch.ty().get())),
+    let others = [
+        branch.to(),
+        u64::from(branch.mispred()),
+        u64::from(branch.predicted()),
+        u64::from(branch.in_tx()),
+        u64::from(branch.abort()),
+        u64::from(branch.cycles()),
+        u64::from(branch.ty().get()),
     ];
-    push_number(text, before, branch.from())?;
-    push_fields(text, "", &fields)
+    let mut strip = Strip::new();
+    strip.put_each(":", &others);
+    strip.put_number(branch.from());
+    strip.put(before);
+    text.push_str(strip.text())
 }
 
 // Appends registers that are there: the kind of task and what they held, each behind what stands

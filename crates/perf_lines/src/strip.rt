@@ -1,6 +1,7 @@
 //! A short text that grows at its front, as digits are made from the last to the first.
 
-ghost use Rattle.std.specs.Prelude.{◌≡◌, ◌+◌, ◌≤◌, ◌++◌, [], drop, length, decimal};
+ghost use Rattle.std.specs.Prelude.{◌≡◌, ◌+◌, ◌*◌, ◌≤◌, ◌++◌, [], drop, length, decimal};
+ghost use Rattle.std.specs.List.{flat_map};
 ghost use Rattle.std.specs.Str.{IsUtf8};
 
 // How many bytes a strip has room for.
@@ -52,6 +53,24 @@ impl Strip {
         let start = self.start - word.len();
         self.bytes[start..self.start].copy_from_slice(word.as_bytes());
         self.start = start;
+    }
+
+    // Writes numbers in front of the text, each behind a mark.
+    #[inline(always)]
+    pub(crate) fn put_each(&mut self, mark: &str, numbers: &[u64])
+        requires mark { length mark.now ≤ 1 }
+        requires room { (MOST_DIGITS + 1) * length numbers.now ≤ self.old.start }
+        ensures text { drop self.new.start self.new.bytes
+            ≡ flat_map (λ n. mark.now ++ decimal n) numbers.now
+            ++ drop self.old.start self.old.bytes }
+        ensures room { self.old.start ≤ self.new.start + (MOST_DIGITS + 1) * length numbers.now }
+    {
+        let mut left = numbers.len();
+        while left > 0 {
+            left -= 1;
+            self.put_number(numbers[left]);
+            self.put(mark);
+        }
     }
 
     // The text.

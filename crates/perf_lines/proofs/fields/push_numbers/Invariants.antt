@@ -1,7 +1,14 @@
-use Rattle.std.proofs.Common.{◌≡◌, ◌++◌, take, string_bytes, decimal}
+use Rattle.std.proofs.Common.{◌≡◌, ◌≤◌, ◌*◌, ◌++◌, drop, length, decimal}
 use Rattle.std.specs.List.{flat_map}
 use Rattle.perf_lines.specs.Fields.{present}
 use Rattle.perf_lines.proofs.fields.push_numbers.Given as goal
 
-abbrev pub invariant-loop-before : goal.invariant-loop-before
-invariant-loop-before l = string_bytes l.text ≡ string_bytes l.initial.text ++ flat_map (λ field. present (λ n. field.0.now ++ decimal n) field.1) (take l.before-index l.numbers)
+abbrev pub invariant-loop-left : goal.invariant-loop-left
+invariant-loop-left l = record {
+  within : l.left ≤ length l.numbers;
+  room : 36 * l.left ≤ l.strip.start;
+  written : drop l.strip.start l.strip.bytes ≡ flat_map (λ field. present (λ n. field.0.now ++ decimal n) field.1) (drop l.left l.numbers);
+}
+
+abbrev pub decreases-loop-left : goal.decreases-loop-left
+decreases-loop-left l = l.left

@@ -1,5 +1,5 @@
-use Rattle.std.proofs.Common.{◌≡◌, ℕ, ◌+◌, ◌<◌, ◌≤◌, ◌^◌, List, length, take, string_bytes, arith, subst, sym, ap, ◌∙◌}
-use Rattle.std.specs.Prelude.{◌||◌, IsTrue}
+use Rattle.std.proofs.Common.{◌≡◌, ℕ, ◌+◌, ◌<◌, ◌≤◌, ◌^◌, List, length, take, string_bytes, arith, subst, ap, ◌∙◌}
+use Rattle.std.specs.Prelude.{◌||◌}
 use Rattle.perf_records.specs.Frames.{behind_frames}
 use Rattle.perf_base.specs.Configured.{configuration_of, endian_of}
 use Rattle.perf_records.specs.Answers.{answers}

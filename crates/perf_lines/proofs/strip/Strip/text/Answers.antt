@@ -1,4 +1,4 @@
-use Rattle.std.proofs.Common.{drop, ◌-◌, arith, rules, subst, sym, length-drop}
+use Rattle.std.proofs.Common.{drop, ◌-◌, arith, subst, sym, length-drop}
 use Rattle.std.specs.Str.{IsUtf8}
 use Rattle.std.proofs.lemmas.List.{take_all}
 use Rattle.std.proofs.lemmas.Str.{IsUtf8-had}
