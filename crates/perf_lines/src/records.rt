@@ -6,8 +6,9 @@ ghost use Rattle.perf_lines.specs.Text as shown;
 ghost use Rattle.perf_lines.specs.Text.{namespace_item};
 ghost use Rattle.perf_lines.specs.Fields.{spaced, listed};
 
-use crate::fields::{push_fields, push_hex, push_number, push_numbers};
+use crate::fields::{push_fields, push_hex, push_numbers};
 use crate::sample::push_sample;
+use crate::strip::Strip;
 use bitflags::Flags;
 use perf_event_data::{
     Aux, AuxOutputHwId, BpfEvent, CGroup, Comm, Exit, ITraceStart, KSymbol, Lost, LostSamples,
@@ -254,11 +255,16 @@ fn push_entries(
 
 // Appends one entry behind what stands in front of it.
 fn push_entry(text: &mut String, before: &str, entry: &NamespaceEntry) -> Result<(), AllocError>
+    requires { length before.now ≤ 1 }
     ensures { OnOk result (string_bytes text.new
         ≡ string_bytes text.old ++ (before.now ++ namespace_item entry.now)) }
 {
-    push_number(text, before, entry.dev)?;
-    push_number(text, ":", entry.inode)
+    let mut strip = Strip::new();
+    strip.put_number(entry.inode);
+    strip.put(":");
+    strip.put_number(entry.dev);
+    strip.put(before);
+    text.push_str(strip.text())
 }
 
 fn push_ksymbol(text: &mut String, symbol: &KSymbol) -> Result<(), AllocError>

@@ -162,12 +162,16 @@ fn push_counters(text: &mut String, before: &str, group: &ReadGroup) -> Result<(
 
 // Appends one counter behind what stands in front of it.
 fn push_counter(text: &mut String, before: &str, entry: &GroupEntry) -> Result<(), AllocError>
+    requires { length before.now ≤ 1 }
     ensures { OnOk result (string_bytes text.new
         ≡ string_bytes text.old ++ (before.now ++ shown.counter_item entry.now)) }
 {
-    push_number(text, before, entry.value())?;
-    push_present(text, ":", entry.id())?;
-    push_present(text, ":", entry.lost())
+    let mut strip = Strip::new();
+    strip.put_present(":", entry.lost());
+    strip.put_present(":", entry.id());
+    strip.put_number(entry.value());
+    strip.put(before);
+    text.push_str(strip.text())
 }
 
 // Appends branches that are there, with commas in between, behind their name.

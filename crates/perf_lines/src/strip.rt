@@ -3,6 +3,7 @@
 ghost use Rattle.std.specs.Prelude.{◌≡◌, ◌+◌, ◌*◌, ◌≤◌, ◌++◌, [], drop, length, decimal};
 ghost use Rattle.std.specs.List.{flat_map};
 ghost use Rattle.std.specs.Str.{IsUtf8};
+ghost use Rattle.perf_lines.specs.Fields.{present};
 
 // How many bytes a strip has room for.
 pub(crate) const ROOM: usize = 256;
@@ -53,6 +54,20 @@ impl Strip {
         let start = self.start - word.len();
         self.bytes[start..self.start].copy_from_slice(word.as_bytes());
         self.start = start;
+    }
+
+    // Writes a number that is there in front of the text, behind a word.
+    #[inline(always)]
+    pub(crate) fn put_present(&mut self, word: &str, number: Option<u64>)
+        requires { length word.now + MOST_DIGITS ≤ self.old.start }
+        ensures text { drop self.new.start self.new.bytes
+            ≡ present (λ n. word.now ++ decimal n) number ++ drop self.old.start self.old.bytes }
+        ensures room { self.old.start ≤ self.new.start + (length word.now + MOST_DIGITS) }
+    {
+        if let Some(number) = number {
+            self.put_number(number);
+            self.put(word);
+        }
     }
 
     // Writes numbers in front of the text, each behind a mark.
