@@ -84,8 +84,14 @@ pub(crate) fn push_numbers(
         ≡ string_bytes text.old
         ++ flat_map (λ field. present (λ n. field.0.now ++ decimal n) field.1) numbers.now) }
 {
-    let mut strip = Strip::new();
     let mut left = numbers.len();
+    while left > 0 && numbers[left - 1].1.is_none() {
+        left -= 1;
+    }
+    if left == 0 {
+        return Ok(());
+    }
+    let mut strip = Strip::new();
     while left > 0 {
         left -= 1;
         let (before, number) = &numbers[left];
