@@ -85,7 +85,7 @@ pub enum Recording {
     Memory,
     /// Samples of tracepoints.
     Raw,
-    /// Samples with groups of counters, and reads of such groups.
+    /// Samples with groups of counters.
     Groups,
     /// Samples without a list, where the attribute claims one.
     Refused,
@@ -216,7 +216,7 @@ impl Maker {
         }
     }
 
-    // Appends a sample or a read of a group of counters.
+    // Appends a sample with a group of counters.
     fn push_group(&self, stream: &mut Stream) -> Result<(), AllocError> {
         let task = stream.order.pair(4_321, stream.random.short(12));
         let time = stream.tick();
