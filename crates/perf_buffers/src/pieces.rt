@@ -34,6 +34,7 @@ impl<'p> PieceBuf<'p> {
     }
 
     // The next piece, which lasts where pieces do.
+    #[inline]
     fn piece(&self) -> ParseBufChunk<'_, 'p>
         ensures bytes { chunk_bytes result ≡ take (piece_most self.now) (piece_bytes self.now) }
         ensures lasting { lasts result ≡ piece_lasting self.now }
@@ -63,6 +64,7 @@ impl<'p> ParseBuf<'p> for PieceBuf<'p> {
 
     /// The next piece. It lasts as long as the slice where pieces do, and else until the buffer
     /// advances.
+    #[inline]
     fn chunk(&mut self) -> ParseResult<ParseBufChunk<'_, 'p>>
         ensures shows { IfOk result (λ c. Shows (piece_source self.old) c) }
         ensures same { ShowsReady (piece_ready self.old) result }
@@ -78,10 +80,12 @@ impl<'p> ParseBuf<'p> for PieceBuf<'p> {
         Ok(self.piece())
     }
 
+    #[inline]
     fn advance(&mut self, count: usize) {
         self.bytes = &self.bytes[count..];
     }
 
+    #[inline]
     fn remaining_hint(&self) -> Option<usize> {
         Some(self.bytes.len())
     }
