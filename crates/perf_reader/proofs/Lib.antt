@@ -1,4 +1,5 @@
 pub mod InRow
+pub mod HeaderAtOnce
 pub mod Paying
 pub mod Steps
 mod Single

@@ -1,15 +1,77 @@
 //! How the header of a record is read.
 #![tactic(auto, using(crate::proofs::Paying::chain))]
 
-ghost use Rattle.perf_base.specs.Header.{header};
-ghost use Rattle.perf_reader.specs.Words.{ReadsPlain};
+ghost use Rattle.std.specs.Prelude.{◌≡◌, ◌≤◌, length, IsTrue};
+ghost use Rattle.perf_base.specs.Header.{header, header_of};
+ghost use Rattle.perf_reader.specs.Words.{Call, ReadsPlain, input_of, kinds};
 
 use crate::read::{Meant, ReadFrom};
 use crate::reader::Reader;
 use perf_base::endian::Endian;
 use perf_base::refusal::ReadResult;
 use perf_base::sys::perf_event_header;
-use perf_buffers::input::Input;
+use perf_buffers::input::{Input, take_array};
+
+/// The header whose eight bytes are these.
+#[inline]
+#[tactic(auto)]
+pub fn header_in<E: Endian>(endian: &E, bytes: [u8; 8]) -> perf_event_header
+    ensures { result ≡ header_of (E.order endian.now) bytes }
+{
+    let [b0, b1, b2, b3, b4, b5, b6, b7] = bytes;
+    perf_event_header {
+        type_: endian.convert_u32([b0, b1, b2, b3]),
+        misc: endian.convert_u16([b4, b5]),
+        size: endian.convert_u16([b6, b7]),
+    }
+}
+
+impl<'p, I: Input<'p>, E: Endian> Reader<I, E> {
+    // Whether the input says that it has the bytes of a header.
+    #[inline]
+    #[tactic(auto)]
+    fn has_header(&self) -> bool
+        ensures { IsTrue result → IsTrue (I.source (input_of self.now)).told →
+            8 ≤ length (I.source (input_of self.now)).left }
+    {
+        match self.input.remaining_hint() {
+            Some(left) => 8 <= left,
+            None => false,
+        }
+    }
+
+    // The next header, whose bytes the input has. They are taken at once, and each of its three
+    // numbers is a read.
+    #[inline]
+    fn read_header(&mut self) -> ReadResult<perf_event_header>
+        requires { IsTrue (I.source (input_of self.old)).told →
+            8 ≤ length (I.source (input_of self.old)).left }
+        ensures call { Call I.source E.order (ReadsPlain (λ _. header) (λ h. h))
+            self.old (kinds result) self.new }
+    {
+        self.reads.tick();
+        let bytes = match take_array::<I, 8>(&mut self.input) {
+            Ok(bytes) => bytes,
+            Err(refusal) => return Err(refusal),
+        };
+        self.reads.tick();
+        self.reads.tick();
+        Ok(header_in(self.config.endian(), bytes))
+    }
+
+    // The next header, a number at a time.
+    #[inline]
+    fn read_header_by_number(&mut self) -> ReadResult<perf_event_header>
+        ensures call { Call I.source E.order (ReadsPlain (λ _. header) (λ h. h))
+            self.old (kinds result) self.new }
+    {
+        Ok(perf_event_header {
+            type_: self.read_u32()?,
+            misc: self.read_u16()?,
+            size: self.read_u16()?,
+        })
+    }
+}
 
 impl Meant for perf_event_header {
     ghost says = { ReadsPlain (λ _. header) (λ h. h) };
@@ -18,10 +80,15 @@ impl Meant for perf_event_header {
 impl<'p, I: Input<'p>> ReadFrom<'p, I> for perf_event_header {
     #[inline]
     fn read<E: Endian>(reader: &mut Reader<I, E>) -> ReadResult<Self> {
-        Ok(perf_event_header {
-            type_: reader.read_u32()?,
-            misc: reader.read_u16()?,
-            size: reader.read_u16()?,
-        })
+        if reader.has_header() {
+            return match reader.read_header() {
+                Ok(header) => Ok(header),
+                Err(refusal) => Err(refusal),
+            };
+        }
+        match reader.read_header_by_number() {
+            Ok(header) => Ok(header),
+            Err(refusal) => Err(refusal),
+        }
     }
 }

@@ -6,7 +6,7 @@ mod bytes;
 mod eight;
 mod flags;
 mod frame;
-mod header;
+pub mod header;
 mod names;
 mod numbers;
 mod optional;

@@ -1,6 +1,6 @@
 use Rattle.std.proofs.Common.{◌≡◌, Err}
 use Rattle.perf_reader.proofs.Behind.{part_behind, part_stops, call_none, plain, came_up}
-use Rattle.perf_reader.proofs.header.Perf_event_headerReadFrom.read.Goals as goal
+use Rattle.perf_reader.proofs.reader.Reader.read_header_by_number.Goals as goal
 
 pub returns-in_err-read_u32 : goal.returns-in_err-read_u32
 returns-in_err-read_u32 g c =
