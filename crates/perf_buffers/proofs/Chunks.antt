@@ -52,7 +52,7 @@ pub record Refused (a : Source) (n : ℕ) (k : ErrorKind) (b : Source) : Type 0 
   pub keeps : IsTrue a.told → FailsToKeep a n k b
   pub rest : k ≢ Eof → IsTrue a.told → FailsInRest a k b
 
-refused : (a b : Source) (n : ℕ) (k : ErrorKind) → 0 < n → Refuses a k → Stays a (Some k) b → (IsTrue a.told → b.left ≡ a.left) → Refused a n k b
+pub refused : (a b : Source) (n : ℕ) (k : ErrorKind) → 0 < n → Refuses a k → Stays a (Some k) b → (IsTrue a.told → b.left ≡ a.left) → Refused a n k b
 refused a b n Eof some why stays same =
     let short : IsTrue a.told → length a.left < n = λ t. let none : length a.left ≡ 0 = ap length (why t) in omega arith in record {
       stays = stays;

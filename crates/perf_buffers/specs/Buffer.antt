@@ -1,5 +1,5 @@
--- A buffer: the bytes that are left in it, and what its calls show, refuse and take. Nothing above
--- speaks of chunks.
+-- A buffer: the bytes that are left in it, and what its calls show, refuse and take. Above, only what
+-- a viewer is handed is a chunk.
 use Rattle.std.specs.Prelude.{Option, Result, ◌≡◌, ℕ, ◌+◌, ◌<◌, Bool, true, false, IsTrue, List, []}
 use Rattle.std.specs.Prelude.{length, drop, Ok, Err, Some, None, IfOk, IfErr, IsOkAnd, ◌≢◌}
 use Rattle.std.specs.Io.{StartsWith}

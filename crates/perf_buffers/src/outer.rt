@@ -1,8 +1,9 @@
 //! A buffer of any kind as an input.
 
-ghost use Rattle.std.specs.Prelude.{◌≡◌};
+ghost use Rattle.std.specs.Prelude.{◌≡◌, IsTrue, IfOk, IfErr};
 ghost use Rattle.perf_base.specs.Errors.{kind_of};
 ghost use Rattle.perf_base.specs.Refusals.{IsAnswerOf, refusal_kind};
+ghost use Rattle.perf_buffers.specs.Words.{kinds, refused, Stays, Refuses, Views};
 
 use crate::cursor::ParseBufCursor;
 use crate::cut::{cut, skip};
@@ -10,6 +11,7 @@ use crate::fill::fill;
 use crate::input::Input;
 use crate::parsebuf::ParseBuf;
 use crate::rest::take_rest;
+use crate::shown::Viewer;
 use crate::zeros::take_zeros;
 use perf_base::cow::CowSlice;
 use perf_base::error::ParseError;
@@ -59,6 +61,33 @@ impl<B> Outer<B> {
         ensures buf { self.new.buf ≡ self.old.buf }
     {
         self.kept.keep(error)
+    }
+}
+
+impl<'p, B: ParseBuf<'p>> Outer<B> {
+    /// Shows the next bytes to a viewer, and takes those that it takes.
+    #[inline]
+    pub fn show<V: Viewer<'p>>(&mut self, viewer: V) -> ReadResult<V::Output>
+        ensures stays { Stays (B.source self.old.buf) (refused (kinds result))
+            (B.source self.new.buf) }
+        ensures ok { IfOk result (λ output.
+            Views (V.gives viewer) (B.source self.old.buf) output (B.source self.new.buf)) }
+        ensures err { IfErr result (λ e. Refuses (B.source self.old.buf) (refusal_kind e)
+            × (IsTrue (B.source self.old.buf).told →
+            (B.source self.new.buf).left ≡ (B.source self.old.buf).left)) }
+    {
+        let chunk = match self.buf.chunk() {
+            Ok(chunk) => chunk,
+            Err(error) => {
+                drop(viewer);
+                return Err(self.kept.keep(error));
+            }
+        };
+        let (output, count) = viewer.view(chunk);
+        if 0 < count {
+            self.buf.advance(count);
+        }
+        Ok(output)
     }
 }
 

@@ -14,7 +14,7 @@ use Rattle.perf_base.specs.declared.error.ErrorKind.TheVariants.{Eof, InvalidRec
 use Rattle.perf_base.specs.declared.error.ParseError.{ParseError}
 use Rattle.perf_base.specs.declared.refusal.Refusal.{Refusal}
 use Rattle.perf_base.specs.declared.sys.perf_event_header.{perf_event_header}
-use Rattle.perf_buffers.specs.Buffer.{Source, faults_after}
+use Rattle.perf_buffers.specs.Buffer.{Source, faults_after, Refuses}
 use Rattle.perf_buffers.specs.Taking.{MovesWithin, Takes}
 use Rattle.perf_buffers.proofs.Taking.{moves_more}
 use Rattle.perf_buffers.specs.declared.outer.Outer.{Outer}
@@ -102,6 +102,15 @@ layout_or_not OutOfMemory = inr (λ h. cc)
 
 not_the_end : (e : ErrorKind) → (IsTrue (of_layout e) → ⊥) → e ≡ Eof → ⊥
 not_the_end e other same = other (subst (λ (k : ErrorKind). IsTrue (of_layout k)) (sym same) refl)
+
+-- of the layout's kinds a buffer refuses by the end alone
+refuses_layout : (a : Source) (e : ErrorKind) → IsTrue (of_layout e) → Refuses a e → e ≡ Eof
+refuses_layout a Eof h p = refl
+refuses_layout a InvalidRecord h p = absurd p
+refuses_layout a UnsupportedConfig h p = absurd p
+refuses_layout a UnsupportedData h p = absurd p
+refuses_layout a External h p = cc
+refuses_layout a OutOfMemory h p = cc
 
 -- where the first byte of a header was refused
 pub stops_first : (old new : Meaning) (r : Refusal) (s : Stop) → (refusal_kind r ≡ Eof → s ≡ stop.Done) → ((refusal_kind r ≡ Eof → ⊥) → s ≡ stop.Refused r) →
@@ -257,3 +266,16 @@ run_ends start new n (stop.Refused r) e is k =
 
 pub run_limit : (start new : Meaning) (n : ℕ) → KeepsRun start n None new → KeepsRun start (n + 0) None new
 run_limit start new n k = let same : n + 0 ≡ n = omega arith in subst (λ (m : ℕ). KeepsRun start m None new) (sym same) k
+
+-- where the buffer showed no first byte of a header
+pub stops_unshown : (old new : Meaning) (r : Refusal) (s : Stop) → (refusal_kind r ≡ Eof → s ≡ stop.Done) → ((refusal_kind r ≡ Eof → ⊥) → s ≡ stop.Refused r) →
+    Refuses old.source (refusal_kind r) → IsTrue old.source.told → new.source.left ≡ old.source.left → new.reads ≡ old.reads + 1 → StopsAt old s new
+stops_unshown old new r s eof other why told same count = elim (layout_or_not (refusal_kind r)) [
+  | inl layout ↦
+      let kind = refuses_layout old.source (refusal_kind r) layout why in
+      let none : old.source.left ≡ [] = subst (λ k. Refuses old.source k) kind why told in
+      subst (λ (x : Stop). StopsAt old x new) (sym (eof kind)) (none, same ∙ none, count)
+  | inr none ↦
+      let long : length new.source.left ≡ length old.source.left = ap length same in
+      subst (λ (x : Stop). StopsAt old x new) (sym (other (not_the_end (refusal_kind r) none))) (none, (omega (arith, long), omega (arith, long), same ∙ sym (last_all old.source.left) ∙ ap (λ k. last_of k old.source.left) (sym long)))
+]

@@ -6,5 +6,6 @@ pub mod InRow
 pub mod Metadata
 pub mod Listing
 pub mod Ending
+pub mod Meeting
 pub mod Covering
 pub mod Worked

@@ -10,14 +10,18 @@ ghost use Rattle.perf_reader.specs.Words as low;
 use crate::parser::Parser;
 use perf_base::endian::Endian;
 use perf_base::error::{ErrorKind, ParseError, ParseResult};
+use perf_base::reads::ReadCounter;
 use perf_base::refusal::{ReadResult, Refusal};
 use perf_base::sys::perf_event_header;
 use perf_buffers::input::Input;
 use perf_buffers::outer::Outer;
 use perf_buffers::parsebuf::ParseBuf;
+use perf_reader::header::header_in;
 use perf_reader::reader::Reader;
-use perf_records::frame::read_behind;
+use perf_records::frame_shown::{Met, NextViewer, read_shown};
 use perf_records::record::Record;
+use perf_sample_types::sample::Sample;
+use std::boxed::Box;
 
 // How many answers room is made for at first.
 const FIRST: usize = 256;
@@ -59,18 +63,14 @@ enum Stop {
     Refused(Refusal),
 }
 
-// The header whose eight bytes are these.
+// The header whose first byte and others these are.
 #[inline]
 fn header_from<E: Endian>(endian: &E, first: [u8; 1], others: [u8; 7]) -> perf_event_header
     ensures { result ≡ header_of (E.order endian.now) (first ++ others) }
 {
     let [b0] = first;
     let [b1, b2, b3, b4, b5, b6, b7] = others;
-    perf_event_header {
-        type_: endian.convert_u32([b0, b1, b2, b3]),
-        misc: endian.convert_u16([b4, b5]),
-        size: endian.convert_u16([b6, b7]),
-    }
+    header_in(endian, [b0, b1, b2, b3, b4, b5, b6, b7])
 }
 
 // Why a run stops that cannot read the first byte of a header, or the others.
@@ -87,8 +87,9 @@ fn stop_at(refusal: Refusal, at_end: Stop) -> Stop
 }
 
 // The header of the next frame: its first byte, of which there may be none, and the other seven.
-#[inline]
-fn read_header<'p, I: Input<'p>, E: Endian>(
+#[cold]
+#[inline(never)]
+fn read_header_in_two<'p, I: Input<'p>, E: Endian>(
     reader: &mut Reader<I, E>,
 ) -> Result<perf_event_header, Stop>
     ensures stop { IsTrue (I.source (low.input_of reader.old)).told → IfErr result (λ s.
@@ -106,6 +107,63 @@ fn read_header<'p, I: Input<'p>, E: Endian>(
         Err(refusal) => return Err(stop_at(refusal, Stop::CutHeader)),
     };
     Ok(header_from(reader.endian(), first, others))
+}
+
+// The two reads of a header: of its first byte, and of the others.
+#[inline]
+fn header_reads() -> ReadCounter
+    ensures { result ≡ 2 }
+{
+    let mut made = ReadCounter::new();
+    made.tick();
+    made.tick();
+    made
+}
+
+// What a run meets next.
+enum Next<'p> {
+    // A frame whose header was read.
+    Header(perf_event_header),
+    // A frame that is a sample, and was read.
+    Sample(perf_event_header, ReadResult<Box<Sample<'p>>>),
+}
+
+// The header of the next frame, and all of the frame where it is a sample and the buffer shows it
+// whole: that is read where it stands.
+#[inline]
+fn meet_next<'p, B: ParseBuf<'p>, E: Endian>(
+    reader: &mut Reader<Outer<B>, E>,
+) -> Result<Next<'p>, Stop>
+    ensures met { IfOk result (λ next. stream.MeetsFrame (λ (o : Outer B). B.source o.buf) E.order
+        reader.old next reader.new) }
+    ensures stop { IsTrue (B.source (low.buffer_of reader.old)).told → IfErr result (λ s.
+        stream.StopsAt (low.meaning (λ (o : Outer B). B.source o.buf) E.order reader.old) s
+        (low.meaning (λ (o : Outer B). B.source o.buf) E.order reader.new)) }
+    ensures stopped { IfErr result (λ s. low.Call (λ (o : Outer B). B.source o.buf) E.order
+        stream.ReadsHeader reader.old (Err (stream.stop_kind s)) reader.new) }
+{
+    let hint = reader.input().remaining_hint();
+    match reader.show(NextViewer::new(hint)) {
+        Ok(Some(Met::Header(header))) => {
+            reader.count(header_reads());
+            Ok(Next::Header(header))
+        }
+        Ok(Some(Met::Sample(header, held, made))) => {
+            reader.count(header_reads());
+            reader.count(made);
+            Ok(Next::Sample(header, held))
+        }
+        Ok(None) => match read_header_in_two(reader) {
+            Ok(header) => Ok(Next::Header(header)),
+            Err(stop) => Err(stop),
+        },
+        Err(refusal) => {
+            let mut one = ReadCounter::new();
+            one.tick();
+            reader.count(one);
+            Err(stop_at(refusal, Stop::Done))
+        }
+    }
 }
 
 // Lists the answer of a frame that was refused, in room that was made; or answers the fault or the
@@ -176,9 +234,54 @@ fn list_answer<'p, B: ParseBuf<'p>, E: Endian>(
         × low.Call (λ (o : Outer B). B.source o.buf) E.order (stream.SaysBehind header)
         reader.old (Err (low.refusal_kind e)) reader.new) }
 {
-    match read_behind(reader, header) {
+    match read_shown(reader, header) {
         Ok(record) => {
             list_record(frames, header, record);
+            Ok(())
+        }
+        Err(refusal) => match list_refused(reader, frames, header, refusal) {
+            Ok(()) => Ok(()),
+            Err(refusal) => Err(refusal),
+        },
+    }
+}
+
+// Lists a sample in room that was made.
+#[inline(never)]
+fn list_held<'p>(
+    frames: &mut Vec<(perf_event_header, ParseResult<Record<'p>>)>,
+    header: perf_event_header,
+    held: Box<Sample<'p>>,
+)
+    requires { vec_len frames.old < vec_capacity frames.old }
+    ensures { frames.new.items ≡ frames.old.items
+        ++ ((header, Ok (Record.Sample held.entry)) ∷ []) }
+{
+    frames.push_reserved((header, Ok(Record::Sample(held))));
+}
+
+// Lists the answer of a sample, in room that was made; or answers the want of memory that stops the
+// run.
+#[inline]
+fn list_sample<'p, B: ParseBuf<'p>, E: Endian>(
+    reader: &mut Reader<Outer<B>, E>,
+    frames: &mut Vec<(perf_event_header, ParseResult<Record<'p>>)>,
+    header: perf_event_header,
+    held: ReadResult<Box<Sample<'p>>>,
+) -> ReadResult<()>
+    requires room { vec_len frames.old < vec_capacity frames.old }
+    ensures listed { OnOk result (stream.ListsBoxed header held.entry
+        frames.old.items frames.new.items) }
+    ensures kept { OnErr result (frames.new.items ≡ frames.old.items) }
+    ensures stops { IfErr result (λ e. (IsTrue (low.of_layout (low.refusal_kind e)) → ⊥)
+        × (stream.boxed_kinds held.entry ≡ Err (low.refusal_kind e))) }
+    ensures buf { low.buffer_of reader.new ≡ low.buffer_of reader.old }
+    ensures config { low.config_of reader.new ≡ low.config_of reader.old }
+    ensures reads { low.reads_of reader.new ≡ low.reads_of reader.old }
+{
+    match held {
+        Ok(held) => {
+            list_held(frames, header, held);
             Ok(())
         }
         Err(refusal) => match list_refused(reader, frames, header, refusal) {
@@ -212,13 +315,16 @@ fn read_next<'p, B: ParseBuf<'p>, E: Endian>(
     if frames.reserve(1).is_err() {
         return Err(Stop::Refused(Refusal::OutOfMemory));
     }
-    let header = match read_header(reader) {
-        Ok(header) => header,
-        Err(stop) => return Err(stop),
-    };
-    match list_answer(reader, frames, header) {
-        Ok(()) => Ok(()),
-        Err(refusal) => Err(Stop::Refused(refusal)),
+    match meet_next(reader) {
+        Ok(Next::Header(header)) => match list_answer(reader, frames, header) {
+            Ok(()) => Ok(()),
+            Err(refusal) => Err(Stop::Refused(refusal)),
+        },
+        Ok(Next::Sample(header, held)) => match list_sample(reader, frames, header, held) {
+            Ok(()) => Ok(()),
+            Err(starved) => Err(Stop::Refused(starved)),
+        },
+        Err(stop) => Err(stop),
     }
 }
 

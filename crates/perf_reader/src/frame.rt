@@ -50,7 +50,7 @@ impl<'p, I: Input<'p>, E: Endian> Reader<I, E> {
         }
     }
 
-    /// Counts the reads that were made of bytes which were cut off.
+    /// Counts the reads that were made of bytes which were cut off, or shown.
     #[inline]
     pub fn count(&mut self, made: ReadCounter)
         ensures input { input_of self.new ≡ input_of self.old }

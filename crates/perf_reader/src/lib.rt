@@ -15,4 +15,5 @@ pub mod read;
 pub mod reader;
 mod rest;
 mod room;
+pub mod shown;
 mod zeros;

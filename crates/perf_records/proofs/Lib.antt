@@ -7,3 +7,4 @@ pub mod Lending
 pub mod Visiting
 pub mod Seeing
 pub mod Making
+pub mod Shown

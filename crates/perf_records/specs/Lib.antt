@@ -6,4 +6,5 @@ pub mod Bodies
 pub mod Frames
 pub mod Answers
 pub mod Visits
+pub mod Shown
 pub mod Words

@@ -1,6 +1,6 @@
 -- Which outputs of a visitor belong to a record.
 use Rattle.std.specs.Prelude.{ℕ, List, Bool, true, false, Option, Some, None, Result}
-use Rattle.std.specs.Prelude.{Ok, Err, ◌≡◌, ◌≢◌, ◌&&◌, ◌⊎◌, IsTrue}
+use Rattle.std.specs.Prelude.{Ok, Err, ◌≡◌, ◌≢◌, ◌&&◌, ◌⊎◌, IsTrue, Box}
 use Rattle.perf_base.specs.Configuration.{Configuration}
 use Rattle.perf_base.specs.Cow.{is_borrowed}
 use Rattle.perf_base.specs.Header.{header_of}
@@ -22,7 +22,9 @@ use Rattle.perf_records.specs.Frames.{frame_length}
 use Rattle.perf_records.specs.Metadata.{MetadataValue}
 use Rattle.perf_records.specs.RecordTypes.{type_of}
 use Rattle.perf_records.specs.Records.{RecordValue, record_value, IsBorrowed, sample_is, mmap_is}
-use Rattle.perf_records.specs.Records.{mmap2_is}
+use Rattle.perf_records.specs.Records.{mmap2_is, sample_value}
+use Rattle.perf_sample_types.specs.SampleGroups.{IsBorrowedSample}
+use Rattle.std.specs.declared.alloc.Global.{Global}
 use Rattle.perf_records.specs.declared.record.Record.{Record}
 use Rattle.perf_records.specs.declared.record_type.RecordType.{RecordType}
 use Rattle.perf_types.specs.Mmap2.{mapping_of}
@@ -69,6 +71,11 @@ GivesRecord seen (Err e) = (e ≡ OutOfMemory) × IsSample seen.value
 -- the record of that value, of which nothing was copied if the event's was not
 abbrev pub IsRecordOf : Event → Record → Type 0
 IsRecordOf seen r = (record_value r ≡ seen.value) × (IsTrue seen.lent → IsBorrowed r)
+
+-- the sample of that value in a box, of which nothing was copied if the event's was not
+abbrev pub IsSampleOf : Event → Box Sample Global → Type 0
+IsSampleOf seen held =
+    (sample_is (sample_value held.value) ≡ seen.value) × (IsTrue seen.lent → IsBorrowedSample held.value)
 
 -- what a record is answered by belongs to each event that it is the record of
 abbrev pub MakesRecord : {O : Type 0} → (Event → O → Type 0) → Record → O → Type 0

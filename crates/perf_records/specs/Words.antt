@@ -25,7 +25,8 @@ pub use Rattle.perf_records.specs.Records.{cgroup_value, comm_value, ksymbol_val
 pub use Rattle.perf_records.specs.Records.{mmap_value, namespaces_value, sample_value, task_read}
 pub use Rattle.perf_records.specs.Records.{text_poke_value}
 pub use Rattle.perf_records.specs.Visits.{Event, event, is_lent_sample, is_lent_text_poke}
-pub use Rattle.perf_records.specs.Visits.{GivesRecord, IsRecordOf, MakesRecord, MakesNoSample}
+pub use Rattle.perf_records.specs.Visits.{GivesRecord, IsRecordOf, IsSampleOf, MakesRecord, MakesNoSample}
 pub use Rattle.perf_records.specs.Visits.{VisitsType, VisitsUnread, VisitsBody}
 pub use Rattle.perf_records.specs.Visits.{VisitsAll, VisitsBehind, VisitsFrame, BelongsTo}
 pub use Rattle.perf_records.specs.Visits.{GivesOrLeavesOut}
+pub use Rattle.perf_records.specs.Shown.{VisitsBytes, ViewsFrame, MeetsNext, boxed_kinds}

@@ -67,15 +67,15 @@ fn read_id<'x, E: Endian>(reader: &mut Reader<&'x [u8], E>, ty: u32) -> SampleId
 }
 
 // What `take_id` leaves of a frame's bytes, and what it read.
-struct Taken<'p> {
-    body: ParseBufCursor<'p>,
-    metadata: RecordMetadata,
-    reads: ReadCounter,
+pub(crate) struct Taken<'p> {
+    pub(crate) body: ParseBufCursor<'p>,
+    pub(crate) metadata: RecordMetadata,
+    pub(crate) reads: ReadCounter,
 }
 
 // The bytes of a frame without its sample id, the metadata, and how many reads that took.
 #[inline]
-fn take_id<'p, E: Endian>(
+pub(crate) fn take_id<'p, E: Endian>(
     alloc: Global,
     frame: ParseBufCursor<'p>,
     config: &ParseConfig<E>,

@@ -3,6 +3,7 @@
 
 pub mod body;
 pub mod frame;
+pub mod frame_shown;
 pub mod metadata;
 pub mod partial;
 pub mod record;

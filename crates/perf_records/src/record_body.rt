@@ -4,7 +4,8 @@
 #![tactic(auto, using(perf_reader::proofs::Paying::chain))]
 
 ghost use Rattle.std.specs.Prelude.{Err, IsTrue};
-ghost use Rattle.perf_records.specs.Words.{Call, IsRecordOf, VisitsBody, VisitsType, kinds};
+ghost use Rattle.perf_records.specs.Words.{Call, IsRecordOf, IsSampleOf, VisitsBody, VisitsType};
+ghost use Rattle.perf_records.specs.Words.{MetadataValue, kinds};
 ghost use Rattle.perf_records.specs.Words.{input_of, refusal_kind};
 
 use crate::body::visit_body;
@@ -17,18 +18,16 @@ use perf_base::refusal::{ReadResult, Refusal};
 use perf_base::sys::PERF_RECORD_SAMPLE;
 use perf_buffers::input::Input;
 use perf_reader::reader::Reader;
-use perf_sample_types::sample::{empty_sample, fill_sample, least_len};
+use perf_sample_types::sample::{Sample, empty_sample, fill_sample, least_len};
 use std::boxed::Box;
 
 // Why there is no record of a sample for whose box there is no memory: what its bytes are refused
 // for, or that.
 #[cold]
 #[inline(never)]
-fn refuse_sample<'p, I: Input<'p>, E: Endian>(
-    reader: &mut Reader<I, E>,
-    metadata: RecordMetadata,
-) -> Refusal
-    ensures call { Call I.source E.order (VisitsType IsRecordOf metadata RecordType.Sample)
+fn refuse_sample<'p, I: Input<'p>, E: Endian>(reader: &mut Reader<I, E>) -> Refusal
+    ensures call { (m : MetadataValue) →
+        Call I.source E.order (VisitsType IsSampleOf m RecordType.Sample)
         reader.old (Err (refusal_kind result)) reader.new }
 {
     let mut held = empty_sample();
@@ -50,20 +49,18 @@ fn is_short<'p, I: Input<'p>, E: Endian>(reader: &Reader<I, E>) -> bool {
     }
 }
 
-// The record of a sample, which is read before its box is made.
+// A sample that is read before its box is made.
 #[cold]
 #[inline(never)]
-fn read_short<'p, I: Input<'p>, E: Endian>(
-    reader: &mut Reader<I, E>,
-    metadata: RecordMetadata,
-) -> ReadResult<Record<'p>>
-    ensures call { Call I.source E.order (VisitsType IsRecordOf metadata RecordType.Sample)
+fn read_short<'p, I: Input<'p>, E: Endian>(reader: &mut Reader<I, E>) -> ReadResult<Box<Sample<'p>>>
+    ensures call { (m : MetadataValue) →
+        Call I.source E.order (VisitsType IsSampleOf m RecordType.Sample)
         reader.old (kinds result) reader.new }
 {
     let mut held = empty_sample();
     match fill_sample(&mut held, reader) {
         Ok(()) => match Box::new(reader.alloc(), held) {
-            Ok(held) => Ok(Record::Sample(held)),
+            Ok(boxed) => Ok(boxed),
             Err(failed) => {
                 drop(failed);
                 Err(Refusal::OutOfMemory)
@@ -76,18 +73,18 @@ fn read_short<'p, I: Input<'p>, E: Endian>(
     }
 }
 
-// The record of a sample, which is read in its box.
+// A sample, which is read in its box.
 #[inline(never)]
-fn read_sample<'p, I: Input<'p>, E: Endian>(
+pub(crate) fn read_sample<'p, I: Input<'p>, E: Endian>(
     reader: &mut Reader<I, E>,
-    metadata: RecordMetadata,
-) -> ReadResult<Record<'p>>
-    ensures call { Call I.source E.order (VisitsType IsRecordOf metadata RecordType.Sample)
+) -> ReadResult<Box<Sample<'p>>>
+    ensures call { (m : MetadataValue) →
+        Call I.source E.order (VisitsType IsSampleOf m RecordType.Sample)
         reader.old (kinds result) reader.new }
 {
     if is_short(reader) {
-        return match read_short(reader, metadata) {
-            Ok(record) => Ok(record),
+        return match read_short(reader) {
+            Ok(held) => Ok(held),
             Err(refusal) => Err(refusal),
         };
     }
@@ -95,11 +92,11 @@ fn read_sample<'p, I: Input<'p>, E: Endian>(
         Ok(held) => held,
         Err(failed) => {
             drop(failed);
-            return Err(refuse_sample(reader, metadata));
+            return Err(refuse_sample(reader));
         }
     };
     match fill_sample(&mut held, reader) {
-        Ok(()) => Ok(Record::Sample(held)),
+        Ok(()) => Ok(held),
         Err(refusal) => {
             drop(held);
             Err(refusal)
@@ -118,8 +115,8 @@ pub(crate) fn read_body<'p, I: Input<'p>, E: Endian>(
         reader.old (kinds result) reader.new }
 {
     if metadata.ty() == PERF_RECORD_SAMPLE {
-        return match read_sample(reader, metadata) {
-            Ok(record) => Ok(record),
+        return match read_sample(reader) {
+            Ok(held) => Ok(Record::Sample(held)),
             Err(refusal) => Err(refusal),
         };
     }

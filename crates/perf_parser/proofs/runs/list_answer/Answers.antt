@@ -15,7 +15,7 @@ returns-in-Ok-list_refused-clause-listed g c =
     let after = c.in-Ok-list_refused.ensures in
     let listed = after.listed in let e = listed.0 in
     let kind = refusal_kind c.in-Err.refusal in
-    let old = c.args.reader.now in let mid = c.read_behind.new.reader in let new = c.list_refused.new.reader in
+    let old = c.args.reader.now in let mid = c.read_shown.new.reader in let new = c.list_refused.new.reader in
     let call = same_call source order (SaysBehind c.args.header) old mid new (Err kind) after.buf after.config after.reads c.in-Err.ensures.call in
     let P : ErrorKind → Type 0 = λ k. Call (λ (o : Outer g.row.B.Denot). source o.buf) order (SaysBehind c.args.header) old (Err k) new in (
       Err e,

@@ -1,4 +1,6 @@
-use Rattle.perf_records.proofs.Making.{made_body, unmade_body}
+use Rattle.std.proofs.Common.{◌∙◌, sym}
+use Rattle.perf_base.specs.Refusals.{refusal_kind}
+use Rattle.perf_records.proofs.Making.{boxed_body, made_body, unboxed_body, unmade_body}
 use Rattle.perf_records.proofs.record_body.read_body.Goals as goal
 
 pub returns-in-Ok-Ok : goal.returns-in-Ok-Ok
@@ -6,3 +8,10 @@ returns-in-Ok-Ok g c = record { call = made_body c.args.metadata c.in-Ok-Ok.fiel
 
 pub returns-in-Ok-Err : goal.returns-in-Ok-Err
 returns-in-Ok-Err g c = record { call = unmade_body c.args.metadata c.in-Ok-Err.field-0 c.in-Ok-Err.refusal c.in-Ok-Err.field-0-is c.requires c.in-Ok-Err.ensures.call }
+
+-- a sample
+pub returns-in-Ok : goal.returns-in-Ok
+returns-in-Ok g c = record { call = boxed_body c.args.metadata c.in-Ok.held (sym c.ty.ensures ∙ c.if-ty-eq-PERF_RECORD_SAMPLE.true) (c.in-Ok.ensures.call c.args.metadata) }
+
+pub returns-in-Err : goal.returns-in-Err
+returns-in-Err g c = record { call = unboxed_body c.args.metadata (refusal_kind c.in-Err.refusal) (sym c.ty.ensures ∙ c.if-ty-eq-PERF_RECORD_SAMPLE.true) (c.in-Err.ensures.call c.args.metadata) }

@@ -7,7 +7,7 @@ use Rattle.perf_base.specs.Order.{Order}
 use Rattle.perf_reader.specs.Meaning.{Meaning, meaning}
 use Rattle.perf_records.proofs.Headers.{header_take}
 use Rattle.perf_parser.proofs.Ending.{taken, stops_first, stops_others}
-use Rattle.perf_parser.proofs.runs.read_header.Goals as goal
+use Rattle.perf_parser.proofs.runs.read_header_in_two.Goals as goal
 
 pub returns-in-Err-clause-stop : goal.returns-in-Err-clause-stop
 returns-in-Err-clause-stop g c = λ told.
