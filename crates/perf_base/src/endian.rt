@@ -30,8 +30,11 @@ pub trait Endian: Drop {
     fn convert_u64(&self, bytes: [u8; 8]) -> u64
         ensures { result ≡ (order self.now).eight bytes };
 
-    /// Whether this is the machine's own order. No answer of this library depends on it.
-    fn is_native(&self) -> bool {
+    /// Whether this is the machine's own order. No answer of this library depends on it. An order
+    /// that returns `true` converts like [`Little`]; one that does not know may keep `false`.
+    fn is_native(&self) -> bool
+        ensures native { IsTrue result → order self.now ≡ little }
+    {
         false
     }
 
