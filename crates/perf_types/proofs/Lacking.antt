@@ -1,5 +1,7 @@
 -- Numbers that are read in a row out of an input that has fewer.
-use Rattle.std.proofs.Common.{ℕ, ◌*◌, ◌<◌, List, length, arith}
+use Rattle.std.proofs.Common.{◌≡◌, ℕ, ◌+◌, ◌*◌, ◌<◌, ◌≤◌, Bool, false, true, Option, List, length, sym, ◌∙◌, ap, arith}
+use Rattle.std.proofs.lemmas.Bool.{false≢true}
+use Rattle.std.proofs.Math.Nat.{mul-le-mul_right}
 use Rattle.std.specs.Prelude.{Err, None, Some, IsTrue}
 use Rattle.perf_base.specs.Configured.{endian_of}
 use Rattle.perf_base.specs.Layout.{words}
@@ -7,11 +9,26 @@ use Rattle.perf_base.specs.Order.{Order}
 use Rattle.perf_base.specs.declared.error.ErrorKind.TheVariants.{Eof}
 use Rattle.perf_base.proofs.Took.{took_no}
 use Rattle.perf_buffers.specs.Buffer.{Source}
+use Rattle.perf_buffers.specs.Room.{falls_short}
 use Rattle.perf_reader.specs.Calls.{Call}
 use Rattle.perf_reader.specs.Meaning.{Meaning}
 use Rattle.perf_reader.specs.Reading.{ReadsOne, Keeps}
 use Rattle.perf_reader.specs.declared.reader.Reader.{Reader}
 use Rattle.perf_reader.proofs.InRow.{InRow}
+
+-- a number of an item is one of those of all items
+pub within_items : (numbers count k i : ℕ) → k < count → i < numbers → numbers * k + i < numbers * count
+within_items numbers count k i item number =
+    let next : (k + 1) * numbers ≤ count * numbers = mul-le-mul_right numbers (omega (arith, item)) in
+    let same : (k + 1) * numbers ≡ numbers * k + numbers = grind arith in
+    let turned : count * numbers ≡ numbers * count = grind arith in
+    omega (arith, next, same, turned, number)
+
+-- an input that does not lack the bytes does not fall short of them
+pub not_short : {P : Type 0} (hint : Option ℕ) (n m : ℕ) (lacks : Bool) → lacks ≡ falls_short hint n → lacks ≡ false → m ≡ n →
+    falls_short hint m ≡ true → P
+not_short hint n m lacks is fits same short =
+    absurd (false≢true (sym fits ∙ is ∙ ap (falls_short hint) (sym same) ∙ short))
 
 lacking : (start m : Meaning) → Keeps start None m → Keeps start (Some Eof) m
 lacking start m h = record {

@@ -1,11 +1,14 @@
 //! NAMESPACES. No claimed count makes room for entries.
 #![tactic(auto, using(perf_reader::proofs::Paying::chain))]
 
-ghost use Rattle.std.specs.Prelude.{◌≡◌, ◌*◌, slice_get};
+ghost use Rattle.std.specs.Prelude.{◌≡◌, ◌*◌, true, IfOk, slice_get};
+ghost use Rattle.perf_buffers.specs.Room.{falls_short};
+ghost use Rattle.perf_reader.specs.Words.{input_of};
 ghost use Rattle.perf_types.specs.Namespaces as spaces;
-ghost use Rattle.perf_types.specs.Words.{Call, Reads, ReadsOne, ReadsPlain, kinds, words};
+ghost use Rattle.perf_types.specs.Words.{Call, Reads, ReadsOne, ReadsPlain, TakesNoMemory, kinds, words};
 ghost use Rattle.perf_types.specs.Words.{cow_items, IsClone, flat_map, option_copied};
 
+use crate::numbers::{lacks, read_to_the_end};
 use perf_base::cow::CowSlice;
 use perf_base::endian::Endian;
 use perf_base::error::ParseResult;
@@ -131,18 +134,26 @@ impl<'p, I: Input<'p>> ReadFrom<'p, I> for NamespaceEntry {
     }
 }
 
-// So many entries, each of which is two numbers.
+// How many numbers an entry is.
+const NUMBERS: usize = 2;
+
+// So many entries. A list that does not fit takes no memory where the input says what it has.
 fn read_entries<'p, I: Input<'p>, E: Endian>(
     reader: &mut Reader<I, E>,
     count: usize,
 ) -> ReadResult<Vec<NamespaceEntry>>
+    ensures short { falls_short (I.hint (input_of reader.old)) (16 * count) ≡ true →
+        TakesNoMemory (kinds result) × IfOk result (λ v. ⊥) }
     ensures call { Call I.source E.order
         (ReadsOne (words (2 * count)) (λ v. flat_map spaces.entry_numbers v.items))
         reader.old (kinds result) reader.new }
 {
-    let mut entries = match Vec::with_capacity(reader.alloc(), reader.room_for(count)) {
+    if lacks(reader, NUMBERS, count) {
+        return Err(read_to_the_end(reader, NUMBERS, count));
+    }
+    let mut entries = match reader.list_for(count) {
         Ok(entries) => entries,
-        Err(_) => return Err(Refusal::OutOfMemory),
+        Err(refusal) => return Err(refusal),
     };
     for _ in 0..count {
         let dev = match reader.read_u64() {

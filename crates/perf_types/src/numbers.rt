@@ -13,30 +13,46 @@ use perf_reader::reader::Reader;
 // How many numbers are taken at once.
 const EIGHT: usize = 8;
 
-// Whether the input says that it has fewer numbers than so many.
+// How many bytes a number has.
+const SIZE: usize = 8;
+
+/// Whether the input says that it has fewer than `count` items, each of which is so many numbers.
+/// The count may be any.
 #[inline]
-fn lacks<'p, I: Input<'p>, E: Endian>(reader: &Reader<I, E>, count: usize) -> bool
-    ensures is { result ≡ falls_short (I.hint (input_of reader.now)) (8 * count) }
+pub fn lacks<'p, I: Input<'p>, E: Endian>(
+    reader: &Reader<I, E>,
+    numbers: usize,
+    count: usize,
+) -> bool
+    requires { 0 < numbers }
+    ensures is { result ≡ falls_short (I.hint (input_of reader.now)) (8 * (numbers * count)) }
     ensures exact { IsTrue result → IsTrue (I.source (input_of reader.now)).told →
-        length (I.source (input_of reader.now)).left < 8 * count }
+        length (I.source (input_of reader.now)).left < 8 * (numbers * count) }
 {
     match reader.input().remaining_hint() {
-        Some(left) => left / 8 < count,
+        Some(left) => left / SIZE / numbers < count,
         None => false,
     }
 }
 
-// Reads so many numbers, of which the input has fewer, up to its end. None of them is kept.
-fn read_to_the_end<'p, I: Input<'p>, E: Endian>(reader: &mut Reader<I, E>, count: usize) -> Refusal
+/// Reads `count` items of so many numbers, of which the input has fewer, up to its end, and returns
+/// the refusal. None of them is kept, so that no memory is taken.
+pub fn read_to_the_end<'p, I: Input<'p>, E: Endian>(
+    reader: &mut Reader<I, E>,
+    numbers: usize,
+    count: usize,
+) -> Refusal
     requires { IsTrue (I.source (input_of reader.old)).told →
-        length (I.source (input_of reader.old)).left < 8 * count }
+        length (I.source (input_of reader.old)).left < 8 * (numbers * count) }
     ensures memory { refusal_kind result ≢ OutOfMemory }
-    ensures call { Call I.source E.order (ReadsOne (words count) (λ numbers. numbers))
+    ensures call { Call I.source E.order (ReadsOne (words (numbers * count)) (λ numbers. numbers))
         reader.old (Err (refusal_kind result)) reader.new }
 {
     for _ in 0..count {
-        if let Err(refusal) = reader.read_u64() {
-            return refusal;
+        for _ in 0..numbers {
+            if let Err(refusal) = reader.read_u64() {
+                return refusal;
+            }
         }
     }
     Refusal::Eof
@@ -54,12 +70,12 @@ pub fn read_numbers<'p, I: Input<'p>, E: Endian>(
     ensures call { Call I.source E.order (ReadsOne (words count) (λ v. v.items))
         reader.old (kinds result) reader.new }
 {
-    if lacks(reader, count) {
-        return Err(read_to_the_end(reader, count));
+    if lacks(reader, 1, count) {
+        return Err(read_to_the_end(reader, 1, count));
     }
-    let mut numbers = match Vec::with_capacity(reader.alloc(), reader.room_for(count)) {
+    let mut numbers = match reader.list_for(count) {
         Ok(numbers) => numbers,
-        Err(_) => return Err(Refusal::OutOfMemory),
+        Err(refusal) => return Err(refusal),
     };
     while EIGHT <= count - numbers.len() && reader.has_eight() {
         let eight = match reader.read_eight() {

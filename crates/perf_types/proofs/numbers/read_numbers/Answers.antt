@@ -1,8 +1,8 @@
-use Rattle.std.proofs.Common.{rules, ◌≡◌, suc, ℕ, List, ◌+◌, ◌++◌, ◌∷◌, [], length, ap, refl, sym, ◌∙◌, arith}
-use Rattle.std.proofs.lemmas.Bool.{false≢true}
+use Rattle.std.proofs.Common.{rules, ◌≡◌, suc, ℕ, List, ◌+◌, ◌*◌, ◌++◌, ◌∷◌, [], length, ap, refl, sym, ◌∙◌, arith}
 use Rattle.std.proofs.lemmas.List.{length-append}
 use Rattle.perf_base.specs.Refusals.{refusal_kind}
 use Rattle.perf_reader.proofs.InRow.{row_none, row_cast, row_more, row_further, row_stops, row_ceases, row_starves, row_gives}
+use Rattle.perf_types.proofs.Lacking.{not_short}
 use Rattle.perf_types.proofs.numbers.read_numbers.Goals as goal
 
 pub loop-reader-init : goal.loop-reader-init
@@ -114,37 +114,50 @@ pub returns-in-Err-clause-length : goal.returns-in-Err-clause-length
 returns-in-Err-clause-length g c = tt
 
 pub returns-in-Err-clause-short : goal.returns-in-Err-clause-short
-returns-in-Err-clause-short g c = λ short. absurd (false≢true (sym c.if-lacks.false ∙ (c.lacks.ensures.is ∙ short)))
+returns-in-Err-clause-short g c =
+    not_short (g.I.Input.hint c.args.reader.now.input) (8 * (1 * c.args.count)) (8 * c.args.count) c.lacks.result c.lacks.ensures.is c.if-lacks.false (omega arith)
 
 pub returns-in-Err-read_eight-clause-length : goal.returns-in-Err-read_eight-clause-length
 returns-in-Err-read_eight-clause-length g c = tt
 
 pub returns-in-Err-read_eight-clause-short : goal.returns-in-Err-read_eight-clause-short
-returns-in-Err-read_eight-clause-short g c = λ short. absurd (false≢true (sym c.if-lacks.false ∙ (c.lacks.ensures.is ∙ short)))
+returns-in-Err-read_eight-clause-short g c =
+    not_short (g.I.Input.hint c.args.reader.now.input) (8 * (1 * c.args.count)) (8 * c.args.count) c.lacks.result c.lacks.ensures.is c.if-lacks.false (omega arith)
 
 pub returns-then-is_err-clause-length : goal.returns-then-is_err-clause-length
 returns-then-is_err-clause-length g c = tt
 
 pub returns-then-is_err-clause-short : goal.returns-then-is_err-clause-short
-returns-then-is_err-clause-short g c = λ short. absurd (false≢true (sym c.if-lacks.false ∙ (c.lacks.ensures.is ∙ short)))
+returns-then-is_err-clause-short g c =
+    not_short (g.I.Input.hint c.args.reader.now.input) (8 * (1 * c.args.count)) (8 * c.args.count) c.lacks.result c.lacks.ensures.is c.if-lacks.false (omega arith)
 
 pub returns-in-Err-read_u64-clause-length : goal.returns-in-Err-read_u64-clause-length
 returns-in-Err-read_u64-clause-length g c = tt
 
 pub returns-in-Err-read_u64-clause-short : goal.returns-in-Err-read_u64-clause-short
-returns-in-Err-read_u64-clause-short g c = λ short. absurd (false≢true (sym c.if-lacks.false ∙ (c.lacks.ensures.is ∙ short)))
+returns-in-Err-read_u64-clause-short g c =
+    not_short (g.I.Input.hint c.args.reader.now.input) (8 * (1 * c.args.count)) (8 * c.args.count) c.lacks.result c.lacks.ensures.is c.if-lacks.false (omega arith)
 
 pub returns-then-is_err-2-clause-length : goal.returns-then-is_err-2-clause-length
 returns-then-is_err-2-clause-length g c = tt
 
 pub returns-then-is_err-2-clause-short : goal.returns-then-is_err-2-clause-short
-returns-then-is_err-2-clause-short g c = λ short. absurd (false≢true (sym c.if-lacks.false ∙ (c.lacks.ensures.is ∙ short)))
+returns-then-is_err-2-clause-short g c =
+    not_short (g.I.Input.hint c.args.reader.now.input) (8 * (1 * c.args.count)) (8 * c.args.count) c.lacks.result c.lacks.ensures.is c.if-lacks.false (omega arith)
 
 pub returns-clause-short : goal.returns-clause-short
-returns-clause-short g c = λ short. absurd (false≢true (sym c.if-lacks.false ∙ (c.lacks.ensures.is ∙ short)))
+returns-clause-short g c =
+    not_short (g.I.Input.hint c.args.reader.now.input) (8 * (1 * c.args.count)) (8 * c.args.count) c.lacks.result c.lacks.ensures.is c.if-lacks.false (omega arith)
 
 pub returns-then-lacks-clause-length : goal.returns-then-lacks-clause-length
 returns-then-lacks-clause-length g c = tt
 
 pub returns-then-lacks-clause-short : goal.returns-then-lacks-clause-short
 returns-then-lacks-clause-short g c = λ short. (c.read_to_the_end.ensures.memory, tt)
+
+pub returns-then-lacks-clause-call : goal.returns-then-lacks-clause-call
+returns-then-lacks-clause-call g c =
+    let s = g.I.Input.source in let o = g.E.Endian.order in
+    let a = c.args.reader.now in
+    row_ceases s o (λ v. v.items) (λ numbers. numbers) 0 (1 * c.args.count) c.args.count a a c.read_to_the_end.new.reader []
+    (refusal_kind c.read_to_the_end.result) (omega arith) (row_none s o a) c.read_to_the_end.ensures.call
