@@ -78,8 +78,7 @@ impl<'p, B: ParseBuf<'p>, E: Endian> Parser<B, E> {
             (meaning B.source E.order self.old) len (kind_of e)
             (meaning B.source E.order self.new)) }
     {
-        let room = self.reader.room_for(len);
-        let mut items = match Vec::with_capacity(self.reader.alloc(), room) {
+        let mut items = match self.reader.list_for(len) {
             Ok(items) => items,
             Err(_) => return Err(ParseError::out_of_memory()),
         };

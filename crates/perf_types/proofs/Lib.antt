@@ -2,7 +2,7 @@ pub mod Blocks
 mod Copies
 pub mod Entries
 pub mod Flags
-mod Lacking
+pub mod Lacking
 pub mod Nth
 mod Places
 mod Poked
