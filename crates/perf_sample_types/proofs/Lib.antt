@@ -1,5 +1,6 @@
 pub mod BranchLists
 pub mod FlaggedFields
+pub mod LeastSamples
 pub mod Flags
 pub mod Forms
 pub mod GroupRuns

@@ -1,6 +1,10 @@
 //! SAMPLE.
 
-ghost use Rattle.std.specs.Prelude.{◌≡◌, option_map, ⊤};
+ghost use Rattle.std.specs.Prelude.{◌≡◌, ℕ, ◌*◌, ◌%◌, ◌^◌, ◌<◌, List, length, count_ones, IfOk};
+ghost use Rattle.std.specs.Prelude.{option_map};
+ghost use Rattle.perf_base.specs.Configured.{configuration_of};
+ghost use Rattle.perf_base.specs.Layout.{layout};
+ghost use Rattle.perf_base.specs.Order.{Order};
 ghost use Rattle.perf_sample_types.specs.SampleEmpty.{filled, no_sample};
 ghost use Rattle.perf_sample_types.specs.SampleWords as shown;
 ghost use Rattle.perf_sample_types.specs.SampleWords.{Call, ReadsBorrowed, kinds, group_read};
@@ -412,9 +416,14 @@ impl<'p, I: Input<'p>> ReadFrom<'p, I> for Sample<'p> {
 // The flags that have a field of their own: bits 0 to 23. `WEIGHT_STRUCT` is another of the weight.
 const FIELDS: u64 = (1 << 24) - 1;
 
-/// How many bytes a sample has at least: each of its fields takes eight or more.
+/// How many bytes a sample has at least: each of its fields takes eight or more. A shorter body is
+/// refused.
 #[inline]
-pub fn least_len<E>(config: &ParseConfig<E>) -> usize {
+pub fn least_len<E>(config: &ParseConfig<E>) -> usize
+    ensures value { result ≡ 8 * count_ones ((configuration_of config.now).sample_type % 2 ^ 24) }
+    ensures least { (o : Order) → (bytes : List ℕ) → length bytes < result →
+        IfOk (layout o (shown.sample (configuration_of config.now)) bytes) (λ v. ⊥) }
+{
     8 * (config.sample_type().bits() & FIELDS).count_ones() as usize
 }
 
@@ -434,7 +443,6 @@ pub fn empty_sample<'p>() -> Sample<'p>
 
 /// Reads the fields of a sample into one that has none, where they stay: a sample is large. It is not
 /// inlined, so that the fields are no locals of the caller's, each of which would be moved once more.
-/// After a refusal there are the fields that were read before it.
 #[inline(never)]
 pub fn fill_sample<'p, I: Input<'p>, E: Endian>(
     sample: &mut Sample<'p>,
