@@ -16,6 +16,7 @@ pub use Rattle.perf_reader.specs.Meaning.{Meaning}
 pub use Rattle.perf_reader.specs.Reading.{Says, Reads, ReadsPlain, ReadsLent, ReadsOne, ReadsNumber}
 pub use Rattle.perf_reader.specs.Reading.{Keeps, of_layout}
 pub use Rattle.perf_records.specs.Answers.{SaysBehind, answers, body_length, LeavesAllOrBehind}
+pub use Rattle.perf_records.specs.Answers.{RefusesHeader}
 pub use Rattle.perf_records.specs.Bodies.{wants_memory}
 pub use Rattle.perf_records.specs.Records.{IsBorrowed}
 pub use Rattle.perf_records.specs.Visits.{VisitsBehind, VisitsFrame, BelongsTo}

@@ -135,6 +135,12 @@ impl<'p, B: ParseBuf<'p>, E: Endian> Parser<B, E> {
             IsTrue (B.source (buffer_of self.old)).whole →
             E.may_refuse (endian_of (config_of self.old)) ≡ false →
             TakesNoMemory (error_kinds result) }
+
+        // A header that is lacking, or whose size does not count it, is refused before memory is
+        // needed for anything.
+        ensures small { IsTrue (B.source (buffer_of self.old)).told →
+            words.RefusesHeader (E.order (endian_of (config_of self.old)))
+            (B.source (buffer_of self.old)).left (error_kinds result) }
         ensures call { Call B.source E.order SplitsFrame self.old (error_kinds result) self.new }
     {
         let header = match self.parse::<perf_event_header>() {

@@ -69,6 +69,11 @@ impl<'p, B: ParseBuf<'p>, E: Endian> Parser<B, E> {
     /// The same as [`Parser::parse_record_with_header`], of a record whose header comes next.
     #[inline]
     pub fn parse_record<V: Visitor<'p>>(&mut self, visitor: V) -> ParseResult<V::Output>
+        // A header that is lacking, or whose size does not count it, is refused before memory is
+        // needed for anything.
+        ensures small { IsTrue (B.source (buffer_of self.old)).told →
+            words.RefusesHeader (E.order (words.endian_of (words.config_of self.old)))
+            (B.source (buffer_of self.old)).left (error_kinds result) }
         ensures call { Call B.source E.order (VisitsFrame V.gives)
             self.old (error_kinds result) self.new }
     {

@@ -1,5 +1,5 @@
 -- The header at the front of bytes, and what a frame says by its own bytes alone.
-use Rattle.std.proofs.Common.{◌≡◌, ℕ, ◌+◌, ◌<◌, ◌≤◌, List, [], length, take, drop, arith, refl, sym, ◌∙◌, ap, true, false, inl, inr, Ok, Err, max, nat_lt}
+use Rattle.std.proofs.Common.{◌≡◌, ℕ, ◌+◌, ◌<◌, ◌≤◌, List, [], length, take, drop, arith, refl, sym, ◌∙◌, ap, true, false, inl, inr, Ok, Err, max, nat_lt, subst}
 use Rattle.std.specs.Prelude.{Result, IsTrue, Some, ◌≢◌}
 use Rattle.std.proofs.lemmas.Bool.{cases_lt, lt-ltb, le-ltb}
 use Rattle.std.proofs.lemmas.List.{take-take, drop-take, take_all, length-take-le, drop-drop, drop_all}
@@ -22,7 +22,7 @@ use Rattle.perf_reader.specs.Reading.{of_layout, is_external}
 use Rattle.perf_reader.proofs.Paying.{within_taken}
 use Rattle.perf_records.proofs.Keeping.{within_all}
 use Rattle.perf_records.specs.Frames.{frame_length}
-use Rattle.perf_records.specs.Answers.{FrameParts, body_length, split_behind, split_reads, id_reads, record_in, record_reads, answer_behind, reads_behind, of_frame, answer_of_frame, AnswersExactly, frame_reads}
+use Rattle.perf_records.specs.Answers.{FrameParts, body_length, split_behind, split_reads, id_reads, record_in, record_reads, answer_behind, reads_behind, of_frame, answer_of_frame, AnswersExactly, frame_reads, RefusesHeader}
 
 -- ---- the header by places
 -- what follows the type, and what follows misc
@@ -225,3 +225,23 @@ frame_within o old mid new h fits e m p =
     let whole : frame_length o old.left ≡ 8 + body_length h = ap (λ (q : perf_event_header). max 8 q.size) (sym e) ∙ frame_body h in
     let first : MovesWithin old 8 mid = within_taken old mid 8 (fits, m) in
     (omega (arith, whole, first.0, p.0), moves_more old mid new first.1 p.1)
+
+-- ---- what its header refuses
+-- a header that was read
+pub refuses_read : {X : Type 0} (o : Order) (bytes : List ℕ) (h : perf_event_header) (seen : Result X ErrorKind) → 8 ≤ length bytes → h ≡ header_of o bytes → (h.size < 8 → seen ≡ Err InvalidRecord) →
+    RefusesHeader o bytes seen
+refuses_read o bytes h seen fits e small = λ inside. ((λ short. absurd (omega arith)), (λ long little. small (subst (λ (k : perf_event_header). k.size < 8) (sym e) little)))
+
+-- one that is lacking
+lacking : {X : Type 0} (o : Order) (bytes : List ℕ) (e : ErrorKind) → (length bytes < 8) × (e ≡ Eof) → RefusesHeader {X = X} o bytes (Err e)
+lacking o bytes e p = λ inside. ((λ short. ap Err p.1), (λ long little. absurd (omega (arith, p.0))))
+
+-- one that was not read
+pub refuses_unread : {X : Type 0} (o : Order) (bytes left : List ℕ) (e : ErrorKind) → (IsTrue (of_layout e) → (length bytes < 8) × (e ≡ Eof) × (left ≡ [])) → e ≢ OutOfMemory →
+    RefusesHeader {X = X} o bytes (Err e)
+refuses_unread o bytes left Eof lacks memory = let p = lacks refl in lacking o bytes Eof (p.0, p.1)
+refuses_unread o bytes left InvalidRecord lacks memory = let p = lacks refl in lacking o bytes InvalidRecord (p.0, p.1)
+refuses_unread o bytes left UnsupportedConfig lacks memory = let p = lacks refl in lacking o bytes UnsupportedConfig (p.0, p.1)
+refuses_unread o bytes left UnsupportedData lacks memory = let p = lacks refl in lacking o bytes UnsupportedData (p.0, p.1)
+refuses_unread o bytes left External lacks memory = λ inside. absurd (cc)
+refuses_unread o bytes left OutOfMemory lacks memory = absurd (memory refl)

@@ -164,6 +164,17 @@ SaysFrame old seen new =
     IfOk seen IsBorrowed
     × (wants_memory (header_of o bytes).type_ ≡ false → TakesNoMemory seen))
 
+-- What the header of a frame refuses, before memory is needed for anything: fewer than 8 bytes are
+-- `Eof`, and a size that does not count the header is `InvalidRecord`. Only a fault comes before that.
+abbrev pub RefusesHeader : {X : Type 0} → Order → List ℕ → Result X ErrorKind → Type 0
+RefusesHeader o bytes seen = is_external (refused seen) ≡ false →
+    (length bytes < 8 → seen ≡ Err Eof)
+    × (8 ≤ length bytes → (header_of o bytes).size < 8 → seen ≡ Err InvalidRecord)
+
+-- what the reading of a record means: what its frame says, and what the header of that refuses
+abbrev pub SaysRecord : Says Record
+SaysRecord old seen new = SaysFrame old seen new × RefusesHeader old.order old.source.left seen
+
 -- nothing was taken, or exactly n bytes were
 abbrev pub LeavesAllOrBehind : Source → ℕ → Source → Type 0
 LeavesAllOrBehind old n new = (new.left ≡ old.left) ⊎ (new.left ≡ drop n old.left)

@@ -12,7 +12,7 @@ pub use Rattle.perf_reader.specs.Words.{Call, kinds, error_kinds, TakesNoMemory,
 pub use Rattle.perf_reader.specs.Words.{reads_of, refused, refusal_kind}
 pub use Rattle.perf_records.specs.Answers.{SplitsBehind, SaysBehind, SaysFrame}
 pub use Rattle.perf_records.specs.Answers.{body_length, answered_parts, parts_of, id_reads}
-pub use Rattle.perf_records.specs.Answers.{LeavesAllOrBehind}
+pub use Rattle.perf_records.specs.Answers.{LeavesAllOrBehind, RefusesHeader, SaysRecord}
 pub use Rattle.perf_records.specs.Bodies.{body, wants_memory}
 pub use Rattle.perf_records.specs.Metadata.{MetadataValue, carries_sample_id, id_of_type, id_length}
 pub use Rattle.perf_records.specs.Records.{record_value, IsBorrowed, aux_is, aux_output_hw_id_is}

@@ -340,7 +340,7 @@ pub fn read_behind<'p, I: Input<'p>, E: Endian>(
 }
 
 impl Meant for Record<'_> {
-    ghost says = { words.SaysFrame };
+    ghost says = { words.SaysRecord };
 }
 
 /// A frame with its header, which is three elementary reads.

@@ -9,7 +9,7 @@ use Rattle.perf_buffers.specs.declared.cursor.ParseBufCursor.{ParseBufCursor}
 use Rattle.perf_reader.specs.Meaning.{Meaning}
 use Rattle.perf_records.specs.Answers.{AnswersExactly, body_length, split_behind, split_reads}
 use Rattle.perf_records.specs.Metadata.{MetadataValue}
-use Rattle.perf_records.proofs.Headers.{header_read, header_unread, tells_frame, tells_no_header, no_header_within, frame_within}
+use Rattle.perf_records.proofs.Headers.{header_read, header_unread, tells_frame, tells_no_header, no_header_within, frame_within, refuses_read, refuses_unread}
 use Rattle.perf_records.proofs.Saying.{took_ran, quit_stopped}
 use Rattle.perf_parser.specs.Frames.{parsed_parts}
 use Rattle.perf_parser.specs.Meaning.{meaning}
@@ -91,3 +91,33 @@ returns-in-Err-parse_metadata_with_header-clause-call g c =
       counted = λ start p. rest.counted start (read.counted start p);
       follows = λ start p. rest.follows start (read.follows start p);
     }
+
+-- ---- what its header refuses
+
+pub returns-in-Err-clause-small : goal.returns-in-Err-clause-small
+returns-in-Err-clause-small g c = λ told.
+    let old : Meaning = meaning g.B.ParseBuf.source g.E.Endian.order c.args.self.now in
+    let new : Meaning = meaning g.B.ParseBuf.source g.E.Endian.order c.parse.new.self in
+    let kind : ErrorKind = kind_of c.in-Err.error in
+    let says = c.in-Err.ensures.call.answer told in
+    refuses_unread old.order old.source.left new.source.left kind
+    (λ layout. header_unread old.order old.source.left new.source.left kind (quit_stopped old.order header_parts old.source.left new.source.left old.reads new.reads kind (says.0 layout)).0)
+    says.1
+
+pub returns-in-Ok-parse_metadata_with_header-clause-small : goal.returns-in-Ok-parse_metadata_with_header-clause-small
+returns-in-Ok-parse_metadata_with_header-clause-small g c = λ told.
+    let old : Meaning = meaning g.B.ParseBuf.source g.E.Endian.order c.args.self.now in
+    let mid : Meaning = meaning g.B.ParseBuf.source g.E.Endian.order c.parse.new.self in
+    let header = c.in-Ok.header in
+    let q = took_ran old.order header_parts old.source.left mid.source.left old.reads mid.reads header (c.in-Ok.ensures.call.answer told).0 in
+    let h = header_read old.order old.source.left mid.source.left header q.0 in
+    refuses_read old.order old.source.left header _ h.0 h.1 (λ small. (c.in-Ok-parse_metadata_with_header.ensures.small small).0)
+
+pub returns-in-Err-parse_metadata_with_header-clause-small : goal.returns-in-Err-parse_metadata_with_header-clause-small
+returns-in-Err-parse_metadata_with_header-clause-small g c = λ told.
+    let old : Meaning = meaning g.B.ParseBuf.source g.E.Endian.order c.args.self.now in
+    let mid : Meaning = meaning g.B.ParseBuf.source g.E.Endian.order c.parse.new.self in
+    let header = c.in-Ok.header in
+    let q = took_ran old.order header_parts old.source.left mid.source.left old.reads mid.reads header (c.in-Ok.ensures.call.answer told).0 in
+    let h = header_read old.order old.source.left mid.source.left header q.0 in
+    refuses_read old.order old.source.left header _ h.0 h.1 (λ small. (c.in-Err-parse_metadata_with_header.ensures.small small).0)

@@ -11,7 +11,7 @@ use Rattle.perf_records.specs.Answers.{body_length, split_behind, answer_behind,
 use Rattle.perf_records.specs.Bodies.{wants_memory}
 use Rattle.perf_records.specs.Records.{RecordValue}
 use Rattle.perf_records.specs.Visits.{VisitsExactly}
-use Rattle.perf_records.proofs.Headers.{header_read, header_unread, tells_no_header, no_header_within, frame_within}
+use Rattle.perf_records.proofs.Headers.{header_read, header_unread, tells_no_header, no_header_within, frame_within, refuses_read, refuses_unread}
 use Rattle.perf_records.proofs.Saying.{took_ran, quit_stopped}
 use Rattle.perf_records.proofs.Visiting.{visits_frame}
 use Rattle.perf_parser.specs.Meaning.{meaning}
@@ -24,6 +24,11 @@ returns-in-Err g c =
     let new : Meaning = meaning g.B.ParseBuf.source g.E.Endian.order c.parse.new.self in
     let kind : ErrorKind = kind_of c.in-Err.error in
     let read = c.in-Err.ensures.call in record {
+      small = λ told.
+          let says = read.answer told in
+          refuses_unread old.order old.source.left new.source.left kind
+          (λ layout. header_unread old.order old.source.left new.source.left kind (quit_stopped old.order header_parts old.source.left new.source.left old.reads new.reads kind (says.0 layout)).0)
+          says.1;
       call = record {
         config = read.config;
         whole = read.whole;
@@ -58,6 +63,10 @@ returns-in-Ok-parse_record_with_header g c =
     let rest = behind.call in
     let P : ParseConfig g.row.E.Denot → Type 0 = λ k. VisitsExactly gives (split_behind (configuration_of k) (g.E.Endian.order (endian_of k)) header mid.source.left) (answer_behind (configuration_of k) (g.E.Endian.order (endian_of k)) header mid.source.left)
     (body_length header) (reads_behind (configuration_of k) (g.E.Endian.order (endian_of k)) header mid.source.left) mid seen new in record {
+      small = λ told.
+          let q = took_ran old.order header_parts old.source.left mid.source.left old.reads mid.reads header (read.answer told).0 in
+          let h = header_read old.order old.source.left mid.source.left header q.0 in
+          refuses_read old.order old.source.left header seen h.0 h.1 (λ small. (behind.small small).0);
       call = record {
         config = rest.config ∙ read.config;
         whole = rest.whole ∙ read.whole;
@@ -89,6 +98,10 @@ returns-in-Err-parse_record_with_header g c =
     let rest = behind.call in
     let P : ParseConfig g.row.E.Denot → Type 0 = λ k. VisitsExactly gives (split_behind (configuration_of k) (g.E.Endian.order (endian_of k)) header mid.source.left) (answer_behind (configuration_of k) (g.E.Endian.order (endian_of k)) header mid.source.left)
     (body_length header) (reads_behind (configuration_of k) (g.E.Endian.order (endian_of k)) header mid.source.left) mid seen new in record {
+      small = λ told.
+          let q = took_ran old.order header_parts old.source.left mid.source.left old.reads mid.reads header (read.answer told).0 in
+          let h = header_read old.order old.source.left mid.source.left header q.0 in
+          refuses_read old.order old.source.left header seen h.0 h.1 (λ small. (behind.small small).0);
       call = record {
         config = rest.config ∙ read.config;
         whole = rest.whole ∙ read.whole;

@@ -1,4 +1,4 @@
-use Rattle.std.proofs.Common.{Ok, Err, sym, ◌∙◌, ap, subst}
+use Rattle.std.proofs.Common.{◌≡◌, ◌<◌, [], length, Ok, Err, sym, ◌∙◌, ap, subst}
 use Rattle.std.specs.Prelude.{Result, IsTrue}
 use Rattle.perf_base.specs.Configured.{configuration_of, endian_of}
 use Rattle.perf_base.specs.Header.{header as header_parts}
@@ -6,12 +6,14 @@ use Rattle.perf_base.specs.Refusals.{refusal_kind}
 use Rattle.perf_base.specs.declared.config.ParseConfig.{ParseConfig}
 use Rattle.perf_base.specs.declared.error.ErrorKind.{ErrorKind}
 use Rattle.perf_base.specs.declared.sys.perf_event_header.{perf_event_header}
+use Rattle.perf_base.specs.declared.error.ErrorKind.TheVariants.{Eof}
 use Rattle.perf_reader.specs.Meaning.{Meaning, meaning}
+use Rattle.perf_reader.specs.Reading.{of_layout}
 use Rattle.perf_records.specs.Answers.{AnswersExactly, body_length, answer_behind, reads_behind}
 use Rattle.perf_records.specs.Bodies.{wants_memory}
 use Rattle.perf_records.specs.Records.{record_value}
 use Rattle.perf_records.specs.declared.record.Record.{Record}
-use Rattle.perf_records.proofs.Headers.{header_read, header_unread, tells_frame, tells_no_header, no_header_within, frame_within}
+use Rattle.perf_records.proofs.Headers.{header_read, header_unread, tells_frame, tells_no_header, no_header_within, frame_within, refuses_read, refuses_unread}
 use Rattle.perf_records.proofs.Saying.{took_ran, quit_stopped}
 use Rattle.perf_records.proofs.frame.RecordReadFrom.read.Goals as goal
 
@@ -27,15 +29,17 @@ returns-in-Err g c =
         whole = read.whole;
         told = read.told;
         answer = λ told.
-            let says = read.answer told in (
-              (λ layout.
-                  let q = quit_stopped old.order header_parts old.source.left new.source.left old.reads new.reads kind (says.0 layout) in
-                  let h = header_unread old.order old.source.left new.source.left kind q.0 in
-                  tells_no_header record_value (answer_behind old.settings old.order) (reads_behind old.settings old.order) old new kind h.0 h.1 h.2 q.1 layout),
-              (λ inside. no_header_within old.order old.source new.source kind
-                  (λ layout. header_unread old.order old.source.left new.source.left kind (quit_stopped old.order header_parts old.source.left new.source.left old.reads new.reads kind (says.0 layout)).0)
-                  says.1 inside),
-              (λ whole. (tt, (λ none. says.1))),
+            let says = read.answer told in
+            let unread : IsTrue (of_layout kind) → (length old.source.left < 8) × (kind ≡ Eof) × (new.source.left ≡ []) = λ layout. header_unread old.order old.source.left new.source.left kind (quit_stopped old.order header_parts old.source.left new.source.left old.reads new.reads kind (says.0 layout)).0 in (
+              (
+                (λ layout.
+                    let q = quit_stopped old.order header_parts old.source.left new.source.left old.reads new.reads kind (says.0 layout) in
+                    let h = header_unread old.order old.source.left new.source.left kind q.0 in
+                    tells_no_header record_value (answer_behind old.settings old.order) (reads_behind old.settings old.order) old new kind h.0 h.1 h.2 q.1 layout),
+                (λ inside. no_header_within old.order old.source new.source kind unread says.1 inside),
+                (λ whole. (tt, (λ none. says.1))),
+              ),
+              refuses_unread old.order old.source.left new.source.left kind unread says.1,
             );
         keeps = read.keeps;
       };
@@ -61,9 +65,12 @@ returns-in-Ok-read_behind g c =
         answer = λ told.
             let q = took_ran old.order header_parts old.source.left mid.source.left old.reads mid.reads header (read.answer told).0 in
             let h = header_read old.order old.source.left mid.source.left header q.0 in (
-              tells_frame record_value (answer_behind old.settings old.order) (reads_behind old.settings old.order) old mid new header seen h.0 h.1 h.2 q.1 (subst P read.config (rest.answer (read.told told))),
-              (λ inside. frame_within old.order old.source mid.source new.source header h.0 h.1 h.2 (behind.within (read.told told))),
-              (λ whole. let still = subst IsTrue (sym read.whole) whole in (behind.borrowed still, (λ none. behind.whole_memory still (ap (λ (k : perf_event_header). wants_memory k.type_) h.1 ∙ none)))),
+              (
+                tells_frame record_value (answer_behind old.settings old.order) (reads_behind old.settings old.order) old mid new header seen h.0 h.1 h.2 q.1 (subst P read.config (rest.answer (read.told told))),
+                (λ inside. frame_within old.order old.source mid.source new.source header h.0 h.1 h.2 (behind.within (read.told told))),
+                (λ whole. let still = subst IsTrue (sym read.whole) whole in (behind.borrowed still, (λ none. behind.whole_memory still (ap (λ (k : perf_event_header). wants_memory k.type_) h.1 ∙ none)))),
+              ),
+              refuses_read old.order old.source.left header seen h.0 h.1 (λ small. (behind.small small).0),
             );
         keeps = λ start p. rest.keeps start (read.keeps start p);
       };
@@ -89,9 +96,12 @@ returns-in-Err-read_behind g c =
         answer = λ told.
             let q = took_ran old.order header_parts old.source.left mid.source.left old.reads mid.reads header (read.answer told).0 in
             let h = header_read old.order old.source.left mid.source.left header q.0 in (
-              tells_frame record_value (answer_behind old.settings old.order) (reads_behind old.settings old.order) old mid new header seen h.0 h.1 h.2 q.1 (subst P read.config (rest.answer (read.told told))),
-              (λ inside. frame_within old.order old.source mid.source new.source header h.0 h.1 h.2 (behind.within (read.told told))),
-              (λ whole. let still = subst IsTrue (sym read.whole) whole in (tt, (λ none. behind.whole_memory still (ap (λ (k : perf_event_header). wants_memory k.type_) h.1 ∙ none)))),
+              (
+                tells_frame record_value (answer_behind old.settings old.order) (reads_behind old.settings old.order) old mid new header seen h.0 h.1 h.2 q.1 (subst P read.config (rest.answer (read.told told))),
+                (λ inside. frame_within old.order old.source mid.source new.source header h.0 h.1 h.2 (behind.within (read.told told))),
+                (λ whole. let still = subst IsTrue (sym read.whole) whole in (tt, (λ none. behind.whole_memory still (ap (λ (k : perf_event_header). wants_memory k.type_) h.1 ∙ none)))),
+              ),
+              refuses_read old.order old.source.left header seen h.0 h.1 (λ small. (behind.small small).0),
             );
         keeps = λ start p. rest.keeps start (read.keeps start p);
       };
