@@ -7,7 +7,8 @@ pub use Rattle.perf_base.specs.Header.{header_of}
 pub use Rattle.perf_base.specs.Layout.{Parts, number, optional, byte_string, padding, rest, words, w1, w2}
 pub use Rattle.perf_base.specs.Layout.{w4, w8}
 pub use Rattle.perf_base.specs.LayoutReads.{one_if_any}
-pub use Rattle.perf_base.specs.Refusals.{error_kinds, refused, TakesNoMemory}
+pub use Rattle.perf_base.specs.Refusals.{error_kinds, refused, TakesNoMemory, IsAnswerOf}
+pub use Rattle.perf_base.specs.declared.refusal.Refusal.TheVariants.{SmallHeader, NoRoomForId}
 pub use Rattle.perf_base.specs.declared.sys.perf_event_header.{perf_event_header}
 pub use Rattle.perf_buffers.specs.Cursor.{cursor_lent}
 pub use Rattle.perf_buffers.specs.Room.{falls_short, is_made_beforehand}

@@ -1,6 +1,6 @@
 //! Frames: a header, and the bytes that belong to it.
 
-ghost use Rattle.std.specs.Prelude.{◌≡◌, ◌<◌, false, true, drop, Err, IsTrue, IfOk, IfErr};
+ghost use Rattle.std.specs.Prelude.{◌≡◌, ◌<◌, ◌≤◌, false, true, drop, Err, IsTrue, IfOk, IfErr};
 ghost use Rattle.perf_parser.specs.Words.{Call, SaysBehind, SplitsParser, SplitsFrame, error_kinds};
 ghost use Rattle.perf_parser.specs.Words.{buffer_of, config_of, reads_of, configuration_of};
 ghost use Rattle.perf_parser.specs.Words.{endian_of, TakesNoMemory, body_length, kind_of};
@@ -38,6 +38,8 @@ impl<'p, B: ParseBuf<'p>> ParseRecord<'p, B> for Record<'p> {
         // A size that does not count the header is refused before anything else.
         ensures small { header.size < 8 → (error_kinds result ≡ Err ErrorKind.InvalidRecord)
             × (B.source (buffer_of parser.new) ≡ B.source (buffer_of parser.old)) }
+        ensures small_why { header.size < 8 →
+            IfErr result (λ e. words.IsAnswerOf e words.SmallHeader) }
 
         // Memory is taken by the rules of a cut, and by what the body takes. Where memory for the
         // frame is refused, nothing is taken if all room was made first; where it is refused for
@@ -96,6 +98,13 @@ impl<'p, B: ParseBuf<'p>, E: Endian> Parser<B, E> {
         // A size that does not count the header is refused before anything else.
         ensures small { header.size < 8 → (error_kinds result ≡ Err ErrorKind.InvalidRecord)
             × (B.source (buffer_of self.new) ≡ B.source (buffer_of self.old)) }
+        ensures small_why { header.size < 8 →
+            IfErr result (λ e. words.IsAnswerOf e words.SmallHeader) }
+
+        // With another size it is no record only where there is no room for its sample id.
+        ensures id_why { IsTrue (B.source (buffer_of self.old)).told → 8 ≤ header.size →
+            IfErr result (λ e. kind_of e ≡ ErrorKind.InvalidRecord →
+            words.IsAnswerOf e words.NoRoomForId) }
 
         // Memory is taken by the rules of a cut, and for the order's second.
         ensures nothing { body_length header ≡ 0 →

@@ -38,6 +38,8 @@ impl<'p, B: ParseBuf<'p>, E: Endian> Parser<B, E> {
         // A size that does not count the header is refused before anything else.
         ensures small { header.size < 8 → (error_kinds result ≡ Err ErrorKind.InvalidRecord)
             × (B.source (buffer_of self.new) ≡ B.source (buffer_of self.old)) }
+        ensures small_why { header.size < 8 →
+            IfErr result (λ e. words.IsAnswerOf e words.SmallHeader) }
 
         // Memory is taken by the rules of a cut, and by what the body takes. Where memory for the
         // frame is refused, nothing is taken if all room was made first; where it is refused for

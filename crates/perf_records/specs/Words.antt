@@ -4,6 +4,7 @@ pub use Rattle.perf_base.specs.Cow.{cow_items, is_borrowed}
 pub use Rattle.perf_base.specs.Layout.{value}
 pub use Rattle.perf_base.specs.LayoutReads.{layout_reads}
 pub use Rattle.perf_base.specs.declared.error.ErrorKind.TheVariants.{InvalidRecord, OutOfMemory}
+pub use Rattle.perf_base.specs.declared.refusal.Refusal.TheVariants.{SmallHeader, NoRoomForId}
 pub use Rattle.perf_buffers.specs.Cursor.{cursor_left, cursor_lent}
 pub use Rattle.perf_buffers.specs.Room.{falls_short, is_made_beforehand}
 pub use Rattle.perf_buffers.specs.Taking.{MovesWithin}

@@ -96,6 +96,7 @@ pub(crate) fn take_id<'p, E: Endian>(
     ensures refused { IfErr result (λ e. (refusal_kind e ≡ words.InvalidRecord)
         × (length (cursor_left frame.entry)
         < words.id_length (configuration_of config.now) header.type_)) }
+    ensures why { IfErr result (λ e. e ≡ words.NoRoomForId) }
 {
     if !carries_sample_id(header.type_) {
         return Ok(Taken {
@@ -143,6 +144,11 @@ pub fn split<'p, I: Input<'p>, E: Endian>(
     // A size that does not count the header is refused before anything else.
     ensures small { header.size < 8 → (kinds result ≡ Err words.InvalidRecord)
         × (I.source (input_of reader.new) ≡ I.source (input_of reader.old)) }
+    ensures small_why { header.size < 8 → IfErr result (λ e. e ≡ words.SmallHeader) }
+
+    // With another size it is no record only where there is no room for its sample id.
+    ensures id_why { IsTrue (I.source (input_of reader.old)).told → 8 ≤ header.size →
+        IfErr result (λ e. refusal_kind e ≡ words.InvalidRecord → e ≡ words.NoRoomForId) }
 
     // Memory is taken by the rules of a cut: for nothing none, none where the input says that it
     // has too few bytes, and else all room first, where that is little.
@@ -257,6 +263,7 @@ pub fn visit_behind<'p, I: Input<'p>, E: Endian, V: Visitor<'p>>(
     // A size that does not count the header is refused before anything else.
     ensures small { header.size < 8 → (kinds result ≡ Err words.InvalidRecord)
         × (I.source (input_of reader.new) ≡ I.source (input_of reader.old)) }
+    ensures small_why { header.size < 8 → IfErr result (λ e. e ≡ words.SmallHeader) }
 
     // Memory is taken by the rules of a cut, and by what the body takes. Where memory for the frame
     // is refused, nothing is taken if all room was made first; where it is refused for the body,
@@ -307,6 +314,7 @@ pub fn read_behind<'p, I: Input<'p>, E: Endian>(
     // A size that does not count the header is refused before anything else.
     ensures small { header.size < 8 → (kinds result ≡ Err words.InvalidRecord)
         × (I.source (input_of reader.new) ≡ I.source (input_of reader.old)) }
+    ensures small_why { header.size < 8 → IfErr result (λ e. e ≡ words.SmallHeader) }
 
     // Memory is taken by the rules of a cut, and by what the body takes. Where memory for the frame
     // is refused, nothing is taken if all room was made first; where it is refused for the body,

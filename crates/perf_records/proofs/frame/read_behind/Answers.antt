@@ -29,6 +29,9 @@ returns-in-Err-clause-whole_memory g c = λ whole none. c.in-Err.ensures.whole_m
 pub returns-in-Err-clause-small : goal.returns-in-Err-clause-small
 returns-in-Err-clause-small g c = λ small. let is = c.in-Err.ensures.small small in (cc, is.1)
 
+pub returns-in-Err-clause-small_why : goal.returns-in-Err-clause-small_why
+returns-in-Err-clause-small_why g c = λ small. c.in-Err.ensures.small_why small
+
 pub returns-in-Err-clause-nothing : goal.returns-in-Err-clause-nothing
 returns-in-Err-clause-nothing g c = λ empty none. (c.in-Err.ensures.nothing empty).0
 
@@ -69,6 +72,9 @@ returns-clause-whole_memory g c = λ whole none.
 
 pub returns-clause-small : goal.returns-clause-small
 returns-clause-small g c = λ small. let is = c.in-Ok.ensures.small small in absurd (cc)
+
+pub returns-clause-small_why : goal.returns-clause-small_why
+returns-clause-small_why g c = λ small. let is = c.in-Ok.ensures.small small in absurd (cc)
 
 pub returns-clause-nothing : goal.returns-clause-nothing
 returns-clause-nothing g c = λ empty none.

@@ -9,7 +9,7 @@ use Rattle.perf_base.specs.declared.error.ErrorKind.{ErrorKind}
 use Rattle.perf_base.specs.declared.error.ErrorKind.TheVariants.{InvalidRecord, OutOfMemory}
 use Rattle.perf_buffers.specs.Buffer.{Source, Stays}
 use Rattle.perf_buffers.specs.Cursor.{cursor_left}
-use Rattle.perf_buffers.specs.Taking.{Moves, MovesWithin}
+use Rattle.perf_buffers.specs.Taking.{Moves, MovesWithin, FailsToKeep}
 use Rattle.perf_buffers.proofs.Taking.{takes_moves}
 use Rattle.perf_reader.specs.Calls.{Call}
 use Rattle.perf_reader.specs.Meaning.{Meaning, meaning}
@@ -125,6 +125,13 @@ returns-in-Err-clause-whole_memory g c = λ whole. c.in-Err.ensures.whole_memory
 pub returns-in-Err-clause-small : goal.returns-in-Err-clause-small
 returns-in-Err-clause-small g c = λ small. absurd (omega arith)
 
+pub returns-in-Err-clause-small_why : goal.returns-in-Err-clause-small_why
+returns-in-Err-clause-small_why g c = λ small. absurd (omega arith)
+
+pub returns-in-Err-clause-id_why : goal.returns-in-Err-clause-id_why
+returns-in-Err-clause-id_why g c = λ told sized no.
+    absurd (subst (λ k. FailsToKeep (g.I.Input.source c.args.reader.now.input) (body_length c.args.header) k (g.I.Input.source c.cut.new.self.input)) no (c.in-Err.ensures.err told))
+
 pub returns-in-Err-clause-nothing : goal.returns-in-Err-clause-nothing
 returns-in-Err-clause-nothing g c = λ empty. let no = (c.in-Err.ensures.nothing empty).1 in absurd (cc)
 
@@ -155,6 +162,12 @@ returns-in-Ok-take_id-clause-whole_memory g c = λ whole. tt
 
 pub returns-in-Ok-take_id-clause-small : goal.returns-in-Ok-take_id-clause-small
 returns-in-Ok-take_id-clause-small g c = λ small. absurd (omega arith)
+
+pub returns-in-Ok-take_id-clause-small_why : goal.returns-in-Ok-take_id-clause-small_why
+returns-in-Ok-take_id-clause-small_why g c = λ small. tt
+
+pub returns-in-Ok-take_id-clause-id_why : goal.returns-in-Ok-take_id-clause-id_why
+returns-in-Ok-take_id-clause-id_why g c = λ told sized. tt
 
 pub returns-in-Ok-take_id-clause-nothing : goal.returns-in-Ok-take_id-clause-nothing
 returns-in-Ok-take_id-clause-nothing g c = λ empty. (tt, subst IsTrue (sym c.in-Ok-take_id.ensures.form) (c.in-Ok.ensures.nothing empty).0)
@@ -198,6 +211,12 @@ returns-in-Err-take_id-clause-whole_memory g c = λ whole memory. invalid_no_mem
 pub returns-in-Err-take_id-clause-small : goal.returns-in-Err-take_id-clause-small
 returns-in-Err-take_id-clause-small g c = λ small. absurd (omega arith)
 
+pub returns-in-Err-take_id-clause-small_why : goal.returns-in-Err-take_id-clause-small_why
+returns-in-Err-take_id-clause-small_why g c = λ small. absurd (omega arith)
+
+pub returns-in-Err-take_id-clause-id_why : goal.returns-in-Err-take_id-clause-id_why
+returns-in-Err-take_id-clause-id_why g c = λ told sized no. c.in-Err-take_id.ensures.why
+
 pub returns-in-Err-take_id-clause-nothing : goal.returns-in-Err-take_id-clause-nothing
 returns-in-Err-take_id-clause-nothing g c = λ empty. ((λ memory. invalid_no_memory _ c.in-Err-take_id.ensures.refused.0 memory), tt)
 
@@ -226,6 +245,12 @@ returns-then-header-lt8-clause-whole_memory g c = λ whole memory. invalid_no_me
 
 pub returns-then-header-lt8-clause-small : goal.returns-then-header-lt8-clause-small
 returns-then-header-lt8-clause-small g c = λ small. (refl, refl)
+
+pub returns-then-header-lt8-clause-small_why : goal.returns-then-header-lt8-clause-small_why
+returns-then-header-lt8-clause-small_why g c = λ small. refl
+
+pub returns-then-header-lt8-clause-id_why : goal.returns-then-header-lt8-clause-id_why
+returns-then-header-lt8-clause-id_why g c = λ told sized. absurd (omega arith)
 
 pub returns-then-header-lt8-clause-nothing : goal.returns-then-header-lt8-clause-nothing
 returns-then-header-lt8-clause-nothing g c = λ empty. ((λ memory. invalid_no_memory _ refl memory), tt)

@@ -76,7 +76,13 @@ returns-clause-parts g c =
 pub returns-clause-refused : goal.returns-clause-refused
 returns-clause-refused g c = tt
 
+pub returns-clause-why : goal.returns-clause-why
+returns-clause-why g c = tt
+
 -- ---- there is no room for it
+pub returns-then-len-clause-why : goal.returns-then-len-clause-why
+returns-then-len-clause-why g c = refl
+
 pub returns-then-len-clause-parts : goal.returns-then-len-clause-parts
 returns-then-len-clause-parts g c = tt
 

@@ -1,5 +1,6 @@
-use Rattle.std.proofs.Common.{◌≡◌, Err, None, sym, subst}
+use Rattle.std.proofs.Common.{◌≡◌, Err, None, sym, ◌∙◌, subst}
 use Rattle.perf_base.specs.Errors.{kind_of}
+use Rattle.perf_base.specs.Refusals.{IsAnswerOf}
 use Rattle.perf_base.specs.declared.error.ErrorKind.TheVariants.{OutOfMemory}
 use Rattle.perf_reader.specs.Meaning.{Meaning}
 use Rattle.perf_reader.proofs.Paying.{keeps_none}
@@ -65,3 +66,23 @@ returns-in-Ok-duplicate-clause-within g c = c.in-Ok.ensures.within
 
 pub returns-clause-within : goal.returns-clause-within
 returns-clause-within g c = c.in-Ok.ensures.within
+
+-- with what message it is refused
+
+pub returns-in-Err-clause-small_why : goal.returns-in-Err-clause-small_why
+returns-in-Err-clause-small_why g c = λ small. subst (IsAnswerOf c.answer.result) (c.in-Err.ensures.small_why small) c.answer.ensures.error
+
+pub returns-in-Ok-duplicate-clause-small_why : goal.returns-in-Ok-duplicate-clause-small_why
+returns-in-Ok-duplicate-clause-small_why g c = λ small. tt
+
+pub returns-clause-small_why : goal.returns-clause-small_why
+returns-clause-small_why g c = λ small. let is = c.in-Ok.ensures.small small in absurd (cc)
+
+pub returns-in-Err-clause-id_why : goal.returns-in-Err-clause-id_why
+returns-in-Err-clause-id_why g c = λ told sized no. subst (IsAnswerOf c.answer.result) (c.in-Err.ensures.id_why told sized (sym c.answer.ensures.error.kind_is ∙ no)) c.answer.ensures.error
+
+pub returns-in-Ok-duplicate-clause-id_why : goal.returns-in-Ok-duplicate-clause-id_why
+returns-in-Ok-duplicate-clause-id_why g c = λ told sized. tt
+
+pub returns-clause-id_why : goal.returns-clause-id_why
+returns-clause-id_why g c = λ told sized no. absurd (cc (c.in-Err-duplicate.ensures.refused.0))

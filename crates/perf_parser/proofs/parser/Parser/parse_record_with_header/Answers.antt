@@ -1,4 +1,5 @@
-use Rattle.std.proofs.Common.{rules, ◌∙◌, sym, ap, Err}
+use Rattle.std.proofs.Common.{rules, ◌∙◌, sym, ap, subst, Err}
+use Rattle.perf_base.specs.Refusals.{IsAnswerOf}
 use Rattle.perf_parser.proofs.Lifting.{lifted, answered}
 use Rattle.perf_parser.proofs.parser.Parser.parse_record_with_header.Goals as goal
 
@@ -15,6 +16,9 @@ returns-in-Ok-clause-whole_memory g c = c.in-Ok.ensures.whole_memory
 
 pub returns-in-Ok-clause-small : goal.returns-in-Ok-clause-small
 returns-in-Ok-clause-small g c = c.in-Ok.ensures.small
+
+pub returns-in-Ok-clause-small_why : goal.returns-in-Ok-clause-small_why
+returns-in-Ok-clause-small_why g c = λ small. tt
 
 pub returns-in-Ok-clause-nothing : goal.returns-in-Ok-clause-nothing
 returns-in-Ok-clause-nothing g c = c.in-Ok.ensures.nothing
@@ -46,6 +50,9 @@ pub returns-in-Err-clause-small : goal.returns-in-Err-clause-small
 returns-in-Err-clause-small g c = λ small.
     let said = c.in-Err.ensures.small small in
     (ap (λ k. Err k) c.answer.ensures.error.kind_is ∙ said.0, ap g.B.ParseBuf.source c.answer.ensures.buf ∙ said.1)
+
+pub returns-in-Err-clause-small_why : goal.returns-in-Err-clause-small_why
+returns-in-Err-clause-small_why g c = λ small. subst (IsAnswerOf c.answer.result) (c.in-Err.ensures.small_why small) c.answer.ensures.error
 
 pub returns-in-Err-clause-nothing : goal.returns-in-Err-clause-nothing
 returns-in-Err-clause-nothing g c = λ none wants. rw c.answer.ensures.error.kind_is (c.in-Err.ensures.nothing none wants)
