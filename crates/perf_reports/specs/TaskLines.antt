@@ -1,9 +1,12 @@
 -- The lines that the program prints, without the line feeds behind them.
-use Rattle.std.specs.Prelude.{ℕ, false, List, [], ◌∷◌, ◌++◌, ◌/◌, ◌%◌, ◌==◌, if◌then◌else◌, Option}
-use Rattle.std.specs.Prelude.{Some, None, codes, decimal, bit_and}
+use Rattle.std.specs.Prelude.{◌≡◌, ◌≤◌, ℕ, zero, suc, false, Bool, not, ◌&&◌, List, [], ◌∷◌, ◌++◌, ◌/◌, ◌%◌, ◌==◌}
+use Rattle.std.specs.Prelude.{nat_le, if◌then◌else◌, length, take, drop, Option, Some, None, codes, decimal}
+use Rattle.std.specs.Prelude.{bit_and, encode_utf8}
 use Rattle.std.specs.Fmt.{digits}
-use Rattle.std.specs.List.{flat_map, join_by, join_with_byte}
-use Rattle.std.specs.Str.Lossy.{utf8_lossy}
+use Rattle.std.specs.Int.{is_in_range}
+use Rattle.std.specs.List.{All, flat_map, join_by, join_with_byte}
+use Rattle.std.specs.Str.{chars}
+use Rattle.std.specs.Str.Lossy.{utf8_valid_len, utf8_invalid_len, after_first_chunk}
 use Rattle.perf_types.specs.declared.exit.Exit.{Exit}
 use Rattle.perf_types.specs.declared.namespaces.NamespaceEntry.{NamespaceEntry}
 use Rattle.perf_types.specs.Comm.{CommValue}
@@ -58,6 +61,50 @@ file (build_id_is id) = flat_map hex_byte id
 abbrev pub namespace : NamespaceEntry → List ℕ
 namespace entry = decimal entry.dev ++ (codes ":" ++ hex entry.inode)
 
+-- ---- names
+
+-- `\x` and the two digits of a byte
+abbrev pub escaped_byte : ℕ → List ℕ
+escaped_byte byte = codes "\\x" ++ hex_byte byte
+
+-- whether a character of a name stays as it is: every character does but the control characters, which
+-- are those below 32 and those from 127 to 159, and the backslash, 92
+abbrev pub stays : ℕ → Bool
+stays c = nat_le 32 c && (not (c == 92) && not (is_in_range 127 159 c))
+
+-- a character in UTF-8, or each of its bytes escaped
+abbrev pub escaped_char : ℕ → List ℕ
+escaped_char c = if stays c then encode_utf8 c else flat_map escaped_byte (encode_utf8 c)
+
+-- UTF-8 in which the characters that do not stay are escaped
+abbrev pub escaped_text : List ℕ → List ℕ
+escaped_text text = flat_map escaped_char (chars text)
+
+-- the longest part at the front of some bytes that is UTF-8
+abbrev pub text_in_front : List ℕ → List ℕ
+text_in_front bytes = take (utf8_valid_len bytes) bytes
+
+-- the invalid bytes after that part, up to where a character may begin again
+abbrev pub invalid_after : List ℕ → List ℕ
+invalid_after bytes =
+    let left = drop (utf8_valid_len bytes) bytes in take (utf8_invalid_len left) left
+
+-- `escaped`, of at most so many parts with the invalid bytes after each
+abbrev pub escaped_within : ℕ → List ℕ → List ℕ
+escaped_within zero bytes = []
+escaped_within (suc most) bytes =
+    escaped_text (text_in_front bytes) ++ (flat_map escaped_byte (invalid_after bytes)
+    ++ escaped_within most (after_first_chunk bytes))
+
+-- the bytes of a name as text: a byte that is not part of UTF-8 is escaped, and so is each byte of a
+-- character that does not stay
+abbrev pub escaped : List ℕ → List ℕ
+escaped bytes = escaped_within (length bytes) bytes
+
+-- no byte of a line is a control character of ASCII: none is below 32, and none is 127
+abbrev pub HasNoControl : List ℕ → Type 0
+HasNoControl line = All (λ byte. (32 ≤ byte) × ¬ (byte ≡ 127)) line
+
 -- ---- lines
 
 -- what it tells of, which task, and what it says
@@ -66,20 +113,20 @@ line what pid tid says = spaced (what ∷ decimal pid ∷ decimal tid ∷ says �
 
 -- a task got a name
 abbrev pub comm_line : CommValue → List ℕ
-comm_line r = line (codes "comm") r.pid r.tid (utf8_lossy r.comm)
+comm_line r = line (codes "comm") r.pid r.tid (escaped r.comm)
 
 -- something was mapped: where it lies, and its name
 abbrev pub mmap_line : MmapValue → List ℕ
 mmap_line r =
     line (codes "mmap") r.pid r.tid
-    (spaced (place r.addr r.len r.pgoff ∷ utf8_lossy r.filename ∷ []))
+    (spaced (place r.addr r.len r.pgoff ∷ escaped r.filename ∷ []))
 
 -- the same, with which file it is and how its memory may be used
 abbrev pub mmap2_line : Mmap2Value → List ℕ
 mmap2_line r =
     line (codes "mmap2") r.pid r.tid
     (spaced (place r.addr r.len r.pgoff ∷ file r.detail ∷ protection r.prot r.flags
-    ∷ utf8_lossy r.filename ∷ []))
+    ∷ escaped r.filename ∷ []))
 
 -- a task that was made or that ended, and the one that made it or its parent
 abbrev pub task_line : List ℕ → Exit → List ℕ

@@ -5,6 +5,7 @@
 
 mod backward;
 pub mod counts;
+mod names;
 pub mod printing;
 pub mod samples;
 pub mod streams;

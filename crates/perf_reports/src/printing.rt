@@ -34,12 +34,12 @@ pub enum Report {
 impl Report {
     // Appends the line of a record and a line feed behind it. Of records that it does not tell of it
     // appends nothing.
-    fn push_line(self, alloc: Global, text: &mut String, found: &Record) -> Result<(), AllocError>
+    fn push_line(self, text: &mut String, found: &Record) -> Result<(), AllocError>
         ensures { OnOk result (string_bytes text.new
             ≡ string_bytes text.old ++ printed self (values.record_value found.now)) }
     {
         let told = match self {
-            Report::Tasks => tasks::push_line(alloc, text, found)?,
+            Report::Tasks => tasks::push_line(text, found)?,
             Report::Samples => samples::push_line(text, found)?,
         };
         if told {
@@ -73,7 +73,6 @@ impl Lines {
     // before it go out first.
     fn add<W: Write>(
         &mut self,
-        alloc: Global,
         output: &mut W,
         report: Report,
         found: &Record,
@@ -83,7 +82,7 @@ impl Lines {
             (printed report (values.record_value found.now))) }
     {
         self.next.clear();
-        if let Err(error) = report.push_line(alloc, &mut self.next, found) {
+        if let Err(error) = report.push_line(&mut self.next, found) {
             self.send(output)?;
             return Err(error.into());
         }
@@ -144,7 +143,7 @@ fn print_records<'p, B: ParseBuf<'p>, W: Write, E: Write>(
         let run = read_records(parser, BATCH);
         clean &= is_clean(&run.frames);
         let mut lines = Lines::new(alloc);
-        print_frames(alloc, &mut lines, &run.frames, output, errors, report)?;
+        print_frames(&mut lines, &run.frames, output, errors, report)?;
         match run.end {
             RunEnd::Limit => {}
             RunEnd::Done => break,
@@ -158,7 +157,6 @@ fn print_records<'p, B: ParseBuf<'p>, W: Write, E: Write>(
 // Prints the line of each record that has one, and why others were refused. What was gathered goes
 // out before an error is printed, and in the end.
 fn print_frames<W: Write, E: Write>(
-    alloc: Global,
     lines: &mut Lines,
     frames: &[(perf_event_header, ParseResult<Record>)],
     output: &mut W,
@@ -171,7 +169,7 @@ fn print_frames<W: Write, E: Write>(
 {
     for (_, answer) in frames {
         match answer {
-            Ok(record) => lines.add(alloc, output, report, record)?,
+            Ok(record) => lines.add(output, report, record)?,
             Err(error) => {
                 lines.send(output)?;
                 write!(errors, "{error}\n")?;

@@ -1,13 +1,13 @@
 //! The line of a record that tells of a task.
 
 ghost use Rattle.std.specs.Prelude.{◌≡◌, ◌+◌, ◌-◌, ◌*◌, ◌≤◌, ◌++◌, length, drop, option_map, unwrap_or, is_some};
-ghost use Rattle.std.specs.Prelude.{string_bytes, Some, None, codes, decimal, IfOk, IsOk, OnOk, IsUtf8, []};
+ghost use Rattle.std.specs.Prelude.{string_bytes, Some, None, codes, decimal, IfOk, IfSome, IsOk, OnOk, IsUtf8, []};
 ghost use Rattle.std.specs.List.{flat_map, join_by};
-ghost use Rattle.std.specs.Str.Lossy.{utf8_lossy};
 ghost use Rattle.perf_records.specs.Records as values;
 ghost use Rattle.perf_reports.specs.TaskLines as printed;
 
 use crate::backward::{ROOM, push_written, put_decimal, put_hex, put_pair, put_str};
+use crate::names::push_name;
 use perf_event_data::{Comm, Exit, Mmap, Mmap2, NamespaceEntry, Namespaces, Record};
 use std::alloc::{AllocError, Global};
 
@@ -28,13 +28,18 @@ const BYTES: usize = 128;
 
 /// The line of a record that tells of a task, without the line feed behind it. Other records have
 /// none, and take no memory.
+///
+/// No name can add a line of its own, or reach a terminal as a command: in a name each byte that is a
+/// control character, a backslash or not part of UTF-8 becomes `\x` and two hexadecimal digits.
 pub fn line_of(alloc: Global, found: &Record) -> Result<Option<String>, AllocError>
     ensures line { IfOk result (λ line.
         option_map string_bytes line ≡ printed.line_of (values.record_value found.now)) }
     ensures no_memory { printed.line_of (values.record_value found.now) ≡ None → IsOk result }
+    ensures no_control { IfOk result (λ line.
+        IfSome line (λ text. printed.HasNoControl (string_bytes text))) }
 {
     let mut line = String::new(alloc);
-    if push_line(alloc, &mut line, found)? {
+    if push_line(&mut line, found)? {
         Ok(Some(line))
     } else {
         Ok(None)
@@ -42,11 +47,7 @@ pub fn line_of(alloc: Global, found: &Record) -> Result<Option<String>, AllocErr
 }
 
 // Appends the line of a record that tells of a task, and says whether it does.
-pub(crate) fn push_line(
-    alloc: Global,
-    text: &mut String,
-    found: &Record,
-) -> Result<bool, AllocError>
+pub(crate) fn push_line(text: &mut String, found: &Record) -> Result<bool, AllocError>
     ensures line { OnOk result (string_bytes text.new
         ≡ string_bytes text.old ++ unwrap_or (printed.line_of (values.record_value found.now)) []) }
     ensures told { IfOk result (λ told.
@@ -54,9 +55,9 @@ pub(crate) fn push_line(
     ensures no_memory { printed.line_of (values.record_value found.now) ≡ None → IsOk result }
 {
     match found {
-        Record::Comm(comm) => push_comm(alloc, text, comm)?,
-        Record::Mmap(map) => push_mmap(alloc, text, map)?,
-        Record::Mmap2(map) => push_mmap2(alloc, text, map)?,
+        Record::Comm(comm) => push_comm(text, comm)?,
+        Record::Mmap(map) => push_mmap(text, map)?,
+        Record::Mmap2(map) => push_mmap2(text, map)?,
         Record::Fork(fork) => push_task(text, "fork", fork)?,
         Record::Exit(exit) => push_task(text, "exit", exit)?,
         Record::Namespaces(namespaces) => push_namespaces(text, namespaces)?,
@@ -65,17 +66,17 @@ pub(crate) fn push_line(
     Ok(true)
 }
 
-fn push_comm(alloc: Global, text: &mut String, comm: &Comm) -> Result<(), AllocError>
+fn push_comm(text: &mut String, comm: &Comm) -> Result<(), AllocError>
     ensures { OnOk result (string_bytes text.new
         ≡ string_bytes text.old ++ printed.comm_line (values.comm_value comm.now)) }
 {
     let mut buffer = [0; ROOM];
     let start = put_head(&mut buffer, ROOM, "comm", comm.pid, comm.tid);
     push_written(text, &buffer, start)?;
-    push_name(alloc, text, comm.comm.as_slice())
+    push_name(text, comm.comm.as_slice())
 }
 
-fn push_mmap(alloc: Global, text: &mut String, map: &Mmap) -> Result<(), AllocError>
+fn push_mmap(text: &mut String, map: &Mmap) -> Result<(), AllocError>
     ensures { OnOk result (string_bytes text.new
         ≡ string_bytes text.old ++ printed.mmap_line (values.mmap_value map.now)) }
 {
@@ -84,10 +85,10 @@ fn push_mmap(alloc: Global, text: &mut String, map: &Mmap) -> Result<(), AllocEr
     let place = put_place(&mut buffer, space, map.addr, map.len, map.pgoff);
     let start = put_head(&mut buffer, place, "mmap", map.pid, map.tid);
     push_written(text, &buffer, start)?;
-    push_name(alloc, text, map.filename.as_slice())
+    push_name(text, map.filename.as_slice())
 }
 
-fn push_mmap2(alloc: Global, text: &mut String, map: &Mmap2) -> Result<(), AllocError>
+fn push_mmap2(text: &mut String, map: &Mmap2) -> Result<(), AllocError>
     ensures { OnOk result (string_bytes text.new
         ≡ string_bytes text.old ++ printed.mmap2_line (values.mmap2_value map.now)) }
 {
@@ -98,7 +99,7 @@ fn push_mmap2(alloc: Global, text: &mut String, map: &Mmap2) -> Result<(), Alloc
     push_written(text, &buffer, start)?;
     push_file(text, &mut buffer, map)?;
     push_protection(text, &mut buffer, map.prot, map.flags)?;
-    push_name(alloc, text, map.filename.as_slice())
+    push_name(text, map.filename.as_slice())
 }
 
 // A task that was made or that ended, and the one that made it or its parent.
@@ -145,18 +146,6 @@ fn put_head(buffer: &mut [u8; ROOM], end: usize, what: &str, pid: u32, tid: u32)
     let pid = put_decimal(buffer, behind_pid, u64::from(pid));
     let behind_what = put_str(buffer, pid, " ");
     put_str(buffer, behind_what, what)
-}
-
-// Appends a name as text, with U+FFFD for what is not UTF-8.
-fn push_name(alloc: Global, text: &mut String, bytes: &[u8]) -> Result<(), AllocError>
-    ensures { OnOk result (string_bytes text.new
-        ≡ string_bytes text.old ++ utf8_lossy bytes.now) }
-{
-    if let Ok(name) = str::from_utf8(bytes) {
-        return text.push_str(name);
-    }
-    let name = String::from_utf8_lossy(alloc, bytes)?;
-    text.push_str(name.as_str())
 }
 
 // Where a mapping lies in memory, its length, and where it begins in the file.
@@ -245,7 +234,7 @@ fn put_bytes(buffer: &mut [u8; ROOM], bytes: &[u8]) -> usize
 
 // The digits of a byte.
 #[inline]
-fn put_hex_byte(buffer: &mut [u8; ROOM], end: usize, byte: u8) -> usize
+pub(crate) fn put_hex_byte(buffer: &mut [u8; ROOM], end: usize, byte: u8) -> usize
     requires { (2 ≤ end) × (end ≤ ROOM) }
     ensures start { result + 2 ≡ end }
     ensures written { drop result buffer.new ≡ printed.hex_byte byte ++ drop end buffer.old }

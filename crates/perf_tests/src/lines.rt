@@ -44,15 +44,44 @@ fn build_id_stands_for_the_file(rt: HostRuntime) {
     check_line(&rt, Report::Tasks, Ok(record), want);
 }
 
+// Names, and how they stand in a line.
+const NAMES: [(&[u8], &str); 9] = [
+    (b"sh\nexit 1", "comm 1 2 sh\\x0aexit 1"),
+    (b"\x1b[2J", "comm 1 2 \\x1b[2J"),
+    (b"a\xffb", "comm 1 2 a\\xffb"),
+    (b"\\", "comm 1 2 \\x5c"),
+    (b"\xc3\xa9", "comm 1 2 \u{e9}"),
+    (
+        b"\xc2\x85 \xc2\x9f \xc2\xa0",
+        "comm 1 2 \\xc2\\x85 \\xc2\\x9f \u{a0}",
+    ),
+    (b"\x1f \x7f~", "comm 1 2 \\x1f \\x7f~"),
+    (b"a\xe2\x82", "comm 1 2 a\\xe2\\x82"),
+    (b"", "comm 1 2 "),
+];
+
 #[test]
-fn name_need_not_be_text(rt: HostRuntime) {
-    let comm = CowSlice::Borrowed(b"a\xffb".as_slice());
-    let record = Record::Comm(Comm {
-        pid: 1,
-        tid: 2,
-        comm,
-    });
-    check_line(&rt, Report::Tasks, Ok(record), "comm 1 2 a\u{FFFD}b");
+fn a_name_cannot_forge_a_line(rt: HostRuntime) {
+    for (name, want) in NAMES {
+        let record = Record::Comm(Comm {
+            pid: 1,
+            tid: 2,
+            comm: CowSlice::Borrowed(name),
+        });
+        check_line(&rt, Report::Tasks, Ok(record), want);
+    }
+}
+
+#[test]
+fn nor_can_a_path(rt: HostRuntime) {
+    let detail = MmapDetail::BuildId {
+        build_id: BUILD_ID,
+        len: 3,
+    };
+    let filename = CowSlice::Borrowed(b"/tmp/a\nexit 1 1 1 1".as_slice());
+    let record = Record::Mmap2(Mmap2::from_parts(1, 2, 4096, 8192, 0, 6, 1, filename, detail));
+    let want = "mmap2 1 2 0x1000 0x2000 0x0 0fa100 -wxs /tmp/a\\x0aexit 1 1 1 1";
+    check_line(&rt, Report::Tasks, Ok(record), want);
 }
 
 #[test]

@@ -1,0 +1,9 @@
+use Rattle.std.proofs.Common.{arith, append_assoc}
+use Rattle.perf_reports.proofs.Escaped.{escaped_chunk}
+use Rattle.perf_reports.proofs.names.push_name.Goals as goal
+
+pub loop-chunk-preserved : goal.loop-chunk-preserved
+loop-chunk-preserved c =
+    let steps = c.in-Some.ensures.steps in
+    let chunk = escaped_chunk _ _ _ _ (omega (arith, steps.1)) steps.0 steps.3.0 steps.3.1 in
+    rw (c.in_ok-push_escaped.ensures, c.invalid.ensures, c.in_ok-push_text.ensures, c.valid.ensures, append_assoc, append_assoc) (rw chunk at c.loop-chunk.invariant)

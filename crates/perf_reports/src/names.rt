@@ -1,0 +1,78 @@
+//! The name in a line that tells of a task.
+
+ghost use Rattle.std.specs.Prelude.{◌≡◌, ◌++◌, string_bytes, OnOk};
+ghost use Rattle.std.specs.List.{flat_map};
+ghost use Rattle.perf_reports.specs.TaskLines as printed;
+
+use crate::backward::{ROOM, push_written, put_str};
+use crate::tasks::put_hex_byte;
+use std::alloc::AllocError;
+
+// Appends the bytes of a name as text. Each byte of a control character or a backslash, and each byte
+// that is not part of UTF-8, is escaped.
+pub(crate) fn push_name(text: &mut String, bytes: &[u8]) -> Result<(), AllocError>
+    ensures { OnOk result (string_bytes text.new
+        ≡ string_bytes text.old ++ printed.escaped bytes.now) }
+{
+    for chunk in bytes.utf8_chunks() {
+        push_text(text, chunk.valid())?;
+        push_escaped(text, chunk.invalid())?;
+    }
+    Ok(())
+}
+
+// Appends text, in one piece if nothing in it has to be escaped.
+fn push_text(text: &mut String, part: &str) -> Result<(), AllocError>
+    ensures { OnOk result (string_bytes text.new
+        ≡ string_bytes text.old ++ printed.escaped_text part.now) }
+{
+    if part.chars().all(stays) {
+        return text.push_str(part);
+    }
+    for character in part.chars() {
+        push_char(text, character)?;
+    }
+    Ok(())
+}
+
+// Whether a character stays as it is: it is neither a control character nor a backslash.
+#[inline]
+fn stays(character: char) -> bool
+    ensures { result ≡ printed.stays character }
+{
+    let code = u32::from(character);
+    32 <= code && code != 92 && !(127 <= code && code < 160)
+}
+
+// Appends a character, or each of its bytes escaped.
+fn push_char(text: &mut String, character: char) -> Result<(), AllocError>
+    ensures { OnOk result (string_bytes text.new
+        ≡ string_bytes text.old ++ printed.escaped_char character) }
+{
+    if stays(character) {
+        return text.push(character);
+    }
+    push_escaped(text, character.encode_utf8(&mut [0; 4]).as_bytes())
+}
+
+// Appends bytes, each of them escaped.
+fn push_escaped(text: &mut String, bytes: &[u8]) -> Result<(), AllocError>
+    ensures { OnOk result (string_bytes text.new
+        ≡ string_bytes text.old ++ flat_map printed.escaped_byte bytes.now) }
+{
+    for byte in bytes {
+        push_escape(text, *byte)?;
+    }
+    Ok(())
+}
+
+// Appends `\x` and the two digits of a byte.
+fn push_escape(text: &mut String, byte: u8) -> Result<(), AllocError>
+    ensures { OnOk result (string_bytes text.new
+        ≡ string_bytes text.old ++ printed.escaped_byte byte) }
+{
+    let mut buffer = [0; ROOM];
+    let digits = put_hex_byte(&mut buffer, ROOM, byte);
+    let start = put_str(&mut buffer, digits, "\\x");
+    push_written(text, &buffer, start)
+}
