@@ -1,15 +1,16 @@
 -- What goes out in steps.
-use Rattle.std.proofs.Common.{◌≡◌, ℕ, ◌+◌, ◌<◌, List, [], ◌∷◌, ◌++◌, ◌∙◌, Option, Some, None, length, take, get_or, sym, ap, append_assoc, append-nil}
-use Rattle.std.specs.Io.KnownBytes.{Appends}
+use Rattle.std.proofs.Common.{◌≡◌, ℕ, ◌+◌, ◌<◌, List, [], ◌∷◌, ◌++◌, ◌∙◌, Option, Some, None, length, take, drop, get_or, refl, sym, ap, subst, append_assoc, append-nil}
+use Rattle.std.specs.Io.KnownBytes.{Appends, Keeps}
 use Rattle.std.specs.Prelude.{Result}
-use Rattle.std.proofs.lemmas.List.{take_more, map-append}
+use Rattle.std.proofs.lemmas.List.{take_more, take-append-drop, map-append}
 use Rattle.std.proofs.lemmas.Grind.{flat_map-append}
+use lib.Seq.{drop_at}
 use Rattle.perf_base.specs.declared.sys.perf_event_header.{perf_event_header}
 use Rattle.perf_base.specs.declared.error.ParseError.{ParseError}
 use Rattle.perf_records.specs.declared.record.Record.{Record}
 use Rattle.perf_parser.specs.Runs.{seen_answer, seen_answers}
 use Rattle.perf_reports.specs.declared.printing.Report.{Report}
-use Rattle.perf_reports.specs.Printing.{printed_answer, printed_answers, Grows}
+use Rattle.perf_reports.specs.Printing.{printed_answer, printed_answers, error_line, error_lines, Grows, GrowsWithin}
 
 pub grown : (a b c : Option (List ℕ)) (waited between waits first second : List ℕ) → Grows a b waited between first → Grows b c between waits second → Grows a c waited waits (first ++ second)
 grown None b c waited between waits first second p q = tt
@@ -24,6 +25,98 @@ sent None b waited waits p q = tt
 sent (Some xs) None waited waits p q = absurd p
 sent (Some xs) (Some ys) waited waits p q = rw (q, append-nil ys, append-nil waited) p
 
+-- nothing went out yet
+pub none_sent : (a : Option (List ℕ)) (waited : List ℕ) → Grows a a waited waited []
+none_sent None waited = tt
+none_sent (Some xs) waited = ap (λ s. xs ++ s) (sym (append-nil waited))
+
+-- what waits goes out after the rest
+pub flushed : (a b c : Option (List ℕ)) (waited waits text : List ℕ) → Grows a b waited waits text → Appends b c waits → Appends a c (waited ++ text)
+flushed None b c waited waits text p q = tt
+flushed (Some xs) None c waited waits text p q = absurd p
+flushed (Some xs) (Some ys) None waited waits text p q = absurd q
+flushed (Some xs) (Some ys) (Some zs) waited waits text p q = q ∙ p
+
+-- ---- one write after another
+
+pub appends_more : (a b c : Option (List ℕ)) (first second : List ℕ) → Appends a b first → Appends b c second → Appends a c (first ++ second)
+appends_more None b c first second p q = tt
+appends_more (Some xs) None c first second p q = absurd p
+appends_more (Some xs) (Some ys) None first second p q = absurd q
+appends_more (Some xs) (Some ys) (Some zs) first second p q = q ∙ ap (λ s. s ++ second) p ∙ append_assoc xs first second
+
+pub appends_kept : (a b c : Option (List ℕ)) (text : List ℕ) → Appends a b text → Keeps b c → Appends a c text
+appends_kept None b c text p q = tt
+appends_kept (Some xs) None c text p q = absurd p
+appends_kept (Some xs) (Some ys) None text p q = absurd q
+appends_kept (Some xs) (Some ys) (Some zs) text p q = q ∙ p
+
+pub appends_none : (a : Option (List ℕ)) → Appends a a []
+appends_none None = tt
+appends_none (Some xs) = sym (append-nil xs)
+
+-- ---- a part of what was to go out
+
+cancel : (xs ys zs : List ℕ) → xs ++ ys ≡ xs ++ zs → ys ≡ zs
+cancel xs ys zs e = sym (drop_at xs ys (length xs) refl) ∙ ap (drop (length xs)) e ∙ drop_at xs zs (length xs) refl
+
+pub taken : (n : ℕ) (xs : List ℕ) → take n xs ++ drop n xs ≡ xs
+taken n xs = take-append-drop n xs
+
+pub within : (a b : Option (List ℕ)) (text more : List ℕ) → (n : ℕ) × Appends a b (take n text) → GrowsWithin a b (text ++ more)
+within a b text more (n, p) = (take n text, drop n text ++ more, sym (append_assoc (take n text) (drop n text) more) ∙ ap (λ s. s ++ more) (taken n text), p)
+
+pub longer : (a b : Option (List ℕ)) (text more : List ℕ) → GrowsWithin a b text → GrowsWithin a b (text ++ more)
+longer a b text more (written, left, e, p) = (written, left ++ more, sym (append_assoc written left more) ∙ ap (λ s. s ++ more) e, p)
+
+-- a part of the second text goes out after a part of the first, of which the rest waited
+pub within_more : (a b c : Option (List ℕ)) (waited between first second : List ℕ) → GrowsWithin a b (waited ++ first) → Grows a b waited between first → GrowsWithin b c (between ++ second) → GrowsWithin a c (waited ++ (first ++ second))
+within_more None b c waited between first second p q r = ([], waited ++ (first ++ second), refl, tt)
+within_more (Some xs) None c waited between first second p q r = absurd q
+within_more (Some xs) (Some ys) None waited between first second p q (w, l, e, r) = absurd r
+within_more (Some xs) (Some ys) (Some zs) waited between first second (v, k, d, p) q (w, l, e, r) =
+    let rest : v ++ between ≡ waited ++ first = cancel xs (v ++ between) (waited ++ first) (sym (append_assoc xs v between) ∙ ap (λ s. s ++ between) (sym p) ∙ q) in (
+      v ++ w,
+      l,
+      append_assoc v w l ∙ ap (λ s. v ++ s) e ∙ sym (append_assoc v between second) ∙ ap (λ s. s ++ second) rest ∙ append_assoc waited first second,
+      appends_more (Some xs) (Some ys) (Some zs) v w p r,
+    )
+
+-- nothing of it went out
+pub none_within : (a : Option (List ℕ)) (text : List ℕ) → GrowsWithin a a text
+none_within a text = ([], text, refl, appends_none a)
+
+-- all of the first, and none of the second
+pub first_within : (a b : Option (List ℕ)) (first second : List ℕ) → Appends a b first → GrowsWithin a b (first ++ second)
+first_within a b first second p = (first, second, refl, p)
+
+-- all of the first, and a part of the second
+pub second_within : (a b c : Option (List ℕ)) (first second : List ℕ) → Appends a b first → (n : ℕ) × Appends b c (take n second) → GrowsWithin a c (first ++ second)
+second_within a b c first second p (n, q) =
+    (first ++ take n second, drop n second, append_assoc first (take n second) (drop n second) ∙ ap (λ s. first ++ s) (taken n second), appends_more a b c first (take n second) p q)
+
+-- all of both
+pub both_within : (a b c : Option (List ℕ)) (first second : List ℕ) → Appends a b first → Appends b c second → GrowsWithin a c (first ++ second)
+both_within a b c first second p q = (first ++ second, [], append-nil (first ++ second), appends_more a b c first second p q)
+
+-- a text waits behind what waited
+pub waits_more : (a : Option (List ℕ)) (waited text : List ℕ) → Grows a a waited (waited ++ text) text
+waits_more None waited text = tt
+waits_more (Some xs) waited text = refl
+
+-- what waited went out, and a text waits
+pub waits_alone : (a b : Option (List ℕ)) (waited text : List ℕ) → Appends a b waited → Grows a b waited text text
+waits_alone None b waited text p = tt
+waits_alone (Some xs) None waited text p = absurd p
+waits_alone (Some xs) (Some ys) waited text p = ap (λ s. s ++ text) p ∙ append_assoc xs waited text
+
+-- what waited went out, and a text after it
+pub none_waits : (a b c : Option (List ℕ)) (waited text : List ℕ) → Appends a b waited → Appends b c text → Grows a c waited [] text
+none_waits None b c waited text p q = tt
+none_waits (Some xs) None c waited text p q = absurd p
+none_waits (Some xs) (Some ys) None waited text p q = absurd q
+none_waits (Some xs) (Some ys) (Some zs) waited text p q = append-nil zs ∙ appends_more (Some xs) (Some ys) (Some zs) waited text p q
+
 abbrev Pairs : Type 0
 Pairs = List (perf_event_header × Result Record ParseError)
 
@@ -35,3 +128,34 @@ one_more report frames i x h e =
     ∙ ap (λ xs. printed_answers report xs) (map-append (λ (pair : perf_event_header × Result Record ParseError). (pair.0, seen_answer pair.1)) (take i frames) (x ∷ []))
     ∙ flat_map-append (printed_answer report) (seen_answers (take i frames)) (seen_answers (x ∷ []))
     ∙ ap (λ ys. printed_answers report (seen_answers (take i frames)) ++ ys) (append-nil (printed_answer report (x.0, seen_answer x.1)))
+
+pub one_more_told : (frames : Pairs) (i : ℕ) (x : perf_event_header × Result Record ParseError) → i < length frames → x ≡ get_or frames i x
+    → error_lines (take (i + 1) frames) ≡ error_lines (take i frames) ++ error_line x
+one_more_told frames i x h e =
+    ap (λ (xs : Pairs). error_lines xs) (take_more frames i x h ∙ ap (λ (y : perf_event_header × Result Record ParseError). take i frames ++ (y ∷ [])) (sym e))
+    ∙ flat_map-append error_line (take i frames) (x ∷ [])
+    ∙ ap (λ ys. error_lines (take i frames) ++ ys) (append-nil (error_line x))
+
+-- the first answers, and the others
+pub split : (report : Report) (frames : Pairs) (i : ℕ) → printed_answers report (seen_answers (take i frames)) ++ printed_answers report (seen_answers (drop i frames)) ≡ printed_answers report (seen_answers frames)
+split report frames i =
+    sym (flat_map-append (printed_answer report) (seen_answers (take i frames)) (seen_answers (drop i frames)))
+    ∙ ap (λ xs. printed_answers report xs) (sym (map-append (λ (pair : perf_event_header × Result Record ParseError). (pair.0, seen_answer pair.1)) (take i frames) (drop i frames)))
+    ∙ ap (λ (xs : Pairs). printed_answers report (seen_answers xs)) (take-append-drop i frames)
+
+pub whole_within : (a b : Option (List ℕ)) (text : List ℕ) → Appends a b text → GrowsWithin a b text
+whole_within a b text p = (text, [], append-nil text, p)
+
+-- a part of the first lines is a part of all
+pub part_of_all : (a b : Option (List ℕ)) (waited : List ℕ) (report : Report) (frames : Pairs) (i : ℕ) → GrowsWithin a b (waited ++ printed_answers report (seen_answers (take i frames))) → GrowsWithin a b (waited ++ printed_answers report (seen_answers frames))
+part_of_all a b waited report frames i p =
+    let first = printed_answers report (seen_answers (take i frames)) in
+    let others = printed_answers report (seen_answers (drop i frames)) in
+    subst (λ text. GrowsWithin a b text) (append_assoc waited first others ∙ ap (λ s. waited ++ s) (split report frames i)) (longer a b (waited ++ first) others p)
+
+-- and so is a part of what waits behind a part of the first lines
+pub waiting_part : (a b c : Option (List ℕ)) (waited waits : List ℕ) (report : Report) (frames : Pairs) (i : ℕ) → GrowsWithin a b (waited ++ printed_answers report (seen_answers (take i frames)))
+    → Grows a b waited waits (printed_answers report (seen_answers (take i frames))) → (n : ℕ) × Appends b c (take n waits) → GrowsWithin a c (waited ++ printed_answers report (seen_answers frames))
+waiting_part a b c waited waits report frames i p q r =
+    let first = printed_answers report (seen_answers (take i frames)) in
+    part_of_all a c waited report frames i (subst (λ text. GrowsWithin a c (waited ++ text)) (append-nil first) (within_more a b c waited waits first [] p q (within b c waits [] r)))

@@ -1,12 +1,18 @@
 -- What is printed of a record, and what has gone out of it.
-use Rattle.std.specs.Prelude.{◌≡◌, ℕ, List, [], ◌++◌, Option, Some, None, ⊤, codes}
+use Rattle.std.specs.Prelude.{◌≡◌, ℕ, Bool, true, false, List, [], ◌++◌, Option, Some, None, ⊤, codes}
 use Rattle.std.specs.Prelude.{Result, Ok, Err}
 use Rattle.std.specs.List.{flat_map}
+use Rattle.std.specs.Io.KnownBytes.{Appends}
+use Rattle.perf_base.specs.Errors.{error_text}
 use Rattle.perf_base.specs.declared.sys.perf_event_header.{perf_event_header}
 use Rattle.perf_base.specs.declared.error.ErrorKind.{ErrorKind}
+use Rattle.perf_base.specs.declared.error.ParseError.{ParseError}
+use Rattle.perf_records.specs.declared.record.Record.{Record}
 use Rattle.perf_records.specs.Records.{RecordValue}
 use Rattle.perf_reports.specs.declared.printing.Report.{Report}
 use Rattle.perf_reports.specs.declared.printing.Report.TheVariants.{Tasks, Samples}
+use Rattle.perf_reports.specs.declared.printing.Stopped.{Stopped}
+use Rattle.perf_reports.specs.declared.printing.Stopped.TheVariants.{Memory, Output}
 use Rattle.perf_reports.specs.SampleLines as samples
 use Rattle.perf_reports.specs.TaskLines as tasks
 
@@ -38,3 +44,24 @@ abbrev pub Grows : (old new : Option (List ℕ)) (waited waits text : List ℕ) 
 Grows None new waited waits text = ⊤
 Grows (Some xs) None waited waits text = ⊥
 Grows (Some xs) (Some ys) waited waits text = ys ++ waits ≡ xs ++ (waited ++ text)
+
+-- known bytes grew by a beginning of a text, and the rest of that text is left
+abbrev pub GrowsWithin : (old new : Option (List ℕ)) (text : List ℕ) → Type 0
+GrowsWithin old new text =
+    (written : List ℕ) × (left : List ℕ) × (written ++ left ≡ text) × Appends old new written
+
+-- ---- errors
+
+-- what is printed to the errors of the answer to a frame: of a refused one its text and a line feed
+abbrev pub error_line : perf_event_header × Result Record ParseError → List ℕ
+error_line (header, Ok r) = []
+error_line (header, Err e) = error_text e ++ codes "\n"
+
+-- the same of answers, in order
+abbrev pub error_lines : List (perf_event_header × Result Record ParseError) → List ℕ
+error_lines answers = flat_map error_line answers
+
+-- whether printing stopped because memory was refused
+abbrev pub is_memory : Stopped → Bool
+is_memory (Memory e) = true
+is_memory (Output e) = false

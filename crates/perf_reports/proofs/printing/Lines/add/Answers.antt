@@ -1,0 +1,10 @@
+use Rattle.std.proofs.Common.{string_bytes}
+use Rattle.perf_records.specs.Records.{record_value}
+use Rattle.perf_reports.specs.Printing.{printed}
+use Rattle.perf_reports.proofs.Printed.{within}
+use Rattle.perf_reports.proofs.printing.Lines.add.Goals as goal
+
+pub returns-in_err-send-clause-part : goal.returns-in_err-send-clause-part
+returns-in_err-send-clause-part g c =
+    let contents = g.W.Write.contents in
+    within (contents c.args.output.now) (contents c.send.new.output) (string_bytes c.args.self.now.gathered) (printed c.args.report (record_value c.args.found.now)) c.in_err-send.ensures.part
