@@ -1,79 +1,261 @@
-//! What is printed of a recording, also where a record is refused or a header is cut.
+//! What is printed of a recording, also if a record is refused, a header is cut or the input fails, and
+//! when lines go out.
 
-use crate::checks::check_same;
-use crate::runs::{PLAIN_64, joined};
+use crate::checks::{check_same, check_that};
+use crate::runs::{PLAIN_64, PLAIN_100, joined};
 use anyhow::{Result as AnyResult, bail};
 use perf_event_data::endian::Little;
 use perf_event_data::parse::{ParseConfig, Parser};
 use perf_event_data::sys::perf_event_attr;
-use perf_event_data::{RunEnd, read_records};
+use perf_event_data::{Record, RunEnd, read_records};
 use perf_reports::printing::{Report, print_recording};
 use perf_reports::{samples, tasks};
 use std::alloc::{AllocError, Global};
 use std::cell::Cell;
 use std::io;
-use std::io::Write;
+use std::io::{BufReader, Read, Write};
 use std::process::Abort;
 
-// What is printed of an attribute that says nothing and of the bytes behind it, whether nothing is
-// printed of errors, and whether no record was refused, if all could be read.
-#[derive(Copy, Clone)]
-struct Printed<'a> {
-    name: &'a str,
-    report: Report,
-    behind: &'a [u8],
-    output: &'a [u8],
-    no_errors: bool,
-    clean: Option<bool>,
-}
+// ---- inputs
 
 // COMM of process 1 and thread 2, whose name is `sh`.
 const COMM: &[u8] = b"\x03\0\0\0\0\0\x18\0\x01\0\0\0\x02\0\0\0sh\0\0\0\0\0\0";
 
-const PRINTED: [Printed; 4] = [
+// A record that is refused, as its header says that it has 7 bytes.
+const SMALL: &[u8] = b"\x02\0\0\0\0\0\x07\0";
+
+// Why it is refused.
+const TOO_SMALL: &[u8] = b"invalid record: header size was too small to be valid\n";
+
+// An attribute of 64 bytes that asks for call chains.
+const CHAINS: &[u8] =
+    b"\0\0\0\0\x40\0\0\0\0\0\0\0\0\0\0\0\0\0\0\0\0\0\0\0\x20\0\0\0\0\0\0\0\0\0\0\0\0\0\0\0\0\0\0\0\0\0\0\0\0\0\0\0\0\0\0\0\0\0\0\0\0\0\0\0";
+
+// Marks a byte in a log.
+fn note(log: &Cell<u64>, mark: u64, byte: u8) {
+    let noted = log.get().rotate_left(7).wrapping_mul(mark);
+    log.set(noted.wrapping_add(u64::from(byte)));
+}
+
+// Gives bytes, at most `most` a read, and then ends, or fails with each read. Its log has each read.
+#[derive(Copy, Clone)]
+struct Input<'a> {
+    log: &'a Cell<u64>,
+    bytes: &'a [u8],
+    most: usize,
+    fault: Option<io::ErrorKind>,
+}
+
+impl Read for Input<'_> {
+    fn read(&mut self, buf: &mut [u8]) -> io::Result<usize> {
+        note(self.log, 7, 0);
+        if self.bytes.is_empty() {
+            return match self.fault {
+                Some(kind) => Err(io::Error::from(kind)),
+                None => Ok(0),
+            };
+        }
+        let count = buf.len().min(self.most);
+        self.bytes.read(&mut buf[..count])
+    }
+}
+
+// Appends a COMM record of process 1 and thread 2, whose name ends in zeros up to eight bytes.
+fn push_named(bytes: &mut Vec<u8>, name: &[u8]) -> Result<(), AllocError> {
+    let padded = (name.len() / 8).saturating_add(1).saturating_mul(8);
+    let size = u16::try_from(padded.saturating_add(16)).unwrap_or(u16::MAX);
+    let end = bytes.len().saturating_add(usize::from(size));
+    bytes.extend_from_slice(b"\x03\0\0\0\0\0")?;
+    bytes.extend_from_slice(&size.to_le_bytes())?;
+    bytes.extend_from_slice(b"\x01\0\0\0\x02\0\0\0")?;
+    bytes.extend_from_slice(name)?;
+    bytes.resize(end, 0)?;
+    Ok(())
+}
+
+// An attribute, and COMM records whose names grow, every so many of them behind a refused record.
+fn growing(alloc: Global, count: usize, refused: usize) -> Result<Vec<u8>, AllocError> {
+    let mut bytes = Vec::from_slice(alloc, &PLAIN_64)?;
+    let name = [b'n'; 512];
+    for i in 0..count {
+        if i.checked_rem(refused) == Some(0) {
+            bytes.extend_from_slice(SMALL)?;
+        }
+        push_named(&mut bytes, &name[..8 * (i % 64)])?;
+    }
+    Ok(bytes)
+}
+
+// An attribute, a COMM record, one with a name of so many bytes, and one more.
+fn long_name(alloc: Global, len: usize) -> Result<Vec<u8>, AllocError> {
+    let mut bytes = joined(alloc, &PLAIN_64, COMM)?;
+    let mut name = Vec::new(alloc);
+    name.resize(len, b'n')?;
+    push_named(&mut bytes, name.as_slice())?;
+    bytes.extend_from_slice(COMM)?;
+    Ok(bytes)
+}
+
+// An attribute that asks for call chains, and samples with so many addresses each.
+fn chained(alloc: Global, counts: &[u16]) -> Result<Vec<u8>, AllocError> {
+    let mut bytes = Vec::from_slice(alloc, CHAINS)?;
+    for count in counts {
+        let size = count.saturating_mul(8).saturating_add(16);
+        bytes.extend_from_slice(b"\x09\0\0\0\0\0")?;
+        bytes.extend_from_slice(&size.to_le_bytes())?;
+        bytes.extend_from_slice(&u64::from(*count).to_le_bytes())?;
+        for address in 0..*count {
+            bytes.extend_from_slice(&u64::from(address).to_le_bytes())?;
+        }
+    }
+    Ok(bytes)
+}
+
+// ---- what is printed
+
+// What is printed of an attribute and of the bytes behind it: the lines, the errors, and how it ended:
+// `clean`, `refused` or the text of an error.
+#[derive(Copy, Clone)]
+struct Printed<'a> {
+    name: &'a str,
+    report: Report,
+    attr: &'a [u8],
+    behind: &'a [u8],
+    fault: Option<io::ErrorKind>,
+    output: &'a [u8],
+    errors: &'a [u8],
+    ended: &'a str,
+}
+
+const PRINTED: [Printed; 10] = [
     Printed {
         name: "a record that tells of a task has a line",
         report: Report::Tasks,
+        attr: &PLAIN_64,
         behind: COMM,
+        fault: None,
         output: b"comm 1 2 sh\n",
-        no_errors: true,
-        clean: Some(true),
+        errors: b"",
+        ended: "clean",
     },
     Printed {
         name: "and none where samples are told",
         report: Report::Samples,
+        attr: &PLAIN_64,
         behind: COMM,
+        fault: None,
         output: b"",
-        no_errors: true,
-        clean: Some(true),
+        errors: b"",
+        ended: "clean",
     },
     Printed {
         name: "a refused record is told as an error",
         report: Report::Tasks,
+        attr: &PLAIN_64,
         behind: b"\x02\0\0\0\0\0\x07\0\x03\0\0\0\0\0\x18\0\x01\0\0\0\x02\0\0\0sh\0\0\0\0\0\0",
+        fault: None,
         output: b"comm 1 2 sh\n",
-        no_errors: false,
-        clean: Some(false),
+        errors: TOO_SMALL,
+        ended: "refused",
     },
     Printed {
         name: "a cut header is an error behind the lines",
         report: Report::Tasks,
+        attr: &PLAIN_64,
         behind: b"\x03\0\0\0\0\0\x18\0\x01\0\0\0\x02\0\0\0sh\0\0\0\0\0\0\x0D\0\0",
+        fault: None,
         output: b"comm 1 2 sh\n",
-        no_errors: true,
-        clean: None,
+        errors: b"",
+        ended: "the input ends inside a header",
+    },
+    Printed {
+        name: "a failing input is an error behind the lines",
+        report: Report::Tasks,
+        attr: &PLAIN_64,
+        behind: COMM,
+        fault: Some(io::ErrorKind::Other),
+        output: b"comm 1 2 sh\n",
+        errors: b"",
+        ended: "user-provided error: other error",
+    },
+    Printed {
+        name: "also inside a record",
+        report: Report::Tasks,
+        attr: &PLAIN_64,
+        behind: b"\x03\0\0\0\0\0\x18\0\x01\0\0\0\x02\0\0\0sh\0\0\0\0\0\0\x03\0\0\0\0\0\x18\0\x01\0\0\0",
+        fault: Some(io::ErrorKind::Other),
+        output: b"comm 1 2 sh\n",
+        errors: b"",
+        ended: "user-provided error: other error",
+    },
+    Printed {
+        name: "and behind a refused record",
+        report: Report::Tasks,
+        attr: &PLAIN_64,
+        behind: SMALL,
+        fault: Some(io::ErrorKind::Other),
+        output: b"",
+        errors: TOO_SMALL,
+        ended: "user-provided error: other error",
+    },
+    Printed {
+        name: "a refused attribute is an error",
+        report: Report::Tasks,
+        attr: &PLAIN_100,
+        behind: COMM,
+        fault: None,
+        output: b"",
+        errors: b"",
+        ended: "invalid record: not a valid size for a perf_event_attr struct",
+    },
+    Printed {
+        name: "an input that ends inside the attribute is an error",
+        report: Report::Tasks,
+        attr: b"\0\0\0\0\x40\0\0",
+        behind: b"",
+        fault: None,
+        output: b"",
+        errors: b"",
+        ended: "unexpected EOF during parsing",
+    },
+    Printed {
+        name: "an input that fails there is another",
+        report: Report::Tasks,
+        attr: b"\0\0\0\0\x40\0\0",
+        behind: b"",
+        fault: Some(io::ErrorKind::Other),
+        output: b"",
+        errors: b"",
+        ended: "user-provided error: other error",
     },
 ];
 
-// Asserts what is printed of a recording.
+// The text of how it ended.
+fn ended(alloc: Global, printed: AnyResult<bool>) -> Result<String, AllocError> {
+    match printed {
+        Ok(true) => String::from_str(alloc, "clean"),
+        Ok(false) => String::from_str(alloc, "refused"),
+        Err(error) => format!(in alloc; "{error}"),
+    }
+}
+
+// Asserts what is printed of a recording, however many bytes a read gives.
 fn check_printed(rt: &(impl AllocGlobal + Abort), case: Printed<'_>) -> Result<(), AllocError> {
-    let input = joined(rt.alloc(), &PLAIN_64, case.behind)?;
-    let input = input.as_slice();
-    let (mut output, mut errors) = (Vec::new(rt.alloc()), Vec::new(rt.alloc()));
-    let printed = print_recording(rt.alloc(), input, &mut output, &mut errors, case.report);
-    let told = (output.as_slice(), errors.is_empty(), printed.ok());
-    let want = (case.output, case.no_errors, case.clean);
-    check_same(rt, case.name, told, want);
+    let bytes = joined(rt.alloc(), case.attr, case.behind)?;
+    for most in [1, 7, 8192] {
+        let log = Cell::new(1);
+        let input = Input {
+            log: &log,
+            bytes: bytes.as_slice(),
+            most,
+            fault: case.fault,
+        };
+        let (mut output, mut errors) = (Vec::new(rt.alloc()), Vec::new(rt.alloc()));
+        let printed = print_recording(rt.alloc(), input, &mut output, &mut errors, case.report);
+        let ended = ended(rt.alloc(), printed)?;
+        let told = (output.as_slice(), errors.as_slice(), ended.as_str());
+        check_same(rt, case.name, told, (case.output, case.errors, case.ended));
+    }
     Ok(())
 }
 
@@ -82,6 +264,128 @@ fn recordings_are_printed(rt: HostRuntime) -> Result<(), AllocError> {
     for case in PRINTED {
         check_printed(&rt, case)?;
     }
+    Ok(())
+}
+
+// A refused record is read with the first 256 frames, and those after them are not refused.
+#[test]
+fn an_early_refusal_is_not_forgotten(rt: HostRuntime) -> Result<(), AllocError> {
+    let mut behind = Vec::from_slice(rt.alloc(), SMALL)?;
+    let mut output = Vec::new(rt.alloc());
+    for _ in 0..600 {
+        behind.extend_from_slice(COMM)?;
+        output.extend_from_slice(b"comm 1 2 sh\n")?;
+    }
+    let case = Printed {
+        name: "an early refusal",
+        report: Report::Tasks,
+        attr: &PLAIN_64,
+        behind: behind.as_slice(),
+        fault: None,
+        output: output.as_slice(),
+        errors: TOO_SMALL,
+        ended: "refused",
+    };
+    check_printed(&rt, case)
+}
+
+// ---- what goes out in a write
+
+// Counts writes, and notes whether each is of whole lines, and of at most 4,096 bytes if it is of
+// several.
+#[derive(Drop)]
+struct Whole {
+    writes: usize,
+    whole: bool,
+}
+
+impl Write for Whole {
+    fn write(&mut self, buf: &[u8]) -> io::Result<usize> {
+        let mut lines = 0usize;
+        for byte in buf {
+            lines = lines.saturating_add(usize::from(*byte == b'\n'));
+        }
+        self.writes = self.writes.saturating_add(1);
+        self.whole &= buf.ends_with(b"\n") && (buf.len() <= 4096 || lines == 1);
+        Ok(buf.len())
+    }
+
+    fn flush(&mut self) -> io::Result<()> {
+        Ok(())
+    }
+}
+
+// In how many writes the lines of a recording go out, all of which are of whole lines.
+fn writes_of(rt: &(impl AllocGlobal + Abort), input: &[u8], report: Report) -> usize {
+    let mut output = Whole {
+        writes: 0,
+        whole: true,
+    };
+    let mut errors = Vec::new(rt.alloc());
+    let printed = print_recording(rt.alloc(), input, &mut output, &mut errors, report);
+    check_that(rt, "it is printed", printed.is_ok());
+    check_that(rt, "each write is of whole lines", output.whole);
+    output.writes
+}
+
+#[test]
+fn a_write_is_of_whole_lines(rt: HostRuntime) -> Result<(), AllocError> {
+    // 256 lines of 64 bytes each: 4 times 64 of them are 4,096 bytes.
+    let mut lines = Vec::from_slice(rt.alloc(), &PLAIN_64)?;
+    for _ in 0..256 {
+        push_named(&mut lines, &[b'n'; 54])?;
+    }
+    check_same(
+        &rt,
+        "64 bytes",
+        writes_of(&rt, lines.as_slice(), Report::Tasks),
+        4,
+    );
+
+    // 62 lines of 66 bytes are 4,092 bytes, so that 256 are four times 62 and 8 more.
+    let mut lines = Vec::from_slice(rt.alloc(), &PLAIN_64)?;
+    for _ in 0..256 {
+        push_named(&mut lines, &[b'n'; 56])?;
+    }
+    check_same(
+        &rt,
+        "66 bytes",
+        writes_of(&rt, lines.as_slice(), Report::Tasks),
+        5,
+    );
+
+    // Lines of 12 bytes, of 10 more than the name, and of 12 bytes: the second fits with both others,
+    // with the first, with none.
+    for (len, writes) in [
+        (4062, 1),
+        (4063, 2),
+        (4074, 2),
+        (4075, 3),
+        (5000, 3),
+        (40_000, 3),
+    ] {
+        let input = long_name(rt.alloc(), len)?;
+        check_same(
+            &rt,
+            "a long name",
+            writes_of(&rt, input.as_slice(), Report::Tasks),
+            writes,
+        );
+    }
+
+    let input = chained(rt.alloc(), &[1, 8000, 0, 300])?;
+    check_same(
+        &rt,
+        "samples",
+        writes_of(&rt, input.as_slice(), Report::Samples),
+        3,
+    );
+    let input = growing(rt.alloc(), 700, 1_000)?;
+    check_that(
+        &rt,
+        "names that grow",
+        writes_of(&rt, input.as_slice(), Report::Tasks) > 40,
+    );
     Ok(())
 }
 
@@ -103,8 +407,7 @@ impl Write for Output<'_> {
         let taken = buf.len().min(self.room);
         self.room -= taken;
         for byte in &buf[..taken] {
-            let log = self.log.get().rotate_left(7).wrapping_mul(self.mark);
-            self.log.set(log.wrapping_add(u64::from(*byte)));
+            note(self.log, self.mark, *byte);
         }
         Ok(taken)
     }
@@ -114,14 +417,33 @@ impl Write for Output<'_> {
     }
 }
 
+// Writes the line of a record by itself, if it has one.
+fn print_line(
+    alloc: Global,
+    output: &mut Output<'_>,
+    report: Report,
+    record: &Record<'_>,
+) -> AnyResult<()> {
+    let line = match report {
+        Report::Tasks => tasks::line_of(alloc, record)?,
+        Report::Samples => samples::line_of(alloc, record)?,
+    };
+    if let Some(mut line) = line {
+        line.push_str("\n")?;
+        output.write_all(line.as_bytes())?;
+    }
+    Ok(())
+}
+
 // What `print_recording` does, with each line written by itself.
 fn print_by_lines(
     alloc: Global,
-    input: &[u8],
+    input: Input<'_>,
     output: &mut Output<'_>,
     errors: &mut Output<'_>,
     report: Report,
 ) -> AnyResult<bool> {
+    let input = BufReader::new(alloc, input)?;
     let mut parser = Parser::new(alloc, input, ParseConfig::<Little>::default());
     let attr = parser.parse::<perf_event_attr>()?;
     let mut parser = parser.reconfigure(ParseConfig::<Little>::from(attr));
@@ -130,16 +452,7 @@ fn print_by_lines(
         let run = read_records(&mut parser, 256);
         for (_, answer) in &run.frames {
             match answer {
-                Ok(record) => {
-                    let line = match report {
-                        Report::Tasks => tasks::line_of(alloc, record)?,
-                        Report::Samples => samples::line_of(alloc, record)?,
-                    };
-                    if let Some(mut line) = line {
-                        line.push_str("\n")?;
-                        output.write_all(line.as_bytes())?;
-                    }
-                }
+                Ok(record) => print_line(alloc, output, report, record)?,
                 Err(error) => {
                     clean = false;
                     write!(errors, "{error}\n")?;
@@ -156,69 +469,131 @@ fn print_by_lines(
     Ok(clean)
 }
 
-// An attribute, and COMM records whose names grow, every so many of them behind a refused record.
-fn named(alloc: Global, count: u16, refused: u16) -> Result<Vec<u8>, AllocError> {
-    let mut bytes = Vec::from_slice(alloc, &PLAIN_64)?;
-    for i in 0..count {
-        if i.checked_rem(refused) == Some(0) {
-            bytes.extend_from_slice(b"\x02\0\0\0\0\0\x07\0")?;
-        }
-        let name = 8 * (i % 64);
-        bytes.extend_from_slice(b"\x03\0\0\0\0\0")?;
-        bytes.extend_from_slice(&(16 + name).to_le_bytes())?;
-        bytes.extend_from_slice(&[1; 8])?;
-        bytes.resize(bytes.len().saturating_add(usize::from(name)), b'n')?;
-    }
-    Ok(bytes)
-}
-
-// A number of what goes out of a recording, how much room is left then, and how it ended.
-fn told_of(
-    alloc: Global,
-    input: &[u8],
+// A recording that may fail behind its bytes, and two outputs that have room for so many bytes.
+#[derive(Copy, Clone)]
+struct Case<'a> {
+    bytes: &'a [u8],
+    report: Report,
+    fault: Option<io::ErrorKind>,
     room: usize,
     errors: usize,
+}
+
+// A number of what is read and of what goes out, how much room is left then, and how it ended.
+fn told_of(
+    alloc: Global,
+    case: Case<'_>,
     gathered: bool,
-) -> (u64, usize, usize, Option<bool>) {
+) -> Result<(u64, usize, usize, String), AllocError> {
     let log = Cell::new(1);
+    let input = Input {
+        log: &log,
+        bytes: case.bytes,
+        most: 1_000,
+        fault: case.fault,
+    };
     let mut output = Output {
         log: &log,
         mark: 3,
-        room,
+        room: case.room,
     };
     let mut errors = Output {
         log: &log,
         mark: 5,
-        room: errors,
+        room: case.errors,
     };
-    let clean = if gathered {
-        print_recording(alloc, input, &mut output, &mut errors, Report::Tasks)
+    let printed = if gathered {
+        print_recording(alloc, input, &mut output, &mut errors, case.report)
     } else {
-        print_by_lines(alloc, input, &mut output, &mut errors, Report::Tasks)
+        print_by_lines(alloc, input, &mut output, &mut errors, case.report)
     };
-    (log.get(), output.room, errors.room, clean.ok())
+    Ok((log.get(), output.room, errors.room, ended(alloc, printed)?))
 }
 
 // Asserts that lines that go out together go out as if each went alone: the same bytes in the same
-// order, on both outputs, also where one fails.
-fn check_gathered(rt: &(impl AllocGlobal + Abort), input: &[u8], room: usize, errors: usize) {
-    let gathered = told_of(rt.alloc(), input, room, errors, true);
-    let by_lines = told_of(rt.alloc(), input, room, errors, false);
-    check_same(rt, "what goes out", gathered, by_lines);
+// order, on both outputs, before the same reads, also if one fails, and with the same error.
+fn check_gathered(rt: &(impl AllocGlobal + Abort), case: Case<'_>) -> Result<(), AllocError> {
+    let gathered = told_of(rt.alloc(), case, true)?;
+    let by_lines = told_of(rt.alloc(), case, false)?;
+    let told = (gathered.0, gathered.1, gathered.2, gathered.3.as_str());
+    let want = (by_lines.0, by_lines.1, by_lines.2, by_lines.3.as_str());
+    check_same(rt, "what goes out", told, want);
+    Ok(())
 }
 
-const ROOMS: [usize; 6] = [usize::MAX, 0, 1_000, 32_768, 33_000, 80_000];
+const ROOMS: [usize; 6] = [usize::MAX, 0, 1_000, 4_096, 33_000, 80_000];
+
+// Asserts it for all rooms, and for an input that fails or is cut.
+fn check_orders(
+    rt: &(impl AllocGlobal + Abort),
+    bytes: &[u8],
+    report: Report,
+) -> Result<(), AllocError> {
+    let whole = Case {
+        bytes,
+        report,
+        fault: None,
+        room: usize::MAX,
+        errors: usize::MAX,
+    };
+    for room in ROOMS {
+        check_gathered(rt, Case { room, ..whole })?;
+        check_gathered(
+            rt,
+            Case {
+                errors: room,
+                ..whole
+            },
+        )?;
+    }
+    for (cut, fault) in [(0, true), (3, false), (3, true), (21, false)] {
+        let case = Case {
+            bytes: &bytes[..bytes.len().saturating_sub(cut)],
+            fault: fault.then_some(io::ErrorKind::Other),
+            ..whole
+        };
+        check_gathered(rt, case)?;
+    }
+    Ok(())
+}
 
 #[test]
 fn lines_go_out_in_order(rt: HostRuntime) -> Result<(), AllocError> {
-    for count in [0, 1, 150, 300, 700] {
-        for refused in [1, 7, 100, 1_000] {
-            let input = named(rt.alloc(), count, refused)?;
-            for room in ROOMS {
-                check_gathered(&rt, &input, room, usize::MAX);
-                check_gathered(&rt, &input, usize::MAX, room);
-            }
+    for count in [0, 1, 300, 700] {
+        for refused in [7, 1_000] {
+            let input = growing(rt.alloc(), count, refused)?;
+            check_orders(&rt, input.as_slice(), Report::Tasks)?;
         }
     }
     Ok(())
+}
+
+#[test]
+fn long_lines_go_out_in_order(rt: HostRuntime) -> Result<(), AllocError> {
+    for len in [4_074, 4_075, 5_000, 40_000, 60_000] {
+        let input = long_name(rt.alloc(), len)?;
+        check_orders(&rt, input.as_slice(), Report::Tasks)?;
+    }
+    let input = chained(rt.alloc(), &[1, 8000, 0, 300])?;
+    check_orders(&rt, input.as_slice(), Report::Samples)
+}
+
+#[test]
+fn escaped_names_go_out_in_order(rt: HostRuntime) -> Result<(), AllocError> {
+    let mut input = Vec::from_slice(rt.alloc(), &PLAIN_64)?;
+    for name in [
+        b"sh\nexit 1".as_slice(),
+        b"a\xffb",
+        b"\x1b[2J",
+        b"\\",
+        b"\xc3\xa9",
+        b"\xc2\x85",
+    ] {
+        push_named(&mut input, name)?;
+        input.extend_from_slice(SMALL)?;
+    }
+    check_orders(&rt, input.as_slice(), Report::Tasks)?;
+    let mut refused = Vec::from_slice(rt.alloc(), &PLAIN_100)?;
+    refused.extend_from_slice(COMM)?;
+    check_orders(&rt, refused.as_slice(), Report::Tasks)
 }
