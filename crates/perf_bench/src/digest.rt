@@ -1,17 +1,34 @@
-//! A number of all that was answered.
+//! A number of all that was read: of every header, field, list, refusal and text.
+//!
+//! These are left out:
+//!
+//! - the cause of an error (its kind and message are in it, and a report's whole error output);
+//! - whether a list is borrowed or owned, and its capacity;
+//! - the attribute and the configuration, which matter only through what is read under them;
+//! - bits of a branch's word that no getter returns;
+//! - getters that return parts of a field, such as the text of a name;
+//! - of a frame that a visitor does not handle, all but the metadata;
+//! - the position of a parser after each frame.
+//!
+//! Not all that it covers occurs in the workloads: no recording has, for example, a build id, a count
+//! of lost events, READ, NAMESPACES or a record of `rare`.
 
 use bitflags::Flags;
-use perf_event_data::parse::{ErrorKind, ParseResult};
+use perf_event_data::parse::{ErrorKind, ParseError, ParseResult};
 use perf_event_data::sys::perf_event_header;
 use perf_event_data::{
-    BranchEntry, CowSlice, Exit, KSymbol, Mmap, Mmap2, Namespaces, ReadGroup, ReadValue, Record,
-    RecordMetadata, Registers, Sample, TextPoke, Throttle,
+    BpfEvent, BranchEntry, Comm, CowSlice, Exit, KSymbol, Mmap, Mmap2, Namespaces, Read, ReadGroup,
+    Record, RecordMetadata, Registers, Sample, SwitchCpuWide, TextPoke, Throttle,
 };
 
-// Of long byte strings one in so many bytes counts.
-const STRIDE: usize = 64;
+// A list is mixed after this many numbers: the sum is rotated by seven bits at each number, so two
+// numbers that are 64 apart could otherwise change places unnoticed.
+const MIXED: usize = 32;
 
-/// A number of all that was answered, in order.
+// Stands for an absent number. A number with this value is not told from an absent one.
+const ABSENT: u64 = 0x9E37_79B9_7F4A_7C15;
+
+/// A number of all that was read, in order.
 #[derive(Copy, Clone)]
 pub struct Digest {
     /// How many frames there were.
@@ -23,7 +40,7 @@ pub struct Digest {
 }
 
 impl Digest {
-    /// Nothing was answered yet.
+    /// Nothing was read yet.
     pub fn new() -> Digest {
         Digest {
             frames: 0,
@@ -32,20 +49,30 @@ impl Digest {
         }
     }
 
-    /// A number was answered.
+    /// A number was read.
     #[inline]
     pub fn number(&mut self, number: u64) {
         self.sum = self.sum.rotate_left(7).wrapping_add(number);
     }
 
-    // What was answered until now is mixed.
+    // What was read until now is mixed.
     fn mix(&mut self) {
         self.sum = (self.sum ^ (self.sum >> 29)).wrapping_mul(0xBF58_476D_1CE4_E5B9);
     }
 
+    // Numbers, as many as their kind has.
     fn numbers(&mut self, numbers: &[u64]) {
         for number in numbers {
             self.number(*number);
+        }
+    }
+
+    // A list of numbers, and how many there are.
+    fn list(&mut self, numbers: &[u64]) {
+        self.number(numbers.len() as u64);
+        for part in numbers.chunks(MIXED) {
+            self.numbers(part);
+            self.mix();
         }
     }
 
@@ -55,43 +82,38 @@ impl Digest {
 
     // A number that may be absent.
     fn maybe(&mut self, number: Option<u64>) {
-        self.number(number.unwrap_or(0x5555));
+        self.number(number.unwrap_or(ABSENT));
     }
 
     fn maybe_short(&mut self, number: Option<u32>) {
-        self.short(number.unwrap_or(0x5555));
+        self.maybe(number.map(u64::from));
     }
 
-    /// A byte string was answered.
+    /// A byte string was read.
     pub fn bytes(&mut self, bytes: &[u8]) {
         self.number(bytes.len() as u64);
-        if bytes.len() <= STRIDE {
-            for byte in bytes {
-                self.number(u64::from(*byte));
+        let (words, rest) = bytes.as_chunks::<8>();
+        for part in words.chunks(MIXED) {
+            for word in part {
+                self.number(u64::from_le_bytes(*word));
             }
-            return;
+            self.mix();
         }
-        for part in bytes.chunks(STRIDE) {
-            if let [first, ..] = part {
-                self.number(u64::from(*first));
-            }
+        for byte in rest {
+            self.number(u64::from(*byte));
         }
     }
 
     /// A text was written.
     pub fn text(&mut self, text: &[u8]) {
-        let (words, rest) = text.as_chunks::<8>();
-        for word in words {
-            self.number(u64::from_le_bytes(*word));
-        }
-        self.bytes(rest);
+        self.bytes(text);
         self.frame();
     }
 
     fn maybe_bytes(&mut self, bytes: Option<&[u8]>) {
         match bytes {
             Some(bytes) => self.bytes(bytes),
-            None => self.number(0x6666),
+            None => self.number(ABSENT),
         }
     }
 
@@ -99,28 +121,39 @@ impl Digest {
         self.bytes(bytes.as_slice());
     }
 
-    /// A list of frames was answered.
+    // The type, the `misc` and the size of a frame, in a number.
+    fn header(&mut self, header: perf_event_header) {
+        let low = u64::from(header.misc) << 16 | u64::from(header.size);
+        self.number(u64::from(header.type_) << 32 | low);
+    }
+
+    /// A list of frames was read.
     pub fn run(&mut self, frames: &[(perf_event_header, ParseResult<Record>)]) {
         for (header, answer) in frames {
-            self.number(u64::from(header.type_) << 32 | u64::from(header.size));
+            self.header(*header);
             match answer {
                 Ok(record) => self.record(record),
-                Err(error) => self.refusal(error.kind()),
+                Err(error) => self.refusal(error),
             }
             self.frame();
         }
     }
 
-    /// A frame was answered.
+    /// A frame was read.
     pub fn frame(&mut self) {
         self.frames = self.frames.wrapping_add(1);
         self.mix();
     }
 
     /// A frame was refused.
-    pub fn refusal(&mut self, kind: ErrorKind) {
+    pub fn refusal(&mut self, error: &ParseError) {
         self.refused = self.refused.wrapping_add(1);
-        self.number(match kind {
+        self.error(error);
+    }
+
+    /// A call was refused.
+    pub fn error(&mut self, error: &ParseError) {
+        self.number(match error.kind() {
             ErrorKind::Eof => 1,
             ErrorKind::InvalidRecord => 2,
             ErrorKind::UnsupportedConfig => 3,
@@ -128,11 +161,16 @@ impl Digest {
             ErrorKind::External => 5,
             ErrorKind::OutOfMemory => 6,
         });
+        match error.message() {
+            Some(message) => self.bytes(message.as_bytes()),
+            None => self.number(ABSENT),
+        }
     }
 
-    /// The metadata of a frame was answered.
+    /// The metadata of a frame was read.
     pub fn metadata(&mut self, metadata: &RecordMetadata) {
         self.short(metadata.ty());
+        self.number(u64::from(metadata.misc()));
         let id = metadata.sample_id();
         self.maybe_short(id.pid());
         self.maybe_short(id.tid());
@@ -142,74 +180,114 @@ impl Digest {
         self.maybe_short(id.cpu());
     }
 
-    /// A record was answered.
+    /// A record was read: which variant it is, and its fields.
     pub fn record(&mut self, record: &Record) {
         match record {
-            Record::Sample(sample) => self.sample(sample),
-            Record::Mmap2(mapped) => self.mmap2(mapped),
+            Record::Sample(sample) => {
+                self.number(1);
+                self.sample(sample);
+            }
+            Record::Mmap2(mapped) => {
+                self.number(2);
+                self.mmap2(mapped);
+            }
             Record::Unknown { ty, bytes } => {
+                self.number(3);
                 self.short(*ty);
                 self.cow(bytes);
+            }
+            Record::Comm(comm) => {
+                self.number(4);
+                self.comm(comm);
+            }
+            Record::Exit(task) => {
+                self.number(5);
+                self.task(task);
+            }
+            Record::Fork(task) => {
+                self.number(6);
+                self.task(task);
             }
             other => self.side(other),
         }
     }
 
-    // What is neither a sample nor a mapping.
+    // What is neither a sample, a mapping nor a task's.
     fn side(&mut self, record: &Record) {
         match record {
-            Record::Comm(comm) => {
-                self.short(comm.pid);
-                self.short(comm.tid);
-                self.cow(&comm.comm);
+            Record::Lost(lost) => self.numbers(&[7, lost.id, lost.lost]),
+            Record::LostSamples(lost) => self.numbers(&[8, lost.lost]),
+            Record::Throttle(throttle) => {
+                self.number(9);
+                self.throttle(throttle);
             }
-            Record::Exit(task) | Record::Fork(task) => self.task(task),
-            Record::Mmap(mapped) => self.mmap(mapped),
-            Record::Lost(lost) => {
-                self.number(lost.id);
-                self.number(lost.lost);
+            Record::Unthrottle(throttle) => {
+                self.number(10);
+                self.throttle(throttle);
             }
-            Record::LostSamples(lost) => self.number(lost.lost),
-            Record::Throttle(throttle) | Record::Unthrottle(throttle) => self.throttle(throttle),
-            Record::Namespaces(spaces) => self.namespaces(spaces),
-            Record::KSymbol(symbol) => self.ksymbol(symbol),
+            Record::KSymbol(symbol) => {
+                self.number(11);
+                self.ksymbol(symbol);
+            }
+            Record::Namespaces(spaces) => {
+                self.number(12);
+                self.namespaces(spaces);
+            }
             Record::Read(read) => {
-                self.short(read.pid);
-                self.short(read.tid);
-                self.value(&read.values);
+                self.number(13);
+                self.read(read);
             }
             other => self.rare(other),
         }
     }
 
-    // What the workloads seldom have, if at all.
+    // What the workloads do not have.
     fn rare(&mut self, record: &Record) {
         match record {
-            Record::Aux(aux) => self.numbers(&[aux.aux_offset, aux.aux_size]),
+            Record::Aux(aux) => {
+                self.numbers(&[14, aux.aux_offset, aux.aux_size, aux.flags.bits()]);
+            }
             Record::ITraceStart(start) => {
-                self.short(start.pid);
-                self.short(start.tid);
+                self.numbers(&[15, u64::from(start.pid), u64::from(start.tid)]);
             }
-            Record::SwitchCpuWide(switch) => {
-                self.short(switch.pid());
-                self.short(switch.tid());
-            }
-            Record::BpfEvent(event) => {
-                self.short(event.id);
-                self.bytes(&event.tag);
-            }
+            Record::SwitchCpuWide(switch) => self.switch(switch),
+            Record::BpfEvent(event) => self.bpf_event(event),
             Record::CGroup(group) => {
-                self.number(group.id);
+                self.numbers(&[19, group.id]);
                 self.cow(&group.path);
             }
             Record::TextPoke(poke) => self.text_poke(poke),
-            Record::AuxOutputHwId(id) => self.number(id.hw_id),
-            _ => self.number(0x7777),
+            Record::AuxOutputHwId(id) => self.numbers(&[21, id.hw_id]),
+            Record::Mmap(mapped) => self.mmap(mapped),
+            // A switch alone is left, which has no field.
+            _ => self.number(23),
         }
     }
 
+    /// A name of a task was read.
+    pub fn comm(&mut self, comm: &Comm) {
+        self.short(comm.pid);
+        self.short(comm.tid);
+        self.cow(&comm.comm);
+    }
+
+    fn switch(&mut self, switch: &SwitchCpuWide) {
+        self.number(match switch {
+            SwitchCpuWide::In { .. } => 16,
+            SwitchCpuWide::Out { .. } => 17,
+        });
+        self.short(switch.pid());
+        self.short(switch.tid());
+    }
+
+    fn bpf_event(&mut self, event: &BpfEvent) {
+        self.numbers(&[18, u64::from(event.ty.get()), u64::from(event.flags)]);
+        self.short(event.id);
+        self.bytes(&event.tag);
+    }
+
     fn text_poke(&mut self, poke: &TextPoke) {
-        self.number(poke.addr);
+        self.numbers(&[20, poke.addr]);
         self.cow(&poke.old_bytes);
         self.cow(&poke.new_bytes);
     }
@@ -229,12 +307,15 @@ impl Digest {
     fn ksymbol(&mut self, symbol: &KSymbol) {
         self.number(symbol.addr);
         self.short(symbol.len);
+        self.number(u64::from(symbol.ksym_type.get()));
+        self.number(u64::from(symbol.flags.bits()));
         self.cow(&symbol.name);
     }
 
     fn namespaces(&mut self, spaces: &Namespaces) {
         self.short(spaces.pid);
         self.short(spaces.tid);
+        self.number(spaces.namespaces.as_slice().len() as u64);
         for entry in spaces.namespaces.as_slice() {
             self.number(entry.dev);
             self.number(entry.inode);
@@ -242,30 +323,39 @@ impl Digest {
     }
 
     fn mmap(&mut self, mapped: &Mmap) {
+        self.number(22);
         self.short(mapped.pid);
         self.short(mapped.tid);
         self.numbers(&[mapped.addr, mapped.len, mapped.pgoff]);
         self.cow(&mapped.filename);
     }
 
-    /// A mapping was answered.
+    /// A mapping was read.
     pub fn mmap2(&mut self, mapped: &Mmap2) {
         self.short(mapped.pid);
         self.short(mapped.tid);
         self.numbers(&[mapped.addr, mapped.len, mapped.pgoff]);
         self.short(mapped.prot);
         self.short(mapped.flags);
-        self.maybe(mapped.ino());
         self.maybe_short(mapped.maj());
+        self.maybe_short(mapped.min());
+        self.maybe(mapped.ino());
+        self.maybe(mapped.ino_generation());
+        self.maybe_bytes(mapped.build_id());
         self.cow(&mapped.filename);
     }
 
-    fn value(&mut self, value: &ReadValue) {
-        self.number(value.value());
-        self.maybe(value.id());
+    fn read(&mut self, read: &Read) {
+        self.short(read.pid);
+        self.short(read.tid);
+        self.number(read.values.value());
+        self.maybe(read.values.time_enabled());
+        self.maybe(read.values.time_running());
+        self.maybe(read.values.id());
+        self.maybe(read.values.lost());
     }
 
-    /// A sample was answered.
+    /// A sample was read.
     pub fn sample(&mut self, sample: &Sample) {
         self.maybe(sample.ip());
         self.maybe_short(sample.pid());
@@ -292,44 +382,63 @@ impl Digest {
     }
 
     fn lists(&mut self, sample: &Sample) {
-        if let Some(chain) = sample.callchain() {
-            self.number(chain.len() as u64);
-            self.numbers(chain);
+        match sample.callchain() {
+            Some(chain) => self.list(chain),
+            None => self.number(ABSENT),
         }
         self.maybe_bytes(sample.raw());
-        if let Some(branches) = sample.lbr() {
-            self.branches(branches);
+        match sample.lbr() {
+            Some(branches) => self.branches(branches),
+            None => self.number(ABSENT),
         }
         self.maybe_bytes(sample.stack_user());
         self.maybe_bytes(sample.aux());
         self.registers(sample.regs_user());
         self.registers(sample.regs_intr());
-        if let Some(group) = sample.values() {
-            self.group(group);
+        match sample.values() {
+            Some(group) => self.group(group),
+            None => self.number(ABSENT),
         }
     }
 
     fn branches(&mut self, branches: &[BranchEntry]) {
+        self.number(branches.len() as u64);
         for branch in branches {
             self.number(branch.from());
             self.number(branch.to());
-            self.number(u64::from(branch.cycles()));
+            self.number(branch_bits(branch));
+            self.mix();
         }
     }
 
     fn registers(&mut self, registers: Option<&Registers>) {
-        if let Some(registers) = registers {
-            self.number(registers.mask);
-            self.numbers(registers.regs.as_slice());
-        }
+        let Some(registers) = registers else {
+            self.number(ABSENT);
+            return;
+        };
+        self.number(registers.abi.get());
+        self.number(registers.mask);
+        self.list(registers.regs.as_slice());
     }
 
     fn group(&mut self, group: &ReadGroup) {
+        self.number(group.len() as u64);
         self.maybe(group.time_enabled());
         self.maybe(group.time_running());
         for entry in group.entries() {
             self.number(entry.value());
             self.maybe(entry.id());
+            self.maybe(entry.lost());
+            self.mix();
         }
     }
+}
+
+// What a branch has beside its addresses.
+fn branch_bits(branch: &BranchEntry) -> u64 {
+    let marks = u64::from(branch.mispred())
+        | u64::from(branch.predicted()) << 1
+        | u64::from(branch.in_tx()) << 2
+        | u64::from(branch.abort()) << 3;
+    marks | u64::from(branch.cycles()) << 4 | u64::from(branch.ty().get()) << 20
 }

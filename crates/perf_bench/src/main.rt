@@ -3,7 +3,7 @@
 //!
 //! `perf_bench WORKLOAD ROUNDS SEED` makes the recordings of a workload from a seed, reads each of
 //! them by the public calls, and prints how many frames it read, how many of them were refused, and
-//! a number of all that was answered. The workloads are `profile`, `pipe`, `ring`, `fields`, `text`
+//! a number of all that was read. The workloads are `profile`, `pipe`, `ring`, `fields`, `text`
 //! and `awkward`; `all` is each of them, a line each. No recording is read twice.
 #![tactic(auto)]
 

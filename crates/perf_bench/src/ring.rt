@@ -25,26 +25,30 @@ impl PartialVisitor for Numbers {
     ghost left_out = { λ metadata output. ⊤ };
 
     fn visit_unimplemented(self, metadata: RecordMetadata) -> Self::Output {
-        u64::from(metadata.ty())
+        let mut digest = Digest::new();
+        digest.metadata(&metadata);
+        digest.sum
     }
 
-    fn visit_sample(self, held: Sample<'_>, _metadata: RecordMetadata) -> Self::Output {
+    fn visit_sample(self, held: Sample<'_>, metadata: RecordMetadata) -> Self::Output {
         let mut digest = Digest::new();
         digest.sample(&held);
+        digest.metadata(&metadata);
         drop(held);
         digest.sum
     }
 
-    fn visit_mmap2(self, held: Mmap2<'_>, _metadata: RecordMetadata) -> Self::Output {
+    fn visit_mmap2(self, held: Mmap2<'_>, metadata: RecordMetadata) -> Self::Output {
         let mut digest = Digest::new();
         digest.mmap2(&held);
+        digest.metadata(&metadata);
         drop(held);
         digest.sum
     }
 
     fn visit_comm(self, held: Comm<'_>, metadata: RecordMetadata) -> Self::Output {
         let mut digest = Digest::new();
-        digest.bytes(held.comm.as_slice());
+        digest.comm(&held);
         digest.metadata(&metadata);
         drop(held);
         digest.sum
@@ -81,7 +85,10 @@ pub fn read_ring(
         };
         match answer {
             Ok(()) => digest.frame(),
-            Err(_) => break,
+            Err(error) => {
+                digest.error(&error);
+                break;
+            }
         }
     }
     Ok(())
@@ -105,7 +112,7 @@ fn by_metadata<'p, B: ParseBuf<'p>>(
     match metadata.ty() {
         9 => digest.sample(&body.parse::<Sample>()?),
         10 => digest.mmap2(&body.parse::<Mmap2>()?),
-        3 => digest.bytes(body.parse::<Comm>()?.comm.as_slice()),
+        3 => digest.comm(&body.parse::<Comm>()?),
         _ => digest.bytes(body.parse_rest()?.as_slice()),
     }
     Ok(())

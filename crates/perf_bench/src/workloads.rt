@@ -217,7 +217,9 @@ impl Way {
             Way::Report(report) => {
                 text.clear();
                 let mut errors = Vec::new(alloc);
-                print_recording(alloc, bytes, text, &mut errors, report)?;
+                let clean = print_recording(alloc, bytes, text, &mut errors, report)?;
+                digest.number(u64::from(clean));
+                digest.bytes(&errors);
                 digest.text(text);
                 Ok(())
             }
@@ -250,10 +252,13 @@ fn read_all<'p, B: ParseBuf<'p> + Drop, E: Endian>(
         let run = read_records(&mut parser, BATCH);
         digest.run(&run.frames);
         match run.end {
-            RunEnd::Limit => {}
-            RunEnd::Done => break,
+            RunEnd::Limit => digest.number(1),
+            RunEnd::Done => {
+                digest.number(2);
+                break;
+            }
             RunEnd::CutHeader => {
-                digest.number(1);
+                digest.number(3);
                 break;
             }
             RunEnd::Fault(error) => return Err(error.into()),
