@@ -14,8 +14,8 @@ use std::io::{self, BufReader, Read};
 use std::process::Abort;
 use std::test::Fail;
 
-// Writes the kind of an error, its message, its cause if it has one, and what the error says.
-fn told(alloc: Global, error: &ParseError) -> Result<String, AllocError> {
+/// Writes the kind of an error, its message, its cause if it has one, and what the error says.
+pub fn told(alloc: Global, error: &ParseError) -> Result<String, AllocError> {
     let mut text = String::new(alloc);
     write!(text, "{:?}, {:?}, ", error.kind(), error.message())?;
     match error.cause() {

@@ -10,6 +10,8 @@ mod asked;
 #[cfg(test)]
 mod bodies;
 #[cfg(test)]
+mod causes;
+#[cfg(test)]
 mod checks;
 #[cfg(test)]
 mod closures;
@@ -30,6 +32,10 @@ mod faults;
 #[cfg(test)]
 mod groups;
 #[cfg(test)]
+mod handed;
+#[cfg(test)]
+mod hints;
+#[cfg(test)]
 mod lines;
 #[cfg(test)]
 mod metadata;
@@ -47,6 +53,8 @@ mod printing;
 mod reads;
 #[cfg(test)]
 mod records;
+#[cfg(test)]
+mod rooms;
 #[cfg(test)]
 mod runs;
 #[cfg(test)]

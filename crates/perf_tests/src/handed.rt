@@ -1,0 +1,62 @@
+//! How much a reader is asked for at once.
+
+ghost use Rattle.std.specs.Prelude.{◌<◌};
+
+use crate::checks::check_same;
+use crate::runs::{PLAIN_72, TEXT, TWO, joined};
+use perf_event_data::endian::Little;
+use perf_lines::outcome::Outcome;
+use perf_lines::run::run;
+use std::alloc::AllocError;
+use std::cell::Cell;
+use std::io;
+use std::io::Read;
+use std::process::Abort;
+
+// Gives as many bytes as it is asked for, and keeps the most that it was asked for at once.
+#[derive(Drop)]
+struct Handed<'a> {
+    bytes: &'a [u8],
+    longest: &'a Cell<usize>,
+}
+
+impl Read for Handed<'_> {
+    fn read(&mut self, buf: &mut [u8]) -> io::Result<usize> {
+        self.longest.set(self.longest.get().max(buf.len()));
+        self.bytes.read(buf)
+    }
+}
+
+// Asserts that a run writes the text of two frames, and asks for a piece at once.
+fn check_piece(rt: &(impl AllocGlobal + Abort), bytes: &[u8], with_attr: bool, piece: usize)
+    requires { 0 < piece }
+{
+    let longest = Cell::new(0);
+    let reader = Handed {
+        bytes,
+        longest: &longest,
+    };
+    let mut written = Vec::new(rt.alloc());
+    let ended = run(
+        rt.alloc(),
+        reader,
+        &mut written,
+        Little,
+        10,
+        with_attr,
+        piece,
+    );
+    let told = (written.as_slice(), ended, longest.get());
+    let want = (TEXT.as_bytes(), Outcome::Clean, piece);
+    check_same(rt, "what is written, and the longest piece", told, want);
+}
+
+#[test]
+fn a_reader_is_handed_a_piece_at_a_time(rt: HostRuntime) -> Result<(), AllocError> {
+    let behind = joined(rt.alloc(), &PLAIN_72, &TWO)?;
+    for piece in [1usize, 7, 8192] {
+        check_piece(&rt, &TWO, false, piece.max(1));
+        check_piece(&rt, &behind, true, piece.max(1));
+    }
+    Ok(())
+}

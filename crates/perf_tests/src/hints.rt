@@ -1,0 +1,255 @@
+//! A buffer that says how many bytes are left by a rule of its own, and counts how often it is asked
+//! for bytes.
+
+ghost use Rattle.std.specs.Prelude.{false, None, []};
+
+use crate::checks::{check_same, check_text, check_that};
+use perf_event_data::endian::Little;
+use perf_event_data::parse::{ParseBuf, ParseBufChunk, ParseError, ParseResult};
+use perf_event_data::sys::perf_event_attr;
+use perf_testing::attributes::attribute;
+use perf_testing::runs::tell_under;
+use std::alloc::{AllocError, Global};
+use std::cell::Cell;
+use std::process::Abort;
+use std::test::Fail;
+
+// What the buffer says of how many bytes are left.
+#[derive(Copy, Clone)]
+enum Rule {
+    // How many there are.
+    Left,
+    // How many it has not read ahead, as a file's length without what was read of it.
+    Unread,
+    // The first before any byte is taken, and the second from then on.
+    Around(Option<usize>, Option<usize>),
+}
+
+// Reads a slice ahead, at most so many bytes at a time.
+#[derive(Drop)]
+struct Hinting<'a, 'p> {
+    unread: &'p [u8],
+    ready: &'p [u8],
+    ahead: usize,
+    lasting: bool,
+    rule: Rule,
+    hint: Option<usize>,
+    asked: &'a Cell<usize>,
+}
+
+impl<'a, 'p> Hinting<'a, 'p> {
+    fn new(
+        bytes: &'p [u8],
+        ahead: usize,
+        lasting: bool,
+        rule: Rule,
+        asked: &'a Cell<usize>,
+    ) -> Self {
+        let hint = match rule {
+            Rule::Left | Rule::Unread => Some(bytes.len()),
+            Rule::Around(before, _) => before,
+        };
+        Hinting {
+            unread: bytes,
+            ready: &[],
+            ahead,
+            lasting,
+            rule,
+            hint,
+            asked,
+        }
+    }
+
+    // Reads ahead, where nothing is ready.
+    fn read_ahead(&mut self) {
+        let count = self.ahead.min(self.unread.len());
+        (self.ready, self.unread) = self.unread.split_at(count);
+        if let Rule::Unread = self.rule {
+            self.hint = Some(self.unread.len());
+        }
+    }
+}
+
+impl<'p> ParseBuf<'p> for Hinting<'_, 'p> {
+    ghost source = { λ _. record {
+      left = [];
+      told = false;
+      whole = false;
+      can_fault = false;
+      faults = None;
+    } };
+
+    ghost ready = { λ s. s.ready.now };
+
+    ghost hint = { λ s. s.hint };
+
+    fn chunk(&mut self) -> ParseResult<ParseBufChunk<'_, 'p>> {
+        self.asked.set(self.asked.get().saturating_add(1));
+        if self.ready.is_empty() {
+            self.read_ahead();
+        }
+        if self.ready.is_empty() {
+            return Err(ParseError::eof());
+        }
+        if self.lasting {
+            Ok(ParseBufChunk::External(self.ready))
+        } else {
+            Ok(ParseBufChunk::Temporary(self.ready))
+        }
+    }
+
+    fn advance(&mut self, count: usize) {
+        self.ready = &self.ready[count..];
+        self.hint = match self.rule {
+            Rule::Left => Some(self.ready.len().saturating_add(self.unread.len())),
+            Rule::Unread => self.hint,
+            Rule::Around(_, after) => after,
+        };
+    }
+
+    fn remaining_hint(&self) -> Option<usize> {
+        self.hint
+    }
+}
+
+// What a body has in front of the zero bytes that fill it.
+const FIELDS: [u8; 10] = [1, 0, 0, 0, 2, 0, 0, 0, 0x61, 0x62];
+
+// A frame of a type, of so many bytes.
+fn push_frame(bytes: &mut Vec<u8>, ty: u8, size: u16) -> Result<(), AllocError> {
+    let end = bytes.len().saturating_add(usize::from(size));
+    let [low, high] = size.to_le_bytes();
+    bytes.extend_from_slice(&[ty, 0, 0, 0, 0, 0, low, high])?;
+    bytes.extend_from_slice(&FIELDS)?;
+    bytes.resize(end, 0)
+}
+
+// IP of a sample type.
+const IP: u64 = 1;
+
+// ---- hints that are wrong
+
+// A frame of so many bytes.
+const SIZE: u16 = 4096;
+
+// How many of them are its body's.
+const BODY: usize = 4088;
+
+// A type, what a run of one frame says of it, and what it says where the buffer says that it has too
+// few bytes for the body.
+const TYPES: [(u8, &str, &str); 3] = [
+    (
+        9,
+        "0 9 0 4096 Sample ip=8589934593; limit",
+        "0 9 0 4096 refused Eof; limit",
+    ),
+    (
+        3,
+        "0 3 0 4096 Comm pid=1 tid=2 comm=6162; limit",
+        "0 3 0 4096 refused Eof; limit",
+    ),
+    (
+        2,
+        "0 2 0 4096 Lost id=8589934593 lost=25185; limit",
+        "0 2 0 4096 refused Eof; limit",
+    ),
+];
+
+// Asserts what a run of one frame says over a buffer of this rule, whether its bytes last or not.
+fn check_rule(rt: &(impl AllocGlobal + Abort), bytes: &[u8], ahead: usize, rule: Rule, want: &str) {
+    let attr = attribute(IP, 0);
+    for lasting in [true, false] {
+        let asked = Cell::new(0);
+        let buf = Hinting::new(bytes, ahead, lasting, rule, &asked);
+        check_text(rt, tell_under(rt.alloc(), buf, Little, &attr, &[1]), want);
+    }
+}
+
+// A file of 10,240 bytes, of which 8,192 are read at first. Its frame is among them, and fewer
+// bytes than it has are unread then.
+#[test]
+fn what_is_unread_is_less_than_a_frame_that_was_read_ahead(rt: HostRuntime) -> Result<(), Fail> {
+    for (ty, _, want) in TYPES {
+        let mut bytes = Vec::new(rt.alloc());
+        push_frame(&mut bytes, ty, SIZE)?;
+        bytes.resize(10240, 0)?;
+        check_rule(&rt, &bytes, 8192, Rule::Unread, want);
+    }
+    Ok(())
+}
+
+// What is said before the header is taken and behind it, and whether the frame is a record: what is
+// said behind the header counts.
+const RULES: [(Option<usize>, Option<usize>, bool); 10] = [
+    (Some(0), Some(BODY), true),
+    (Some(7), Some(BODY), true),
+    (Some(BODY + 7), Some(BODY), true),
+    (Some(BODY + 8), Some(BODY), true),
+    (Some(BODY + 8), Some(BODY - 1), false),
+    (Some(BODY + 8), Some(0), false),
+    (None, Some(BODY - 1), false),
+    (None, Some(BODY), true),
+    (Some(BODY + 7), None, true),
+    (None, None, true),
+];
+
+#[test]
+fn the_hint_behind_the_header_counts(rt: HostRuntime) -> Result<(), Fail> {
+    for (ty, record, refused) in TYPES {
+        let mut bytes = Vec::new(rt.alloc());
+        push_frame(&mut bytes, ty, SIZE)?;
+        for (before, after, is_record) in RULES {
+            let want = if is_record { record } else { refused };
+            for ahead in [8192, 64] {
+                check_rule(&rt, &bytes, ahead, Rule::Around(before, after), want);
+            }
+        }
+    }
+    Ok(())
+}
+
+// ---- how often bytes are asked for
+
+// How often a run asks for those of a frame that is shown whole: for its header, and for its body.
+const OF_A_FRAME: usize = 2;
+
+// How often it asks at its end.
+const AT_THE_END: usize = 1;
+
+// A type, and what a run says at last over five frames of 24 bytes.
+const LAST: [(u8, &str); 3] = [
+    (9, "; 4 9 0 24 Sample ip=8589934593; done"),
+    (3, "; 4 3 0 24 Comm pid=1 tid=2 comm=6162; done"),
+    (2, "; 4 2 0 24 Lost id=8589934593 lost=25185; done"),
+];
+
+// How often a run asks for the bytes of these frames, and whether it says that at last.
+fn asks(
+    alloc: Global,
+    bytes: &[u8],
+    lasting: bool,
+    rule: Rule,
+    last: &str,
+) -> Result<(usize, bool), AllocError> {
+    let asked = Cell::new(0);
+    let buf = Hinting::new(bytes, 8192, lasting, rule, &asked);
+    let text = tell_under(alloc, buf, Little, &attribute(IP, 0), &[10])?;
+    Ok((asked.get(), text.ends_with(last)))
+}
+
+#[test]
+fn a_frame_that_is_shown_whole_is_asked_for_twice(rt: HostRuntime) -> Result<(), Fail> {
+    for (ty, last) in LAST {
+        let mut bytes = Vec::new(rt.alloc());
+        for _ in 0..5 {
+            push_frame(&mut bytes, ty, 24)?;
+        }
+        for rule in [Rule::Left, Rule::Around(None, None)] {
+            for lasting in [true, false] {
+                let told = asks(rt.alloc(), &bytes, lasting, rule, last)?;
+                check_same(&rt, last, told, (5 * OF_A_FRAME + AT_THE_END, true));
+            }
+        }
+    }
+    Ok(())
+}

@@ -1,0 +1,67 @@
+//! How much room the list of a run's answers has.
+
+use crate::checks::{check_same, check_that};
+use crate::runs::{FIVE_LOST, TWO};
+use perf_event_data::endian::Little;
+use perf_event_data::parse::{ParseBuf, ParseConfig, ParseResult, Parser};
+use perf_event_data::sys::perf_event_header;
+use perf_event_data::{PieceBuf, Record, read_records};
+use std::alloc::Global;
+use std::io::BufReader;
+use std::mem::size_of;
+use std::process::Abort;
+use std::test::Fail;
+
+// How many answers a run over a buffer lists, and for how many its list has room.
+fn room<'p, B: ParseBuf<'p> + Drop>(alloc: Global, buf: B, limit: usize) -> (usize, usize) {
+    let mut parser = Parser::new(alloc, buf, ParseConfig::<Little>::default());
+    let frames = read_records(&mut parser, limit).frames;
+    (frames.len(), frames.capacity())
+}
+
+// The same over a slice, a buffered reader and pieces.
+fn rooms(alloc: Global, bytes: &[u8], limit: usize) -> Result<[(usize, usize); 3], Fail> {
+    let reader = BufReader::with_capacity(alloc, 8192, bytes)?;
+    let over_reader = room(alloc, reader, limit);
+    let over_pieces = room(alloc, PieceBuf::new(bytes, 7, false), limit);
+    Ok([room(alloc, bytes, limit), over_reader, over_pieces])
+}
+
+// Bytes of which nothing is listed with this limit: none, the beginning of a header, and two frames
+// of which none is asked for.
+const OF_NOTHING: [(&[u8], usize); 6] = [
+    (&[], 0),
+    (&[], 1),
+    (&[], 256),
+    (&[], usize::MAX),
+    (&[13, 0, 0], 10),
+    (&TWO, 0),
+];
+
+#[test]
+fn a_list_of_nothing_has_no_room(rt: HostRuntime) -> Result<(), Fail> {
+    for (bytes, limit) in OF_NOTHING {
+        let told = rooms(rt.alloc(), bytes, limit)?;
+        check_same(&rt, "the rooms", told, [(0, 0); 3]);
+    }
+    Ok(())
+}
+
+// How many bytes a list takes that makes room for four answers with its first one.
+const MOST: usize = 1248;
+
+fn check_one(rt: &impl Abort, (count, room): (usize, usize)) {
+    let answer = size_of::<(perf_event_header, ParseResult<Record<'_>>)>();
+    check_same(rt, "how many are listed", count, 1);
+    check_that(rt, "no more than four", room.saturating_mul(answer) <= MOST);
+}
+
+#[test]
+fn a_list_of_one_answer_has_little_room(rt: HostRuntime) -> Result<(), Fail> {
+    for limit in [1, 10, 256, usize::MAX] {
+        for told in rooms(rt.alloc(), &FIVE_LOST, limit)? {
+            check_one(&rt, told);
+        }
+    }
+    Ok(())
+}
