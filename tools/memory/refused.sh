@@ -1,25 +1,47 @@
 #!/usr/bin/env bash
-# Runs the tests of the crate `perf_memory` with the first request for memory of each refused, and
-# beside it with the second one. Records over a slice answer the same, and a sample of raw bytes
-# alone makes one request.
+# Runs the tests of the crate `perf_memory` with the first request for memory of each test refused,
+# and so with each of the next three. Records over a slice stay the same, and a sample of raw bytes
+# alone makes one request. Over a buffered reader, which makes the first request, a run that lists
+# nothing makes none, and one that lists a sample makes room for its answer, then for the sample, and
+# then for the sample's call chain.
 set -eu
 cd "$(dirname "$0")/../../crates/perf_memory"
 
-# Says that the tests pass where a request is refused, and print this of the sample.
+# Checks that the tests pass where this request is refused, and that they print each of these lines.
 check() {
-    local told
-    told=$(rt try --test --fail-alloc "$1" 2>&1) || {
+    local request=$1 told line
+    shift
+    told=$(rt try --test --fail-alloc "$request" 2>&1) || {
         printf '%s\n' "$told"
         exit 1
     }
-    grep -qF -- "$2" <<< "$told" || {
-        printf 'request %s refused, but not: %s\n%s\n' "$1" "$2" "$told"
-        exit 1
-    }
-    printf 'request %s refused: %s\n' "$1" "$2"
+    for line in "$@"; do
+        grep -qF -- "$line" <<< "$told" || {
+            printf 'request %s refused, but not: %s\n%s\n' "$request" "$line" "$told"
+            exit 1
+        }
+        printf 'request %s refused: %s\n' "$request" "$line"
+    done
 }
 
-check 1 '0 9 0 16 refused OutOfMemory, then [true, true]' &
+check 1 \
+    '0 9 0 16 refused OutOfMemory, then [true, true]' \
+    'a text: Faulted, 22 bytes' &
 first=$!
-check 2 '0 9 0 16 Sample raw=aabb, then [false, true]'
+check 2 \
+    '0 9 0 16 Sample raw=aabb, then [false, true]' \
+    'nothing: 0 listed, done, then [false, true]' \
+    'half a header: 0 listed, cut, then [false, true]' \
+    'no frame: 0 listed, limit, then [false, true]'
 wait "$first"
+
+check 3 \
+    'a call chain: 1 listed, out of memory' \
+    'a short chain: 1 listed, done, then [true, true]' \
+    'a chain alone: 1 listed, done, then [true, true]' &
+third=$!
+check 4 \
+    'a call chain: 1 listed, out of memory' \
+    'a short chain: 1 listed, done' \
+    'a chain alone: 0 listed, out of memory'
+wait "$third"

@@ -3,4 +3,6 @@
 #![tactic(auto)]
 
 #[cfg(test)]
+mod runs;
+#[cfg(test)]
 mod slices;

@@ -1,0 +1,198 @@
+//! Runs over a buffered reader, whose records are read where the reader shows them.
+//!
+//! The first request of each test is that of the reader, and those behind it are the run's.
+
+ghost use Rattle.std.specs.Prelude.{◌≤◌};
+
+use perf_event_data::endian::Little;
+use perf_event_data::parse::{ErrorKind, ParseConfig, ParseResult, Parser};
+use perf_event_data::sys::{perf_event_attr, perf_event_header};
+use perf_event_data::{Record, Run, RunEnd, read_records};
+use perf_lines::line::line_of;
+use perf_lines::outcome::Outcome;
+use perf_lines::run::run;
+use std::alloc::Global;
+use std::io::{self, BufReader, Write};
+use std::process::Abort;
+
+// CALLCHAIN and RAW of a sample type.
+const CALLCHAIN: u64 = 1 << 5;
+
+const RAW: u64 = 1 << 10;
+
+// Whether a request for memory is granted, and whether the next one is.
+fn are_granted(alloc: Global) -> [bool; 2] {
+    [
+        Vec::from_slice(alloc, &[0u8]).is_ok(),
+        Vec::from_slice(alloc, &[0u8]).is_ok(),
+    ]
+}
+
+// The line of a frame, tried again where memory is refused: one request is refused, and no further
+// one.
+fn line_at_last(
+    alloc: Global,
+    index: usize,
+    header: &perf_event_header,
+    answer: &ParseResult<Record<'_>>,
+) -> ParseResult<String> {
+    match line_of(alloc, index, header, answer) {
+        Ok(line) => Ok(line),
+        Err(_) => line_of(alloc, index, header, answer),
+    }
+}
+
+// Asserts that what is listed is a beginning of these lines.
+fn check_lines(rt: &(impl AllocGlobal + Abort), run: &Run<'_>, lines: &[&str]) {
+    assert!(rt;
+        run.frames.len() <= lines.len(),
+        "{} are listed",
+        run.frames.len()
+    );
+    for (index, ((header, answer), want)) in run.frames.iter().zip(lines).enumerate() {
+        match line_at_last(rt.alloc(), index, header, answer) {
+            Ok(line) => assert_eq!(rt; line.as_str(), *want),
+            Err(_) => panic!(rt; "no memory"),
+        }
+    }
+}
+
+// How a run ended.
+fn ending(end: &RunEnd) -> &'static str {
+    match end {
+        RunEnd::Limit => "limit",
+        RunEnd::Done => "done",
+        RunEnd::CutHeader => "cut",
+        RunEnd::Fault(error) if error.kind() == ErrorKind::OutOfMemory => "out of memory",
+        RunEnd::Fault(_) => "fault",
+    }
+}
+
+// Asserts that a run over a reader of these bytes lists these lines and ends as it should, or a
+// beginning of them, where memory is refused. Prints which it is, and whether two requests behind the
+// run are granted, so that this can be compared with which request was refused.
+fn check_run(
+    rt: &(impl AllocGlobal + Print + Abort),
+    name: &str,
+    (bytes, sample_type): (&[u8], u64),
+    limit: usize,
+    (lines, end): (&[&str], &str),
+) {
+    let Ok(reader) = BufReader::with_capacity(rt.alloc(), 8192, bytes) else {
+        return;
+    };
+    let attr = perf_event_attr {
+        sample_type,
+        ..Default::default()
+    };
+    let mut parser = Parser::new(rt.alloc(), reader, ParseConfig::<Little>::from(attr));
+    let run = read_records(&mut parser, limit);
+    let granted = are_granted(rt.alloc());
+    let (count, ended) = (run.frames.len(), ending(&run.end));
+    let _ = println!(rt; "{name}: {count} listed, {ended}, then {granted:?}");
+    check_lines(rt, &run, lines);
+    assert!(rt;
+        ended == "out of memory" || (count, ended) == (lines.len(), end),
+        "{ended}"
+    );
+}
+
+// ---- runs that list nothing
+
+#[test]
+fn a_run_over_nothing(rt: HostRuntime) {
+    check_run(&rt, "nothing", (b"", 0), 10, (&[], "done"));
+}
+
+#[test]
+fn a_run_over_half_a_header(rt: HostRuntime) {
+    check_run(&rt, "half a header", (b"\x0D\0\0\0", 0), 10, (&[], "cut"));
+}
+
+#[test]
+fn a_run_without_a_limit_to_reach(rt: HostRuntime) {
+    let bytes = b"\x0D\0\0\0\0\0\x10\0\x05\0\0\0\0\0\0\0";
+    check_run(&rt, "no frame", (bytes, 0), 0, (&[], "limit"));
+}
+
+// ---- samples
+
+// Lost samples, and behind them a sample that is a call chain.
+#[test]
+fn a_call_chain(rt: HostRuntime) {
+    let bytes = b"\x0D\0\0\0\0\0\x10\0\x05\0\0\0\0\0\0\0\
+        \x09\0\0\0\0\0\x20\0\x02\0\0\0\0\0\0\0\x01\0\0\0\0\0\0\0\x02\0\0\0\0\0\0\0";
+    let lines = [
+        "0 13 0 16 LostSamples lost=5",
+        "1 9 0 32 Sample callchain=1,2",
+    ];
+    let of_chains = (bytes.as_slice(), CALLCHAIN);
+    check_run(&rt, "a call chain", of_chains, 10, (&lines, "done"));
+}
+
+// A call chain that claims four numbers and has one. It is refused for that, also where the sample's
+// box is refused.
+#[test]
+fn a_call_chain_that_is_too_short(rt: HostRuntime) {
+    let bytes = b"\x09\0\0\0\0\0\x18\0\x04\0\0\0\0\0\0\0\x01\0\0\0\0\0\0\0";
+    let lines = ["0 9 0 24 refused Eof"];
+    let of_chains = (bytes.as_slice(), CALLCHAIN);
+    check_run(&rt, "a short chain", of_chains, 10, (&lines, "done"));
+}
+
+// A call chain, and no raw bytes behind it. It is refused for that, also where the sample's box is
+// refused, but not where the chain's list is.
+#[test]
+fn a_call_chain_without_raw_bytes(rt: HostRuntime) {
+    let bytes = b"\x09\0\0\0\0\0\x18\0\x01\0\0\0\0\0\0\0\x07\0\0\0\0\0\0\0";
+    let lines = ["0 9 0 24 refused Eof"];
+    let of_both = (bytes.as_slice(), CALLCHAIN | RAW);
+    check_run(&rt, "a chain alone", of_both, 10, (&lines, "done"));
+}
+
+// ---- the text of a run
+
+// Keeps a text of at most so many bytes.
+#[derive(Drop)]
+struct Page {
+    bytes: [u8; 64],
+    len: usize,
+    ghost within: { len ≤ 64 },
+}
+
+impl Write for Page {
+    fn write(&mut self, buf: &[u8]) -> io::Result<usize> {
+        let count = buf.len().min(64 - self.len);
+        self.bytes[self.len..self.len + count].copy_from_slice(&buf[..count]);
+        self.len += count;
+        Ok(count)
+    }
+
+    fn flush(&mut self) -> io::Result<()> {
+        Ok(())
+    }
+}
+
+// Whether so ends the text of a run without frames. Its first request is that of the reader, and
+// those behind it are the text's.
+fn is_text(text: &[u8], outcome: Outcome) -> bool {
+    match outcome {
+        Outcome::Clean => text == b"end limit\n".as_slice(),
+        Outcome::Faulted => text == b"end fault OutOfMemory\n".as_slice(),
+        Outcome::Stopped => text.is_empty(),
+        Outcome::Refused | Outcome::BadAttr => false,
+    }
+}
+
+#[test]
+fn the_text_of_a_run_without_a_reader(rt: HostRuntime) {
+    let mut page = Page {
+        bytes: [0; 64],
+        len: 0,
+    };
+    let empty: &[u8] = &[];
+    let outcome = run(rt.alloc(), empty, &mut page, Little, 0, false, 8192);
+    let text = &page.bytes[..page.len];
+    let _ = println!(rt; "a text: {outcome:?}, {} bytes", text.len());
+    assert!(rt; is_text(text, outcome), "{outcome:?}");
+}
