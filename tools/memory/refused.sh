@@ -1,9 +1,9 @@
 #!/usr/bin/env bash
 # Runs the tests of the crate `perf_memory` with the first request for memory of each test refused,
-# and so with each of the next three. Records over a slice stay the same, and a sample of raw bytes
-# alone makes one request. Over a buffered reader, which makes the first request, a run that lists
-# nothing makes none, and one that lists a sample makes room for its answer, then for the sample, and
-# then for the sample's call chain.
+# and then with the second, the third and the fourth. Records over a slice are the same, and a sample
+# of raw bytes alone makes one request. Over a buffered reader, which makes the first request, a run
+# that lists nothing makes none, and one that lists a sample makes room for the frame, then for the
+# sample, and then for its call chain.
 set -eu
 cd "$(dirname "$0")/../../crates/perf_memory"
 

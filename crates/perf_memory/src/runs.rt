@@ -1,6 +1,6 @@
-//! Runs over a buffered reader, whose records are read where the reader shows them.
+//! Runs over a buffered reader, whose records are read in place.
 //!
-//! The first request of each test is that of the reader, and those behind it are the run's.
+//! The first request for memory of each test is the reader's, and the next ones are the run's.
 
 ghost use Rattle.std.specs.Prelude.{◌≤◌};
 
@@ -68,9 +68,9 @@ fn ending(end: &RunEnd) -> &'static str {
     }
 }
 
-// Asserts that a run over a reader of these bytes lists these lines and ends as it should, or a
-// beginning of them, where memory is refused. Prints which it is, and whether two requests behind the
-// run are granted, so that this can be compared with which request was refused.
+// Asserts that a run over a reader of these bytes lists frames with these lines and ends so, or, where
+// memory is refused, that it lists the first of them. Prints which it is, and whether the next
+// two requests are granted, which shows how many requests the run made.
 fn check_run(
     rt: &(impl AllocGlobal + Print + Abort),
     name: &str,
@@ -117,7 +117,7 @@ fn a_run_without_a_limit_to_reach(rt: HostRuntime) {
 
 // ---- samples
 
-// Lost samples, and behind them a sample that is a call chain.
+// Lost samples, and then a sample with a call chain.
 #[test]
 fn a_call_chain(rt: HostRuntime) {
     let bytes = b"\x0D\0\0\0\0\0\x10\0\x05\0\0\0\0\0\0\0\
@@ -130,8 +130,8 @@ fn a_call_chain(rt: HostRuntime) {
     check_run(&rt, "a call chain", of_chains, 10, (&lines, "done"));
 }
 
-// A call chain that claims four numbers and has one. It is refused for that, also where the sample's
-// box is refused.
+// A call chain that claims four numbers and contains one. The sample is refused for that, even where
+// its box is refused.
 #[test]
 fn a_call_chain_that_is_too_short(rt: HostRuntime) {
     let bytes = b"\x09\0\0\0\0\0\x18\0\x04\0\0\0\0\0\0\0\x01\0\0\0\0\0\0\0";
@@ -140,8 +140,8 @@ fn a_call_chain_that_is_too_short(rt: HostRuntime) {
     check_run(&rt, "a short chain", of_chains, 10, (&lines, "done"));
 }
 
-// A call chain, and no raw bytes behind it. It is refused for that, also where the sample's box is
-// refused, but not where the chain's list is.
+// A call chain without the raw bytes that should follow. The sample is refused for that, even where
+// its box is refused, but out of memory comes first where the list of the chain is refused.
 #[test]
 fn a_call_chain_without_raw_bytes(rt: HostRuntime) {
     let bytes = b"\x09\0\0\0\0\0\x18\0\x01\0\0\0\0\0\0\0\x07\0\0\0\0\0\0\0";
@@ -152,7 +152,7 @@ fn a_call_chain_without_raw_bytes(rt: HostRuntime) {
 
 // ---- the text of a run
 
-// Keeps a text of at most so many bytes.
+// Keeps a text of at most 64 bytes.
 #[derive(Drop)]
 struct Page {
     bytes: [u8; 64],
@@ -173,8 +173,8 @@ impl Write for Page {
     }
 }
 
-// Whether so ends the text of a run without frames. Its first request is that of the reader, and
-// those behind it are the text's.
+// Whether this is the text of a run with a limit of no frames. Its first request is the reader's, and
+// the next ones are the text's.
 fn is_text(text: &[u8], outcome: Outcome) -> bool {
     match outcome {
         Outcome::Clean => text == b"end limit\n".as_slice(),

@@ -1,4 +1,4 @@
-//! What the error says by which a run ends, and that of a frame that is refused.
+//! The messages and causes of the error that ends a run, and of those of refused frames.
 
 ghost use Rattle.std.specs.Prelude.{true, false, None, []};
 
@@ -19,7 +19,7 @@ use std::test::Fail;
 
 // ---- faults
 
-// What the fault says by which a run ends.
+// The text of the fault that ends a run.
 fn told_fault<'p, B: ParseBuf<'p> + Drop>(alloc: Global, buf: B) -> Result<String, AllocError> {
     let mut parser = parser_of(alloc, buf, Little, &attribute(IP, 0));
     match read_records(&mut parser, 10).end {
@@ -28,7 +28,7 @@ fn told_fault<'p, B: ParseBuf<'p> + Drop>(alloc: Global, buf: B) -> Result<Strin
     }
 }
 
-// Gives some bytes, and then it fails.
+// Gives some bytes, and then fails.
 #[derive(Drop)]
 struct Failing<'a> {
     bytes: &'a [u8],
@@ -43,8 +43,8 @@ impl Read for Failing<'_> {
     }
 }
 
-// Gives some bytes, and then it fails by an error with a message, or with a cause. Of how many bytes
-// are left it says one thing.
+// Gives some bytes, and then fails, by an error with a message or with a cause. Its hint never
+// changes.
 #[derive(Drop)]
 struct Breaking<'p> {
     bytes: &'p [u8],
@@ -115,8 +115,8 @@ fn a_run_ends_by_the_error_of_its_reader(rt: HostRuntime) -> Result<(), Fail> {
     Ok(())
 }
 
-// Asserts what the fault says, whatever the buffer says of how many bytes are left: nothing, too
-// many, or too few for a body.
+// Asserts the text of the fault, whether there is no hint, one that is too large, or one that is too
+// small for a body.
 fn check_broken(rt: &(impl AllocGlobal + Abort), bytes: &[u8], has_message: bool, want: &str) {
     for hint in [None, Some(1000), Some(3)] {
         let buf = Breaking {
@@ -141,7 +141,7 @@ fn a_run_ends_by_the_error_of_its_buffer(rt: HostRuntime) {
 
 // ---- refused frames
 
-// What the refusal says of a run's first frame.
+// The text of the refusal of a run's first frame.
 #[derive(Drop)]
 struct FirstRefusal<'a> {
     attr: &'a perf_event_attr,
@@ -157,8 +157,8 @@ impl<'p, B: ParseBuf<'p> + Drop> Says<'p, B> for FirstRefusal<'_> {
     }
 }
 
-// A frame, the sample type, the read format and the flags under which it is refused, its kind as a
-// name and as text, and its message.
+// A frame, the sample type, the read format and the flags under which it is refused, and the refusal:
+// the name and the text of its kind, and its message.
 struct Refused<'a> {
     bytes: &'a [u8],
     under: (u64, u64, u64),
@@ -184,14 +184,14 @@ const STACK_USER: u64 = 1 << 13;
 
 const ALL_IDS: u64 = 1 << 18;
 
-// GROUP and ID of a read format, and a bit that it has not.
+// GROUP and ID of a read format, and a bit that no read format has.
 const GROUP: u64 = 1 << 3;
 
 const ID: u64 = 1 << 2;
 
 const NO_FORMAT: u64 = 1 << 5;
 
-// Each refusal of a frame that has a message.
+// Each refusal of a frame with a message.
 const REFUSED: [Refused<'static>; 9] = [
     Refused {
         bytes: b"\x03\0\0\0\0\0\x07\0",
@@ -251,14 +251,14 @@ const REFUSED: [Refused<'static>; 9] = [
     },
 ];
 
-// What such a refusal says, and what it should say.
+// The text of such a refusal, and what it should be.
 fn told_refused(alloc: Global, refused: &Refused) -> Result<(String, String), AllocError> {
     let (sample_type, read_format, flags) = refused.under;
     let mut attr = attribute(sample_type, read_format);
     attr.flags = flags;
     let text = say_everywhere(alloc, refused.bytes, &FirstRefusal { attr: &attr })?;
-    let ((kind, says), message) = (refused.kind, refused.message);
-    let want = format!(in alloc; "{kind}, Some({message:?}), no cause, {says}: {message}")?;
+    let ((kind, text_of_kind), message) = (refused.kind, refused.message);
+    let want = format!(in alloc; "{kind}, Some({message:?}), no cause, {text_of_kind}: {message}")?;
     Ok((text, want))
 }
 

@@ -1,4 +1,4 @@
-//! How much a reader is asked for at once.
+//! How long the buffers are that a reader is handed.
 
 ghost use Rattle.std.specs.Prelude.{◌<◌};
 
@@ -13,7 +13,7 @@ use std::io;
 use std::io::Read;
 use std::process::Abort;
 
-// Gives as many bytes as it is asked for, and keeps the most that it was asked for at once.
+// Fills the buffers that it is handed, and keeps the length of the longest one.
 #[derive(Drop)]
 struct Handed<'a> {
     bytes: &'a [u8],
@@ -27,7 +27,7 @@ impl Read for Handed<'_> {
     }
 }
 
-// Asserts that a run writes the text of two frames, and asks for a piece at once.
+// Asserts that a run writes the text of two frames, and that its reader is handed a piece at a time.
 fn check_piece(rt: &(impl AllocGlobal + Abort), bytes: &[u8], with_attr: bool, piece: usize)
     requires { 0 < piece }
 {
@@ -53,10 +53,10 @@ fn check_piece(rt: &(impl AllocGlobal + Abort), bytes: &[u8], with_attr: bool, p
 
 #[test]
 fn a_reader_is_handed_a_piece_at_a_time(rt: HostRuntime) -> Result<(), AllocError> {
-    let behind = joined(rt.alloc(), &PLAIN_72, &TWO)?;
+    let with_attr = joined(rt.alloc(), &PLAIN_72, &TWO)?;
     for piece in [1usize, 7, 8192] {
         check_piece(&rt, &TWO, false, piece.max(1));
-        check_piece(&rt, &behind, true, piece.max(1));
+        check_piece(&rt, &with_attr, true, piece.max(1));
     }
     Ok(())
 }

@@ -1,12 +1,11 @@
-//! A buffer that says how many bytes are left by a rule of its own, and counts how often it is asked
-//! for bytes.
+//! A buffer whose hint of how many bytes are left follows a rule of its own, and that counts the calls
+//! of its `chunk`.
 
 ghost use Rattle.std.specs.Prelude.{false, None, []};
 
-use crate::checks::{check_same, check_text, check_that};
+use crate::checks::{check_same, check_text};
 use perf_event_data::endian::Little;
 use perf_event_data::parse::{ParseBuf, ParseBufChunk, ParseError, ParseResult};
-use perf_event_data::sys::perf_event_attr;
 use perf_testing::attributes::attribute;
 use perf_testing::runs::tell_under;
 use std::alloc::{AllocError, Global};
@@ -14,18 +13,18 @@ use std::cell::Cell;
 use std::process::Abort;
 use std::test::Fail;
 
-// What the buffer says of how many bytes are left.
+// What the hint is.
 #[derive(Copy, Clone)]
 enum Rule {
-    // How many there are.
+    // How many bytes are left.
     Left,
-    // How many it has not read ahead, as a file's length without what was read of it.
+    // How many were not read ahead: the length of a file without what was fetched of it.
     Unread,
-    // The first before any byte is taken, and the second from then on.
+    // The first until a byte is taken, and the second from then on.
     Around(Option<usize>, Option<usize>),
 }
 
-// Reads a slice ahead, at most so many bytes at a time.
+// Reads a slice ahead, at most `ahead` bytes at a time.
 #[derive(Drop)]
 struct Hinting<'a, 'p> {
     unread: &'p [u8],
@@ -112,10 +111,10 @@ impl<'p> ParseBuf<'p> for Hinting<'_, 'p> {
     }
 }
 
-// What a body has in front of the zero bytes that fill it.
+// How a body begins. Zero bytes fill the rest.
 const FIELDS: [u8; 10] = [1, 0, 0, 0, 2, 0, 0, 0, 0x61, 0x62];
 
-// A frame of a type, of so many bytes.
+// Appends a frame of a type and a size.
 fn push_frame(bytes: &mut Vec<u8>, ty: u8, size: u16) -> Result<(), AllocError> {
     let end = bytes.len().saturating_add(usize::from(size));
     let [low, high] = size.to_le_bytes();
@@ -129,14 +128,14 @@ const IP: u64 = 1;
 
 // ---- hints that are wrong
 
-// A frame of so many bytes.
+// The size of a frame.
 const SIZE: u16 = 4096;
 
-// How many of them are its body's.
+// The length of its body.
 const BODY: usize = 4088;
 
-// A type, what a run of one frame says of it, and what it says where the buffer says that it has too
-// few bytes for the body.
+// A type, the text of a run of one frame of it, and the text where the hint is below the length of the
+// body.
 const TYPES: [(u8, &str, &str); 3] = [
     (
         9,
@@ -155,7 +154,7 @@ const TYPES: [(u8, &str, &str); 3] = [
     ),
 ];
 
-// Asserts what a run of one frame says over a buffer of this rule, whether its bytes last or not.
+// Asserts the text of a run of one frame over a buffer with this rule, whose bytes last or not.
 fn check_rule(rt: &(impl AllocGlobal + Abort), bytes: &[u8], ahead: usize, rule: Rule, want: &str) {
     let attr = attribute(IP, 0);
     for lasting in [true, false] {
@@ -165,8 +164,8 @@ fn check_rule(rt: &(impl AllocGlobal + Abort), bytes: &[u8], ahead: usize, rule:
     }
 }
 
-// A file of 10,240 bytes, of which 8,192 are read at first. Its frame is among them, and fewer
-// bytes than it has are unread then.
+// A file of 10,240 bytes, of which 8,192 are fetched at first. They contain the whole frame, and the
+// 2,048 that are left to fetch are fewer than its body has.
 #[test]
 fn what_is_unread_is_less_than_a_frame_that_was_read_ahead(rt: HostRuntime) -> Result<(), Fail> {
     for (ty, _, want) in TYPES {
@@ -178,8 +177,8 @@ fn what_is_unread_is_less_than_a_frame_that_was_read_ahead(rt: HostRuntime) -> R
     Ok(())
 }
 
-// What is said before the header is taken and behind it, and whether the frame is a record: what is
-// said behind the header counts.
+// The hint before the header is taken, the hint after that, and whether the frame is a record. Only
+// the second one counts.
 const RULES: [(Option<usize>, Option<usize>, bool); 10] = [
     (Some(0), Some(BODY), true),
     (Some(7), Some(BODY), true),
@@ -194,7 +193,7 @@ const RULES: [(Option<usize>, Option<usize>, bool); 10] = [
 ];
 
 #[test]
-fn the_hint_behind_the_header_counts(rt: HostRuntime) -> Result<(), Fail> {
+fn the_hint_after_the_header_counts(rt: HostRuntime) -> Result<(), Fail> {
     for (ty, record, refused) in TYPES {
         let mut bytes = Vec::new(rt.alloc());
         push_frame(&mut bytes, ty, SIZE)?;
@@ -208,23 +207,23 @@ fn the_hint_behind_the_header_counts(rt: HostRuntime) -> Result<(), Fail> {
     Ok(())
 }
 
-// ---- how often bytes are asked for
+// ---- how often `chunk` is called
 
-// How often a run asks for those of a frame that is shown whole: for its header, and for its body.
-const OF_A_FRAME: usize = 2;
+// How often a run calls it for a frame that one chunk contains: for the header, and for the body.
+const CHUNKS_OF_A_FRAME: usize = 2;
 
-// How often it asks at its end.
-const AT_THE_END: usize = 1;
+// How often it calls it at the end.
+const CHUNKS_AT_THE_END: usize = 1;
 
-// A type, and what a run says at last over five frames of 24 bytes.
+// A type, and how the text of a run over five frames of 24 bytes ends.
 const LAST: [(u8, &str); 3] = [
     (9, "; 4 9 0 24 Sample ip=8589934593; done"),
     (3, "; 4 3 0 24 Comm pid=1 tid=2 comm=6162; done"),
     (2, "; 4 2 0 24 Lost id=8589934593 lost=25185; done"),
 ];
 
-// How often a run asks for the bytes of these frames, and whether it says that at last.
-fn asks(
+// How often a run over these frames calls `chunk`, and whether its text ends so.
+fn calls_of_chunk(
     alloc: Global,
     bytes: &[u8],
     lasting: bool,
@@ -238,7 +237,7 @@ fn asks(
 }
 
 #[test]
-fn a_frame_that_is_shown_whole_is_asked_for_twice(rt: HostRuntime) -> Result<(), Fail> {
+fn a_frame_in_one_chunk_takes_two_calls(rt: HostRuntime) -> Result<(), Fail> {
     for (ty, last) in LAST {
         let mut bytes = Vec::new(rt.alloc());
         for _ in 0..5 {
@@ -246,8 +245,13 @@ fn a_frame_that_is_shown_whole_is_asked_for_twice(rt: HostRuntime) -> Result<(),
         }
         for rule in [Rule::Left, Rule::Around(None, None)] {
             for lasting in [true, false] {
-                let told = asks(rt.alloc(), &bytes, lasting, rule, last)?;
-                check_same(&rt, last, told, (5 * OF_A_FRAME + AT_THE_END, true));
+                let told = calls_of_chunk(rt.alloc(), &bytes, lasting, rule, last)?;
+                check_same(
+                    &rt,
+                    last,
+                    told,
+                    (5 * CHUNKS_OF_A_FRAME + CHUNKS_AT_THE_END, true),
+                );
             }
         }
     }

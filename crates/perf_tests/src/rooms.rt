@@ -1,4 +1,4 @@
-//! How much room the list of a run's answers has.
+//! How much room there is in the list of a run's frames.
 
 use crate::checks::{check_same, check_that};
 use crate::runs::{FIVE_LOST, TWO};
@@ -12,7 +12,7 @@ use std::mem::size_of;
 use std::process::Abort;
 use std::test::Fail;
 
-// How many answers a run over a buffer lists, and for how many its list has room.
+// How many frames a run over a buffer lists, and the capacity of its list.
 fn room<'p, B: ParseBuf<'p> + Drop>(alloc: Global, buf: B, limit: usize) -> (usize, usize) {
     let mut parser = Parser::new(alloc, buf, ParseConfig::<Little>::default());
     let frames = read_records(&mut parser, limit).frames;
@@ -27,8 +27,8 @@ fn rooms(alloc: Global, bytes: &[u8], limit: usize) -> Result<[(usize, usize); 3
     Ok([room(alloc, bytes, limit), over_reader, over_pieces])
 }
 
-// Bytes of which nothing is listed with this limit: none, the beginning of a header, and two frames
-// of which none is asked for.
+// Bytes and a limit with which nothing is listed: no bytes, a part of a header, and two frames with a
+// limit of none.
 const OF_NOTHING: [(&[u8], usize); 6] = [
     (&[], 0),
     (&[], 1),
@@ -47,17 +47,22 @@ fn a_list_of_nothing_has_no_room(rt: HostRuntime) -> Result<(), Fail> {
     Ok(())
 }
 
-// How many bytes a list takes that makes room for four answers with its first one.
+// How many bytes a list of four frames takes, each with its header and its record: the least capacity
+// that a list grows to.
 const MOST: usize = 1248;
 
 fn check_one(rt: &impl Abort, (count, room): (usize, usize)) {
-    let answer = size_of::<(perf_event_header, ParseResult<Record<'_>>)>();
+    let size = size_of::<(perf_event_header, ParseResult<Record<'_>>)>();
     check_same(rt, "how many are listed", count, 1);
-    check_that(rt, "no more than four", room.saturating_mul(answer) <= MOST);
+    check_that(
+        rt,
+        "at most that many bytes",
+        room.saturating_mul(size) <= MOST,
+    );
 }
 
 #[test]
-fn a_list_of_one_answer_has_little_room(rt: HostRuntime) -> Result<(), Fail> {
+fn a_list_of_one_frame_has_little_room(rt: HostRuntime) -> Result<(), Fail> {
     for limit in [1, 10, 256, usize::MAX] {
         for told in rooms(rt.alloc(), &FIVE_LOST, limit)? {
             check_one(&rt, told);
