@@ -98,8 +98,8 @@ const FRAMES: [&[u8]; 2] = [
     b"\x03\0\0\0\0\0\x18\0\x01\0\0\0\x02\0\0\0ab\0\0\0\0\0\0",
 ];
 
-// How many bytes there are of them: none, half a header, a header, half a body, and all.
-const COUNTS: [usize; 5] = [0, 4, 8, 16, 24];
+// How many bytes there are of them: none, one, half a header, a header, half a body, and all.
+const COUNTS: [usize; 6] = [0, 1, 4, 8, 16, 24];
 
 #[test]
 fn a_run_ends_by_the_error_of_its_reader(rt: HostRuntime) -> Result<(), Fail> {
