@@ -2,8 +2,8 @@
 # Runs the tests of the crate `perf_memory` with the first request for memory of each test refused,
 # and then with the second, the third and the fourth. Records over a slice are the same, and a sample
 # of raw bytes alone makes one request. Over a buffered reader, which makes the first request, a run
-# that lists nothing makes none, and one that lists a sample makes room for the frame, then for the
-# sample, and then for its call chain.
+# over nothing makes none, and one that lists a sample makes room for the frame, then for the
+# sample, and then for its call chain. Room for one answer is asked for twice if it is refused.
 set -eu
 cd "$(dirname "$0")/../../crates/perf_memory"
 
@@ -31,7 +31,7 @@ first=$!
 check 2 \
     '0 9 0 16 Sample raw=aabb, then [false, true]' \
     'nothing: 0 listed, done, then [false, true]' \
-    'half a header: 0 listed, cut, then [false, true]' \
+    'half a header: 0 listed, cut, then [true, true]' \
     'no frame: 0 listed, limit, then [false, true]'
 wait "$first"
 

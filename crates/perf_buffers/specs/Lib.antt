@@ -3,5 +3,5 @@ pub mod Taking
 pub mod Cursor
 pub mod Room
 pub mod Pieces
-pub mod Shown
+pub mod FrameBytes
 pub mod Words

@@ -15,4 +15,4 @@ pub use Rattle.perf_buffers.specs.Cursor.{is_at_start}
 pub use Rattle.perf_buffers.specs.Room.{falls_short, is_made_beforehand, makes_all_room, room_made}
 pub use Rattle.perf_buffers.specs.Taking.{Takes, FailsToTake, FailsToKeep, FailsInRest, CanFail}
 pub use Rattle.perf_buffers.specs.Taking.{FailsBehind, TakesAtOnce}
-pub use Rattle.perf_buffers.specs.Shown.{Views}
+pub use Rattle.perf_buffers.specs.FrameBytes.{GivesNextBytes}

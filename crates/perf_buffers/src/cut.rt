@@ -99,7 +99,7 @@ pub fn skip<'p, B: ParseBuf<'p>>(buf: &mut B, len: usize) -> ParseResult<()>
 // The refusal where fewer than `len` bytes are left, all of which are taken.
 #[cold]
 #[inline(never)]
-fn shortage<'p, B: ParseBuf<'p>>(buf: &mut B, kept: &mut Kept, len: usize) -> Refusal
+pub(crate) fn shortage<'p, B: ParseBuf<'p>>(buf: &mut B, kept: &mut Kept, len: usize) -> Refusal
     requires { IsTrue (B.source buf.old).told → length (B.source buf.old).left < len }
     ensures stays { Stays (B.source buf.old) (Some (refusal_kind result)) (B.source buf.new) }
     ensures can_fail { CanFail (B.source buf.old) (Some (refusal_kind result)) }
@@ -122,7 +122,7 @@ fn first_room(hinted: bool, len: usize) -> usize
 }
 
 // The next `len` bytes, copied.
-fn copy<'p, B: ParseBuf<'p>>(
+pub(crate) fn copy<'p, B: ParseBuf<'p>>(
     alloc: Global,
     buf: &mut B,
     len: usize,
@@ -153,7 +153,7 @@ fn copy<'p, B: ParseBuf<'p>>(
 
 // Whether the buffer says that it has fewer than `len` bytes.
 #[inline]
-fn says_too_few(hint: Option<usize>, len: usize) -> bool
+pub(crate) fn says_too_few(hint: Option<usize>, len: usize) -> bool
     ensures { result ≡ words.falls_short hint len }
 {
     match hint {

@@ -1,22 +1,28 @@
 //! A buffer of any kind as an input.
 
-ghost use Rattle.std.specs.Prelude.{◌≡◌, IsTrue, IfOk, IfErr};
+ghost use Rattle.std.specs.Prelude.{◌≡◌, ◌≤◌, ◌*◌, length, true, IsTrue, IsOk, IfOk, IfErr};
 ghost use Rattle.perf_base.specs.Errors.{kind_of};
 ghost use Rattle.perf_base.specs.Refusals.{IsAnswerOf, refusal_kind};
-ghost use Rattle.perf_buffers.specs.Words.{kinds, refused, Stays, Refuses, Views};
+ghost use Rattle.perf_buffers.specs.FrameBytes.{GivesNextBytes, TakesOrLeaves};
+ghost use Rattle.perf_buffers.specs.Words.{kinds, refused, Stays, Refuses, CanFail, TakesNoMemory};
+ghost use Rattle.perf_buffers.specs.Words.{FailsToKeep, falls_short, is_made_beforehand};
 
 use crate::cursor::ParseBufCursor;
-use crate::cut::{cut, skip};
+use crate::cut::{cut, says_too_few, shortage, skip};
 use crate::fill::fill;
+use crate::frame_reader::{Found, FrameReader, frames_in, read_assembled, read_in_place};
 use crate::input::Input;
-use crate::parsebuf::ParseBuf;
+use crate::parsebuf::{ParseBuf, ParseBufChunk};
 use crate::rest::take_rest;
-use crate::shown::Viewer;
 use crate::zeros::take_zeros;
 use perf_base::cow::CowSlice;
-use perf_base::error::ParseError;
+use perf_base::endian::Endian;
+use perf_base::error::{ErrorKind, ParseError};
 use perf_base::refusal::{Kept, ReadResult, Refusal};
 use std::alloc::Global;
+
+// How many bytes a small frame has.
+const SMALL_FRAME: usize = 32;
 
 /// A buffer, and the error of its last fault.
 #[derive(Drop)]
@@ -65,29 +71,106 @@ impl<B> Outer<B> {
 }
 
 impl<'p, B: ParseBuf<'p>> Outer<B> {
-    /// Shows the next bytes to a viewer, and takes those that it takes.
+    /// The next `N` bytes, if the next chunk has them all; otherwise nothing is taken. A refusal is
+    /// that of the chunk.
     #[inline]
-    pub fn show<V: Viewer<'p>>(&mut self, viewer: V) -> ReadResult<V::Output>
+    pub fn take_shown<const N: usize>(&mut self) -> ReadResult<Option<[u8; N]>>
         ensures stays { Stays (B.source self.old.buf) (refused (kinds result))
             (B.source self.new.buf) }
-        ensures ok { IfOk result (λ output.
-            Views (V.gives viewer) (B.source self.old.buf) output (B.source self.new.buf)) }
+        ensures ok { IfOk result (λ taken. IsTrue (B.source self.old.buf).told →
+            TakesOrLeaves (B.source self.old.buf) N taken (B.source self.new.buf)) }
         ensures err { IfErr result (λ e. Refuses (B.source self.old.buf) (refusal_kind e)
             × (IsTrue (B.source self.old.buf).told →
             (B.source self.new.buf).left ≡ (B.source self.old.buf).left)) }
     {
         let chunk = match self.buf.chunk() {
             Ok(chunk) => chunk,
-            Err(error) => {
-                drop(viewer);
-                return Err(self.kept.keep(error));
-            }
+            Err(error) => return Err(self.kept.keep(error)),
         };
-        let (output, count) = viewer.view(chunk);
-        if 0 < count {
-            self.buf.advance(count);
+        let front = match chunk.as_bytes().first_chunk::<N>() {
+            Some(front) => *front,
+            None => return Ok(None),
+        };
+        self.buf.advance(N);
+        Ok(Some(front))
+    }
+
+    /// How many frames begin in the bytes that the next chunk has, at most `most`: they are counted,
+    /// or as many as small frames would be. Nothing is taken.
+    #[inline]
+    pub fn frames_shown<E: Endian>(
+        &mut self,
+        endian: &E,
+        most: usize,
+        counted: bool,
+    ) -> ReadResult<usize>
+        ensures stays { Stays (B.source self.old.buf) (refused (kinds result))
+            (B.source self.new.buf) }
+        ensures same { IsTrue (B.source self.old.buf).told →
+            (B.source self.new.buf).left ≡ (B.source self.old.buf).left }
+        ensures most { IfOk result (λ count. count ≤ most) }
+        ensures shown { IfOk result (λ count. IsTrue (B.source self.old.buf).told →
+            8 * count ≤ length (B.source self.old.buf).left) }
+        ensures err { IfErr result (λ e. Refuses (B.source self.old.buf) (refusal_kind e)) }
+    {
+        match self.buf.chunk() {
+            Ok(chunk) if counted => Ok(frames_in(endian, chunk.as_bytes(), most)),
+            Ok(chunk) => Ok(most.min(chunk.as_bytes().len() / SMALL_FRAME)),
+            Err(error) => Err(self.kept.keep(error)),
         }
-        Ok(output)
+    }
+
+    /// Hands the next `len` bytes to a reader of frames and takes them.
+    ///
+    /// This is the one rule for the bytes of a frame. The buffer's hint is asked for first, once: if
+    /// it is less than `len`, the frame is `Eof` and its bytes are skipped. If the next chunk has all
+    /// of them they are read in place, and otherwise they are assembled in memory. No bytes are read
+    /// without asking for a chunk.
+    #[inline]
+    pub fn with_frame<F: FrameReader<'p>>(
+        &mut self,
+        alloc: Global,
+        len: usize,
+        reader: F,
+    ) -> ReadResult<F::Output>
+        ensures stays { Stays (B.source self.old.buf) (refused (kinds result))
+            (B.source self.new.buf) }
+        ensures can_fail { CanFail (B.source self.old.buf) (refused (kinds result)) }
+        ensures whole_memory { IsTrue (B.source self.old.buf).whole →
+            TakesNoMemory (kinds result) }
+        ensures nothing { len ≡ 0 → IsOk result
+            × (B.source self.new.buf ≡ B.source self.old.buf) }
+        ensures short { falls_short (B.hint self.old.buf) len ≡ true →
+            TakesNoMemory (kinds result) × IfOk result (λ output. ⊥) }
+        ensures beforehand { IsTrue (B.source self.old.buf).told →
+            is_made_beforehand (B.hint self.old.buf) len ≡ true → IfErr result (λ e.
+            refusal_kind e ≡ ErrorKind.OutOfMemory →
+            (B.source self.new.buf).left ≡ (B.source self.old.buf).left) }
+        ensures ok { IfOk result (λ output. GivesNextBytes (F.gives reader)
+            (B.source self.old.buf) len output (B.source self.new.buf)) }
+        ensures err { IsTrue (B.source self.old.buf).told → IfErr result (λ e.
+            FailsToKeep (B.source self.old.buf) len (refusal_kind e) (B.source self.new.buf)) }
+    {
+        if len == 0 {
+            return Ok(reader.read(ParseBufChunk::External(&[])));
+        }
+        let hint = self.buf.remaining_hint();
+        if says_too_few(hint, len) {
+            drop(reader);
+            return Err(shortage(&mut self.buf, &mut self.kept, len));
+        }
+        match read_in_place(&mut self.buf, &mut self.kept, len, reader) {
+            Ok(Found::Whole(output)) => Ok(output),
+            Ok(Found::Cut(reader)) => read_assembled(
+                alloc,
+                &mut self.buf,
+                &mut self.kept,
+                len,
+                hint.is_some(),
+                reader,
+            ),
+            Err(refusal) => Err(refusal),
+        }
     }
 }
 

@@ -1,9 +1,10 @@
 //! Buffers: where the bytes come from.
 
 ghost use Rattle.std.specs.Prelude.{◌≡◌, ℕ, ◌≤◌, true, false, None, Some, IsTrue, List, length};
-ghost use Rattle.std.specs.Prelude.{Option, IfOk, IfErr, IfSome, ◌<◌, OnOk, IsOk, IsSome};
+ghost use Rattle.std.specs.Prelude.{Option, IfOk, IfErr, IfSome, ◌<◌, OnOk, IsOk, IsSome, take};
 ghost use Rattle.perf_buffers.specs.Words.{sem, Rests, kind_of, Source, Shows, ShowsReady, Refuses};
-ghost use Rattle.perf_buffers.specs.Words.{KeepsChunk, Advances, chunk_bytes, known, is_known};
+ghost use Rattle.perf_buffers.specs.Words.{KeepsChunk, Advances, chunk_bytes, lasts, known};
+ghost use Rattle.perf_buffers.specs.Words.{is_known};
 ghost use Rattle.perf_buffers.specs.Words.{RefusesReader, reader_remaining, reader_buffer};
 
 use perf_base::error::{ErrorKind, ParseError, ParseResult};
@@ -27,6 +28,19 @@ impl<'tmp, 'p> ParseBufChunk<'tmp, 'p> {
         match self {
             ParseBufChunk::Temporary(bytes) => bytes,
             ParseBufChunk::External(bytes) => bytes,
+        }
+    }
+
+    // The first `len` of the bytes, which last as long.
+    #[inline]
+    pub(crate) fn first(self, len: usize) -> ParseBufChunk<'tmp, 'p>
+        requires { len ≤ length (chunk_bytes self) }
+        ensures bytes { chunk_bytes result ≡ take len (chunk_bytes self.entry) }
+        ensures lasting { lasts result ≡ lasts self.entry }
+    {
+        match self {
+            ParseBufChunk::Temporary(bytes) => ParseBufChunk::Temporary(&bytes[..len]),
+            ParseBufChunk::External(bytes) => ParseBufChunk::External(&bytes[..len]),
         }
     }
 }

@@ -262,7 +262,7 @@ pub run_ends : (start new : Meaning) (n : ℕ) (s : Stop) (e : RunEnd) → IsEnd
 run_ends start new n stop.Done e is k = subst (λ (x : RunEnd). KeepsRun start (n + one_if_ended x) (end_refusal x) new) (sym is) k
 run_ends start new n stop.CutHeader e is k = subst (λ (x : RunEnd). KeepsRun start (n + one_if_ended x) (end_refusal x) new) (sym is) k
 run_ends start new n (stop.Refused r) e is k =
-    subst (λ (x : RunEnd). KeepsRun start (n + one_if_ended x) (end_refusal x) new) (sym is.1) (subst (λ (kind : ErrorKind). KeepsRun start (n + 1) (Some kind) new) (sym is.2) k)
+    subst (λ (x : RunEnd). KeepsRun start (n + one_if_ended x) (end_refusal x) new) (sym is.1) (subst (λ (kind : ErrorKind). KeepsRun start (n + 1) (Some kind) new) (sym is.2.kind_is) k)
 
 pub run_limit : (start new : Meaning) (n : ℕ) → KeepsRun start n None new → KeepsRun start (n + 0) None new
 run_limit start new n k = let same : n + 0 ≡ n = omega arith in subst (λ (m : ℕ). KeepsRun start m None new) (sym same) k

@@ -203,7 +203,7 @@ ends_with start here new limit pairs k stop.CutHeader e so_far below same p is =
 ends_with start here new limit pairs k (stop.Refused r) e so_far below same p is =
     let within : LeavesWithin start.order (behind_frames start.order k start.source.left) new.source.left =
     subst (λ (xs : List ℕ). LeavesWithin start.order xs new.source.left) so_far.left_is (subst (λ (o : Order). LeavesWithin o here.source.left new.source.left) same p.1) in
-    subst (λ (x : RunEnd). EndsWith start.order limit start.source.left k x new.source.left) (sym is.1) (below, not_of_layout (is.2) p.0, within)
+    subst (λ (x : RunEnd). EndsWith start.order limit start.source.left k x new.source.left) (sym is.1) (below, not_of_layout is.2.kind_is p.0, within)
 
 pub counts_reads : (start here new : Meaning) (pairs : Pairs) (k : ℕ) (s : Stop) (e : RunEnd) → IsSoFar start pairs k here → here.reads ≤ new.reads →
     StopsAt here s new → IsEndOf s e → CountsReads start.settings start.order start.source.left k e start.reads new.reads

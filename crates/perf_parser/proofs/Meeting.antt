@@ -1,104 +1,101 @@
--- What a run meets where the buffer shows it.
-use Rattle.std.proofs.Common.{◌≡◌, ℕ, ◌+◌, ◌-◌, ◌≤◌, List, length, take, drop, arith, sym, ◌∙◌, ap, subst, length-drop, Ok, None, Some}
-use Rattle.std.proofs.lemmas.List.{drop-drop, drop-take}
-use Rattle.std.specs.Prelude.{IsTrue, Option, Result, Box}
-use Rattle.std.specs.declared.alloc.Global.{Global}
+-- What a run does after a look at its buffer is what it does without it.
+use Rattle.std.proofs.Common.{◌≡◌, ℕ, ◌+◌, ◌≤◌, length, drop, arith, sym, ◌∙◌, ap, subst, Ok, Err, None, Some}
+use Rattle.std.specs.Prelude.{IsTrue, IfErr, Option, Result}
+use Rattle.perf_base.specs.Configuration.{Configuration}
 use Rattle.perf_base.specs.Configured.{configuration_of, endian_of}
 use Rattle.perf_base.specs.Header.{header_of}
 use Rattle.perf_base.specs.Order.{Order}
-use Rattle.perf_base.specs.Refusals.{kinds, refused}
-use Rattle.perf_base.specs.declared.config.ParseConfig.{ParseConfig}
-use Rattle.perf_base.specs.declared.refusal.Refusal.{Refusal}
 use Rattle.perf_base.specs.declared.sys.perf_event_header.{perf_event_header}
-use Rattle.perf_buffers.specs.Buffer.{Source, Stays}
-use Rattle.perf_buffers.specs.Shown.{Views}
-use Rattle.perf_buffers.specs.Taking.{Takes}
-use Rattle.perf_buffers.proofs.Taking.{takes_moves}
-use Rattle.perf_buffers.specs.declared.outer.Outer.{Outer}
+use Rattle.perf_base.specs.declared.error.ErrorKind.{ErrorKind}
+use Rattle.perf_buffers.specs.Buffer.{Source}
 use Rattle.perf_reader.specs.Calls.{Call}
+use Rattle.perf_reader.specs.Frames.{ReadsShownHeader}
 use Rattle.perf_reader.specs.Meaning.{Meaning, meaning}
-use Rattle.perf_reader.specs.Reading.{Keeps}
+use Rattle.perf_reader.specs.Reading.{Keeps, last_of}
 use Rattle.perf_reader.specs.declared.reader.Reader.{Reader}
-use Rattle.perf_reader.proofs.Paying.{keeps_more}
-use Rattle.perf_records.specs.Answers.{body_length}
-use Rattle.perf_records.specs.Shown.{MeetsNext}
-use Rattle.perf_records.specs.declared.frame_shown.Met.{Met}
-use Rattle.perf_records.specs.declared.frame_shown.Met.TheVariants as met
-use Rattle.perf_records.proofs.Finishing.{visits_keep}
-use Rattle.perf_records.proofs.Headers.{header_take}
-use Rattle.perf_records.proofs.Keeping.{moved_keeps, taken_pays}
-use Rattle.perf_records.proofs.Shown.{sample_says, sample_borrows, same_refusal}
-use Rattle.perf_sample_types.specs.declared.sample.Sample.{Sample}
-use Rattle.perf_parser.specs.Runs.{MeetsSample, ReadsHeader, behind_header}
+use Rattle.perf_base.specs.declared.refusal.Refusal.TheVariants as why
+use Rattle.perf_reader.proofs.Paying.{last_all}
+use Rattle.perf_records.specs.Answers.{answer_of_frame}
+use Rattle.perf_records.specs.Frames.{frame_length}
+use Rattle.perf_parser.specs.Runs.{Pairs, KeepsRun, ListsNext, LeavesWithin, ReadsHeader, StopsAt, seen_answer, listed_reads}
+use Rattle.perf_parser.specs.declared.runs.Stop.{Stop}
+use Rattle.perf_parser.specs.declared.runs.Stop.TheVariants as stop
+use Rattle.perf_parser.proofs.Ending.{run_more}
 
--- the header in front of what is shown
-front_header : (o : Order) (bytes left : List ℕ) (h : perf_event_header) → h ≡ header_of o bytes → 8 ≤ length bytes → take (length bytes) left ≡ bytes → h ≡ header_of o left
-front_header o bytes left h is long starts =
-    let size : length bytes ≡ 8 + (length bytes - 8) = omega arith in
-    is ∙ ap (header_of o) (sym starts) ∙ ap (λ k. header_of o (take k left)) size ∙ header_take o (length bytes - 8) left
+module _ (old mid new : Meaning) (settings : mid.settings ≡ old.settings) (order : mid.order ≡ old.order) (left : mid.source.left ≡ old.source.left) (reads : mid.reads ≡ old.reads) where
+  -- how it stops
+  pub looked_stops : (s : Stop) → StopsAt mid s new → StopsAt old s new
+  looked_stops stop.Done p = (sym left ∙ p.0, p.1, omega (arith, p.2, reads))
+  looked_stops stop.CutHeader p =
+      let long : length mid.source.left ≡ length old.source.left = ap length left in (omega (arith, p.0, long), omega (arith, p.1, long), p.2, omega (arith, p.3, reads))
+  looked_stops (stop.Refused r) p = (p.0, subst (λ o. LeavesWithin o old.source.left new.source.left) order (subst (λ xs. LeavesWithin mid.order xs new.source.left) left p.1))
 
-module _ {B E : Type 0} (source : Outer B → Source) (order : E → Order) (old mid new : Reader (Outer B) E) where
-  -- what a viewer of the next frame saw
-  abbrev pub Saw : Option Met → Type 0
-  Saw output = Views (λ bytes lasting n. MeetsNext (configuration_of old.config) (order (endian_of old.config)) bytes lasting n) (source old.input) output (source mid.input)
+  -- which header it reads
+  pub looked_header : (seen : Result perf_event_header ErrorKind) → ReadsHeader mid seen new → ReadsHeader old seen new
+  looked_header (Ok h) p =
+      let long : length mid.source.left ≡ length old.source.left = ap length left in
+      (omega (arith, p.0, long), p.1 ∙ ap (λ (o : Order). header_of o mid.source.left) order ∙ ap (header_of old.order) left, p.2 ∙ ap (drop 8) left, omega (arith, p.3, reads))
+  looked_header (Err e) p = tt
 
-  -- a header
-  pub header_met : (h : perf_event_header) → Saw (Some (met.Header h)) → mid.config ≡ old.config → mid.reads ≡ old.reads → Stays (source old.input) None (source mid.input) →
-      new.input ≡ mid.input → new.config ≡ mid.config → new.reads ≡ mid.reads + 2 → Call source order ReadsHeader old (Ok h) new
-  header_met h saw config reads stays input still count =
-      let a : Meaning = meaning source order old in
-      let d : Meaning = meaning source order new in
-      let v = saw.3 in
-      let same : d.source ≡ source mid.input = ap source input in
-      let total : d.reads ≡ a.reads + 2 = omega (arith, count, reads) in
-      let stays2 : Stays a.source None d.source = subst (λ (s : Source). Stays a.source None s) (sym same) stays in
-      let eight : IsTrue a.source.told → Takes a.source 8 d.source = λ told. let t = saw.5 told in (omega (arith, t.1, v.0), ap (λ (s : Source). s.left) same ∙ t.2 ∙ ap (λ k. drop k a.source.left) v.1) in
-      let kept : Keeps a None d = moved_keeps a d None 2 total stays2 (λ x. cc) (λ told. (takes_moves a.source d.source 8 (eight told), let paid = taken_pays a.source d.source 8 2 (eight told) (omega arith) in omega (arith, paid))) in record {
-        config = still ∙ config;
-        whole = stays2.0;
-        told = stays2.3;
-        answer = λ told. ((eight told).0, front_header a.order saw.0 a.source.left h v.2 v.0 (saw.5 told).0, (eight told).1, total);
-        keeps = λ start p. keeps_more start a d None p kept;
-      }
+-- what it lists
+pub looked_lists : (old mid new : Meaning) → mid.settings ≡ old.settings → mid.order ≡ old.order → (IsTrue old.source.told → (mid.source.left ≡ old.source.left) × (mid.reads ≡ old.reads)) → mid.source.whole ≡ old.source.whole →
+    (IsTrue old.source.told → IsTrue mid.source.told) → (was now : Pairs) → ListsNext mid was now new → ListsNext old was now new
+looked_lists old mid new settings order same whole told was now p = (
+  p.0,
+  p.1,
+  p.2,
+  (λ w. p.3 (whole ∙ w)),
+  (λ t.
+      let q = p.4 (told t) in
+      let left : mid.source.left ≡ old.source.left = (same t).0 in
+      let reads : mid.reads ≡ old.reads = (same t).1 in
+      let long : length mid.source.left ≡ length old.source.left = ap length left in
+      let answer : answer_of_frame mid.settings mid.order mid.source.left ≡ answer_of_frame old.settings old.order old.source.left =
+      ap (λ (c : Configuration). answer_of_frame c mid.order mid.source.left) settings ∙ ap (λ (o : Order). answer_of_frame old.settings o mid.source.left) order ∙ ap (answer_of_frame old.settings old.order) left in
+      let size : frame_length mid.order mid.source.left ≡ frame_length old.order old.source.left = ap (λ (o : Order). frame_length o mid.source.left) order ∙ ap (frame_length old.order) left in
+      let made : listed_reads mid.settings mid.order mid.source.left ≡ listed_reads old.settings old.order old.source.left =
+      ap (λ (c : Configuration). listed_reads c mid.order mid.source.left) settings ∙ ap (λ (o : Order). listed_reads old.settings o mid.source.left) order ∙ ap (listed_reads old.settings old.order) left in
+      (omega (arith, q.0, long), q.1 ∙ ap (λ (o : Order). header_of o mid.source.left) order ∙ ap (header_of old.order) left, q.2 ∙ answer, q.3 ∙ ap (λ k. drop k mid.source.left) size ∙ ap (drop (frame_length old.order old.source.left)) left, omega (arith, q.4, reads, made))),
+)
 
-  -- a sample
-  pub sample_met : (h : perf_event_header) (held : Result (Box Sample Global) Refusal) (made : ℕ) → Saw (Some (met.Sample h held made)) → mid.config ≡ old.config → mid.reads ≡ old.reads → Stays (source old.input) None (source mid.input) →
-      new.input ≡ mid.input → new.config ≡ mid.config → new.reads ≡ mid.reads + 2 + made → MeetsSample source order old h held new
-  sample_met h held made saw config reads stays input still count =
-      let a : Meaning = meaning source order old in
-      let b : Meaning = meaning source order mid in
-      let d : Meaning = meaning source order new in
-      let m : Meaning = behind_header a in
-      let n : ℕ = body_length h in
-      let bytes : List ℕ = saw.0 in
-      let v = saw.3 in
-      let same : d.source ≡ b.source = ap source input in
-      let rest : length (drop 8 bytes) ≡ length bytes - 8 = length-drop 8 bytes in
-      let left : length (drop 8 a.source.left) ≡ length a.source.left - 8 = length-drop 8 a.source.left in
-      let size : saw.2 ≡ h.size = v.3 in
-      let takes : IsTrue a.source.told → Takes a.source h.size b.source = λ told. let t = saw.5 told in (omega (arith, t.1, v.2), t.2 ∙ ap (λ k. drop k a.source.left) size) in
-      let behind : IsTrue a.source.told → Takes m.source n d.source = λ told.
-      let t = takes told in
-      let split : h.size ≡ 8 + n = omega (arith, v.1) in
-      (omega (arith, left, t.0, v.1), ap (λ (s : Source). s.left) same ∙ t.1 ∙ ap (λ k. drop k a.source.left) split ∙ sym (drop-drop n 8 a.source.left)) in
-      let kept : Keeps a None b = moved_keeps a b None 0 (omega (arith, reads)) stays (λ x. cc) (λ told. let w = takes_moves a.source b.source h.size (takes told) in (w, omega (arith, w.0))) in
-      let total : d.reads ≡ b.reads + (2 + made) = omega (arith, count) in record {
-        config = still ∙ config;
-        borrowed = λ whole. sample_borrows h a.settings a.order (take n (drop 8 bytes)) saw.1 held made v.5 (saw.6 whole).1;
-        header = λ told. let t = saw.5 told in (omega (arith, (takes told).0, v.1), front_header a.order bytes a.source.left h v.4 (omega (arith, v.1, v.2)) t.0, behind told);
-        says = λ told.
-            let t = saw.5 told in
-            let starts : take (length (drop 8 bytes)) m.source.left ≡ drop 8 bytes =
-            ap (λ k. take k (drop 8 a.source.left)) rest ∙ sym (drop-take 8 (length bytes - 8) a.source.left) ∙ ap (λ k. drop 8 (take k a.source.left)) (omega (arith, v.1, v.2)) ∙ ap (drop 8) t.0 in
-            sample_says h m d (drop 8 bytes) saw.1 held made v.1 (omega (arith, rest, v.2)) starts (behind told).0 v.5 (behind told).1 (omega (arith, count, reads));
-        keeps = λ start p.
-            subst (λ e. Keeps start e d) (sym (same_refusal held))
-            (visits_keep start a b d (2 + made) h.size (refused (kinds held)) p (keeps_more start a b None p kept) (λ told. let paid = taken_pays a.source b.source h.size h.size (takes told) (omega arith) in omega (arith, paid, reads)) same total (omega (arith, v.5.4, v.1)) v.5.3);
-      }
+-- where there was no memory for an answer, and nothing was taken
+pub room_stops : (old new : Meaning) → new.source.left ≡ old.source.left → StopsAt old (stop.Refused why.OutOfMemory) new
+room_stops old new same =
+    let long : length new.source.left ≡ length old.source.left = ap length same in
+    ((λ h. cc), (omega (arith, long), omega (arith, long), same ∙ sym (last_all old.source.left) ∙ ap (λ k. last_of k old.source.left) (sym long)))
 
--- a reader of which nothing that matters was changed
-pub same_meaning : {B E : Type 0} (source : B → Source) (order : E → Order) (mid new : Reader (Outer B) E) → new.input.buf ≡ mid.input.buf → new.config ≡ mid.config → new.reads ≡ mid.reads →
-    meaning (λ (o : Outer B). source o.buf) order new ≡ meaning (λ (o : Outer B). source o.buf) order mid
-same_meaning {B} {E} source order mid new buf config reads =
-    let at : B → ParseConfig E → ℕ → Meaning = λ b k n. record { settings = configuration_of k; order = order (endian_of k); source = source b; reads = n } in
-    ap (λ b. at b new.config new.reads) buf ∙ ap (λ k. at mid.input.buf k new.reads) config ∙ ap (at mid.input.buf mid.config) reads
+-- what follows from why a call was refused
+pub err_then : {X E : Type 0} (P Q : E → Type 0) (r : Result X E) → ((e : E) → P e → Q e) → IfErr r P → IfErr r Q
+err_then P Q (Ok x) f p = tt
+err_then P Q (Err e) f p = f e p
+
+-- what was kept before it is kept
+pub looked_keeps : (start old mid : Meaning) (n : ℕ) → KeepsRun start n None old → Keeps old None mid → KeepsRun start n None mid
+looked_keeps start old mid n k moved =
+    let same : n + 0 ≡ n = omega arith in
+    subst (λ (m : ℕ). KeepsRun start m None mid) same (run_more start old mid n None k moved)
+
+-- ---- a header
+
+module _ {I E : Type 0} (source : I → Source) (order : E → Order) (old mid : Reader I E) where
+  -- one that the buffer shows
+  pub header_shown : (h : perf_event_header) → Call source order ReadsShownHeader old (Ok (Some h)) mid → Call source order ReadsHeader old (Ok h) mid
+  header_shown h a = record { config = a.config; whole = a.whole; told = a.told; answer = a.answer; keeps = a.keeps }
+
+  -- one of which it does not show all
+  module _ (new : Reader I E) (a : Call source order ReadsShownHeader old (Ok None) mid) where
+    pub header_cut : (seen : Result perf_event_header ErrorKind) → Call source order ReadsHeader mid seen new → Call source order ReadsHeader old seen new
+    header_cut seen b = record {
+      config = b.config ∙ a.config;
+      whole = b.whole ∙ a.whole;
+      told = λ told. b.told (a.told told);
+      answer = λ told.
+          let l = a.answer told in
+          looked_header (meaning source order old) (meaning source order mid) (meaning source order new) (ap configuration_of a.config) (ap (λ k. order (endian_of k)) a.config) l.0 l.1 seen (b.answer (a.told told));
+      keeps = λ start p. b.keeps start (a.keeps start p);
+    }
+
+    pub header_stops : (s : Stop) → IsTrue (source old.input).told → StopsAt (meaning source order mid) s (meaning source order new) → StopsAt (meaning source order old) s (meaning source order new)
+    header_stops s told p =
+        let l = a.answer told in
+        looked_stops (meaning source order old) (meaning source order mid) (meaning source order new) (ap configuration_of a.config) (ap (λ k. order (endian_of k)) a.config) l.0 l.1 s p

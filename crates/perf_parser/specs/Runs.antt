@@ -1,36 +1,27 @@
 -- What a run over a stream lists, how it ends, what it leaves, and how many elementary reads it
 -- makes.
 use Rattle.std.specs.Prelude.{Option, Some, Result, Ok, Err, true, IsTrue, ◌≡◌}
-use Rattle.std.specs.Prelude.{Box, None, IfOk}
+use Rattle.std.specs.Prelude.{None, max, ◌*◌}
 use Rattle.std.specs.Prelude.{ℕ, ◌+◌, ◌<◌, ◌≤◌, min, List, [], ◌∷◌, ◌++◌, map, length, drop, sum_by}
 use Rattle.perf_base.specs.Configuration.{Configuration}
 use Rattle.perf_base.specs.Errors.{kind_of}
 use Rattle.perf_base.specs.Header.{header_of}
 use Rattle.perf_base.specs.Order.{Order}
-use Rattle.perf_base.specs.Refusals.{refusal_kind, refused, error_kinds}
+use Rattle.perf_base.specs.Refusals.{refusal_kind, error_kinds, IsAnswerOf}
 use Rattle.perf_base.specs.declared.error.ErrorKind.{ErrorKind}
 use Rattle.perf_base.specs.declared.error.ErrorKind.TheVariants.{Eof}
 use Rattle.perf_base.specs.declared.error.ParseError.{ParseError}
 use Rattle.perf_base.specs.declared.sys.perf_event_header.{perf_event_header}
 use Rattle.perf_base.specs.declared.refusal.Refusal.{Refusal}
-use Rattle.perf_buffers.specs.Buffer.{Source, Stays}
-use Rattle.perf_buffers.specs.Taking.{Takes}
-use Rattle.perf_buffers.specs.declared.outer.Outer.{Outer}
-use Rattle.perf_reader.specs.Calls.{Call}
-use Rattle.perf_reader.specs.declared.reader.Reader.{Reader}
-use Rattle.perf_reader.specs.Meaning.{Meaning, config_of, meaning}
-use Rattle.perf_reader.specs.Reading.{Says, Keeps, of_layout, last_of, is_external}
+use Rattle.perf_buffers.specs.Buffer.{Stays}
+use Rattle.perf_reader.specs.Meaning.{Meaning}
+use Rattle.perf_reader.specs.Reading.{Says, of_layout, last_of, is_external}
 use Rattle.perf_records.specs.Answers.{answer_of_frame, reads_behind}
 pub use Rattle.perf_records.specs.Answers.{SaysBehind, answers, body_length}
 use Rattle.perf_records.specs.Frames.{frame_length, first_frames, frames, behind_frames}
 use Rattle.perf_records.specs.Frames.{stream_end, done, cut_header}
 use Rattle.perf_records.specs.Records.{RecordValue, record_value, IsBorrowed}
 pub use Rattle.perf_records.specs.Shown.{boxed_kinds}
-use Rattle.perf_sample_types.specs.SampleGroups.{IsBorrowedSample}
-use Rattle.perf_sample_types.specs.declared.sample.Sample.{Sample}
-use Rattle.perf_parser.specs.declared.runs.Next.{Next}
-use Rattle.perf_parser.specs.declared.runs.Next.TheVariants as next
-use Rattle.std.specs.declared.alloc.Global.{Global}
 use Rattle.perf_records.specs.declared.record.Record.{Record}
 use Rattle.perf_parser.specs.declared.runs.Run.{Run}
 use Rattle.perf_parser.specs.declared.runs.RunEnd.{RunEnd}
@@ -194,11 +185,11 @@ StopsAt old (stop.Refused r) new =
     (IsTrue (of_layout (refusal_kind r)) → ⊥)
     × LeavesWithin old.order old.source.left new.source.left
 
--- how a run ends that stopped so
+-- how a run ends that stopped so: by the error that a refusal becomes, with its message
 abbrev pub IsEndOf : Stop → RunEnd → Type 0
 IsEndOf stop.Done e = e ≡ end.Done
 IsEndOf stop.CutHeader e = e ≡ end.CutHeader
-IsEndOf (stop.Refused r) e = (x : ParseError) × (e ≡ end.Fault x) × (kind_of x ≡ refusal_kind r)
+IsEndOf (stop.Refused r) e = (x : ParseError) × (e ≡ end.Fault x) × IsAnswerOf x r
 
 -- an answer that is listed is neither a fault nor want of memory
 abbrev pub IsListed : Result Record ParseError → Type 0
@@ -212,11 +203,11 @@ ListsAnswer h was now whole says =
     (r : Result Record ParseError) × (now ≡ was ++ (h, r) ∷ [])
     × (whole → is_borrowed_answer r) × IsListed r × says (error_kinds r)
 
--- the same of a refusal of the layout, of that kind
-abbrev pub ListsRefused : perf_event_header → ErrorKind → (was now : Pairs) → Type 0
-ListsRefused h kind was now =
-    (e : ParseError) × (now ≡ was ++ (h, Err e) ∷ []) × (kind_of e ≡ kind)
-    × IsTrue (of_layout kind)
+-- the same of a refusal of the layout: the error that it becomes, with its message
+abbrev pub ListsRefused : perf_event_header → Refusal → (was now : Pairs) → Type 0
+ListsRefused h r was now =
+    (e : ParseError) × (now ≡ was ++ (h, Err e) ∷ []) × IsAnswerOf e r
+    × IsTrue (of_layout (refusal_kind r))
 
 -- one more frame was listed: the next one, which was taken whole
 abbrev pub ListsNext : Meaning → (was now : Pairs) → Meaning → Type 0
@@ -229,46 +220,22 @@ ListsNext old was now new =
     × (new.source.left ≡ drop (frame_length old.order old.source.left) old.source.left)
     × (new.reads ≡ old.reads + listed_reads old.settings old.order old.source.left))
 
--- ---- a sample that is read where it stands
+-- ---- room for its answer
 
--- a moment behind the header of the next frame, in two reads
-abbrev pub behind_header : Meaning → Meaning
-behind_header old = record {
-  settings = old.settings;
-  order = old.order;
-  source = record {
-    left = drop 8 old.source.left;
-    told = old.source.told;
-    whole = old.source.whole;
-    can_fault = old.source.can_fault;
-    faults = old.source.faults;
-  };
-  reads = old.reads + 2;
-}
+-- the answer that was listed is no record
+abbrev pub ListsNoRecord : (was now : Pairs) → Type 0
+ListsNoRecord was now =
+    (h : perf_event_header) × (e : ParseError) × (now ≡ was ++ (h, Err e) ∷ [])
 
-module _ {B E : Type 0} (source : Outer B → Source) (order : E → Order) where
-  -- a whole frame that is a sample was read, and exactly it was taken
-  pub record MeetsSample (old : Reader (Outer B) E) (h : perf_event_header)
-      (held : Result (Box Sample Global) Refusal) (new : Reader (Outer B) E) : Type 0 where
-    pub config : config_of new ≡ config_of old
-    pub borrowed : IsTrue (source old.input).whole → IfOk held (λ s. IsBorrowedSample s.value)
-    pub header : IsTrue (source old.input).told → (8 ≤ length (source old.input).left)
-        × (h ≡ header_of (meaning source order old).order (source old.input).left)
-        × Takes (behind_header (meaning source order old)).source (body_length h) (source new.input)
-    pub says : IsTrue (source old.input).told → SaysBehind h
-        (behind_header (meaning source order old)) (boxed_kinds held) (meaning source order new)
-    pub keeps : (start : Meaning) → Keeps start None (meaning source order old) →
-        Keeps start (refused (boxed_kinds held)) (meaning source order new)
+-- Room for answers is made for as many as frames of eight bytes or more are shown, at most 256, for
+-- as many again as there are, or for one.
+abbrev pub MakesRoom : (left count old new : ℕ) → Type 0
+MakesRoom left count old new =
+    (shown : ℕ) × (shown ≤ 256) × (8 * shown ≤ left)
+    × (new ≤ max old (count + max shown (max count 1)))
 
-  -- a header was read, or such a sample
-  abbrev pub MeetsFrame : Reader (Outer B) E → Next → Reader (Outer B) E → Type 0
-  MeetsFrame old (next.Header h) new = Call source order ReadsHeader old (Ok h) new
-  MeetsFrame old (next.Sample h held) new = MeetsSample old h held new
-
--- the answer of a sample was listed behind the others
-abbrev pub ListsBoxed : perf_event_header → Result (Box Sample Global) Refusal → (was now : Pairs) →
-    Type 0
-ListsBoxed h held was now =
-    (r : Result Record ParseError) × (now ≡ was ++ (h, r) ∷ []) × IsListed r
-    × (error_kinds r ≡ boxed_kinds held)
-    × (IfOk held (λ s. IsBorrowedSample s.value) → is_borrowed_answer r)
+-- Nothing was taken. Where the buffer shows nothing, that was the read of a first byte.
+abbrev pub TakesNothing : Says (Unit {0})
+TakesNothing old (Ok x) new =
+    (new.source.left ≡ old.source.left) × (new.reads ≡ old.reads)
+TakesNothing old (Err e) new = new.source.left ≡ old.source.left

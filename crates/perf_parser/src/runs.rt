@@ -1,6 +1,7 @@
 //! Runs over a stream of records.
 
-ghost use Rattle.std.specs.Prelude.{◌≡◌, ◌+◌, ◌≤◌, ◌<◌, ◌++◌, [], ◌∷◌, take, None, Ok, Err};
+ghost use Rattle.std.specs.Prelude.{◌≡◌, ◌+◌, ◌≤◌, ◌<◌, ◌++◌, [], ◌∷◌, take, true, None, Ok, Err};
+ghost use Rattle.std.specs.Prelude.{max, min, length};
 ghost use Rattle.std.specs.Prelude.{vec_len, vec_capacity};
 ghost use Rattle.std.specs.Prelude.{IsTrue, IfOk, IfErr, OnOk, OnErr};
 ghost use Rattle.perf_parser.specs.Words.{header_of, buffer_of, config_of, reads_of, meaning};
@@ -12,22 +13,19 @@ use perf_base::endian::Endian;
 use perf_base::error::{ErrorKind, ParseError, ParseResult};
 use perf_base::reads::ReadCounter;
 use perf_base::refusal::{ReadResult, Refusal};
-use perf_base::sys::perf_event_header;
+use perf_base::sys::{PERF_RECORD_SAMPLE, perf_event_header};
 use perf_buffers::input::Input;
 use perf_buffers::outer::Outer;
 use perf_buffers::parsebuf::ParseBuf;
 use perf_reader::header::header_in;
 use perf_reader::reader::Reader;
-use perf_records::frame_shown::{Met, NextViewer, read_shown};
+use perf_records::frame_shown::{read_sample_after, read_shown};
 use perf_records::record::Record;
 use perf_sample_types::sample::Sample;
 use std::boxed::Box;
 
-// How many answers room is made for at first.
-const FIRST: usize = 256;
-
-// How many bytes a small frame has.
-const FRAME: usize = 32;
+// For how many answers room is made at a time, at most.
+const MOST: usize = 256;
 
 /// The frames that a run met, each with its header and its answer, and how the run ended.
 #[derive(Debug, Drop)]
@@ -109,60 +107,25 @@ fn read_header_in_two<'p, I: Input<'p>, E: Endian>(
     Ok(header_from(reader.endian(), first, others))
 }
 
-// The two reads of a header: of its first byte, and of the others.
+// The header of the next frame: at once if the buffer shows all of it. A buffer may end inside it,
+// and whether it ends before its first byte or after says how the run ends.
 #[inline]
-fn header_reads() -> ReadCounter
-    ensures { result ≡ 2 }
-{
-    let mut made = ReadCounter::new();
-    made.tick();
-    made.tick();
-    made
-}
-
-// What a run meets next.
-enum Next<'p> {
-    // A frame whose header was read.
-    Header(perf_event_header),
-    // A frame that is a sample, and was read.
-    Sample(perf_event_header, ReadResult<Box<Sample<'p>>>),
-}
-
-// The header of the next frame, and all of the frame where it is a sample and the buffer shows it
-// whole: that is read where it stands.
-#[inline]
-fn meet_next<'p, B: ParseBuf<'p>, E: Endian>(
+fn read_header<'p, B: ParseBuf<'p>, E: Endian>(
     reader: &mut Reader<Outer<B>, E>,
-) -> Result<Next<'p>, Stop>
-    ensures met { IfOk result (λ next. stream.MeetsFrame (λ (o : Outer B). B.source o.buf) E.order
-        reader.old next reader.new) }
+) -> Result<perf_event_header, Stop>
     ensures stop { IsTrue (B.source (low.buffer_of reader.old)).told → IfErr result (λ s.
         stream.StopsAt (low.meaning (λ (o : Outer B). B.source o.buf) E.order reader.old) s
         (low.meaning (λ (o : Outer B). B.source o.buf) E.order reader.new)) }
-    ensures stopped { IfErr result (λ s. low.Call (λ (o : Outer B). B.source o.buf) E.order
-        stream.ReadsHeader reader.old (Err (stream.stop_kind s)) reader.new) }
+    ensures call { low.Call (λ (o : Outer B). B.source o.buf) E.order stream.ReadsHeader
+        reader.old (stream.stop_kinds result) reader.new }
 {
-    let hint = reader.input().remaining_hint();
-    match reader.show(NextViewer::new(hint)) {
-        Ok(Some(Met::Header(header))) => {
-            reader.count(header_reads());
-            Ok(Next::Header(header))
-        }
-        Ok(Some(Met::Sample(header, held, made))) => {
-            reader.count(header_reads());
-            reader.count(made);
-            Ok(Next::Sample(header, held))
-        }
+    match reader.read_shown_header() {
+        Ok(Some(header)) => Ok(header),
         Ok(None) => match read_header_in_two(reader) {
-            Ok(header) => Ok(Next::Header(header)),
+            Ok(header) => Ok(header),
             Err(stop) => Err(stop),
         },
-        Err(refusal) => {
-            let mut one = ReadCounter::new();
-            one.tick();
-            reader.count(one);
-            Err(stop_at(refusal, Stop::Done))
-        }
+        Err(refusal) => Err(stop_at(refusal, Stop::Done)),
     }
 }
 
@@ -176,7 +139,7 @@ fn list_refused<'p, B: ParseBuf<'p>, E: Endian>(
     refusal: Refusal,
 ) -> ReadResult<()>
     requires room { vec_len frames.old < vec_capacity frames.old }
-    ensures listed { OnOk result (stream.ListsRefused header (low.refusal_kind refusal)
+    ensures listed { OnOk result (stream.ListsRefused header refusal
         frames.old.items frames.new.items) }
     ensures stops { IfErr result (λ e. (e ≡ refusal)
         × (IsTrue (low.of_layout (low.refusal_kind refusal)) → ⊥)) }
@@ -212,7 +175,7 @@ fn list_record<'p>(
     frames.push_reserved((header, Ok(held)));
 }
 
-// Lists the answer of a frame behind its header, in room that was made; or answers the fault or the
+// Lists the answer of a frame after its header, in room that was made; or answers the fault or the
 // want of memory that stops the run. A record is listed here, without a place for an error, which is
 // large.
 #[inline]
@@ -229,6 +192,11 @@ fn list_answer<'p, B: ParseBuf<'p>, E: Endian>(
         (IsTrue (B.source (low.buffer_of reader.old)).whole)
         (λ seen. low.Call (λ (o : Outer B). B.source o.buf) E.order (stream.SaysBehind header)
         reader.old seen reader.new)) }
+
+    // No record is listed where the buffer says, after the header, that it has too few bytes.
+    ensures short { low.falls_short (B.hint (low.buffer_of reader.old))
+        (stream.body_length header) ≡ true →
+        OnOk result (stream.ListsNoRecord frames.old.items frames.new.items) }
     ensures kept { OnErr result (frames.new.items ≡ frames.old.items) }
     ensures stops { IfErr result (λ e. (IsTrue (low.of_layout (low.refusal_kind e)) → ⊥)
         × low.Call (λ (o : Outer B). B.source o.buf) E.order (stream.SaysBehind header)
@@ -246,42 +214,47 @@ fn list_answer<'p, B: ParseBuf<'p>, E: Endian>(
     }
 }
 
-// Lists a sample in room that was made.
+// Lists a sample in room that was made. It is not inlined, for the same reason.
 #[inline(never)]
-fn list_held<'p>(
+fn list_boxed<'p>(
     frames: &mut Vec<(perf_event_header, ParseResult<Record<'p>>)>,
     header: perf_event_header,
-    held: Box<Sample<'p>>,
+    sample: Box<Sample<'p>>,
 )
     requires { vec_len frames.old < vec_capacity frames.old }
     ensures { frames.new.items ≡ frames.old.items
-        ++ ((header, Ok (Record.Sample held.entry)) ∷ []) }
+        ++ ((header, Ok (Record.Sample sample.entry)) ∷ []) }
 {
-    frames.push_reserved((header, Ok(Record::Sample(held))));
+    frames.push_reserved((header, Ok(Record::Sample(sample))));
 }
 
-// Lists the answer of a sample, in room that was made; or answers the want of memory that stops the
-// run.
+// The same as `list_answer`, of a sample, which stays in its box.
 #[inline]
 fn list_sample<'p, B: ParseBuf<'p>, E: Endian>(
     reader: &mut Reader<Outer<B>, E>,
     frames: &mut Vec<(perf_event_header, ParseResult<Record<'p>>)>,
     header: perf_event_header,
-    held: ReadResult<Box<Sample<'p>>>,
 ) -> ReadResult<()>
+    requires ty { header.type_ ≡ 9 }
     requires room { vec_len frames.old < vec_capacity frames.old }
-    ensures listed { OnOk result (stream.ListsBoxed header held.entry
-        frames.old.items frames.new.items) }
+    ensures within { IsTrue (B.source (low.buffer_of reader.old)).told →
+        low.MovesWithin (B.source (low.buffer_of reader.old)) (stream.body_length header)
+        (B.source (low.buffer_of reader.new)) }
+    ensures listed { OnOk result (stream.ListsAnswer header frames.old.items frames.new.items
+        (IsTrue (B.source (low.buffer_of reader.old)).whole)
+        (λ seen. low.Call (λ (o : Outer B). B.source o.buf) E.order (stream.SaysBehind header)
+        reader.old seen reader.new)) }
+    ensures short { low.falls_short (B.hint (low.buffer_of reader.old))
+        (stream.body_length header) ≡ true →
+        OnOk result (stream.ListsNoRecord frames.old.items frames.new.items) }
     ensures kept { OnErr result (frames.new.items ≡ frames.old.items) }
     ensures stops { IfErr result (λ e. (IsTrue (low.of_layout (low.refusal_kind e)) → ⊥)
-        × (stream.boxed_kinds held.entry ≡ Err (low.refusal_kind e))) }
-    ensures buf { low.buffer_of reader.new ≡ low.buffer_of reader.old }
-    ensures config { low.config_of reader.new ≡ low.config_of reader.old }
-    ensures reads { low.reads_of reader.new ≡ low.reads_of reader.old }
+        × low.Call (λ (o : Outer B). B.source o.buf) E.order (stream.SaysBehind header)
+        reader.old (Err (low.refusal_kind e)) reader.new) }
 {
-    match held {
-        Ok(held) => {
-            list_held(frames, header, held);
+    match read_sample_after(reader, header) {
+        Ok(sample) => {
+            list_boxed(frames, header, sample);
             Ok(())
         }
         Err(refusal) => match list_refused(reader, frames, header, refusal) {
@@ -291,11 +264,129 @@ fn list_sample<'p, B: ParseBuf<'p>, E: Endian>(
     }
 }
 
+// The same as `list_answer`, of any frame.
+#[inline]
+fn list_frame<'p, B: ParseBuf<'p>, E: Endian>(
+    reader: &mut Reader<Outer<B>, E>,
+    frames: &mut Vec<(perf_event_header, ParseResult<Record<'p>>)>,
+    header: perf_event_header,
+) -> ReadResult<()>
+    requires room { vec_len frames.old < vec_capacity frames.old }
+    ensures within { IsTrue (B.source (low.buffer_of reader.old)).told →
+        low.MovesWithin (B.source (low.buffer_of reader.old)) (stream.body_length header)
+        (B.source (low.buffer_of reader.new)) }
+    ensures listed { OnOk result (stream.ListsAnswer header frames.old.items frames.new.items
+        (IsTrue (B.source (low.buffer_of reader.old)).whole)
+        (λ seen. low.Call (λ (o : Outer B). B.source o.buf) E.order (stream.SaysBehind header)
+        reader.old seen reader.new)) }
+    ensures short { low.falls_short (B.hint (low.buffer_of reader.old))
+        (stream.body_length header) ≡ true →
+        OnOk result (stream.ListsNoRecord frames.old.items frames.new.items) }
+    ensures kept { OnErr result (frames.new.items ≡ frames.old.items) }
+    ensures stops { IfErr result (λ e. (IsTrue (low.of_layout (low.refusal_kind e)) → ⊥)
+        × low.Call (λ (o : Outer B). B.source o.buf) E.order (stream.SaysBehind header)
+        reader.old (Err (low.refusal_kind e)) reader.new) }
+{
+    if header.type_ == PERF_RECORD_SAMPLE {
+        list_sample(reader, frames, header)
+    } else {
+        list_answer(reader, frames, header)
+    }
+}
+
+// Room for more answers: for as many as frames are shown, for as many again as there are, or for
+// one. Where that much memory is refused, room for one is asked for.
+fn grow<'p>(
+    frames: &mut Vec<(perf_event_header, ParseResult<Record<'p>>)>,
+    shown: usize,
+    most: usize,
+) -> Result<(), Stop>
+    ensures room { OnOk result (vec_len frames.new < vec_capacity frames.new) }
+    ensures items { frames.new.items ≡ frames.old.items }
+    ensures bound { vec_capacity frames.new ≤ max (vec_capacity frames.old)
+        (vec_len frames.old + max shown (max (min (vec_len frames.old) most) 1)) }
+    ensures refused { IfErr result (λ s. s ≡ Stop.Refused Refusal.OutOfMemory) }
+{
+    let more = shown.max(frames.len().min(most)).max(1);
+    if frames.reserve_exact(more).is_ok() || frames.reserve_exact(1).is_ok() {
+        return Ok(());
+    }
+    Err(Stop::Refused(Refusal::OutOfMemory))
+}
+
+// Makes room for the next answer, if there is none, before anything of its frame is taken. Capacity
+// follows what the buffer shows: at first for the frames of its chunk, and then for as many as small
+// frames would be there. Where it shows nothing, the run ends and no memory is asked for.
+#[inline]
+fn make_room<'p, B: ParseBuf<'p>, E: Endian>(
+    reader: &mut Reader<Outer<B>, E>,
+    frames: &mut Vec<(perf_event_header, ParseResult<Record<'p>>)>,
+    limit: usize,
+) -> Result<(), Stop>
+    ensures room { OnOk result (vec_len frames.new < vec_capacity frames.new) }
+    ensures items { frames.new.items ≡ frames.old.items }
+    ensures bound { IsTrue (B.source (low.buffer_of reader.old)).told →
+        stream.MakesRoom (length (B.source (low.buffer_of reader.old)).left) (vec_len frames.old)
+        (vec_capacity frames.old) (vec_capacity frames.new) }
+    ensures stop { IsTrue (B.source (low.buffer_of reader.old)).told → IfErr result (λ s.
+        stream.StopsAt (low.meaning (λ (o : Outer B). B.source o.buf) E.order reader.old) s
+        (low.meaning (λ (o : Outer B). B.source o.buf) E.order reader.new)) }
+    ensures call { low.Call (λ (o : Outer B). B.source o.buf) E.order stream.TakesNothing
+        reader.old (stream.stop_kinds result) reader.new }
+{
+    if frames.len() < frames.capacity() {
+        return Ok(());
+    }
+    let most = limit.saturating_sub(frames.len()).min(MOST);
+    match reader.frames_shown(most, frames.is_empty()) {
+        Ok(shown) => grow(frames, shown, most),
+        Err(refusal) => {
+            let mut one = ReadCounter::new();
+            one.tick();
+            reader.count(one);
+            Err(stop_at(refusal, Stop::Done))
+        }
+    }
+}
+
+// Reads one frame and lists it in room that was made, or says why the run stops.
+#[inline]
+fn list_next<'p, B: ParseBuf<'p>, E: Endian>(
+    reader: &mut Reader<Outer<B>, E>,
+    frames: &mut Vec<(perf_event_header, ParseResult<Record<'p>>)>,
+) -> Result<(), Stop>
+    requires room { vec_len frames.old < vec_capacity frames.old }
+    ensures config { low.config_of reader.new ≡ low.config_of reader.old }
+    ensures listed { OnOk result (stream.ListsNext
+        (low.meaning (λ (o : Outer B). B.source o.buf) E.order reader.old) frames.old.items
+        frames.new.items (low.meaning (λ (o : Outer B). B.source o.buf) E.order reader.new)) }
+    ensures kept { OnErr result (frames.new.items ≡ frames.old.items) }
+    ensures stop { IsTrue (B.source (low.buffer_of reader.old)).told → IfErr result (λ s.
+        stream.StopsAt (low.meaning (λ (o : Outer B). B.source o.buf) E.order reader.old) s
+        (low.meaning (λ (o : Outer B). B.source o.buf) E.order reader.new)) }
+    ensures keeps { (start : low.Meaning) →
+        stream.KeepsRun start (stream.refused_count frames.old.items) None
+        (low.meaning (λ (o : Outer B). B.source o.buf) E.order reader.old) →
+        stream.KeepsRun start (stream.refused_count frames.new.items + stream.one_if_stopped result)
+        (stream.stopped_by result)
+        (low.meaning (λ (o : Outer B). B.source o.buf) E.order reader.new) }
+{
+    let header = match read_header(reader) {
+        Ok(header) => header,
+        Err(stop) => return Err(stop),
+    };
+    match list_frame(reader, frames, header) {
+        Ok(()) => Ok(()),
+        Err(refusal) => Err(Stop::Refused(refusal)),
+    }
+}
+
 // Reads one frame and lists it, or says why the run stops. Room for the answer is made first.
 #[inline]
 fn read_next<'p, B: ParseBuf<'p>, E: Endian>(
     reader: &mut Reader<Outer<B>, E>,
     frames: &mut Vec<(perf_event_header, ParseResult<Record<'p>>)>,
+    limit: usize,
 ) -> Result<(), Stop>
     ensures config { low.config_of reader.new ≡ low.config_of reader.old }
     ensures listed { OnOk result (stream.ListsNext
@@ -312,18 +403,12 @@ fn read_next<'p, B: ParseBuf<'p>, E: Endian>(
         (stream.stopped_by result)
         (low.meaning (λ (o : Outer B). B.source o.buf) E.order reader.new) }
 {
-    if frames.reserve(1).is_err() {
-        return Err(Stop::Refused(Refusal::OutOfMemory));
+    match make_room(reader, frames, limit) {
+        Ok(()) => {}
+        Err(stop) => return Err(stop),
     }
-    match meet_next(reader) {
-        Ok(Next::Header(header)) => match list_answer(reader, frames, header) {
-            Ok(()) => Ok(()),
-            Err(refusal) => Err(Stop::Refused(refusal)),
-        },
-        Ok(Next::Sample(header, held)) => match list_sample(reader, frames, header, held) {
-            Ok(()) => Ok(()),
-            Err(starved) => Err(Stop::Refused(starved)),
-        },
+    match list_next(reader, frames) {
+        Ok(()) => Ok(()),
         Err(stop) => Err(stop),
     }
 }
@@ -339,26 +424,6 @@ fn end_of<'p, B: ParseBuf<'p>, E: Endian>(reader: &mut Reader<Outer<B>, E>, stop
         Stop::Done => RunEnd::Done,
         Stop::CutHeader => RunEnd::CutHeader,
         Stop::Refused(refusal) => RunEnd::Fault(reader.answer(refusal)),
-    }
-}
-
-// Room for the first answers of a run: for no more than are asked for, than the bytes that are left
-// can be small frames, and than `FIRST`. A run that ends before its limit gives back what it has too
-// much. Where memory is refused there is none, and it is asked for with the first frame.
-fn first_room<'p, B: ParseBuf<'p>, E: Endian>(
-    reader: &Reader<Outer<B>, E>,
-    limit: usize,
-) -> Vec<(perf_event_header, ParseResult<Record<'p>>)>
-    ensures { result.items ≡ [] }
-{
-    let left = match reader.input().remaining_hint() {
-        Some(left) => left,
-        None => usize::MAX,
-    };
-    let room = limit.min(left / FRAME).min(FIRST);
-    match Vec::with_capacity(reader.alloc(), room) {
-        Ok(frames) => frames,
-        Err(_) => Vec::new(reader.alloc()),
     }
 }
 
@@ -403,13 +468,12 @@ pub fn read_records<'p, B: ParseBuf<'p>, E: Endian>(
     ensures borrowed { IsTrue (B.source (buffer_of parser.old)).whole →
         stream.AllBorrowed result.frames.items }
 {
-    let mut frames = first_room(&parser.reader, limit);
+    let mut frames = Vec::new(parser.reader.alloc());
     for _ in 0..limit {
-        match read_next(&mut parser.reader, &mut frames) {
+        match read_next(&mut parser.reader, &mut frames, limit) {
             Ok(()) => {}
             Err(stop) => {
                 let end = end_of(&mut parser.reader, stop);
-                frames.shrink_to_fit();
                 return Run { frames, end };
             }
         }

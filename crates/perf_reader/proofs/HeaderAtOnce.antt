@@ -59,14 +59,20 @@ header_taken o bytes n fits =
     ∙ ap (λ xs. took (header_of o bytes) xs (n + 1 + 1 + 1)) eight
     ∙ ap (took (header_of o bytes) (drop 8 bytes)) count
 
--- the same, of bytes that were taken at once
-pub header_at_once : (o o2 : Order) (bytes xs left : List ℕ) (n m : ℕ) (h : perf_event_header) → 8 ≤ length bytes → xs ≡ take 8 bytes → left ≡ drop 8 bytes → m ≡ n + 3 → o2 ≡ o → h ≡ header_of o2 xs → took_by_places o header bytes n ≡ took h left m
-header_at_once o o2 bytes xs left n m h fits front behind count order is =
-    let whole : header_of o bytes ≡ header_of o (take 8 bytes) =
+-- a header is that of its eight bytes
+pub header_front : (o : Order) (bytes : List ℕ) → header_of o bytes ≡ header_of o (take 8 bytes)
+header_front o bytes =
     ap (λ xs. record { type_ = o.four xs; misc = o.two (take 2 (drop 4 bytes)); size = o.two (take 2 (drop 6 bytes)) }) (sym (take-take 4 8 bytes (omega arith)))
     ∙ ap (λ xs. record { type_ = o.four (take 4 (take 8 bytes)); misc = o.two xs; size = o.two (take 2 (drop 6 bytes)) }) (sym (ap (take 2) (drop-take 4 4 bytes) ∙ take-take 2 4 (drop 4 bytes) (omega arith)))
-    ∙ ap (λ xs. record { type_ = o.four (take 4 (take 8 bytes)); misc = o.two (take 2 (drop 4 (take 8 bytes))); size = o.two xs }) (sym (ap (take 2) (drop-take 6 2 bytes) ∙ take-take 2 2 (drop 6 bytes) (omega arith))) in
-    let same : header_of o bytes ≡ h = whole ∙ ap (header_of o) (sym front) ∙ ap (λ (p : Order). header_of p xs) (sym order) ∙ sym is in
+    ∙ ap (λ xs. record { type_ = o.four (take 4 (take 8 bytes)); misc = o.two (take 2 (drop 4 (take 8 bytes))); size = o.two xs }) (sym (ap (take 2) (drop-take 6 2 bytes) ∙ take-take 2 2 (drop 6 bytes) (omega arith)))
+
+-- the same, of bytes that were taken at once
+pub header_of_front : (o o2 : Order) (bytes xs : List ℕ) (h : perf_event_header) → xs ≡ take 8 bytes → o2 ≡ o → h ≡ header_of o2 xs → h ≡ header_of o bytes
+header_of_front o o2 bytes xs h front order is = is ∙ ap (λ (p : Order). header_of p xs) order ∙ ap (header_of o) front ∙ sym (header_front o bytes)
+
+pub header_at_once : (o o2 : Order) (bytes xs left : List ℕ) (n m : ℕ) (h : perf_event_header) → 8 ≤ length bytes → xs ≡ take 8 bytes → left ≡ drop 8 bytes → m ≡ n + 3 → o2 ≡ o → h ≡ header_of o2 xs → took_by_places o header bytes n ≡ took h left m
+header_at_once o o2 bytes xs left n m h fits front behind count order is =
+    let same : header_of o bytes ≡ h = sym (header_of_front o o2 bytes xs h front order is) in
     header_taken o bytes n fits ∙ rw (same, behind, count) refl
 
 -- they are there, so that nothing of the layout refuses them
@@ -79,11 +85,11 @@ never_short o old new External n m has p kind = cc
 never_short o old new OutOfMemory n m has p kind = absurd p
 
 -- they were taken, and counted
-pub header_keeps : (start old new : Meaning) → Keeps start None old → new.reads ≡ old.reads + 3 → Stays old.source None new.source → (IsTrue old.source.told → Takes old.source 8 new.source) → Keeps start None new
-header_keeps start old new p count stays moves = keeps_more start old new None p (record {
+pub header_keeps : (start old new : Meaning) (k : ℕ) → k ≤ 8 → Keeps start None old → new.reads ≡ old.reads + k → Stays old.source None new.source → (IsTrue old.source.told → Takes old.source 8 new.source) → Keeps start None new
+header_keeps start old new k few p count stays moves = keeps_more start old new None p (record {
   buffer = stays;
   fault = λ x. cc;
   cost = λ t. let m = moves t in let l : length new.source.left ≡ length old.source.left - 8 = ap length m.1 ∙ length-drop 8 old.source.left in
-      (omega (arith, count), omega (arith, count, l, m.0));
+      (omega (arith, count), omega (arith, count, few, l, m.0));
   place = λ t. place_after old.source new.source 8 (moves t);
 })

@@ -3,6 +3,7 @@ pub mod Reading
 pub mod TableRuns
 pub mod BranchEntry
 pub mod Calls
+pub mod Frames
 pub mod Room
 pub mod Words
 pub mod AttributeGroups

@@ -3,7 +3,9 @@
 
 ghost use Rattle.std.specs.Prelude.{◌≡◌, ◌≤◌, length, IsTrue};
 ghost use Rattle.perf_base.specs.Header.{header, header_of};
+ghost use Rattle.perf_reader.specs.Frames.{ReadsShownHeader};
 ghost use Rattle.perf_reader.specs.Words.{Call, ReadsPlain, input_of, kinds};
+ghost use Rattle.perf_buffers.specs.declared.outer.Outer.{Outer};
 
 use crate::read::{Meant, ReadFrom};
 use crate::reader::Reader;
@@ -11,6 +13,8 @@ use perf_base::endian::Endian;
 use perf_base::refusal::ReadResult;
 use perf_base::sys::perf_event_header;
 use perf_buffers::input::{Input, take_array};
+use perf_buffers::outer::Outer;
+use perf_buffers::parsebuf::ParseBuf;
 
 /// The header whose eight bytes are these.
 #[inline]
@@ -70,6 +74,31 @@ impl<'p, I: Input<'p>, E: Endian> Reader<I, E> {
             misc: self.read_u16()?,
             size: self.read_u16()?,
         })
+    }
+}
+
+impl<'p, B: ParseBuf<'p>, E: Endian> Reader<Outer<B>, E> {
+    /// The header in front of a run's next frame, if the buffer shows all of it; otherwise nothing
+    /// is taken. A run counts it as two reads, of its first byte, which may be missing where a
+    /// stream ends, and of the other seven.
+    #[inline]
+    #[tactic(auto)]
+    pub fn read_shown_header(&mut self) -> ReadResult<Option<perf_event_header>>
+        ensures call { Call (λ (o : Outer B). B.source o.buf) E.order ReadsShownHeader
+            self.old (kinds result) self.new }
+    {
+        match self.input.take_shown::<8>() {
+            Ok(Some(bytes)) => {
+                self.reads.tick();
+                self.reads.tick();
+                Ok(Some(header_in(self.config.endian(), bytes)))
+            }
+            Ok(None) => Ok(None),
+            Err(refusal) => {
+                self.reads.tick();
+                Err(refusal)
+            }
+        }
     }
 }
 

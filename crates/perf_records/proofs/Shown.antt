@@ -1,4 +1,4 @@
--- Frames whose bytes a buffer shows.
+-- Frames that are read where their bytes are.
 use Rattle.std.proofs.Common.{◌≡◌, ℕ, ◌+◌, ◌-◌, ◌≤◌, List, Bool, length, take, drop, false, nat_lt, arith, refl, sym, ◌∙◌, ap, subst}
 use Rattle.std.proofs.lemmas.Bool.{le-ltb}
 use Rattle.std.proofs.lemmas.List.{length-take-le, take-take, take_all}
@@ -6,35 +6,36 @@ use Rattle.std.specs.Prelude.{Result, IsTrue, Option, None, Some, Ok, Err, if◌
 use Rattle.perf_base.specs.Configuration.{Configuration, under_misc}
 use Rattle.perf_base.specs.LayoutReads.{layout_reads}
 use Rattle.perf_base.specs.Order.{Order}
-use Rattle.perf_base.specs.Refusals.{kinds, refused}
+use Rattle.perf_base.specs.Refusals.{kinds, refused, TakesNoMemory}
 use Rattle.perf_base.specs.declared.refusal.Refusal.{Refusal}
 use Rattle.perf_base.specs.declared.sys.perf_event_header.{perf_event_header}
 use Rattle.perf_base.specs.Configured.{configuration_of, endian_of}
 use Rattle.perf_base.specs.declared.error.ErrorKind.{ErrorKind}
 use Rattle.perf_base.specs.declared.error.ErrorKind.TheVariants.{InvalidRecord}
 use Rattle.perf_buffers.specs.Buffer.{Source, Stays}
-use Rattle.perf_buffers.specs.Shown.{Views}
-use Rattle.perf_buffers.specs.Taking.{Takes}
+use Rattle.perf_buffers.specs.Taking.{Takes, CanFail}
 use Rattle.perf_buffers.proofs.Taking.{takes_moves}
 use Rattle.perf_reader.specs.Calls.{Call}
+use Rattle.perf_reader.specs.Frames.{GivesNextFrame, FailsToReadFrame}
 use Rattle.perf_reader.specs.Meaning.{Meaning, meaning}
 use Rattle.perf_reader.specs.declared.reader.Reader.{Reader}
-use Rattle.perf_reader.proofs.Paying.{keeps_more}
+use Rattle.perf_reader.proofs.Paying.{keeps_more, can_fault}
 use Rattle.perf_reader.specs.Reading.{is_external, one_if_refused, Keeps}
 use Rattle.perf_records.specs.Answers.{FrameParts, body_length, parts_of, id_bytes, id_reads, split_reads, split_behind, record_in, record_reads, answer_behind, reads_behind, SaysBehind}
-use Rattle.perf_records.specs.Bodies.{body}
+use Rattle.perf_records.specs.Bodies.{body, wants_memory}
+use Rattle.perf_records.specs.Records.{IsBorrowed}
 use Rattle.perf_records.specs.Metadata.{MetadataValue, id_length, id_of_type}
-use Rattle.perf_records.specs.Shown.{moment, boxed_kinds, VisitsBytes, ViewsFrame}
+use Rattle.perf_records.specs.Shown.{moment, boxed_kinds, VisitsBytes, ReadsBytes}
 use Rattle.perf_records.specs.declared.record.Record.{Record}
 use Rattle.perf_sample_types.specs.declared.sample.Sample.{Sample}
 use Rattle.std.specs.Prelude.{Box, IfOk}
 use Rattle.perf_sample_types.specs.SampleGroups.{IsBorrowedSample}
 use Rattle.std.specs.declared.alloc.Global.{Global}
 use Rattle.perf_records.specs.Visits.{Event, VisitsAll, VisitsBehind, IsRecordOf, IsSampleOf}
-use Rattle.perf_records.proofs.Finishing.{belongs, spares, visits_made, visits_keep}
-use Rattle.perf_records.proofs.Keeping.{moved_keeps, taken_pays}
-use Rattle.perf_records.proofs.Making.{body_says}
-use Rattle.perf_records.proofs.Splitting.{split_made}
+use Rattle.perf_records.proofs.Finishing.{belongs, spares, visits_made, visits_keep, unsplit_visits}
+use Rattle.perf_records.proofs.Keeping.{moved_keeps, taken_pays, within_kept}
+use Rattle.perf_records.proofs.Making.{body_says, body_borrows_if}
+use Rattle.perf_records.proofs.Splitting.{split_made, unsplit_cut}
 
 -- the front of what is in front
 pub front_of : (chunk frame part : List ℕ) (n m : ℕ) → frame ≡ take n chunk → n ≤ length chunk → part ≡ take m frame → m ≤ n → take (length part) chunk ≡ part
@@ -97,35 +98,6 @@ same_reads c o h xs ys split same =
     let second : record_reads c o h (split_behind c o h xs) ≡ record_reads c o h (split_behind c o h ys) = ap (record_reads c o h) split in
     omega (arith, first, second)
 
--- what a call answers that begins where another one would, and under the same configuration
-pub says_same : (h : perf_event_header) (old mid new : Meaning) (seen : Result Record ErrorKind) → answer_behind mid.settings mid.order h mid.source.left ≡ answer_behind old.settings old.order h old.source.left →
-    reads_behind mid.settings mid.order h mid.source.left ≡ reads_behind old.settings old.order h old.source.left → drop (body_length h) mid.source.left ≡ drop (body_length h) old.source.left → mid.reads ≡ old.reads →
-    SaysBehind h mid seen new → SaysBehind h old seen new
-says_same h old mid new (Ok r) a b d n p = (sym a ∙ p.0, p.1 ∙ d, omega (arith, p.2, n, b))
-says_same h old mid new (Err e) a b d n p = λ layout. let q = p layout in (sym a ∙ q.0, q.1 ∙ d, omega (arith, q.2, n, b))
-
--- what a call answers behind one that did nothing
-module _ {I E : Type 0} (source : I → Source) (order : E → Order) (h : perf_event_header) (old mid new : Reader I E) (seen : Result Record ErrorKind) where
-  pub unmoved_call : mid.config ≡ old.config → mid.reads ≡ old.reads → Stays (source old.input) None (source mid.input) → (IsTrue (source old.input).told → (source mid.input).left ≡ (source old.input).left) →
-      Call source order (SaysBehind h) mid seen new → Call source order (SaysBehind h) old seen new
-  unmoved_call config reads stays same call =
-      let a : Meaning = meaning source order old in
-      let b : Meaning = meaning source order mid in
-      let d : Meaning = meaning source order new in
-      let settings : b.settings ≡ a.settings = ap configuration_of config in
-      let orders : b.order ≡ a.order = ap (λ k. order (endian_of k)) config in
-      let kept : Keeps a None b = moved_keeps a b None 0 (omega (arith, reads)) stays (λ x. cc) (λ told. (takes_moves a.source b.source 0 (omega arith, same told), let long = ap length (same told) in omega (arith, long))) in record {
-        config = call.config ∙ config;
-        whole = call.whole ∙ stays.0;
-        told = λ told. call.told (stays.3 told);
-        answer = λ told.
-            let left : b.source.left ≡ a.source.left = same told in
-            says_same h a b d seen (ap (λ (c : Configuration). answer_behind c b.order h b.source.left) settings ∙ ap (λ (o : Order). answer_behind a.settings o h b.source.left) orders ∙ ap (answer_behind a.settings a.order h) left)
-            (ap (λ (c : Configuration). reads_behind c b.order h b.source.left) settings ∙ ap (λ (o : Order). reads_behind a.settings o h b.source.left) orders ∙ ap (reads_behind a.settings a.order h) left)
-            (ap (drop (body_length h)) left) reads (call.answer (stays.3 told));
-        keeps = λ start p. call.keeps start (keeps_more start a b None p kept);
-      }
-
 -- what a frame says that was read by itself
 frame_says : (h : perf_event_header) (a d alone behind : Meaning) (seen : Result Record ErrorKind) → answer_behind a.settings a.order h a.source.left ≡ answer_behind alone.settings alone.order h alone.source.left →
     reads_behind a.settings a.order h a.source.left ≡ reads_behind alone.settings alone.order h alone.source.left → d.source.left ≡ drop (body_length h) a.source.left → d.reads ≡ a.reads + behind.reads → alone.reads ≡ 0 →
@@ -133,60 +105,10 @@ frame_says : (h : perf_event_header) (a d alone behind : Meaning) (seen : Result
 frame_says h a d alone behind (Ok r) says reads left count none p = (says ∙ p.0, left, omega (arith, p.2, count, none, reads))
 frame_says h a d alone behind (Err e) says reads left count none p = λ layout. let q = p layout in (says ∙ q.0, left, omega (arith, q.2, count, none, reads))
 
--- a buffer that did not show the frame
-pub none_shown : (h : perf_event_header) (c : Configuration) (o : Order) (a b : Source) (output : Option (Result Record Refusal × ℕ)) → output ≡ None → Views (λ bytes lasting n. ViewsFrame IsRecordOf h c o bytes lasting n) a output b → IsTrue a.told → b.left ≡ a.left
-none_shown h c o a b output is views told =
-    let v = subst (λ (x : Option (Result Record Refusal × ℕ)). Views (λ bytes lasting n. ViewsFrame IsRecordOf h c o bytes lasting n) a x b) is views in
-    (v.5 told).2 ∙ ap (λ k. drop k a.left) v.3
-
--- the record of a frame that was shown
-module _ {I E : Type 0} (source : I → Source) (order : E → Order) (h : perf_event_header) (old mid new : Reader I E) (record_ : Result Record Refusal) (made : ℕ) where
-  pub shown_call : Views (λ bytes lasting n. ViewsFrame IsRecordOf h (configuration_of old.config) (order (endian_of old.config)) bytes lasting n) (source old.input) (Some (record_, made)) (source mid.input) →
-      mid.config ≡ old.config → mid.reads ≡ old.reads → Stays (source old.input) None (source mid.input) → new.input ≡ mid.input → new.config ≡ mid.config → new.reads ≡ mid.reads + made →
-      Call source order (SaysBehind h) old (kinds record_) new
-  shown_call views config reads stays input still count =
-      let a : Meaning = meaning source order old in
-      let b : Meaning = meaning source order mid in
-      let d : Meaning = meaning source order new in
-      let n : ℕ = body_length h in
-      let bytes : List ℕ = views.0 in
-      let v = views.3 in
-      let frame : List ℕ = take n bytes in
-      let taken : views.2 ≡ n = v.2 in
-      let same : d.source ≡ b.source = ap source input in
-      let long : length frame ≡ n = length-take-le n bytes v.1 in
-      let takes : IsTrue a.source.told → Takes a.source n b.source = λ told. let t = views.5 told in (omega (arith, t.1, v.1), t.2 ∙ ap (λ k. drop k a.source.left) taken) in
-      let kept : Keeps a None b = moved_keeps a b None 0 (omega (arith, reads)) stays (λ x. cc) (λ told. let m = takes_moves a.source b.source n (takes told) in (m, omega (arith, m.0))) in
-      let says = body_says h (moment a.settings a.order frame views.1 0) (moment a.settings a.order (drop n frame) views.1 made) (kinds record_) v.3.0 in record {
-        config = still ∙ config;
-        whole = ap (λ (s : Source). s.whole) same ∙ stays.0;
-        told = λ told. subst (λ (s : Source). IsTrue s.told) (sym same) (stays.3 told);
-        answer = λ told.
-            let t = views.5 told in
-            let front : take n a.source.left ≡ take n frame = sym (take-take n (length bytes) a.source.left v.1) ∙ ap (take n) t.0 ∙ sym (take-take n n bytes (omega arith)) in
-            let split = same_split a.settings a.order h a.source.left frame v.0 (takes told).0 (omega (arith, long)) front in
-            frame_says h a d (moment a.settings a.order frame views.1 0) (moment a.settings a.order (drop n frame) views.1 made) (kinds record_) (ap (record_in a.settings a.order h) split)
-            (same_reads a.settings a.order h a.source.left frame split front) (ap (λ (s : Source). s.left) same ∙ (takes told).1) (omega (arith, count, reads)) refl says;
-        keeps = λ start p. visits_keep start a b d made n _ p (keeps_more start a b None p kept) (λ told. let paid = taken_pays a.source b.source n n (takes told) (omega arith) in omega (arith, paid, reads)) same count v.3.4 v.3.3;
-      }
-
 -- ---- samples in their boxes
-boxed_says : (h : perf_event_header) (old new : Meaning) (held : Result (Box Sample Global) Refusal) → VisitsBehind IsSampleOf h old (kinds held) new → SaysBehind h old (boxed_kinds held) new
+pub boxed_says : (h : perf_event_header) (old new : Meaning) (held : Result (Box Sample Global) Refusal) → VisitsBehind IsSampleOf h old (kinds held) new → SaysBehind h old (boxed_kinds held) new
 boxed_says h old new (Ok s) v = (v.6.0 ∙ ap Ok (sym v.3.0), v.6.1, v.6.2)
 boxed_says h old new (Err e) v = v
-
--- what a sample's frame says at the front of others
-pub sample_says : (h : perf_event_header) (a d : Meaning) (bytes : List ℕ) (lasting : Bool) (held : Result (Box Sample Global) Refusal) (made : ℕ) → 8 ≤ h.size → body_length h ≤ length bytes → take (length bytes) a.source.left ≡ bytes →
-    body_length h ≤ length a.source.left → VisitsBytes IsSampleOf h a.settings a.order (take (body_length h) bytes) lasting held made → d.source.left ≡ drop (body_length h) a.source.left → d.reads ≡ a.reads + made →
-    SaysBehind h a (boxed_kinds held) d
-sample_says h a d bytes lasting held made sized fits starts room v left count =
-    let n : ℕ = body_length h in
-    let frame : List ℕ = take n bytes in
-    let long : length frame ≡ n = length-take-le n bytes fits in
-    let front : take n a.source.left ≡ take n frame = sym (take-take n (length bytes) a.source.left fits) ∙ ap (take n) starts ∙ sym (take-take n n bytes (omega arith)) in
-    let split = same_split a.settings a.order h a.source.left frame sized room (omega (arith, long)) front in
-    frame_says h a d (moment a.settings a.order frame lasting 0) (moment a.settings a.order (drop n frame) lasting made) (boxed_kinds held) (ap (record_in a.settings a.order h) split)
-    (same_reads a.settings a.order h a.source.left frame split front) left count refl (boxed_says h (moment a.settings a.order frame lasting 0) (moment a.settings a.order (drop n frame) lasting made) held v.0)
 
 -- nothing of it was copied
 pub sample_borrows : (h : perf_event_header) (c : Configuration) (o : Order) (bytes : List ℕ) (lasting : Bool) (held : Result (Box Sample Global) Refusal) (made : ℕ) → VisitsBytes IsSampleOf h c o bytes lasting held made → IsTrue lasting → IfOk held (λ s. IsBorrowedSample s.value)
@@ -197,3 +119,68 @@ sample_borrows h c o bytes lasting (Err e) made v lasts = tt
 pub same_refusal : (held : Result (Box Sample Global) Refusal) → refused (boxed_kinds held) ≡ refused (kinds held)
 same_refusal (Ok s) = refl
 same_refusal (Err e) = refl
+
+-- ---- a frame after its header
+module _ {I E O : Type 0} (source : I → Source) (order : E → Order) (gives : Event → O → Type 0) (h : perf_event_header) (old new : Reader I E) where
+  -- something was made of its bytes
+  abbrev pub Read : Result O Refusal → Type 0
+  Read result =
+      GivesNextFrame (λ bytes lasting made x. ReadsBytes gives h (configuration_of old.config) (order (endian_of old.config)) bytes lasting made x) (source old.input) old.reads (body_length h) result (source new.input) new.reads
+
+  -- what it says
+  pub frame_call : (result : Result O Refusal) (seen : Result Record ErrorKind) → refused seen ≡ refused (kinds result) → ((a d : Meaning) → VisitsBehind gives h a (kinds result) d → SaysBehind h a seen d) →
+      8 ≤ h.size → Read result → new.config ≡ old.config → Stays (source old.input) None (source new.input) → Call source order (SaysBehind h) old seen new
+  frame_call result seen kind says sized frame config stays =
+      let a : Meaning = meaning source order old in
+      let d : Meaning = meaning source order new in
+      let b : Meaning = record { settings = d.settings; order = d.order; source = d.source; reads = a.reads } in
+      let n : ℕ = body_length h in
+      let made : ℕ = frame.0 in
+      let bytes : List ℕ = frame.2.0 in
+      let long : length bytes ≡ n = frame.2.3 in
+      let v = frame.2.2 sized long in
+      let takes : IsTrue a.source.told → Takes a.source n d.source = λ told. (frame.2.4 told).0 in
+      let kept : Keeps a None b = moved_keeps a b None 0 (omega arith) stays (λ x. cc) (λ told. let m = takes_moves a.source d.source n (takes told) in (m, omega (arith, m.0))) in record {
+        config = config;
+        whole = stays.0;
+        told = stays.3;
+        answer = λ told.
+            let t = frame.2.4 told in
+            let front : take n a.source.left ≡ take n bytes = sym t.1 ∙ sym (take_all n bytes (omega (arith, long))) in
+            let split = same_split a.settings a.order h a.source.left bytes sized t.0.0 (omega (arith, long)) front in
+            frame_says h a d (moment a.settings a.order bytes frame.2.1 0) (moment a.settings a.order (drop n bytes) frame.2.1 made) seen (ap (record_in a.settings a.order h) split)
+            (same_reads a.settings a.order h a.source.left bytes split front) t.0.1 frame.1 refl (says (moment a.settings a.order bytes frame.2.1 0) (moment a.settings a.order (drop n bytes) frame.2.1 made) v.0);
+        keeps = λ start p.
+            subst (λ e. Keeps start e d) (sym kind)
+            (visits_keep start a b d made n (refused (kinds result)) p (keeps_more start a b None p kept) (λ told. let paid = taken_pays a.source d.source n n (takes told) (omega arith) in omega (arith, paid)) refl frame.1 v.4 v.3);
+      }
+
+  -- no memory is taken over a whole buffer, where none is wanted
+  pub frame_spares : (result : Result O Refusal) → 8 ≤ h.size → Read result → IsTrue (source old.input).whole → wants_memory h.type_ ≡ false → TakesNoMemory (kinds result)
+  frame_spares result sized frame whole none = (frame.2.2 sized frame.2.3).2 (frame.2.5 whole) none
+
+  -- its bytes could not be read
+  pub unread_call : (e : ErrorKind) → 8 ≤ h.size → FailsToReadFrame (source old.input) old.reads (body_length h) e (source new.input) new.reads → new.config ≡ old.config →
+      Stays (source old.input) (Some e) (source new.input) → CanFail (source old.input) (Some e) → Call source order (SaysBehind h) old (Err e) new
+  unread_call e sized fails config stays can =
+      let a : Meaning = meaning source order old in
+      let d : Meaning = meaning source order new in
+      let kept : Keeps a (Some e) d = moved_keeps a d (Some e) 0 (omega (arith, fails.0)) stays (can_fault a.source (Some e) can) (λ told.
+      let w = within_kept a.source d.source (body_length h) e (fails.1 told) in (w.1, omega (arith, w.1.0))) in record {
+        config = config;
+        whole = stays.0;
+        told = stays.3;
+        answer = λ told. body_says h a d (Err e) (unsplit_visits IsRecordOf h a d e (λ layout. let u = unsplit_cut a.settings a.order h a.source d.source e sized (fails.1 told) layout in (u.0.0, u.1, omega (arith, fails.0, u.0.1))));
+        keeps = λ start p. keeps_more start a d (Some e) p kept;
+      }
+
+-- of a record that was read nothing was copied
+pub record_lasts : {I E : Type 0} (source : I → Source) (order : E → Order) (h : perf_event_header) (old new : Reader I E) (result : Result Record Refusal) → 8 ≤ h.size → Read source order IsRecordOf h old new result →
+    IsTrue (source old.input).whole → IfOk result (λ r. IsBorrowed r)
+record_lasts source order h old new result sized frame whole = body_borrows_if h frame.2.1 result (frame.2.2 sized frame.2.3).1 (frame.2.5 whole)
+
+-- nor of a sample
+pub sample_lasts : {I E : Type 0} (source : I → Source) (order : E → Order) (h : perf_event_header) (old new : Reader I E) (result : Result (Box Sample Global) Refusal) → 8 ≤ h.size → Read source order IsSampleOf h old new result →
+    IsTrue (source old.input).whole → IfOk result (λ s. IsBorrowedSample s.value)
+sample_lasts source order h old new result sized frame whole =
+    sample_borrows h (configuration_of old.config) (order (endian_of old.config)) frame.2.0 frame.2.1 result frame.0 (frame.2.2 sized frame.2.3) (frame.2.5 whole)

@@ -1,11 +1,10 @@
--- Frames whose bytes a buffer shows.
+-- Frames that are read where their bytes are.
 use Rattle.std.specs.Prelude.{Result, ◌≡◌, ℕ, ◌+◌, ◌≤◌, Bool, true, false, List, IfOk, Option, None}
 use Rattle.std.specs.Prelude.{Some, Ok, Err, Box}
 use Rattle.std.specs.declared.alloc.Global.{Global}
 use Rattle.std.specs.Prelude.{length, take, drop, IsTrue}
 use Rattle.perf_base.specs.Configuration.{Configuration}
 use Rattle.perf_base.specs.Order.{Order}
-use Rattle.perf_base.specs.Header.{header_of}
 use Rattle.perf_base.specs.Refusals.{refused, refusal_kind, kinds, TakesNoMemory}
 use Rattle.perf_base.specs.declared.error.ErrorKind.{ErrorKind}
 use Rattle.perf_base.specs.declared.refusal.Refusal.{Refusal}
@@ -15,8 +14,6 @@ use Rattle.perf_reader.specs.Reading.{is_external, one_if_refused}
 use Rattle.perf_records.specs.Answers.{body_length}
 use Rattle.perf_records.specs.Bodies.{wants_memory}
 use Rattle.perf_records.specs.Visits.{Event, IsSampleOf, VisitsBehind, BelongsTo}
-use Rattle.perf_records.specs.declared.frame_shown.Met.{Met}
-use Rattle.perf_records.specs.declared.frame_shown.Met.TheVariants as met
 use Rattle.perf_records.specs.declared.record.Record.{Record}
 use Rattle.perf_records.specs.declared.record.Record.TheVariants as record_of
 use Rattle.perf_sample_types.specs.declared.sample.Sample.{Sample}
@@ -30,7 +27,7 @@ moment c o bytes lasting reads = record {
   reads = reads;
 }
 
--- The visit of the frame that these bytes are behind its header, in k reads.
+-- The visit of the frame whose bytes after its header are these, in k reads.
 abbrev pub VisitsBytes : {O : Type 0} → (Event → O → Type 0) → perf_event_header →
     Configuration → Order → List ℕ → Bool → Result O Refusal → (k : ℕ) → Type 0
 VisitsBytes gives h c o bytes lasting result k =
@@ -41,25 +38,13 @@ VisitsBytes gives h c o bytes lasting result k =
     × (is_external (refused (kinds result)) ≡ false)
     × (k ≤ body_length h + one_if_refused (refused (kinds result)))
 
--- The same of the frame whose bytes begin these, if the buffer shows all of them: they are taken.
-abbrev pub ViewsFrame : {O : Type 0} → (Event → O → Type 0) → perf_event_header →
-    Configuration → Order → List ℕ → Bool → (n : ℕ) → Option (Result O Refusal × ℕ) → Type 0
-ViewsFrame gives h c o bytes lasting n (Some seen) =
-    (8 ≤ h.size) × (body_length h ≤ length bytes) × (n ≡ body_length h)
-    × VisitsBytes gives h c o (take (body_length h) bytes) lasting seen.0 seen.1
-ViewsFrame gives h c o bytes lasting n None = n ≡ 0
+-- The same, where there is such a frame and these are its bytes after the header.
+abbrev pub ReadsBytes : {O : Type 0} → (Event → O → Type 0) → perf_event_header →
+    Configuration → Order → List ℕ → Bool → (k : ℕ) → Result O Refusal → Type 0
+ReadsBytes gives h c o bytes lasting k result =
+    8 ≤ h.size → length bytes ≡ body_length h → VisitsBytes gives h c o bytes lasting result k
 
 -- a sample in its box as a record, or the kind of the refusal
 abbrev pub boxed_kinds : Result (Box Sample Global) Refusal → Result Record ErrorKind
 boxed_kinds (Ok held) = Ok (record_of.Sample held)
 boxed_kinds (Err e) = Err (refusal_kind e)
-
--- What is met at the front of these bytes: a header, of which there are eight bytes, and all of the
--- frame if it is a sample and they have it.
-abbrev pub MeetsNext : Configuration → Order → List ℕ → Bool → (n : ℕ) → Option Met → Type 0
-MeetsNext c o bytes lasting n None = n ≡ 0
-MeetsNext c o bytes lasting n (Some (met.Header h)) =
-    (8 ≤ length bytes) × (n ≡ 8) × (h ≡ header_of o bytes)
-MeetsNext c o bytes lasting n (Some (met.Sample h held k)) =
-    (h.type_ ≡ 9) × (8 ≤ h.size) × (h.size ≤ length bytes) × (n ≡ h.size) × (h ≡ header_of o bytes)
-    × VisitsBytes IsSampleOf h c o (take (body_length h) (drop 8 bytes)) lasting held k

@@ -30,4 +30,5 @@ pub use Rattle.perf_records.specs.Visits.{GivesRecord, IsRecordOf, IsSampleOf, M
 pub use Rattle.perf_records.specs.Visits.{VisitsType, VisitsUnread, VisitsBody}
 pub use Rattle.perf_records.specs.Visits.{VisitsAll, VisitsBehind, VisitsFrame, BelongsTo}
 pub use Rattle.perf_records.specs.Visits.{GivesOrLeavesOut}
-pub use Rattle.perf_records.specs.Shown.{VisitsBytes, ViewsFrame, MeetsNext, boxed_kinds}
+pub use Rattle.perf_records.specs.Shown.{VisitsBytes, ReadsBytes, boxed_kinds}
+pub use Rattle.perf_sample_types.specs.SampleGroups.{IsBorrowedSample}

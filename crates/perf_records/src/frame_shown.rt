@@ -1,11 +1,12 @@
-//! Frames that a buffer shows whole: they are read where they stand. Of bytes that do not last, what
-//! is kept is copied.
+//! Frames that are read where their bytes are: in place if the buffer shows all of them, and
+//! otherwise assembled ([`Outer::with_frame`] has the rule). Of bytes that do not last, what a record
+//! keeps is copied.
 
-ghost use Rattle.std.specs.Prelude.{◌≡◌, ◌<◌, ◌≤◌, ◌+◌, false, length, take, drop, IsTrue};
-ghost use Rattle.std.specs.Prelude.{IfOk, IfSome};
+ghost use Rattle.std.specs.Prelude.{◌≡◌, ◌<◌, ◌≤◌, ◌+◌, true, false, length, take, drop, IsTrue};
+ghost use Rattle.std.specs.Prelude.{IfOk, IfErr, Err};
 ghost use Rattle.perf_records.specs.Words.{configuration_of, endian_of, Call, IsRecordOf};
-ghost use Rattle.perf_records.specs.Words.{IsSampleOf, MetadataValue};
-ghost use Rattle.perf_records.specs.Words.{kinds, body_length};
+ghost use Rattle.perf_records.specs.Words.{IsSampleOf, MetadataValue, IsBorrowedSample};
+ghost use Rattle.perf_records.specs.Words.{kinds, body_length, refusal_kind};
 ghost use Rattle.perf_records.specs.Words as words;
 ghost use Rattle.perf_buffers.specs.Words.{chunk_bytes, lasts};
 ghost use Rattle.perf_reader.specs.Words.{buffer_of};
@@ -18,20 +19,19 @@ use crate::record_type::RecordType;
 use perf_base::config::ParseConfig;
 use perf_base::endian::Endian;
 use perf_base::reads::ReadCounter;
-use perf_base::refusal::ReadResult;
-use perf_base::sys::{PERF_RECORD_SAMPLE, perf_event_header};
+use perf_base::refusal::{ReadResult, Refusal};
+use perf_base::sys::perf_event_header;
 use perf_buffers::input::Input;
 use perf_buffers::loan::Loan;
 use perf_buffers::outer::Outer;
 use perf_buffers::parsebuf::{ParseBuf, ParseBufChunk};
-use perf_reader::header::header_in;
+use perf_reader::frame_reader::ConfiguredFrameReader;
 use perf_reader::reader::Reader;
-use perf_reader::shown::ConfiguredViewer;
 use perf_sample_types::sample::Sample;
 use std::alloc::Global;
 use std::boxed::Box;
 
-// The record that the bytes of a body are, and how many reads that took. Bytes behind the record do
+// The record that the bytes of a body are, and how many reads that took. Bytes after the record do
 // not matter.
 #[inline]
 fn finish_bytes<'p, I: Input<'p> + Drop, E: Endian>(
@@ -54,8 +54,8 @@ fn finish_bytes<'p, I: Input<'p> + Drop, E: Endian>(
     (record, reader.into_reads())
 }
 
-// The record of a body whose bytes begin those that a buffer shows. What it keeps is copied where
-// they do not last.
+// The record of a body whose bytes are the first of a frame's. What it keeps is copied where they do
+// not last.
 #[inline]
 fn finish_shown<'p, E: Endian>(
     alloc: Global,
@@ -79,7 +79,7 @@ fn finish_shown<'p, E: Endian>(
     }
 }
 
-// The record of the frame that a buffer shows behind its header, and how many reads that took.
+// The record of the frame whose bytes after its header are these, and how many reads that took.
 #[inline]
 fn read_chunk<'p, E: Endian>(
     alloc: Global,
@@ -87,14 +87,11 @@ fn read_chunk<'p, E: Endian>(
     config: ParseConfig<E>,
     header: perf_event_header,
 ) -> (ReadResult<Record<'p>>, ReadCounter)
-    requires sized { 8 ≤ header.size }
-    requires whole { body_length header ≤ length (chunk_bytes chunk) }
-    ensures { words.VisitsBytes IsRecordOf header (configuration_of config)
-        (E.order (endian_of config)) (take (body_length header) (chunk_bytes chunk.entry))
-        (lasts chunk.entry) result.0 result.1 }
+    ensures { words.ReadsBytes IsRecordOf header (configuration_of config)
+        (E.order (endian_of config)) (chunk_bytes chunk.entry) (lasts chunk.entry) result.1 result.0 }
 {
-    let size = header.size as usize - 8;
-    let mut bytes = &chunk.as_bytes()[..size];
+    let mut bytes = chunk.as_bytes();
+    let size = bytes.len();
     let frame = match bytes.cut(alloc, size) {
         Ok(frame) => frame,
         Err(refusal) => return (Err(refusal), ReadCounter::new()),
@@ -116,48 +113,30 @@ fn read_chunk<'p, E: Endian>(
     (record, all)
 }
 
-// Reads the frame behind this header, where all of its bytes are shown.
+// Reads the record of the frame whose header this is.
 #[derive(Drop)]
-struct FrameViewer {
+struct RecordReader {
     header: perf_event_header,
 }
 
-impl<'p, E: Endian> ConfiguredViewer<'p, E> for FrameViewer {
-    type Output = Option<(ReadResult<Record<'p>>, ReadCounter)>;
+impl<'p, E: Endian> ConfiguredFrameReader<'p, E> for RecordReader {
+    type Output = ReadResult<Record<'p>>;
 
-    ghost gives = { λ viewer settings order bytes lasting count output.
-        words.ViewsFrame IsRecordOf viewer.header settings order bytes lasting count output };
+    ghost gives = { λ reader settings order bytes lasting made output.
+        words.ReadsBytes IsRecordOf reader.header settings order bytes lasting made output };
 
     #[inline]
-    fn view(
+    fn read(
         self,
         alloc: Global,
         config: &ParseConfig<E>,
-        chunk: ParseBufChunk<'_, 'p>,
-    ) -> (Self::Output, usize) {
-        if self.header.size < 8 {
-            return (None, 0);
-        }
-        let len = self.header.size as usize - 8;
-        if chunk.as_bytes().len() < len {
-            return (None, 0);
-        }
-        let seen = read_chunk(alloc, chunk, config.lent(), self.header);
-        (Some(seen), len)
+        bytes: ParseBufChunk<'_, 'p>,
+    ) -> (Self::Output, ReadCounter) {
+        read_chunk(alloc, bytes, config.lent(), self.header)
     }
 }
 
-// Whether a frame is looked for where the buffer shows it: it has bytes, of which a record keeps some
-// at most, and they would be copied. Those of a buffer that says how many it has are mostly lent, and
-// of an unknown type all are kept.
-#[inline]
-fn may_be_shown(hint: Option<usize>, header: perf_event_header) -> bool
-    ensures { IsTrue result → 8 < header.size }
-{
-    8 < header.size && hint.is_none() && RecordType::of(header.type_).is_some()
-}
-
-// The sample that these bytes are, and how many reads that took. Bytes behind it do not matter.
+// The sample that these bytes are, and how many reads that took. Bytes after it do not matter.
 #[inline]
 fn sample_in<'p, I: Input<'p> + Drop, E: Endian>(
     alloc: Global,
@@ -178,99 +157,104 @@ fn sample_in<'p, I: Input<'p> + Drop, E: Endian>(
     (held, reader.into_reads())
 }
 
-// The sample of the frame that a buffer shows, with its header, and how many reads that took.
+// The sample of the frame whose bytes after its header are these, and how many reads that took.
 #[inline]
-fn sample_shown<'p, E: Endian>(
+fn sample_of<'p, E: Endian>(
     alloc: Global,
-    chunk: ParseBufChunk<'_, 'p>,
+    bytes: ParseBufChunk<'_, 'p>,
     config: ParseConfig<E>,
     header: perf_event_header,
 ) -> (ReadResult<Box<Sample<'p>>>, ReadCounter)
-    requires ty { header.type_ ≡ 9 }
-    requires sized { 8 ≤ header.size }
-    requires whole { header.size ≤ length (chunk_bytes chunk) }
-    ensures { words.VisitsBytes IsSampleOf header (configuration_of config)
-        (E.order (endian_of config))
-        (take (body_length header) (drop 8 (chunk_bytes chunk.entry)))
-        (lasts chunk.entry) result.0 result.1 }
+    ensures { header.type_ ≡ 9 → words.ReadsBytes IsSampleOf header (configuration_of config)
+        (E.order (endian_of config)) (chunk_bytes bytes.entry) (lasts bytes.entry) result.1 result.0 }
 {
-    let size = header.size as usize;
-    let mut under = config;
-    under.set_misc(header.misc);
-    match chunk {
-        ParseBufChunk::External(bytes) => sample_in(alloc, &bytes[8..size], under),
-        ParseBufChunk::Temporary(bytes) => sample_in(alloc, Loan::new(&bytes[8..size]), under),
+    let mut settings = config;
+    settings.set_misc(header.misc);
+    match bytes {
+        ParseBufChunk::External(bytes) => sample_in(alloc, bytes, settings),
+        ParseBufChunk::Temporary(bytes) => sample_in(alloc, Loan::new(bytes), settings),
     }
 }
 
-/// What a buffer shows next.
+// Reads the sample of the frame whose header this is.
 #[derive(Drop)]
-pub enum Met<'p> {
-    /// The header of a frame.
-    Header(perf_event_header),
-    /// A whole frame that is a sample: its header, the sample or why there is none, and how many reads
-    /// that took behind the header.
-    Sample(perf_event_header, ReadResult<Box<Sample<'p>>>, ReadCounter),
+struct SampleReader {
+    header: perf_event_header,
 }
 
-/// Takes the header of the next frame, and all of the frame where it is a sample.
-#[derive(Drop)]
-pub struct NextViewer {
-    hint: Option<usize>,
-}
+impl<'p, E: Endian> ConfiguredFrameReader<'p, E> for SampleReader {
+    type Output = ReadResult<Box<Sample<'p>>>;
 
-impl NextViewer {
-    /// A viewer of a buffer that has so many bytes left, where that is known.
-    #[inline]
-    pub fn new(hint: Option<usize>) -> NextViewer {
-        NextViewer { hint }
-    }
-
-    // Whether all of a frame is there: in so many bytes, and in those that are known to be left.
-    #[inline]
-    fn has(&self, shown: usize, size: usize) -> bool
-        ensures shown { IsTrue result → size ≤ shown }
-        ensures left { IsTrue result → IfSome self.now.hint (λ left. size ≤ left) }
-    {
-        match self.hint {
-            Some(left) => size <= shown && size <= left,
-            None => size <= shown,
-        }
-    }
-}
-
-impl<'p, E: Endian> ConfiguredViewer<'p, E> for NextViewer {
-    type Output = Option<Met<'p>>;
-
-    ghost gives = { λ _ settings order bytes lasting count output.
-        words.MeetsNext settings order bytes lasting count output };
+    ghost gives = { λ reader settings order bytes lasting made output. reader.header.type_ ≡ 9 →
+        words.ReadsBytes IsSampleOf reader.header settings order bytes lasting made output };
 
     #[inline]
-    fn view(
+    fn read(
         self,
         alloc: Global,
         config: &ParseConfig<E>,
-        chunk: ParseBufChunk<'_, 'p>,
-    ) -> (Self::Output, usize) {
-        let header = match chunk.as_bytes().first_chunk::<8>() {
-            Some(front) => header_in(config.endian(), *front),
-            None => return (None, 0),
-        };
-        let size = header.size as usize;
-        if header.type_ != PERF_RECORD_SAMPLE
-            || size < 8
-            || !self.has(chunk.as_bytes().len(), size)
-        {
-            return (Some(Met::Header(header)), 8);
-        }
-        let (held, made) = sample_shown(alloc, chunk, config.lent(), header);
-        (Some(Met::Sample(header, held, made)), size)
+        bytes: ParseBufChunk<'_, 'p>,
+    ) -> (Self::Output, ReadCounter) {
+        sample_of(alloc, bytes, config.lent(), self.header)
     }
 }
 
+/// The sample of a frame whose header was read, as a run lists it: in its box, whichever way its
+/// bytes are read.
+#[inline]
+pub fn read_sample_after<'p, B: ParseBuf<'p>, E: Endian>(
+    reader: &mut Reader<Outer<B>, E>,
+    header: perf_event_header,
+) -> ReadResult<Box<Sample<'p>>>
+    requires { header.type_ ≡ 9 }
+    ensures within { IsTrue (B.source (buffer_of reader.old)).told →
+        words.MovesWithin (B.source (buffer_of reader.old)) (body_length header)
+        (B.source (buffer_of reader.new)) }
+    ensures borrowed { IsTrue (B.source (buffer_of reader.old)).whole →
+        IfOk result (λ s. IsBorrowedSample s.value) }
+
+    // A size that does not count the header is refused before anything else.
+    ensures small { header.size < 8 → (kinds result ≡ Err words.InvalidRecord)
+        × (B.source (buffer_of reader.new) ≡ B.source (buffer_of reader.old)) }
+
+    // No sample is read where the buffer says that it has too few bytes.
+    ensures short { words.falls_short (B.hint (buffer_of reader.old)) (body_length header) ≡ true →
+        words.TakesNoMemory (kinds result) × IfOk result (λ s. ⊥) }
+    ensures beforehand { IsTrue (B.source (buffer_of reader.old)).told →
+        words.is_made_beforehand (B.hint (buffer_of reader.old)) (body_length header) ≡ true →
+        IfErr result (λ e. refusal_kind e ≡ words.OutOfMemory →
+        words.LeavesAllOrBehind (B.source (buffer_of reader.old)) (body_length header)
+        (B.source (buffer_of reader.new))) }
+    ensures spent { IsTrue (B.source (buffer_of reader.old)).told →
+        IsTrue (B.source (buffer_of reader.old)).whole →
+        IfErr result (λ e. refusal_kind e ≡ words.OutOfMemory →
+        (B.source (buffer_of reader.new)).left
+        ≡ drop (body_length header) (B.source (buffer_of reader.old)).left) }
+    ensures call { Call (λ (o : Outer B). B.source o.buf) E.order (words.SaysBehind header)
+        reader.old (words.boxed_kinds result) reader.new }
+{
+    if header.size < 8 {
+        return Err(Refusal::SmallHeader);
+    }
+    match reader.with_frame(header.size as usize - 8, SampleReader { header }) {
+        Ok(sample) => sample,
+        Err(refusal) => Err(refusal),
+    }
+}
+
+// Whether a frame is read where its bytes are: a record keeps some of them at most, and they would be
+// copied. Those of a buffer that says how many it has are mostly borrowed, and of an unknown type
+// all are kept.
+#[inline]
+fn is_read_in_place(hint: Option<usize>, header: perf_event_header) -> bool
+    ensures hint { IsTrue result → hint ≡ None }
+    ensures sized { IsTrue result → 8 < header.size }
+{
+    hint.is_none() && 8 < header.size && RecordType::of(header.type_).is_some()
+}
+
 /// The record of a frame whose header was read, as a run lists it. A frame of a buffer that does not
-/// say how many bytes it has is read where it stands, if the buffer shows all of it; any other is read
-/// by [`read_behind`].
+/// say how many bytes it has is read where its bytes are; any other is read by [`read_behind`].
 #[inline]
 pub fn read_shown<'p, B: ParseBuf<'p>, E: Endian>(
     reader: &mut Reader<Outer<B>, E>,
@@ -281,24 +265,40 @@ pub fn read_shown<'p, B: ParseBuf<'p>, E: Endian>(
         (B.source (buffer_of reader.new)) }
     ensures borrowed { IsTrue (B.source (buffer_of reader.old)).whole →
         IfOk result (λ r. words.IsBorrowed r) }
+    ensures whole_memory { IsTrue (B.source (buffer_of reader.old)).whole →
+        words.wants_memory header.type_ ≡ false → words.TakesNoMemory (kinds result) }
+
+    // A size that does not count the header is refused before anything else.
+    ensures small { header.size < 8 → (kinds result ≡ Err words.InvalidRecord)
+        × (B.source (buffer_of reader.new) ≡ B.source (buffer_of reader.old)) }
+
+    // No record is read where the buffer says that it has too few bytes, and memory is taken as by
+    // `read_behind`.
+    ensures nothing { body_length header ≡ 0 → words.wants_memory header.type_ ≡ false →
+        words.TakesNoMemory (kinds result) }
+    ensures short { words.falls_short (B.hint (buffer_of reader.old)) (body_length header) ≡ true →
+        words.TakesNoMemory (kinds result) × IfOk result (λ r. ⊥) }
+    ensures beforehand { IsTrue (B.source (buffer_of reader.old)).told →
+        words.is_made_beforehand (B.hint (buffer_of reader.old)) (body_length header) ≡ true →
+        IfErr result (λ e. refusal_kind e ≡ words.OutOfMemory →
+        words.LeavesAllOrBehind (B.source (buffer_of reader.old)) (body_length header)
+        (B.source (buffer_of reader.new))) }
+    ensures spent { IsTrue (B.source (buffer_of reader.old)).told →
+        IsTrue (B.source (buffer_of reader.old)).whole →
+        IfErr result (λ e. refusal_kind e ≡ words.OutOfMemory →
+        (B.source (buffer_of reader.new)).left
+        ≡ drop (body_length header) (B.source (buffer_of reader.old)).left) }
     ensures call { Call (λ (o : Outer B). B.source o.buf) E.order (words.SaysBehind header)
         reader.old (kinds result) reader.new }
 {
-    if !may_be_shown(reader.input().remaining_hint(), header) {
+    if !is_read_in_place(reader.input().remaining_hint(), header) {
         return match read_behind(reader, header) {
             Ok(record) => Ok(record),
             Err(refusal) => Err(refusal),
         };
     }
-    match reader.show(FrameViewer { header }) {
-        Ok(Some((record, made))) => {
-            reader.count(made);
-            record
-        }
-        Ok(None) => match read_behind(reader, header) {
-            Ok(record) => Ok(record),
-            Err(refusal) => Err(refusal),
-        },
+    match reader.with_frame(header.size as usize - 8, RecordReader { header }) {
+        Ok(record) => record,
         Err(refusal) => Err(refusal),
     }
 }

@@ -3,10 +3,11 @@
 //! A visit by [`Recording`] makes it, but for a sample, which is large: that is read where it stays.
 #![tactic(auto, using(perf_reader::proofs::Paying::chain))]
 
-ghost use Rattle.std.specs.Prelude.{Err, IsTrue};
+ghost use Rattle.std.specs.Prelude.{◌≡◌, ◌*◌, ◌%◌, ◌^◌, count_ones, Err, IsTrue};
 ghost use Rattle.perf_records.specs.Words.{Call, IsRecordOf, IsSampleOf, VisitsBody, VisitsType};
 ghost use Rattle.perf_records.specs.Words.{MetadataValue, kinds};
-ghost use Rattle.perf_records.specs.Words.{input_of, refusal_kind};
+ghost use Rattle.perf_records.specs.Words.{input_of, config_of, configuration_of, refusal_kind};
+ghost use Rattle.perf_records.specs.Words.{falls_short};
 
 use crate::body::visit_body;
 use crate::metadata::RecordMetadata;
@@ -21,8 +22,8 @@ use perf_reader::reader::Reader;
 use perf_sample_types::sample::{Sample, empty_sample, fill_sample, least_len};
 use std::boxed::Box;
 
-// Why there is no record of a sample for whose box there is no memory: what its bytes are refused
-// for, or that.
+// Why there is no record of a sample that gets no box, as it is too short or there is no memory for
+// one: the refusal of its bytes, or out of memory.
 #[cold]
 #[inline(never)]
 fn refuse_sample<'p, I: Input<'p>, E: Endian>(reader: &mut Reader<I, E>) -> Refusal
@@ -39,37 +40,16 @@ fn refuse_sample<'p, I: Input<'p>, E: Endian>(reader: &mut Reader<I, E>) -> Refu
     }
 }
 
-// Whether fewer bytes are left than a sample of that type has. It is refused then, so that no box is
-// made for it.
+// Whether the input says that it has fewer bytes than a sample of that type. Its layout refuses them,
+// so that no box is made for it.
 #[inline]
-fn is_short<'p, I: Input<'p>, E: Endian>(reader: &Reader<I, E>) -> bool {
+fn is_short<'p, I: Input<'p>, E: Endian>(reader: &Reader<I, E>) -> bool
+    ensures { result ≡ falls_short (I.hint (input_of reader.now))
+        (8 * count_ones ((configuration_of (config_of reader.now)).sample_type % 2 ^ 24)) }
+{
     match reader.input().remaining_hint() {
         Some(left) => left < least_len(reader.config()),
         None => false,
-    }
-}
-
-// A sample that is read before its box is made.
-#[cold]
-#[inline(never)]
-fn read_short<'p, I: Input<'p>, E: Endian>(reader: &mut Reader<I, E>) -> ReadResult<Box<Sample<'p>>>
-    ensures call { (m : MetadataValue) →
-        Call I.source E.order (VisitsType IsSampleOf m RecordType.Sample)
-        reader.old (kinds result) reader.new }
-{
-    let mut held = empty_sample();
-    match fill_sample(&mut held, reader) {
-        Ok(()) => match Box::new(reader.alloc(), held) {
-            Ok(boxed) => Ok(boxed),
-            Err(failed) => {
-                drop(failed);
-                Err(Refusal::OutOfMemory)
-            }
-        },
-        Err(refusal) => {
-            drop(held);
-            Err(refusal)
-        }
     }
 }
 
@@ -83,10 +63,7 @@ pub(crate) fn read_sample<'p, I: Input<'p>, E: Endian>(
         reader.old (kinds result) reader.new }
 {
     if is_short(reader) {
-        return match read_short(reader) {
-            Ok(held) => Ok(held),
-            Err(refusal) => Err(refusal),
-        };
+        return Err(refuse_sample(reader));
     }
     let mut held = match Box::new(reader.alloc(), empty_sample()) {
         Ok(held) => held,

@@ -212,8 +212,8 @@ fn the_hint_after_the_header_counts(rt: HostRuntime) -> Result<(), Fail> {
 // How often a run calls it for a frame that one chunk contains: for the header, and for the body.
 const CHUNKS_OF_A_FRAME: usize = 2;
 
-// How often it calls it at the end.
-const CHUNKS_AT_THE_END: usize = 1;
+// How often it calls it to see for how many answers it makes room, and at the end.
+const CHUNKS_BESIDE: usize = 2;
 
 // A type, and how the text of a run over five frames of 24 bytes ends.
 const LAST: [(u8, &str); 3] = [
@@ -250,7 +250,7 @@ fn a_frame_in_one_chunk_takes_two_calls(rt: HostRuntime) -> Result<(), Fail> {
                     &rt,
                     last,
                     told,
-                    (5 * CHUNKS_OF_A_FRAME + CHUNKS_AT_THE_END, true),
+                    (5 * CHUNKS_OF_A_FRAME + CHUNKS_BESIDE, true),
                 );
             }
         }

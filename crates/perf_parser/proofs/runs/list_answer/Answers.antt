@@ -21,6 +21,6 @@ returns-in-Ok-list_refused-clause-listed g c =
       Err e,
       listed.1,
       (λ whole. tt),
-      subst (λ k. IsTrue (of_layout k)) (sym listed.2) listed.3,
-      subst P (sym listed.2) call,
+      subst (λ k. IsTrue (of_layout k)) (sym listed.2.kind_is) listed.3,
+      subst P (sym listed.2.kind_is) call,
     )

@@ -14,7 +14,7 @@ use Rattle.perf_parser.proofs.runs.read_records.Goals as goal
 pub loop-init : goal.loop-init
 loop-init g c =
     let start : Meaning = meaning g.B.ParseBuf.source g.E.Endian.order c.args.parser.now in
-    let none : c.first_room-frames.result.items ≡ [] = c.first_room-frames.ensures in (
+    let none : c.new-frames.result.items ≡ [] = c.new-frames.ensures.items in (
       refl,
       ap length none,
       subst (λ (xs : Pairs). KeepsRun start (refused_count xs) None start) (sym none) (run_none start 0),
@@ -32,7 +32,7 @@ returns-in-Err-clause-answers g c = λ told.
     let here : Meaning = meaning g.B.ParseBuf.source g.E.Endian.order c.loop.parser in
     let i = c.loop.invariant in
     let P : Pairs → Type 0 = λ xs. seen_answers xs ≡ take (length xs) (answers start.settings start.order start.source.left) in
-    subst P (sym (c.shrink_to_fit.ensures.items ∙ c.in-Err.ensures.kept)) (listed_first start here c.loop.frames.items c.loop.counter (i.4 told) i.1)
+    subst P (sym c.in-Err.ensures.kept) (listed_first start here c.loop.frames.items c.loop.counter (i.4 told) i.1)
 
 pub returns-in-Err-clause-end : goal.returns-in-Err-clause-end
 returns-in-Err-clause-end g c = λ told.
@@ -42,11 +42,11 @@ returns-in-Err-clause-end g c = λ told.
     let last : Meaning = reader.meaning (λ (o : Outer g.row.B.Denot). g.B.ParseBuf.source o.buf) g.E.Endian.order c.end_of-end.new.reader in
     let i = c.loop.invariant in let after = c.end_of-end.ensures in
     let same : last ≡ new = same_meaning g.B.ParseBuf.source g.E.Endian.order c.end_of-end.new.reader c.read_next.new.reader after.buf after.config after.reads in
-    let count : length c.shrink_to_fit.new.self.items ≡ c.loop.counter = ap length (c.shrink_to_fit.ensures.items ∙ c.in-Err.ensures.kept) ∙ i.1 in
+    let count : length c.read_next.new.frames.items ≡ c.loop.counter = ap length c.in-Err.ensures.kept ∙ i.1 in
     let order : here.order ≡ start.order = ap (λ (k : ParseConfig g.row.E.Denot). g.E.Endian.order (endian_of k)) i.0 in
     let ended : EndsWith start.order c.args.limit start.source.left c.loop.counter c.end_of-end.result new.source.left =
     ends_with start here new c.args.limit c.loop.frames.items c.loop.counter c.in-Err.stop c.end_of-end.result (i.4 told) c.loop-test.true order (c.in-Err.ensures.stop (i.2.buffer.3 told)) after.end in
-    subst (λ (m : Meaning). EndsWith start.order c.args.limit start.source.left (length c.shrink_to_fit.new.self.items) c.end_of-end.result m.source.left) (sym same)
+    subst (λ (m : Meaning). EndsWith start.order c.args.limit start.source.left (length c.read_next.new.frames.items) c.end_of-end.result m.source.left) (sym same)
     (subst (λ (k : ℕ). EndsWith start.order c.args.limit start.source.left k c.end_of-end.result new.source.left) (sym count) ended)
 
 pub returns-in-Err-clause-reads : goal.returns-in-Err-clause-reads
@@ -57,11 +57,11 @@ returns-in-Err-clause-reads g c = λ told.
     let last : Meaning = reader.meaning (λ (o : Outer g.row.B.Denot). g.B.ParseBuf.source o.buf) g.E.Endian.order c.end_of-end.new.reader in
     let i = c.loop.invariant in let after = c.end_of-end.ensures in
     let same : last ≡ new = same_meaning g.B.ParseBuf.source g.E.Endian.order c.end_of-end.new.reader c.read_next.new.reader after.buf after.config after.reads in
-    let count : length c.shrink_to_fit.new.self.items ≡ c.loop.counter = ap length (c.shrink_to_fit.ensures.items ∙ c.in-Err.ensures.kept) ∙ i.1 in
+    let count : length c.read_next.new.frames.items ≡ c.loop.counter = ap length c.in-Err.ensures.kept ∙ i.1 in
     let more = (c.in-Err.ensures.keeps here (run_none here (refused_count c.loop.frames.items))).cost (i.2.buffer.3 told) in
     let counted : CountsReads start.settings start.order start.source.left c.loop.counter c.end_of-end.result start.reads new.reads =
     counts_reads start here new c.loop.frames.items c.loop.counter c.in-Err.stop c.end_of-end.result (i.4 told) more.0 (c.in-Err.ensures.stop (i.2.buffer.3 told)) after.end in
-    subst (λ (m : Meaning). CountsReads start.settings start.order start.source.left (length c.shrink_to_fit.new.self.items) c.end_of-end.result start.reads m.reads) (sym same)
+    subst (λ (m : Meaning). CountsReads start.settings start.order start.source.left (length c.read_next.new.frames.items) c.end_of-end.result start.reads m.reads) (sym same)
     (subst (λ (k : ℕ). CountsReads start.settings start.order start.source.left k c.end_of-end.result start.reads new.reads) (sym count) counted)
 
 pub returns-in-Err-clause-keeps : goal.returns-in-Err-clause-keeps
@@ -71,10 +71,9 @@ returns-in-Err-clause-keeps g c =
     let last : Meaning = reader.meaning (λ (o : Outer g.row.B.Denot). g.B.ParseBuf.source o.buf) g.E.Endian.order c.end_of-end.new.reader in
     let after = c.end_of-end.ensures in
     let same : last ≡ new = same_meaning g.B.ParseBuf.source g.E.Endian.order c.end_of-end.new.reader c.read_next.new.reader after.buf after.config after.reads in
-    let n : ℕ = refused_count c.shrink_to_fit.new.self.items in
-    let P : Pairs → Type 0 = λ xs. KeepsRun start (refused_count xs + 1) (stopped_by {A = Unit {0}} (Err c.in-Err.stop)) new in
+    let n : ℕ = refused_count c.read_next.new.frames.items in
     subst (λ (m : Meaning). KeepsRun start (n + one_if_ended c.end_of-end.result) (end_refusal c.end_of-end.result) m) (sym same)
-    (run_ends start new n c.in-Err.stop c.end_of-end.result after.end (subst P (sym c.shrink_to_fit.ensures.items) (c.in-Err.ensures.keeps start c.loop.invariant.2)))
+    (run_ends start new n c.in-Err.stop c.end_of-end.result after.end (c.in-Err.ensures.keeps start c.loop.invariant.2))
 
 -- where it goes on
 pub loop-preserved : goal.loop-preserved

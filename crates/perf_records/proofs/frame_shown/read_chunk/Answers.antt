@@ -1,6 +1,6 @@
-use Rattle.std.proofs.Common.{◌≡◌, ℕ, ◌+◌, ◌-◌, ◌≤◌, List, length, take, arith, refl, ◌∙◌, ap, subst}
+use Rattle.std.proofs.Common.{◌≡◌, ℕ, ◌+◌, ◌-◌, ◌≤◌, List, length, take, arith, refl, sym, ◌∙◌, ap, subst}
 use Rattle.std.specs.Prelude.{Result}
-use Rattle.std.proofs.lemmas.List.{length-take-le, take-take}
+use Rattle.std.proofs.lemmas.List.{take_all}
 use Rattle.perf_base.specs.Configuration.{Configuration}
 use Rattle.perf_base.specs.Configured.{configuration_of, endian_of}
 use Rattle.perf_base.specs.Order.{Order}
@@ -19,7 +19,7 @@ use Rattle.perf_records.proofs.Shown.{bytes_visited, front_of}
 use Rattle.perf_records.proofs.frame_shown.read_chunk.Goals as goal
 
 pub returns : goal.returns
-returns g c =
+returns g c = λ sized whole.
     let h = c.args.header in
     let n : ℕ = body_length h in
     let chunk : List ℕ = chunk_bytes c.args.chunk in
@@ -29,10 +29,10 @@ returns g c =
     let taken = c.in-Ok-take_id.taken in
     let parts : FrameParts = answered_parts (taken.body, taken.metadata) in
     let t = c.in-Ok-take_id.ensures in
-    let cut : frame ≡ take n chunk = (c.in-Ok.ensures.ok refl).1 ∙ take-take n n c.as_bytes.result.now (omega arith) ∙ ap (take n) c.as_bytes.ensures in
-    let long : length frame ≡ n = ap length cut ∙ length-take-le n chunk c.requires.whole in
-    let less : length frame - id_length settings h.type_ ≤ n = omega (arith, long) in
-    let front : take c.len-len.result chunk ≡ parts.body = ap (λ k. take k chunk) c.len-len.ensures ∙ front_of chunk frame parts.body n (length frame - id_length settings h.type_) cut c.requires.whole (ap (λ (p : FrameParts). p.body) t.parts.1) less in
+    let all : List ℕ = c.as_bytes-bytes.result.now in
+    let cut : frame ≡ chunk = (c.in-Ok.ensures.ok refl).1 ∙ take_all (length all) all (omega arith) ∙ c.as_bytes-bytes.ensures in
+    let long : length frame ≡ n = ap length cut ∙ whole in
+    let front : take c.len-len.result chunk ≡ parts.body = ap (λ k. take k chunk) c.len-len.ensures ∙ front_of chunk frame parts.body n (length frame - id_length settings h.type_) (cut ∙ sym (take_all n chunk (omega (arith, whole)))) (omega (arith, whole)) (ap (λ (p : FrameParts). p.body) t.parts.1) (omega (arith, long)) in
     let f = c.finish_shown-record.ensures in
     let under = c.set_misc.new.self in
     let made : ℕ = c.finish_shown-record.result.1 in
@@ -42,4 +42,4 @@ returns g c =
     let cost : made ≤ length parts.body + one_if_refused (refused (kinds answer)) = omega (arith, f.cost, size) in
     subst (λ xs. VisitsBytes IsRecordOf h settings order xs (lasts c.args.chunk) answer c.add.new.self) cut
     (bytes_visited IsRecordOf h settings (configuration_of under) order (g.E.Endian.order (endian_of under)) frame (lasts c.args.chunk) parts taken.reads made c.add.new.self answer
-    c.requires.sized long t.parts.0 t.parts.1 t.reads t.bound c.set_misc.ensures.changed (ap g.E.Endian.order c.set_misc.ensures.endian) visits f.faults cost c.add.ensures)
+    sized long t.parts.0 t.parts.1 t.reads t.bound c.set_misc.ensures.changed (ap g.E.Endian.order c.set_misc.ensures.endian) visits f.faults cost c.add.ensures)

@@ -30,6 +30,6 @@ returns g c =
         whole = e.stays.0;
         told = e.stays.3;
         answer = λ told. let t = e.ok told in (header_at_once old.order (g.E.Endian.order c.endian.result.now) old.source.left c.in-Ok.bytes new.source.left old.reads new.reads c.header_in.result t.0.0 t.1 t.0.1 count (ap g.E.Endian.order c.endian.ensures) c.header_in.ensures, tt);
-        keeps = λ start p. header_keeps start old new p count e.stays (λ told. (e.ok told).0);
+        keeps = λ start p. header_keeps start old new 3 (omega arith) p count e.stays (λ told. (e.ok told).0);
       };
     }

@@ -1,0 +1,29 @@
+-- What is made of the next bytes of a buffer, and what a look at them leaves.
+use Rattle.std.specs.Prelude.{◌≡◌, ◌<◌, ℕ, Bool, IsTrue, List, Option, MatchOption, length, take}
+use Rattle.perf_buffers.specs.Buffer.{Source}
+use Rattle.perf_buffers.specs.Taking.{Takes}
+use Rattle.perf_buffers.specs.declared.frame_reader.Found.{Found}
+use Rattle.perf_buffers.specs.declared.frame_reader.Found.TheVariants as found
+
+-- The output belongs to the next n bytes, which were taken. Of a whole buffer they last as long as
+-- the input.
+abbrev pub GivesNextBytes : {O : Type 0} → (List ℕ → Bool → O → Type 0) → Source → ℕ → O → Source →
+    Type 0
+GivesNextBytes gives old n output new =
+    (bytes : List ℕ) × (lasting : Bool) × gives bytes lasting output × (length bytes ≡ n)
+    × (IsTrue old.told → Takes old n new × (bytes ≡ take n old.left))
+    × (IsTrue old.whole → IsTrue lasting)
+
+-- the next n bytes were taken, or none was
+abbrev pub TakesOrLeaves : Source → ℕ → Option (List ℕ) → Source → Type 0
+TakesOrLeaves old n taken new =
+    MatchOption taken (new.left ≡ old.left) (λ bytes. Takes old n new × (bytes ≡ take n old.left))
+
+-- What a look at the next chunk finds of a frame of n bytes: all of it, or less. Then nothing was
+-- taken, and of a whole buffer fewer bytes are left.
+abbrev pub FindsFrame : {O F : Type 0} → (List ℕ → Bool → O → Type 0) → F → Source → ℕ →
+    Found O F → Source → Type 0
+FindsFrame gives reader old n (found.Whole output) new = GivesNextBytes gives old n output new
+FindsFrame gives reader old n (found.Cut same) new =
+    (same ≡ reader) × (IsTrue old.told → new.left ≡ old.left)
+    × (IsTrue old.whole → IsTrue old.told × (length old.left < n))
