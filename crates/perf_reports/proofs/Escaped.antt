@@ -1,15 +1,15 @@
 -- Names of which some bytes are escaped.
-use Rattle.std.proofs.Common.{◌≡◌, ℕ, zero, suc, ◌+◌, ◌-◌, ◌≤◌, ◌<◌, Bool, true, false, ◌&&◌, cond, ◌==◌, nat_lt, Option, Some, None, unwrap_or, slice_index, List, [], ◌∷◌, ◌++◌, ◌∙◌, length, take, drop, refl, sym, ap, arith, append_assoc, length-append, inl, inr, codes}
+use Rattle.std.proofs.Common.{◌≡◌, ℕ, zero, suc, ◌+◌, ◌-◌, ◌≤◌, ◌<◌, Bool, true, false, ◌&&◌, cond, ◌==◌, nat_lt, Option, Some, None, unwrap_or, slice_index, List, [], ◌∷◌, ◌++◌, ◌∙◌, length, take, drop, refl, sym, ap, arith, append_assoc, append-nil, length-append, inl, inr, codes}
 use Rattle.std.specs.List.{flat_map, list_all}
-use Rattle.std.specs.Str.{IsUtf8, chars, is_utf8}
-use Rattle.std.specs.Char.{encode_utf8}
+use Rattle.std.specs.Str.{IsUtf8, IsAscii, chars, is_utf8}
+use Rattle.std.specs.Char.{encode_utf8, is_ascii}
 use Rattle.std.specs.Fmt.{digits}
 use Rattle.std.specs.Int.{is_in_range}
 use Rattle.std.specs.Str.Lossy.{utf8_valid_len, utf8_invalid_len, utf8_error_len, error_len_of_some, error_len_after_one, error_len_after_two}
 use Rattle.std.specs.Str.Lossy.{second_byte_min, second_byte_max, after_first_chunk}
-use Rattle.std.proofs.lemmas.Bool.{cases_lt}
-use Rattle.std.proofs.lemmas.List.{length-drop}
-use Rattle.std.proofs.lemmas.Str.{encodes-chars}
+use Rattle.std.proofs.lemmas.Bool.{cases_lt, ltb-true}
+use Rattle.std.proofs.lemmas.List.{length-drop, drop_all}
+use Rattle.std.proofs.lemmas.Str.{encodes-chars, chars-IsAscii, IsUtf8-from_ascii, utf8_valid_len-IsUtf8}
 use lib.Seq.{take_at, drop_at}
 use lib.Utf8.{encodes}
 use Rattle.perf_reports.specs.TaskLines.{stays, escaped_byte, escaped_char, escaped_text, escaped, escaped_within, text_in_front, invalid_after}
@@ -133,3 +133,35 @@ escaped_chunk bytes valid invalid rest some parts valid_len invalid_len =
     let both_len : length (valid ++ invalid) ≡ n + m = omega (arith, length-append valid invalid) in
     let back : after_first_chunk bytes ≡ rest = ap (drop (n + m)) (parts ∙ sym (append_assoc valid invalid rest)) ∙ drop_at (valid ++ invalid) rest (n + m) both_len in
     escaped_step bytes some ∙ (λ i. escaped_text (front i) ++ (flat_map escaped_byte (middle i) ++ escaped (back i)))
+
+-- ---- names that are plain
+
+abbrev plain : ℕ → Bool
+plain byte = is_ascii byte && stays byte
+
+plain_both : (byte : ℕ) (bytes : List ℕ) → list_all plain (byte ∷ bytes) ≡ true → (is_ascii byte ≡ true) × (stays byte ≡ true) × (list_all plain bytes ≡ true)
+plain_both byte bytes h =
+    let (first, others) = both (plain byte) (list_all plain bytes) h in
+    let (ascii, stay) = both (is_ascii byte) (stays byte) first in (ascii, stay, others)
+
+plain_ascii : (bytes : List ℕ) → list_all plain bytes ≡ true → IsAscii bytes
+plain_ascii [] h i = omega arith
+plain_ascii (b ∷ bs) h zero = ltb-true b 128 (plain_both b bs h).0
+plain_ascii (b ∷ bs) h (suc i) = plain_ascii bs (plain_both b bs h).2 i
+
+plain_stays : (bytes : List ℕ) → list_all plain bytes ≡ true → list_all stays bytes ≡ true
+plain_stays [] h = refl
+plain_stays (b ∷ bs) h = let (ascii, stay, others) = plain_both b bs h in ap (λ t. t && list_all stays bs) stay ∙ plain_stays bs others
+
+-- ASCII in which every byte stays
+pub escaped_plain : (bytes : List ℕ) → list_all (λ byte. is_ascii byte && stays byte) bytes ≡ true → escaped bytes ≡ bytes
+unfolding utf8_error_len
+escaped_plain [] h = refl
+escaped_plain (b ∷ bs) h =
+    let bytes = b ∷ bs in
+    let ascii = plain_ascii bytes h in
+    let utf8 = IsUtf8-from_ascii bytes ascii in
+    let whole = utf8_valid_len-IsUtf8 bytes utf8 in
+    let same : escaped_text bytes ≡ bytes = text_stays bytes utf8 (ap (list_all stays) (chars-IsAscii bytes ascii) ∙ plain_stays bytes h) in
+    let none : drop (utf8_valid_len bytes) bytes ≡ [] = ap (λ n. drop n bytes) whole ∙ drop_all (length bytes) bytes (omega arith) in
+    escaped_chunk bytes bytes [] [] (omega arith) (sym (append-nil bytes)) (sym whole) (ap (λ xs. utf8_invalid_len xs) (sym none)) ∙ append-nil (escaped_text bytes) ∙ same

@@ -1,7 +1,8 @@
 //! The name in a line that tells of a task.
 
-ghost use Rattle.std.specs.Prelude.{◌≡◌, ◌++◌, string_bytes, OnOk};
-ghost use Rattle.std.specs.List.{flat_map};
+ghost use Rattle.std.specs.Prelude.{◌≡◌, ◌++◌, ◌&&◌, string_bytes, OnOk};
+ghost use Rattle.std.specs.Char.{is_ascii};
+ghost use Rattle.std.specs.List.{flat_map, list_all};
 ghost use Rattle.perf_reports.specs.TaskLines as printed;
 
 use crate::backward::{ROOM, push_written, put_str};
@@ -14,11 +15,25 @@ pub(crate) fn push_name(text: &mut String, bytes: &[u8]) -> Result<(), AllocErro
     ensures { OnOk result (string_bytes text.new
         ≡ string_bytes text.old ++ printed.escaped bytes.now) }
 {
+    if is_plain(bytes) {
+        if let Ok(name) = str::from_utf8(bytes) {
+            return text.push_str(name);
+        }
+    }
     for chunk in bytes.utf8_chunks() {
         push_text(text, chunk.valid())?;
         push_escaped(text, chunk.invalid())?;
     }
     Ok(())
+}
+
+// Whether each byte is ASCII and stays as it is. Unlike `push_text`, this decodes no character.
+fn is_plain(bytes: &[u8]) -> bool
+    ensures { result ≡ list_all (λ byte. is_ascii byte && printed.stays byte) bytes.now }
+{
+    bytes
+        .iter()
+        .all(|byte| byte.is_ascii() && stays(char::from(*byte)))
 }
 
 // Appends text, in one piece if nothing in it has to be escaped.

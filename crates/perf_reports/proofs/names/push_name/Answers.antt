@@ -1,6 +1,11 @@
-use Rattle.std.proofs.Common.{arith, append_assoc}
-use Rattle.perf_reports.proofs.Escaped.{escaped_chunk}
+use Rattle.std.proofs.Common.{◌∙◌, arith, rules, sym, append_assoc}
+use Rattle.perf_reports.proofs.Escaped.{escaped_chunk, escaped_plain}
 use Rattle.perf_reports.proofs.names.push_name.Goals as goal
+
+pub returns-in-Ok : goal.returns-in-Ok
+returns-in-Ok c =
+    let plain = escaped_plain c.args.bytes.now (sym c.is_plain.ensures ∙ c.if-is_plain.true) in
+    rw plain (search rules)
 
 pub loop-chunk-preserved : goal.loop-chunk-preserved
 loop-chunk-preserved c =
