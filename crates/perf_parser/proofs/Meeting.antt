@@ -1,6 +1,6 @@
 -- What a run does after a look at its buffer is what it does without it.
-use Rattle.std.proofs.Common.{◌≡◌, ℕ, ◌+◌, ◌≤◌, length, drop, arith, sym, ◌∙◌, ap, subst, Ok, Err, None, Some}
-use Rattle.std.specs.Prelude.{IsTrue, IfErr, Option, Result}
+use Rattle.std.proofs.Common.{◌≡◌, ℕ, ◌+◌, length, drop, arith, sym, ◌∙◌, ap, subst, Ok, Err, None, Some}
+use Rattle.std.specs.Prelude.{IsTrue, IfErr, Result}
 use Rattle.perf_base.specs.Configuration.{Configuration}
 use Rattle.perf_base.specs.Configured.{configuration_of, endian_of}
 use Rattle.perf_base.specs.Header.{header_of}
@@ -17,7 +17,7 @@ use Rattle.perf_base.specs.declared.refusal.Refusal.TheVariants as why
 use Rattle.perf_reader.proofs.Paying.{last_all}
 use Rattle.perf_records.specs.Answers.{answer_of_frame}
 use Rattle.perf_records.specs.Frames.{frame_length}
-use Rattle.perf_parser.specs.Runs.{Pairs, KeepsRun, ListsNext, LeavesWithin, ReadsHeader, StopsAt, seen_answer, listed_reads}
+use Rattle.perf_parser.specs.Runs.{Pairs, KeepsRun, ListsNext, LeavesWithin, ReadsHeader, StopsAt, listed_reads}
 use Rattle.perf_parser.specs.declared.runs.Stop.{Stop}
 use Rattle.perf_parser.specs.declared.runs.Stop.TheVariants as stop
 use Rattle.perf_parser.proofs.Ending.{run_more}

@@ -1,8 +1,8 @@
 -- Frames that are read where their bytes are.
-use Rattle.std.specs.Prelude.{Result, ◌≡◌, ℕ, ◌+◌, ◌≤◌, Bool, true, false, List, IfOk, Option, None}
-use Rattle.std.specs.Prelude.{Some, Ok, Err, Box}
+use Rattle.std.specs.Prelude.{Result, ◌≡◌, ℕ, ◌+◌, ◌≤◌, Bool, true, false, List, IfOk, None}
+use Rattle.std.specs.Prelude.{Ok, Err, Box}
 use Rattle.std.specs.declared.alloc.Global.{Global}
-use Rattle.std.specs.Prelude.{length, take, drop, IsTrue}
+use Rattle.std.specs.Prelude.{length, drop, IsTrue}
 use Rattle.perf_base.specs.Configuration.{Configuration}
 use Rattle.perf_base.specs.Order.{Order}
 use Rattle.perf_base.specs.Refusals.{refused, refusal_kind, kinds, TakesNoMemory}
@@ -13,7 +13,7 @@ use Rattle.perf_reader.specs.Meaning.{Meaning}
 use Rattle.perf_reader.specs.Reading.{is_external, one_if_refused}
 use Rattle.perf_records.specs.Answers.{body_length}
 use Rattle.perf_records.specs.Bodies.{wants_memory}
-use Rattle.perf_records.specs.Visits.{Event, IsSampleOf, VisitsBehind, BelongsTo}
+use Rattle.perf_records.specs.Visits.{Event, VisitsBehind, BelongsTo}
 use Rattle.perf_records.specs.declared.record.Record.{Record}
 use Rattle.perf_records.specs.declared.record.Record.TheVariants as record_of
 use Rattle.perf_sample_types.specs.declared.sample.Sample.{Sample}

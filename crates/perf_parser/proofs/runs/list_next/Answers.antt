@@ -1,4 +1,4 @@
-use Rattle.std.proofs.Common.{◌≡◌, ◌+◌, [], ◌∷◌, ◌++◌, sym, ◌∙◌, ap, subst, Err, Some}
+use Rattle.std.proofs.Common.{◌≡◌, ◌+◌, [], ◌∷◌, ◌++◌, sym, ◌∙◌, ap, subst, Some}
 use Rattle.std.specs.Prelude.{Option}
 use Rattle.perf_base.specs.Configured.{configuration_of, endian_of}
 use Rattle.perf_buffers.specs.declared.outer.Outer.{Outer}
@@ -7,7 +7,7 @@ use Rattle.perf_base.specs.Refusals.{refusal_kind}
 use Rattle.perf_base.specs.declared.error.ErrorKind.{ErrorKind}
 use Rattle.perf_reader.specs.Meaning.{Meaning, meaning}
 use Rattle.perf_reader.proofs.Paying.{keeps_none}
-use Rattle.perf_parser.specs.Runs.{Pairs, KeepsRun, refused_count, stopped_by}
+use Rattle.perf_parser.specs.Runs.{Pairs, KeepsRun, refused_count}
 use Rattle.perf_parser.proofs.Ending.{stops_behind, run_more, run_stops, run_lists, said_frame}
 use Rattle.perf_parser.proofs.runs.list_next.Goals as goal
 

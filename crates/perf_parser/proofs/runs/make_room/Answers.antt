@@ -1,4 +1,4 @@
-use Rattle.std.proofs.Common.{◌≡◌, ◌+◌, arith, sym, ◌∙◌, ap, subst}
+use Rattle.std.proofs.Common.{◌≡◌, arith, sym, ◌∙◌, ap, subst}
 use Rattle.perf_base.specs.declared.refusal.Refusal.TheVariants as why
 use Rattle.perf_buffers.specs.declared.outer.Outer.{Outer}
 use Rattle.perf_reader.specs.Meaning.{Meaning, meaning}

@@ -1,4 +1,4 @@
-use Rattle.std.proofs.Common.{◌≡◌, ◌+◌, sym, ap, subst, Err, None}
+use Rattle.std.proofs.Common.{◌+◌, sym, ap, subst, Err, None}
 use Rattle.perf_base.specs.Configured.{configuration_of, endian_of}
 use Rattle.perf_buffers.specs.declared.outer.Outer.{Outer}
 use Rattle.perf_reader.specs.Meaning.{Meaning, meaning}

@@ -1,4 +1,4 @@
-use Rattle.std.proofs.Common.{rules, arith, ◌≡◌, ℕ, ◌+◌, [], ◌∷◌, length, take, sym, ◌∙◌, ap, subst, refl, None, Err, length-append}
+use Rattle.std.proofs.Common.{rules, arith, ◌≡◌, ℕ, ◌+◌, [], ◌∷◌, length, take, sym, ◌∙◌, ap, subst, refl, None, length-append}
 use Rattle.perf_base.specs.Configured.{configuration_of, endian_of}
 use Rattle.perf_base.specs.declared.config.ParseConfig.{ParseConfig}
 use Rattle.perf_buffers.specs.declared.outer.Outer.{Outer}
@@ -6,7 +6,7 @@ use Rattle.perf_reader.specs.Meaning as reader
 use Rattle.perf_reader.specs.Meaning.{Meaning}
 use Rattle.perf_records.specs.Answers.{answers}
 use Rattle.perf_parser.specs.Meaning.{meaning}
-use Rattle.perf_parser.specs.Runs.{Pairs, seen_answers, AllBorrowed, EndsWith, CountsReads, KeepsRun, refused_count, one_if_ended, end_refusal, stopped_by}
+use Rattle.perf_parser.specs.Runs.{Pairs, seen_answers, AllBorrowed, EndsWith, CountsReads, KeepsRun, refused_count, one_if_ended, end_refusal}
 use Rattle.perf_parser.proofs.Ending.{run_none, run_ends, run_limit, same_meaning}
 use Rattle.perf_parser.proofs.Listing.{IsSoFar, listed_first, none_so_far, one_more_borrowed, one_more_so_far, ends_with, counts_reads}
 use Rattle.perf_parser.proofs.runs.read_records.Goals as goal

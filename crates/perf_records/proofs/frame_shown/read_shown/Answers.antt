@@ -1,4 +1,4 @@
-use Rattle.std.proofs.Common.{◌≤◌, ◌<◌, arith, refl}
+use Rattle.std.proofs.Common.{◌<◌, arith, refl}
 use Rattle.perf_base.specs.Refusals.{refusal_kind, kinds}
 use Rattle.perf_buffers.specs.declared.outer.Outer.{Outer}
 use Rattle.perf_records.specs.Visits.{IsRecordOf}
