@@ -5,12 +5,12 @@ use Rattle.perf_buffers.specs.Taking.{Takes}
 use Rattle.perf_buffers.specs.declared.frame_reader.Found.{Found}
 use Rattle.perf_buffers.specs.declared.frame_reader.Found.TheVariants as found
 
--- The output belongs to the next n bytes, which were taken. Of a whole buffer they last as long as
--- the input.
-abbrev pub GivesNextBytes : {O : Type 0} → (List ℕ → Bool → O → Type 0) → Source → ℕ → O → Source →
-    Type 0
-GivesNextBytes gives old n output new =
-    (bytes : List ℕ) × (lasting : Bool) × gives bytes lasting output × (length bytes ≡ n)
+-- The output and the new state belong to the next n bytes, which were taken. Of a whole buffer they
+-- last as long as the input.
+abbrev pub GivesNextBytes : {S O : Type 0} → (List ℕ → Bool → S → O → S → Type 0) → Source → ℕ →
+    S → O → Source → S → Type 0
+GivesNextBytes gives old n was output new now =
+    (bytes : List ℕ) × (lasting : Bool) × gives bytes lasting was output now × (length bytes ≡ n)
     × (IsTrue old.told → Takes old n new × (bytes ≡ take n old.left))
     × (IsTrue old.whole → IsTrue lasting)
 
@@ -21,9 +21,10 @@ TakesOrLeaves old n taken new =
 
 -- What a look at the next chunk finds of a frame of n bytes: all of it, or less. Then nothing was
 -- taken, and of a whole buffer fewer bytes are left.
-abbrev pub FindsFrame : {O F : Type 0} → (List ℕ → Bool → O → Type 0) → F → Source → ℕ →
-    Found O F → Source → Type 0
-FindsFrame gives reader old n (found.Whole output) new = GivesNextBytes gives old n output new
-FindsFrame gives reader old n (found.Cut same) new =
-    (same ≡ reader) × (IsTrue old.told → new.left ≡ old.left)
+abbrev pub FindsFrame : {S O F : Type 0} → (List ℕ → Bool → S → O → S → Type 0) → F → Source → ℕ →
+    S → Found O F → Source → S → Type 0
+FindsFrame gives reader old n was (found.Whole output) new now =
+    GivesNextBytes gives old n was output new now
+FindsFrame gives reader old n was (found.Cut same) new now =
+    (same ≡ reader) × (now ≡ was) × (IsTrue old.told → new.left ≡ old.left)
     × (IsTrue old.whole → IsTrue old.told × (length old.left < n))

@@ -41,7 +41,7 @@ impl<'p> ParseBufCursor<'p> {
     }
 
     #[inline]
-    fn rest(&self) -> &[u8]
+    pub(crate) fn rest(&self) -> &[u8]
         ensures { result.now ≡ words.held_left self.now.held }
     {
         match &self.held {

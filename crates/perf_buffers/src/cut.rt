@@ -121,8 +121,37 @@ fn first_room(hinted: bool, len: usize) -> usize
     if hinted { len } else { len.min(UNHINTED_ROOM) }
 }
 
+// Puts the next `len` bytes together, in the place of what `bytes` held. Its capacity is kept.
+pub(crate) fn assemble<'p, B: ParseBuf<'p>>(
+    buf: &mut B,
+    bytes: &mut Vec<u8>,
+    len: usize,
+    hinted: bool,
+) -> ParseResult<()>
+    ensures stays { Stays (B.source buf.old) (refusal result) (B.source buf.new) }
+    ensures can_fail { CanFail (B.source buf.old) (refusal result) }
+    ensures beforehand { IsTrue (B.source buf.old).told → words.makes_all_room hinted len ≡ true →
+        IfErr result (λ e. kind_of e ≡ ErrorKind.OutOfMemory →
+        (B.source buf.new).left ≡ (B.source buf.old).left) }
+    ensures count { OnOk result (length bytes.new.items ≡ len) }
+    ensures ok { IsTrue (B.source buf.old).told →
+        OnOk result (Takes (B.source buf.old) len (B.source buf.new)
+        × (bytes.new.items ≡ take len (B.source buf.old).left)) }
+    ensures err { IsTrue (B.source buf.old).told →
+        IfErr result (λ e. FailsToKeep (B.source buf.old) len (kind_of e) (B.source buf.new)) }
+{
+    bytes.clear();
+    if bytes.reserve_exact(first_room(hinted, len)).is_err() {
+        return Err(ParseError::out_of_memory());
+    }
+    match append(buf, bytes, len) {
+        Ok(()) => Ok(()),
+        Err(error) => Err(error),
+    }
+}
+
 // The next `len` bytes, copied.
-pub(crate) fn copy<'p, B: ParseBuf<'p>>(
+fn copy<'p, B: ParseBuf<'p>>(
     alloc: Global,
     buf: &mut B,
     len: usize,
@@ -140,12 +169,8 @@ pub(crate) fn copy<'p, B: ParseBuf<'p>>(
     ensures err { IsTrue (B.source buf.old).told →
         IfErr result (λ e. FailsToKeep (B.source buf.old) len (kind_of e) (B.source buf.new)) }
 {
-    let room = first_room(hinted, len);
-    let mut bytes = match Vec::with_capacity(alloc, room) {
-        Ok(bytes) => bytes,
-        Err(_) => return Err(ParseError::out_of_memory()),
-    };
-    match append(buf, &mut bytes, len) {
+    let mut bytes = Vec::new(alloc);
+    match assemble(buf, &mut bytes, len, hinted) {
         Ok(()) => Ok(bytes),
         Err(error) => Err(error),
     }

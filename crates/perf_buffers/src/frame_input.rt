@@ -158,6 +158,11 @@ impl<'p> Input<'p> for ParseBufCursor<'p> {
     }
 
     #[inline]
+    fn shown(&self) -> &[u8] {
+        self.rest()
+    }
+
+    #[inline]
     fn remaining_hint(&self) -> Option<usize> {
         Some(self.len())
     }

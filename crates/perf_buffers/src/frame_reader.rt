@@ -1,29 +1,34 @@
 //! What is made of the bytes of one frame, in place or assembled.
 
-ghost use Rattle.std.specs.Prelude.{◌≡◌, ◌<◌, ◌≤◌, ℕ, Bool, List, true, IsTrue, IfOk, IfErr};
-ghost use Rattle.std.specs.Prelude.{length, ◌*◌};
+ghost use Rattle.std.specs.Prelude.{◌≡◌, ◌<◌, ◌≤◌, ◌*◌, ℕ, Bool, List, length, true, IsTrue};
+ghost use Rattle.std.specs.Prelude.{IfOk, IfErr, OnErr};
 ghost use Rattle.perf_buffers.specs.FrameBytes.{GivesNextBytes, FindsFrame};
 ghost use Rattle.perf_buffers.specs.Words.{chunk_bytes, lasts, kinds, refused, refusal_kind, Stays};
 ghost use Rattle.perf_buffers.specs.Words.{CanFail, TakesNoMemory, FailsToKeep, makes_all_room};
 
-use crate::cut::copy;
+use crate::cut::assemble;
 use crate::parsebuf::{ParseBuf, ParseBufChunk};
 use perf_base::endian::Endian;
 use perf_base::error::ErrorKind;
 use perf_base::refusal::{Kept, ReadResult};
-use std::alloc::Global;
 
-/// Makes something of the bytes of a frame.
-pub trait FrameReader<'p>: Drop {
+/// Makes something of the bytes of a frame, and of a state of the caller's.
+pub trait FrameReader<'p, S>: Drop {
     /// What is made of them.
     type Output;
 
-    // which outputs belong to bytes that last as long as the input, or do not
-    ghost gives: { Self → List ℕ → Bool → Self.Output → Type 0 };
+    // how many bytes it reads
+    ghost len: { Self → ℕ };
+
+    // which outputs and new states belong to bytes that last as long as the input, or do not, and to
+    // a state
+    ghost gives: { Self → List ℕ → Bool → S → Self.Output → S → Type 0 };
 
     /// What is made of a frame's bytes.
-    fn read(self, bytes: ParseBufChunk<'_, 'p>) -> Self::Output
-        ensures { gives self (chunk_bytes bytes.entry) (lasts bytes.entry) result };
+    fn read(self, state: &mut S, bytes: ParseBufChunk<'_, 'p>) -> Self::Output
+        requires { length (chunk_bytes bytes) ≡ len self }
+        ensures { gives self (chunk_bytes bytes.entry) (lasts bytes.entry)
+            state.old result state.new };
 }
 
 // A frame as the next chunk has it.
@@ -36,18 +41,21 @@ pub(crate) enum Found<O, F> {
 
 // What a reader makes of the next `len` bytes, if the next chunk has them all.
 #[inline]
-pub(crate) fn read_in_place<'p, B: ParseBuf<'p>, F: FrameReader<'p>>(
+pub(crate) fn read_in_place<'p, S, B: ParseBuf<'p>, F: FrameReader<'p, S>>(
     buf: &mut B,
     kept: &mut Kept,
     len: usize,
     reader: F,
+    state: &mut S,
 ) -> ReadResult<Found<F::Output, F>>
-    requires { 0 < len }
+    requires some { 0 < len }
+    requires len { F.len reader ≡ len }
     ensures stays { Stays (B.source buf.old) (refused (kinds result)) (B.source buf.new) }
     ensures can_fail { CanFail (B.source buf.old) (refused (kinds result)) }
     ensures memory { TakesNoMemory (kinds result) }
-    ensures ok { IfOk result (λ found.
-        FindsFrame (F.gives reader) reader (B.source buf.old) len found (B.source buf.new)) }
+    ensures ok { IfOk result (λ found. FindsFrame (F.gives reader) reader (B.source buf.old) len
+        state.old found (B.source buf.new) state.new) }
+    ensures same { OnErr result (state.new ≡ state.old) }
     ensures err { IsTrue (B.source buf.old).told → IfErr result (λ e.
         FailsToKeep (B.source buf.old) len (refusal_kind e) (B.source buf.new)) }
 {
@@ -61,34 +69,39 @@ pub(crate) fn read_in_place<'p, B: ParseBuf<'p>, F: FrameReader<'p>>(
     if chunk.as_bytes().len() < len {
         return Ok(Found::Cut(reader));
     }
-    let output = reader.read(chunk.first(len));
+    let output = reader.read(state, chunk.first(len));
     buf.advance(len);
     Ok(Found::Whole(output))
 }
 
-// What a reader makes of the next `len` bytes, which are assembled in memory.
+// What a reader makes of the next `len` bytes, which are assembled in `room`. Its capacity is kept for
+// the next frame.
 #[cold]
 #[inline(never)]
-pub(crate) fn read_assembled<'p, B: ParseBuf<'p>, F: FrameReader<'p>>(
-    alloc: Global,
+pub(crate) fn read_assembled<'p, S, B: ParseBuf<'p>, F: FrameReader<'p, S>>(
     buf: &mut B,
     kept: &mut Kept,
+    room: &mut Vec<u8>,
     len: usize,
     hinted: bool,
     reader: F,
+    state: &mut S,
 ) -> ReadResult<F::Output>
+    requires { F.len reader ≡ len }
     ensures stays { Stays (B.source buf.old) (refused (kinds result)) (B.source buf.new) }
     ensures can_fail { CanFail (B.source buf.old) (refused (kinds result)) }
     ensures beforehand { IsTrue (B.source buf.old).told → makes_all_room hinted len ≡ true →
         IfErr result (λ e. refusal_kind e ≡ ErrorKind.OutOfMemory →
         (B.source buf.new).left ≡ (B.source buf.old).left) }
     ensures ok { (IsTrue (B.source buf.old).whole → ⊥) → IfOk result (λ output.
-        GivesNextBytes (F.gives reader) (B.source buf.old) len output (B.source buf.new)) }
+        GivesNextBytes (F.gives reader) (B.source buf.old) len state.old output (B.source buf.new)
+        state.new) }
+    ensures same { OnErr result (state.new ≡ state.old) }
     ensures err { IsTrue (B.source buf.old).told → IfErr result (λ e.
         FailsToKeep (B.source buf.old) len (refusal_kind e) (B.source buf.new)) }
 {
-    match copy(alloc, buf, len, hinted) {
-        Ok(bytes) => Ok(reader.read(ParseBufChunk::Temporary(&bytes))),
+    match assemble(buf, room, len, hinted) {
+        Ok(()) => Ok(reader.read(state, ParseBufChunk::Temporary(room.as_slice()))),
         Err(error) => {
             drop(reader);
             Err(kept.keep(error))

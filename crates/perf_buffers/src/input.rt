@@ -95,6 +95,13 @@ pub trait Input<'p> {
         ensures err { IsTrue (source self.old).told → IfErr result (λ e.
             FailsToKeep (source self.old) len (refusal_kind e) (source self.new)) };
 
+    /// Bytes that are at hand, of which none is taken: the first of those that are left. There need
+    /// not be any.
+    fn shown(&self) -> &[u8]
+        ensures { IsTrue (source self.now).told →
+            (length result.now ≤ length (source self.now).left)
+            × (result.now ≡ take (length result.now) (source self.now).left) };
+
     /// How many bytes are left, where it is known.
     fn remaining_hint(&self) -> Option<usize>
         ensures is { result ≡ hint self.now }
@@ -174,6 +181,11 @@ impl<'p> Input<'p> for &'p [u8] {
     fn cut(&mut self, _alloc: Global, len: usize) -> ReadResult<ParseBufCursor<'p>> {
         let front = take_front(self, len)?;
         Ok(ParseBufCursor::lent(front))
+    }
+
+    #[inline]
+    fn shown(&self) -> &[u8] {
+        self
     }
 
     #[inline]

@@ -85,6 +85,11 @@ impl<'a, 'p> Input<'p> for Loan<'a> {
     }
 
     #[inline]
+    fn shown(&self) -> &[u8] {
+        self.bytes
+    }
+
+    #[inline]
     fn remaining_hint(&self) -> Option<usize> {
         Some(self.bytes.len())
     }

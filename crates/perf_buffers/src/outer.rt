@@ -1,6 +1,6 @@
 //! A buffer of any kind as an input.
 
-ghost use Rattle.std.specs.Prelude.{◌≡◌, ◌≤◌, ◌*◌, length, true, IsTrue, IsOk, IfOk, IfErr};
+ghost use Rattle.std.specs.Prelude.{◌≡◌, ◌≤◌, ◌*◌, [], length, true, IsTrue, IsOk, IfOk, IfErr, OnErr};
 ghost use Rattle.perf_base.specs.Errors.{kind_of};
 ghost use Rattle.perf_base.specs.Refusals.{IsAnswerOf, refusal_kind};
 ghost use Rattle.perf_buffers.specs.FrameBytes.{GivesNextBytes, TakesOrLeaves};
@@ -24,22 +24,25 @@ use std::alloc::Global;
 // How many bytes a small frame has.
 const SMALL_FRAME: usize = 32;
 
-/// A buffer, and the error of its last fault.
+/// A buffer, the error of its last fault, and room for a frame that no chunk shows whole.
 #[derive(Drop)]
 pub struct Outer<B> {
     buf: B,
     kept: Kept,
+    // Where frames are assembled. It is kept for the next one.
+    room: Vec<u8>,
 }
 
 impl<B> Outer<B> {
     /// A buffer that has answered no fault.
     #[inline]
-    pub fn new(buf: B) -> Outer<B>
+    pub fn new(alloc: Global, buf: B) -> Outer<B>
         ensures { result.buf ≡ buf }
     {
         Outer {
             buf,
             kept: Kept::none(),
+            room: Vec::new(alloc),
         }
     }
 
@@ -124,22 +127,25 @@ impl<'p, B: ParseBuf<'p>> Outer<B> {
     ///
     /// This is the one rule for the bytes of a frame. The buffer's hint is asked for first, once: if
     /// it is less than `len`, the frame is `Eof` and its bytes are skipped. If the next chunk has all
-    /// of them they are read in place, and otherwise they are assembled in memory. No bytes are read
-    /// without asking for a chunk.
+    /// of them they are read in place, and otherwise they are assembled in memory, which is kept for
+    /// the next frame that needs it. No bytes are read without asking for a chunk. If the frame is
+    /// refused, the state is unchanged.
     #[inline]
-    pub fn with_frame<F: FrameReader<'p>>(
+    pub fn with_frame<S, F: FrameReader<'p, S>>(
         &mut self,
-        alloc: Global,
         len: usize,
         reader: F,
+        state: &mut S,
     ) -> ReadResult<F::Output>
+        requires { F.len reader ≡ len }
         ensures stays { Stays (B.source self.old.buf) (refused (kinds result))
             (B.source self.new.buf) }
         ensures can_fail { CanFail (B.source self.old.buf) (refused (kinds result)) }
         ensures whole_memory { IsTrue (B.source self.old.buf).whole →
             TakesNoMemory (kinds result) }
         ensures nothing { len ≡ 0 → IsOk result
-            × (B.source self.new.buf ≡ B.source self.old.buf) }
+            × (B.source self.new.buf ≡ B.source self.old.buf)
+            × IfOk result (λ output. F.gives reader [] true state.old output state.new) }
         ensures short { falls_short (B.hint self.old.buf) len ≡ true →
             TakesNoMemory (kinds result) × IfOk result (λ output. ⊥) }
         ensures beforehand { IsTrue (B.source self.old.buf).told →
@@ -147,27 +153,29 @@ impl<'p, B: ParseBuf<'p>> Outer<B> {
             refusal_kind e ≡ ErrorKind.OutOfMemory →
             (B.source self.new.buf).left ≡ (B.source self.old.buf).left) }
         ensures ok { IfOk result (λ output. GivesNextBytes (F.gives reader)
-            (B.source self.old.buf) len output (B.source self.new.buf)) }
+            (B.source self.old.buf) len state.old output (B.source self.new.buf) state.new) }
+        ensures same { OnErr result (state.new ≡ state.old) }
         ensures err { IsTrue (B.source self.old.buf).told → IfErr result (λ e.
             FailsToKeep (B.source self.old.buf) len (refusal_kind e) (B.source self.new.buf)) }
     {
         if len == 0 {
-            return Ok(reader.read(ParseBufChunk::External(&[])));
+            return Ok(reader.read(state, ParseBufChunk::External(&[])));
         }
         let hint = self.buf.remaining_hint();
         if says_too_few(hint, len) {
             drop(reader);
             return Err(shortage(&mut self.buf, &mut self.kept, len));
         }
-        match read_in_place(&mut self.buf, &mut self.kept, len, reader) {
+        match read_in_place(&mut self.buf, &mut self.kept, len, reader, state) {
             Ok(Found::Whole(output)) => Ok(output),
             Ok(Found::Cut(reader)) => read_assembled(
-                alloc,
                 &mut self.buf,
                 &mut self.kept,
+                &mut self.room,
                 len,
                 hint.is_some(),
                 reader,
+                state,
             ),
             Err(refusal) => Err(refusal),
         }
@@ -211,6 +219,11 @@ impl<'p, B: ParseBuf<'p>> Input<'p> for Outer<B> {
     #[inline]
     fn cut(&mut self, alloc: Global, len: usize) -> ReadResult<ParseBufCursor<'p>> {
         cut(alloc, &mut self.buf, &mut self.kept, len)
+    }
+
+    #[inline]
+    fn shown(&self) -> &[u8] {
+        &[]
     }
 
     #[inline]

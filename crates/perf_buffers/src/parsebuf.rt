@@ -31,9 +31,9 @@ impl<'tmp, 'p> ParseBufChunk<'tmp, 'p> {
         }
     }
 
-    // The first `len` of the bytes, which last as long.
+    /// The first `len` of the bytes, which last as long.
     #[inline]
-    pub(crate) fn first(self, len: usize) -> ParseBufChunk<'tmp, 'p>
+    pub fn first(self, len: usize) -> ParseBufChunk<'tmp, 'p>
         requires { len ≤ length (chunk_bytes self) }
         ensures bytes { chunk_bytes result ≡ take len (chunk_bytes self.entry) }
         ensures lasting { lasts result ≡ lasts self.entry }

@@ -175,6 +175,16 @@ module _ {I E : Type 0} (source : I → Source) (order : E → Order) where
     keeps = p.keeps;
   }
 
+  -- those that one call read
+  pub row_seen : {X : Type 0} (view : X → List ℕ) (k : ℕ) (a b : Reader I E) (x : X) → Call {X = X} source order (ReadsOne (words k) view) a (Ok x) b → InRow k a (view x) b
+  row_seen view k a b x p = record {
+    config = p.config;
+    whole = p.whole;
+    told = p.told;
+    answer = p.answer;
+    keeps = p.keeps;
+  }
+
   -- one more
   pub row_more : (k : ℕ) (a b c : Reader I E) (ys : List ℕ) (x : ℕ) → InRow k a ys b → Call {X = ℕ} source order (ReadsOne (number w8) (λ n. n)) b (Ok x) c → InRow (suc k) a (ys ++ x ∷ []) c
   row_more k a b c ys x p q = record {

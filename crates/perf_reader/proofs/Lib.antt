@@ -1,4 +1,6 @@
+pub mod AtOnce
 pub mod InRow
+pub mod AtHand
 pub mod HeaderAtOnce
 pub mod Paying
 pub mod Steps

@@ -1,6 +1,6 @@
 -- What a reader makes of the next frame, and how the header in front of it is read.
 use Rattle.std.specs.Prelude.{◌≡◌, ℕ, ◌+◌, ◌≤◌, Bool, IsTrue, List, length, drop}
-use Rattle.std.specs.Prelude.{Option, Some, None, Result, Ok, Err}
+use Rattle.std.specs.Prelude.{Option, Some, None, Ok, Err}
 use Rattle.perf_base.specs.Header.{header_of}
 use Rattle.perf_base.specs.declared.error.ErrorKind.{ErrorKind}
 use Rattle.perf_base.specs.declared.sys.perf_event_header.{perf_event_header}
@@ -9,12 +9,13 @@ use Rattle.perf_buffers.specs.FrameBytes.{GivesNextBytes}
 use Rattle.perf_buffers.specs.Taking.{FailsToKeep}
 use Rattle.perf_reader.specs.Reading.{Says}
 
--- The output belongs to the next n bytes, which were taken, and its reads were counted.
-abbrev pub GivesNextFrame : {O : Type 0} → (List ℕ → Bool → ℕ → O → Type 0) → Source → (reads : ℕ) →
-    (n : ℕ) → O → Source → (reads : ℕ) → Type 0
-GivesNextFrame gives old was n output new now =
-    (made : ℕ) × (now ≡ was + made)
-    × GivesNextBytes (λ bytes lasting x. gives bytes lasting made x) old n output new
+-- The output and the new state belong to the next n bytes, which were taken, and the reads of them
+-- were counted.
+abbrev pub GivesNextFrame : {S O : Type 0} → (List ℕ → Bool → ℕ → S → O → S → Type 0) → Source →
+    (reads : ℕ) → (n : ℕ) → S → O → Source → (reads : ℕ) → S → Type 0
+GivesNextFrame gives old reads n was output new counted now =
+    (made : ℕ) × (counted ≡ reads + made)
+    × GivesNextBytes (λ bytes lasting s x t. gives bytes lasting made s x t) old n was output new now
 
 -- There are no such bytes, or no memory for them: nothing was read.
 abbrev pub FailsToReadFrame : Source → (reads : ℕ) → (n : ℕ) → ErrorKind → Source → (reads : ℕ) →

@@ -2,6 +2,7 @@ pub mod Meaning
 pub mod Reading
 pub mod TableRuns
 pub mod BranchEntry
+pub mod AtOnce
 pub mod Calls
 pub mod Frames
 pub mod Room

@@ -1,7 +1,7 @@
 //! What is made of the bytes of one frame, under a reader's configuration.
 
-ghost use Rattle.std.specs.Prelude.{◌≡◌, ◌≤◌, ◌*◌, ℕ, List, Bool, true, IsTrue, IsOk, IfOk, IfErr};
-ghost use Rattle.std.specs.Prelude.{length};
+ghost use Rattle.std.specs.Prelude.{◌≡◌, ◌≤◌, ◌*◌, ℕ, List, Bool, [], length, true, IsTrue};
+ghost use Rattle.std.specs.Prelude.{IsOk, IfOk, IfErr, OnErr};
 ghost use Rattle.perf_base.specs.Configuration.{Configuration};
 ghost use Rattle.perf_base.specs.Configured.{configuration_of, endian_of};
 ghost use Rattle.perf_base.specs.Order.{Order};
@@ -22,23 +22,30 @@ use perf_buffers::outer::Outer;
 use perf_buffers::parsebuf::{ParseBuf, ParseBufChunk};
 use std::alloc::Global;
 
-/// Makes something of the bytes of a frame, under a configuration, and counts its reads.
-pub trait ConfiguredFrameReader<'p, E: Endian>: Drop {
+/// Makes something of the bytes of a frame, under a configuration, and of a state of the caller's, and
+/// counts its reads.
+pub trait ConfiguredFrameReader<'p, E: Endian, S>: Drop {
     /// What is made of them.
     type Output;
 
-    // which outputs belong to bytes that last as long as the input, or do not, in so many reads
-    ghost gives: { Self → Configuration → Order → List ℕ → Bool → ℕ → Self.Output → Type 0 };
+    // how many bytes it reads
+    ghost len: { Self → ℕ };
+
+    // which outputs and new states belong to bytes that last as long as the input, or do not, and to
+    // a state, in so many reads
+    ghost gives: { Self → Configuration → Order → List ℕ → Bool → ℕ → S → Self.Output → S → Type 0 };
 
     /// What is made of a frame's bytes, and how many elementary reads that took.
     fn read(
         self,
         alloc: Global,
         config: &ParseConfig<E>,
+        state: &mut S,
         bytes: ParseBufChunk<'_, 'p>,
     ) -> (Self::Output, ReadCounter)
+        requires { length (chunk_bytes bytes) ≡ len self }
         ensures { gives self (configuration_of config.now) (E.order (endian_of config.now))
-            (chunk_bytes bytes.entry) (lasts bytes.entry) result.1 result.0 };
+            (chunk_bytes bytes.entry) (lasts bytes.entry) result.1 state.old result.0 state.new };
 }
 
 // A reader of frames, and what it needs beside the bytes.
@@ -49,27 +56,34 @@ struct Configured<'c, E, F> {
     reader: F,
 }
 
-impl<'c, 'p, E: Endian, F: ConfiguredFrameReader<'p, E>> FrameReader<'p> for Configured<'c, E, F> {
+impl<'c, 'p, S, E: Endian, F: ConfiguredFrameReader<'p, E, S>> FrameReader<'p, S>
+    for Configured<'c, E, F> {
     type Output = (F::Output, ReadCounter);
 
-    ghost gives = { λ c bytes lasting output. F.gives c.reader (configuration_of c.config.now)
-        (E.order (endian_of c.config.now)) bytes lasting output.1 output.0 };
+    ghost len = { λ c. F.len c.reader };
+
+    ghost gives = { λ c bytes lasting was output now. F.gives c.reader
+        (configuration_of c.config.now) (E.order (endian_of c.config.now)) bytes lasting output.1
+        was output.0 now };
 
     #[inline]
-    fn read(self, bytes: ParseBufChunk<'_, 'p>) -> Self::Output {
-        self.reader.read(self.alloc, self.config, bytes)
+    fn read(self, state: &mut S, bytes: ParseBufChunk<'_, 'p>) -> Self::Output {
+        self.reader.read(self.alloc, self.config, state, bytes)
     }
 }
 
 impl<'p, B: ParseBuf<'p>, E: Endian> Reader<Outer<B>, E> {
     /// Hands the next `len` bytes to a reader of frames, takes them, and counts the reads that it
-    /// made of them. Where the bytes are read is the rule of [`Outer::with_frame`].
+    /// made of them. Where the bytes are read is the rule of [`Outer::with_frame`]. If the frame is
+    /// refused, the state is unchanged.
     #[inline]
-    pub fn with_frame<F: ConfiguredFrameReader<'p, E>>(
+    pub fn with_frame<S, F: ConfiguredFrameReader<'p, E, S>>(
         &mut self,
         len: usize,
         reader: F,
+        state: &mut S,
     ) -> ReadResult<F::Output>
+        requires { F.len reader ≡ len }
         ensures config { config_of self.new ≡ config_of self.old }
         ensures stays { Stays (B.source (buffer_of self.old)) (refused (kinds result))
             (B.source (buffer_of self.new)) }
@@ -77,7 +91,10 @@ impl<'p, B: ParseBuf<'p>, E: Endian> Reader<Outer<B>, E> {
         ensures whole_memory { IsTrue (B.source (buffer_of self.old)).whole →
             TakesNoMemory (kinds result) }
         ensures nothing { len ≡ 0 → IsOk result
-            × (B.source (buffer_of self.new) ≡ B.source (buffer_of self.old)) }
+            × (B.source (buffer_of self.new) ≡ B.source (buffer_of self.old))
+            × IfOk result (λ output. (made : ℕ) × F.gives reader
+            (configuration_of (config_of self.old)) (E.order (endian_of (config_of self.old)))
+            [] true made state.old output state.new) }
         ensures short { falls_short (B.hint (buffer_of self.old)) len ≡ true →
             TakesNoMemory (kinds result) × IfOk result (λ output. ⊥) }
         ensures beforehand { IsTrue (B.source (buffer_of self.old)).told →
@@ -87,8 +104,9 @@ impl<'p, B: ParseBuf<'p>, E: Endian> Reader<Outer<B>, E> {
         ensures ok { IfOk result (λ output. GivesNextFrame
             (F.gives reader (configuration_of (config_of self.old))
             (E.order (endian_of (config_of self.old))))
-            (B.source (buffer_of self.old)) (reads_of self.old) len output
-            (B.source (buffer_of self.new)) (reads_of self.new)) }
+            (B.source (buffer_of self.old)) (reads_of self.old) len state.old output
+            (B.source (buffer_of self.new)) (reads_of self.new) state.new) }
+        ensures same { OnErr result (state.new ≡ state.old) }
         ensures err { IfErr result (λ e. FailsToReadFrame
             (B.source (buffer_of self.old)) (reads_of self.old) len (refusal_kind e)
             (B.source (buffer_of self.new)) (reads_of self.new)) }
@@ -98,7 +116,7 @@ impl<'p, B: ParseBuf<'p>, E: Endian> Reader<Outer<B>, E> {
             config: &self.config,
             reader,
         };
-        match self.input.with_frame(self.alloc, len, configured) {
+        match self.input.with_frame(len, configured, state) {
             Ok((output, made)) => {
                 self.reads.add(made);
                 Ok(output)

@@ -1,9 +1,10 @@
 //! Elementary reads out of an input, each of which is counted, and what a type's reading means.
 #![tactic(auto)]
 
+mod at_once;
 mod attribute;
+pub mod blocks;
 mod bytes;
-mod eight;
 mod flags;
 mod frame;
 pub mod frame_reader;

@@ -21,7 +21,7 @@ impl<B, E: Endian> Reader<Outer<B>, E> {
         ensures config { config_of result ≡ config }
         ensures reads { reads_of result ≡ 0 }
     {
-        Reader::new(alloc, Outer::new(buf), config)
+        Reader::new(alloc, Outer::new(alloc, buf), config)
     }
 
     /// The error that a refusal becomes: the buffer's own, where it was the buffer that refused.

@@ -1,3 +1,4 @@
+pub mod AbsentGroups
 pub mod BranchLists
 pub mod FlaggedFields
 pub mod LeastSamples

@@ -1,6 +1,7 @@
 pub mod Branches
 pub mod Registers
 pub mod Sample
+pub mod SampleBoxed
 pub mod SampleCopies
 pub mod SampleEmpty
 pub mod SampleForms

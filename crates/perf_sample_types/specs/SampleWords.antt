@@ -8,6 +8,7 @@ pub use Rattle.perf_sample_types.specs.SampleGetters.{getters_of, sample_id_of, 
 pub use Rattle.perf_sample_types.specs.SampleGetters.{IsBorrowedFields}
 pub use Rattle.perf_sample_types.specs.SampleForms.{sample_form, fields_form}
 pub use Rattle.perf_sample_types.specs.SampleGroups.{sample_value, IsBorrowedSample}
+pub use Rattle.perf_sample_types.specs.SampleBoxed.{boxed_value, IsBorrowedBox}
 pub use Rattle.perf_sample_types.specs.Registers.{registers_value}
 pub use Rattle.perf_types.specs.ReadGroup.{group_read}
 pub use Rattle.perf_words.specs.SetBits.{txn_bits}

@@ -4,6 +4,7 @@
 mod branches;
 pub mod registers;
 pub mod sample;
+pub mod sample_boxed;
 mod sample_clone;
 mod sample_field;
 pub mod sample_fields;

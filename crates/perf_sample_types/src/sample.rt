@@ -1,7 +1,7 @@
 //! SAMPLE.
 
 ghost use Rattle.std.specs.Prelude.{◌≡◌, ℕ, ◌*◌, ◌%◌, ◌^◌, ◌<◌, List, length, count_ones, IfOk};
-ghost use Rattle.std.specs.Prelude.{option_map};
+ghost use Rattle.std.specs.Prelude.{option_map, OnErr};
 ghost use Rattle.perf_base.specs.Configured.{configuration_of};
 ghost use Rattle.perf_base.specs.Layout.{layout};
 ghost use Rattle.perf_base.specs.Order.{Order};
@@ -472,5 +472,27 @@ pub fn fill_sample<'p, I: Input<'p>, E: Endian>(
     match sample.memory.fill(reader) {
         Ok(()) => Ok(()),
         Err(refusal) => Err(refusal),
+    }
+}
+
+/// Reads a sample into the place of another, whatever that held, for a caller that reads many of them
+/// into one place. After an `Err` the place holds a sample without fields.
+#[inline]
+pub fn refill_sample<'p, I: Input<'p>, E: Endian>(
+    sample: &mut Sample<'p>,
+    reader: &mut Reader<I, E>,
+) -> ReadResult<()>
+    ensures empty { OnErr result (sample.new ≡ no_sample) }
+    ensures call { Call I.source E.order
+        (ReadsBorrowed shown.sample shown.sample_value shown.IsBorrowedSample)
+        reader.old (filled (kinds result) sample.new) reader.new }
+{
+    *sample = empty_sample();
+    match fill_sample(sample, reader) {
+        Ok(()) => Ok(()),
+        Err(refusal) => {
+            *sample = empty_sample();
+            Err(refusal)
+        }
     }
 }

@@ -1,6 +1,7 @@
 //! The groups in which a sample's fields are read.
 
-ghost use Rattle.std.specs.Prelude.{◌≡◌, ⊤, [], ◌∷◌};
+ghost use Rattle.std.specs.Prelude.{◌≡◌, ◌==◌, ⊤, [], ◌∷◌};
+ghost use Rattle.std.specs.Int.RustNames.{bit_and};
 ghost use Rattle.perf_sample_types.specs.SampleEmpty as empty;
 ghost use Rattle.perf_sample_types.specs.SampleEmpty.{filled};
 ghost use Rattle.perf_sample_types.specs.Sample as sample;
@@ -19,6 +20,22 @@ use perf_buffers::input::Input;
 use perf_reader::reader::Reader;
 use perf_types::read_group::ReadGroup;
 use perf_words::{DataSource, SampleFlags, Txn};
+
+// The flags of the fields of each group that few samples have. Where none of them is set, one test
+// passes over the group.
+const STATE: u64 = 0b1111 << 10;
+
+const COSTS: u64 = 1 << 14 | 1 << 15 | 1 << 17 | 1 << 18 | 1 << 24;
+
+const MEMORY: u64 = 0b11111 << 19;
+
+// Whether none of these bits is a flag of the set.
+#[inline(always)]
+fn lacks_all(flags: SampleFlags, bits: u64) -> bool
+    ensures { result ≡ (bit_and (sample_flags_bits flags) bits == 0) }
+{
+    flags.bits() & bits == 0
+}
 
 // What happened when and where.
 #[derive(Debug, Drop)]
@@ -150,6 +167,9 @@ impl<'p> State<'p> {
             reader.old (filled (kinds result) self.new) reader.new }
     {
         let flags = reader.config().sample_type();
+        if lacks_all(flags, STATE) {
+            return Ok(());
+        }
         fill_flagged(&mut self.raw, reader, flags, SampleFlags::RAW)?;
         fill_flagged(&mut self.branches, reader, flags, SampleFlags::BRANCH_STACK)?;
         fill_flagged(&mut self.regs_user, reader, flags, SampleFlags::REGS_USER)?;
@@ -201,6 +221,9 @@ impl<'p> Costs<'p> {
             reader.old (filled (kinds result) self.new) reader.new }
     {
         let flags = reader.config().sample_type();
+        if lacks_all(flags, COSTS) {
+            return Ok(());
+        }
         fill_field_if(&mut self.weight, reader, is_weighed(flags))?;
         fill_flagged(&mut self.data_src, reader, flags, SampleFlags::DATA_SRC)?;
         fill_flagged(
@@ -251,6 +274,9 @@ impl<'p> Memory<'p> {
             reader.old (filled (kinds result) self.new) reader.new }
     {
         let flags = reader.config().sample_type();
+        if lacks_all(flags, MEMORY) {
+            return Ok(());
+        }
         fill_flagged(&mut self.phys_addr, reader, flags, SampleFlags::PHYS_ADDR)?;
         fill_flagged(&mut self.cgroup, reader, flags, SampleFlags::CGROUP)?;
         fill_flagged(

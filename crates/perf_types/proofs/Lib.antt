@@ -1,3 +1,4 @@
+pub mod AtOnce
 pub mod Blocks
 mod Copies
 pub mod Entries

@@ -23,5 +23,6 @@ pub mod ReadValue
 pub mod SwitchCpuWide
 pub mod Text
 pub mod TextPoke
+pub mod Pair
 pub mod Throttle
 pub mod Words

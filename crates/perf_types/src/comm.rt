@@ -5,6 +5,7 @@ ghost use Rattle.std.specs.Prelude.{◌≡◌, option_map};
 ghost use Rattle.perf_types.specs.Comm.{comm, comm_value, IsBorrowedComm, comm_form};
 ghost use Rattle.perf_types.specs.Words.{ReadsLent, cow_items, text_of, IsClone, IsOwnedCopy};
 
+use crate::pair::read_pair;
 use crate::text::text;
 use perf_base::cow::CowSlice;
 use perf_base::endian::Endian;
@@ -67,10 +68,8 @@ impl Meant for Comm<'_> {
 impl<'p, I: Input<'p>> ReadFrom<'p, I> for Comm<'p> {
     #[inline]
     fn read<E: Endian>(reader: &mut Reader<I, E>) -> ReadResult<Self> {
-        Ok(Comm {
-            pid: reader.read_u32()?,
-            tid: reader.read_u32()?,
-            comm: reader.read_rest_trim_nul()?,
-        })
+        let (pid, tid) = read_pair(reader)?;
+        let comm = reader.read_rest_trim_nul()?;
+        Ok(Comm { pid, tid, comm })
     }
 }

@@ -20,6 +20,7 @@ pub mod mmap;
 pub mod mmap2;
 pub mod namespaces;
 pub mod numbers;
+mod pair;
 pub mod read;
 mod read_format;
 pub mod read_group;

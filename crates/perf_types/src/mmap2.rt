@@ -2,6 +2,7 @@
 #![tactic(auto, using(perf_reader::proofs::Paying::chain))]
 
 ghost use Rattle.std.specs.Prelude.{◌≡◌, IsTrue, IfOk, option_map};
+ghost use Rattle.perf_base.specs.Layout.{value};
 ghost use Rattle.perf_base.specs.Misc.{build_id_bit};
 ghost use Rattle.perf_types.specs.MmapDetail as file;
 ghost use Rattle.perf_types.specs.Words.{Call, Reads, ReadsPlain, ReadsLent, TakesNoMemory, kinds};
@@ -9,6 +10,7 @@ ghost use Rattle.perf_types.specs.Words.{cow_items, is_borrowed, text_of, has_bi
 
 use crate::hex::Hex;
 use crate::mmap::Mmap;
+use crate::pair::{pair_in, read_pair};
 use crate::text::text;
 use perf_base::cow::CowSlice;
 use perf_base::endian::Endian;
@@ -322,6 +324,26 @@ fn has_build_id(misc: u16) -> bool
     misc & PERF_RECORD_MISC_MMAP_BUILD_ID == PERF_RECORD_MISC_MMAP_BUILD_ID
 }
 
+// How many bytes the numbers of an inode have.
+const INODE_SIZE: usize = 24;
+
+// The inode that these bytes are.
+#[inline]
+#[tactic(auto)]
+fn inode_in<E: Endian>(endian: &E, bytes: [u8; INODE_SIZE]) -> MmapDetail
+    ensures value { file.detail_value result ≡ value (E.order endian.now) bytes 0 file.inode }
+    ensures fitting { IsTrue (file.has_fitting_id result) }
+{
+    let (eights, _) = bytes.as_chunks::<8>();
+    let (maj, min) = pair_in(endian, eights[0]);
+    MmapDetail::Default {
+        maj,
+        min,
+        ino: endian.convert_u64(eights[1]),
+        ino_generation: endian.convert_u64(eights[2]),
+    }
+}
+
 #[inline]
 fn read_inode<'p, I: Input<'p>, E: Endian>(reader: &mut Reader<I, E>) -> ReadResult<MmapDetail>
     ensures memory { TakesNoMemory (kinds result) }
@@ -329,6 +351,12 @@ fn read_inode<'p, I: Input<'p>, E: Endian>(reader: &mut Reader<I, E>) -> ReadRes
     ensures call { Call I.source E.order (Reads (λ _. file.inode) file.detail_value)
         reader.old (kinds result) reader.new }
 {
+    if reader.has_bytes(INODE_SIZE) {
+        return match reader.read_at_once::<INODE_SIZE>(4) {
+            Ok(bytes) => Ok(inode_in(reader.endian(), bytes)),
+            Err(refusal) => Err(refusal),
+        };
+    }
     Ok(MmapDetail::Default {
         maj: reader.read_u32()?,
         min: reader.read_u32()?,
@@ -394,8 +422,28 @@ pub(crate) struct Place {
     pub(crate) pgoff: u64,
 }
 
+// How many bytes a place has.
+const PLACE_SIZE: usize = 32;
+
 impl Place {
     ghost use Rattle.perf_types.specs.Mmap2.{place};
+
+    // The place that these bytes are.
+    #[inline]
+    #[tactic(auto)]
+    fn from_bytes<E: Endian>(endian: &E, bytes: [u8; PLACE_SIZE]) -> Place
+        ensures { result ≡ value (E.order endian.now) bytes 0 place }
+    {
+        let (eights, _) = bytes.as_chunks::<8>();
+        let (pid, tid) = pair_in(endian, eights[0]);
+        Place {
+            pid,
+            tid,
+            addr: endian.convert_u64(eights[1]),
+            len: endian.convert_u64(eights[2]),
+            pgoff: endian.convert_u64(eights[3]),
+        }
+    }
 
     #[inline]
     pub(crate) fn read<'p, I: Input<'p>, E: Endian>(reader: &mut Reader<I, E>) -> ReadResult<Place>
@@ -403,6 +451,12 @@ impl Place {
         ensures call { Call I.source E.order (Reads (λ _. place) (λ p. p))
             reader.old (kinds result) reader.new }
     {
+        if reader.has_bytes(PLACE_SIZE) {
+            return match reader.read_at_once::<PLACE_SIZE>(5) {
+                Ok(bytes) => Ok(Place::from_bytes(reader.endian(), bytes)),
+                Err(refusal) => Err(refusal),
+            };
+        }
         Ok(Place {
             pid: reader.read_u32()?,
             tid: reader.read_u32()?,
@@ -446,8 +500,7 @@ impl<'p> Mmap2<'p> {
             IsBorrowedMmap2)
             reader.old (kinds result) reader.new }
     {
-        let prot = reader.read_u32()?;
-        let flags = reader.read_u32()?;
+        let (prot, flags) = read_pair(reader)?;
         let filename = reader.read_rest_trim_nul()?;
         let Place {
             pid,

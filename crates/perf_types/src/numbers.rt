@@ -1,6 +1,6 @@
 //! Counted lists of numbers. No claimed count makes room for them.
 
-ghost use Rattle.std.specs.Prelude.{◌≡◌, ◌≢◌, ◌<◌, ◌*◌, true, length, Err, IsTrue, IfOk};
+ghost use Rattle.std.specs.Prelude.{◌≡◌, ◌≢◌, ◌<◌, ◌*◌, [], true, length, Err, IsTrue, IfOk};
 ghost use Rattle.perf_buffers.specs.Room.{falls_short};
 ghost use Rattle.perf_reader.specs.Words.{input_of, refusal_kind, OutOfMemory};
 ghost use Rattle.perf_types.specs.Words.{Call, ReadsOne, TakesNoMemory, kinds, words};
@@ -8,10 +8,8 @@ ghost use Rattle.perf_types.specs.Words.{Call, ReadsOne, TakesNoMemory, kinds, w
 use perf_base::endian::Endian;
 use perf_base::refusal::{ReadResult, Refusal};
 use perf_buffers::input::Input;
+use perf_reader::blocks::BLOCK;
 use perf_reader::reader::Reader;
-
-// How many numbers are taken at once.
-const EIGHT: usize = 8;
 
 // How many bytes a number has.
 const SIZE: usize = 8;
@@ -58,8 +56,44 @@ pub fn read_to_the_end<'p, I: Input<'p>, E: Endian>(
     Refusal::Eof
 }
 
-/// So many numbers, eight at once where the input says that it has them. A list that does not fit
-/// takes no memory where the input says what it has.
+// So many numbers, in blocks where the input says that it has them, and else one by one. The list is
+// empty.
+#[inline(never)]
+fn append_numbers<'p, I: Input<'p>, E: Endian>(
+    reader: &mut Reader<I, E>,
+    mut numbers: Vec<u64>,
+    count: usize,
+) -> ReadResult<Vec<u64>>
+    requires { numbers.items ≡ [] }
+    ensures length { IfOk result (λ v. length v.items ≡ count) }
+    ensures call { Call I.source E.order (ReadsOne (words count) (λ v. v.items))
+        reader.old (kinds result) reader.new }
+{
+    let mut block = [0; BLOCK];
+    while numbers.len() < count && reader.has_numbers(BLOCK.min(count - numbers.len())) {
+        let more = BLOCK.min(count - numbers.len());
+        match reader.read_block(&mut block[..more]) {
+            Ok(()) => (),
+            Err(refusal) => return Err(refusal),
+        }
+        if numbers.extend_from_slice(&block[..more]).is_err() {
+            return Err(Refusal::OutOfMemory);
+        }
+    }
+    for _ in numbers.len()..count {
+        let number = match reader.read_u64() {
+            Ok(number) => number,
+            Err(refusal) => return Err(refusal),
+        };
+        if numbers.push(number).is_err() {
+            return Err(Refusal::OutOfMemory);
+        }
+    }
+    Ok(numbers)
+}
+
+/// So many numbers, all at once where the input shows them. A list that does not fit takes no memory
+/// where the input says what it has.
 pub fn read_numbers<'p, I: Input<'p>, E: Endian>(
     reader: &mut Reader<I, E>,
     count: usize,
@@ -77,23 +111,15 @@ pub fn read_numbers<'p, I: Input<'p>, E: Endian>(
         Ok(numbers) => numbers,
         Err(refusal) => return Err(refusal),
     };
-    while EIGHT <= count - numbers.len() && reader.has_eight() {
-        let eight = match reader.read_eight() {
-            Ok(eight) => eight,
-            Err(refusal) => return Err(refusal),
-        };
-        if numbers.extend_from_slice(&eight).is_err() {
+    if 0 < count && reader.shows_numbers(count) {
+        if numbers.resize(count, 0).is_err() {
             return Err(Refusal::OutOfMemory);
         }
-    }
-    for _ in numbers.len()..count {
-        let number = match reader.read_u64() {
-            Ok(number) => number,
+        match reader.read_shown(numbers.as_mut_slice()) {
+            Ok(true) => return Ok(numbers),
+            Ok(false) => numbers.clear(),
             Err(refusal) => return Err(refusal),
-        };
-        if numbers.push(number).is_err() {
-            return Err(Refusal::OutOfMemory);
         }
     }
-    Ok(numbers)
+    append_numbers(reader, numbers, count)
 }

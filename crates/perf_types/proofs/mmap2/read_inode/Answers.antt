@@ -1,9 +1,19 @@
-use Rattle.std.proofs.Common.{◌≡◌, Err, refl}
-use Rattle.perf_types.specs.MmapDetail.{detail_value}
+use Rattle.std.proofs.Common.{◌≡◌, Err, refl, ap, ◌∙◌}
+use Rattle.perf_base.specs.Configured.{endian_of}
+use Rattle.perf_base.specs.Layout.{value}
+use Rattle.perf_types.specs.MmapDetail.{detail_value, inode}
+use Rattle.perf_reader.proofs.AtOnce.{at_once}
 use Rattle.perf_reader.proofs.Behind.{part_behind, part_stops, call_none}
+use Rattle.perf_types.proofs.AtOnce.{inode_taken}
 use Rattle.perf_types.proofs.Readings.{came_up}
 use Rattle.perf_types.proofs.mmap2.read_inode.Goals as goal
 
+-- all at once
+pub returns-in-Ok-clause-call : goal.returns-in-Ok-clause-call
+returns-in-Ok-clause-call g c =
+    at_once inode 24 4 (λ o xs. value o xs 0 inode) inode_taken (c.inode_in.ensures.value ∙ ap (λ e. value (g.E.Endian.order e) c.in-Ok.bytes 0 inode) (c.endian.ensures ∙ ap endian_of c.in-Ok.ensures.call.config)) c.in-Ok.ensures.call
+
+-- a number at a time
 pub returns-in_err-read_u32-clause-call : goal.returns-in_err-read_u32-clause-call
 returns-in_err-read_u32-clause-call g c =
     let up : c.from_residual.result ≡ Err c.in_err-read_u32.field-0.0 = came_up _ _ c.from_residual.ensures in rw up (

@@ -1,4 +1,4 @@
-use Rattle.std.proofs.Common.{◌≡◌, ℕ, ◌+◌, List, take, Some, refl, ap, arith}
+use Rattle.std.proofs.Common.{◌≡◌, ℕ, ◌+◌, List, take, refl, ap, arith}
 use Rattle.std.specs.Prelude.{IsTrue}
 use Rattle.perf_buffers.specs.Taking.{Takes}
 use Rattle.perf_buffers.proofs.Options.{some_matches}

@@ -3,9 +3,16 @@ use Rattle.perf_words.specs.SetBits.{sample_flags_bits}
 use Rattle.perf_base.specs.Configured.{configuration_of}
 use Rattle.perf_reader.proofs.Asked.{fields_give, of_row}
 use Rattle.perf_types.proofs.Readings.{came_up}
+use Rattle.perf_sample_types.proofs.AbsentGroups.{absent_costs}
 use Rattle.perf_sample_types.proofs.FlaggedFields.{flags_behind, flags_stop, flag_behind, flag_stops}
 use Rattle.perf_sample_types.specs.Sample.{has_one}
 use Rattle.perf_sample_types.proofs.sample_groups.Costs.fill.Goals as goal
+
+-- no field is there
+pub returns-then-lacks_all : goal.returns-then-lacks_all
+returns-then-lacks_all g c =
+    let asked : sample_flags_bits c.sample_type-flags.result ≡ (configuration_of c.args.reader.now.config).sample_type = c.sample_type-flags.ensures ∙ ap (λ k. (configuration_of k).sample_type) c.config.ensures in rw c.requires (
+    record { call = absent_costs _ asked c.lacks_all.ensures c.if-lacks_all.true })
 
 pub returns-in_err-fill_field_if : goal.returns-in_err-fill_field_if
 returns-in_err-fill_field_if g c =

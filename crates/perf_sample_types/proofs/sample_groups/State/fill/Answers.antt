@@ -4,8 +4,15 @@ use Rattle.perf_words.specs.SetBits.{sample_flags_bits}
 use Rattle.perf_base.specs.Configured.{configuration_of}
 use Rattle.perf_reader.proofs.Asked.{fields_give, of_row}
 use Rattle.perf_types.proofs.Readings.{came_up}
+use Rattle.perf_sample_types.proofs.AbsentGroups.{absent_state}
 use Rattle.perf_sample_types.proofs.FlaggedFields.{flag_behind, flag_stops}
 use Rattle.perf_sample_types.proofs.sample_groups.State.fill.Goals as goal
+
+-- no field is there
+pub returns-then-lacks_all : goal.returns-then-lacks_all
+returns-then-lacks_all g c =
+    let asked : sample_flags_bits c.sample_type-flags.result ≡ (configuration_of c.args.reader.now.config).sample_type = c.sample_type-flags.ensures ∙ ap (λ k. (configuration_of k).sample_type) c.config.ensures in rw c.requires (
+    record { call = absent_state _ asked c.lacks_all.ensures c.if-lacks_all.true })
 
 pub returns-in_err-fill_flagged : goal.returns-in_err-fill_flagged
 returns-in_err-fill_flagged g c =

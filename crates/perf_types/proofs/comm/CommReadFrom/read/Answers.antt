@@ -1,45 +1,39 @@
-use Rattle.std.proofs.Common.{◌≡◌, Err, subst, sym}
+use Rattle.std.proofs.Common.{◌≡◌, ℕ, Err, subst, sym}
 use Rattle.std.specs.Prelude.{IsTrue}
-use Rattle.perf_base.specs.Layout.{done}
+use Rattle.perf_base.specs.Layout.{Parts, done, ◌>>=◌}
 use Rattle.perf_base.specs.FieldWords.{name}
-use Rattle.perf_types.specs.Comm.{comm_value}
-use Rattle.perf_reader.proofs.Behind.{part_behind, part_stops, call_behind, call_stops, call_none, lent}
+use Rattle.perf_types.specs.Comm.{CommValue, comm_value}
+use Rattle.perf_types.specs.Pair.{pair}
+use Rattle.perf_reader.proofs.Behind.{call_behind, call_stops, call_none, lent}
 use Rattle.perf_types.proofs.Readings.{came_up}
 use Rattle.perf_types.proofs.comm.CommReadFrom.read.Goals as goal
 
-pub returns-in_err-read_u32 : goal.returns-in_err-read_u32
-returns-in_err-read_u32 g c =
-    let up : c.from_residual.result ≡ Err c.in_err-read_u32.field-0.0 = came_up _ _ c.from_residual.ensures in rw up (
+-- what stands behind the two numbers
+abbrev behind : ℕ × ℕ → Parts CommValue
+behind ids = name >>= λ comm. done (record { pid = ids.0; tid = ids.1; comm = comm })
+
+pub returns-in_err-pid : goal.returns-in_err-pid
+returns-in_err-pid g c =
+    let up : c.from_residual.result ≡ Err c.in_err-pid.field-0.0 = came_up _ _ c.from_residual.ensures in rw up (
     record {
-      call = lent _ _ _ (λ t w. (tt, c.in_err-read_u32.ensures.memory)) (
-          part_stops _ _ _ c.in_err-read_u32.ensures.call);
+      call = lent _ _ _ (λ t w. (tt, c.in_err-pid.ensures.memory)) (
+          call_stops (λ _. pair) (λ _ ids. behind ids) c.in_err-pid.ensures.call);
     })
 
-pub returns-in_err-read_u32-2 : goal.returns-in_err-read_u32-2
-returns-in_err-read_u32-2 g c =
-    let up : c.from_residual-in_err-read_u32-2.result ≡ Err c.in_err-read_u32-2.field-0.0 = came_up _ _ c.from_residual-in_err-read_u32-2.ensures in rw up (
+pub returns-in_err-comm : goal.returns-in_err-comm
+returns-in_err-comm g c =
+    let up : c.from_residual-in_err-comm.result ≡ Err c.in_err-comm.field-0.0 = came_up _ _ c.from_residual-in_err-comm.ensures in rw up (
     record {
-      call = lent _ _ _ (λ t w. (tt, c.in_err-read_u32-2.ensures.memory)) (
-          part_behind _ _ _ c.in_ok-read_u32.ensures.call (
-          part_stops _ _ _ c.in_err-read_u32-2.ensures.call));
-    })
-
-pub returns-in_err-read_rest_trim_nul : goal.returns-in_err-read_rest_trim_nul
-returns-in_err-read_rest_trim_nul g c =
-    let up : c.from_residual-in_err-read_rest_trim_nul.result ≡ Err c.in_err-read_rest_trim_nul.field-0.0 = came_up _ _ c.from_residual-in_err-read_rest_trim_nul.ensures in rw up (
-    record {
-      call = lent _ _ _ (λ t w. (tt, c.in_err-read_rest_trim_nul.ensures.whole_memory (subst IsTrue (sym c.in_ok-read_u32-2.ensures.call.whole) (subst IsTrue (sym c.in_ok-read_u32.ensures.call.whole) w)))) (
-          part_behind _ _ _ c.in_ok-read_u32.ensures.call (
-          part_behind _ _ _ c.in_ok-read_u32-2.ensures.call (
-          call_stops (λ _. name) (λ _ v. done (record { pid = c.in_ok-read_u32.field-0; tid = c.in_ok-read_u32-2.field-0; comm = v })) c.in_err-read_rest_trim_nul.ensures.call)));
+      call = lent _ _ _ (λ t w. (tt, c.in_err-comm.ensures.whole_memory (subst IsTrue (sym c.in_ok-pid.ensures.call.whole) w))) (
+          call_behind (λ _. pair) (λ _ ids. behind ids) c.in_ok-pid.ensures.call (
+          call_stops (λ _. name) (λ _ v. done (record { pid = c.in_ok-pid.pid; tid = c.in_ok-pid.tid; comm = v })) c.in_err-comm.ensures.call));
     })
 
 pub returns : goal.returns
 returns g c =
     record {
-      call = lent _ _ _ (λ t w. (c.in_ok-read_rest_trim_nul.ensures.whole (subst IsTrue (sym c.in_ok-read_u32-2.ensures.call.whole) (subst IsTrue (sym c.in_ok-read_u32.ensures.call.whole) w)), tt)) (
-          part_behind _ _ _ c.in_ok-read_u32.ensures.call (
-          part_behind _ _ _ c.in_ok-read_u32-2.ensures.call (
-          call_behind (λ _. name) (λ _ v. done (record { pid = c.in_ok-read_u32.field-0; tid = c.in_ok-read_u32-2.field-0; comm = v })) c.in_ok-read_rest_trim_nul.ensures.call (
-          call_none {show = comm_value}))));
+      call = lent _ _ _ (λ t w. (c.in_ok-comm.ensures.whole (subst IsTrue (sym c.in_ok-pid.ensures.call.whole) w), tt)) (
+          call_behind (λ _. pair) (λ _ ids. behind ids) c.in_ok-pid.ensures.call (
+          call_behind (λ _. name) (λ _ v. done (record { pid = c.in_ok-pid.pid; tid = c.in_ok-pid.tid; comm = v })) c.in_ok-comm.ensures.call (
+          call_none {show = comm_value})));
     }

@@ -1,7 +1,7 @@
 use Rattle.std.proofs.Common.{◌≡◌, Err}
 use Rattle.perf_reader.proofs.Behind.{part_behind, part_stops, call_none, plain}
 use Rattle.perf_types.proofs.Readings.{came_up}
-use Rattle.perf_types.proofs.exit.ExitReadFrom.read.Goals as goal
+use Rattle.perf_types.proofs.exit.read_by_number.Goals as goal
 
 pub returns-in_err-read_u32 : goal.returns-in_err-read_u32
 returns-in_err-read_u32 g c =

@@ -1,0 +1,58 @@
+//! Numbers whose bytes are taken at once.
+#![tactic(auto, using(crate::proofs::Paying::chain))]
+
+ghost use Rattle.std.specs.Prelude.{◌≡◌, ◌≤◌, ◌<◌, length, IsTrue};
+ghost use Rattle.perf_reader.specs.Words.{Call, ReadsAtOnce, TakesNoMemory, kinds, input_of};
+
+use crate::reader::Reader;
+use perf_base::endian::Endian;
+use perf_base::reads::ReadCounter;
+use perf_base::refusal::ReadResult;
+use perf_buffers::input::{Input, take_array};
+
+// So many reads.
+#[inline]
+fn reads_of_numbers(numbers: usize) -> ReadCounter
+    ensures { result ≡ numbers }
+{
+    let mut made = ReadCounter::new();
+    for _ in 0..numbers {
+        made.tick();
+    }
+    made
+}
+
+impl<'p, I: Input<'p>, E: Endian> Reader<I, E> {
+    /// Whether the input says that it has so many more bytes.
+    #[inline]
+    pub fn has_bytes(&self, len: usize) -> bool
+        ensures { IsTrue result → IsTrue (I.source (input_of self.now)).told →
+            len ≤ length (I.source (input_of self.now)).left }
+    {
+        match self.input.remaining_hint() {
+            Some(left) => len <= left,
+            None => false,
+        }
+    }
+
+    /// The bytes of so many numbers, `N` in all, which the input has. They are taken at once, and
+    /// each of the numbers is a read.
+    #[inline]
+    pub fn read_at_once<const N: usize>(&mut self, numbers: usize) -> ReadResult<[u8; N]>
+        requires some { 0 < numbers }
+        requires room { numbers ≤ N }
+        requires has { IsTrue (I.source (input_of self.old)).told →
+            N ≤ length (I.source (input_of self.old)).left }
+        ensures memory { TakesNoMemory (kinds result) }
+        ensures call { Call I.source E.order (ReadsAtOnce N numbers)
+            self.old (kinds result) self.new }
+    {
+        self.reads.tick();
+        let bytes = match take_array::<I, N>(&mut self.input) {
+            Ok(bytes) => bytes,
+            Err(refusal) => return Err(refusal),
+        };
+        self.reads.add(reads_of_numbers(numbers - 1));
+        Ok(bytes)
+    }
+}

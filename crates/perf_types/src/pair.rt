@@ -1,0 +1,46 @@
+//! Two numbers of four bytes.
+
+ghost use Rattle.std.specs.Prelude.{◌≡◌};
+ghost use Rattle.perf_base.specs.Layout.{value};
+ghost use Rattle.perf_types.specs.Pair.{pair};
+ghost use Rattle.perf_types.specs.Words.{Call, Reads, TakesNoMemory, kinds};
+
+use perf_base::endian::Endian;
+use perf_base::refusal::ReadResult;
+use perf_buffers::input::Input;
+use perf_reader::reader::Reader;
+
+// How many bytes both have.
+const SIZE: usize = 8;
+
+// The numbers that these bytes are.
+#[inline]
+pub(crate) fn pair_in<E: Endian>(endian: &E, bytes: [u8; SIZE]) -> (u32, u32)
+    ensures { result ≡ value (E.order endian.now) bytes 0 pair }
+{
+    let [b0, b1, b2, b3, b4, b5, b6, b7] = bytes;
+    (
+        endian.convert_u32([b0, b1, b2, b3]),
+        endian.convert_u32([b4, b5, b6, b7]),
+    )
+}
+
+// The next two numbers, at once where the input says that it has them.
+#[inline]
+pub(crate) fn read_pair<'p, I: Input<'p>, E: Endian>(
+    reader: &mut Reader<I, E>,
+) -> ReadResult<(u32, u32)>
+    ensures memory { TakesNoMemory (kinds result) }
+    ensures call { Call I.source E.order (Reads (λ _. pair) (λ p. p))
+        reader.old (kinds result) reader.new }
+{
+    if reader.has_bytes(SIZE) {
+        return match reader.read_at_once::<SIZE>(2) {
+            Ok(bytes) => Ok(pair_in(reader.endian(), bytes)),
+            Err(refusal) => Err(refusal),
+        };
+    }
+    let first = reader.read_u32()?;
+    let second = reader.read_u32()?;
+    Ok((first, second))
+}
