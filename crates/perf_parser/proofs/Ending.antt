@@ -30,7 +30,7 @@ use Rattle.perf_records.specs.Frames.{frame_length}
 use Rattle.perf_records.specs.declared.record.Record.{Record}
 use Rattle.perf_records.proofs.Headers.{frame_body, frame_behind, answer_whole}
 use Rattle.perf_parser.specs.Runs.{Pairs, seen_answer, refused_count, listed_reads, LeavesWithin, StopsAt, KeepsRun, IsListed}
-use Rattle.perf_parser.specs.Runs.{stop_kind, stopped_by, IsEndOf, one_if_ended, end_refusal}
+use Rattle.perf_parser.specs.Runs.{stop_kind, stopped_by, StopsBetween, IsEndOf, one_if_ended, end_refusal}
 use Rattle.perf_parser.specs.declared.runs.RunEnd.{RunEnd}
 use Rattle.perf_parser.specs.declared.runs.Stop.{Stop}
 use Rattle.perf_parser.specs.declared.runs.Stop.TheVariants as stop
@@ -152,6 +152,22 @@ stops_behind old mid new h r none fits e m within =
 pub stops_without_memory : (old : Meaning) (r : Refusal) → (IsTrue (of_layout (refusal_kind r)) → ⊥) → StopsAt old (stop.Refused r) old
 stops_without_memory old r none = (none, (omega arith, omega arith, sym (last_all old.source.left)))
 
+-- ---- where memory was refused
+
+-- behind the header, exactly the frame was taken
+pub stops_spent : (old mid new : Meaning) (h : perf_event_header) (r : Refusal) → h ≡ header_of old.order old.source.left → mid.source.left ≡ drop 8 old.source.left →
+    (refusal_kind r ≡ OutOfMemory → new.source.left ≡ drop (body_length h) mid.source.left) → StopsBetween old (stop.Refused r) new
+stops_spent old mid new h r e m spent = λ kind. inr (frame_behind old.order old.source.left mid.source.left new.source.left h e m (spent kind))
+
+-- the kind of the end of a run is that of what stopped it
+pub end_kind : (s : Stop) (e : RunEnd) → IsEndOf s e → end_refusal e ≡ Some OutOfMemory → stop_kind s ≡ OutOfMemory
+end_kind stop.Done e is h = let never : ◌≡◌ {A = Option ErrorKind} None (Some OutOfMemory) = sym (ap end_refusal is) ∙ h in absurd (cc)
+end_kind stop.CutHeader e is h = let never : ◌≡◌ {A = Option ErrorKind} None (Some OutOfMemory) = sym (ap end_refusal is) ∙ h in absurd (cc)
+end_kind (stop.Refused r) e is h =
+    let some : Some (kind_of is.0) ≡ Some OutOfMemory = sym (ap end_refusal is.1) ∙ h in
+    let kind : kind_of is.0 ≡ OutOfMemory = cc in
+    sym is.2.kind_is ∙ kind
+
 -- ---- what is kept
 
 -- a refusal of the layout counts no fault
@@ -266,6 +282,9 @@ run_ends start new n (stop.Refused r) e is k =
 
 pub run_limit : (start new : Meaning) (n : ℕ) → KeepsRun start n None new → KeepsRun start (n + 0) None new
 run_limit start new n k = let same : n + 0 ≡ n = omega arith in subst (λ (m : ℕ). KeepsRun start m None new) (sym same) k
+
+pub run_limit_back : (start new : Meaning) (n : ℕ) → KeepsRun start (n + 0) None new → KeepsRun start n None new
+run_limit_back start new n k = let same : n + 0 ≡ n = omega arith in subst (λ (m : ℕ). KeepsRun start m None new) same k
 
 -- where the buffer showed no first byte of a header
 pub stops_unshown : (old new : Meaning) (r : Refusal) (s : Stop) → (refusal_kind r ≡ Eof → s ≡ stop.Done) → ((refusal_kind r ≡ Eof → ⊥) → s ≡ stop.Refused r) →

@@ -19,10 +19,11 @@ use Rattle.perf_records.specs.Records.{RecordValue}
 use Rattle.perf_records.specs.declared.record.Record.{Record}
 use Rattle.perf_records.proofs.Headers.{header_alone, answer_alone, reads_alone}
 use Rattle.perf_parser.specs.Runs.{Pairs, seen_answer, seen_answers, listed_reads, first_reads, CountsReads}
-use Rattle.perf_parser.specs.Runs.{is_borrowed_answer, AllBorrowed, LeavesWithin, StopsAt, IsEndOf, EndsWith}
+use Rattle.perf_parser.specs.Runs.{is_borrowed_answer, AllBorrowed, LeavesWithin, StopsAt, StopsBetween, IsEndOf, EndsWith, EndsBetween}
 use Rattle.perf_parser.specs.declared.runs.RunEnd.{RunEnd}
 use Rattle.perf_parser.specs.declared.runs.Stop.{Stop}
 use Rattle.perf_parser.specs.declared.runs.Stop.TheVariants as stop
+use Rattle.perf_parser.proofs.Ending.{end_kind}
 
 pub one_more_borrowed : (pairs : Pairs) (h : perf_event_header) (r : Result Record ParseError) → AllBorrowed pairs → is_borrowed_answer r → AllBorrowed (pairs ++ (h, r) ∷ [])
 one_more_borrowed [] h r p q = (q, tt)
@@ -107,12 +108,20 @@ frames_all o (suc k) (suc n) bytes h le short =
 abbrev pair_of : Configuration → Order → List ℕ → perf_event_header × Result RecordValue ErrorKind
 pair_of c o frame = (header_of o frame, answer_of_frame c o frame)
 
+-- The first k frames are all there, and this is left after them.
+pub record IsBehind (start : Meaning) (k : ℕ) (here : Meaning) : Type 0 where
+  pub there : AreThere start.order k start.source.left
+  pub left_is : here.source.left ≡ behind_frames start.order k start.source.left
+
 -- These pairs are the answers of the first k frames, which are all there; this is left behind them, and so many reads were made.
 pub record IsSoFar (start : Meaning) (pairs : Pairs) (k : ℕ) (here : Meaning) : Type 0 where
   pub said_is : seen_answers pairs ≡ map (pair_of start.settings start.order) (first_frames start.order k start.source.left)
   pub there : AreThere start.order k start.source.left
   pub left_is : here.source.left ≡ behind_frames start.order k start.source.left
   pub reads_are : here.reads ≡ start.reads + first_reads start.settings start.order k start.source.left
+
+pub behind_so_far : (start : Meaning) (pairs : Pairs) (k : ℕ) (here : Meaning) → IsSoFar start pairs k here → IsBehind start k here
+behind_so_far start pairs k here so_far = record { there = so_far.there; left_is = so_far.left_is }
 
 pub none_so_far : (start : Meaning) → IsSoFar start [] 0 start
 none_so_far start = record { said_is = refl; there = refl; left_is = refl; reads_are = omega arith }
@@ -171,10 +180,10 @@ listed_first start here pairs k so_far e =
     ∙ sym (take-map (pair_of c o) k (frames o bytes))
     ∙ ap (λ n. take n (answers c o bytes)) (sym e)
 
--- where fewer than eight bytes are left, all frames are listed, and the stream ends with those bytes
-all_listed : (start here : Meaning) (pairs : Pairs) (k : ℕ) → IsSoFar start pairs k here → length here.source.left < 8 →
+-- where fewer than eight bytes are left, all frames are met, and the stream ends with those bytes
+all_listed : (start here : Meaning) (k : ℕ) → IsBehind start k here → length here.source.left < 8 →
     (k ≡ length (frames start.order start.source.left)) × (stream_end start.order start.source.left ≡ end_with (length here.source.left))
-all_listed start here pairs k so_far short =
+all_listed start here k so_far short =
     let o : Order = start.order in let bytes : List ℕ = start.source.left in
     let few : length (behind_frames o k bytes) < 8 = subst (λ (xs : List ℕ). length xs < 8) so_far.left_is short in
     let all : frames o bytes ≡ first_frames o k bytes = frames_all o k (length bytes) bytes so_far.there (frames_fit o k bytes so_far.there) few in
@@ -191,19 +200,29 @@ cut_off : (n : ℕ) → 0 < n → end_with n ≡ cut_header
 cut_off zero h = absurd (omega arith)
 cut_off (suc n) h = refl
 
-pub ends_with : (start here new : Meaning) (limit : ℕ) (pairs : Pairs) (k : ℕ) (s : Stop) (e : RunEnd) → IsSoFar start pairs k here → k < limit → here.order ≡ start.order →
+pub ends_with : (start here new : Meaning) (limit : ℕ) (k : ℕ) (s : Stop) (e : RunEnd) → IsBehind start k here → k < limit → here.order ≡ start.order →
     StopsAt here s new → IsEndOf s e → EndsWith start.order limit start.source.left k e new.source.left
-ends_with start here new limit pairs k stop.Done e so_far below same p is =
+ends_with start here new limit k stop.Done e so_far below same p is =
     let nothing : length here.source.left ≡ 0 = ap length p.0 in
-    let all = all_listed start here pairs k so_far (omega arith) in
+    let all = all_listed start here k so_far (omega arith) in
     subst (λ (x : RunEnd). EndsWith start.order limit start.source.left k x new.source.left) (sym is) (below, all.0, all.1 ∙ ap end_with nothing, p.1)
-ends_with start here new limit pairs k stop.CutHeader e so_far below same p is =
-    let all = all_listed start here pairs k so_far p.1 in
+ends_with start here new limit k stop.CutHeader e so_far below same p is =
+    let all = all_listed start here k so_far p.1 in
     subst (λ (x : RunEnd). EndsWith start.order limit start.source.left k x new.source.left) (sym is) (below, all.0, all.1 ∙ cut_off (length here.source.left) p.0, p.2)
-ends_with start here new limit pairs k (stop.Refused r) e so_far below same p is =
+ends_with start here new limit k (stop.Refused r) e so_far below same p is =
     let within : LeavesWithin start.order (behind_frames start.order k start.source.left) new.source.left =
     subst (λ (xs : List ℕ). LeavesWithin start.order xs new.source.left) so_far.left_is (subst (λ (o : Order). LeavesWithin o here.source.left new.source.left) same p.1) in
     subst (λ (x : RunEnd). EndsWith start.order limit start.source.left k x new.source.left) (sym is.1) (below, not_of_layout is.2.kind_is p.0, within)
+
+-- where refused memory ended it
+pub ends_between : (start here new : Meaning) (k : ℕ) (s : Stop) (e : RunEnd) → IsBehind start k here → here.order ≡ start.order →
+    StopsBetween here s new → IsEndOf s e → EndsBetween start.order start.source.left k e new.source.left
+ends_between start here new k s e so_far order p is = λ h. elim (p (end_kind s e is h)) [
+  | inl same ↦ inl (same ∙ so_far.left_is)
+  | inr next ↦
+      inr (next ∙ ap (λ (o : Order). drop (frame_length o here.source.left) here.source.left) order ∙ ap (λ (xs : List ℕ). drop (frame_length start.order xs) xs) so_far.left_is
+      ∙ sym (behind_on start.order k start.source.left))
+]
 
 pub counts_reads : (start here new : Meaning) (pairs : Pairs) (k : ℕ) (s : Stop) (e : RunEnd) → IsSoFar start pairs k here → here.reads ≤ new.reads →
     StopsAt here s new → IsEndOf s e → CountsReads start.settings start.order start.source.left k e start.reads new.reads

@@ -1,5 +1,5 @@
 -- What a run does after a look at its buffer is what it does without it.
-use Rattle.std.proofs.Common.{◌≡◌, ℕ, ◌+◌, length, drop, arith, sym, ◌∙◌, ap, subst, Ok, Err, None, Some}
+use Rattle.std.proofs.Common.{◌≡◌, ℕ, ◌+◌, List, length, drop, arith, sym, ◌∙◌, ap, subst, Ok, Err, None, Some, inl, inr}
 use Rattle.std.specs.Prelude.{IsTrue, IfErr, Result}
 use Rattle.perf_base.specs.Configuration.{Configuration}
 use Rattle.perf_base.specs.Configured.{configuration_of, endian_of}
@@ -17,7 +17,7 @@ use Rattle.perf_base.specs.declared.refusal.Refusal.TheVariants as why
 use Rattle.perf_reader.proofs.Paying.{last_all}
 use Rattle.perf_records.specs.Answers.{answer_of_frame}
 use Rattle.perf_records.specs.Frames.{frame_length}
-use Rattle.perf_parser.specs.Runs.{Pairs, KeepsRun, ListsNext, LeavesWithin, ReadsHeader, StopsAt, listed_reads}
+use Rattle.perf_parser.specs.Runs.{Pairs, KeepsRun, ListsNext, LeavesWithin, ReadsHeader, StopsAt, StopsBetween, listed_reads}
 use Rattle.perf_parser.specs.declared.runs.Stop.{Stop}
 use Rattle.perf_parser.specs.declared.runs.Stop.TheVariants as stop
 use Rattle.perf_parser.proofs.Ending.{run_more}
@@ -29,6 +29,13 @@ module _ (old mid new : Meaning) (settings : mid.settings ≡ old.settings) (ord
   looked_stops stop.CutHeader p =
       let long : length mid.source.left ≡ length old.source.left = ap length left in (omega (arith, p.0, long), omega (arith, p.1, long), p.2, omega (arith, p.3, reads))
   looked_stops (stop.Refused r) p = (p.0, subst (λ o. LeavesWithin o old.source.left new.source.left) order (subst (λ xs. LeavesWithin mid.order xs new.source.left) left p.1))
+
+  -- where it stands, if memory was refused
+  pub looked_between : (s : Stop) → StopsBetween mid s new → StopsBetween old s new
+  looked_between s p = λ kind. elim (p kind) [
+    | inl same ↦ inl (same ∙ left)
+    | inr next ↦ inr (next ∙ ap (λ (o : Order). drop (frame_length o mid.source.left) mid.source.left) order ∙ ap (λ (xs : List ℕ). drop (frame_length old.order xs) xs) left)
+  ]
 
   -- which header it reads
   pub looked_header : (seen : Result perf_event_header ErrorKind) → ReadsHeader mid seen new → ReadsHeader old seen new

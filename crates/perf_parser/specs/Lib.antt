@@ -4,3 +4,4 @@ pub mod Repeats
 pub mod Words
 pub mod Frames
 pub mod Runs
+pub mod FrameRuns

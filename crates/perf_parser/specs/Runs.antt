@@ -1,7 +1,7 @@
 -- What a run over a stream lists, how it ends, what it leaves, and how many elementary reads it
 -- makes.
 use Rattle.std.specs.Prelude.{Option, Some, Result, Ok, Err, true, IsTrue, ◌≡◌}
-use Rattle.std.specs.Prelude.{None, max, ◌*◌}
+use Rattle.std.specs.Prelude.{None, max, ◌*◌, ◌⊎◌}
 use Rattle.std.specs.Prelude.{ℕ, ◌+◌, ◌<◌, ◌≤◌, min, List, [], ◌∷◌, ◌++◌, map, length, drop, sum_by}
 use Rattle.perf_base.specs.Configuration.{Configuration}
 use Rattle.perf_base.specs.Errors.{kind_of}
@@ -9,19 +9,18 @@ use Rattle.perf_base.specs.Header.{header_of}
 use Rattle.perf_base.specs.Order.{Order}
 use Rattle.perf_base.specs.Refusals.{refusal_kind, error_kinds, IsAnswerOf}
 use Rattle.perf_base.specs.declared.error.ErrorKind.{ErrorKind}
-use Rattle.perf_base.specs.declared.error.ErrorKind.TheVariants.{Eof}
+use Rattle.perf_base.specs.declared.error.ErrorKind.TheVariants.{Eof, OutOfMemory}
 use Rattle.perf_base.specs.declared.error.ParseError.{ParseError}
 use Rattle.perf_base.specs.declared.sys.perf_event_header.{perf_event_header}
 use Rattle.perf_base.specs.declared.refusal.Refusal.{Refusal}
 use Rattle.perf_buffers.specs.Buffer.{Stays}
 use Rattle.perf_reader.specs.Meaning.{Meaning}
 use Rattle.perf_reader.specs.Reading.{Says, of_layout, last_of, is_external}
-use Rattle.perf_records.specs.Answers.{answer_of_frame, reads_behind}
+use Rattle.perf_records.specs.Answers.{answer_of_frame, reads_behind, LeavesAllOrBehind}
 pub use Rattle.perf_records.specs.Answers.{SaysBehind, answers, body_length}
 use Rattle.perf_records.specs.Frames.{frame_length, first_frames, frames, behind_frames}
 use Rattle.perf_records.specs.Frames.{stream_end, done, cut_header}
 use Rattle.perf_records.specs.Records.{RecordValue, record_value, IsBorrowed}
-pub use Rattle.perf_records.specs.Shown.{boxed_kinds}
 use Rattle.perf_records.specs.declared.record.Record.{Record}
 use Rattle.perf_parser.specs.declared.runs.Run.{Run}
 use Rattle.perf_parser.specs.declared.runs.RunEnd.{RunEnd}
@@ -126,6 +125,12 @@ EndsWith o limit bytes k (end.Fault e) left =
     (k < limit) × (IsTrue (of_layout (kind_of e)) → ⊥)
     × LeavesWithin o (behind_frames o k bytes) left
 
+-- A run that refused memory ended stands between two frames: before the one that it did not list, or
+-- behind it.
+abbrev pub EndsBetween : Order → List ℕ → (count : ℕ) → RunEnd → List ℕ → Type 0
+EndsBetween o bytes count e left = end_refusal e ≡ Some OutOfMemory →
+    (left ≡ behind_frames o count bytes) ⊎ (left ≡ behind_frames o (count + 1) bytes)
+
 -- What lies between two moments of a run that answered so many refusals, the second of them behind
 -- the one that ended it, if one did.
 pub record KeepsRun (start : Meaning) (refusals : ℕ) (e : Option ErrorKind) (new : Meaning)
@@ -184,6 +189,11 @@ StopsAt old stop.CutHeader new =
 StopsAt old (stop.Refused r) new =
     (IsTrue (of_layout (refusal_kind r)) → ⊥)
     × LeavesWithin old.order old.source.left new.source.left
+
+-- Where memory was refused, nothing was taken, or exactly the next frame.
+abbrev pub StopsBetween : Meaning → Stop → Meaning → Type 0
+StopsBetween old s new = stop_kind s ≡ OutOfMemory →
+    LeavesAllOrBehind old.source (frame_length old.order old.source.left) new.source
 
 -- how a run ends that stopped so: by the error that a refusal becomes, with its message
 abbrev pub IsEndOf : Stop → RunEnd → Type 0

@@ -13,8 +13,10 @@ use perf_base::error::{ErrorKind, ParseResult};
 use perf_base::sys::perf_event_header;
 use perf_buffers::cursor::ParseBufCursor;
 use perf_buffers::parsebuf::ParseBuf;
-use perf_records::frame::{read_behind, split};
+use perf_records::body_reader::AsRecord;
+use perf_records::frame_after::read_after;
 use perf_records::metadata::RecordMetadata;
+use perf_records::parts::split;
 use perf_records::record::Record;
 
 impl FrameLayout for Record<'_> {
@@ -62,7 +64,7 @@ impl<'p, B: ParseBuf<'p>> ParseRecord<'p, B> for Record<'p> {
         ensures call { Call B.source E.order (SaysBehind header)
             parser.old (error_kinds result) parser.new }
     {
-        match read_behind(&mut parser.reader, header) {
+        match read_after(&mut parser.reader, header, AsRecord, &mut ()) {
             Ok(record) => Ok(record),
             Err(refusal) => Err(parser.reader.answer(refusal)),
         }

@@ -5,6 +5,7 @@
 #![tactic(auto)]
 
 mod bytes;
+mod frame_runs;
 mod frames;
 mod lists;
 mod numbers;
@@ -13,4 +14,5 @@ mod parser;
 mod runs;
 mod visits;
 
+pub use crate::frame_runs::{FrameRun, each_frame};
 pub use crate::runs::{Run, RunEnd, read_records};

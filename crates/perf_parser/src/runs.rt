@@ -1,7 +1,7 @@
 //! Runs over a stream of records.
 
 ghost use Rattle.std.specs.Prelude.{◌≡◌, ◌+◌, ◌≤◌, ◌<◌, ◌++◌, [], ◌∷◌, take, true, None, Ok, Err};
-ghost use Rattle.std.specs.Prelude.{max, min, length};
+ghost use Rattle.std.specs.Prelude.{max, min, length, drop};
 ghost use Rattle.std.specs.Prelude.{vec_len, vec_capacity};
 ghost use Rattle.std.specs.Prelude.{IsTrue, IfOk, IfErr, OnOk, OnErr};
 ghost use Rattle.perf_parser.specs.Words.{header_of, buffer_of, config_of, reads_of, meaning};
@@ -19,7 +19,8 @@ use perf_buffers::outer::Outer;
 use perf_buffers::parsebuf::ParseBuf;
 use perf_reader::header::header_in;
 use perf_reader::reader::Reader;
-use perf_records::frame_shown::{read_sample_after, read_shown};
+use perf_records::body_reader::{AsRecord, AsSample};
+use perf_records::frame_after::read_after;
 use perf_records::record::Record;
 use perf_sample_types::sample::Sample;
 use std::boxed::Box;
@@ -46,13 +47,13 @@ pub enum RunEnd {
     /// Fewer bytes were left than a header has.
     CutHeader,
     /// The buffer could not go on, or memory was refused. Of the frame that was being read a
-    /// beginning is consumed.
+    /// beginning is consumed; over a slice, where only memory can be refused, none or all of it.
     Fault(ParseError),
 }
 
 // Why a run stops before its limit.
 #[derive(Copy, Clone)]
-enum Stop {
+pub(crate) enum Stop {
     // Nothing is left.
     Done,
     // Fewer bytes are left than a header has.
@@ -76,6 +77,8 @@ fn header_from<E: Endian>(endian: &E, first: [u8; 1], others: [u8; 7]) -> perf_e
 fn stop_at(refusal: Refusal, at_end: Stop) -> Stop
     ensures eof { low.refusal_kind refusal ≡ ErrorKind.Eof → result ≡ at_end }
     ensures other { (low.refusal_kind refusal ≡ ErrorKind.Eof → ⊥) → result ≡ Stop.Refused refusal }
+    ensures kind { stream.stop_kind at_end ≡ ErrorKind.Eof →
+        stream.stop_kind result ≡ low.refusal_kind refusal }
 {
     if refusal.kind() == ErrorKind::Eof {
         at_end
@@ -93,6 +96,7 @@ fn read_header_in_two<'p, I: Input<'p>, E: Endian>(
     ensures stop { IsTrue (I.source (low.input_of reader.old)).told → IfErr result (λ s.
         stream.StopsAt (low.meaning I.source E.order reader.old) s
         (low.meaning I.source E.order reader.new)) }
+    ensures memory { low.TakesNoMemory (stream.stop_kinds result) }
     ensures call { low.Call I.source E.order stream.ReadsHeader
         reader.old (stream.stop_kinds result) reader.new }
 {
@@ -110,12 +114,14 @@ fn read_header_in_two<'p, I: Input<'p>, E: Endian>(
 // The header of the next frame: at once if the buffer shows all of it. A buffer may end inside it,
 // and whether it ends before its first byte or after says how the run ends.
 #[inline]
-fn read_header<'p, B: ParseBuf<'p>, E: Endian>(
+pub(crate) fn read_header<'p, B: ParseBuf<'p>, E: Endian>(
     reader: &mut Reader<Outer<B>, E>,
 ) -> Result<perf_event_header, Stop>
     ensures stop { IsTrue (B.source (low.buffer_of reader.old)).told → IfErr result (λ s.
         stream.StopsAt (low.meaning (λ (o : Outer B). B.source o.buf) E.order reader.old) s
         (low.meaning (λ (o : Outer B). B.source o.buf) E.order reader.new)) }
+    ensures memory { IsTrue (B.source (low.buffer_of reader.old)).told →
+        low.TakesNoMemory (stream.stop_kinds result) }
     ensures call { low.Call (λ (o : Outer B). B.source o.buf) E.order stream.ReadsHeader
         reader.old (stream.stop_kinds result) reader.new }
 {
@@ -201,8 +207,15 @@ fn list_answer<'p, B: ParseBuf<'p>, E: Endian>(
     ensures stops { IfErr result (λ e. (IsTrue (low.of_layout (low.refusal_kind e)) → ⊥)
         × low.Call (λ (o : Outer B). B.source o.buf) E.order (stream.SaysBehind header)
         reader.old (Err (low.refusal_kind e)) reader.new) }
+
+    // If memory is refused over a slice, exactly the frame is taken.
+    ensures spent { IsTrue (B.source (low.buffer_of reader.old)).told →
+        IsTrue (B.source (low.buffer_of reader.old)).whole →
+        IfErr result (λ e. low.refusal_kind e ≡ low.OutOfMemory →
+        (B.source (low.buffer_of reader.new)).left
+        ≡ drop (stream.body_length header) (B.source (low.buffer_of reader.old)).left) }
 {
-    match read_shown(reader, header) {
+    match read_after(reader, header, AsRecord, &mut ()) {
         Ok(record) => {
             list_record(frames, header, record);
             Ok(())
@@ -251,8 +264,13 @@ fn list_sample<'p, B: ParseBuf<'p>, E: Endian>(
     ensures stops { IfErr result (λ e. (IsTrue (low.of_layout (low.refusal_kind e)) → ⊥)
         × low.Call (λ (o : Outer B). B.source o.buf) E.order (stream.SaysBehind header)
         reader.old (Err (low.refusal_kind e)) reader.new) }
+    ensures spent { IsTrue (B.source (low.buffer_of reader.old)).told →
+        IsTrue (B.source (low.buffer_of reader.old)).whole →
+        IfErr result (λ e. low.refusal_kind e ≡ low.OutOfMemory →
+        (B.source (low.buffer_of reader.new)).left
+        ≡ drop (stream.body_length header) (B.source (low.buffer_of reader.old)).left) }
 {
-    match read_sample_after(reader, header) {
+    match read_after(reader, header, AsSample, &mut ()) {
         Ok(sample) => {
             list_boxed(frames, header, sample);
             Ok(())
@@ -286,6 +304,11 @@ fn list_frame<'p, B: ParseBuf<'p>, E: Endian>(
     ensures stops { IfErr result (λ e. (IsTrue (low.of_layout (low.refusal_kind e)) → ⊥)
         × low.Call (λ (o : Outer B). B.source o.buf) E.order (stream.SaysBehind header)
         reader.old (Err (low.refusal_kind e)) reader.new) }
+    ensures spent { IsTrue (B.source (low.buffer_of reader.old)).told →
+        IsTrue (B.source (low.buffer_of reader.old)).whole →
+        IfErr result (λ e. low.refusal_kind e ≡ low.OutOfMemory →
+        (B.source (low.buffer_of reader.new)).left
+        ≡ drop (stream.body_length header) (B.source (low.buffer_of reader.old)).left) }
 {
     if header.type_ == PERF_RECORD_SAMPLE {
         list_sample(reader, frames, header)
@@ -364,6 +387,10 @@ fn list_next<'p, B: ParseBuf<'p>, E: Endian>(
     ensures stop { IsTrue (B.source (low.buffer_of reader.old)).told → IfErr result (λ s.
         stream.StopsAt (low.meaning (λ (o : Outer B). B.source o.buf) E.order reader.old) s
         (low.meaning (λ (o : Outer B). B.source o.buf) E.order reader.new)) }
+    ensures between { IsTrue (B.source (low.buffer_of reader.old)).told →
+        IsTrue (B.source (low.buffer_of reader.old)).whole → IfErr result (λ s.
+        stream.StopsBetween (low.meaning (λ (o : Outer B). B.source o.buf) E.order reader.old) s
+        (low.meaning (λ (o : Outer B). B.source o.buf) E.order reader.new)) }
     ensures keeps { (start : low.Meaning) →
         stream.KeepsRun start (stream.refused_count frames.old.items) None
         (low.meaning (λ (o : Outer B). B.source o.buf) E.order reader.old) →
@@ -396,6 +423,10 @@ fn read_next<'p, B: ParseBuf<'p>, E: Endian>(
     ensures stop { IsTrue (B.source (low.buffer_of reader.old)).told → IfErr result (λ s.
         stream.StopsAt (low.meaning (λ (o : Outer B). B.source o.buf) E.order reader.old) s
         (low.meaning (λ (o : Outer B). B.source o.buf) E.order reader.new)) }
+    ensures between { IsTrue (B.source (low.buffer_of reader.old)).told →
+        IsTrue (B.source (low.buffer_of reader.old)).whole → IfErr result (λ s.
+        stream.StopsBetween (low.meaning (λ (o : Outer B). B.source o.buf) E.order reader.old) s
+        (low.meaning (λ (o : Outer B). B.source o.buf) E.order reader.new)) }
     ensures keeps { (start : low.Meaning) →
         stream.KeepsRun start (stream.refused_count frames.old.items) None
         (low.meaning (λ (o : Outer B). B.source o.buf) E.order reader.old) →
@@ -414,7 +445,10 @@ fn read_next<'p, B: ParseBuf<'p>, E: Endian>(
 }
 
 // How a run ends that stopped so.
-fn end_of<'p, B: ParseBuf<'p>, E: Endian>(reader: &mut Reader<Outer<B>, E>, stop: Stop) -> RunEnd
+pub(crate) fn end_of<'p, B: ParseBuf<'p>, E: Endian>(
+    reader: &mut Reader<Outer<B>, E>,
+    stop: Stop,
+) -> RunEnd
     ensures end { stream.IsEndOf stop result }
     ensures buf { low.buffer_of reader.new ≡ low.buffer_of reader.old }
     ensures config { low.config_of reader.new ≡ low.config_of reader.old }
@@ -448,6 +482,14 @@ pub fn read_records<'p, B: ParseBuf<'p>, E: Endian>(
     // How it ends, and what it leaves.
     ensures end { IsTrue (B.source (buffer_of parser.old)).told →
         stream.EndsWith (meaning B.source E.order parser.old).order limit
+        (B.source (buffer_of parser.old)).left (stream.listed_count result) result.end
+        (B.source (buffer_of parser.new)).left }
+
+    // Over a slice a run that refused memory ended stands between two frames: it costs at most the
+    // answer of the next one, and the run after it is in step.
+    ensures between { IsTrue (B.source (buffer_of parser.old)).told →
+        IsTrue (B.source (buffer_of parser.old)).whole →
+        stream.EndsBetween (meaning B.source E.order parser.old).order
         (B.source (buffer_of parser.old)).left (stream.listed_count result) result.end
         (B.source (buffer_of parser.new)).left }
 

@@ -10,7 +10,8 @@ use perf_base::endian::Endian;
 use perf_base::error::{ErrorKind, ParseResult};
 use perf_base::sys::perf_event_header;
 use perf_buffers::parsebuf::ParseBuf;
-use perf_records::frame::visit_behind;
+use perf_records::body_reader::ByVisitor;
+use perf_records::frame_after::read_after;
 use perf_records::visitor::Visitor;
 
 impl<'p, B: ParseBuf<'p>, E: Endian> Parser<B, E> {
@@ -62,7 +63,7 @@ impl<'p, B: ParseBuf<'p>, E: Endian> Parser<B, E> {
         ensures call { Call B.source E.order (VisitsBehind V.gives header)
             self.old (error_kinds result) self.new }
     {
-        match visit_behind(&mut self.reader, header, visitor) {
+        match read_after(&mut self.reader, header, ByVisitor { visitor }, &mut ()) {
             Ok(output) => Ok(output),
             Err(refusal) => Err(self.reader.answer(refusal)),
         }

@@ -59,6 +59,12 @@ taken_pays old new n k p less =
     let left : length new.left ≡ length old.left - n = ap length p.1 ∙ length-drop n old.left in
     omega (arith, p.0)
 
+-- bytes that were taken are within as many
+pub taken_within : (old new : Source) (n : ℕ) → Takes old n new → length old.left ≤ length new.left + n
+taken_within old new n p =
+    let left : length new.left ≡ length old.left - n = ap length p.1 ∙ length-drop n old.left in
+    omega (arith, p.0)
+
 -- a read that has its bytes, takes no memory and cannot fault
 pub never_refused : (P : Type 0) (e : ErrorKind) (have want : ℕ) → have ≡ want → e ≢ OutOfMemory → (is_external (Some e) ≡ true → IsTrue false) → (IsTrue (of_layout e) → have < want) → P
 never_refused P Eof have want same memory fault lacks = absurd (omega (arith, same, lacks refl))

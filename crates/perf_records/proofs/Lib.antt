@@ -8,3 +8,9 @@ pub mod Visiting
 pub mod Seeing
 pub mod Making
 pub mod Shown
+pub mod Handing
+pub mod FrameList
+pub mod FrameFlags
+pub mod IdNumbers
+pub mod SampleNumbers
+pub mod FrameNumbers

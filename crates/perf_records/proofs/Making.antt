@@ -1,5 +1,5 @@
 -- Records that are made of what was visited.
-use Rattle.std.proofs.Common.{◌≡◌, Bool, true, false, arith, sym, ◌∙◌, ap, subst}
+use Rattle.std.proofs.Common.{◌≡◌, Bool, true, false, refl, arith, sym, ◌∙◌, ap, subst}
 use Rattle.std.specs.Prelude.{Result, None, Some, Ok, Err, IfOk, IsTrue}
 use Rattle.perf_base.specs.Refusals.{kinds, refusal_kind}
 use Rattle.perf_base.specs.declared.error.ErrorKind.{ErrorKind}
@@ -13,13 +13,19 @@ use Rattle.perf_base.specs.declared.sys.perf_event_header.{perf_event_header}
 use Rattle.perf_reader.specs.Meaning.{Meaning, meaning}
 use Rattle.perf_reader.specs.Reading.{Keeps}
 use Rattle.perf_records.specs.Answers.{SaysBehind}
-use Rattle.perf_records.specs.Records.{IsBorrowed}
+use Rattle.perf_records.specs.Records.{IsBorrowed, sample_is, sample_value}
 use Rattle.perf_records.specs.Metadata.{MetadataValue}
 use Rattle.perf_records.specs.RecordTypes.{type_of}
-use Rattle.perf_records.specs.Visits.{Event, event, GivesRecord, IsRecordOf, IsSampleOf, VisitsBody, VisitsType, VisitsBehind, BelongsTo}
+use Rattle.perf_records.specs.Visits.{Event, event, GivesRecord, IsRecordOf, IsSampleOf, IsSampleIn, is_lent_sample, VisitsBody, VisitsType, VisitsBehind, BelongsTo}
 use Rattle.perf_records.specs.declared.record.Record.TheVariants as record_of
 use Rattle.perf_records.specs.declared.record_type.RecordType.TheVariants as type
 use Rattle.perf_sample_types.specs.declared.sample.Sample.{Sample}
+use Rattle.perf_sample_types.specs.Sample.{sample}
+use Rattle.perf_sample_types.specs.SampleBoxed.{boxed_value, IsBorrowedBox}
+use Rattle.perf_sample_types.specs.SampleGroups.{IsBorrowedSample}
+use Rattle.perf_reader.specs.TableRuns.{ReadsBorrowed}
+use Rattle.perf_records.proofs.Lending.{sample_lent, lent_sample}
+use Rattle.perf_records.proofs.Seeing.{visited, unvisited, of_said}
 use Rattle.perf_records.proofs.Visiting.{visits_type}
 use Rattle.std.specs.Prelude.{Box}
 use Rattle.std.specs.declared.alloc.Global.{Global}
@@ -69,6 +75,22 @@ module _ {I E : Type 0} {source : I → Source} {order : E → Order} (m : Metad
         answer = λ t. ((λ kind. absurd (cc)), (λ w none. let never : true ≡ false = sym (v.5 gave.1) ∙ none in absurd (cc)));
         keeps = λ start p. keeps_unmade start (meaning source order b) (call.keeps start p);
       })
+
+-- ---- samples
+module _ {I E : Type 0} {source : I → Source} {order : E → Order} (m : MetadataValue) {a b : Reader I E} where
+  -- one that was read in a box
+  pub boxed_visit : (held : Box Sample Global) → Call source order (ReadsBorrowed sample boxed_value IsBorrowedBox) a (Ok held) b → Call source order (VisitsType IsSampleOf m type.Sample) a (Ok held) b
+  boxed_visit held call = visited IsSampleOf m sample boxed_value sample_is (is_lent_sample held.value) true (refl, lent_sample held.value) (λ t w. sample_lent held.value ((call.answer t).1 w)) (λ is. refl) (of_said (λ says. says.0) call)
+
+  pub unboxed_visit : (e : ErrorKind) → Call source order (ReadsBorrowed sample boxed_value IsBorrowedBox) a (Err e) b → Call source order (VisitsType IsSampleOf m type.Sample) a (Err e) b
+  unboxed_visit e call = unvisited IsSampleOf m sample boxed_value sample_is true (λ t w no. let never : true ≡ false = no in absurd (cc)) (of_said (λ says. says.0) call)
+
+  -- one that was read into the place of another
+  pub placed_visit : (s : Sample) → Call source order (ReadsBorrowed sample sample_value IsBorrowedSample) a (Ok s) b → Call source order (VisitsType (λ seen (x : Unit {0}). IsSampleIn seen s) m type.Sample) a (Ok tt) b
+  placed_visit s call = visited (λ seen (x : Unit {0}). IsSampleIn seen s) m sample sample_value sample_is (is_lent_sample s) true (refl, lent_sample s) (λ t w. sample_lent s ((call.answer t).1 w)) (λ is. refl) (of_said (λ says. says.0) call)
+
+  pub unplaced_visit : (s : Sample) (e : ErrorKind) → Call source order (ReadsBorrowed sample sample_value IsBorrowedSample) a (Err e) b → Call source order (VisitsType (λ seen (x : Unit {0}). IsSampleIn seen s) m type.Sample) a (Err e) b
+  unplaced_visit s e call = unvisited (λ seen (x : Unit {0}). IsSampleIn seen s) m sample sample_value sample_is true (λ t w no. let never : true ≡ false = no in absurd (cc)) (of_said (λ says. says.0) call)
 
 -- a sample in its box is the record of its body
 module _ {I E : Type 0} {source : I → Source} {order : E → Order} (m : MetadataValue) {a b : Reader I E} where

@@ -37,6 +37,10 @@ pub record FrameParts : Type 0 where
   pub metadata : MetadataValue
   pub body : List ℕ
 
+-- the parts of a frame with that metadata and that body
+abbrev pub frame_parts : MetadataValue → List ℕ → FrameParts
+frame_parts m bytes = record { metadata = m; body = bytes }
+
 -- the bytes of the sample id, of a frame whose header is followed by these bytes and no others
 abbrev pub id_bytes : Configuration → perf_event_header → List ℕ → List ℕ
 id_bytes c h bytes = drop (length bytes - id_length c h.type_) bytes

@@ -5,6 +5,10 @@ pub mod RecordTypes
 pub mod Bodies
 pub mod Frames
 pub mod Answers
+pub mod FrameNumbers
 pub mod Visits
 pub mod Shown
+pub mod FrameReadings
+pub mod Sights
+pub mod FrameList
 pub mod Words

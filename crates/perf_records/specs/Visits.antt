@@ -72,10 +72,13 @@ GivesRecord seen (Err e) = (e ≡ OutOfMemory) × IsSample seen.value
 abbrev pub IsRecordOf : Event → Record → Type 0
 IsRecordOf seen r = (record_value r ≡ seen.value) × (IsTrue seen.lent → IsBorrowed r)
 
+-- the sample of that value, of which nothing was copied if the event's was not
+abbrev pub IsSampleIn : Event → Sample → Type 0
+IsSampleIn seen s = (sample_is (sample_value s) ≡ seen.value) × (IsTrue seen.lent → IsBorrowedSample s)
+
 -- the sample of that value in a box, of which nothing was copied if the event's was not
 abbrev pub IsSampleOf : Event → Box Sample Global → Type 0
-IsSampleOf seen held =
-    (sample_is (sample_value held.value) ≡ seen.value) × (IsTrue seen.lent → IsBorrowedSample held.value)
+IsSampleOf seen held = IsSampleIn seen held.value
 
 -- what a record is answered by belongs to each event that it is the record of
 abbrev pub MakesRecord : {O : Type 0} → (Event → O → Type 0) → Record → O → Type 0

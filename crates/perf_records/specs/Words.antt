@@ -12,7 +12,7 @@ pub use Rattle.perf_reader.specs.Reading.{is_external, one_if_refused}
 pub use Rattle.perf_reader.specs.Words.{Call, kinds, error_kinds, TakesNoMemory, input_of, config_of}
 pub use Rattle.perf_reader.specs.Words.{reads_of, refused, refusal_kind}
 pub use Rattle.perf_records.specs.Answers.{SplitsBehind, SaysBehind, SaysFrame}
-pub use Rattle.perf_records.specs.Answers.{body_length, answered_parts, parts_of, id_reads}
+pub use Rattle.perf_records.specs.Answers.{body_length, answered_parts, frame_parts, parts_of, id_reads}
 pub use Rattle.perf_records.specs.Answers.{LeavesAllOrBehind, RefusesHeader, SaysRecord}
 pub use Rattle.perf_records.specs.Bodies.{body, wants_memory}
 pub use Rattle.perf_records.specs.Metadata.{MetadataValue, carries_sample_id, id_of_type, id_length}
@@ -26,9 +26,10 @@ pub use Rattle.perf_records.specs.Records.{cgroup_value, comm_value, ksymbol_val
 pub use Rattle.perf_records.specs.Records.{mmap_value, namespaces_value, sample_value, task_read}
 pub use Rattle.perf_records.specs.Records.{text_poke_value}
 pub use Rattle.perf_records.specs.Visits.{Event, event, is_lent_sample, is_lent_text_poke}
-pub use Rattle.perf_records.specs.Visits.{GivesRecord, IsRecordOf, IsSampleOf, MakesRecord, MakesNoSample}
+pub use Rattle.perf_records.specs.Visits.{GivesRecord, IsRecordOf, IsSampleOf, IsSampleIn}
+pub use Rattle.perf_records.specs.Visits.{MakesRecord, MakesNoSample}
 pub use Rattle.perf_records.specs.Visits.{VisitsType, VisitsUnread, VisitsBody}
 pub use Rattle.perf_records.specs.Visits.{VisitsAll, VisitsBehind, VisitsFrame, BelongsTo}
 pub use Rattle.perf_records.specs.Visits.{GivesOrLeavesOut}
-pub use Rattle.perf_records.specs.Shown.{VisitsBytes, ReadsBytes, boxed_kinds}
+pub use Rattle.perf_records.specs.Shown.{VisitsBytes}
 pub use Rattle.perf_sample_types.specs.SampleGroups.{IsBorrowedSample}

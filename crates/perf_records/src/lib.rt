@@ -2,12 +2,17 @@
 #![tactic(auto)]
 
 pub mod body;
+pub mod body_reader;
 pub mod frame;
-pub mod frame_shown;
+pub mod frame_after;
+pub mod frame_handler;
+pub mod frame_list;
+mod frame_numbers;
+mod frame_readings;
 pub mod metadata;
 pub mod partial;
+pub mod parts;
 pub mod record;
-mod record_body;
 mod record_clone;
 pub mod record_type;
 pub mod record_visitor;

@@ -1,4 +1,4 @@
-use Rattle.std.proofs.Common.{Err, sym, subst}
+use Rattle.std.proofs.Common.{Ok, Err, sym, subst}
 use Rattle.perf_base.specs.Refusals.{refusal_kind}
 use Rattle.perf_base.specs.declared.error.ErrorKind.{ErrorKind}
 use Rattle.perf_buffers.specs.declared.outer.Outer.{Outer}
@@ -6,6 +6,8 @@ use Rattle.perf_reader.specs.Calls.{Call}
 use Rattle.perf_reader.specs.Reading.{of_layout}
 use Rattle.perf_parser.specs.Runs.{SaysBehind}
 use Rattle.std.specs.Prelude.{IsTrue}
+use Rattle.perf_records.proofs.Making.{body_borrows}
+use Rattle.perf_records.proofs.Shown.{says_call}
 use Rattle.perf_parser.proofs.Ending.{same_call}
 use Rattle.perf_parser.proofs.runs.list_answer.Goals as goal
 
@@ -15,12 +17,22 @@ returns-in-Ok-list_refused-clause-listed g c =
     let after = c.in-Ok-list_refused.ensures in
     let listed = after.listed in let e = listed.0 in
     let kind = refusal_kind c.in-Err.refusal in
-    let old = c.args.reader.now in let mid = c.read_shown.new.reader in let new = c.list_refused.new.reader in
-    let call = same_call source order (SaysBehind c.args.header) old mid new (Err kind) after.buf after.config after.reads c.in-Err.ensures.call in
+    let old = c.args.reader.now in let mid = c.read_after.new.reader in let new = c.list_refused.new.reader in
+    let call = same_call source order (SaysBehind c.args.header) old mid new (Err kind) after.buf after.config after.reads (says_call c.args.header c.in-Err.ensures.call) in
     let P : ErrorKind → Type 0 = λ k. Call (λ (o : Outer g.row.B.Denot). source o.buf) order (SaysBehind c.args.header) old (Err k) new in (
       Err e,
       listed.1,
       (λ whole. tt),
       subst (λ k. IsTrue (of_layout k)) (sym listed.2.kind_is) listed.3,
       subst P (sym listed.2.kind_is) call,
+    )
+
+pub returns-in-Ok-clause-listed : goal.returns-in-Ok-clause-listed
+returns-in-Ok-clause-listed g c =
+    let e = c.in-Ok.ensures in (
+      Ok c.in-Ok.record,
+      c.list_record.ensures,
+      (λ whole. body_borrows c.args.header (g.B.ParseBuf.source c.args.reader.now.input.buf).whole c.in-Ok.record e.event whole),
+      tt,
+      says_call c.args.header e.call,
     )

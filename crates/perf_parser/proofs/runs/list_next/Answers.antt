@@ -8,7 +8,7 @@ use Rattle.perf_base.specs.declared.error.ErrorKind.{ErrorKind}
 use Rattle.perf_reader.specs.Meaning.{Meaning, meaning}
 use Rattle.perf_reader.proofs.Paying.{keeps_none}
 use Rattle.perf_parser.specs.Runs.{Pairs, KeepsRun, refused_count}
-use Rattle.perf_parser.proofs.Ending.{stops_behind, run_more, run_stops, run_lists, said_frame}
+use Rattle.perf_parser.proofs.Ending.{stops_behind, stops_spent, run_more, run_stops, run_lists, said_frame}
 use Rattle.perf_parser.proofs.runs.list_next.Goals as goal
 
 pub returns-in-Err-clause-keeps : goal.returns-in-Err-clause-keeps
@@ -61,3 +61,14 @@ returns-in-Ok-list_frame-clause-keeps g c = λ start k.
     let h = c.in-Ok.header in let read = c.in-Ok-list_frame.ensures.listed in let r = read.0 in
     let pushed : c.list_frame.new.frames.items ≡ c.args.frames.now.items ++ (h, r) ∷ [] = read.1 in
     run_lists start old new c.args.frames.now.items c.list_frame.new.frames.items h r pushed read.3 k (read.4.keeps old (c.in-Ok.ensures.call.keeps old (keeps_none old)))
+
+pub returns-in-Err-clause-between : goal.returns-in-Err-clause-between
+returns-in-Err-clause-between g c = λ told whole kind. absurd (c.in-Err.ensures.memory told kind)
+
+pub returns-in-Err-list_frame-clause-between : goal.returns-in-Err-list_frame-clause-between
+returns-in-Err-list_frame-clause-between g c = λ told whole.
+    let old : Meaning = meaning (λ (o : Outer g.row.B.Denot). g.B.ParseBuf.source o.buf) g.E.Endian.order c.args.reader.now in
+    let mid : Meaning = meaning (λ (o : Outer g.row.B.Denot). g.B.ParseBuf.source o.buf) g.E.Endian.order c.read_header.new.reader in
+    let new : Meaning = meaning (λ (o : Outer g.row.B.Denot). g.B.ParseBuf.source o.buf) g.E.Endian.order c.list_frame.new.reader in
+    let call = c.in-Ok.ensures.call in let head = call.answer told in
+    stops_spent old mid new c.in-Ok.header c.in-Err-list_frame.refusal head.1 head.2 (c.in-Err-list_frame.ensures.spent (call.told told) (call.whole ∙ whole))

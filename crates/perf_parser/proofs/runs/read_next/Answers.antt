@@ -1,11 +1,11 @@
-use Rattle.std.proofs.Common.{◌+◌, sym, ap, subst, Err, None}
+use Rattle.std.proofs.Common.{◌+◌, sym, ◌∙◌, ap, subst, Err, None, inl}
 use Rattle.perf_base.specs.Configured.{configuration_of, endian_of}
 use Rattle.perf_buffers.specs.declared.outer.Outer.{Outer}
 use Rattle.perf_reader.specs.Meaning.{Meaning, meaning}
 use Rattle.perf_reader.proofs.Paying.{keeps_none}
 use Rattle.perf_parser.specs.Runs.{Pairs, KeepsRun, ListsNext, refused_count, stopped_by}
 use Rattle.perf_parser.proofs.Ending.{run_stops}
-use Rattle.perf_parser.proofs.Meeting.{looked_lists, looked_keeps}
+use Rattle.perf_parser.proofs.Meeting.{looked_lists, looked_keeps, looked_between}
 use Rattle.perf_parser.proofs.runs.read_next.Goals as goal
 
 pub returns-in-Err-clause-keeps : goal.returns-in-Err-clause-keeps
@@ -42,3 +42,16 @@ returns-in-Err-list_next-clause-keeps g c = λ start k.
     let mid : Meaning = meaning source g.E.Endian.order c.make_room.new.reader in
     let P : Pairs → Type 0 = λ xs. KeepsRun start (refused_count xs) None mid in
     c.in-Err-list_next.ensures.keeps start (subst P (sym c.in-Ok.ensures.items) (looked_keeps start old mid (refused_count c.args.frames.now.items) k (c.in-Ok.ensures.call.keeps old (keeps_none old))))
+
+pub returns-in-Err-clause-between : goal.returns-in-Err-clause-between
+returns-in-Err-clause-between g c = λ told whole kind. inl (c.in-Err.ensures.call.answer told)
+
+pub returns-in-Err-list_next-clause-between : goal.returns-in-Err-list_next-clause-between
+returns-in-Err-list_next-clause-between g c = λ told whole.
+    let source = λ (o : Outer g.row.B.Denot). g.B.ParseBuf.source o.buf in
+    let old : Meaning = meaning source g.E.Endian.order c.args.reader.now in
+    let mid : Meaning = meaning source g.E.Endian.order c.make_room.new.reader in
+    let new : Meaning = meaning source g.E.Endian.order c.list_next.new.reader in
+    let a = c.in-Ok.ensures.call in let same = a.answer told in
+    looked_between old mid new (ap configuration_of a.config) (ap (λ k. g.E.Endian.order (endian_of k)) a.config) same.0 same.1 c.in-Err-list_next.stop
+    (c.in-Err-list_next.ensures.between (a.told told) (a.whole ∙ whole))

@@ -6,9 +6,9 @@ use Rattle.perf_reader.specs.Meaning as reader
 use Rattle.perf_reader.specs.Meaning.{Meaning}
 use Rattle.perf_records.specs.Answers.{answers}
 use Rattle.perf_parser.specs.Meaning.{meaning}
-use Rattle.perf_parser.specs.Runs.{Pairs, seen_answers, AllBorrowed, EndsWith, CountsReads, KeepsRun, refused_count, one_if_ended, end_refusal}
+use Rattle.perf_parser.specs.Runs.{Pairs, seen_answers, AllBorrowed, EndsWith, EndsBetween, CountsReads, KeepsRun, refused_count, one_if_ended, end_refusal}
 use Rattle.perf_parser.proofs.Ending.{run_none, run_ends, run_limit, same_meaning}
-use Rattle.perf_parser.proofs.Listing.{IsSoFar, listed_first, none_so_far, one_more_borrowed, one_more_so_far, ends_with, counts_reads}
+use Rattle.perf_parser.proofs.Listing.{IsSoFar, behind_so_far, listed_first, none_so_far, one_more_borrowed, one_more_so_far, ends_with, ends_between, counts_reads}
 use Rattle.perf_parser.proofs.runs.read_records.Goals as goal
 
 pub loop-init : goal.loop-init
@@ -45,9 +45,25 @@ returns-in-Err-clause-end g c = λ told.
     let count : length c.read_next.new.frames.items ≡ c.loop.counter = ap length c.in-Err.ensures.kept ∙ i.1 in
     let order : here.order ≡ start.order = ap (λ (k : ParseConfig g.row.E.Denot). g.E.Endian.order (endian_of k)) i.0 in
     let ended : EndsWith start.order c.args.limit start.source.left c.loop.counter c.end_of-end.result new.source.left =
-    ends_with start here new c.args.limit c.loop.frames.items c.loop.counter c.in-Err.stop c.end_of-end.result (i.4 told) c.loop-test.true order (c.in-Err.ensures.stop (i.2.buffer.3 told)) after.end in
+    ends_with start here new c.args.limit c.loop.counter c.in-Err.stop c.end_of-end.result (behind_so_far start c.loop.frames.items c.loop.counter here (i.4 told)) c.loop-test.true order (c.in-Err.ensures.stop (i.2.buffer.3 told)) after.end in
     subst (λ (m : Meaning). EndsWith start.order c.args.limit start.source.left (length c.read_next.new.frames.items) c.end_of-end.result m.source.left) (sym same)
     (subst (λ (k : ℕ). EndsWith start.order c.args.limit start.source.left k c.end_of-end.result new.source.left) (sym count) ended)
+
+pub returns-in-Err-clause-between : goal.returns-in-Err-clause-between
+returns-in-Err-clause-between g c = λ told whole.
+    let start : Meaning = meaning g.B.ParseBuf.source g.E.Endian.order c.args.parser.now in
+    let here : Meaning = meaning g.B.ParseBuf.source g.E.Endian.order c.loop.parser in
+    let new : Meaning = reader.meaning (λ (o : Outer g.row.B.Denot). g.B.ParseBuf.source o.buf) g.E.Endian.order c.read_next.new.reader in
+    let last : Meaning = reader.meaning (λ (o : Outer g.row.B.Denot). g.B.ParseBuf.source o.buf) g.E.Endian.order c.end_of-end.new.reader in
+    let i = c.loop.invariant in let after = c.end_of-end.ensures in
+    let same : last ≡ new = same_meaning g.B.ParseBuf.source g.E.Endian.order c.end_of-end.new.reader c.read_next.new.reader after.buf after.config after.reads in
+    let count : length c.read_next.new.frames.items ≡ c.loop.counter = ap length c.in-Err.ensures.kept ∙ i.1 in
+    let order : here.order ≡ start.order = ap (λ (k : ParseConfig g.row.E.Denot). g.E.Endian.order (endian_of k)) i.0 in
+    let ended : EndsBetween start.order start.source.left c.loop.counter c.end_of-end.result new.source.left =
+    ends_between start here new c.loop.counter c.in-Err.stop c.end_of-end.result (behind_so_far start c.loop.frames.items c.loop.counter here (i.4 told)) order
+    (c.in-Err.ensures.between (i.2.buffer.3 told) (i.2.buffer.0 ∙ whole)) after.end in
+    subst (λ (m : Meaning). EndsBetween start.order start.source.left (length c.read_next.new.frames.items) c.end_of-end.result m.source.left) (sym same)
+    (subst (λ (k : ℕ). EndsBetween start.order start.source.left k c.end_of-end.result new.source.left) (sym count) ended)
 
 pub returns-in-Err-clause-reads : goal.returns-in-Err-clause-reads
 returns-in-Err-clause-reads g c = λ told.
@@ -112,3 +128,6 @@ returns-clause-count g c = search rules steps 500000
 
 pub returns-clause-end : goal.returns-clause-end
 returns-clause-end g c = search rules steps 500000
+
+pub returns-clause-between : goal.returns-clause-between
+returns-clause-between g c = λ told whole kind. absurd (cc)

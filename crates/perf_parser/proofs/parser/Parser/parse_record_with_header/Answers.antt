@@ -9,7 +9,7 @@ pub returns-in-Ok-clause-within : goal.returns-in-Ok-clause-within
 returns-in-Ok-clause-within g c = c.in-Ok.ensures.within
 
 pub returns-in-Ok-clause-event : goal.returns-in-Ok-clause-event
-returns-in-Ok-clause-event g c = search rules steps 200000
+returns-in-Ok-clause-event g c = c.in-Ok.ensures.event
 
 pub returns-in-Ok-clause-whole_memory : goal.returns-in-Ok-clause-whole_memory
 returns-in-Ok-clause-whole_memory g c = c.in-Ok.ensures.whole_memory
@@ -71,4 +71,4 @@ returns-in-Err-clause-spent g c = λ told whole out.
 pub returns-in-Err-clause-call : goal.returns-in-Err-clause-call
 returns-in-Err-clause-call g c =
     let same = c.answer.ensures in
-    answered _ _ _ _ _ c.visit_behind.new.reader _ _ c.in-Err.ensures.call same.error.kind_is same.buf same.config same.reads
+    answered _ _ _ _ _ c.read_after.new.reader _ _ c.in-Err.ensures.call same.error.kind_is same.buf same.config same.reads

@@ -1,0 +1,84 @@
+-- What a run over frames has handed out so far.
+use Rattle.std.proofs.Common.{◌≡◌, ℕ, zero, suc, ◌+◌, ◌*◌, ◌<◌, ◌≤◌, Bool, List, [], ◌∷◌, ◌++◌, length, take, drop, arith, refl, sym, ◌∙◌, ap, subst, true, false, nat_lt, inl, inr, Some, None}
+use Rattle.std.specs.Prelude.{IsTrue, Option}
+use Rattle.std.proofs.lemmas.Bool.{cases_lt, lt-ltb, le-ltb}
+use Rattle.std.proofs.lemmas.List.{length-append, length-take-le, take_all, drop_all, take-take, drop-take}
+use Rattle.perf_base.specs.Header.{header_of}
+use Rattle.perf_base.specs.Order.{Order}
+use Rattle.perf_base.specs.declared.sys.perf_event_header.{perf_event_header}
+use Rattle.perf_buffers.specs.Buffer.{Source}
+use Rattle.perf_buffers.specs.Taking.{Moves}
+use Rattle.perf_buffers.proofs.Taking.{takes_moves}
+use Rattle.perf_records.proofs.Keeping.{within_all}
+use Rattle.perf_reader.specs.Meaning.{Meaning}
+use Rattle.perf_records.specs.Answers.{body_length}
+use Rattle.perf_records.specs.Frames.{frame_length, first_frames, behind_frames}
+use Rattle.perf_records.specs.Sights.{Sight, bad, whole, sight_after, sight_in}
+use Rattle.perf_records.proofs.Headers.{frame_body, header_alone}
+use Rattle.perf_records.proofs.Handing.{sight_take, sight_alone}
+use Rattle.perf_parser.specs.FrameRuns.{Handed, HandsNext, HandsFirst, CountsHeaders}
+use Rattle.perf_parser.specs.Runs.{StopsAt, IsEndOf}
+use Rattle.perf_parser.specs.declared.runs.RunEnd.{RunEnd}
+use Rattle.perf_parser.specs.declared.runs.Stop.{Stop}
+use Rattle.perf_parser.specs.declared.runs.Stop.TheVariants as stop
+use Rattle.perf_parser.proofs.Listing.{AreThere, IsBehind, frames_on, behind_on}
+
+-- bytes that were dropped were taken from the front
+pub moved_by : (n : ℕ) (old new : Source) → new.left ≡ drop n old.left → Moves old new
+moved_by n old new p = elim (cases_lt (length old.left) n) [
+  | inl short ↦ (within_all old new n (omega arith) (p ∙ drop_all n old.left (omega arith))).1
+  | inr fits ↦ takes_moves old new n (fits, p)
+]
+
+module _ {S : Type 0} (gets : S → Sight → Bool → S → Type 0) (o : Order) (all : Bool) where
+  -- one frame more
+  pub handed_on : (frames : List (List ℕ)) (frame : List ℕ) (was mid now : S) (go lasting : Bool) → Handed gets o all was frames true mid → (IsTrue all → IsTrue lasting) →
+      gets mid (sight_in o frame lasting) go now → Handed gets o all was (frames ++ frame ∷ []) go now
+  handed_on [] frame was mid now true lasting p lasts got = (lasting, lasts, inl (now, subst (λ s. gets s (sight_in o frame lasting) true now) p.0 got, (refl, refl)))
+  handed_on [] frame was mid now false lasting p lasts got = (lasting, lasts, inr (subst (λ s. gets s (sight_in o frame lasting) false now) p.0 got, refl, refl))
+  handed_on (x ∷ xs) frame was mid now go lasting p lasts got = (
+    p.0,
+    p.1,
+    elim p.2 [
+      | inl more ↦ inl (more.0, more.1, handed_on xs frame more.0 mid now go lasting more.2 lasts got)
+      | inr last ↦ let never : true ≡ false = last.2 in absurd (cc)
+    ],
+  )
+
+-- These first k frames, which are all there, were handed out; this is left after them, and two reads were made for each.
+pub record HandedSoFar {S : Type 0} (gets : S → Sight → Bool → S → Type 0) (start : Meaning) (was : S) (k : ℕ) (here : Meaning) (go : Bool) (now : S) : Type 0 where
+  pub handed : Handed gets start.order start.source.whole was (first_frames start.order k start.source.left) go now
+  pub behind : IsBehind start k here
+  pub reads_are : here.reads ≡ start.reads + 2 * k
+
+pub none_handed : {S : Type 0} (gets : S → Sight → Bool → S → Type 0) (start : Meaning) (was : S) → HandedSoFar gets start was 0 start true was
+none_handed gets start was = record { handed = (refl, refl); behind = record { there = refl; left_is = refl }; reads_are = omega arith }
+
+pub one_more_handed : {S : Type 0} (gets : S → Sight → Bool → S → Type 0) (start here new : Meaning) (was mid now : S) (k : ℕ) (go : Bool) → here.order ≡ start.order → here.source.whole ≡ start.source.whole → IsTrue here.source.told →
+    HandedSoFar gets start was k here true mid → HandsNext gets here mid go new now → HandedSoFar gets start was (k + 1) new go now
+one_more_handed {S} gets start here new was mid now k go order same told so_far next =
+    let o : Order = start.order in let bytes : List ℕ = start.source.left in let left : List ℕ = here.source.left in
+    let n = next told in
+    let step : List ℕ = take (frame_length o left) left in
+    let behind : left ≡ behind_frames o k bytes = so_far.behind.left_is in
+    let enough : 8 ≤ length (behind_frames o k bytes) = subst (λ (xs : List ℕ). 8 ≤ length xs) behind n.0 in
+    let grown : first_frames o (k + 1) bytes ≡ first_frames o k bytes ++ step ∷ [] =
+    frames_on o k bytes so_far.behind.there enough ∙ ap (λ xs. first_frames o k bytes ++ take (frame_length o xs) xs ∷ []) (sym behind) in
+    let P : List (List ℕ) → Type 0 = λ xs. Handed gets o start.source.whole was xs go now in
+    let sight : sight_in here.order left n.1.0 ≡ sight_in o step n.1.0 = ap (λ (x : Order). sight_in x left n.1.0) order ∙ sym (sight_alone o left n.1.0) in
+    let got : gets mid (sight_in o step n.1.0) go now = subst (λ x. gets mid x go now) sight n.1.2 in
+    let size : drop (frame_length here.order left) left ≡ drop (frame_length o left) left = ap (λ (x : Order). drop (frame_length x left) left) order in
+    record {
+      handed = subst P (sym grown) (handed_on gets o start.source.whole (first_frames o k bytes) step was mid now go n.1.0 so_far.handed (λ is. n.1.1 (subst IsTrue (sym same) is)) got);
+      behind = record {
+        there = ap length grown ∙ length-append (first_frames o k bytes) (step ∷ []) ∙ ap (λ m. m + 1) so_far.behind.there;
+        left_is = n.2 ∙ size ∙ ap (λ xs. drop (frame_length o xs) xs) behind ∙ sym (behind_on o k bytes);
+      };
+      reads_are = omega (arith, n.3, so_far.reads_are);
+    }
+
+-- how many reads a run made that stopped so
+pub counts_headers : (start here new : Meaning) (k : ℕ) (s : Stop) (e : RunEnd) → here.reads ≡ start.reads + 2 * k → here.reads ≤ new.reads → StopsAt here s new → IsEndOf s e → CountsHeaders k (Some e) start.reads new.reads
+counts_headers start here new k stop.Done e reads more p is = subst (λ (x : RunEnd). CountsHeaders k (Some x) start.reads new.reads) (sym is) (omega (arith, p.2, reads))
+counts_headers start here new k stop.CutHeader e reads more p is = subst (λ (x : RunEnd). CountsHeaders k (Some x) start.reads new.reads) (sym is) (omega (arith, p.3, reads))
+counts_headers start here new k (stop.Refused r) e reads more p is = subst (λ (x : RunEnd). CountsHeaders k (Some x) start.reads new.reads) (sym is.1) (omega (arith, more, reads))

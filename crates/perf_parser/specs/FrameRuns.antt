@@ -1,0 +1,74 @@
+-- What a run over frames hands out, how it ends, what it leaves, and how many elementary reads it makes.
+use Rattle.std.specs.Prelude.{Option, Some, None, true, false, Bool, IsTrue, ◌≡◌, ◌⊎◌, ℕ, ◌+◌, ◌*◌, ◌<◌, ◌≤◌}
+use Rattle.std.specs.Prelude.{List, [], ◌∷◌, length, drop}
+use Rattle.perf_base.specs.Order.{Order}
+use Rattle.perf_base.specs.declared.error.ErrorKind.{ErrorKind}
+use Rattle.perf_reader.specs.Meaning.{Meaning}
+use Rattle.perf_records.specs.Frames.{frame_length, first_frames, behind_frames}
+use Rattle.perf_records.specs.Sights.{Sight, sight_in}
+use Rattle.perf_parser.specs.Runs.{EndsWith, end_refusal, one_if_ended}
+use Rattle.perf_parser.specs.declared.runs.RunEnd.{RunEnd}
+use Rattle.perf_parser.specs.declared.runs.RunEnd.TheVariants as end
+
+-- A handler was handed these frames, one after the other: what stands at each, by its bytes, which last
+-- as long as the input where the buffer is whole. It went on after each but perhaps the last, after
+-- which it returned this.
+abbrev pub Handed : {S : Type 0} → (S → Sight → Bool → S → Type 0) → Order → (whole : Bool) → S →
+    List (List ℕ) → Bool → S → Type 0
+Handed gets o whole was [] go now = (now ≡ was) × (go ≡ true)
+Handed {S} gets o whole was (frame ∷ frames) go now =
+    (lasting : Bool) × (IsTrue whole → IsTrue lasting)
+    × (((mid : S) × gets was (sight_in o frame lasting) true mid
+    × Handed gets o whole mid frames go now)
+    ⊎ (gets was (sight_in o frame lasting) false now × (frames ≡ []) × (go ≡ false)))
+
+-- the handler went on
+abbrev pub went_on : Option RunEnd → Bool
+went_on (Some e) = true
+went_on None = false
+
+-- the handler got the first count frames, which are all there
+abbrev pub HandsFirst : {S : Type 0} → (S → Sight → Bool → S → Type 0) → Meaning → (count : ℕ) →
+    Option RunEnd → S → S → Type 0
+HandsFirst gets old count e was now =
+    (length (first_frames old.order count old.source.left) ≡ count)
+    × Handed gets old.order old.source.whole was
+    (first_frames old.order count old.source.left) (went_on e) now
+
+-- How a run ends that handed over count frames of these bytes, and what it leaves: as a run that lists
+-- them, or by its handler after the last of them.
+abbrev pub EndsFrames : Order → (limit : ℕ) → List ℕ → (count : ℕ) → Option RunEnd → List ℕ → Type 0
+EndsFrames o limit bytes count (Some e) left = EndsWith o limit bytes count e left
+EndsFrames o limit bytes count None left =
+    (0 < count) × (count ≤ limit) × (left ≡ behind_frames o count bytes)
+
+-- Two reads for each header, and those of its end: one more where nothing is left, two where a header is
+-- cut; those of a fault are bounded alone.
+abbrev pub CountsHeaders : (count : ℕ) → Option RunEnd → (old new : ℕ) → Type 0
+CountsHeaders count None old new = new ≡ old + 2 * count
+CountsHeaders count (Some end.Limit) old new = new ≡ old + 2 * count
+CountsHeaders count (Some end.Done) old new = new ≡ old + 2 * count + 1
+CountsHeaders count (Some end.CutHeader) old new = new ≡ old + 2 * count + 2
+CountsHeaders count (Some (end.Fault e)) old new = old + 2 * count ≤ new
+
+-- the kind of the fault that ended it, if one did
+abbrev pub frames_refusal : Option RunEnd → Option ErrorKind
+frames_refusal None = None
+frames_refusal (Some e) = end_refusal e
+
+-- one where it ended before its limit, and not by its handler
+abbrev pub one_if_run_ended : Option RunEnd → ℕ
+one_if_run_ended None = 0
+one_if_run_ended (Some e) = one_if_ended e
+
+-- ---- one frame of it
+
+-- The next frame was handed over, and taken.
+abbrev pub HandsNext : {S : Type 0} → (S → Sight → Bool → S → Type 0) → Meaning → S → Bool → Meaning →
+    S → Type 0
+HandsNext gets old was go new now = IsTrue old.source.told →
+    (8 ≤ length old.source.left)
+    × ((lasting : Bool) × (IsTrue old.source.whole → IsTrue lasting)
+    × gets was (sight_in old.order old.source.left lasting) go now)
+    × (new.source.left ≡ drop (frame_length old.order old.source.left) old.source.left)
+    × (new.reads ≡ old.reads + 2)

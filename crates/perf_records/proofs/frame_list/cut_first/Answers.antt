@@ -1,0 +1,33 @@
+use Rattle.std.proofs.Common.{rules, ◌≡◌, ℕ, ◌-◌, ◌≤◌, List, true, take, drop, length, max, arith, refl, sym, ◌∙◌, ap, subst}
+use Rattle.std.proofs.lemmas.Bool.Decides.{nat_tests}
+use Rattle.std.proofs.lemmas.List.{take_all, length-drop}
+use Rattle.perf_base.specs.Header.{header_of}
+use Rattle.perf_base.specs.Order.{Order}
+use Rattle.perf_base.specs.declared.sys.perf_event_header.{perf_event_header}
+use Rattle.perf_buffers.specs.Buffer.{chunk_bytes, lasts}
+use Rattle.perf_records.specs.Answers.{body_length}
+use Rattle.perf_records.specs.Frames.{frame_length}
+use Rattle.perf_records.specs.Sights.{Sight, whole, sight_after, sight_in}
+use Rattle.perf_records.proofs.Headers.{frame_behind, header_take}
+use Rattle.perf_records.proofs.Handing.{finished}
+use Rattle.perf_records.proofs.frame_list.cut_first.Goals as goal
+
+pub returns : goal.returns
+returns g c =
+    let o : Order = g.E.Endian.order c.args.order.now in
+    let bytes : List ℕ = c.args.bytes.now in
+    let h : perf_event_header = c.header_in-header.result in
+    let fits : 8 ≤ length bytes = c.in-Some.ensures.variant.0 refl in
+    let front = c.in-Some.ensures.cases in
+    let e : h ≡ header_of o bytes = c.header_in-header.ensures ∙ ap (header_of o) front.same ∙ header_take o 0 bytes in
+    let all : take (length bytes - 8) (drop 8 bytes) ≡ drop 8 bytes = take_all (length bytes - 8) (drop 8 bytes) (omega (arith, length-drop 8 bytes)) in
+    let n = c.new-2.ensures in
+    let s = c.split_at.ensures in
+    let long : body_length h ≤ length (drop 8 bytes) = subst (λ (xs : List ℕ). body_length h ≤ length xs) all c.if-rest-len.false in
+    let body : chunk_bytes c.new-2.result.rest ≡ take (body_length h) (drop 8 bytes) = n.rest ∙ s.front ∙ ap (take (body_length h)) all in
+    let seen : whole c.new-2.result.header (chunk_bytes c.new-2.result.rest) (lasts c.new-2.result.rest) ≡ whole h (take (body_length h) (drop 8 bytes)) true =
+    ap (λ k. whole k (chunk_bytes c.new-2.result.rest) (lasts c.new-2.result.rest)) n.header ∙ ap (λ xs. whole h xs (lasts c.new-2.result.rest)) body ∙ ap (λ b. whole h (take (body_length h) (drop 8 bytes)) b) n.lasts in (
+      fits,
+      seen ∙ sym (finished h (drop 8 bytes) true c.if-header-lt8.false long) ∙ ap (λ k. sight_after k (drop 8 bytes) true) e,
+      frame_behind o bytes (drop 8 bytes) c.split_at.result.1.now h e refl (s.back ∙ ap (drop (body_length h)) all),
+    )

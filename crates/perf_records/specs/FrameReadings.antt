@@ -1,0 +1,50 @@
+-- What the readings of one whole frame return: by its header, the bytes after that, and whether they
+-- last as long as the input.
+use Rattle.std.specs.Prelude.{Result, Ok, Err, ◌≡◌, ◌≢◌, ◌<◌, List, ℕ, Bool, true, false, IsTrue}
+use Rattle.perf_base.specs.Configuration.{Configuration}
+use Rattle.perf_base.specs.Errors.{kind_of}
+use Rattle.perf_base.specs.Order.{Order}
+use Rattle.perf_base.specs.Refusals.{IsAnswerOf}
+use Rattle.perf_base.specs.declared.error.ErrorKind.{ErrorKind}
+use Rattle.perf_base.specs.declared.error.ErrorKind.TheVariants.{External, OutOfMemory}
+use Rattle.perf_base.specs.declared.error.ParseError.{ParseError}
+use Rattle.perf_base.specs.declared.refusal.Refusal.TheVariants.{NoRoomForId}
+use Rattle.perf_base.specs.declared.sys.perf_event_header.{perf_event_header}
+use Rattle.perf_reader.specs.Reading.{of_layout}
+use Rattle.perf_records.specs.Answers.{FrameParts, body_length, split_behind, answer_behind}
+use Rattle.perf_records.specs.Bodies.{wants_memory}
+use Rattle.perf_records.specs.Metadata.{MetadataValue, id_length}
+use Rattle.perf_records.specs.Records.{RecordValue}
+use Rattle.perf_records.specs.Visits.{Event, event, IsSampleIn}
+use Rattle.perf_sample_types.specs.declared.sample.Sample.{Sample}
+
+-- what is known of a frame beside its record, where it falls apart
+abbrev pub metadata_in : Result FrameParts ErrorKind → Result MetadataValue ErrorKind
+metadata_in (Ok parts) = Ok parts.metadata
+metadata_in (Err e) = Err e
+
+-- a frame has no room for its sample id
+abbrev pub HasNoRoom : perf_event_header → Configuration → Type 0
+HasNoRoom h c = body_length h < id_length c h.type_
+
+-- What a reading of a whole frame returns. A value belongs to the event of the frame, which is what the
+-- frame says and its metadata, with nothing copied if the bytes last. An error is of the kind that the
+-- frame is refused with, or memory was refused. A frame without room for its sample id has the error
+-- of that. No error is a buffer's fault, and if the bytes last, memory is needed only for a type that
+-- wants it.
+abbrev pub FrameGives : {O : Type 0} → (Event → O → Type 0) → perf_event_header → Configuration →
+    Order → List ℕ → Bool → Result O ParseError → Type 0
+FrameGives gives h c o bytes lasting (Ok output) =
+    (value : RecordValue) × (lent : Bool) × (parts : FrameParts)
+    × gives (event value lent parts.metadata) output
+    × (split_behind c o h bytes ≡ Ok parts) × (answer_behind c o h bytes ≡ Ok value)
+    × (IsTrue lasting → IsTrue lent)
+FrameGives gives h c o bytes lasting (Err e) =
+    (IsTrue (of_layout (kind_of e)) → answer_behind c o h bytes ≡ Err (kind_of e))
+    × (HasNoRoom h c → IsAnswerOf e NoRoomForId)
+    × (kind_of e ≢ External)
+    × (IsTrue lasting → wants_memory h.type_ ≡ false → kind_of e ≢ OutOfMemory)
+
+-- it is said that there is a sample, and that is the event's
+abbrev pub PutsSample : Event → Bool → Sample → Type 0
+PutsSample seen put sample = (put ≡ true) × IsSampleIn seen sample

@@ -1,0 +1,287 @@
+//! What is made of the body of a frame.
+
+ghost use Rattle.std.specs.Prelude.{◌≡◌, ◌≤◌, ◌+◌, ℕ, ⊤, false, length, IsTrue};
+ghost use Rattle.perf_records.specs.Words.{Call, VisitsBody, VisitsAll, IsRecordOf, IsSampleOf, IsSampleIn};
+ghost use Rattle.perf_records.specs.Words.{Event, kinds, input_of, body};
+ghost use Rattle.perf_records.specs.Words.{configuration_of, endian_of, refused, is_external};
+ghost use Rattle.perf_records.specs.Words.{one_if_refused};
+ghost use Rattle.perf_buffers.specs.Words.{chunk_bytes, lasts};
+
+use crate::body::visit_body;
+use crate::metadata::RecordMetadata;
+use crate::record::Record;
+use crate::record_visitor::Recording;
+use crate::visitor::Visitor;
+use perf_base::config::ParseConfig;
+use perf_base::endian::Endian;
+use perf_base::reads::ReadCounter;
+use perf_base::refusal::ReadResult;
+use perf_base::sys::PERF_RECORD_SAMPLE;
+use perf_buffers::input::Input;
+use perf_buffers::loan::Loan;
+use perf_buffers::parsebuf::ParseBufChunk;
+use perf_reader::reader::Reader;
+use perf_sample_types::sample::{Sample, refill_sample};
+use perf_sample_types::sample_boxed::read_boxed_sample;
+use std::alloc::Global;
+use std::boxed::Box;
+
+/// What is made of a body, and of a state of the caller's.
+pub trait OfBody<'p, S>: Drop {
+    /// What is made of it.
+    type Output;
+
+    // the types of the records that it is made of
+    ghost reads: { ℕ → Type 0 };
+
+    // which outputs and new states belong to an event and a state
+    ghost gives: { Event → S → Self.Output → S → Type 0 };
+}
+
+/// What is made of a body, whether its bytes last as long as the input or not.
+pub trait BodyReader<'p, S>: OfBody<'p, S> {
+    /// What is made of the body whose bytes these are, and how many elementary reads that took. Bytes
+    /// after the record do not matter.
+    fn read<E: Endian>(
+        self,
+        alloc: Global,
+        bytes: ParseBufChunk<'_, 'p>,
+        config: ParseConfig<E>,
+        metadata: RecordMetadata,
+        state: &mut S,
+    ) -> (ReadResult<Self::Output>, ReadCounter)
+        ensures answer { Self.reads metadata.ty →
+            VisitsAll (λ seen output. Self.gives seen state.old output state.new) metadata
+            (E.order (endian_of config)) (body (configuration_of config) metadata.ty)
+            (chunk_bytes bytes.entry) (lasts bytes.entry) (kinds result.0) result.1 }
+        ensures faults { Self.reads metadata.ty → is_external (refused (kinds result.0)) ≡ false }
+        ensures cost { Self.reads metadata.ty → result.1 ≤ length (chunk_bytes bytes.entry)
+            + one_if_refused (refused (kinds result.0)) };
+}
+
+/// The same, for one kind of input.
+pub trait ReadBody<'p, S, I: Input<'p>>: OfBody<'p, S> {
+    /// What is made of the body that the reader's input has.
+    fn read_body<E: Endian>(
+        self,
+        reader: &mut Reader<I, E>,
+        metadata: RecordMetadata,
+        state: &mut S,
+    ) -> ReadResult<Self::Output>
+        requires { IsTrue (I.source (input_of reader.old)).told }
+        ensures call { Self.reads metadata.ty → Call I.source E.order
+            (VisitsBody (λ seen output. Self.gives seen state.old output state.new) metadata)
+            reader.old (kinds result) reader.new };
+}
+
+// What is made of a body whose bytes these are, and how many reads that took.
+#[inline]
+fn read_from<'p, S, I: Input<'p> + Drop, E: Endian, M: ReadBody<'p, S, I>>(
+    alloc: Global,
+    bytes: I,
+    config: ParseConfig<E>,
+    metadata: RecordMetadata,
+    made: M,
+    state: &mut S,
+) -> (ReadResult<M::Output>, ReadCounter)
+    requires told { IsTrue (I.source bytes).told }
+    requires inside { (I.source bytes).can_fault ≡ false }
+    ensures answer { M.reads metadata.ty →
+        VisitsAll (λ seen output. M.gives seen state.old output state.new) metadata
+        (E.order (endian_of config)) (body (configuration_of config) metadata.ty)
+        (I.source bytes).left (I.source bytes).whole (kinds result.0) result.1 }
+    ensures faults { M.reads metadata.ty → is_external (refused (kinds result.0)) ≡ false }
+    ensures cost { M.reads metadata.ty → result.1 ≤ length (I.source bytes).left
+        + one_if_refused (refused (kinds result.0)) }
+{
+    let mut reader = Reader::new(alloc, bytes, config);
+    let output = made.read_body(&mut reader, metadata, state);
+    (output, reader.into_reads())
+}
+
+// The same of bytes that last as long as the input, or do not: what is kept of them is borrowed or
+// copied.
+macro_rules! read_either {
+    ($alloc:ident, $bytes:ident, $config:ident, $metadata:ident, $made:ident, $state:ident) => {
+        match $bytes {
+            ParseBufChunk::External(bytes) => {
+                read_from($alloc, bytes, $config, $metadata, $made, $state)
+            }
+            ParseBufChunk::Temporary(bytes) => {
+                read_from($alloc, Loan::new(bytes), $config, $metadata, $made, $state)
+            }
+        }
+    };
+}
+
+/// What a visitor makes of a record.
+#[derive(Drop)]
+pub struct ByVisitor<V> {
+    /// The visitor.
+    pub visitor: V,
+}
+
+impl<'p, V: Visitor<'p>> OfBody<'p, ()> for ByVisitor<V> {
+    type Output = V::Output;
+
+    ghost reads = { λ _. ⊤ };
+
+    ghost gives = { λ seen _ output _. V.gives seen output };
+}
+
+impl<'p, V: Visitor<'p>> BodyReader<'p, ()> for ByVisitor<V> {
+    #[inline]
+    fn read<E: Endian>(
+        self,
+        alloc: Global,
+        bytes: ParseBufChunk<'_, 'p>,
+        config: ParseConfig<E>,
+        metadata: RecordMetadata,
+        state: &mut (),
+    ) -> (ReadResult<Self::Output>, ReadCounter) {
+        read_either!(alloc, bytes, config, metadata, self, state)
+    }
+}
+
+impl<'p, I: Input<'p>, V: Visitor<'p>> ReadBody<'p, (), I> for ByVisitor<V> {
+    #[inline]
+    fn read_body<E: Endian>(
+        self,
+        reader: &mut Reader<I, E>,
+        metadata: RecordMetadata,
+        state: &mut (),
+    ) -> ReadResult<Self::Output> {
+        visit_body(reader, metadata, self.visitor)
+    }
+}
+
+/// The record of a body. A visit by [`Recording`] makes it, except of a sample, which is large: that
+/// is read where it stays, in its box.
+#[derive(Drop)]
+pub struct AsRecord;
+
+impl<'p> OfBody<'p, ()> for AsRecord {
+    type Output = Record<'p>;
+
+    ghost reads = { λ _. ⊤ };
+
+    ghost gives = { λ seen _ output _. IsRecordOf seen output };
+}
+
+impl<'p> BodyReader<'p, ()> for AsRecord {
+    #[inline]
+    fn read<E: Endian>(
+        self,
+        alloc: Global,
+        bytes: ParseBufChunk<'_, 'p>,
+        config: ParseConfig<E>,
+        metadata: RecordMetadata,
+        state: &mut (),
+    ) -> (ReadResult<Self::Output>, ReadCounter) {
+        read_either!(alloc, bytes, config, metadata, self, state)
+    }
+}
+
+impl<'p, I: Input<'p>> ReadBody<'p, (), I> for AsRecord {
+    #[inline]
+    fn read_body<E: Endian>(
+        self,
+        reader: &mut Reader<I, E>,
+        metadata: RecordMetadata,
+        state: &mut (),
+    ) -> ReadResult<Self::Output> {
+        if metadata.ty() == PERF_RECORD_SAMPLE {
+            return match read_boxed_sample(reader) {
+                Ok(sample) => Ok(Record::Sample(sample)),
+                Err(refusal) => Err(refusal),
+            };
+        }
+        match visit_body(reader, metadata, Recording::small(reader.alloc())) {
+            Ok(Ok(record)) => Ok(record),
+            Ok(Err(refusal)) => Err(refusal),
+            Err(refusal) => Err(refusal),
+        }
+    }
+}
+
+/// The sample of a body, in its box.
+#[derive(Drop)]
+pub struct AsSample;
+
+impl<'p> OfBody<'p, ()> for AsSample {
+    type Output = Box<Sample<'p>>;
+
+    ghost reads = { λ ty. ty ≡ 9 };
+
+    ghost gives = { λ seen _ output _. IsSampleOf seen output };
+}
+
+impl<'p> BodyReader<'p, ()> for AsSample {
+    #[inline]
+    fn read<E: Endian>(
+        self,
+        alloc: Global,
+        bytes: ParseBufChunk<'_, 'p>,
+        config: ParseConfig<E>,
+        metadata: RecordMetadata,
+        state: &mut (),
+    ) -> (ReadResult<Self::Output>, ReadCounter) {
+        read_either!(alloc, bytes, config, metadata, self, state)
+    }
+}
+
+impl<'p, I: Input<'p>> ReadBody<'p, (), I> for AsSample {
+    #[inline]
+    fn read_body<E: Endian>(
+        self,
+        reader: &mut Reader<I, E>,
+        metadata: RecordMetadata,
+        state: &mut (),
+    ) -> ReadResult<Self::Output> {
+        match read_boxed_sample(reader) {
+            Ok(sample) => Ok(sample),
+            Err(refusal) => Err(refusal),
+        }
+    }
+}
+
+/// The sample of a body, read into the place of another.
+#[derive(Drop)]
+pub struct IntoSample;
+
+impl<'p> OfBody<'p, Sample<'p>> for IntoSample {
+    type Output = ();
+
+    ghost reads = { λ ty. ty ≡ 9 };
+
+    ghost gives = { λ seen _ _ now. IsSampleIn seen now };
+}
+
+impl<'p> BodyReader<'p, Sample<'p>> for IntoSample {
+    #[inline]
+    fn read<E: Endian>(
+        self,
+        alloc: Global,
+        bytes: ParseBufChunk<'_, 'p>,
+        config: ParseConfig<E>,
+        metadata: RecordMetadata,
+        state: &mut Sample<'p>,
+    ) -> (ReadResult<Self::Output>, ReadCounter) {
+        read_either!(alloc, bytes, config, metadata, self, state)
+    }
+}
+
+impl<'p, I: Input<'p>> ReadBody<'p, Sample<'p>, I> for IntoSample {
+    #[inline]
+    fn read_body<E: Endian>(
+        self,
+        reader: &mut Reader<I, E>,
+        metadata: RecordMetadata,
+        state: &mut Sample<'p>,
+    ) -> ReadResult<Self::Output> {
+        match refill_sample(state, reader) {
+            Ok(()) => Ok(()),
+            Err(refusal) => Err(refusal),
+        }
+    }
+}

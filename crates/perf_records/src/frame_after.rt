@@ -1,0 +1,213 @@
+//! The frame after a header that was read.
+
+ghost use Rattle.std.specs.Prelude.{◌≡◌, ◌≤◌, ◌<◌, ℕ, false, true, drop, length, Err};
+ghost use Rattle.std.specs.Prelude.{IsTrue, IfOk, IfErr, OnErr};
+ghost use Rattle.perf_buffers.specs.declared.outer.Outer.{Outer};
+ghost use Rattle.perf_reader.specs.Words.{buffer_of, config_of, reads_of, of_layout, Stays, CanFail};
+ghost use Rattle.perf_records.specs.Sights.{whole, HandsAfter};
+ghost use Rattle.perf_records.specs.Words.{configuration_of, endian_of};
+ghost use Rattle.perf_records.specs.Words.{Call, kinds, refusal_kind, body_length};
+ghost use Rattle.perf_records.specs.Words as words;
+
+use crate::body_reader::{AsRecord, BodyReader};
+use crate::frame::Frame;
+use crate::frame_handler::{BadFrame, FrameHandler};
+use crate::record::Record;
+use perf_base::config::ParseConfig;
+use perf_base::endian::Endian;
+use perf_base::error::ErrorKind;
+use perf_base::reads::ReadCounter;
+use perf_base::refusal::{ReadResult, Refusal};
+use perf_base::sys::perf_event_header;
+use perf_buffers::outer::Outer;
+use perf_buffers::parsebuf::{ParseBuf, ParseBufChunk};
+use perf_reader::frame_reader::ConfiguredFrameReader;
+use perf_reader::read::{Meant, ReadFrom};
+use perf_reader::reader::Reader;
+use std::alloc::Global;
+
+// Reads the body of the frame of that header.
+#[derive(Drop)]
+struct FrameOf<M> {
+    header: perf_event_header,
+    body: M,
+    ghost sized: { 8 ≤ header.size },
+}
+
+impl<'p, S, E: Endian, M: BodyReader<'p, S>> ConfiguredFrameReader<'p, E, S> for FrameOf<M> {
+    type Output = ReadResult<M::Output>;
+
+    ghost len = { λ frame. body_length frame.header };
+
+    ghost gives = { λ frame settings order bytes lasting made was output now.
+        M.reads frame.header.type_ → words.VisitsBytes (λ seen x. M.gives seen was x now)
+        frame.header settings order bytes lasting output made };
+
+    #[inline]
+    fn read(
+        self,
+        alloc: Global,
+        config: &ParseConfig<E>,
+        state: &mut S,
+        bytes: ParseBufChunk<'_, 'p>,
+    ) -> (Self::Output, ReadCounter) {
+        Frame::new(self.header, bytes).read(alloc, config, self.body, state)
+    }
+}
+
+/// What is made of the frame whose header was read. Exactly the frame is taken, also if it is refused;
+/// after a fault, and if memory for the frame is refused, a beginning of it.
+///
+/// This is the one way from a header to a frame. The rule for its bytes is that of
+/// [`Outer::with_frame`]: in place if they are shown whole, and otherwise assembled.
+#[inline]
+pub fn read_after<'p, S, B: ParseBuf<'p>, E: Endian, M: BodyReader<'p, S>>(
+    reader: &mut Reader<Outer<B>, E>,
+    header: perf_event_header,
+    body: M,
+    state: &mut S,
+) -> ReadResult<M::Output>
+    requires reads { M.reads header.type_ }
+    ensures within { IsTrue (B.source (buffer_of reader.old)).told →
+        words.MovesWithin (B.source (buffer_of reader.old)) (body_length header)
+        (B.source (buffer_of reader.new)) }
+    ensures event { IfOk result (λ output. words.BelongsTo
+        (λ seen x. M.gives seen state.old x state.new) header
+        (B.source (buffer_of reader.old)).whole output) }
+    ensures whole_memory { IsTrue (B.source (buffer_of reader.old)).whole →
+        words.wants_memory header.type_ ≡ false → words.TakesNoMemory (kinds result) }
+
+    // A size that does not count the header is refused before anything else.
+    ensures small { header.size < 8 → (kinds result ≡ Err words.InvalidRecord)
+        × (B.source (buffer_of reader.new) ≡ B.source (buffer_of reader.old)) }
+    ensures small_why { header.size < 8 → IfErr result (λ e. e ≡ words.SmallHeader) }
+
+    // Memory is taken by the rules of a frame, and by what the body takes. If memory for the frame is
+    // refused, nothing is taken if all room was made first; if it is refused for the body, exactly the
+    // frame is.
+    ensures nothing { body_length header ≡ 0 → words.wants_memory header.type_ ≡ false →
+        words.TakesNoMemory (kinds result) }
+    ensures short { words.falls_short (B.hint (buffer_of reader.old)) (body_length header) ≡ true →
+        words.TakesNoMemory (kinds result) × IfOk result (λ output. ⊥) }
+    ensures beforehand { IsTrue (B.source (buffer_of reader.old)).told →
+        words.is_made_beforehand (B.hint (buffer_of reader.old)) (body_length header) ≡ true →
+        IfErr result (λ e. refusal_kind e ≡ words.OutOfMemory →
+        words.LeavesAllOrBehind (B.source (buffer_of reader.old)) (body_length header)
+        (B.source (buffer_of reader.new))) }
+    ensures spent { IsTrue (B.source (buffer_of reader.old)).told →
+        IsTrue (B.source (buffer_of reader.old)).whole →
+        IfErr result (λ e. refusal_kind e ≡ words.OutOfMemory →
+        (B.source (buffer_of reader.new)).left
+        ≡ drop (body_length header) (B.source (buffer_of reader.old)).left) }
+    ensures call { Call (λ (o : Outer B). B.source o.buf) E.order
+        (words.VisitsBehind (λ seen x. M.gives seen state.old x state.new) header)
+        reader.old (kinds result) reader.new }
+{
+    if header.size < 8 {
+        drop(body);
+        return Err(Refusal::SmallHeader);
+    }
+    match reader.with_frame(header.size as usize - 8, FrameOf { header, body }, state) {
+        Ok(output) => output,
+        Err(refusal) => Err(refusal),
+    }
+}
+
+// Hands the frame of that header to a handler.
+#[derive(Drop)]
+struct Hand {
+    header: perf_event_header,
+    ghost sized: { 8 ≤ header.size },
+}
+
+impl<'p, E: Endian, H: FrameHandler<'p, E>> ConfiguredFrameReader<'p, E, H> for Hand {
+    type Output = bool;
+
+    ghost len = { λ frame. body_length frame.header };
+
+    ghost gives = { λ frame settings order bytes lasting made was go now. (made ≡ 0)
+        × H.gets was settings order (whole frame.header bytes lasting) go now };
+
+    #[inline]
+    fn read(
+        self,
+        alloc: Global,
+        config: &ParseConfig<E>,
+        state: &mut H,
+        bytes: ParseBufChunk<'_, 'p>,
+    ) -> (bool, ReadCounter) {
+        let go = state.frame(config, Ok(Frame::new(self.header, bytes)));
+        (go, ReadCounter::new())
+    }
+}
+
+// Whether it is refused because bytes are lacking.
+#[inline]
+fn is_eof(refusal: Refusal) -> bool
+    ensures eof { IsTrue result → refusal_kind refusal ≡ ErrorKind.Eof }
+    ensures other { result ≡ false → refusal_kind refusal ≡ ErrorKind.Eof → ⊥ }
+{
+    refusal.kind() == ErrorKind::Eof
+}
+
+/// Hands the frame whose header was read to a handler, and returns whether the run goes on. If the
+/// frame is not whole, the handler is handed that.
+#[inline]
+pub fn hand_after<'p, B: ParseBuf<'p>, E: Endian, H: FrameHandler<'p, E>>(
+    reader: &mut Reader<Outer<B>, E>,
+    header: perf_event_header,
+    handler: &mut H,
+) -> ReadResult<bool>
+    ensures config { config_of reader.new ≡ config_of reader.old }
+    ensures stays { Stays (B.source (buffer_of reader.old)) (words.refused (kinds result))
+        (B.source (buffer_of reader.new)) }
+    ensures can_fail { CanFail (B.source (buffer_of reader.old)) (words.refused (kinds result)) }
+    ensures reads { reads_of reader.new ≡ reads_of reader.old }
+    ensures handed { IfOk result (λ go. HandsAfter
+        (λ s x. H.gets s (configuration_of (config_of reader.old))
+        (E.order (endian_of (config_of reader.old))) x) header
+        (B.source (buffer_of reader.old)) handler.old go (B.source (buffer_of reader.new))
+        handler.new) }
+    ensures same { OnErr result (handler.new ≡ handler.old) }
+    ensures stops { IsTrue (B.source (buffer_of reader.old)).told →
+        IfErr result (λ e. IsTrue (of_layout (refusal_kind e)) → ⊥) }
+    ensures left { IsTrue (B.source (buffer_of reader.old)).told → IfErr result (λ e.
+        words.MovesWithin (B.source (buffer_of reader.old)) (body_length header)
+        (B.source (buffer_of reader.new))) }
+    ensures memory { IsTrue (B.source (buffer_of reader.old)).whole →
+        words.TakesNoMemory (kinds result) }
+{
+    if header.size < 8 {
+        let bad = BadFrame::new(header, Refusal::SmallHeader);
+        return Ok(handler.frame(reader.config(), Err(bad)));
+    }
+    match reader.with_frame(header.size as usize - 8, Hand { header }, handler) {
+        Ok(go) => Ok(go),
+        Err(refusal) => {
+            if !is_eof(refusal) {
+                return Err(refusal);
+            }
+            let bad = BadFrame::new(header, refusal);
+            Ok(handler.frame(reader.config(), Err(bad)))
+        }
+    }
+}
+
+impl Meant for Record<'_> {
+    ghost says = { words.SaysRecord };
+}
+
+/// A frame with its header, which is three elementary reads.
+impl<'p, B: ParseBuf<'p>> ReadFrom<'p, Outer<B>> for Record<'p> {
+    #[inline]
+    fn read<E: Endian>(reader: &mut Reader<Outer<B>, E>) -> ReadResult<Self> {
+        let header = match reader.read::<perf_event_header>() {
+            Ok(header) => header,
+            Err(refusal) => return Err(refusal),
+        };
+        match read_after(reader, header, AsRecord, &mut ()) {
+            Ok(record) => Ok(record),
+            Err(refusal) => Err(refusal),
+        }
+    }
+}

@@ -1,0 +1,70 @@
+//! What takes the frames of a run.
+
+ghost use Rattle.std.specs.Prelude.{◌≡◌, Bool};
+ghost use Rattle.perf_base.specs.Configuration.{Configuration};
+ghost use Rattle.perf_base.specs.Order.{Order};
+ghost use Rattle.perf_base.specs.Refusals.{IsAnswerOf};
+ghost use Rattle.perf_records.specs.Sights.{Sight, sight_of};
+ghost use Rattle.perf_records.specs.Words.{configuration_of, endian_of, refusal_kind};
+
+use crate::frame::Frame;
+use perf_base::config::ParseConfig;
+use perf_base::endian::Endian;
+use perf_base::error::{ErrorKind, ParseError};
+use perf_base::refusal::{Kept, Refusal};
+use perf_base::sys::perf_event_header;
+
+/// A header that no whole frame follows: its size does not count the header, or there are fewer bytes
+/// than it says.
+#[derive(Copy, Clone, Debug)]
+pub struct BadFrame {
+    pub(crate) header: perf_event_header,
+    pub(crate) refusal: Refusal,
+}
+
+/// Takes the frames of a run, one after the other.
+pub trait FrameHandler<'p, E: Endian> {
+    // what it becomes by what it is handed under a configuration, and whether the run goes on
+    ghost gets: { Self → Configuration → Order → Sight → Bool → Self → Type 0 };
+
+    /// Takes a whole frame, or a header that none follows, and returns whether the run goes on. The
+    /// configuration is that of the run's parser.
+    fn frame(&mut self, config: &ParseConfig<E>, frame: Result<Frame<'_, 'p>, BadFrame>) -> bool
+        ensures { gets self.old (configuration_of config.now) (E.order (endian_of config.now))
+            (sight_of frame.entry) result self.new };
+}
+
+impl BadFrame {
+    /// One of that header.
+    #[inline]
+    pub fn new(header: perf_event_header, refusal: Refusal) -> BadFrame
+        ensures header { result.header ≡ header }
+        ensures refusal { result.refusal ≡ refusal }
+    {
+        BadFrame { header, refusal }
+    }
+
+    /// The header.
+    #[inline]
+    pub fn header(&self) -> perf_event_header
+        ensures { result ≡ self.now.header }
+    {
+        self.header
+    }
+
+    /// The kind of its refusal: [`ErrorKind::InvalidRecord`] if the size does not count the header,
+    /// [`ErrorKind::Eof`] if bytes are lacking.
+    #[inline]
+    pub fn kind(&self) -> ErrorKind
+        ensures { result ≡ refusal_kind self.now.refusal }
+    {
+        self.refusal.kind()
+    }
+
+    /// The error that it is in the answers of a run.
+    pub fn error(&self) -> ParseError
+        ensures { IsAnswerOf result self.now.refusal }
+    {
+        Kept::none().answer(self.refusal)
+    }
+}

@@ -1,0 +1,90 @@
+//! The frames of bytes that are all at hand.
+
+ghost use Rattle.std.specs.Prelude.{◌≡◌, ◌<◌, ◌≤◌, true, length, drop, MatchOption};
+ghost use Rattle.perf_records.specs.FrameList.{sights};
+ghost use Rattle.perf_records.specs.Frames.{frame_length};
+ghost use Rattle.perf_records.specs.Sights.{sight_of, sight_in};
+ghost use Rattle.perf_records.specs.declared.frame_list.FrameIter.{FrameIter};
+
+use crate::frame::Frame;
+use crate::frame_handler::BadFrame;
+use perf_base::endian::Endian;
+use perf_base::refusal::Refusal;
+use perf_buffers::parsebuf::ParseBufChunk;
+use perf_reader::header::header_in;
+
+/// The frames of some bytes, each once, in order. It is made by [`frames`].
+#[derive(Drop)]
+pub struct FrameIter<'p, E> {
+    order: E,
+    left: &'p [u8],
+}
+
+/// The frames of these bytes, each once, in order: an iterator over whole frames, and over headers that
+/// none follows. Nothing is copied and no memory is needed.
+///
+/// If the size in a header does not count the header, the next frame begins after the header. A frame
+/// that is unfinished is the last. The iterator ends when fewer bytes are left than a header has.
+#[inline]
+pub fn frames<'p, E: Endian>(bytes: &'p [u8], order: E) -> FrameIter<'p, E>
+    ensures left { result.left.now ≡ bytes.now }
+    ensures order { result.order ≡ order }
+{
+    FrameIter { order, left: bytes }
+}
+
+impl<'p, E> FrameIter<'p, E> {
+    /// The bytes after the frames that were returned. At the end of the iterator they are none, or the
+    /// beginning of a header that is cut off.
+    #[inline]
+    pub fn left(&self) -> &'p [u8]
+        ensures { result.now ≡ self.now.left.now }
+    {
+        self.left
+    }
+}
+
+// What stands at the front of bytes and what is after it, or `None` if no header is there.
+#[inline]
+fn cut_first<'p, E: Endian>(
+    order: &E,
+    bytes: &'p [u8],
+) -> Option<(Result<Frame<'p, 'p>, BadFrame>, &'p [u8])>
+    ensures { MatchOption result (length bytes.now < 8) (λ parts. (8 ≤ length bytes.now)
+        × (sight_of parts.0 ≡ sight_in (E.order order.now) bytes.now true)
+        × (parts.1.now ≡ drop (frame_length (E.order order.now) bytes.now) bytes.now)) }
+{
+    let header = match bytes.first_chunk::<8>() {
+        Some(front) => header_in(order, *front),
+        None => return None,
+    };
+    let rest = &bytes[8..];
+    if header.size < 8 {
+        return Some((Err(BadFrame::new(header, Refusal::SmallHeader)), rest));
+    }
+    let len = header.size as usize - 8;
+    if rest.len() < len {
+        return Some((Err(BadFrame::new(header, Refusal::Eof)), &[]));
+    }
+    let (body, after) = rest.split_at(len);
+    Some((Ok(Frame::new(header, ParseBufChunk::External(body))), after))
+}
+
+impl<'p, E: Endian + Drop> Iterator for FrameIter<'p, E> {
+    ghost use Rattle.std.specs.Iterator.{YieldsFirstBy, item_count};
+
+    type Item = Result<Frame<'p, 'p>, BadFrame>;
+
+    ghost next_gives = { YieldsFirstBy sight_of
+        (λ (s : FrameIter E). sights (E.order s.order) s.left.now) };
+
+    ghost remaining = { item_count (λ (s : FrameIter E). sights (E.order s.order) s.left.now) };
+
+    #[inline]
+    #[tactic(auto, using(crate::proofs::FrameList::next_sight, crate::proofs::FrameList::no_sight))]
+    fn next(&mut self) -> Option<Result<Frame<'p, 'p>, BadFrame>> {
+        let (frame, after) = cut_first(&self.order, self.left)?;
+        self.left = after;
+        Some(frame)
+    }
+}

@@ -1,0 +1,156 @@
+//! What one whole frame says.
+
+ghost use Rattle.std.specs.Prelude.{◌≡◌, false, Ok, IfErr, OnErr};
+ghost use Rattle.perf_base.specs.Refusals.{IsAnswerOf, error_kinds};
+ghost use Rattle.perf_buffers.specs.Words.{chunk_bytes, lasts};
+ghost use Rattle.perf_records.specs.Answers.{split_behind};
+ghost use Rattle.perf_records.specs.FrameReadings.{FrameGives, HasNoRoom, PutsSample, metadata_in};
+ghost use Rattle.perf_records.specs.RecordTypes.{type_of};
+ghost use Rattle.perf_records.specs.Words.{configuration_of, endian_of, IsRecordOf, NoRoomForId};
+ghost use Rattle.perf_sample_types.specs.SampleEmpty.{no_sample};
+
+use crate::body_reader::{AsRecord, BodyReader, ByVisitor, IntoSample};
+use crate::frame::Frame;
+use crate::metadata::RecordMetadata;
+use crate::parts::id_in;
+use crate::record::Record;
+use crate::record_type::RecordType;
+use crate::visitor::Visitor;
+use perf_base::config::ParseConfig;
+use perf_base::endian::Endian;
+use perf_base::error::{ParseError, ParseResult};
+use perf_base::refusal::{Kept, Refusal};
+use perf_base::sys::PERF_RECORD_SAMPLE;
+use perf_sample_types::sample::{Sample, empty_sample};
+use std::alloc::Global;
+
+// The error of a frame that is refused.
+#[cold]
+#[inline(never)]
+fn error_of(refusal: Refusal) -> ParseError
+    ensures { IsAnswerOf result refusal }
+{
+    Kept::none().answer(refusal)
+}
+
+impl<'c, 'p> Frame<'c, 'p> {
+    // What is made of the frame's body, with the error of a refusal.
+    #[inline]
+    fn read_answer<S, E: Endian, M: BodyReader<'p, S>>(
+        &self,
+        alloc: Global,
+        config: &ParseConfig<E>,
+        made: M,
+        state: &mut S,
+    ) -> ParseResult<M::Output>
+        ensures { M.reads self.now.header.type_ → FrameGives
+            (λ seen output. M.gives seen state.old output state.new) self.now.header
+            (configuration_of config.now) (E.order (endian_of config.now))
+            (chunk_bytes self.now.rest) (lasts self.now.rest) result }
+    {
+        let (answer, _reads) = self.read(alloc, config, made, state);
+        match answer {
+            Ok(output) => Ok(output),
+            Err(refusal) => Err(error_of(refusal)),
+        }
+    }
+
+    /// The type of the frame's record, by the number in its header (`enum perf_event_type`), or `None`
+    /// if the kernel has no such type.
+    #[inline]
+    pub fn kind(&self) -> Option<RecordType>
+        ensures { result ≡ type_of self.now.header.type_ }
+    {
+        RecordType::of(self.header().type_)
+    }
+
+    /// What is known of the frame's record beside what it says itself: the type and the `misc` in its
+    /// header, and the sample id at its end (`struct sample_id`), which is there under `sample_id_all`.
+    /// A sample, and a type of 64 or more, has no sample id: its fields are absent.
+    ///
+    /// The only refusal is that of a frame which has no room for its sample id, which is
+    /// `InvalidRecord`. No memory is needed.
+    #[inline]
+    pub fn metadata<E: Endian>(
+        &self,
+        alloc: Global,
+        config: &ParseConfig<E>,
+    ) -> ParseResult<RecordMetadata>
+        ensures parts { error_kinds result ≡ metadata_in (split_behind (configuration_of config.now)
+            (E.order (endian_of config.now)) self.now.header (chunk_bytes self.now.rest)) }
+        ensures no_room { IfErr result (λ e. IsAnswerOf e NoRoomForId) }
+        ensures room { OnErr result (HasNoRoom self.now.header (configuration_of config.now)) }
+    {
+        match id_in(alloc, self.rest(), config, self.header()) {
+            Ok(id) => Ok(id.metadata),
+            Err(no_room) => Err(error_of(no_room)),
+        }
+    }
+
+    /// The frame's record, as the kernel lays it out (perf_event_open(2)), under the frame's own `misc`.
+    /// Its byte strings are borrowed if the frame's bytes last as long as the input, and else copied.
+    /// Bytes after the record's last field do not matter.
+    ///
+    /// The refusals are those of the layout: `Eof` if the frame ends before its record does,
+    /// `InvalidRecord` if it has no room for its sample id or contains a length that cannot be, and
+    /// `UnsupportedConfig` if the configuration does not fit it. `OutOfMemory` comes only for a SAMPLE
+    /// or a NAMESPACES record, which need memory, or if the bytes do not last. `External` never comes.
+    #[inline]
+    pub fn record<E: Endian>(
+        &self,
+        alloc: Global,
+        config: &ParseConfig<E>,
+    ) -> ParseResult<Record<'p>>
+        ensures { FrameGives IsRecordOf self.now.header (configuration_of config.now)
+            (E.order (endian_of config.now)) (chunk_bytes self.now.rest) (lasts self.now.rest) result }
+    {
+        self.read_answer(alloc, config, AsRecord, &mut ())
+    }
+
+    /// What a visitor makes of the frame's record and metadata. The refusals are those of
+    /// [`Frame::record`], and come before the visitor is called.
+    #[inline]
+    pub fn visit<E: Endian, V: Visitor<'p>>(
+        &self,
+        alloc: Global,
+        config: &ParseConfig<E>,
+        visitor: V,
+    ) -> ParseResult<V::Output>
+        ensures { FrameGives V.gives self.now.header (configuration_of config.now)
+            (E.order (endian_of config.now)) (chunk_bytes self.now.rest) (lasts self.now.rest) result }
+    {
+        self.read_answer(alloc, config, ByVisitor { visitor }, &mut ())
+    }
+
+    /// Reads a SAMPLE (`PERF_RECORD_SAMPLE`) into the place of another, and returns `true`; nothing of
+    /// what the place contained is left. A frame of another type leaves the place as it is, and the
+    /// answer is `false`. This is for a caller that reads many samples into one place, without a box
+    /// for each.
+    ///
+    /// The refusals are those of [`Frame::record`]. After one all fields of the sample are absent.
+    #[inline]
+    pub fn sample_into<E: Endian>(
+        &self,
+        alloc: Global,
+        config: &ParseConfig<E>,
+        sample: &mut Sample<'p>,
+    ) -> ParseResult<bool>
+        ensures sample { self.now.header.type_ ≡ 9 → FrameGives
+            (λ seen put. PutsSample seen put sample.new) self.now.header (configuration_of config.now)
+            (E.order (endian_of config.now)) (chunk_bytes self.now.rest) (lasts self.now.rest) result }
+        ensures other { (self.now.header.type_ ≡ 9 → ⊥) →
+            (result ≡ Ok false) × (sample.new ≡ sample.old) }
+        ensures empty { OnErr result (sample.new ≡ no_sample) }
+    {
+        if self.header().type_ != PERF_RECORD_SAMPLE {
+            return Ok(false);
+        }
+        match self.read_answer(alloc, config, IntoSample, sample) {
+            Ok(()) => Ok(true),
+            Err(error) => {
+                *sample = empty_sample();
+                Err(error)
+            }
+        }
+    }
+}

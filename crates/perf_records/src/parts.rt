@@ -1,0 +1,231 @@
+//! The parts of a frame: its body, and what is known beside it.
+
+ghost use Rattle.std.specs.Prelude.{◌≡◌, ◌≤◌, ◌<◌, ◌+◌, ◌-◌, true, length, take, Err};
+ghost use Rattle.std.specs.Prelude.{IsTrue, IfOk, IfErr};
+ghost use Rattle.perf_records.specs.Words.{configuration_of, endian_of, input_of, config_of, Call};
+ghost use Rattle.perf_records.specs.Words.{reads_of, kinds, refusal_kind, cursor_left, body_length};
+ghost use Rattle.perf_records.specs.Words as words;
+
+use crate::metadata::RecordMetadata;
+use perf_base::config::ParseConfig;
+use perf_base::endian::Endian;
+use perf_base::reads::ReadCounter;
+use perf_base::refusal::{ReadResult, Refusal};
+use perf_base::sys::{PERF_RECORD_SAMPLE, perf_event_header};
+use perf_buffers::cursor::ParseBufCursor;
+use perf_buffers::input::Input;
+use perf_reader::reader::Reader;
+use perf_sample_types::sample_id::SampleId;
+use std::alloc::Global;
+
+// Whether records of a type end with a sample id: the kernel's own do, but SAMPLE.
+#[inline]
+fn carries_sample_id(ty: u32) -> bool
+    ensures { result ≡ words.carries_sample_id ty }
+{
+    ty < 64 && ty != PERF_RECORD_SAMPLE
+}
+
+// How many bytes of a frame are its sample id.
+#[inline]
+pub(crate) fn id_len<E>(config: &ParseConfig<E>, ty: u32) -> usize
+    ensures { result ≡ words.id_length (configuration_of config.now) ty }
+{
+    if carries_sample_id(ty) {
+        SampleId::estimate_len(config)
+    } else {
+        0
+    }
+}
+
+// The sample id whose bytes these are. So many bytes are never refused.
+#[inline]
+fn read_id<'x, E: Endian>(reader: &mut Reader<&'x [u8], E>, ty: u32) -> SampleId
+    requires { length (input_of reader.old).now
+        ≡ words.id_length (configuration_of (config_of reader.old)) ty }
+    ensures id { result ≡ words.value (E.order (endian_of (config_of reader.old)))
+        (input_of reader.old).now 0
+        (words.id_of_type (configuration_of (config_of reader.old)) ty) }
+    ensures reads { reads_of reader.new ≡ reads_of reader.old
+        + words.layout_reads (E.order (endian_of (config_of reader.old)))
+        (words.id_of_type (configuration_of (config_of reader.old)) ty) (input_of reader.old).now }
+    ensures bound { reads_of reader.new ≤ reads_of reader.old + length (input_of reader.old).now }
+{
+    if carries_sample_id(ty) {
+        match reader.read::<SampleId>() {
+            Ok(id) => id,
+            Err(_) => SampleId::default(),
+        }
+    } else {
+        SampleId::default()
+    }
+}
+
+// What is known of a frame beside its body, how many bytes that has, and how many reads that took.
+#[derive(Drop)]
+pub(crate) struct FrameId {
+    pub(crate) len: usize,
+    pub(crate) metadata: RecordMetadata,
+    pub(crate) reads: ReadCounter,
+}
+
+// The metadata of the frame whose bytes after its header are these.
+#[inline]
+pub(crate) fn id_in<E: Endian>(
+    alloc: Global,
+    bytes: &[u8],
+    config: &ParseConfig<E>,
+    header: perf_event_header,
+) -> ReadResult<FrameId>
+    ensures parts { IfOk result (λ id.
+        (words.id_length (configuration_of config.now) header.type_ ≤ length bytes.now)
+        × (words.frame_parts id.metadata (take id.len bytes.now)
+        ≡ words.parts_of (configuration_of config.now) (E.order (endian_of config.now)) header
+        bytes.now)) }
+    ensures len { IfOk result (λ id. id.len
+        ≡ length bytes.now - words.id_length (configuration_of config.now) header.type_) }
+    ensures reads { IfOk result (λ id. id.reads ≡ words.id_reads (configuration_of config.now)
+        (E.order (endian_of config.now)) header bytes.now) }
+    ensures bound { IfOk result (λ id.
+        id.reads ≤ words.id_length (configuration_of config.now) header.type_) }
+    ensures refused { IfErr result (λ e. (e ≡ words.NoRoomForId)
+        × (length bytes.now < words.id_length (configuration_of config.now) header.type_)) }
+{
+    if !carries_sample_id(header.type_) {
+        return Ok(FrameId {
+            len: bytes.len(),
+            metadata: RecordMetadata::from_parts(header.type_, header.misc, SampleId::default()),
+            reads: ReadCounter::new(),
+        });
+    }
+    let room = id_len(config, header.type_);
+    if bytes.len() < room {
+        return Err(Refusal::NoRoomForId);
+    }
+    let len = bytes.len() - room;
+    let mut tail = Reader::new(alloc, &bytes[len..], config.lent());
+    let id = read_id(&mut tail, header.type_);
+    Ok(FrameId {
+        len,
+        metadata: RecordMetadata::from_parts(header.type_, header.misc, id),
+        reads: tail.into_reads(),
+    })
+}
+
+// What `take_id` leaves of a frame's bytes, and what it read.
+struct Taken<'p> {
+    body: ParseBufCursor<'p>,
+    metadata: RecordMetadata,
+    reads: ReadCounter,
+}
+
+// The bytes of a frame without its sample id, the metadata, and how many reads that took.
+#[inline]
+fn take_id<'p, E: Endian>(
+    alloc: Global,
+    frame: ParseBufCursor<'p>,
+    config: &ParseConfig<E>,
+    header: perf_event_header,
+) -> ReadResult<Taken<'p>>
+    ensures parts { IfOk result (λ taken.
+        (words.id_length (configuration_of config.now) header.type_
+        ≤ length (cursor_left frame.entry))
+        × (words.answered_parts (taken.body, taken.metadata)
+        ≡ words.parts_of (configuration_of config.now) (E.order (endian_of config.now)) header
+        (cursor_left frame.entry))) }
+    ensures reads { IfOk result (λ taken. taken.reads ≡ words.id_reads (configuration_of config.now)
+        (E.order (endian_of config.now)) header (cursor_left frame.entry)) }
+    ensures bound { IfOk result (λ taken.
+        taken.reads ≤ words.id_length (configuration_of config.now) header.type_) }
+    ensures form { IfOk result (λ taken.
+        words.cursor_lent taken.body ≡ words.cursor_lent frame.entry) }
+    ensures refused { IfErr result (λ e. (refusal_kind e ≡ words.InvalidRecord)
+        × (length (cursor_left frame.entry)
+        < words.id_length (configuration_of config.now) header.type_)) }
+    ensures why { IfErr result (λ e. e ≡ words.NoRoomForId) }
+{
+    let mut body = frame;
+    let FrameId {
+        len,
+        metadata,
+        reads,
+    } = match id_in(alloc, body.last(body.len()), config, header) {
+        Ok(id) => id,
+        Err(refusal) => return Err(refusal),
+    };
+    body.drop_last(body.len() - len);
+    Ok(Taken {
+        body,
+        metadata,
+        reads,
+    })
+}
+
+/// The bytes of the body of a frame whose header was read, and its metadata.
+///
+/// A size that does not count the header is `InvalidRecord`, with nothing taken. Too few bytes are
+/// `Eof`, and all of them are taken. A frame without room for its sample id is `InvalidRecord`, and
+/// exactly it is taken.
+#[inline]
+pub fn split<'p, I: Input<'p>, E: Endian>(
+    reader: &mut Reader<I, E>,
+    header: perf_event_header,
+) -> ReadResult<(ParseBufCursor<'p>, RecordMetadata)>
+    ensures within { IsTrue (I.source (input_of reader.old)).told →
+        words.MovesWithin (I.source (input_of reader.old)) (body_length header)
+        (I.source (input_of reader.new)) }
+    ensures named { IfOk result (λ parts.
+        (parts.1.ty ≡ header.type_) × (parts.1.misc ≡ header.misc)) }
+    ensures whole { IsTrue (I.source (input_of reader.old)).whole →
+        IfOk result (λ parts. IsTrue (words.cursor_lent parts.0)) }
+    ensures whole_memory { IsTrue (I.source (input_of reader.old)).whole →
+        words.TakesNoMemory (kinds result) }
+
+    // A size that does not count the header is refused before anything else.
+    ensures small { header.size < 8 → (kinds result ≡ Err words.InvalidRecord)
+        × (I.source (input_of reader.new) ≡ I.source (input_of reader.old)) }
+    ensures small_why { header.size < 8 → IfErr result (λ e. e ≡ words.SmallHeader) }
+
+    // With another size it is no record only where there is no room for its sample id.
+    ensures id_why { IsTrue (I.source (input_of reader.old)).told → 8 ≤ header.size →
+        IfErr result (λ e. refusal_kind e ≡ words.InvalidRecord → e ≡ words.NoRoomForId) }
+
+    // Memory is taken by the rules of a cut: for nothing none, none where the input says that it
+    // has too few bytes, and else all room first, where that is little.
+    ensures nothing { body_length header ≡ 0 → words.TakesNoMemory (kinds result)
+        × IfOk result (λ parts. IsTrue (words.cursor_lent parts.0)) }
+    ensures short { words.falls_short (I.hint (input_of reader.old)) (body_length header) ≡ true →
+        words.TakesNoMemory (kinds result) × IfOk result (λ parts. ⊥) }
+    ensures beforehand { IsTrue (I.source (input_of reader.old)).told →
+        words.is_made_beforehand (I.hint (input_of reader.old)) (body_length header) ≡ true →
+        IfErr result (λ e. refusal_kind e ≡ words.OutOfMemory →
+        (I.source (input_of reader.new)).left ≡ (I.source (input_of reader.old)).left) }
+
+    // The body's bytes are paid for, and not read yet.
+    ensures paid { IsTrue (I.source (input_of reader.old)).told → IfOk result (λ parts.
+        reads_of reader.new + length (cursor_left parts.0)
+        + length (I.source (input_of reader.new)).left
+        ≤ reads_of reader.old + length (I.source (input_of reader.old)).left) }
+    ensures call { Call I.source E.order (words.SplitsBehind header)
+        reader.old (kinds result) reader.new }
+{
+    if header.size < 8 {
+        return Err(Refusal::SmallHeader);
+    }
+    let frame = match reader.cut(header.size as usize - 8) {
+        Ok(frame) => frame,
+        Err(refusal) => return Err(refusal),
+    };
+    match take_id(reader.alloc(), frame, reader.config(), header) {
+        Ok(taken) => {
+            let Taken {
+                body,
+                metadata,
+                reads,
+            } = taken;
+            reader.count(reads);
+            Ok((body, metadata))
+        }
+        Err(refusal) => Err(refusal),
+    }
+}
