@@ -1,12 +1,17 @@
 //! Runs over streams as text.
 
+ghost use Rattle.std.specs.Prelude.{⊤};
+
 use crate::asks::next_record;
 use crate::everywhere::{Says, parser_of, say_everywhere};
 use crate::told::{Framed, Tell, tell_config, tell_error, tell_frame, tell_last};
 use perf_event_data::endian::{Endian, Little, Native};
-use perf_event_data::parse::{ParseBuf, ParseConfig, ParseError, ParseResult, Parser};
+use perf_event_data::parse::{ErrorKind, ParseBuf, ParseConfig, ParseError, ParseResult, Parser};
 use perf_event_data::sys::{perf_event_attr, perf_event_header};
-use perf_event_data::{Record, Run, RunEnd, read_records};
+use perf_event_data::{
+    BadFrame, Frame as WholeFrame, FrameHandler, FrameRun, Record, Run, RunEnd, each_frame, frames,
+    read_records,
+};
 use std::alloc::{AllocError, Global};
 use std::fmt::Debug;
 
@@ -178,8 +183,133 @@ impl<'p, B: ParseBuf<'p> + Drop, E: Endian + Copy> Says<'p, B> for Runs<'_, E> {
     }
 }
 
+// Lists what a run hands out, each frame with its record.
+#[derive(Drop)]
+struct Listed<'p> {
+    alloc: Global,
+    frames: Vec<Frame<'p>>,
+}
+
+impl<'p> Listed<'p> {
+    fn list<E: Endian>(
+        &mut self,
+        config: &ParseConfig<E>,
+        frame: Result<WholeFrame<'_, 'p>, BadFrame>,
+    ) -> bool {
+        let pair = match frame {
+            Ok(frame) => (frame.header(), frame.record(self.alloc, config)),
+            Err(bad) => (bad.header(), Err(bad.error())),
+        };
+        self.frames.push(pair).is_ok()
+    }
+}
+
+impl<'p, E: Endian> FrameHandler<'p, E> for Listed<'p> {
+    ghost gets = { λ _ _ _ _ _ _. ⊤ };
+
+    fn frame(
+        &mut self,
+        config: &ParseConfig<E>,
+        frame: Result<WholeFrame<'_, 'p>, BadFrame>,
+    ) -> bool {
+        self.list(config, frame)
+    }
+}
+
+// The run that hands out frames, as the one that lists records.
+fn run_by_frames<'p, B: ParseBuf<'p>, E: Endian>(
+    alloc: Global,
+    parser: &mut Parser<B, E>,
+    limit: usize,
+) -> Run<'p> {
+    let mut listed = Listed {
+        alloc,
+        frames: Vec::new(alloc),
+    };
+    let FrameRun { count, end } = each_frame(parser, limit, &mut listed);
+    let end = match end {
+        Some(end) if count == listed.frames.len() => end,
+        _ => RunEnd::Fault(ParseError::custom(ErrorKind::External, "not as many frames")),
+    };
+    Run {
+        frames: listed.frames,
+        end,
+    }
+}
+
+// Runs of one parser that hand out frames.
+#[derive(Drop)]
+struct RunsByFrames<'a, E> {
+    endian: E,
+    attr: &'a perf_event_attr,
+    limits: &'a [usize],
+}
+
+impl<'p, B: ParseBuf<'p> + Drop, E: Endian + Copy> Says<'p, B> for RunsByFrames<'_, E> {
+    fn say(&self, alloc: Global, buf: B) -> Result<String, AllocError> {
+        let mut parser = parser_of(alloc, buf, self.endian, self.attr);
+        let mut text = String::new(alloc);
+        for limit in self.limits {
+            if !text.is_empty() {
+                text.push_str(" | ")?;
+            }
+            tell_last(&mut text, run_by_frames(alloc, &mut parser, *limit))?;
+        }
+        Ok(text)
+    }
+}
+
+// All frames of a slice, as the run that lists their records.
+fn run_of_slice<'p, E: Endian>(
+    alloc: Global,
+    bytes: &'p [u8],
+    order: E,
+    config: &ParseConfig<E>,
+) -> Run<'p> {
+    let mut listed = Listed {
+        alloc,
+        frames: Vec::new(alloc),
+    };
+    let mut iterator = frames(bytes, order);
+    for _ in 0..=bytes.len() {
+        match iterator.next() {
+            Some(frame) => {
+                listed.list(config, frame);
+            }
+            None => break,
+        }
+    }
+    let end = if iterator.left().is_empty() {
+        RunEnd::Done
+    } else {
+        RunEnd::CutHeader
+    };
+    Run {
+        frames: listed.frames,
+        end,
+    }
+}
+
+// Appends what is said otherwise by the frames of these bytes than by the run over all of them.
+fn add_by_frames<E: Endian + Copy>(
+    text: &mut String,
+    alloc: Global,
+    bytes: &[u8],
+    endian: E,
+    attr: &perf_event_attr,
+) -> Result<(), AllocError> {
+    let whole = tell_under(alloc, bytes, endian, attr, &[bytes.len() + 1])?;
+    let config = ParseConfig::<Native>::from(*attr).with_endian(endian);
+    let mut listed = String::new(alloc);
+    tell_last(&mut listed, run_of_slice(alloc, bytes, endian, &config))?;
+    if listed.as_str() != whole.as_str() {
+        write!(text, " but by the frames of the slice {listed}")?;
+    }
+    Ok(())
+}
+
 /// What the runs over these bytes are behind an attribute, through a slice, buffered readers and
-/// pieces.
+/// pieces; and where runs that hand out frames, or the frames of the slice, say otherwise, that too.
 pub fn tell_everywhere<E: Endian + Copy>(
     alloc: Global,
     bytes: &[u8],
@@ -192,7 +322,18 @@ pub fn tell_everywhere<E: Endian + Copy>(
         attr,
         limits,
     };
-    say_everywhere(alloc, bytes, &says)
+    let mut text = say_everywhere(alloc, bytes, &says)?;
+    let by_frames = RunsByFrames {
+        endian,
+        attr,
+        limits,
+    };
+    let others = say_everywhere(alloc, bytes, &by_frames)?;
+    if others.as_str() != text.as_str() {
+        write!(text, " but by frames {others}")?;
+    }
+    add_by_frames(&mut text, alloc, bytes, endian, attr)?;
+    Ok(text)
 }
 
 // Writes what `{:?}` shows of an answer, or the kind of its refusal, and answers whether it is none.
