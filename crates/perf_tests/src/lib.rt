@@ -72,6 +72,4 @@ mod values;
 #[cfg(test)]
 mod visits;
 #[cfg(test)]
-mod whole_frames;
-#[cfg(test)]
 mod words;
