@@ -1,8 +1,9 @@
 //! Branch stacks. No claimed count makes room for branches.
 
-ghost use Rattle.std.specs.Prelude.{◌≡◌, ◌*◌, true, IfOk};
+ghost use Rattle.std.specs.Prelude.{◌≡◌, ◌<◌, ◌*◌, [], Bool, true, false, length, Ok, Err};
+ghost use Rattle.std.specs.Prelude.{IfOk, IfErr};
 ghost use Rattle.perf_buffers.specs.Room.{falls_short};
-ghost use Rattle.perf_reader.specs.Words.{input_of};
+ghost use Rattle.perf_reader.specs.Words.{input_of, refusal_kind};
 ghost use Rattle.perf_sample_types.specs.Branches.{branch_numbers};
 ghost use Rattle.perf_types.specs.Words.{Call, ReadsOne, TakesNoMemory, flat_map, kinds, words};
 
@@ -15,6 +16,114 @@ use perf_words::BranchEntry;
 
 // How many numbers a branch is.
 const NUMBERS: usize = 3;
+
+// How many branches are taken at once.
+const BRANCHES: usize = 16;
+
+// How many numbers they are.
+const BLOCK: usize = 48;
+
+// Fills a block with the next numbers, of which there is at least one: at once where the input shows
+// them all, and else one by one.
+#[inline]
+fn fill<'p, I: Input<'p>, E: Endian>(
+    reader: &mut Reader<I, E>,
+    numbers: &mut [u64],
+) -> ReadResult<()>
+    requires { 0 < length numbers.old }
+    ensures { Call I.source E.order (ReadsOne (words (length numbers.old)) (λ _. numbers.new))
+        reader.old (kinds result) reader.new }
+{
+    match reader.read_shown(numbers) {
+        Ok(true) => return Ok(()),
+        Ok(false) => (),
+        Err(refusal) => return Err(refusal),
+    }
+    for i in 0..numbers.len() {
+        numbers[i] = match reader.read_u64() {
+            Ok(number) => number,
+            Err(refusal) => return Err(refusal),
+        };
+    }
+    Ok(())
+}
+
+// Puts the branches of some numbers into their places.
+#[inline]
+fn convert(numbers: &[u64], branches: &mut [BranchEntry])
+    requires { length numbers.now ≡ 3 * length branches.old }
+    ensures { flat_map branch_numbers branches.new ≡ numbers.now }
+{
+    let (words, _) = numbers.as_chunks::<NUMBERS>();
+    for i in 0..branches.len() {
+        let [from, to, word] = words[i];
+        branches[i] = BranchEntry::from_words(from, to, word);
+    }
+}
+
+// Fills a block with the next branches, if the input shows them all; otherwise nothing is read.
+#[inline]
+fn read_shown<'p, I: Input<'p>, E: Endian>(
+    reader: &mut Reader<I, E>,
+    branches: &mut [BranchEntry; BRANCHES],
+) -> ReadResult<bool>
+    ensures shown { result ≡ Ok true → Call I.source E.order
+        (ReadsOne (words 48) (λ (_ : Bool). flat_map branch_numbers branches.new))
+        reader.old (Ok true) reader.new }
+    ensures nothing { result ≡ Ok false → reader.new ≡ reader.old }
+    ensures refused { IfErr result (λ e. Call I.source E.order
+        (ReadsOne (words 48) (λ (_ : Bool). flat_map branch_numbers branches.new))
+        reader.old (Err (refusal_kind e)) reader.new) }
+{
+    let mut numbers = [0; BLOCK];
+    match reader.read_shown(&mut numbers) {
+        Ok(true) => (),
+        Ok(false) => return Ok(false),
+        Err(refusal) => return Err(refusal),
+    }
+    convert(&numbers, branches);
+    Ok(true)
+}
+
+// So many branches, in blocks where the input shows them, and else one by one. The list is empty.
+#[inline(never)]
+fn append_branches<'p, I: Input<'p>, E: Endian>(
+    reader: &mut Reader<I, E>,
+    mut entries: Vec<BranchEntry>,
+    count: usize,
+) -> ReadResult<Vec<BranchEntry>>
+    requires { entries.items ≡ [] }
+    ensures { Call I.source E.order
+        (ReadsOne (words (3 * count)) (λ v. flat_map branch_numbers v.items))
+        reader.old (kinds result) reader.new }
+{
+    while BRANCHES <= count - entries.len() && reader.shows_numbers(BLOCK) {
+        let mut block = [BranchEntry::from_words(0, 0, 0); BRANCHES];
+        match read_shown(reader, &mut block) {
+            Ok(true) => (),
+            Ok(false) => break,
+            Err(refusal) => return Err(refusal),
+        }
+        if entries.extend_from_slice(&block).is_err() {
+            return Err(Refusal::OutOfMemory);
+        }
+    }
+    for _ in entries.len()..count {
+        let mut numbers = [0; NUMBERS];
+        match fill(reader, &mut numbers) {
+            Ok(()) => (),
+            Err(refusal) => return Err(refusal),
+        }
+        let [from, to, word] = numbers;
+        if entries
+            .push(BranchEntry::from_words(from, to, word))
+            .is_err()
+        {
+            return Err(Refusal::OutOfMemory);
+        }
+    }
+    Ok(entries)
+}
 
 // So many branches. A list that does not fit takes no memory where the input says what it has.
 pub(crate) fn read_branches<'p, I: Input<'p>, E: Endian>(
@@ -30,29 +139,9 @@ pub(crate) fn read_branches<'p, I: Input<'p>, E: Endian>(
     if lacks(reader, NUMBERS, count) {
         return Err(read_to_the_end(reader, NUMBERS, count));
     }
-    let mut entries = match reader.list_for(count) {
+    let entries = match reader.list_for(count) {
         Ok(entries) => entries,
         Err(refusal) => return Err(refusal),
     };
-    for _ in 0..count {
-        let from = match reader.read_u64() {
-            Ok(from) => from,
-            Err(refusal) => return Err(refusal),
-        };
-        let to = match reader.read_u64() {
-            Ok(to) => to,
-            Err(refusal) => return Err(refusal),
-        };
-        let word = match reader.read_u64() {
-            Ok(word) => word,
-            Err(refusal) => return Err(refusal),
-        };
-        if entries
-            .push(BranchEntry::from_words(from, to, word))
-            .is_err()
-        {
-            return Err(Refusal::OutOfMemory);
-        }
-    }
-    Ok(entries)
+    append_branches(reader, entries, count)
 }
