@@ -62,15 +62,15 @@ IsSample _ = ⊥
 
 -- ---- what a visitor of records gives
 
--- The record of that value, of which nothing was copied if the event's was not; or there was no
--- memory for the box of a sample. It is opened only where a proof asks for it.
-unfoldable pub GivesRecord : Event → Result Record ErrorKind → Type 0
-GivesRecord seen (Ok r) = (record_value r ≡ seen.value) × (IsTrue seen.lent → IsBorrowed r)
-GivesRecord seen (Err e) = (e ≡ OutOfMemory) × IsSample seen.value
-
 -- the record of that value, of which nothing was copied if the event's was not
 abbrev pub IsRecordOf : Event → Record → Type 0
 IsRecordOf seen r = (record_value r ≡ seen.value) × (IsTrue seen.lent → IsBorrowed r)
+
+-- The record of the event, or there was no memory for the box of a sample. It is opened only where a
+-- proof asks for it.
+unfoldable pub GivesRecord : Event → Result Record ErrorKind → Type 0
+GivesRecord seen (Ok r) = IsRecordOf seen r
+GivesRecord seen (Err e) = (e ≡ OutOfMemory) × IsSample seen.value
 
 -- the sample of that value, of which nothing was copied if the event's was not
 abbrev pub IsSampleIn : Event → Sample → Type 0

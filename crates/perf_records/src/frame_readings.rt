@@ -21,7 +21,7 @@ use perf_base::endian::Endian;
 use perf_base::error::{ParseError, ParseResult};
 use perf_base::refusal::{Kept, Refusal};
 use perf_base::sys::PERF_RECORD_SAMPLE;
-use perf_sample_types::sample::{Sample, empty_sample};
+use perf_sample_types::sample::{Sample, clear_sample};
 use std::alloc::Global;
 
 // The error of a frame that is refused.
@@ -148,7 +148,7 @@ impl<'c, 'p> Frame<'c, 'p> {
         match self.read_answer(alloc, config, IntoSample, sample) {
             Ok(()) => Ok(true),
             Err(error) => {
-                *sample = empty_sample();
+                clear_sample(sample);
                 Err(error)
             }
         }

@@ -38,8 +38,9 @@ pub(crate) fn id_len<E>(config: &ParseConfig<E>, ty: u32) -> usize
     }
 }
 
-// The sample id whose bytes these are. So many bytes are never refused.
-#[inline]
+// The sample id whose bytes these are. So many bytes are never refused. It is not inlined, so that a
+// frame without a sample id, as a SAMPLE, has no place for one.
+#[inline(never)]
 fn read_id<'x, E: Endian>(reader: &mut Reader<&'x [u8], E>, ty: u32) -> SampleId
     requires { length (input_of reader.old).now
         ≡ words.id_length (configuration_of (config_of reader.old)) ty }
@@ -69,8 +70,9 @@ pub(crate) struct FrameId {
     pub(crate) reads: ReadCounter,
 }
 
-// The metadata of the frame whose bytes after its header are these.
-#[inline]
+// The metadata of the frame whose bytes after its header are these. It is inlined, so that a caller
+// that knows the type to be without a sample id makes nothing of it.
+#[inline(always)]
 pub(crate) fn id_in<E: Endian>(
     alloc: Global,
     bytes: &[u8],
@@ -91,7 +93,7 @@ pub(crate) fn id_in<E: Endian>(
     ensures refused { IfErr result (λ e. (e ≡ words.NoRoomForId)
         × (length bytes.now < words.id_length (configuration_of config.now) header.type_)) }
 {
-    if !carries_sample_id(header.type_) {
+    if !carries_sample_id(header.type_) || !config.sample_id_all() {
         return Ok(FrameId {
             len: bytes.len(),
             metadata: RecordMetadata::from_parts(header.type_, header.misc, SampleId::default()),

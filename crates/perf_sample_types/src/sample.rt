@@ -441,6 +441,18 @@ pub fn empty_sample<'p>() -> Sample<'p>
     }
 }
 
+/// Empties a sample. Of one whose fields are numbers alone that clears no more than their places.
+#[inline]
+pub fn clear_sample(sample: &mut Sample)
+    ensures { sample.new ≡ no_sample }
+{
+    sample.moment = Moment::none();
+    sample.counts.clear();
+    sample.state.clear();
+    sample.costs.clear();
+    sample.memory.clear();
+}
+
 /// Reads the fields of a sample into one that has none, where they stay: a sample is large. It is not
 /// inlined, so that the fields are no locals of the caller's, each of which would be moved once more.
 #[inline(never)]
@@ -487,11 +499,11 @@ pub fn refill_sample<'p, I: Input<'p>, E: Endian>(
         (ReadsBorrowed shown.sample shown.sample_value shown.IsBorrowedSample)
         reader.old (filled (kinds result) sample.new) reader.new }
 {
-    *sample = empty_sample();
+    clear_sample(sample);
     match fill_sample(sample, reader) {
         Ok(()) => Ok(()),
         Err(refusal) => {
-            *sample = empty_sample();
+            clear_sample(sample);
             Err(refusal)
         }
     }

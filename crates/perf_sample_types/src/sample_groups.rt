@@ -1,6 +1,6 @@
 //! The groups in which a sample's fields are read.
 
-ghost use Rattle.std.specs.Prelude.{◌≡◌, ◌==◌, ⊤, [], ◌∷◌};
+ghost use Rattle.std.specs.Prelude.{◌≡◌, ◌==◌, ⊤, [], ◌∷◌, None};
 ghost use Rattle.std.specs.Int.RustNames.{bit_and};
 ghost use Rattle.perf_sample_types.specs.SampleEmpty as empty;
 ghost use Rattle.perf_sample_types.specs.SampleEmpty.{filled};
@@ -35,6 +35,16 @@ fn lacks_all(flags: SampleFlags, bits: u64) -> bool
     ensures { result ≡ (bit_and (sample_flags_bits flags) bits == 0) }
 {
     flags.bits() & bits == 0
+}
+
+// Lets go of what a place contains. An empty place costs a test.
+#[inline(always)]
+fn clear_place<T: Drop>(place: &mut Option<T>)
+    ensures { place.new ≡ None }
+{
+    if place.is_some() {
+        *place = None;
+    }
 }
 
 // What happened when and where.
@@ -110,6 +120,18 @@ impl<'p> Counts<'p> {
         }
     }
 
+    // Empties its places.
+    #[inline(always)]
+    pub(crate) fn clear(&mut self)
+        ensures { self.new ≡ empty.no_counts }
+    {
+        self.stream_id = None;
+        self.cpu = None;
+        self.period = None;
+        clear_place(&mut self.values);
+        clear_place(&mut self.call_chain);
+    }
+
     // Fills its places, which hold nothing yet.
     #[inline(always)]
     pub(crate) fn fill<I: Input<'p>, E: Endian>(
@@ -152,6 +174,17 @@ impl<'p> State<'p> {
             regs_user: None,
             stack_user: None,
         }
+    }
+
+    // Empties its places.
+    #[inline(always)]
+    pub(crate) fn clear(&mut self)
+        ensures { self.new ≡ empty.no_state }
+    {
+        clear_place(&mut self.raw);
+        clear_place(&mut self.branches);
+        clear_place(&mut self.regs_user);
+        clear_place(&mut self.stack_user);
     }
 
     // Fills its places, which hold nothing yet.
@@ -208,6 +241,17 @@ impl<'p> Costs<'p> {
         }
     }
 
+    // Empties its places.
+    #[inline(always)]
+    pub(crate) fn clear(&mut self)
+        ensures { self.new ≡ empty.no_costs }
+    {
+        self.weight = None;
+        self.data_src = None;
+        self.transaction = None;
+        clear_place(&mut self.regs_intr);
+    }
+
     // Fills its places, which hold nothing yet.
     #[inline(always)]
     pub(crate) fn fill<I: Input<'p>, E: Endian>(
@@ -259,6 +303,18 @@ impl<'p> Memory<'p> {
             code_page_size: None,
             aux: None,
         }
+    }
+
+    // Empties its places.
+    #[inline(always)]
+    pub(crate) fn clear(&mut self)
+        ensures { self.new ≡ empty.no_memory }
+    {
+        self.phys_addr = None;
+        self.cgroup = None;
+        self.data_page_size = None;
+        self.code_page_size = None;
+        clear_place(&mut self.aux);
     }
 
     // Fills its places, which hold nothing yet.
