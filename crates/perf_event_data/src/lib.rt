@@ -12,7 +12,7 @@ pub use perf_buffers::pieces::PieceBuf;
 pub use perf_parser::{FrameRun, Run, RunEnd, each_frame, parse, read_records};
 pub use perf_records::frame::Frame;
 pub use perf_records::frame_handler::{BadFrame, FrameHandler};
-pub use perf_records::frame_list::{FrameIter, frames};
+pub use perf_records::frame_list::{FrameIter, FramesEnd, frames};
 pub use perf_records::metadata::RecordMetadata;
 pub use perf_records::partial::{Partial, PartialVisitor};
 pub use perf_records::record::Record;

@@ -1,6 +1,6 @@
 -- The frames of bytes that are all at hand.
 use Rattle.std.specs.Prelude.{if◌then◌else◌}
-use Rattle.std.proofs.Common.{◌≡◌, ℕ, zero, suc, ◌≤◌, ◌<◌, List, [], ◌∷◌, length, take, drop, map, refl, sym, ◌∙◌, ap, true, false, nat_lt, arith}
+use Rattle.std.proofs.Common.{◌≡◌, ◌≢◌, ℕ, zero, suc, ◌≤◌, ◌<◌, List, [], ◌∷◌, length, take, drop, map, refl, sym, ◌∙◌, ap, true, false, nat_lt, arith}
 use Rattle.std.proofs.lemmas.Bool.{lt-ltb, le-ltb}
 use Rattle.std.proofs.lemmas.List.{length-drop}
 use Rattle.perf_base.specs.Order.{Order}
@@ -43,3 +43,10 @@ next_sight o bytes after x fits is rest =
 
 pub no_sight : (o : Order) (bytes : List ℕ) → length bytes < 8 → sights o bytes ≡ []
 no_sight o bytes short = ap (map (λ frame. sight_in o frame true)) (frames_short o (length bytes) bytes short)
+
+-- there is a first one where a header is there
+pub some_sight : (o : Order) (bytes : List ℕ) → 8 ≤ length bytes → sights o bytes ≢ []
+some_sight o bytes fits none =
+    let tail : List ℕ = drop (frame_length o bytes) bytes in
+    let first : sights o bytes ≡ sight_in o bytes true ∷ sights o tail = next_sight o bytes tail (sight_in o bytes true) fits refl refl in
+    absurd (cc)

@@ -1,7 +1,7 @@
 //! The frames of bytes that are all at hand.
 
-ghost use Rattle.std.specs.Prelude.{◌≡◌, ◌<◌, ◌≤◌, true, length, drop, MatchOption};
-ghost use Rattle.perf_records.specs.FrameList.{sights};
+ghost use Rattle.std.specs.Prelude.{◌≡◌, ◌≢◌, ◌<◌, ◌≤◌, [], true, length, drop, MatchOption};
+ghost use Rattle.perf_records.specs.FrameList.{sights, end_before};
 ghost use Rattle.perf_records.specs.Frames.{frame_length};
 ghost use Rattle.perf_records.specs.Sights.{sight_of, sight_in};
 ghost use Rattle.perf_records.specs.declared.frame_list.FrameIter.{FrameIter};
@@ -33,6 +33,15 @@ pub fn frames<'p, E: Endian>(bytes: &'p [u8], order: E) -> FrameIter<'p, E>
     FrameIter { order, left: bytes }
 }
 
+/// How the frames of some bytes end.
+#[derive(Copy, Clone, Debug, PartialEq, Eq)]
+pub enum FramesEnd {
+    /// No byte is left.
+    Done,
+    /// Fewer bytes are left than a header has.
+    CutHeader,
+}
+
 impl<'p, E> FrameIter<'p, E> {
     /// The bytes after the frames that were returned. At the end of the iterator they are none, or the
     /// beginning of a header that is cut off.
@@ -41,6 +50,23 @@ impl<'p, E> FrameIter<'p, E> {
         ensures { result.now ≡ self.now.left.now }
     {
         self.left
+    }
+}
+
+impl<'p, E: Endian> FrameIter<'p, E> {
+    /// How the frames end, once all of them were returned, and `None` before that.
+    #[inline]
+    #[tactic(auto, using(crate::proofs::FrameList::some_sight, crate::proofs::FrameList::no_sight))]
+    pub fn end(&self) -> Option<FramesEnd>
+        ensures end { result ≡ end_before self.now.left.now }
+        ensures all { MatchOption result (sights (E.order self.now.order) self.now.left.now ≢ [])
+            (λ _. sights (E.order self.now.order) self.now.left.now ≡ []) }
+    {
+        match self.left.len() {
+            0 => Some(FramesEnd::Done),
+            1..=7 => Some(FramesEnd::CutHeader),
+            _ => None,
+        }
     }
 }
 
