@@ -23,53 +23,80 @@ pub trait Says<'p, B: ParseBuf<'p>> {
     fn say(&self, alloc: Global, buf: B) -> Result<String, AllocError>;
 }
 
-// Appends what is said over a buffer where it is not what was said first.
-fn add_over<'p, B: ParseBuf<'p>, S: Says<'p, B>>(
-    others: &mut String,
+/// A buffer over a slice.
+#[derive(Copy, Clone)]
+pub enum Buffer {
+    /// The slice itself.
+    Slice,
+    /// A buffered reader of this capacity, which is 1 at least.
+    Reader(usize),
+    /// Pieces of this many bytes at most, which is 1 at least, that last.
+    Lasting(usize),
+    /// Pieces that do not last.
+    Passing(usize),
+}
+
+/// Buffers that show less than all bytes, or for less long.
+pub const OTHERS: [Buffer; 11] = [
+    Buffer::Reader(1),
+    Buffer::Reader(7),
+    Buffer::Reader(8192),
+    Buffer::Lasting(1),
+    Buffer::Passing(1),
+    Buffer::Lasting(3),
+    Buffer::Passing(3),
+    Buffer::Lasting(7),
+    Buffer::Passing(7),
+    Buffer::Lasting(64),
+    Buffer::Passing(64),
+];
+
+// What is said over that buffer.
+fn say_of<'p, B: ParseBuf<'p>, S: Says<'p, B>>(
     alloc: Global,
     buf: B,
     says: &S,
-    first: &str,
-) -> Result<(), AllocError> {
-    let other = says.say(alloc, buf)?;
-    if other.as_str() != first {
-        write!(others, " but {other}")?;
-    }
-    Ok(())
+) -> Result<String, AllocError> {
+    says.say(alloc, buf)
 }
 
-// The same for buffered readers of each capacity.
-fn add_over_readers<'p, S: Says<'p, BufReader<&'p [u8]>>>(
-    others: &mut String,
+/// What is said over a buffer of these bytes.
+pub fn say_over<'p, S>(
     alloc: Global,
     bytes: &'p [u8],
     says: &S,
-    first: &str,
-) -> Result<(), AllocError> {
-    for capacity in [1, 7, 8192] {
-        match BufReader::with_capacity(alloc, capacity, bytes) {
-            Ok(reader) => add_over(others, alloc, reader, says, first)?,
-            Err(_) => return Err(AllocError),
-        }
+    buffer: Buffer,
+) -> Result<String, AllocError>
+where
+    S: Says<'p, &'p [u8]> + Says<'p, BufReader<&'p [u8]>> + Says<'p, PieceBuf<'p>>,
+{
+    match buffer {
+        Buffer::Slice => say_of(alloc, bytes, says),
+        Buffer::Reader(capacity) => say_over_reader(alloc, bytes, says, capacity.max(1)),
+        Buffer::Lasting(most) => say_of(alloc, PieceBuf::new(bytes, most.max(1), true), says),
+        Buffer::Passing(most) => say_of(alloc, PieceBuf::new(bytes, most.max(1), false), says),
     }
-    Ok(())
 }
 
-// The same for pieces, which last or do not.
-fn add_over_pieces<'p, S: Says<'p, PieceBuf<'p>>>(
-    others: &mut String,
+fn say_over_reader<'p, S: Says<'p, BufReader<&'p [u8]>>>(
     alloc: Global,
     bytes: &'p [u8],
     says: &S,
-    first: &str,
-) -> Result<(), AllocError> {
-    for most in [1, 3, 7, 64] {
-        for lasting in [true, false] {
-            let pieces = PieceBuf::new(bytes, most, lasting);
-            add_over(others, alloc, pieces, says, first)?;
-        }
+    capacity: usize,
+) -> Result<String, AllocError> {
+    match BufReader::with_capacity(alloc, capacity, bytes) {
+        Ok(reader) => say_of(alloc, reader, says),
+        Err(_) => Err(AllocError),
     }
-    Ok(())
+}
+
+/// Appends what is said where it is not what was said first.
+pub fn add_other(others: &mut String, said: &str, first: &str) -> Result<(), AllocError> {
+    if said == first {
+        Ok(())
+    } else {
+        write!(others, " but {said}")
+    }
 }
 
 /// What is said over these bytes, through a slice, buffered readers and pieces: one text where it is
@@ -80,8 +107,10 @@ where
 {
     let mut text = says.say(alloc, bytes)?;
     let mut others = String::new(alloc);
-    add_over_readers(&mut others, alloc, bytes, says, text.as_str())?;
-    add_over_pieces(&mut others, alloc, bytes, says, text.as_str())?;
+    for buffer in OTHERS {
+        let said = say_over(alloc, bytes, says, buffer)?;
+        add_other(&mut others, said.as_str(), text.as_str())?;
+    }
     text.push_str(others.as_str())?;
     Ok(text)
 }

@@ -3,7 +3,7 @@
 ghost use Rattle.std.specs.Prelude.{⊤};
 
 use crate::asks::next_record;
-use crate::everywhere::{Says, parser_of, say_everywhere};
+use crate::everywhere::{Buffer, Says, add_other, parser_of, say_everywhere, say_over};
 use crate::told::{Framed, Tell, tell_config, tell_error, tell_frame, tell_last};
 use perf_event_data::endian::{Endian, Little, Native};
 use perf_event_data::parse::{ErrorKind, ParseBuf, ParseConfig, ParseError, ParseResult, Parser};
@@ -13,7 +13,6 @@ use perf_event_data::{
     read_records,
 };
 use std::alloc::{AllocError, Global};
-use std::fmt::Debug;
 
 // A frame's header and the answer to it.
 type Frame<'a> = (perf_event_header, ParseResult<Record<'a>>);
@@ -95,9 +94,47 @@ pub fn tell_under<'p, B: ParseBuf<'p> + Drop, E: Endian>(
     attr: &perf_event_attr,
     limits: &[usize],
 ) -> Result<String, AllocError> {
-    let mut parser = parser_of(alloc, buf, endian, attr);
+    tell_parser(
+        alloc,
+        parser_of(alloc, buf, endian, attr),
+        Way::Records,
+        limits,
+    )
+}
+
+// What a run is made by.
+#[derive(Copy, Clone)]
+enum Way {
+    // The run that lists records.
+    Records,
+    // The run that hands out frames.
+    Frames,
+}
+
+impl Way {
+    fn run<'p, B: ParseBuf<'p>, E: Endian>(
+        self,
+        alloc: Global,
+        parser: &mut Parser<B, E>,
+        limit: usize,
+    ) -> Run<'p> {
+        match self {
+            Way::Records => read_records(parser, limit),
+            Way::Frames => run_by_frames(alloc, parser, limit),
+        }
+    }
+}
+
+// The runs of a parser with these limits, in turn.
+fn tell_parser<'p, B: ParseBuf<'p> + Drop, E: Endian>(
+    alloc: Global,
+    parser: Parser<B, E>,
+    way: Way,
+    limits: &[usize],
+) -> Result<String, AllocError> {
+    let mut parser = parser;
     let mut text = String::new(alloc);
-    tell_runs(&mut text, &mut parser, limits)?;
+    tell_runs(&mut text, &mut parser, way, limits)?;
     Ok(text)
 }
 
@@ -105,13 +142,15 @@ pub fn tell_under<'p, B: ParseBuf<'p> + Drop, E: Endian>(
 fn tell_runs<'p, B: ParseBuf<'p>, E: Endian>(
     text: &mut String,
     parser: &mut Parser<B, E>,
+    way: Way,
     limits: &[usize],
 ) -> Result<(), AllocError> {
+    let alloc = *text.allocator();
     for limit in limits {
         if !text.is_empty() {
             text.push_str(" | ")?;
         }
-        tell_last(text, read_records(parser, *limit))?;
+        tell_last(text, way.run(alloc, parser, *limit))?;
     }
     Ok(())
 }
@@ -142,7 +181,7 @@ fn tell_under_own<'p, B: ParseBuf<'p> + Drop>(
     let config = ParseConfig::<Native>::from(attr).with_endian(Little);
     tell_config(text, &config)?;
     let mut parser = parser.reconfigure(config);
-    tell_runs(text, &mut parser, limits)
+    tell_runs(text, &mut parser, Way::Records, limits)
 }
 
 fn next_attribute<'p, B: ParseBuf<'p>, E: Endian>(
@@ -172,6 +211,7 @@ pub fn tell_behind(alloc: Global, bytes: &[u8], limits: &[usize]) -> Result<Stri
 // Runs of one parser.
 #[derive(Drop)]
 struct Runs<'a, E> {
+    way: Way,
     endian: E,
     attr: &'a perf_event_attr,
     limits: &'a [usize],
@@ -179,7 +219,8 @@ struct Runs<'a, E> {
 
 impl<'p, B: ParseBuf<'p> + Drop, E: Endian + Copy> Says<'p, B> for Runs<'_, E> {
     fn say(&self, alloc: Global, buf: B) -> Result<String, AllocError> {
-        tell_under(alloc, buf, self.endian, self.attr, self.limits)
+        let parser = parser_of(alloc, buf, self.endian, self.attr);
+        tell_parser(alloc, parser, self.way, self.limits)
     }
 }
 
@@ -191,6 +232,13 @@ struct Listed<'p> {
 }
 
 impl<'p> Listed<'p> {
+    fn new(alloc: Global) -> Self {
+        Listed {
+            alloc,
+            frames: Vec::new(alloc),
+        }
+    }
+
     fn list<E: Endian>(
         &mut self,
         config: &ParseConfig<E>,
@@ -222,10 +270,7 @@ fn run_by_frames<'p, B: ParseBuf<'p>, E: Endian>(
     parser: &mut Parser<B, E>,
     limit: usize,
 ) -> Run<'p> {
-    let mut listed = Listed {
-        alloc,
-        frames: Vec::new(alloc),
-    };
+    let mut listed = Listed::new(alloc);
     let FrameRun { count, end } = each_frame(parser, limit, &mut listed);
     let end = match end {
         Some(end) if count == listed.frames.len() => end,
@@ -237,28 +282,6 @@ fn run_by_frames<'p, B: ParseBuf<'p>, E: Endian>(
     }
 }
 
-// Runs of one parser that hand out frames.
-#[derive(Drop)]
-struct RunsByFrames<'a, E> {
-    endian: E,
-    attr: &'a perf_event_attr,
-    limits: &'a [usize],
-}
-
-impl<'p, B: ParseBuf<'p> + Drop, E: Endian + Copy> Says<'p, B> for RunsByFrames<'_, E> {
-    fn say(&self, alloc: Global, buf: B) -> Result<String, AllocError> {
-        let mut parser = parser_of(alloc, buf, self.endian, self.attr);
-        let mut text = String::new(alloc);
-        for limit in self.limits {
-            if !text.is_empty() {
-                text.push_str(" | ")?;
-            }
-            tell_last(&mut text, run_by_frames(alloc, &mut parser, *limit))?;
-        }
-        Ok(text)
-    }
-}
-
 // All frames of a slice, as the run that lists their records.
 fn run_of_slice<'p, E: Endian>(
     alloc: Global,
@@ -266,10 +289,7 @@ fn run_of_slice<'p, E: Endian>(
     order: E,
     config: &ParseConfig<E>,
 ) -> Run<'p> {
-    let mut listed = Listed {
-        alloc,
-        frames: Vec::new(alloc),
-    };
+    let mut listed = Listed::new(alloc);
     let mut iterator = frames(bytes, order);
     for _ in 0..=bytes.len() {
         match iterator.next() {
@@ -290,22 +310,17 @@ fn run_of_slice<'p, E: Endian>(
     }
 }
 
-// Appends what is said otherwise by the frames of these bytes than by the run over all of them.
-fn add_by_frames<E: Endian + Copy>(
-    text: &mut String,
+// What the frames of these bytes say, as the run over all of them.
+fn tell_slice<E: Endian + Copy>(
     alloc: Global,
     bytes: &[u8],
     endian: E,
     attr: &perf_event_attr,
-) -> Result<(), AllocError> {
-    let whole = tell_under(alloc, bytes, endian, attr, &[bytes.len() + 1])?;
+) -> Result<String, AllocError> {
     let config = ParseConfig::<Native>::from(*attr).with_endian(endian);
-    let mut listed = String::new(alloc);
-    tell_last(&mut listed, run_of_slice(alloc, bytes, endian, &config))?;
-    if listed.as_str() != whole.as_str() {
-        write!(text, " but by the frames of the slice {listed}")?;
-    }
-    Ok(())
+    let mut text = String::new(alloc);
+    tell_last(&mut text, run_of_slice(alloc, bytes, endian, &config))?;
+    Ok(text)
 }
 
 /// What the runs over these bytes are behind an attribute, through a slice, buffered readers and
@@ -317,32 +332,67 @@ pub fn tell_everywhere<E: Endian + Copy>(
     attr: &perf_event_attr,
     limits: &[usize],
 ) -> Result<String, AllocError> {
-    let says = Runs {
+    let mut says = Runs {
+        way: Way::Records,
         endian,
         attr,
         limits,
     };
     let mut text = say_everywhere(alloc, bytes, &says)?;
-    let by_frames = RunsByFrames {
-        endian,
-        attr,
-        limits,
-    };
-    let others = say_everywhere(alloc, bytes, &by_frames)?;
-    if others.as_str() != text.as_str() {
-        write!(text, " but by frames {others}")?;
+    says.way = Way::Frames;
+    let by_frames = say_everywhere(alloc, bytes, &says)?;
+    if by_frames.as_str() != text.as_str() {
+        write!(text, " but by frames {by_frames}")?;
     }
-    add_by_frames(&mut text, alloc, bytes, endian, attr)?;
+    let whole = tell_under(alloc, bytes, endian, attr, &[bytes.len() + 1])?;
+    let of_slice = tell_slice(alloc, bytes, endian, attr)?;
+    add_other(&mut text, of_slice.as_str(), whole.as_str())?;
     Ok(text)
 }
 
-// Writes what `{:?}` shows of an answer, or the kind of its refusal, and answers whether it is none.
-fn tell_shown_one<T: Debug + Drop>(
+/// Nothing, where a run over these bytes behind an attribute says the same as a run through another
+/// buffer, as runs through either that hand out frames, and as the frames of the slice. Else what the
+/// run says, and behind it what is said otherwise.
+pub fn tell_differences<E: Endian + Copy>(
+    alloc: Global,
+    bytes: &[u8],
+    endian: E,
+    attr: &perf_event_attr,
+    other: Buffer,
+) -> Result<String, AllocError> {
+    let mut says = Runs {
+        way: Way::Records,
+        endian,
+        attr,
+        limits: &[usize::MAX],
+    };
+    let mut text = says.say(alloc, bytes)?;
+    let mut others = String::new(alloc);
+    for (way, buffer) in [
+        (Way::Records, other),
+        (Way::Frames, Buffer::Slice),
+        (Way::Frames, other),
+    ] {
+        says.way = way;
+        let said = say_over(alloc, bytes, &says, buffer)?;
+        add_other(&mut others, said.as_str(), text.as_str())?;
+    }
+    let of_slice = tell_slice(alloc, bytes, endian, attr)?;
+    add_other(&mut others, of_slice.as_str(), text.as_str())?;
+    if others.is_empty() {
+        return Ok(others);
+    }
+    text.push_str(others.as_str())?;
+    Ok(text)
+}
+
+/// Writes what `{:?}` shows of a record, or the kind of its refusal, and returns whether it is none.
+pub fn tell_shown_record(
     text: &mut String,
-    answer: ParseResult<T>,
+    answer: ParseResult<Record<'_>>,
 ) -> Result<bool, AllocError> {
     match answer {
-        Ok(value) => write!(text, "{value:?}; ")?,
+        Ok(record) => write!(text, "{record:?}; ")?,
         Err(error) => {
             tell_error(text, &error)?;
             return Ok(false);
@@ -357,7 +407,7 @@ pub fn tell_shown(alloc: Global, bytes: &[u8]) -> Result<String, AllocError> {
     let mut parser = Parser::new(alloc, bytes, ParseConfig::<Little>::default());
     let mut text = String::new(alloc);
     for _ in 0..=bytes.len() {
-        if !tell_shown_one(&mut text, next_record(&mut parser))? {
+        if !tell_shown_record(&mut text, next_record(&mut parser))? {
             break;
         }
     }
