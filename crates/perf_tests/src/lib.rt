@@ -72,4 +72,6 @@ mod values;
 #[cfg(test)]
 mod visits;
 #[cfg(test)]
+mod whole_frames;
+#[cfg(test)]
 mod words;
