@@ -3,8 +3,9 @@
 //! `perf_count little|big|native [attr]` reads records from standard input, in the byte order that
 //! is named, and prints one line of three numbers: how many frames there are, how many of them were
 //! refused, and a checksum of the others. With `attr` the input begins with an attribute, which
-//! says how the records behind it are read. The whole input is read into memory first, and no
-//! record is printed, so its time is that of reading records.
+//! says how the records after it are read. No record is printed, so its time is that of reading
+//! records; and none is kept, so its memory is 256 kB of the input and one frame, however long the
+//! input is.
 //!
 //! The checksum is the sum, modulo 2^64, of the type and the size in the header of each frame that
 //! was not refused, and of what its record has: of MMAP and MMAP2 `pid`, `tid`, `addr`, `len`,
@@ -25,30 +26,31 @@ use crate::command::{Command, OrderName};
 use anyhow::{Result, bail};
 use perf_event_data::RunEnd;
 use perf_event_data::endian::{Big, Little, Native};
-use perf_event_data::parse::ParseResult;
+use perf_event_data::parse::{ErrorKind, ParseError, ParseResult};
 use perf_reports::counts::Counts;
 use perf_reports::streams::count_stream;
 use std::alloc::Global;
 use std::env;
-use std::io::{ErrorKind, Read};
+use std::io::{BufReader, Read};
 use std::process::ExitCode;
 
 // What is said where the words ask for nothing.
 const USAGE: &str = "usage: perf_count little|big|native [attr]";
 
-// Room for the input that is made before its first byte is read. More is made without a copy.
-const FIRST_ROOM: usize = 1 << 18;
-
-// How many bytes are read at a time, and copied behind the others.
-const PIECE: usize = 4096;
+// How many bytes are read at a time: enough to show frames of the greatest size whole.
+const INPUT_ROOM: usize = 1 << 18;
 
 fn main(rt: HostRuntime) -> Result<ExitCode> {
     let words: Vec<String> = env::args(&rt)?.skip(1).collect(rt.alloc())?;
     let Some(command) = words::command(&words) else {
         bail!("{USAGE}");
     };
-    let input = read_input(rt.alloc(), &mut rt.stdin())?;
-    let (counts, end) = count_command(rt.alloc(), &input, command)?;
+    let input = BufReader::with_capacity(rt.alloc(), INPUT_ROOM, rt.stdin())?;
+    let (counts, end) = match count_command(rt.alloc(), input, command) {
+        Ok((_, RunEnd::Fault(error))) if error.kind() == ErrorKind::External => bail_with(error)?,
+        Ok(counted) => counted,
+        Err(error) => bail_with(error)?,
+    };
     let Counts {
         records,
         refused,
@@ -64,7 +66,11 @@ fn main(rt: HostRuntime) -> Result<ExitCode> {
 }
 
 // Counts an input in the order that is named.
-fn count_command(alloc: Global, input: &[u8], command: Command) -> ParseResult<(Counts, RunEnd)> {
+fn count_command<R: Read + Drop>(
+    alloc: Global,
+    input: BufReader<R>,
+    command: Command,
+) -> ParseResult<(Counts, RunEnd)> {
     match command.order {
         OrderName::Little => count_stream(alloc, input, Little, command.with_attr),
         OrderName::Big => count_stream(alloc, input, Big, command.with_attr),
@@ -72,20 +78,10 @@ fn count_command(alloc: Global, input: &[u8], command: Command) -> ParseResult<(
     }
 }
 
-// All bytes of an input. `read_to_end` would clear the room for them before it reads into it.
-fn read_input<R: Read>(alloc: Global, input: &mut R) -> Result<Vec<u8>> {
-    let mut bytes = Vec::with_capacity(alloc, FIRST_ROOM)?;
-    let mut piece = [0; PIECE];
-    for _ in 0..u64::MAX {
-        match input.read(&mut piece) {
-            Ok(0) => break,
-            Ok(len) => bytes.extend_from_slice(&piece[..len])?,
-            Err(error) => {
-                if error.kind() != ErrorKind::Interrupted {
-                    return Err(error.into());
-                }
-            }
-        }
+// Fails with an error, in its reader's own words if it comes from there.
+fn bail_with(error: ParseError) -> Result<(Counts, RunEnd)> {
+    match error.cause() {
+        Some(cause) => bail!("{cause}"),
+        None => Err(error.into()),
     }
-    Ok(bytes)
 }

@@ -1,6 +1,7 @@
 mod Appended
 mod Control
 mod ControlLines
+mod Counted
 mod Escaped
 mod Hex
 mod Inode

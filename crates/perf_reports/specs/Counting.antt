@@ -1,6 +1,15 @@
 -- What is counted of the answers to frames.
 use Rattle.std.specs.Prelude.{ℕ, ◌+◌, ◌%◌, ◌^◌, List, [], ◌∷◌, length, sum, sum_by, count_by, unwrap_or}
-use Rattle.std.specs.Prelude.{Result, Ok, Err, is_err}
+use Rattle.std.specs.Prelude.{Result, Ok, Err, is_err, Option, Some, None, Bool, true, false, IsTrue}
+use Rattle.std.specs.Prelude.{◌≡◌, take, drop}
+use Rattle.perf_base.specs.Attribute.{attribute}
+use Rattle.perf_base.specs.Configuration.{Configuration, plain, configured_by}
+use Rattle.perf_base.specs.Layout.{layout}
+use Rattle.perf_base.specs.Order.{Order}
+use Rattle.perf_base.specs.Refusals.{refusal_kind, IsAnswerOf}
+use Rattle.perf_base.specs.declared.error.ParseError.{ParseError}
+use Rattle.perf_base.specs.declared.refusal.Refusal.{Refusal}
+use Rattle.perf_base.specs.declared.sys.perf_event_attr.{perf_event_attr}
 use Rattle.perf_base.specs.declared.sys.perf_event_header.{perf_event_header}
 use Rattle.perf_base.specs.declared.error.ErrorKind.{ErrorKind}
 use Rattle.perf_types.specs.declared.exit.Exit.{Exit}
@@ -8,9 +17,17 @@ use Rattle.perf_types.specs.declared.lost.Lost.{Lost}
 use Rattle.perf_types.specs.Mmap.{MmapValue}
 use Rattle.perf_types.specs.Mmap2.{Mmap2Value}
 use Rattle.perf_types.specs.Comm.{CommValue}
+use Rattle.perf_reader.specs.Reading.{of_layout}
+use Rattle.perf_records.specs.Answers.{answer_behind, answers}
+use Rattle.perf_records.specs.Visits.{Event}
+use Rattle.perf_records.specs.Sights.{Sight, whole, bad}
+use Rattle.perf_parser.specs.Runs.{EndsWith}
+use Rattle.perf_parser.specs.declared.runs.RunEnd.{RunEnd}
+use Rattle.perf_parser.specs.declared.runs.RunEnd.TheVariants.{Fault}
 use Rattle.perf_records.specs.Records.{RecordValue, mmap_is, lost_is, comm_is, exit_is, fork_is}
 use Rattle.perf_records.specs.Records.{mmap2_is, lost_samples_is, sample_is}
 use Rattle.perf_sample_types.specs.SampleGetters.{Getters, getters_of}
+use Rattle.perf_reports.specs.declared.counting.FrameCounter.{FrameCounter}
 use Rattle.perf_reports.specs.declared.counts.Counts.{Counts}
 
 -- a number as 64 bits hold it
@@ -65,6 +82,10 @@ record_sum (lost_samples_is r) = r.lost
 record_sum (sample_is r) = sample_sum (getters_of r)
 record_sum _ = 0
 
+-- a number is what the record of an event adds
+abbrev pub Adds : Event → ℕ → Type 0
+Adds seen sum = sum ≡ wrapped (record_sum seen.value)
+
 -- ---- what is counted of frames
 
 -- what a frame adds to the checksum: what its record adds, and its type and size; a refused one
@@ -88,3 +109,69 @@ plus a b = record {
   refused = wrapped (a.refused + b.refused);
   checksum = wrapped (a.checksum + b.checksum);
 }
+
+-- ---- what a counter is handed
+
+-- the header of what stands where a frame begins
+abbrev pub sight_header : Sight → perf_event_header
+sight_header (whole h bytes lasting) = h
+sight_header (bad h e) = h
+
+-- what a whole frame says, or why none follows the header
+abbrev pub sight_answer : Configuration → Order → Sight → Result RecordValue ErrorKind
+sight_answer c o (whole h bytes lasting) = answer_behind c o h bytes
+sight_answer c o (bad h e) = Err e
+
+-- what is counted of it
+abbrev pub counted_sight : Configuration → Order → Sight → Counts
+counted_sight c o seen = counted ((sight_header seen, sight_answer c o seen) ∷ [])
+
+-- a run was ended by a refusal that is none of the layout's
+abbrev pub IsFault : Option Refusal → Type 0
+IsFault None = ⊥
+IsFault (Some e) = IsTrue (of_layout (refusal_kind e)) → ⊥
+
+-- how a run ends that a refusal ended: by the error that it becomes
+abbrev pub EndsBy : Option Refusal → RunEnd → Type 0
+EndsBy None e = Unit {0}
+EndsBy (Some refusal) e = (x : ParseError) × (e ≡ Fault x) × IsAnswerOf x refusal
+
+-- A counter was handed a frame, and returned whether the run goes on. If it does, the frame was counted,
+-- once; if not, a fault or want of memory ended the run, and the frame was not counted.
+abbrev pub CountsSight : FrameCounter → Configuration → Order → Sight → Bool → FrameCounter → Type 0
+CountsSight was c o seen true now = now.counts ≡ plus was.counts (counted_sight c o seen)
+CountsSight was c o seen false now = (now.counts ≡ was.counts) × IsFault now.refusal
+
+-- A refused frame was counted, whatever its header, or ended the run.
+abbrev pub RefusesSight : Refusal → FrameCounter → Bool → FrameCounter → Type 0
+RefusesSight refusal was true now = IsTrue (of_layout (refusal_kind refusal))
+    × ((h : perf_event_header) → now.counts ≡ plus was.counts (counted ((h, Err (refusal_kind refusal)) ∷ [])))
+RefusesSight refusal was false now = (now.counts ≡ was.counts) × IsFault now.refusal
+
+-- What a record adds was summed, where that is the answer; or it was refused with the answer's kind,
+-- or for a fault or want of memory.
+abbrev pub SumsAnswer : Result RecordValue ErrorKind → Result ℕ Refusal → Type 0
+SumsAnswer says (Ok sum) = (value : RecordValue) × (says ≡ Ok value) × (sum ≡ wrapped (record_sum value))
+SumsAnswer says (Err e) = IsTrue (of_layout (refusal_kind e)) → says ≡ Err (refusal_kind e)
+
+-- ---- what is counted of a stream
+
+-- Counted were the first answers of the bytes, and the run ended after those as a run ends that lists
+-- as many: after all of them where nothing is left or a header is cut.
+abbrev pub CountsRun : Configuration → Order → (limit : ℕ) → List ℕ → Counts → RunEnd → List ℕ → Type 0
+CountsRun c o limit bytes counts e left =
+    (k : ℕ) × (counts ≡ counted (take k (answers c o bytes))) × EndsWith o limit bytes k e left
+
+-- The attribute with which bytes begin, or why there is none. It is opened only where a proof asks for
+-- it.
+unfoldable pub attribute_in : Order → List ℕ → Result perf_event_attr ErrorKind
+attribute_in o bytes = layout o attribute bytes
+
+-- The same of a stream: all its bytes under the plain configuration, or those after the attribute with
+-- which it begins, under the configuration of that.
+abbrev pub CountsStream : (with_attr : Bool) → Order → (limit : ℕ) → List ℕ → Counts → RunEnd → Type 0
+CountsStream false o limit bytes counts e =
+    (left : List ℕ) × CountsRun plain o limit bytes counts e left
+CountsStream true o limit bytes counts e =
+    (attr : perf_event_attr) × (attribute_in o bytes ≡ Ok attr)
+    × ((left : List ℕ) × CountsRun (configured_by attr) o limit (drop attr.size bytes) counts e left)

@@ -1,12 +1,10 @@
 //! What is counted of frames.
 
-ghost use Rattle.std.specs.Prelude.{◌≡◌};
-ghost use Rattle.perf_parser.specs.Runs.{seen_answers};
-ghost use Rattle.perf_reports.specs.Counting.{plus, counted};
+ghost use Rattle.std.specs.Prelude.{◌≡◌, [], ◌∷◌, Ok, Err};
+ghost use Rattle.perf_base.specs.declared.error.ErrorKind.{ErrorKind};
+ghost use Rattle.perf_records.specs.Records.{RecordValue};
+ghost use Rattle.perf_reports.specs.Counting.{plus, counted, wrapped, record_sum};
 
-use crate::sums::frame_sum;
-use perf_event_data::Record;
-use perf_event_data::parse::ParseResult;
 use perf_event_data::sys::perf_event_header;
 
 /// What is counted of frames, each number modulo 2^64.
@@ -28,13 +26,34 @@ impl Counts {
         checksum: 0,
     };
 
-    /// Counts further frames.
-    pub fn add(&mut self, frames: &[(perf_event_header, ParseResult<Record>)])
-        ensures { self.new ≡ plus self.old (counted (seen_answers frames.now)) }
+    // Counts one more frame, whose record adds that to the checksum.
+    #[inline]
+    pub(crate) fn add_record(&mut self, header: perf_event_header, sum: u64)
+        ensures { (value : RecordValue) → sum ≡ wrapped (record_sum value) →
+            self.new ≡ plus self.old (counted ((header, Ok value) ∷ [])) }
     {
-        *self = self.plus(counted(frames));
+        let framed = sum.wrapping_add(u64::from(header.type_) + u64::from(header.size));
+        *self = self.plus(Counts {
+            records: 1,
+            refused: 0,
+            checksum: framed,
+        });
     }
 
+    // Counts one more frame, which was refused.
+    #[inline]
+    pub(crate) fn add_refused(&mut self)
+        ensures { (header : perf_event_header) → (kind : ErrorKind) →
+            self.new ≡ plus self.old (counted ((header, Err kind) ∷ [])) }
+    {
+        *self = self.plus(Counts {
+            records: 1,
+            refused: 1,
+            checksum: 0,
+        });
+    }
+
+    #[inline]
     fn plus(&self, others: Counts) -> Counts
         ensures { result ≡ plus self.now others }
     {
@@ -43,22 +62,5 @@ impl Counts {
             refused: self.refused.wrapping_add(others.refused),
             checksum: self.checksum.wrapping_add(others.checksum),
         }
-    }
-}
-
-/// What is counted of frames alone.
-pub fn counted(frames: &[(perf_event_header, ParseResult<Record>)]) -> Counts
-    ensures { result ≡ counted (seen_answers frames.now) }
-{
-    let mut refused = 0;
-    let mut checksum: u64 = 0;
-    for (header, answer) in frames {
-        refused += u64::from(answer.is_err());
-        checksum = checksum.wrapping_add(frame_sum(header, answer));
-    }
-    Counts {
-        records: frames.len() as u64,
-        refused,
-        checksum,
     }
 }

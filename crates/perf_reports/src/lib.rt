@@ -4,9 +4,11 @@
 #![tactic(auto)]
 
 mod backward;
+mod counting;
 pub mod counts;
 mod names;
 pub mod printing;
+mod record_sums;
 pub mod samples;
 pub mod streams;
 mod sums;

@@ -1,46 +1,99 @@
 //! Counting the frames of a stream.
 
+ghost use Rattle.std.specs.Prelude.{◌≡◌, true, Ok, Err, drop, IsTrue, IfOk, IfErr};
+ghost use Rattle.perf_base.specs.Configuration.{configured_by};
+ghost use Rattle.perf_base.specs.Configured.{configuration_of, endian_of};
+ghost use Rattle.perf_base.specs.declared.sys.perf_event_attr.{perf_event_attr};
+ghost use Rattle.perf_parser.specs.Words.{buffer_of, config_of, kind_of, of_layout};
+ghost use Rattle.perf_reports.specs.Counting.{CountsRun, CountsStream, attribute_in};
+
+use crate::counting::FrameCounter;
 use crate::counts::Counts;
 use perf_event_data::endian::{Endian, Native};
 use perf_event_data::parse::{ParseBuf, ParseConfig, ParseResult, Parser};
 use perf_event_data::sys::perf_event_attr;
-use perf_event_data::{RunEnd, read_records};
+use perf_event_data::{RunEnd, each_frame};
 use std::alloc::Global;
 
-// How many answers are held at a time.
-const BATCH: usize = 64;
+/// How many frames are counted, at most: more than any input has.
+pub const MOST_FRAMES: usize = usize::MAX;
 
 /// Counts the frames of a stream, and says how it ended. With `with_attr` an attribute comes first,
-/// and its configuration holds for the records behind it; where it is refused, nothing is counted.
-pub fn count_stream<E: Endian>(
+/// and its configuration holds for the records after it; if it is refused, nothing is counted.
+pub fn count_stream<'p, B: ParseBuf<'p> + Drop, E: Endian>(
     alloc: Global,
-    input: &[u8],
-    order: E,
+    input: B,
+    endian: E,
     with_attr: bool,
-) -> ParseResult<(Counts, RunEnd)> {
-    let config = ParseConfig::<Native>::default().with_endian(order);
-    let mut parser = Parser::new(alloc, input, config);
-    if with_attr {
-        let attr = parser.parse::<perf_event_attr>()?;
-        let order = parser.endian().duplicate()?;
-        let config = ParseConfig::<Native>::from(attr).with_endian(order);
-        return Ok(count_records(&mut parser.reconfigure(config)));
+) -> ParseResult<(Counts, RunEnd)>
+    ensures counts { IsTrue (B.source input).told → IfOk result (λ counted.
+        CountsStream with_attr (E.order endian) MOST_FRAMES (B.source input).left
+        counted.0 counted.1) }
+    ensures refused { IsTrue (B.source input).told → IfErr result (λ e.
+        IsTrue (of_layout (kind_of e)) → (with_attr ≡ true)
+        × (attribute_in (E.order endian) (B.source input).left ≡ Err (kind_of e))) }
+{
+    let plain = ParseConfig::<Native>::default().with_endian(endian);
+    let mut parser = Parser::new(alloc, input, plain);
+    if !with_attr {
+        return Ok(count_records(alloc, &mut parser));
     }
-    Ok(count_records(&mut parser))
+    match read_attr(parser) {
+        Ok(mut after) => Ok(count_records(alloc, &mut after)),
+        Err(error) => Err(error),
+    }
+}
+
+// Reads an attribute: the parser of what comes after it, under its configuration and the same order.
+fn read_attr<'p, B: ParseBuf<'p> + Drop, E: Endian>(
+    mut parser: Parser<B, E>,
+) -> ParseResult<Parser<B, E>>
+    ensures told { IsTrue (B.source (buffer_of parser)).told → IfOk result (λ after.
+        IsTrue (B.source (buffer_of after)).told) }
+    ensures order { IfOk result (λ after.
+        E.order (endian_of (config_of after)) ≡ E.order (endian_of (config_of parser))) }
+    ensures attr { IsTrue (B.source (buffer_of parser)).told → IfOk result (λ after.
+        (attr : perf_event_attr)
+        × (attribute_in (E.order (endian_of (config_of parser)))
+        (B.source (buffer_of parser)).left ≡ Ok attr)
+        × (configuration_of (config_of after) ≡ configured_by attr)
+        × ((B.source (buffer_of after)).left ≡ drop attr.size (B.source (buffer_of parser)).left)) }
+    ensures refused { IsTrue (B.source (buffer_of parser)).told → IfErr result (λ e.
+        IsTrue (of_layout (kind_of e)) →
+        attribute_in (E.order (endian_of (config_of parser)))
+        (B.source (buffer_of parser)).left ≡ Err (kind_of e)) }
+{
+    let attr = match parser.parse::<perf_event_attr>() {
+        Ok(attr) => attr,
+        Err(error) => return Err(error),
+    };
+    let order = match parser.endian().duplicate() {
+        Ok(order) => order,
+        Err(error) => return Err(error),
+    };
+    let config = ParseConfig::<Native>::from(attr).with_endian(order);
+    Ok(parser.reconfigure(config))
 }
 
 /// Counts the frames that a parser reads until its buffer ends, and says how it ended.
+///
+/// A refused frame is counted, and the next one begins at its end. Only a fault of the buffer and refused
+/// memory end a run early; the frame at which that happens is not counted.
 pub fn count_records<'p, B: ParseBuf<'p>, E: Endian>(
+    alloc: Global,
     parser: &mut Parser<B, E>,
-) -> (Counts, RunEnd) {
-    let mut counts = Counts::NONE;
-    for _ in 0..u64::MAX {
-        let run = read_records(parser, BATCH);
-        counts.add(&run.frames);
-        match run.end {
-            RunEnd::Limit => {}
-            end => return (counts, end),
-        }
-    }
-    (counts, RunEnd::Limit)
+) -> (Counts, RunEnd)
+    ensures config { config_of parser.new ≡ config_of parser.old }
+    ensures counts { IsTrue (B.source (buffer_of parser.old)).told →
+        CountsRun (configuration_of (config_of parser.old)) (E.order (endian_of (config_of parser.old)))
+        MOST_FRAMES (B.source (buffer_of parser.old)).left result.0 result.1
+        (B.source (buffer_of parser.new)).left }
+{
+    let mut counter = FrameCounter::new(alloc);
+    let run = each_frame(parser, MOST_FRAMES, &mut counter);
+    let end = match run.end {
+        Some(end) => end,
+        None => counter.end(),
+    };
+    (counter.counts(), end)
 }

@@ -1,50 +1,15 @@
-//! What frames add to the checksum.
+//! What records add to the checksum, modulo 2^64.
 
 ghost use Rattle.std.specs.Prelude.{◌≡◌, sum};
-ghost use Rattle.perf_records.specs.Records.{record_value, comm_value, mmap_value, mmap2_value};
-ghost use Rattle.perf_parser.specs.Runs.{seen_answer};
+ghost use Rattle.perf_records.specs.Records.{comm_value, mmap_value, mmap2_value};
 ghost use Rattle.perf_reports.specs.Counting.{wrapped, mmap_sum, mmap2_sum, comm_sum, task_sum};
-ghost use Rattle.perf_reports.specs.Counting.{lost_sum, sample_sum, record_sum, frame_sum};
+ghost use Rattle.perf_reports.specs.Counting.{lost_sum, sample_sum};
 ghost use Rattle.perf_sample_types.specs.SampleGetters.{getters_of};
 ghost use Rattle.perf_sample_types.specs.SampleGroups.{sample_value};
 
-use perf_event_data::parse::ParseResult;
-use perf_event_data::sys::perf_event_header;
-use perf_event_data::{Comm, Exit, Lost, Mmap, Mmap2, Record, Sample};
+use perf_event_data::{Comm, Exit, Lost, Mmap, Mmap2, Sample};
 
-/// What a frame adds to the checksum: a refused one nothing, and another what its record adds, its
-/// type and its size.
-pub fn frame_sum(header: &perf_event_header, answer: &ParseResult<Record>) -> u64
-    ensures { result ≡ wrapped (frame_sum (header.now, seen_answer answer.now)) }
-{
-    match answer {
-        Ok(record) => wrapping_sum(&[
-            record_sum(record),
-            u64::from(header.type_),
-            u64::from(header.size),
-        ]),
-        Err(_) => 0,
-    }
-}
-
-/// What a record adds. Those that are not named here add nothing.
-fn record_sum(found: &Record) -> u64
-    ensures { result ≡ wrapped (record_sum (record_value found.now)) }
-{
-    match found {
-        Record::Mmap(mapped) => mmap_sum(mapped),
-        Record::Lost(lost) => lost_sum(lost),
-        Record::Comm(comm) => comm_sum(comm),
-        Record::Exit(task) => task_sum(task),
-        Record::Fork(task) => task_sum(task),
-        Record::Mmap2(mapped) => mmap2_sum(mapped),
-        Record::Sample(sample) => sample_sum(sample),
-        Record::LostSamples(lost) => wrapping_sum(&[lost.lost]),
-        _ => 0,
-    }
-}
-
-fn mmap_sum(mapped: &Mmap) -> u64
+pub(crate) fn mmap_sum(mapped: &Mmap) -> u64
     ensures { result ≡ wrapped (mmap_sum (mmap_value mapped.now)) }
 {
     wrapping_sum(&[
@@ -57,7 +22,7 @@ fn mmap_sum(mapped: &Mmap) -> u64
     ])
 }
 
-fn mmap2_sum(mapped: &Mmap2) -> u64
+pub(crate) fn mmap2_sum(mapped: &Mmap2) -> u64
     ensures { result ≡ wrapped (mmap2_sum (mmap2_value mapped.now)) }
 {
     wrapping_sum(&[
@@ -70,7 +35,7 @@ fn mmap2_sum(mapped: &Mmap2) -> u64
     ])
 }
 
-fn comm_sum(comm: &Comm) -> u64
+pub(crate) fn comm_sum(comm: &Comm) -> u64
     ensures { result ≡ wrapped (comm_sum (comm_value comm.now)) }
 {
     wrapping_sum(&[
@@ -81,7 +46,7 @@ fn comm_sum(comm: &Comm) -> u64
 }
 
 // A task that was made or that ended.
-fn task_sum(task: &Exit) -> u64
+pub(crate) fn task_sum(task: &Exit) -> u64
     ensures { result ≡ wrapped (task_sum task.now) }
 {
     wrapping_sum(&[
@@ -93,13 +58,13 @@ fn task_sum(task: &Exit) -> u64
     ])
 }
 
-fn lost_sum(lost: &Lost) -> u64
+pub(crate) fn lost_sum(lost: &Lost) -> u64
     ensures { result ≡ wrapped (lost_sum lost.now) }
 {
     wrapping_sum(&[lost.id, lost.lost])
 }
 
-fn sample_sum(sample: &Sample) -> u64
+pub(crate) fn sample_sum(sample: &Sample) -> u64
     ensures { result ≡ wrapped (sample_sum (getters_of (sample_value sample.now))) }
 {
     let chain = match sample.callchain() {

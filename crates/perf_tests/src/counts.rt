@@ -119,9 +119,9 @@ fn streams_are_counted(rt: HostRuntime) {
 }
 
 // Each byte is 1, so that each frame has the type 0x01010101, which is unknown, and the size
-// 0x0101: it adds 16,843,009 and 257, that is 16,843,266. The 300 frames are more than a batch.
+// 0x0101: it adds 16,843,009 and 257, that is 16,843,266.
 #[test]
-fn batches_add_up(rt: HostRuntime) {
+fn many_frames_add_up(rt: HostRuntime) {
     let case = Counted {
         name: "300 frames",
         is_big: false,

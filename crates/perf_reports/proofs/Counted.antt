@@ -1,0 +1,297 @@
+-- What a counter has counted of the frames that it was handed.
+use Rattle.std.proofs.Common.{◌≡◌, ℕ, zero, suc, ◌+◌, ◌-◌, ◌<◌, ◌≤◌, Bool, true, false, List, [], ◌∷◌, ◌++◌, length, take, drop, map, arith, refl, sym, ◌∙◌, ap, subst, nat_lt, inl, inr, Ok, Err, None, Some, length-drop}
+use Rattle.std.specs.Prelude.{IsTrue, Option, Result, is_err, sum_by, count_by, nat_le}
+use Rattle.std.proofs.lemmas.Bool.{cases_lt, lt-ltb, le-ltb, le-leb}
+use Rattle.std.proofs.lemmas.List.{length-append, length-take, length-take-le, append-nil, take-take, take-map, append_assoc}
+use Rattle.std.proofs.lemmas.List.Sums.{sum_by-append}
+use Rattle.perf_base.specs.Errors.{kind_of}
+use Rattle.perf_base.specs.Header.{header_of}
+use Rattle.perf_base.specs.Order.{Order}
+use Rattle.perf_base.specs.Refusals.{IsAnswerOf}
+use Rattle.perf_base.specs.declared.error.ErrorKind.{ErrorKind}
+use Rattle.perf_base.specs.declared.error.ErrorKind.TheVariants.{Eof, InvalidRecord}
+use Rattle.perf_base.specs.declared.error.ParseError.{ParseError}
+use Rattle.perf_base.specs.declared.refusal.Refusal.{Refusal}
+use Rattle.perf_base.specs.declared.sys.perf_event_header.{perf_event_header}
+use Rattle.perf_buffers.specs.Buffer.{Source}
+use Rattle.perf_reader.specs.Meaning.{Meaning}
+use Rattle.perf_reader.specs.Reading.{of_layout}
+use Rattle.perf_reader.proofs.Paying.{last_moved}
+use Rattle.perf_base.specs.Configuration.{Configuration, under_misc}
+use Rattle.perf_base.specs.Attribute.{attribute}
+use Rattle.perf_base.specs.Took.{took, quit, took_by_places}
+use Rattle.perf_base.specs.declared.sys.perf_event_attr.{perf_event_attr}
+use Rattle.perf_records.proofs.Saying.{took_says, quit_says}
+use Rattle.perf_base.specs.Layout.{Parts, layout, value}
+use Rattle.perf_base.specs.declared.refusal.Refusal.TheVariants.{NoRoomForId}
+use Rattle.perf_records.specs.Bodies.{body_of_type, unread}
+use Rattle.perf_records.specs.FrameReadings.{metadata_in}
+use Rattle.perf_records.specs.Metadata.{MetadataValue}
+use Rattle.perf_records.specs.RecordTypes.{type_of}
+use Rattle.perf_records.specs.Shown.{VisitsBytes}
+use Rattle.perf_records.specs.Visits.{VisitsAll}
+use Rattle.perf_records.specs.Answers.{FrameParts, body_length, split_behind, record_in, answer_behind, answer_of_frame, answers}
+use Rattle.perf_records.specs.Frames.{frame_length, first_frames, frames, behind_frames}
+use Rattle.perf_records.specs.Records.{RecordValue}
+use Rattle.perf_records.specs.Sights.{Sight, whole, bad, sight_after, sight_in}
+use Rattle.perf_records.proofs.Handing.{finished}
+use Rattle.perf_records.proofs.Headers.{answer_whole}
+use Rattle.perf_parser.specs.FrameRuns.{Handed, HandsFirst, EndsFrames}
+use Rattle.perf_parser.specs.Runs.{EndsWith, LeavesWithin}
+use Rattle.perf_parser.specs.declared.runs.RunEnd.{RunEnd}
+use Rattle.perf_parser.proofs.Handing.{moved_by}
+use Rattle.perf_parser.proofs.Listing.{AreThere, frames_next, there_fits, there_next, behind_on, frames_fit}
+use Rattle.perf_reports.specs.Counting.{wrapped, frame_sum, counted, plus, sight_header, sight_answer, counted_sight, IsFault, EndsBy, CountsSight, CountsRun, RefusesSight, SumsAnswer, Adds, record_sum, attribute_in}
+use Rattle.perf_reports.specs.declared.counting.FrameCounter.{FrameCounter}
+use Rattle.perf_reports.specs.declared.counts.Counts.{Counts}
+
+-- ---- what a frame says where it is seen
+
+split_small : (c : Configuration) (o : Order) (h : perf_event_header) (bytes : List ℕ) → h.size < 8 → split_behind c o h bytes ≡ Err InvalidRecord
+split_small c o h bytes small = let a : nat_lt h.size 8 ≡ true = lt-ltb h.size 8 small in rw a refl
+
+split_short : (c : Configuration) (o : Order) (h : perf_event_header) (bytes : List ℕ) → 8 ≤ h.size → length bytes < body_length h → split_behind c o h bytes ≡ Err Eof
+split_short c o h bytes sized short =
+    let a : nat_lt h.size 8 ≡ false = le-ltb h.size 8 sized in
+    let b : nat_lt (length bytes) (body_length h) ≡ true = lt-ltb (length bytes) (body_length h) short in
+    rw (a, b) refl
+
+split_take : (c : Configuration) (o : Order) (h : perf_event_header) (bytes : List ℕ) → body_length h ≤ length bytes → split_behind c o h (take (body_length h) bytes) ≡ split_behind c o h bytes
+split_take c o h bytes fits =
+    let all : length (take (body_length h) bytes) ≡ body_length h = length-take-le (body_length h) bytes fits in
+    let a : nat_lt (length (take (body_length h) bytes)) (body_length h) ≡ false = le-ltb (length (take (body_length h) bytes)) (body_length h) (omega (arith, all)) in
+    let b : nat_lt (length bytes) (body_length h) ≡ false = le-ltb (length bytes) (body_length h) fits in
+    let t : take (body_length h) (take (body_length h) bytes) ≡ take (body_length h) bytes = take-take (body_length h) (body_length h) bytes (omega arith) in
+    rw (a, b, t) refl
+
+sight_small : (h : perf_event_header) (bytes : List ℕ) (lasting : Bool) → h.size < 8 → sight_after h bytes lasting ≡ bad h InvalidRecord
+sight_small h bytes lasting small = let a : nat_lt h.size 8 ≡ true = lt-ltb h.size 8 small in rw a refl
+
+sight_short : (h : perf_event_header) (bytes : List ℕ) (lasting : Bool) → 8 ≤ h.size → length bytes < body_length h → sight_after h bytes lasting ≡ bad h Eof
+sight_short h bytes lasting sized short =
+    let a : nat_lt h.size 8 ≡ false = le-ltb h.size 8 sized in
+    let b : nat_lt (length bytes) (body_length h) ≡ true = lt-ltb (length bytes) (body_length h) short in
+    rw (a, b) refl
+
+-- the pair that is counted of what is seen
+abbrev seen_pair : Configuration → Order → Sight → perf_event_header × Result RecordValue ErrorKind
+seen_pair c o seen = (sight_header seen, sight_answer c o seen)
+
+-- the pair of a frame
+abbrev pair_of : Configuration → Order → List ℕ → perf_event_header × Result RecordValue ErrorKind
+pair_of c o frame = (header_of o frame, answer_of_frame c o frame)
+
+after_pair : (c : Configuration) (o : Order) (h : perf_event_header) (bytes : List ℕ) (lasting : Bool) → seen_pair c o (sight_after h bytes lasting) ≡ (h, answer_behind c o h bytes)
+after_pair c o h bytes lasting = elim (cases_lt h.size 8) [
+  | inl small ↦ ap (seen_pair c o) (sight_small h bytes lasting small) ∙ ap (λ s. (h, record_in c o h s)) (sym (split_small c o h bytes small))
+  | inr sized ↦ elim (cases_lt (length bytes) (body_length h)) [
+    | inl short ↦ ap (seen_pair c o) (sight_short h bytes lasting sized short) ∙ ap (λ s. (h, record_in c o h s)) (sym (split_short c o h bytes sized short))
+    | inr fits ↦ ap (seen_pair c o) (finished h bytes lasting sized fits) ∙ ap (λ s. (h, record_in c o h s)) (split_take c o h bytes fits)
+  ]
+]
+
+frame_pair : (c : Configuration) (o : Order) (frame : List ℕ) (lasting : Bool) → 8 ≤ length frame → seen_pair c o (sight_in o frame lasting) ≡ pair_of c o frame
+frame_pair c o frame lasting fits =
+    after_pair c o (header_of o frame) (drop 8 frame) lasting ∙ ap (λ r. (header_of o frame, r)) (sym (answer_whole c o frame fits))
+
+-- ---- counts add up
+
+abbrev Answered : Type 0
+Answered = perf_event_header × Result RecordValue ErrorKind
+
+wrapped_sum : (m n : ℕ) → wrapped (wrapped m + wrapped n) ≡ wrapped (m + n)
+wrapped_sum m n = omega arith
+
+counted_more : (xs ys : List Answered) → plus (counted xs) (counted ys) ≡ counted (xs ++ ys)
+counted_more xs ys =
+    let a : length (xs ++ ys) ≡ length xs + length ys = length-append xs ys in
+    let b : count_by (λ (pair : Answered). is_err pair.1) (xs ++ ys) ≡ count_by (λ (pair : Answered). is_err pair.1) xs + count_by (λ (pair : Answered). is_err pair.1) ys = sum_by-append _ xs ys in
+    let d : sum_by frame_sum (xs ++ ys) ≡ sum_by frame_sum xs + sum_by frame_sum ys = sum_by-append frame_sum xs ys in
+    rw (a, b, d) (made (wrapped_sum _ _) (wrapped_sum _ _) (wrapped_sum _ _))
+  where
+    made : {r r' f f' k k' : ℕ} → r ≡ r' → f ≡ f' → k ≡ k' → ◌≡◌ {A = Counts} (record { records = r; refused = f; checksum = k }) (record { records = r'; refused = f'; checksum = k' })
+    made p q s = cc
+
+-- ---- frames that were handed out
+
+-- each frame has a header
+abbrev Headed : List (List ℕ) → Type 0
+Headed [] = Unit {0}
+Headed (frame ∷ more) = (8 ≤ length frame) × Headed more
+
+frames_none : (o : Order) (n : ℕ) (bytes : List ℕ) → length bytes < 8 → first_frames o n bytes ≡ []
+frames_none o zero bytes short = refl
+frames_none o (suc n) bytes short = let a : nat_lt (length bytes) 8 ≡ true = lt-ltb (length bytes) 8 short in rw a refl
+
+frames_headed : (o : Order) (n : ℕ) (bytes : List ℕ) → Headed (first_frames o n bytes)
+frames_headed o zero bytes = tt
+frames_headed o (suc n) bytes = elim (cases_lt (length bytes) 8) [
+  | inl short ↦ subst Headed (sym (frames_none o (suc n) bytes short)) tt
+  | inr fits ↦ subst Headed (sym (frames_next o n bytes fits)) (omega (arith, length-take (frame_length o bytes) bytes, fits), frames_headed o n (drop (frame_length o bytes) bytes))
+]
+
+module _ (c : Configuration) (o : Order) (all : Bool) where
+  abbrev gets : FrameCounter → Sight → Bool → FrameCounter → Type 0
+  gets was seen go now = CountsSight was c o seen go now
+
+  -- one more frame
+  one_more : (xs : List Answered) (frame : List ℕ) (lasting : Bool) (was now : FrameCounter) → 8 ≤ length frame → was.counts ≡ counted xs →
+      now.counts ≡ plus was.counts (counted_sight c o (sight_in o frame lasting)) → now.counts ≡ counted (xs ++ pair_of c o frame ∷ [])
+  one_more xs frame lasting was now fits so_far got =
+      got ∙ ap (λ k. plus k (counted_sight c o (sight_in o frame lasting))) so_far
+      ∙ ap (λ p. plus (counted xs) (counted (p ∷ []))) (frame_pair c o frame lasting fits)
+      ∙ counted_more xs (pair_of c o frame ∷ [])
+
+  regroup : (xs : List Answered) (frame : List ℕ) (more : List (List ℕ)) → (xs ++ pair_of c o frame ∷ []) ++ map (pair_of c o) more ≡ xs ++ map (pair_of c o) (frame ∷ more)
+  regroup xs frame more = append_assoc xs (pair_of c o frame ∷ []) (map (pair_of c o) more)
+
+  -- it went on after each of them
+  all_counted : (xs : List Answered) (fs : List (List ℕ)) (was now : FrameCounter) → Headed fs → was.counts ≡ counted xs → Handed gets o all was fs true now →
+      now.counts ≡ counted (xs ++ map (pair_of c o) fs)
+  all_counted xs [] was now headed so_far p = ap (λ (k : FrameCounter). k.counts) p.0 ∙ so_far ∙ ap counted (sym (append-nil xs))
+  all_counted xs (frame ∷ fs) was now headed so_far p = elim p.2 [
+    | inl more ↦ all_counted (xs ++ pair_of c o frame ∷ []) fs more.0 now headed.1 (one_more xs frame p.0 was more.0 headed.0 so_far more.1) more.2 ∙ ap counted (regroup xs frame fs)
+    | inr last ↦ let never : true ≡ false = last.2 in absurd (cc)
+  ]
+
+  -- it ended the run at the last of them, which it did not count
+  but_last_counted : (xs : List Answered) (fs : List (List ℕ)) (was now : FrameCounter) → Headed fs → was.counts ≡ counted xs → Handed gets o all was fs false now →
+      (k : ℕ) × (suc k ≡ length fs) × (now.counts ≡ counted (xs ++ map (pair_of c o) (take k fs))) × IsFault now.refusal
+  but_last_counted xs [] was now headed so_far p = let never : false ≡ true = p.1 in absurd (cc)
+  but_last_counted xs (frame ∷ fs) was now headed so_far p = elim p.2 [
+    | inl more ↦
+        let r = but_last_counted (xs ++ pair_of c o frame ∷ []) fs more.0 now headed.1 (one_more xs frame p.0 was more.0 headed.0 so_far more.1) more.2 in
+        (suc r.0, ap suc r.1, r.2 ∙ ap counted (regroup xs frame (take r.0 fs)), r.3)
+    | inr last ↦ (0, ap suc (sym (ap length last.1)), last.0.0 ∙ so_far ∙ ap counted (sym (append-nil xs)), last.0.1)
+  ]
+
+-- ---- the answers of a stream
+
+-- the first k of more frames
+frames_take : (o : Order) (k n : ℕ) (bytes : List ℕ) → AreThere o k bytes → k ≤ n → take k (first_frames o n bytes) ≡ first_frames o k bytes
+frames_take o zero n bytes h le = refl
+frames_take o (suc k) zero bytes h le = absurd (omega arith)
+frames_take o (suc k) (suc n) bytes h le =
+    let eight : 8 ≤ length bytes = there_fits o k bytes h in
+    ap (take (suc k)) (frames_next o n bytes eight)
+    ∙ ap (λ fs. take (frame_length o bytes) bytes ∷ fs) (frames_take o k n (drop (frame_length o bytes) bytes) (there_next o k bytes h) (omega arith))
+    ∙ sym (frames_next o k bytes eight)
+
+first_answers : (c : Configuration) (o : Order) (n : ℕ) (bytes : List ℕ) → AreThere o n bytes → map (pair_of c o) (first_frames o n bytes) ≡ take n (answers c o bytes)
+first_answers c o n bytes there =
+    ap (map (pair_of c o)) (sym (frames_take o n (length bytes) bytes there (frames_fit o n bytes there)))
+    ∙ sym (take-map (pair_of c o) n (frames o bytes))
+
+fewer_answers : (c : Configuration) (o : Order) (k n : ℕ) (bytes : List ℕ) → k ≤ n → AreThere o n bytes → map (pair_of c o) (take k (first_frames o n bytes)) ≡ take k (answers c o bytes)
+fewer_answers c o k n bytes le there =
+    sym (take-map (pair_of c o) k (first_frames o n bytes)) ∙ ap (take k) (first_answers c o n bytes there) ∙ take-take k n (answers c o bytes) le
+
+-- ---- how a run ends that its handler ended
+
+-- the bytes behind one more frame are an end of those behind the others
+taken_within : (o : Order) (bytes left : List ℕ) → left ≡ drop (frame_length o bytes) bytes → LeavesWithin o bytes left
+taken_within o bytes left p =
+    let old : Source = record { left = bytes; told = true; whole = false; can_fault = false; faults = None } in
+    let new : Source = record { left = left; told = true; whole = false; can_fault = false; faults = None } in
+    let moved = moved_by (frame_length o bytes) old new p in
+    let n : length left ≡ length bytes - frame_length o bytes = ap length p ∙ length-drop (frame_length o bytes) bytes in
+    (moved.0, omega (arith, n), last_moved old new moved)
+
+not_of_layout : {a b : ErrorKind} → a ≡ b → (IsTrue (of_layout b) → ⊥) → IsTrue (of_layout a) → ⊥
+not_of_layout same other = λ h. other (subst (λ (k : ErrorKind). IsTrue (of_layout k)) same h)
+
+ended_by : (o : Order) (limit k : ℕ) (bytes left : List ℕ) (refusal : Option Refusal) (e : RunEnd) → k < limit → IsFault refusal → EndsBy refusal e →
+    left ≡ behind_frames o (k + 1) bytes → EndsWith o limit bytes k e left
+ended_by o limit k bytes left None e below fault by behind = absurd fault
+ended_by o limit k bytes left (Some r) e below fault by behind =
+    subst (λ (x : RunEnd). EndsWith o limit bytes k x left) (sym by.1)
+    (below, not_of_layout by.2.kind_is fault, taken_within o (behind_frames o k bytes) left (behind ∙ behind_on o k bytes))
+
+-- the end of a run over frames that a counter was handed
+abbrev pub IsRunEnd : Option RunEnd → FrameCounter → RunEnd → Type 0
+IsRunEnd (Some x) now e = e ≡ x
+IsRunEnd None now e = EndsBy now.refusal e
+
+pub run_counts : (old : Meaning) (limit count : ℕ) (ended : Option RunEnd) (e : RunEnd) (was now : FrameCounter) (left : List ℕ) → was.counts ≡ counted [] →
+    HandsFirst (λ s x. CountsSight s old.settings old.order x) old count ended was now → EndsFrames old.order limit old.source.left count ended left → IsRunEnd ended now e →
+    CountsRun old.settings old.order limit old.source.left now.counts e left
+run_counts old limit count (Some x) e was now left none handed ends is =
+    let c : Configuration = old.settings in let o : Order = old.order in let bytes : List ℕ = old.source.left in
+    let fs : List (List ℕ) = first_frames o count bytes in (
+      count,
+      all_counted c o old.source.whole [] fs was now (frames_headed o count bytes) none handed.1 ∙ ap counted (first_answers c o count bytes handed.0),
+      subst (λ (y : RunEnd). EndsWith o limit bytes count y left) (sym is) ends,
+    )
+run_counts old limit count None e was now left none handed ends is =
+    let c : Configuration = old.settings in let o : Order = old.order in let bytes : List ℕ = old.source.left in
+    let fs : List (List ℕ) = first_frames o count bytes in
+    let r = but_last_counted c o old.source.whole [] fs was now (frames_headed o count bytes) none handed.1 in
+    let k : ℕ = r.0 in
+    let one_more : k + 1 ≡ count = omega (arith, r.1, handed.0) in (
+      k,
+      r.2 ∙ ap counted (fewer_answers c o k count bytes (omega (arith, one_more)) handed.0),
+      ended_by o limit k bytes left now.refusal e (omega (arith, one_more, ends.1)) r.3 is (ends.2 ∙ ap (λ n. behind_frames o n bytes) (sym one_more)),
+    )
+
+-- ---- what is summed of a frame
+
+-- what a visit of a frame summed
+pub visited_sum : (h : perf_event_header) (c : Configuration) (o : Order) (bytes : List ℕ) (lasting : Bool) (r : Result ℕ Refusal) (k : ℕ) →
+    VisitsBytes Adds h c o bytes lasting r k → SumsAnswer (answer_behind c o h bytes) r
+visited_sum h c o bytes lasting (Ok sum) k v = (v.0.0, v.0.6.0, v.0.3)
+visited_sum h c o bytes lasting (Err e) k v = λ layout. (v.0 layout).0
+
+-- bytes of which it is not said that they last
+pub less_lasting : (m : MetadataValue) (o : Order) (p : Parts RecordValue) (bytes : List ℕ) (lasting : Bool) (r : Result ℕ ErrorKind) (k : ℕ) → VisitsAll Adds m o p bytes true r k → VisitsAll Adds m o p bytes lasting r k
+less_lasting m o p bytes lasting (Ok sum) k v = (v.0, v.1, v.2, v.3, v.4, (λ is. v.5 refl), v.6)
+less_lasting m o p bytes lasting (Err e) k v = (v.0, (λ is. v.1 refl))
+
+-- a type that the kernel does not have: all of its body is there, whatever it is
+unread_says : (o : Order) (ty : ℕ) (bytes : List ℕ) → layout o (unread ty) bytes ≡ Ok (value o bytes 0 (unread ty))
+unread_says o ty bytes =
+    let fits : nat_le (0 + (length bytes - 0)) (length bytes) ≡ true = le-leb (0 + (length bytes - 0)) (length bytes) (omega arith) in
+    ap (λ (b : Bool). elim (elim b as (λ b. Option ErrorKind) [ true ↦ None | false ↦ Some Eof ]) as (λ f. Result RecordValue ErrorKind) [ None ↦ Ok (value o bytes 0 (unread ty)) | Some e ↦ Err e ]) fits
+
+unknown_says : (c : Configuration) (o : Order) (h : perf_event_header) (parts : FrameParts) → type_of h.type_ ≡ None → record_in c o h (Ok parts) ≡ Ok (value o parts.body 0 (unread h.type_))
+unknown_says c o h parts none =
+    ap (λ t. layout o (body_of_type (under_misc h.misc c) h.type_ t) parts.body) none ∙ unread_says o h.type_ parts.body
+
+pub unknown_adds : (c : Configuration) (o : Order) (h : perf_event_header) (bytes : List ℕ) (m : MetadataValue) → type_of h.type_ ≡ None → Ok m ≡ metadata_in (split_behind c o h bytes) →
+    SumsAnswer (answer_behind c o h bytes) (Ok 0)
+unknown_adds c o h bytes m none is = by (split_behind c o h bytes) refl
+  where
+    by : (s : Result FrameParts ErrorKind) → split_behind c o h bytes ≡ s → SumsAnswer (answer_behind c o h bytes) (Ok 0)
+    by (Ok parts) e = (value o parts.body 0 (unread h.type_), ap (record_in c o h) e ∙ unknown_says c o h parts none, refl)
+    by (Err k) e = let never : Ok m ≡ metadata_in (Err k) = is ∙ ap metadata_in e in absurd (cc)
+
+pub unknown_refused : (c : Configuration) (o : Order) (h : perf_event_header) (bytes : List ℕ) (x : ParseError) → Err (kind_of x) ≡ metadata_in (split_behind c o h bytes) → IsAnswerOf x NoRoomForId →
+    SumsAnswer (answer_behind c o h bytes) (Err NoRoomForId)
+unknown_refused c o h bytes x is why = by (split_behind c o h bytes) refl
+  where
+    by : (s : Result FrameParts ErrorKind) → split_behind c o h bytes ≡ s → SumsAnswer (answer_behind c o h bytes) (Err NoRoomForId)
+    by (Ok parts) e = let never : Err (kind_of x) ≡ metadata_in (Ok parts) = is ∙ ap metadata_in e in absurd (cc)
+    by (Err k) e =
+        let same : Err (kind_of x) ≡ metadata_in (Err k) = is ∙ ap metadata_in e in
+        let kind : kind_of x ≡ k = cc in
+        λ layout. ap (record_in c o h) e ∙ ap Err (sym kind ∙ why.kind_is)
+
+-- ---- what a counter counts of one frame
+
+pub sums_seen : (h : perf_event_header) (c : Configuration) (o : Order) (bytes : List ℕ) (lasting : Bool) (sum : ℕ) (was now : FrameCounter) → SumsAnswer (answer_behind c o h bytes) (Ok sum) →
+    ((r : RecordValue) → sum ≡ wrapped (record_sum r) → now.counts ≡ plus was.counts (counted ((h, Ok r) ∷ []))) → CountsSight was c o (whole h bytes lasting) true now
+sums_seen h c o bytes lasting sum was now says added = added says.0 says.2 ∙ ap (λ a. plus was.counts (counted ((h, a) ∷ []))) (sym says.1)
+
+pub refuses_seen : (h : perf_event_header) (c : Configuration) (o : Order) (bytes : List ℕ) (lasting : Bool) (e : Refusal) (was now : FrameCounter) (go : Bool) → SumsAnswer (answer_behind c o h bytes) (Err e) →
+    RefusesSight e was go now → CountsSight was c o (whole h bytes lasting) go now
+refuses_seen h c o bytes lasting e was now true says p = p.1 h ∙ ap (λ a. plus was.counts (counted ((h, a) ∷ []))) (sym (says p.0))
+refuses_seen h c o bytes lasting e was now false says p = p
+
+-- ---- the attribute of a stream
+
+pub attribute_read : (o : Order) (bytes left : List ℕ) (n m : ℕ) (a : perf_event_attr) → took_by_places o attribute bytes n ≡ took a left m → attribute_in o bytes ≡ Ok a
+unfolding attribute_in
+attribute_read o bytes left n m a h = (took_says o attribute bytes left n m a h).0
+
+pub attribute_refused : (o : Order) (bytes left : List ℕ) (n m : ℕ) (e : ErrorKind) → took_by_places o attribute bytes n ≡ quit e left m → attribute_in o bytes ≡ Err e
+unfolding attribute_in
+attribute_refused o bytes left n m e h = (quit_says o attribute bytes left n m e h).0

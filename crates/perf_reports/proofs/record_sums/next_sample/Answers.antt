@@ -1,0 +1,19 @@
+use Rattle.std.proofs.Common.{◌≡◌, true, false, refl}
+use Rattle.perf_records.specs.Records.{sample_is, sample_value}
+use Rattle.perf_records.specs.Visits.{is_lent_sample}
+use Rattle.perf_sample_types.specs.Sample.{sample}
+use Rattle.perf_records.proofs.Lending.{sample_lent}
+use Rattle.perf_records.proofs.Seeing.{visited, unvisited, of_said}
+use Rattle.perf_reports.specs.Counting.{Adds}
+use Rattle.perf_reports.proofs.record_sums.next_sample.Goals as goal
+
+pub returns : goal.returns
+returns g c = λ m.
+    let call = c.in-Err.ensures.call in
+    unvisited Adds m sample sample_value sample_is true (λ t w no. let never : true ≡ false = no in absurd (cc)) (of_said (λ says. says.0) call)
+
+pub returns-in-Ok : goal.returns-in-Ok
+returns-in-Ok g c = λ m.
+    let held = c.fill_sample.new.sample in
+    let call = c.in-Ok.ensures.call in
+    visited Adds m sample sample_value sample_is (is_lent_sample held) true c.sample_sum.ensures (λ t w. sample_lent held ((call.answer t).1 w)) (λ is. refl) (of_said (λ says. says.0) call)

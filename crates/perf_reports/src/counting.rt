@@ -1,0 +1,134 @@
+//! Counting the frames that a run hands out.
+
+ghost use Rattle.std.specs.Prelude.{◌≡◌, [], None, IsTrue, false};
+ghost use Rattle.perf_base.specs.Configured.{configuration_of, endian_of};
+ghost use Rattle.perf_base.specs.Refusals.{refusal_kind};
+ghost use Rattle.perf_buffers.specs.Words.{chunk_bytes};
+ghost use Rattle.perf_reader.specs.Reading.{of_layout};
+ghost use Rattle.perf_records.specs.Answers.{answer_behind};
+ghost use Rattle.perf_records.specs.RecordTypes.{type_of};
+ghost use Rattle.perf_reports.specs.Counting.{counted, CountsSight, EndsBy, RefusesSight, SumsAnswer};
+
+use crate::counts::Counts;
+use crate::record_sums::Sum;
+use perf_base::refusal::{Kept, ReadResult, Refusal};
+use perf_event_data::endian::Endian;
+use perf_event_data::parse::{ErrorKind, ParseConfig};
+use perf_event_data::{BadFrame, Frame, FrameHandler, RunEnd};
+use std::alloc::Global;
+
+/// Counts the frames that it is handed. If memory is refused for one, it ends the run and does not
+/// count that frame.
+#[derive(Drop)]
+pub(crate) struct FrameCounter {
+    alloc: Global,
+    // What was counted so far.
+    counts: Counts,
+    // Why it ended the run, if it did.
+    refusal: Option<Refusal>,
+}
+
+impl FrameCounter {
+    /// It has counted nothing.
+    pub(crate) fn new(alloc: Global) -> FrameCounter
+        ensures { result.counts ≡ counted [] }
+    {
+        FrameCounter {
+            alloc,
+            counts: Counts::NONE,
+            refusal: None,
+        }
+    }
+
+    /// What was counted.
+    pub(crate) fn counts(&self) -> Counts
+        ensures { result ≡ self.now.counts }
+    {
+        self.counts
+    }
+
+    /// How the run ended, if it was ended here.
+    pub(crate) fn end(&self) -> RunEnd
+        ensures { EndsBy self.now.refusal result }
+    {
+        match self.refusal {
+            Some(refusal) => RunEnd::Fault(Kept::none().answer(refusal)),
+            None => RunEnd::Limit,
+        }
+    }
+
+    // Counts a frame that was refused. A fault and want of memory end the run instead.
+    #[inline]
+    fn refuse(&mut self, refusal: Refusal) -> bool
+        ensures { RefusesSight refusal self.old result self.new }
+    {
+        match refusal.kind() {
+            ErrorKind::External | ErrorKind::OutOfMemory => {
+                self.refusal = Some(refusal);
+                false
+            }
+            ErrorKind::Eof
+            | ErrorKind::InvalidRecord
+            | ErrorKind::UnsupportedConfig
+            | ErrorKind::UnsupportedData => {
+                self.counts.add_refused();
+                true
+            }
+        }
+    }
+}
+
+// What the record of a frame adds to the checksum. A record of a type that the kernel does not have adds
+// nothing, and is not read.
+#[inline]
+fn frame_sum<E: Endian>(
+    alloc: Global,
+    config: &ParseConfig<E>,
+    frame: Frame<'_, '_>,
+) -> ReadResult<u64>
+    ensures { SumsAnswer (answer_behind (configuration_of config.now)
+        (E.order (endian_of config.now)) frame.entry.header (chunk_bytes frame.entry.rest)) result }
+{
+    if frame.kind().is_none() {
+        return unknown_sum(alloc, config, frame);
+    }
+    frame.read(alloc, config, Sum, &mut ()).0
+}
+
+// The same of a record of such a type.
+#[inline]
+fn unknown_sum<E: Endian>(
+    alloc: Global,
+    config: &ParseConfig<E>,
+    frame: Frame<'_, '_>,
+) -> ReadResult<u64>
+    requires { type_of frame.header.type_ ≡ None }
+    ensures { SumsAnswer (answer_behind (configuration_of config.now)
+        (E.order (endian_of config.now)) frame.entry.header (chunk_bytes frame.entry.rest)) result }
+{
+    match frame.metadata(alloc, config) {
+        Ok(_) => Ok(0),
+        Err(_) => Err(Refusal::NoRoomForId),
+    }
+}
+
+impl<'p, E: Endian> FrameHandler<'p, E> for FrameCounter {
+    ghost gets = { CountsSight };
+
+    #[inline]
+    fn frame(&mut self, config: &ParseConfig<E>, frame: Result<Frame<'_, 'p>, BadFrame>) -> bool {
+        match frame {
+            Ok(frame) => match frame_sum(self.alloc, config, frame) {
+                Ok(sum) => {
+                    self.counts.add_record(frame.header(), sum);
+                    true
+                }
+                Err(refusal) => self.refuse(refusal),
+            },
+            Err(_) => {
+                self.counts.add_refused();
+                true
+            }
+        }
+    }
+}

@@ -1,0 +1,228 @@
+//! What a record adds to the checksum, out of its body.
+
+ghost use Rattle.std.specs.Prelude.{◌≡◌, ◌≤◌, ◌+◌, ⊤, true, false, length};
+ghost use Rattle.perf_records.specs.Words.{Call, VisitsAll, VisitsType, MetadataValue, kinds, body};
+ghost use Rattle.perf_records.specs.Words.{configuration_of, endian_of, refused, is_external};
+ghost use Rattle.perf_records.specs.Words.{one_if_refused};
+ghost use Rattle.perf_reports.specs.Counting.{Adds};
+
+use crate::sums::{comm_sum, lost_sum, mmap_sum, mmap2_sum, sample_sum, task_sum};
+use perf_base::reads::ReadCounter;
+use perf_base::refusal::ReadResult;
+use perf_buffers::input::Input;
+use perf_event_data::endian::Endian;
+use perf_event_data::parse::{ParseBufChunk, ParseConfig};
+use perf_event_data::sys::PERF_RECORD_SAMPLE;
+use perf_event_data::{
+    Aux, AuxOutputHwId, BpfEvent, CGroup, Comm, CowSlice, Exit, Fork, ITraceStart, KSymbol, Lost,
+    LostSamples, Mmap, Mmap2, Namespaces, Read, RecordMetadata, RecordType, Sample, SwitchCpuWide,
+    TextPoke, Throttle, Visitor,
+};
+use perf_reader::reader::Reader;
+use perf_records::body_reader::{BodyReader, ByVisitor, OfBody};
+use perf_sample_types::sample::{empty_sample, fill_sample};
+use std::alloc::Global;
+
+/// What a record adds to the checksum. Nothing of it is kept, so that no byte string is copied, also if
+/// the bytes do not last.
+#[derive(Drop)]
+pub(crate) struct Sum;
+
+impl<'p> OfBody<'p, ()> for Sum {
+    type Output = u64;
+
+    ghost reads = { λ _. ⊤ };
+
+    ghost gives = { λ seen _ output _. Adds seen output };
+}
+
+impl<'p> BodyReader<'p, ()> for Sum {
+    #[inline]
+    fn read<E: Endian>(
+        self,
+        alloc: Global,
+        bytes: ParseBufChunk<'_, 'p>,
+        config: ParseConfig<E>,
+        metadata: RecordMetadata,
+        state: &mut (),
+    ) -> (ReadResult<u64>, ReadCounter) {
+        if metadata.ty() == PERF_RECORD_SAMPLE {
+            return read_sample(alloc, bytes.as_bytes(), config, metadata);
+        }
+        let lent = ParseBufChunk::External(bytes.as_bytes());
+        let visitor = ByVisitor {
+            visitor: SumVisitor,
+        };
+        visitor.read(alloc, lent, config, metadata, state)
+    }
+}
+
+// What a sample adds whose bytes these are, and how many elementary reads that took.
+#[inline]
+fn read_sample<E: Endian>(
+    alloc: Global,
+    bytes: &[u8],
+    config: ParseConfig<E>,
+    metadata: RecordMetadata,
+) -> (ReadResult<u64>, ReadCounter)
+    requires { metadata.ty ≡ 9 }
+    ensures answer { VisitsAll Adds metadata (E.order (endian_of config))
+        (body (configuration_of config) metadata.ty) bytes.now true (kinds result.0) result.1 }
+    ensures faults { is_external (refused (kinds result.0)) ≡ false }
+    ensures cost { result.1 ≤ length bytes.now + one_if_refused (refused (kinds result.0)) }
+{
+    let mut reader = Reader::new(alloc, bytes, config);
+    let sum = next_sample(&mut reader);
+    (sum, reader.into_reads())
+}
+
+// What the sample adds that is read next. It is large, and so it stays where it is read.
+#[inline]
+fn next_sample<'p, I: Input<'p>, E: Endian>(reader: &mut Reader<I, E>) -> ReadResult<u64>
+    ensures { (m : MetadataValue) → Call I.source E.order (VisitsType Adds m RecordType.Sample)
+        reader.old (kinds result) reader.new }
+{
+    let mut sample = empty_sample();
+    match fill_sample(&mut sample, reader) {
+        Ok(()) => Ok(sample_sum(&sample)),
+        Err(refusal) => Err(refusal),
+    }
+}
+
+// Makes of a record what it adds to the checksum.
+#[derive(Copy, Clone)]
+struct SumVisitor;
+
+impl<'a> Visitor<'a> for SumVisitor {
+    type Output = u64;
+
+    ghost gives = { Adds };
+
+    #[inline]
+    fn visit_unimplemented(self, _metadata: RecordMetadata) -> u64 {
+        0
+    }
+
+    #[inline]
+    fn visit_mmap(self, held: Mmap<'a>, _metadata: RecordMetadata) -> u64 {
+        let sum = mmap_sum(&held);
+        drop(held);
+        sum
+    }
+
+    #[inline]
+    fn visit_lost(self, held: Lost, _metadata: RecordMetadata) -> u64 {
+        lost_sum(&held)
+    }
+
+    #[inline]
+    fn visit_comm(self, held: Comm<'a>, _metadata: RecordMetadata) -> u64 {
+        let sum = comm_sum(&held);
+        drop(held);
+        sum
+    }
+
+    #[inline]
+    fn visit_exit(self, held: Exit, _metadata: RecordMetadata) -> u64 {
+        task_sum(&held)
+    }
+
+    #[inline]
+    fn visit_throttle(self, _held: Throttle, _metadata: RecordMetadata) -> u64 {
+        0
+    }
+
+    #[inline]
+    fn visit_unthrottle(self, _held: Throttle, _metadata: RecordMetadata) -> u64 {
+        0
+    }
+
+    #[inline]
+    fn visit_fork(self, held: Fork, _metadata: RecordMetadata) -> u64 {
+        task_sum(&held)
+    }
+
+    #[inline]
+    fn visit_read(self, _held: Read, _metadata: RecordMetadata) -> u64 {
+        0
+    }
+
+    #[inline]
+    fn visit_sample(self, held: Sample<'a>, _metadata: RecordMetadata) -> u64 {
+        let sum = sample_sum(&held);
+        drop(held);
+        sum
+    }
+
+    #[inline]
+    fn visit_mmap2(self, held: Mmap2<'a>, _metadata: RecordMetadata) -> u64 {
+        let sum = mmap2_sum(&held);
+        drop(held);
+        sum
+    }
+
+    #[inline]
+    fn visit_aux(self, _held: Aux, _metadata: RecordMetadata) -> u64 {
+        0
+    }
+
+    #[inline]
+    fn visit_itrace_start(self, _held: ITraceStart, _metadata: RecordMetadata) -> u64 {
+        0
+    }
+
+    #[inline]
+    fn visit_lost_samples(self, held: LostSamples, _metadata: RecordMetadata) -> u64 {
+        held.lost
+    }
+
+    #[inline]
+    fn visit_switch(self, _metadata: RecordMetadata) -> u64 {
+        0
+    }
+
+    #[inline]
+    fn visit_switch_cpu_wide(self, _held: SwitchCpuWide, _metadata: RecordMetadata) -> u64 {
+        0
+    }
+
+    #[inline]
+    fn visit_namespaces(self, held: Namespaces<'a>, _metadata: RecordMetadata) -> u64 {
+        drop(held);
+        0
+    }
+
+    #[inline]
+    fn visit_ksymbol(self, held: KSymbol<'a>, _metadata: RecordMetadata) -> u64 {
+        drop(held);
+        0
+    }
+
+    #[inline]
+    fn visit_bpf_event(self, _held: BpfEvent, _metadata: RecordMetadata) -> u64 {
+        0
+    }
+
+    #[inline]
+    fn visit_cgroup(self, held: CGroup<'a>, _metadata: RecordMetadata) -> u64 {
+        drop(held);
+        0
+    }
+
+    #[inline]
+    fn visit_text_poke(self, held: TextPoke<'a>, _metadata: RecordMetadata) -> u64 {
+        drop(held);
+        0
+    }
+
+    #[inline]
+    fn visit_aux_output_hw_id(self, _held: AuxOutputHwId, _metadata: RecordMetadata) -> u64 {
+        0
+    }
+
+    #[inline]
+    fn visit_unknown(self, bytes: CowSlice<'a, u8>, _metadata: RecordMetadata) -> u64 {
+        drop(bytes);
+        0
+    }
+}
