@@ -4,7 +4,7 @@
 //! is named, and prints one line of three numbers: how many frames there are, how many of them were
 //! refused, and a checksum of the others. With `attr` the input begins with an attribute, which
 //! says how the records after it are read. No record is printed, so its time is that of reading
-//! records; and none is kept, so its memory is 256 kB of the input and one frame, however long the
+//! records; and none is kept, so its memory is 1 MB of the input and one frame, however long the
 //! input is.
 //!
 //! The checksum is the sum, modulo 2^64, of the type and the size in the header of each frame that
@@ -37,8 +37,9 @@ use std::process::ExitCode;
 // What is said where the words ask for nothing.
 const USAGE: &str = "usage: perf_count little|big|native [attr]";
 
-// How many bytes are read at a time: enough to show frames of the greatest size whole.
-const INPUT_ROOM: usize = 1 << 18;
+// How many bytes are read at a time. A frame has fewer than 65,536, so that few frames lie across two
+// reads and have to be assembled.
+const INPUT_ROOM: usize = 1 << 20;
 
 fn main(rt: HostRuntime) -> Result<ExitCode> {
     let words: Vec<String> = env::args(&rt)?.skip(1).collect(rt.alloc())?;
