@@ -7,7 +7,7 @@ ghost use Rattle.perf_records.specs.Words.{NoRoomForId};
 ghost use Rattle.perf_buffers.specs.Words.{chunk_bytes, lasts};
 
 use crate::body_reader::BodyReader;
-use crate::parts::{FrameId, id_in};
+use crate::parts::{FrameId, id_of};
 use perf_base::config::ParseConfig;
 use perf_base::endian::Endian;
 use perf_base::reads::ReadCounter;
@@ -78,7 +78,7 @@ impl<'c, 'p> Frame<'c, 'p> {
             len,
             metadata,
             mut reads,
-        } = match id_in(alloc, bytes, config, self.header) {
+        } = match id_of(alloc, bytes, config, self.header) {
             Ok(id) => id,
             Err(refusal) => {
                 drop(made);

@@ -38,9 +38,8 @@ pub(crate) fn id_len<E>(config: &ParseConfig<E>, ty: u32) -> usize
     }
 }
 
-// The sample id whose bytes these are. So many bytes are never refused. It is not inlined, so that a
-// frame without a sample id, as a SAMPLE, has no place for one.
-#[inline(never)]
+// The sample id whose bytes these are. So many bytes are never refused.
+#[inline]
 fn read_id<'x, E: Endian>(reader: &mut Reader<&'x [u8], E>, ty: u32) -> SampleId
     requires { length (input_of reader.old).now
         ≡ words.id_length (configuration_of (config_of reader.old)) ty }
@@ -70,10 +69,53 @@ pub(crate) struct FrameId {
     pub(crate) reads: ReadCounter,
 }
 
-// The metadata of the frame whose bytes after its header are these. It is inlined, so that a caller
-// that knows the type to be without a sample id makes nothing of it.
-#[inline(always)]
+// The metadata of the frame whose bytes after its header are these.
+#[inline]
 pub(crate) fn id_in<E: Endian>(
+    alloc: Global,
+    bytes: &[u8],
+    config: &ParseConfig<E>,
+    header: perf_event_header,
+) -> ReadResult<FrameId>
+    ensures parts { IfOk result (λ id.
+        (words.id_length (configuration_of config.now) header.type_ ≤ length bytes.now)
+        × (words.frame_parts id.metadata (take id.len bytes.now)
+        ≡ words.parts_of (configuration_of config.now) (E.order (endian_of config.now)) header
+        bytes.now)) }
+    ensures len { IfOk result (λ id. id.len
+        ≡ length bytes.now - words.id_length (configuration_of config.now) header.type_) }
+    ensures reads { IfOk result (λ id. id.reads ≡ words.id_reads (configuration_of config.now)
+        (E.order (endian_of config.now)) header bytes.now) }
+    ensures bound { IfOk result (λ id.
+        id.reads ≤ words.id_length (configuration_of config.now) header.type_) }
+    ensures refused { IfErr result (λ e. (e ≡ words.NoRoomForId)
+        × (length bytes.now < words.id_length (configuration_of config.now) header.type_)) }
+{
+    if !carries_sample_id(header.type_) {
+        return Ok(FrameId {
+            len: bytes.len(),
+            metadata: RecordMetadata::from_parts(header.type_, header.misc, SampleId::default()),
+            reads: ReadCounter::new(),
+        });
+    }
+    let room = id_len(config, header.type_);
+    if bytes.len() < room {
+        return Err(Refusal::NoRoomForId);
+    }
+    let len = bytes.len() - room;
+    let mut tail = Reader::new(alloc, &bytes[len..], config.lent());
+    let id = read_id(&mut tail, header.type_);
+    Ok(FrameId {
+        len,
+        metadata: RecordMetadata::from_parts(header.type_, header.misc, id),
+        reads: tail.into_reads(),
+    })
+}
+
+// The same. It is inlined, so that a caller whose frame has no sample id, as a SAMPLE, makes no
+// metadata that it does not use.
+#[inline(always)]
+pub(crate) fn id_of<E: Endian>(
     alloc: Global,
     bytes: &[u8],
     config: &ParseConfig<E>,
@@ -100,18 +142,10 @@ pub(crate) fn id_in<E: Endian>(
             reads: ReadCounter::new(),
         });
     }
-    let room = id_len(config, header.type_);
-    if bytes.len() < room {
-        return Err(Refusal::NoRoomForId);
+    match id_in(alloc, bytes, config, header) {
+        Ok(id) => Ok(id),
+        Err(refusal) => Err(refusal),
     }
-    let len = bytes.len() - room;
-    let mut tail = Reader::new(alloc, &bytes[len..], config.lent());
-    let id = read_id(&mut tail, header.type_);
-    Ok(FrameId {
-        len,
-        metadata: RecordMetadata::from_parts(header.type_, header.misc, id),
-        reads: tail.into_reads(),
-    })
 }
 
 // What `take_id` leaves of a frame's bytes, and what it read.
