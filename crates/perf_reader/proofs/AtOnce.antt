@@ -1,7 +1,7 @@
 -- Numbers whose bytes were taken at once.
-use Rattle.std.proofs.Common.{◌≡◌, ℕ, ◌+◌, ◌-◌, ◌≤◌, List, length, take, drop, None, refl, sym, ◌∙◌, ap, arith, length-drop}
+use Rattle.std.proofs.Common.{◌≡◌, ℕ, ◌+◌, ◌-◌, ◌≤◌, List, Option, length, take, drop, None, Some, refl, sym, ◌∙◌, ap, subst, arith, length-drop}
 use Rattle.std.proofs.lemmas.List.{drop-drop, take-take, drop-take}
-use Rattle.std.specs.Prelude.{Ok, Err, IsTrue}
+use Rattle.std.specs.Prelude.{Ok, IfSome, IsTrue}
 use Rattle.perf_base.specs.Configured.{endian_of}
 use Rattle.perf_base.specs.Layout.{Shape, Answer, Parts, part, number, w4, w8}
 use Rattle.perf_base.specs.Order.{Order}
@@ -78,12 +78,14 @@ in_front at w n bytes fits =
 
 module _ {I E : Type 0} {source : I → Source} {order : E → Order} where
   -- parts that have all their bytes, whose value is made of these bytes
-  pub at_once : {Y B : Type 0} {show : Y → B} {a b : Reader I E} {bytes : List ℕ} {y : Y} (p : Parts B) (n reads : ℕ) (make : Order → List ℕ → B) →
+  pub at_once : {Y B : Type 0} {show : Y → B} {a b : Reader I E} {seen : Option (List ℕ)} {bytes : List ℕ} {y : Y} {e : E} (p : Parts B) (n reads : ℕ) (make : Order → List ℕ → B) →
       ((o : Order) (xs : List ℕ) (m : ℕ) → n ≤ length xs → took_by_places o p xs m ≡ took (make o (take n xs)) (drop n xs) (m + reads)) →
-      show y ≡ make (order (endian_of a.config)) bytes → Call source order (ReadsAtOnce n reads) a (Ok bytes) b → Call source order (Reads (λ _. p) show) a (Ok y) b
-  at_once {Y} {B} {show} {a} {b} {bytes} {y} p n reads make runs made call =
+      show y ≡ make (order e) bytes → e ≡ endian_of b.config → seen ≡ Some bytes → IfSome seen (λ bytes. Call source order (ReadsAtOnce n reads) a (Ok bytes) b) → Call source order (Reads (λ _. p) show) a (Ok y) b
+  at_once {Y} {B} {show} {a} {b} {seen} {bytes} {y} {e} p n reads make runs is_made same is taken =
       let old : Meaning = meaning source order a in
-      let new : Meaning = meaning source order b in record {
+      let new : Meaning = meaning source order b in
+      let call : Call source order (ReadsAtOnce n reads) a (Ok bytes) b = subst (λ (o : Option (List ℕ)). IfSome o (λ bytes. Call source order (ReadsAtOnce n reads) a (Ok bytes) b)) is taken in
+      let made : show y ≡ make (order (endian_of a.config)) bytes = is_made ∙ ap (λ e. make (order e) bytes) (same ∙ ap endian_of call.config) in record {
         config = call.config;
         whole = call.whole;
         told = call.told;
@@ -95,14 +97,3 @@ module _ {I E : Type 0} {source : I → Source} {order : E → Order} where
             ∙ ap (took (show y) new.source.left) (sym got.3);
         keeps = call.keeps;
       }
-
-  -- they are not refused for what they are
-  pub at_once_stops : {Y B : Type 0} {show : Y → B} {a b : Reader I E} {e : ErrorKind} (p : Parts B) (n reads : ℕ) →
-      Call source order (ReadsAtOnce n reads) a (Err e) b → Call source order (Reads (λ _. p) show) a (Err e) b
-  at_once_stops {Y} {B} {show} {a} {b} {e} p n reads call = record {
-    config = call.config;
-    whole = call.whole;
-    told = call.told;
-    answer = λ t kind. absurd (call.answer t kind);
-    keeps = call.keeps;
-  }

@@ -1,8 +1,9 @@
 //! Numbers whose bytes are taken at once.
 #![tactic(auto, using(crate::proofs::Paying::chain))]
 
-ghost use Rattle.std.specs.Prelude.{◌≡◌, ◌≤◌, ◌<◌, length, IsTrue};
+ghost use Rattle.std.specs.Prelude.{◌≡◌, ◌≤◌, ◌<◌, length, Ok, Err, None, IsTrue, IfOk, IfErr, IfSome};
 ghost use Rattle.perf_reader.specs.Words.{Call, ReadsAtOnce, TakesNoMemory, kinds, input_of};
+ghost use Rattle.perf_reader.specs.Words.{refusal_kind};
 
 use crate::reader::Reader;
 use perf_base::endian::Endian;
@@ -23,22 +24,33 @@ fn reads_of_numbers(numbers: usize) -> ReadCounter
 }
 
 impl<'p, I: Input<'p>, E: Endian> Reader<I, E> {
-    /// Whether the input says that it has so many more bytes.
+    /// The bytes of so many numbers, `N` in all, if the input reports that it has them; otherwise
+    /// nothing is read. They are taken at once, and each of the numbers is a read.
     #[inline]
-    pub fn has_bytes(&self, len: usize) -> bool
-        ensures { IsTrue result → IsTrue (I.source (input_of self.now)).told →
-            len ≤ length (I.source (input_of self.now)).left }
+    #[tactic(auto)]
+    pub fn read_at_once<const N: usize>(&mut self, numbers: usize) -> ReadResult<Option<[u8; N]>>
+        requires some { 0 < numbers }
+        requires room { numbers ≤ N }
+        ensures memory { TakesNoMemory (kinds result) }
+        ensures taken { IfOk result (λ taken. IfSome taken (λ bytes.
+            Call I.source E.order (ReadsAtOnce N numbers) self.old (Ok bytes) self.new)) }
+        ensures nothing { result ≡ Ok None → self.new ≡ self.old }
+        ensures refused { IfErr result (λ e.
+            Call I.source E.order (ReadsAtOnce N numbers) self.old (Err (refusal_kind e)) self.new) }
     {
-        match self.input.remaining_hint() {
-            Some(left) => len <= left,
-            None => false,
+        if self.has_bytes(N) != Some(true) {
+            return Ok(None);
+        }
+        match self.take_at_once::<N>(numbers) {
+            Ok(bytes) => Ok(Some(bytes)),
+            Err(refusal) => Err(refusal),
         }
     }
 
-    /// The bytes of so many numbers, `N` in all, which the input has. They are taken at once, and
-    /// each of the numbers is a read.
+    // The bytes of so many numbers, `N` in all, which the input has. They are taken at once, and
+    // each of the numbers is a read.
     #[inline]
-    pub fn read_at_once<const N: usize>(&mut self, numbers: usize) -> ReadResult<[u8; N]>
+    fn take_at_once<const N: usize>(&mut self, numbers: usize) -> ReadResult<[u8; N]>
         requires some { 0 < numbers }
         requires room { numbers ≤ N }
         requires has { IsTrue (I.source (input_of self.old)).told →

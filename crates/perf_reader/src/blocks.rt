@@ -46,18 +46,6 @@ fn convert<E: Endian>(order: &E, bytes: &[u8], numbers: &mut [u64])
 }
 
 impl<'p, I: Input<'p>, E: Endian> Reader<I, E> {
-    /// Whether the input says that it has so many more numbers of eight bytes.
-    #[inline]
-    pub fn has_numbers(&self, count: usize) -> bool
-        ensures { IsTrue result → IsTrue (I.source (input_of self.now)).told →
-            8 * count ≤ length (I.source (input_of self.now)).left }
-    {
-        match self.input.remaining_hint() {
-            Some(left) => count <= left / SIZE,
-            None => false,
-        }
-    }
-
     /// Whether the input shows so many more numbers of eight bytes.
     #[inline]
     pub fn shows_numbers(&self, count: usize) -> bool {

@@ -31,19 +31,6 @@ pub fn header_in<E: Endian>(endian: &E, bytes: [u8; 8]) -> perf_event_header
 }
 
 impl<'p, I: Input<'p>, E: Endian> Reader<I, E> {
-    // Whether the input says that it has the bytes of a header.
-    #[inline]
-    #[tactic(auto)]
-    fn has_header(&self) -> bool
-        ensures { IsTrue result → IsTrue (I.source (input_of self.now)).told →
-            8 ≤ length (I.source (input_of self.now)).left }
-    {
-        match self.input.remaining_hint() {
-            Some(left) => 8 <= left,
-            None => false,
-        }
-    }
-
     // The next header, whose bytes the input has. They are taken at once, and each of its three
     // numbers is a read.
     #[inline]
@@ -109,7 +96,7 @@ impl Meant for perf_event_header {
 impl<'p, I: Input<'p>> ReadFrom<'p, I> for perf_event_header {
     #[inline]
     fn read<E: Endian>(reader: &mut Reader<I, E>) -> ReadResult<Self> {
-        if reader.has_header() {
+        if reader.has_bytes(8) == Some(true) {
             return match reader.read_header() {
                 Ok(header) => Ok(header),
                 Err(refusal) => Err(refusal),

@@ -11,11 +11,13 @@ use perf_base::endian::Endian;
 use perf_base::refusal::{ReadResult, Refusal};
 use perf_buffers::input::Input;
 use perf_reader::reader::Reader;
-use perf_types::numbers::{lacks, read_to_the_end};
+use perf_types::numbers::read_to_the_end;
 use perf_words::BranchEntry;
 
-// How many numbers a branch is.
+// How many numbers a branch is, and how many bytes.
 const NUMBERS: usize = 3;
+
+const SIZE: usize = 24;
 
 // How many branches are taken at once.
 const BRANCHES: usize = 16;
@@ -136,7 +138,7 @@ pub(crate) fn read_branches<'p, I: Input<'p>, E: Endian>(
         (ReadsOne (words (3 * count)) (λ v. flat_map branch_numbers v.items))
         reader.old (kinds result) reader.new }
 {
-    if lacks(reader, NUMBERS, count) {
+    if reader.has_items(count, SIZE) == Some(false) {
         return Err(read_to_the_end(reader, NUMBERS, count));
     }
     let entries = match reader.list_for(count) {

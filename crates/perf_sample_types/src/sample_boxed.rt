@@ -33,21 +33,8 @@ fn refuse_sample<'p, I: Input<'p>, E: Endian>(reader: &mut Reader<I, E>) -> Refu
     }
 }
 
-// Whether the input says that it has fewer bytes than a sample of that type. Its layout refuses them,
-// so that no box is made for it.
-#[inline]
-fn is_short<'p, I: Input<'p>, E: Endian>(reader: &Reader<I, E>) -> bool
-    ensures { result ≡ falls_short (I.hint (input_of reader.now))
-        (8 * count_ones ((configuration_of (config_of reader.now)).sample_type % 2 ^ 24)) }
-{
-    match reader.input().remaining_hint() {
-        Some(left) => left < least_len(reader.config()),
-        None => false,
-    }
-}
-
-/// Reads a sample, which is large, in its box. Where the input says that it has fewer bytes than such
-/// a sample has at least, no box is made.
+/// Reads a sample, which is large, in its box. If the input reports fewer bytes than such a sample has
+/// at least, which its layout refuses, no box is made.
 #[inline(never)]
 pub fn read_boxed_sample<'p, I: Input<'p>, E: Endian>(
     reader: &mut Reader<I, E>,
@@ -59,7 +46,7 @@ pub fn read_boxed_sample<'p, I: Input<'p>, E: Endian>(
         (ReadsBorrowed shown.sample shown.boxed_value shown.IsBorrowedBox)
         reader.old (kinds result) reader.new }
 {
-    if is_short(reader) {
+    if reader.has_bytes(least_len(reader.config())) == Some(false) {
         return Err(refuse_sample(reader));
     }
     let mut held = match Box::new(reader.alloc(), empty_sample()) {

@@ -1,8 +1,11 @@
 -- Numbers that are read in a row out of an input that has fewer.
-use Rattle.std.proofs.Common.{◌≡◌, ℕ, ◌+◌, ◌*◌, ◌<◌, ◌≤◌, Bool, false, true, Option, List, length, sym, ◌∙◌, ap, arith}
-use Rattle.std.proofs.lemmas.Bool.{false≢true}
+use Rattle.std.proofs.Common.{◌≡◌, inl, inr, ℕ, ◌+◌, ◌*◌, ◌<◌, ◌≤◌, Bool, false, true, Option, List, length, ◌∙◌, ap, arith}
+use Rattle.std.proofs.lemmas.Bool.{false≢true, ltb-true}
+use Rattle.std.proofs.lemmas.Bool.Decides.{leb_tells}
 use Rattle.std.proofs.Math.Nat.{mul-le-mul_right}
-use Rattle.std.specs.Prelude.{Err, None, Some, IsTrue}
+use Rattle.std.specs.Prelude.{Err, None, Some, IsTrue, nat_le, option_map}
+use Rattle.std.specs.Option.{option_eq}
+use mathlib.Core.Bool.{beq}
 use Rattle.perf_base.specs.Configured.{endian_of}
 use Rattle.perf_base.specs.Layout.{words}
 use Rattle.perf_base.specs.Order.{Order}
@@ -24,11 +27,14 @@ within_items numbers count k i item number =
     let turned : count * numbers ≡ numbers * count = grind arith in
     omega (arith, next, same, turned, number)
 
--- an input that does not lack the bytes does not fall short of them
-pub not_short : {P : Type 0} (hint : Option ℕ) (n m : ℕ) (lacks : Bool) → lacks ≡ falls_short hint n → lacks ≡ false → m ≡ n →
+-- an input that does not report fewer bytes does not fall short of them
+pub not_short : {P : Type 0} (hint : Option ℕ) (n m : ℕ) (seen : Option Bool) → seen ≡ option_map (nat_le n) hint → false ≡ option_eq beq seen (Some false) → m ≡ n →
     falls_short hint m ≡ true → P
-not_short hint n m lacks is fits same short =
-    absurd (false≢true (sym fits ∙ is ∙ ap (falls_short hint) (sym same) ∙ short))
+not_short None n m seen is fits same short = absurd (false≢true short)
+not_short (Some left) n m seen is fits same short = elim (leb_tells n left) [
+  | inl fits_all ↦ absurd (omega (arith, ltb-true left m short, fits_all.1, same))
+  | inr fewer ↦ absurd (false≢true (fits ∙ ap (λ (s : Option Bool). option_eq beq s (Some false)) (is ∙ ap Some fewer.0)))
+]
 
 lacking : (start m : Meaning) → Keeps start None m → Keeps start (Some Eof) m
 lacking start m h = record {

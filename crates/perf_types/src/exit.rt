@@ -1,9 +1,9 @@
 //! EXIT and FORK.
 #![tactic(auto, using(perf_reader::proofs::Paying::chain))]
 
-ghost use Rattle.std.specs.Prelude.{◌≡◌, ◌≤◌, length, IsTrue};
+ghost use Rattle.std.specs.Prelude.{◌≡◌};
 ghost use Rattle.perf_base.specs.Layout.{value};
-ghost use Rattle.perf_reader.specs.Words.{Call, ReadsPlain, input_of, kinds};
+ghost use Rattle.perf_reader.specs.Words.{ReadsPlain};
 ghost use Rattle.perf_types.specs.Exit.{exit};
 
 use crate::pair::pair_in;
@@ -59,47 +59,18 @@ fn exit_in<E: Endian>(endian: &E, bytes: [u8; SIZE]) -> Exit
     }
 }
 
-// The fields, whose bytes the input has. They are taken at once.
-#[inline]
-fn read_at_once<'p, I: Input<'p>, E: Endian>(reader: &mut Reader<I, E>) -> ReadResult<Exit>
-    requires { IsTrue (I.source (input_of reader.old)).told →
-        24 ≤ length (I.source (input_of reader.old)).left }
-    ensures call { Call I.source E.order (ReadsPlain (λ _. exit) (λ r. r))
-        reader.old (kinds result) reader.new }
-{
-    match reader.read_at_once::<SIZE>(NUMBERS) {
-        Ok(bytes) => Ok(exit_in(reader.endian(), bytes)),
-        Err(refusal) => Err(refusal),
-    }
-}
-
-// The fields, a number at a time.
-#[inline]
-fn read_by_number<'p, I: Input<'p>, E: Endian>(reader: &mut Reader<I, E>) -> ReadResult<Exit>
-    ensures call { Call I.source E.order (ReadsPlain (λ _. exit) (λ r. r))
-        reader.old (kinds result) reader.new }
-{
-    Ok(Exit {
-        pid: reader.read_u32()?,
-        ppid: reader.read_u32()?,
-        tid: reader.read_u32()?,
-        ptid: reader.read_u32()?,
-        time: reader.read_u64()?,
-    })
-}
-
 impl<'p, I: Input<'p>> ReadFrom<'p, I> for Exit {
     #[inline]
     fn read<E: Endian>(reader: &mut Reader<I, E>) -> ReadResult<Self> {
-        if reader.has_bytes(SIZE) {
-            return match read_at_once(reader) {
-                Ok(exit) => Ok(exit),
-                Err(refusal) => Err(refusal),
-            };
+        if let Some(bytes) = reader.read_at_once::<SIZE>(NUMBERS)? {
+            return Ok(exit_in(reader.endian(), bytes));
         }
-        match read_by_number(reader) {
-            Ok(exit) => Ok(exit),
-            Err(refusal) => Err(refusal),
-        }
+        Ok(Exit {
+            pid: reader.read_u32()?,
+            ppid: reader.read_u32()?,
+            tid: reader.read_u32()?,
+            ptid: reader.read_u32()?,
+            time: reader.read_u64()?,
+        })
     }
 }

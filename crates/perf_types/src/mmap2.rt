@@ -351,11 +351,8 @@ fn read_inode<'p, I: Input<'p>, E: Endian>(reader: &mut Reader<I, E>) -> ReadRes
     ensures call { Call I.source E.order (Reads (λ _. file.inode) file.detail_value)
         reader.old (kinds result) reader.new }
 {
-    if reader.has_bytes(INODE_SIZE) {
-        return match reader.read_at_once::<INODE_SIZE>(4) {
-            Ok(bytes) => Ok(inode_in(reader.endian(), bytes)),
-            Err(refusal) => Err(refusal),
-        };
+    if let Some(bytes) = reader.read_at_once::<INODE_SIZE>(4)? {
+        return Ok(inode_in(reader.endian(), bytes));
     }
     Ok(MmapDetail::Default {
         maj: reader.read_u32()?,
@@ -451,11 +448,8 @@ impl Place {
         ensures call { Call I.source E.order (Reads (λ _. place) (λ p. p))
             reader.old (kinds result) reader.new }
     {
-        if reader.has_bytes(PLACE_SIZE) {
-            return match reader.read_at_once::<PLACE_SIZE>(5) {
-                Ok(bytes) => Ok(Place::from_bytes(reader.endian(), bytes)),
-                Err(refusal) => Err(refusal),
-            };
+        if let Some(bytes) = reader.read_at_once::<PLACE_SIZE>(5)? {
+            return Ok(Place::from_bytes(reader.endian(), bytes));
         }
         Ok(Place {
             pid: reader.read_u32()?,

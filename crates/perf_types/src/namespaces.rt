@@ -8,7 +8,7 @@ ghost use Rattle.perf_types.specs.Namespaces as spaces;
 ghost use Rattle.perf_types.specs.Words.{Call, Reads, ReadsOne, ReadsPlain, TakesNoMemory, kinds, words};
 ghost use Rattle.perf_types.specs.Words.{cow_items, IsClone, flat_map, option_copied};
 
-use crate::numbers::{lacks, read_to_the_end};
+use crate::numbers::read_to_the_end;
 use perf_base::cow::CowSlice;
 use perf_base::endian::Endian;
 use perf_base::error::ParseResult;
@@ -134,8 +134,10 @@ impl<'p, I: Input<'p>> ReadFrom<'p, I> for NamespaceEntry {
     }
 }
 
-// How many numbers an entry is.
+// How many numbers an entry is, and how many bytes.
 const NUMBERS: usize = 2;
+
+const SIZE: usize = 16;
 
 // So many entries. A list that does not fit takes no memory where the input says what it has.
 fn read_entries<'p, I: Input<'p>, E: Endian>(
@@ -148,7 +150,7 @@ fn read_entries<'p, I: Input<'p>, E: Endian>(
         (ReadsOne (words (2 * count)) (λ v. flat_map spaces.entry_numbers v.items))
         reader.old (kinds result) reader.new }
 {
-    if lacks(reader, NUMBERS, count) {
+    if reader.has_items(count, SIZE) == Some(false) {
         return Err(read_to_the_end(reader, NUMBERS, count));
     }
     let mut entries = match reader.list_for(count) {

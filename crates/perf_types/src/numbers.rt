@@ -14,25 +14,6 @@ use perf_reader::reader::Reader;
 // How many bytes a number has.
 const SIZE: usize = 8;
 
-/// Whether the input says that it has fewer than `count` items, each of which is so many numbers.
-/// The count may be any.
-#[inline]
-pub fn lacks<'p, I: Input<'p>, E: Endian>(
-    reader: &Reader<I, E>,
-    numbers: usize,
-    count: usize,
-) -> bool
-    requires { 0 < numbers }
-    ensures is { result ≡ falls_short (I.hint (input_of reader.now)) (8 * (numbers * count)) }
-    ensures exact { IsTrue result → IsTrue (I.source (input_of reader.now)).told →
-        length (I.source (input_of reader.now)).left < 8 * (numbers * count) }
-{
-    match reader.input().remaining_hint() {
-        Some(left) => left / SIZE / numbers < count,
-        None => false,
-    }
-}
-
 /// Reads `count` items of so many numbers, of which the input has fewer, up to its end, and returns
 /// the refusal. None of them is kept, so that no memory is taken.
 pub fn read_to_the_end<'p, I: Input<'p>, E: Endian>(
@@ -70,7 +51,9 @@ fn append_numbers<'p, I: Input<'p>, E: Endian>(
         reader.old (kinds result) reader.new }
 {
     let mut block = [0; BLOCK];
-    while numbers.len() < count && reader.has_numbers(BLOCK.min(count - numbers.len())) {
+    while numbers.len() < count
+        && reader.has_items(BLOCK.min(count - numbers.len()), SIZE) == Some(true)
+    {
         let more = BLOCK.min(count - numbers.len());
         match reader.read_block(&mut block[..more]) {
             Ok(()) => (),
@@ -104,7 +87,7 @@ pub fn read_numbers<'p, I: Input<'p>, E: Endian>(
     ensures call { Call I.source E.order (ReadsOne (words count) (λ v. v.items))
         reader.old (kinds result) reader.new }
 {
-    if lacks(reader, 1, count) {
+    if reader.has_items(count, SIZE) == Some(false) {
         return Err(read_to_the_end(reader, 1, count));
     }
     let mut numbers = match reader.list_for(count) {

@@ -25,8 +25,9 @@ pub(crate) fn pair_in<E: Endian>(endian: &E, bytes: [u8; SIZE]) -> (u32, u32)
     )
 }
 
-// The next two numbers, at once where the input says that it has them.
+// The next two numbers, at once if the input reports that it has them.
 #[inline]
+#[tactic(auto, using(perf_reader::proofs::Paying::chain))]
 pub(crate) fn read_pair<'p, I: Input<'p>, E: Endian>(
     reader: &mut Reader<I, E>,
 ) -> ReadResult<(u32, u32)>
@@ -34,11 +35,8 @@ pub(crate) fn read_pair<'p, I: Input<'p>, E: Endian>(
     ensures call { Call I.source E.order (Reads (λ _. pair) (λ p. p))
         reader.old (kinds result) reader.new }
 {
-    if reader.has_bytes(SIZE) {
-        return match reader.read_at_once::<SIZE>(2) {
-            Ok(bytes) => Ok(pair_in(reader.endian(), bytes)),
-            Err(refusal) => Err(refusal),
-        };
+    if let Some(bytes) = reader.read_at_once::<SIZE>(2)? {
+        return Ok(pair_in(reader.endian(), bytes));
     }
     let first = reader.read_u32()?;
     let second = reader.read_u32()?;

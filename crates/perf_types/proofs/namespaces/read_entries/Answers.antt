@@ -58,23 +58,20 @@ returns-clause-call g c =
 
 pub returns-in-Err-read_u64-clause-short : goal.returns-in-Err-read_u64-clause-short
 returns-in-Err-read_u64-clause-short g c =
-    not_short (g.I.Input.hint c.args.reader.now.input) (8 * (2 * c.args.count)) (16 * c.args.count)
-    c.lacks.result c.lacks.ensures.is c.if-lacks.false (omega arith)
+    not_short (g.I.Input.hint c.args.reader.now.input) (c.args.count * 16) (16 * c.args.count)
+    c.has_items.result c.has_items.ensures.is c.if-eq.ensures (omega arith)
 
 pub returns-in-Err-read_u64-2-clause-short : goal.returns-in-Err-read_u64-2-clause-short
 returns-in-Err-read_u64-2-clause-short g c =
-    not_short (g.I.Input.hint c.args.reader.now.input) (8 * (2 * c.args.count)) (16 * c.args.count)
-    c.lacks.result c.lacks.ensures.is c.if-lacks.false (omega arith)
+    not_short (g.I.Input.hint c.args.reader.now.input) (c.args.count * 16) (16 * c.args.count)
+    c.has_items.result c.has_items.ensures.is c.if-eq.ensures (omega arith)
 
 pub returns-then-is_err-clause-short : goal.returns-then-is_err-clause-short
 returns-then-is_err-clause-short g c =
-    not_short (g.I.Input.hint c.args.reader.now.input) (8 * (2 * c.args.count)) (16 * c.args.count)
-    c.lacks.result c.lacks.ensures.is c.if-lacks.false (omega arith)
+    not_short (g.I.Input.hint c.args.reader.now.input) (c.args.count * 16) (16 * c.args.count)
+    c.has_items.result c.has_items.ensures.is c.if-eq.ensures (omega arith)
 
 pub returns-clause-short : goal.returns-clause-short
 returns-clause-short g c =
-    not_short (g.I.Input.hint c.args.reader.now.input) (8 * (2 * c.args.count)) (16 * c.args.count)
-    c.lacks.result c.lacks.ensures.is c.if-lacks.false (omega arith)
-
-pub returns-then-lacks-clause-short : goal.returns-then-lacks-clause-short
-returns-then-lacks-clause-short g c = λ short. (c.read_to_the_end.ensures.memory, tt)
+    not_short (g.I.Input.hint c.args.reader.now.input) (c.args.count * 16) (16 * c.args.count)
+    c.has_items.result c.has_items.ensures.is c.if-eq.ensures (omega arith)

@@ -3,7 +3,7 @@ use Rattle.perf_base.specs.Refusals.{refusal_kind}
 use Rattle.perf_reader.specs.Meaning.{Meaning, meaning}
 use Rattle.perf_reader.proofs.AtOnce.{never_lacking, at_once_keeps}
 use Rattle.perf_reader.proofs.Paying.{array_keeps}
-use Rattle.perf_reader.proofs.reader.Reader.read_at_once.Goals as goal
+use Rattle.perf_reader.proofs.reader.Reader.take_at_once.Goals as goal
 
 pub returns-in-Err-clause-call : goal.returns-in-Err-clause-call
 returns-in-Err-clause-call g c =
