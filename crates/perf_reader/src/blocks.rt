@@ -12,14 +12,14 @@ use perf_base::reads::ReadCounter;
 use perf_base::refusal::ReadResult;
 use perf_buffers::input::Input;
 
-/// How many numbers are taken at once, at most.
-pub const BLOCK: usize = 32;
+/// How many numbers a block has, at most, that is read where the input does not show its numbers.
+pub const BLOCK: usize = 48;
 
 // How many bytes a number has.
 const SIZE: usize = 8;
 
-// How many bytes a block has, at most.
-const BYTES: usize = 256;
+// How many bytes such a block has.
+const BYTES: usize = 384;
 
 // So many reads.
 #[inline]
@@ -57,6 +57,7 @@ impl<'p, I: Input<'p>, E: Endian> Reader<I, E> {
     #[inline]
     pub fn read_shown(&mut self, numbers: &mut [u64]) -> ReadResult<bool>
         requires { 0 < length numbers.old }
+        ensures memory { TakesNoMemory (kinds result) }
         ensures shown { result ≡ Ok true → Call I.source E.order
             (ReadsOne (words (length numbers.old)) (λ (_ : Bool). numbers.new))
             self.old (Ok true) self.new }
@@ -80,12 +81,51 @@ impl<'p, I: Input<'p>, E: Endian> Reader<I, E> {
         Ok(true)
     }
 
-    /// Fills a block with the next numbers of eight bytes, which the input has. There is at least one
-    /// of them, and there are at most [`BLOCK`]. They are taken at once, and each of them is a read.
+    /// Fills a block with the next numbers of eight bytes, of which there is at least one. They are
+    /// taken at once if the input shows them, or reports that it has them and they are no more than
+    /// [`BLOCK`]; otherwise they are read one by one. Each of them is a read.
     #[inline]
     pub fn read_block(&mut self, numbers: &mut [u64]) -> ReadResult<()>
+        requires { 0 < length numbers.old }
+        ensures memory { TakesNoMemory (kinds result) }
+        ensures call { Call I.source E.order
+            (ReadsOne (words (length numbers.old)) (λ _. numbers.new))
+            self.old (kinds result) self.new }
+    {
+        match self.read_shown(numbers) {
+            Ok(true) => Ok(()),
+            Ok(false) => self.read_unshown(numbers),
+            Err(refusal) => Err(refusal),
+        }
+    }
+
+    // The same where the input does not show them all.
+    #[inline(never)]
+    fn read_unshown(&mut self, numbers: &mut [u64]) -> ReadResult<()>
+        requires { 0 < length numbers.old }
+        ensures memory { TakesNoMemory (kinds result) }
+        ensures call { Call I.source E.order
+            (ReadsOne (words (length numbers.old)) (λ _. numbers.new))
+            self.old (kinds result) self.new }
+    {
+        if numbers.len() <= BLOCK && self.has_items(numbers.len(), SIZE) == Some(true) {
+            return self.take_block(numbers);
+        }
+        for i in 0..numbers.len() {
+            numbers[i] = match self.read_u64() {
+                Ok(number) => number,
+                Err(refusal) => return Err(refusal),
+            };
+        }
+        Ok(())
+    }
+
+    // Fills a block with the next numbers of eight bytes, which the input has. There is at least one
+    // of them, and there are at most [`BLOCK`]. They are taken at once, and each of them is a read.
+    #[inline]
+    fn take_block(&mut self, numbers: &mut [u64]) -> ReadResult<()>
         requires some { 0 < length numbers.old }
-        requires most { length numbers.old ≤ 32 }
+        requires most { length numbers.old ≤ 48 }
         requires there { IsTrue (I.source (input_of self.old)).told →
             8 * length numbers.old ≤ length (I.source (input_of self.old)).left }
         ensures memory { TakesNoMemory (kinds result) }

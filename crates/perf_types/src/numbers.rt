@@ -37,8 +37,7 @@ pub fn read_to_the_end<'p, I: Input<'p>, E: Endian>(
     Refusal::Eof
 }
 
-// So many numbers, in blocks where the input says that it has them, and else one by one. The list is
-// empty.
+// So many numbers, in blocks. The list is empty.
 #[inline(never)]
 fn append_numbers<'p, I: Input<'p>, E: Endian>(
     reader: &mut Reader<I, E>,
@@ -51,24 +50,13 @@ fn append_numbers<'p, I: Input<'p>, E: Endian>(
         reader.old (kinds result) reader.new }
 {
     let mut block = [0; BLOCK];
-    while numbers.len() < count
-        && reader.has_items(BLOCK.min(count - numbers.len()), SIZE) == Some(true)
-    {
+    while numbers.len() < count {
         let more = BLOCK.min(count - numbers.len());
         match reader.read_block(&mut block[..more]) {
             Ok(()) => (),
             Err(refusal) => return Err(refusal),
         }
         if numbers.extend_from_slice(&block[..more]).is_err() {
-            return Err(Refusal::OutOfMemory);
-        }
-    }
-    for _ in numbers.len()..count {
-        let number = match reader.read_u64() {
-            Ok(number) => number,
-            Err(refusal) => return Err(refusal),
-        };
-        if numbers.push(number).is_err() {
             return Err(Refusal::OutOfMemory);
         }
     }

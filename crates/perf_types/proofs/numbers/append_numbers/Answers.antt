@@ -1,11 +1,11 @@
-use Rattle.std.proofs.Common.{rules, ◌≡◌, suc, ℕ, List, ◌+◌, ◌≤◌, ◌++◌, ◌∷◌, [], length, take, drop, ap, refl, sym, ◌∙◌, arith, length-drop}
+use Rattle.std.proofs.Common.{rules, ◌≡◌, ℕ, List, ◌+◌, ◌≤◌, ◌++◌, [], length, take, drop, ap, refl, sym, ◌∙◌, arith, length-drop}
 use Rattle.std.proofs.lemmas.List.{length-append, length-take-le, take_at}
 use Rattle.perf_base.specs.Refusals.{refusal_kind}
-use Rattle.perf_reader.proofs.InRow.{row_none, row_cast, row_seen, row_more, row_further, row_stops, row_ceases, row_starves, row_gives}
+use Rattle.perf_reader.proofs.InRow.{row_none, row_cast, row_seen, row_further, row_ceases, row_starves, row_gives}
 use Rattle.perf_types.proofs.numbers.append_numbers.Goals as goal
 
-pub loop-reader-init : goal.loop-reader-init
-loop-reader-init g c =
+pub loop-block-init : goal.loop-block-init
+loop-block-init g c =
     let s = g.I.Input.source in let o = g.E.Endian.order in
     let none : length c.args.numbers.items ≡ 0 = ap length c.requires in (
       omega (arith, none),
@@ -16,131 +16,82 @@ loop-reader-init g c =
 
 pub overflow_sub-count : goal.overflow_sub-count
 overflow_sub-count g c =
-    let len : c.len.result ≡ length c.loop-reader.numbers.items = search rules in
-    omega (arith, len, c.loop-reader.invariant.0)
+    let len : c.len.result ≡ length c.loop-block.numbers.items = search rules in
+    omega (arith, len, c.loop-block.invariant.0)
 
 -- what a list has behind one that was appended from a block
 appended : (ys zs block items : List ℕ) (k more : ℕ) → k ≡ more → length zs ≡ k → items ≡ ys ++ take more (zs ++ drop more block) → items ≡ ys ++ zs
 appended ys zs block items k more is long kept = kept ∙ ap (λ (ws : List ℕ). ys ++ ws) (take_at zs (drop more block) more (long ∙ is))
 
 -- how long a block is behind a read
-filled : (zs block : List ℕ) (k more : ℕ) → k ≡ more → more ≤ 32 → length zs ≡ k → length block ≡ 32 → length (zs ++ drop more block) ≡ 32
+filled : (zs block : List ℕ) (k more : ℕ) → k ≡ more → more ≤ 48 → length zs ≡ k → length block ≡ 48 → length (zs ++ drop more block) ≡ 48
 filled zs block k more is within long all = omega (arith, length-append zs (drop more block), length-drop more block, is, within, long, all)
 
 pub returns-in-Err-clause-call : goal.returns-in-Err-clause-call
 returns-in-Err-clause-call g c =
     let s = g.I.Input.source in let o = g.E.Endian.order in
-    let ys = c.loop-reader.numbers.items in
+    let ys = c.loop-block.numbers.items in
     let more = c.min-more.result in
-    let block : List ℕ = c.loop-reader.block in
+    let block : List ℕ = c.loop-block.block in
     let zs : List ℕ = c.read_block.new.numbers in
-    let len : c.len-in-loop-reader-2.result ≡ length ys = search rules in
-    let k : length (take more block) ≡ more = length-take-le more block (omega (arith, c.min-more.ensures, c.loop-reader.invariant.2)) in
-    row_ceases s o (λ v. v.items) (λ (none : Unit {0}). zs) (length ys) (length (take more block)) c.args.count c.args.reader.now c.loop-reader.reader c.read_block.new.self ys
-    (refusal_kind c.in-Err.refusal) (omega (arith, k, len, c.min-more.ensures, c.loop-reader.invariant.0)) c.loop-reader.invariant.1 c.in-Err.ensures.call
+    let len : c.len-in-loop-block.result ≡ length ys = search rules in
+    let k : length (take more block) ≡ more = length-take-le more block (omega (arith, c.min-more.ensures, c.loop-block.invariant.2)) in
+    row_ceases s o (λ v. v.items) (λ (none : Unit {0}). zs) (length ys) (length (take more block)) c.args.count c.args.reader.now c.loop-block.reader c.read_block.new.self ys
+    (refusal_kind c.in-Err.refusal) (omega (arith, k, len, c.min-more.ensures, c.loop-block.invariant.0)) c.loop-block.invariant.1 c.in-Err.ensures.call
 
 pub returns-then-is_err-clause-call : goal.returns-then-is_err-clause-call
 returns-then-is_err-clause-call g c =
     let s = g.I.Input.source in let o = g.E.Endian.order in
-    let ys = c.loop-reader.numbers.items in
-    let k = length (take c.min-more.result c.loop-reader.block) in
+    let ys = c.loop-block.numbers.items in
+    let k = length (take c.min-more.result c.loop-block.block) in
     let zs : List ℕ = c.read_block.new.numbers in
     row_starves s o (λ v. v.items) (length ys + k) c.args.count c.args.reader.now c.read_block.new.self (ys ++ zs)
-    (row_further s o (length ys) k c.args.reader.now c.loop-reader.reader c.read_block.new.self ys zs c.loop-reader.invariant.1
-    (row_seen s o (λ (none : Unit {0}). zs) k c.loop-reader.reader c.read_block.new.self c.in-Ok.field-0 c.in-Ok.ensures.call))
+    (row_further s o (length ys) k c.args.reader.now c.loop-block.reader c.read_block.new.self ys zs c.loop-block.invariant.1
+    (row_seen s o (λ (none : Unit {0}). zs) k c.loop-block.reader c.read_block.new.self c.in-Ok.field-0 c.in-Ok.ensures.call))
 
-pub loop-reader-smaller : goal.loop-reader-smaller
-loop-reader-smaller g c =
-    let ys = c.loop-reader.numbers.items in
+pub loop-block-smaller : goal.loop-block-smaller
+loop-block-smaller g c =
+    let ys = c.loop-block.numbers.items in
     let more = c.min-more.result in
-    let block : List ℕ = c.loop-reader.block in
+    let block : List ℕ = c.loop-block.block in
     let zs : List ℕ = c.read_block.new.numbers in
-    let len : c.len-in-loop-reader-2.result ≡ length ys = search rules in
+    let len : c.len-in-loop-block.result ≡ length ys = search rules in
     let first : c.len.result ≡ length ys = search rules in
-    let k : length (take more block) ≡ more = length-take-le more block (omega (arith, c.min-more.ensures, c.loop-reader.invariant.2)) in
+    let k : length (take more block) ≡ more = length-take-le more block (omega (arith, c.min-more.ensures, c.loop-block.invariant.2)) in
     let kept : c.extend_from_slice.new.self.items ≡ ys ++ zs = appended ys zs block c.extend_from_slice.new.self.items _ more k c.read_block.auto.numbers (search rules) in
     let sum : length c.extend_from_slice.new.self.items ≡ length ys + length zs = ap length kept ∙ length-append ys zs in
-    omega (arith, sum, k, c.read_block.auto.numbers, c.min-more.ensures, len, first, c.loop-reader-test.true, c.loop-reader.invariant.0)
+    omega (arith, sum, k, c.read_block.auto.numbers, c.min-more.ensures, len, first, c.loop-block-test.true, c.loop-block.invariant.0)
 
-pub loop-reader-preserved : goal.loop-reader-preserved
-loop-reader-preserved g c =
+pub loop-block-preserved : goal.loop-block-preserved
+loop-block-preserved g c =
     let s = g.I.Input.source in let o = g.E.Endian.order in
-    let ys = c.loop-reader.numbers.items in
+    let ys = c.loop-block.numbers.items in
     let more = c.min-more.result in
-    let block : List ℕ = c.loop-reader.block in
+    let block : List ℕ = c.loop-block.block in
     let zs : List ℕ = c.read_block.new.numbers in
-    let len : c.len-in-loop-reader-2.result ≡ length ys = search rules in
-    let k : length (take more block) ≡ more = length-take-le more block (omega (arith, c.min-more.ensures, c.loop-reader.invariant.2)) in
+    let len : c.len-in-loop-block.result ≡ length ys = search rules in
+    let k : length (take more block) ≡ more = length-take-le more block (omega (arith, c.min-more.ensures, c.loop-block.invariant.2)) in
     let kept : c.extend_from_slice.new.self.items ≡ ys ++ zs = appended ys zs block c.extend_from_slice.new.self.items _ more k c.read_block.auto.numbers (search rules) in
     let sum : length c.extend_from_slice.new.self.items ≡ length ys + length zs = ap length kept ∙ length-append ys zs in
     let n = length (take more block) in (
-      omega (arith, sum, k, c.read_block.auto.numbers, c.min-more.ensures, len, c.loop-reader.invariant.0),
+      omega (arith, sum, k, c.read_block.auto.numbers, c.min-more.ensures, len, c.loop-block.invariant.0),
       row_cast s o (length ys + n) (length c.extend_from_slice.new.self.items) c.args.reader.now c.read_block.new.self (ys ++ zs) c.extend_from_slice.new.self.items
           (omega (arith, sum, c.read_block.auto.numbers)) (sym kept)
-          (row_further s o (length ys) n c.args.reader.now c.loop-reader.reader c.read_block.new.self ys zs c.loop-reader.invariant.1
-          (row_seen s o (λ (none : Unit {0}). zs) n c.loop-reader.reader c.read_block.new.self c.in-Ok.field-0 c.in-Ok.ensures.call)),
-      filled zs block n more k (omega (arith, c.min-more.ensures)) c.read_block.auto.numbers c.loop-reader.invariant.2,
-    )
-
-pub loop-init : goal.loop-init
-loop-init g c =
-    let s = g.I.Input.source in let o = g.E.Endian.order in
-    let ys = c.loop-reader.numbers.items in
-    let len : c.len-counter.result ≡ length ys = search rules in (
-      omega (arith, len, c.loop-reader.invariant.0),
-      sym len,
-      row_cast s o (length ys) c.len-counter.result c.args.reader.now c.loop-reader.reader ys ys (sym len) refl c.loop-reader.invariant.1,
-    )
-
-pub returns-in-Err-read_u64-clause-call : goal.returns-in-Err-read_u64-clause-call
-returns-in-Err-read_u64-clause-call g c =
-    let s = g.I.Input.source in let o = g.E.Endian.order in
-    row_stops s o (λ v. v.items) c.loop.counter c.args.count c.args.reader.now c.loop.reader
-    c.read_u64.new.self c.loop.numbers.items (refusal_kind c.in-Err-read_u64.refusal)
-    c.loop-test.true c.loop.invariant.2 c.in-Err-read_u64.ensures.call
-
-pub returns-then-is_err-2-clause-call : goal.returns-then-is_err-2-clause-call
-returns-then-is_err-2-clause-call g c =
-    let s = g.I.Input.source in let o = g.E.Endian.order in
-    let ys = c.loop.numbers.items in
-    let n = c.in-Ok-read_u64.number in
-    row_starves s o (λ v. v.items) (suc c.loop.counter) c.args.count c.args.reader.now c.read_u64.new.self (ys ++ n ∷ [])
-    (row_more s o c.loop.counter c.args.reader.now c.loop.reader c.read_u64.new.self ys n c.loop.invariant.2 c.in-Ok-read_u64.ensures.call)
-
-pub loop-preserved : goal.loop-preserved
-loop-preserved g c =
-    let s = g.I.Input.source in let o = g.E.Endian.order in
-    let ys = c.loop.numbers.items in
-    let n = c.in-Ok-read_u64.number in
-    let pushed : c.push.new.self.items ≡ ys ++ n ∷ [] = search rules in
-    let one : suc c.loop.counter ≡ c.loop.counter + 1 = omega arith in (
-      omega (arith, c.loop-test.true),
-      ap length pushed ∙ length-append ys (n ∷ []) ∙ ap (λ k. k + 1) c.loop.invariant.1,
-      row_cast s o (suc c.loop.counter) (c.loop.counter + 1) c.args.reader.now c.read_u64.new.self
-          (ys ++ n ∷ []) c.push.new.self.items one (sym pushed)
-          (row_more s o c.loop.counter c.args.reader.now c.loop.reader c.read_u64.new.self ys n
-          c.loop.invariant.2 c.in-Ok-read_u64.ensures.call),
+          (row_further s o (length ys) n c.args.reader.now c.loop-block.reader c.read_block.new.self ys zs c.loop-block.invariant.1
+          (row_seen s o (λ (none : Unit {0}). zs) n c.loop-block.reader c.read_block.new.self c.in-Ok.field-0 c.in-Ok.ensures.call)),
+      filled zs block n more k (omega (arith, c.min-more.ensures)) c.read_block.auto.numbers c.loop-block.invariant.2,
     )
 
 pub returns-clause-length : goal.returns-clause-length
-returns-clause-length g c = omega (arith, c.loop-test.false, c.loop.invariant.0, c.loop.invariant.1)
+returns-clause-length g c =
+    let len : c.len.result ≡ length c.loop-block.numbers.items = search rules in
+    omega (arith, len, c.loop-block-test.false, c.loop-block.invariant.0)
 
 pub returns-clause-call : goal.returns-clause-call
 returns-clause-call g c =
     let s = g.I.Input.source in let o = g.E.Endian.order in
-    let ys = c.loop.numbers.items in
-    let all : c.loop.counter ≡ c.args.count = omega (arith, c.loop-test.false, c.loop.invariant.0) in
-    row_gives s o (λ v. v.items) c.args.count c.args.reader.now c.loop.reader c.loop.numbers
-    (row_cast s o c.loop.counter c.args.count c.args.reader.now c.loop.reader ys ys all refl c.loop.invariant.2)
-
-pub returns-in-Err-clause-length : goal.returns-in-Err-clause-length
-returns-in-Err-clause-length g c = tt
-
-pub returns-then-is_err-clause-length : goal.returns-then-is_err-clause-length
-returns-then-is_err-clause-length g c = tt
-
-pub returns-in-Err-read_u64-clause-length : goal.returns-in-Err-read_u64-clause-length
-returns-in-Err-read_u64-clause-length g c = tt
-
-pub returns-then-is_err-2-clause-length : goal.returns-then-is_err-2-clause-length
-returns-then-is_err-2-clause-length g c = tt
+    let ys = c.loop-block.numbers.items in
+    let len : c.len.result ≡ length ys = search rules in
+    let all : length ys ≡ c.args.count = omega (arith, len, c.loop-block-test.false, c.loop-block.invariant.0) in
+    row_gives s o (λ v. v.items) c.args.count c.args.reader.now c.loop-block.reader c.loop-block.numbers
+    (row_cast s o (length ys) c.args.count c.args.reader.now c.loop-block.reader ys ys all refl c.loop-block.invariant.1)

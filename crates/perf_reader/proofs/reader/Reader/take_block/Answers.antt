@@ -4,7 +4,7 @@ use Rattle.perf_base.specs.Refusals.{refusal_kind}
 use Rattle.perf_reader.specs.Meaning.{Meaning, meaning}
 use Rattle.perf_reader.proofs.AtHand.{never_short, block_keeps, block_there}
 use Rattle.perf_reader.proofs.Paying.{array_keeps}
-use Rattle.perf_reader.proofs.reader.Reader.read_block.Goals as goal
+use Rattle.perf_reader.proofs.reader.Reader.take_block.Goals as goal
 
 pub returns-in-Err-clause-call : goal.returns-in-Err-clause-call
 returns-in-Err-clause-call g c =
@@ -12,7 +12,7 @@ returns-in-Err-clause-call g c =
     let new : Meaning = record { settings = old.settings; order = old.order; source = g.I.Input.source c.fill.new.self; reads = c.tick.new.self } in
     let e = c.in-Err.ensures in
     let k = length c.args.numbers.now in
-    let zeros : List ℕ = replicate 256 0 in
+    let zeros : List ℕ = replicate 384 0 in
     let n : length (take (8 * k) zeros) ≡ 8 * k = length-take-le (8 * k) zeros (omega (arith, c.requires.most)) in record {
       config = refl;
       whole = e.stays.0;
@@ -27,7 +27,7 @@ returns-clause-call g c =
     let new : Meaning = record { settings = old.settings; order = old.order; source = g.I.Input.source c.fill.new.self; reads = c.add.new.self } in
     let e = c.in-Ok.ensures in
     let k = length c.args.numbers.now in
-    let zeros : List ℕ = replicate 256 0 in
+    let zeros : List ℕ = replicate 384 0 in
     let n : length (take (8 * k) zeros) ≡ 8 * k = length-take-le (8 * k) zeros (omega (arith, c.requires.most)) in
     let count : new.reads ≡ old.reads + k = omega (arith, c.add.ensures, c.tick.ensures, c.counted.ensures, c.requires.some) in record {
       config = refl;
