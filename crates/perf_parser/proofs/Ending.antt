@@ -1,39 +1,35 @@
 -- How a run stops: inside a header, or by a fault; and what it keeps.
-use Rattle.std.proofs.Common.{◌≡◌, ℕ, ◌+◌, ◌-◌, ◌<◌, ◌≤◌, List, [], ◌∷◌, ◌++◌, length, take, drop, arith, refl, sym, ◌∙◌, ap, subst, length-drop, max, Ok, Err, None, Some, inl, inr}
-use Rattle.std.specs.Prelude.{IsTrue, Option, Result, ◌⊎◌}
-use Rattle.std.proofs.lemmas.Bool.{cases_lt}
+use Rattle.std.proofs.Common.{◌≡◌, ℕ, ◌+◌, ◌≤◌, List, [], ◌∷◌, ◌++◌, length, drop, arith, refl, sym, ◌∙◌, ap, subst, max, Ok, Err, None, Some, inr}
+use Rattle.std.specs.Prelude.{IsTrue, Option, Result}
 use Rattle.perf_base.specs.Configuration.{Configuration}
 use Rattle.perf_base.specs.Errors.{kind_of}
 use Rattle.perf_base.specs.Header.{header_of}
-use Rattle.perf_base.specs.Layout.{byte_string}
 use Rattle.perf_base.specs.Order.{Order}
 use Rattle.perf_base.specs.Refusals.{refusal_kind, refused, error_kinds}
-use Rattle.perf_base.specs.Took.{Took, took, quit, one_took}
 use Rattle.perf_base.specs.declared.error.ErrorKind.{ErrorKind}
 use Rattle.perf_base.specs.declared.error.ErrorKind.TheVariants.{Eof, InvalidRecord, UnsupportedConfig, UnsupportedData, External, OutOfMemory}
 use Rattle.perf_base.specs.declared.error.ParseError.{ParseError}
 use Rattle.perf_base.specs.declared.refusal.Refusal.{Refusal}
 use Rattle.perf_base.specs.declared.sys.perf_event_header.{perf_event_header}
-use Rattle.perf_buffers.specs.Buffer.{Source, faults_after, Refuses}
-use Rattle.perf_buffers.specs.Taking.{MovesWithin, Takes}
-use Rattle.perf_buffers.proofs.Taking.{moves_more}
+use Rattle.perf_buffers.specs.Buffer.{Source, faults_after}
+use Rattle.perf_buffers.specs.Taking.{MovesWithin}
 use Rattle.perf_buffers.specs.declared.outer.Outer.{Outer}
 use Rattle.perf_reader.specs.Meaning as reader
 use Rattle.perf_reader.specs.Meaning.{Meaning}
 use Rattle.perf_reader.specs.declared.reader.Reader.{Reader}
 use Rattle.perf_reader.specs.Calls.{Call}
 use Rattle.perf_reader.specs.Reading.{Says, Keeps, of_layout, one_if_refused, last_of}
-use Rattle.perf_reader.proofs.Paying.{last_moved, last_all, last_last, within_taken}
-use Rattle.perf_reader.proofs.Steps.{run_there, run_short}
+use Rattle.perf_reader.proofs.Paying.{last_all, last_last}
+use Rattle.perf_reader.proofs.Stopping.{leaves, within_more}
 use Rattle.perf_records.specs.Answers.{SaysBehind, body_length, answer_behind, answer_of_frame, reads_behind}
 use Rattle.perf_records.specs.Frames.{frame_length}
 use Rattle.perf_records.specs.declared.record.Record.{Record}
 use Rattle.perf_records.proofs.Headers.{frame_body, frame_behind, answer_whole}
-use Rattle.perf_parser.specs.Runs.{Pairs, seen_answer, refused_count, listed_reads, LeavesWithin, StopsAt, KeepsRun, IsListed}
+use Rattle.perf_parser.specs.Runs.{Pairs, seen_answer, refused_count, listed_reads, StopsAt, KeepsRun, IsListed}
 use Rattle.perf_parser.specs.Runs.{stop_kind, stopped_by, StopsBetween, IsEndOf, one_if_ended, end_refusal}
 use Rattle.perf_parser.specs.declared.runs.RunEnd.{RunEnd}
-use Rattle.perf_parser.specs.declared.runs.Stop.{Stop}
-use Rattle.perf_parser.specs.declared.runs.Stop.TheVariants as stop
+use Rattle.perf_reader.specs.declared.header.Stop.{Stop}
+use Rattle.perf_reader.specs.declared.header.Stop.TheVariants as stop
 
 -- ---- refused answers are counted
 one_more_refused : (pairs : Pairs) (h : perf_event_header) (r : Result Record ParseError) →
@@ -47,99 +43,7 @@ one_more_refused (pair ∷ pairs) h r = go (one_more_refused pairs h r) (pair.1)
     go again (Ok s) = again
     go again (Err e) = omega (arith, again)
 
--- ---- bytes of a header
-
--- bytes that were taken
-pub taken : (o : Order) (k : ℕ) (bytes xs left : List ℕ) (n m : ℕ) → 0 < k → one_took o (byte_string k) bytes n ≡ took xs left m →
-    (k ≤ length bytes) × (xs ≡ take k bytes) × (left ≡ drop k bytes) × (m ≡ n + 1)
-taken o k bytes xs left n m some e = elim (cases_lt (length bytes) k) [
-  | inl short ↦ absurd (cc (run_short o k bytes n short))
-  | inr fits ↦
-      let both : took (take k bytes) (drop k bytes) (n + 1) ≡ took xs left m = sym (run_there o k bytes n some fits) ∙ e in
-      let same : take k bytes ≡ xs = cc in
-      let behind : drop k bytes ≡ left = cc in
-      let count : n + 1 ≡ m = cc in
-      (fits, sym same, sym behind, sym count)
-]
-
--- bytes that were lacking
-pub lacking : (o : Order) (k : ℕ) (bytes left : List ℕ) (e : ErrorKind) (n m : ℕ) → 0 < k → one_took o (byte_string k) bytes n ≡ quit e left m →
-    (length bytes < k) × (e ≡ Eof) × (left ≡ []) × (m ≡ n + 1)
-lacking o k bytes left e n m some h = elim (cases_lt (length bytes) k) [
-  | inr fits ↦ absurd (cc (run_there o k bytes n some fits))
-  | inl short ↦
-      let both : ◌≡◌ {A = Took (List ℕ)} (quit Eof [] (n + 1)) (quit e left m) = sym (run_short o k bytes n short) ∙ h in
-      let kind : Eof ≡ e = cc in
-      let behind : [] ≡ left = cc in
-      let count : n + 1 ≡ m = cc in
-      (short, sym kind, sym behind, sym count)
-]
-
-no_bytes : (xs : List ℕ) → length xs < 1 → xs ≡ []
-no_bytes [] h = refl
-no_bytes (x ∷ xs) h = absurd (omega arith)
-
 -- ---- how it stops
-
--- some bytes, and then a beginning of others
-within_more : (a b c : Source) (n k : ℕ) → Takes a n b → MovesWithin b k c → MovesWithin a (n + k) c
-within_more a b c n k p q =
-    let first : MovesWithin a n b = within_taken a b n p in
-    (omega arith, moves_more a b c first.1 q.1)
-
--- a beginning of the next frame
-leaves : (o : Order) (old new : Source) (n : ℕ) → n ≤ frame_length o old.left → MovesWithin old n new → LeavesWithin o old.left new.left
-leaves o old new n h p = (p.1.0, omega arith, last_moved old new p.1)
-
--- a kind of the layout, or another
-layout_or_not : (e : ErrorKind) → IsTrue (of_layout e) ⊎ (IsTrue (of_layout e) → ⊥)
-layout_or_not Eof = inl refl
-layout_or_not InvalidRecord = inl refl
-layout_or_not UnsupportedConfig = inl refl
-layout_or_not UnsupportedData = inl refl
-layout_or_not External = inr (λ h. cc)
-layout_or_not OutOfMemory = inr (λ h. cc)
-
-not_the_end : (e : ErrorKind) → (IsTrue (of_layout e) → ⊥) → e ≡ Eof → ⊥
-not_the_end e other same = other (subst (λ (k : ErrorKind). IsTrue (of_layout k)) (sym same) refl)
-
--- of the layout's kinds a buffer refuses by the end alone
-refuses_layout : (a : Source) (e : ErrorKind) → IsTrue (of_layout e) → Refuses a e → e ≡ Eof
-refuses_layout a Eof h p = refl
-refuses_layout a InvalidRecord h p = absurd p
-refuses_layout a UnsupportedConfig h p = absurd p
-refuses_layout a UnsupportedData h p = absurd p
-refuses_layout a External h p = cc
-refuses_layout a OutOfMemory h p = cc
-
--- where the first byte of a header was refused
-pub stops_first : (old new : Meaning) (r : Refusal) (s : Stop) → (refusal_kind r ≡ Eof → s ≡ stop.Done) → ((refusal_kind r ≡ Eof → ⊥) → s ≡ stop.Refused r) →
-    (IsTrue (of_layout (refusal_kind r)) → one_took old.order (byte_string 1) old.source.left old.reads ≡ quit (refusal_kind r) new.source.left new.reads) →
-    MovesWithin old.source 1 new.source → StopsAt old s new
-stops_first old new r s eof other gives within = elim (layout_or_not (refusal_kind r)) [
-  | inl layout ↦
-      let p = lacking old.order 1 old.source.left new.source.left (refusal_kind r) old.reads new.reads (omega arith) (gives layout) in
-      subst (λ (x : Stop). StopsAt old x new) (sym (eof p.1)) (no_bytes old.source.left p.0, p.2, p.3)
-  | inr none ↦
-      subst (λ (x : Stop). StopsAt old x new) (sym (other (not_the_end (refusal_kind r) none))) (none, leaves old.order old.source new.source 1 (omega arith) within)
-]
-
--- where one of the others was
-pub stops_others : (old mid new : Meaning) (r : Refusal) (s : Stop) (first : List ℕ) → (refusal_kind r ≡ Eof → s ≡ stop.CutHeader) → ((refusal_kind r ≡ Eof → ⊥) → s ≡ stop.Refused r) →
-    one_took old.order (byte_string 1) old.source.left old.reads ≡ took first mid.source.left mid.reads →
-    (IsTrue (of_layout (refusal_kind r)) → one_took mid.order (byte_string 7) mid.source.left mid.reads ≡ quit (refusal_kind r) new.source.left new.reads) →
-    MovesWithin mid.source 7 new.source → StopsAt old s new
-stops_others old mid new r s first eof other one gives within =
-    let a = taken old.order 1 old.source.left first mid.source.left old.reads mid.reads (omega arith) one in
-    let left : length mid.source.left ≡ length old.source.left - 1 = ap length a.2 ∙ length-drop 1 old.source.left in
-    elim (layout_or_not (refusal_kind r)) [
-      | inl layout ↦
-          let p = lacking mid.order 7 mid.source.left new.source.left (refusal_kind r) mid.reads new.reads (omega arith) (gives layout) in
-          subst (λ (x : Stop). StopsAt old x new) (sym (eof p.1)) (omega (arith, a.0), omega (arith, left, p.0), p.2, omega (arith, p.3, a.3))
-      | inr none ↦
-          subst (λ (x : Stop). StopsAt old x new) (sym (other (not_the_end (refusal_kind r) none)))
-          (none, leaves old.order old.source new.source 8 (omega arith) (within_more old.source mid.source new.source 1 7 (a.0, a.2) within))
-    ]
 
 -- where the header was read, and not what stands behind it
 pub stops_behind : (old mid new : Meaning) (h : perf_event_header) (r : Refusal) → (IsTrue (of_layout (refusal_kind r)) → ⊥) → 8 ≤ length old.source.left → h ≡ header_of old.order old.source.left →
@@ -147,10 +51,6 @@ pub stops_behind : (old mid new : Meaning) (h : perf_event_header) (r : Refusal)
 stops_behind old mid new h r none fits e m within =
     let whole : frame_length old.order old.source.left ≡ 8 + body_length h = ap (λ (q : perf_event_header). max 8 q.size) (sym e) ∙ frame_body h in
     (none, leaves old.order old.source new.source (8 + body_length h) (omega arith) (within_more old.source mid.source new.source 8 (body_length h) (fits, m) within))
-
--- where there was no memory for an answer
-pub stops_without_memory : (old : Meaning) (r : Refusal) → (IsTrue (of_layout (refusal_kind r)) → ⊥) → StopsAt old (stop.Refused r) old
-stops_without_memory old r none = (none, (omega arith, omega arith, sym (last_all old.source.left)))
 
 -- ---- where memory was refused
 
@@ -285,16 +185,3 @@ run_limit start new n k = let same : n + 0 ≡ n = omega arith in subst (λ (m :
 
 pub run_limit_back : (start new : Meaning) (n : ℕ) → KeepsRun start (n + 0) None new → KeepsRun start n None new
 run_limit_back start new n k = let same : n + 0 ≡ n = omega arith in subst (λ (m : ℕ). KeepsRun start m None new) same k
-
--- where the buffer showed no first byte of a header
-pub stops_unshown : (old new : Meaning) (r : Refusal) (s : Stop) → (refusal_kind r ≡ Eof → s ≡ stop.Done) → ((refusal_kind r ≡ Eof → ⊥) → s ≡ stop.Refused r) →
-    Refuses old.source (refusal_kind r) → IsTrue old.source.told → new.source.left ≡ old.source.left → new.reads ≡ old.reads + 1 → StopsAt old s new
-stops_unshown old new r s eof other why told same count = elim (layout_or_not (refusal_kind r)) [
-  | inl layout ↦
-      let kind = refuses_layout old.source (refusal_kind r) layout why in
-      let none : old.source.left ≡ [] = subst (λ k. Refuses old.source k) kind why told in
-      subst (λ (x : Stop). StopsAt old x new) (sym (eof kind)) (none, same ∙ none, count)
-  | inr none ↦
-      let long : length new.source.left ≡ length old.source.left = ap length same in
-      subst (λ (x : Stop). StopsAt old x new) (sym (other (not_the_end (refusal_kind r) none))) (none, (omega (arith, long), omega (arith, long), same ∙ sym (last_all old.source.left) ∙ ap (λ k. last_of k old.source.left) (sym long)))
-]

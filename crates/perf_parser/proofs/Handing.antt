@@ -1,27 +1,23 @@
 -- What a run over frames has handed out so far.
-use Rattle.std.proofs.Common.{◌≡◌, ℕ, zero, suc, ◌+◌, ◌*◌, ◌<◌, ◌≤◌, Bool, List, [], ◌∷◌, ◌++◌, length, take, drop, arith, refl, sym, ◌∙◌, ap, subst, true, false, nat_lt, inl, inr, Some, None}
-use Rattle.std.specs.Prelude.{IsTrue, Option}
-use Rattle.std.proofs.lemmas.Bool.{cases_lt, lt-ltb, le-ltb}
-use Rattle.std.proofs.lemmas.List.{length-append, length-take-le, take_all, drop_all, take-take, drop-take}
-use Rattle.perf_base.specs.Header.{header_of}
+use Rattle.std.proofs.Common.{◌≡◌, ℕ, ◌+◌, ◌*◌, ◌≤◌, Bool, List, [], ◌∷◌, ◌++◌, length, take, drop, arith, refl, sym, ◌∙◌, ap, subst, true, false, inl, inr, Some}
+use Rattle.std.specs.Prelude.{IsTrue}
+use Rattle.std.proofs.lemmas.Bool.{cases_lt}
+use Rattle.std.proofs.lemmas.List.{length-append, drop_all}
 use Rattle.perf_base.specs.Order.{Order}
-use Rattle.perf_base.specs.declared.sys.perf_event_header.{perf_event_header}
 use Rattle.perf_buffers.specs.Buffer.{Source}
 use Rattle.perf_buffers.specs.Taking.{Moves}
 use Rattle.perf_buffers.proofs.Taking.{takes_moves}
 use Rattle.perf_records.proofs.Keeping.{within_all}
 use Rattle.perf_reader.specs.Meaning.{Meaning}
-use Rattle.perf_records.specs.Answers.{body_length}
 use Rattle.perf_records.specs.Frames.{frame_length, first_frames, behind_frames}
-use Rattle.perf_records.specs.Sights.{Sight, bad, whole, sight_after, sight_in}
-use Rattle.perf_records.proofs.Headers.{frame_body, header_alone}
-use Rattle.perf_records.proofs.Handing.{sight_take, sight_alone}
-use Rattle.perf_parser.specs.FrameRuns.{Handed, HandsNext, HandsFirst, CountsHeaders}
+use Rattle.perf_records.specs.Sights.{Sight, sight_in}
+use Rattle.perf_records.proofs.Handing.{sight_alone}
+use Rattle.perf_parser.specs.FrameRuns.{Handed, HandsNext, CountsHeaders}
 use Rattle.perf_parser.specs.Runs.{StopsAt, IsEndOf}
 use Rattle.perf_parser.specs.declared.runs.RunEnd.{RunEnd}
-use Rattle.perf_parser.specs.declared.runs.Stop.{Stop}
-use Rattle.perf_parser.specs.declared.runs.Stop.TheVariants as stop
-use Rattle.perf_parser.proofs.Listing.{AreThere, IsBehind, frames_on, behind_on}
+use Rattle.perf_reader.specs.declared.header.Stop.{Stop}
+use Rattle.perf_reader.specs.declared.header.Stop.TheVariants as stop
+use Rattle.perf_parser.proofs.Listing.{IsBehind, frames_on, behind_on}
 
 -- bytes that were dropped were taken from the front
 pub moved_by : (n : ℕ) (old new : Source) → new.left ≡ drop n old.left → Moves old new

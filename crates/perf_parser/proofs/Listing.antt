@@ -21,8 +21,8 @@ use Rattle.perf_records.proofs.Headers.{header_alone, answer_alone, reads_alone}
 use Rattle.perf_parser.specs.Runs.{Pairs, seen_answer, seen_answers, listed_reads, first_reads, CountsReads}
 use Rattle.perf_parser.specs.Runs.{is_borrowed_answer, AllBorrowed, LeavesWithin, StopsAt, StopsBetween, IsEndOf, EndsWith, EndsBetween}
 use Rattle.perf_parser.specs.declared.runs.RunEnd.{RunEnd}
-use Rattle.perf_parser.specs.declared.runs.Stop.{Stop}
-use Rattle.perf_parser.specs.declared.runs.Stop.TheVariants as stop
+use Rattle.perf_reader.specs.declared.header.Stop.{Stop}
+use Rattle.perf_reader.specs.declared.header.Stop.TheVariants as stop
 use Rattle.perf_parser.proofs.Ending.{end_kind}
 
 pub one_more_borrowed : (pairs : Pairs) (h : perf_event_header) (r : Result Record ParseError) → AllBorrowed pairs → is_borrowed_answer r → AllBorrowed (pairs ++ (h, r) ∷ [])

@@ -1,48 +1,27 @@
 -- What a run does after a look at its buffer is what it does without it.
-use Rattle.std.proofs.Common.{◌≡◌, ℕ, ◌+◌, List, length, drop, arith, sym, ◌∙◌, ap, subst, Ok, Err, None, Some, inl, inr}
+use Rattle.std.proofs.Common.{◌≡◌, ℕ, ◌+◌, List, length, drop, arith, sym, ◌∙◌, ap, subst, Ok, Err, None, inl, inr}
 use Rattle.std.specs.Prelude.{IsTrue, IfErr, Result}
 use Rattle.perf_base.specs.Configuration.{Configuration}
-use Rattle.perf_base.specs.Configured.{configuration_of, endian_of}
 use Rattle.perf_base.specs.Header.{header_of}
 use Rattle.perf_base.specs.Order.{Order}
-use Rattle.perf_base.specs.declared.sys.perf_event_header.{perf_event_header}
-use Rattle.perf_base.specs.declared.error.ErrorKind.{ErrorKind}
-use Rattle.perf_buffers.specs.Buffer.{Source}
-use Rattle.perf_reader.specs.Calls.{Call}
-use Rattle.perf_reader.specs.Frames.{ReadsShownHeader}
-use Rattle.perf_reader.specs.Meaning.{Meaning, meaning}
+use Rattle.perf_reader.specs.Meaning.{Meaning}
 use Rattle.perf_reader.specs.Reading.{Keeps, last_of}
-use Rattle.perf_reader.specs.declared.reader.Reader.{Reader}
 use Rattle.perf_base.specs.declared.refusal.Refusal.TheVariants as why
 use Rattle.perf_reader.proofs.Paying.{last_all}
 use Rattle.perf_records.specs.Answers.{answer_of_frame}
 use Rattle.perf_records.specs.Frames.{frame_length}
-use Rattle.perf_parser.specs.Runs.{Pairs, KeepsRun, ListsNext, LeavesWithin, ReadsHeader, StopsAt, StopsBetween, listed_reads}
-use Rattle.perf_parser.specs.declared.runs.Stop.{Stop}
-use Rattle.perf_parser.specs.declared.runs.Stop.TheVariants as stop
+use Rattle.perf_parser.specs.Runs.{Pairs, KeepsRun, ListsNext, StopsAt, StopsBetween, listed_reads}
+use Rattle.perf_reader.specs.declared.header.Stop.{Stop}
+use Rattle.perf_reader.specs.declared.header.Stop.TheVariants as stop
 use Rattle.perf_parser.proofs.Ending.{run_more}
 
 module _ (old mid new : Meaning) (settings : mid.settings ≡ old.settings) (order : mid.order ≡ old.order) (left : mid.source.left ≡ old.source.left) (reads : mid.reads ≡ old.reads) where
-  -- how it stops
-  pub looked_stops : (s : Stop) → StopsAt mid s new → StopsAt old s new
-  looked_stops stop.Done p = (sym left ∙ p.0, p.1, omega (arith, p.2, reads))
-  looked_stops stop.CutHeader p =
-      let long : length mid.source.left ≡ length old.source.left = ap length left in (omega (arith, p.0, long), omega (arith, p.1, long), p.2, omega (arith, p.3, reads))
-  looked_stops (stop.Refused r) p = (p.0, subst (λ o. LeavesWithin o old.source.left new.source.left) order (subst (λ xs. LeavesWithin mid.order xs new.source.left) left p.1))
-
   -- where it stands, if memory was refused
   pub looked_between : (s : Stop) → StopsBetween mid s new → StopsBetween old s new
   looked_between s p = λ kind. elim (p kind) [
     | inl same ↦ inl (same ∙ left)
     | inr next ↦ inr (next ∙ ap (λ (o : Order). drop (frame_length o mid.source.left) mid.source.left) order ∙ ap (λ (xs : List ℕ). drop (frame_length old.order xs) xs) left)
   ]
-
-  -- which header it reads
-  pub looked_header : (seen : Result perf_event_header ErrorKind) → ReadsHeader mid seen new → ReadsHeader old seen new
-  looked_header (Ok h) p =
-      let long : length mid.source.left ≡ length old.source.left = ap length left in
-      (omega (arith, p.0, long), p.1 ∙ ap (λ (o : Order). header_of o mid.source.left) order ∙ ap (header_of old.order) left, p.2 ∙ ap (drop 8) left, omega (arith, p.3, reads))
-  looked_header (Err e) p = tt
 
 -- what it lists
 pub looked_lists : (old mid new : Meaning) → mid.settings ≡ old.settings → mid.order ≡ old.order → (IsTrue old.source.told → (mid.source.left ≡ old.source.left) × (mid.reads ≡ old.reads)) → mid.source.whole ≡ old.source.whole →
@@ -81,28 +60,3 @@ pub looked_keeps : (start old mid : Meaning) (n : ℕ) → KeepsRun start n None
 looked_keeps start old mid n k moved =
     let same : n + 0 ≡ n = omega arith in
     subst (λ (m : ℕ). KeepsRun start m None mid) same (run_more start old mid n None k moved)
-
--- ---- a header
-
-module _ {I E : Type 0} (source : I → Source) (order : E → Order) (old mid : Reader I E) where
-  -- one that the buffer shows
-  pub header_shown : (h : perf_event_header) → Call source order ReadsShownHeader old (Ok (Some h)) mid → Call source order ReadsHeader old (Ok h) mid
-  header_shown h a = record { config = a.config; whole = a.whole; told = a.told; answer = a.answer; keeps = a.keeps }
-
-  -- one of which it does not show all
-  module _ (new : Reader I E) (a : Call source order ReadsShownHeader old (Ok None) mid) where
-    pub header_cut : (seen : Result perf_event_header ErrorKind) → Call source order ReadsHeader mid seen new → Call source order ReadsHeader old seen new
-    header_cut seen b = record {
-      config = b.config ∙ a.config;
-      whole = b.whole ∙ a.whole;
-      told = λ told. b.told (a.told told);
-      answer = λ told.
-          let l = a.answer told in
-          looked_header (meaning source order old) (meaning source order mid) (meaning source order new) (ap configuration_of a.config) (ap (λ k. order (endian_of k)) a.config) l.0 l.1 seen (b.answer (a.told told));
-      keeps = λ start p. b.keeps start (a.keeps start p);
-    }
-
-    pub header_stops : (s : Stop) → IsTrue (source old.input).told → StopsAt (meaning source order mid) s (meaning source order new) → StopsAt (meaning source order old) s (meaning source order new)
-    header_stops s told p =
-        let l = a.answer told in
-        looked_stops (meaning source order old) (meaning source order mid) (meaning source order new) (ap configuration_of a.config) (ap (λ k. order (endian_of k)) a.config) l.0 l.1 s p

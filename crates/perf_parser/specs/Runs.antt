@@ -2,20 +2,23 @@
 -- makes.
 use Rattle.std.specs.Prelude.{Option, Some, Result, Ok, Err, true, IsTrue, ◌≡◌}
 use Rattle.std.specs.Prelude.{None, max, ◌*◌, ◌⊎◌}
-use Rattle.std.specs.Prelude.{ℕ, ◌+◌, ◌<◌, ◌≤◌, min, List, [], ◌∷◌, ◌++◌, map, length, drop, sum_by}
+use Rattle.std.specs.Prelude.{ℕ, ◌+◌, ◌<◌, ◌≤◌, List, [], ◌∷◌, ◌++◌, map, length, drop, sum_by}
 use Rattle.perf_base.specs.Configuration.{Configuration}
 use Rattle.perf_base.specs.Errors.{kind_of}
 use Rattle.perf_base.specs.Header.{header_of}
 use Rattle.perf_base.specs.Order.{Order}
 use Rattle.perf_base.specs.Refusals.{refusal_kind, error_kinds, IsAnswerOf}
 use Rattle.perf_base.specs.declared.error.ErrorKind.{ErrorKind}
-use Rattle.perf_base.specs.declared.error.ErrorKind.TheVariants.{Eof, OutOfMemory}
+use Rattle.perf_base.specs.declared.error.ErrorKind.TheVariants.{OutOfMemory}
 use Rattle.perf_base.specs.declared.error.ParseError.{ParseError}
 use Rattle.perf_base.specs.declared.sys.perf_event_header.{perf_event_header}
 use Rattle.perf_base.specs.declared.refusal.Refusal.{Refusal}
 use Rattle.perf_buffers.specs.Buffer.{Stays}
+pub use Rattle.perf_reader.specs.Headers.{ReadsHeader, StopsAt, LeavesWithin, stop_kind, stop_kinds}
 use Rattle.perf_reader.specs.Meaning.{Meaning}
 use Rattle.perf_reader.specs.Reading.{Says, of_layout, last_of, is_external}
+use Rattle.perf_reader.specs.declared.header.Stop.{Stop}
+use Rattle.perf_reader.specs.declared.header.Stop.TheVariants as stop
 use Rattle.perf_records.specs.Answers.{answer_of_frame, reads_behind, LeavesAllOrBehind}
 pub use Rattle.perf_records.specs.Answers.{SaysBehind, answers, body_length}
 use Rattle.perf_records.specs.Frames.{frame_length, first_frames, frames, behind_frames}
@@ -25,8 +28,6 @@ use Rattle.perf_records.specs.declared.record.Record.{Record}
 use Rattle.perf_parser.specs.declared.runs.Run.{Run}
 use Rattle.perf_parser.specs.declared.runs.RunEnd.{RunEnd}
 use Rattle.perf_parser.specs.declared.runs.RunEnd.TheVariants as end
-use Rattle.perf_parser.specs.declared.runs.Stop.{Stop}
-use Rattle.perf_parser.specs.declared.runs.Stop.TheVariants as stop
 
 -- ---- what it lists
 
@@ -101,16 +102,6 @@ one_if_ended end.Done = 1
 one_if_ended end.CutHeader = 1
 one_if_ended (end.Fault e) = 1
 
--- the bytes of the next frame, or of a cut header
-abbrev pub next_length : Order → List ℕ → ℕ
-next_length o bytes = min (frame_length o bytes) (length bytes)
-
--- left is what stood there, but for a beginning of the next frame
-abbrev pub LeavesWithin : Order → List ℕ → List ℕ → Type 0
-LeavesWithin o bytes left =
-    (length left ≤ length bytes) × (length bytes ≤ length left + next_length o bytes)
-    × (left ≡ last_of (length left) bytes)
-
 -- How a run over these bytes ends that has listed k frames, and what it leaves: at its limit the
 -- bytes behind those frames; with all frames listed nothing, where the stream is done or its last
 -- header is cut; and after a fault, which is none of the layout's refusals, the bytes behind those
@@ -148,17 +139,6 @@ pub record KeepsRun (start : Meaning) (refusals : ℕ) (e : Option ErrorKind) (n
 
 -- ---- one frame of it
 
--- a header by its bytes, or by the kind of what stops a run there: the end, where bytes are lacking
-abbrev pub stop_kind : Stop → ErrorKind
-stop_kind stop.Done = Eof
-stop_kind stop.CutHeader = Eof
-stop_kind (stop.Refused r) = refusal_kind r
-
--- the same of an answer
-abbrev pub stop_kinds : {A : Type 0} → Result A Stop → Result A ErrorKind
-stop_kinds (Ok x) = Ok x
-stop_kinds (Err s) = Err (stop_kind s)
-
 -- the refusal that stopped it, if one did
 abbrev pub stopped_by : {A : Type 0} → Result A Stop → Option ErrorKind
 stopped_by (Ok x) = None
@@ -170,25 +150,6 @@ stopped_by (Err (stop.Refused r)) = Some (refusal_kind r)
 abbrev pub one_if_stopped : {A : Type 0} → Result A Stop → ℕ
 one_if_stopped (Ok x) = 0
 one_if_stopped (Err s) = 1
-
--- a header was read: the next eight bytes, in two reads
-abbrev pub ReadsHeader : Says perf_event_header
-ReadsHeader old (Ok h) new =
-    (8 ≤ length old.source.left) × (h ≡ header_of old.order old.source.left)
-    × (new.source.left ≡ drop 8 old.source.left) × (new.reads ≡ old.reads + 2)
-ReadsHeader old (Err e) new = Unit {0}
-
--- How a run stops at a frame: nothing is left, its header is cut, or there is a refusal that is not
--- of the layout.
-abbrev pub StopsAt : Meaning → Stop → Meaning → Type 0
-StopsAt old stop.Done new =
-    (old.source.left ≡ []) × (new.source.left ≡ []) × (new.reads ≡ old.reads + 1)
-StopsAt old stop.CutHeader new =
-    (0 < length old.source.left) × (length old.source.left < 8) × (new.source.left ≡ [])
-    × (new.reads ≡ old.reads + 2)
-StopsAt old (stop.Refused r) new =
-    (IsTrue (of_layout (refusal_kind r)) → ⊥)
-    × LeavesWithin old.order old.source.left new.source.left
 
 -- Where memory was refused, nothing was taken, or exactly the next frame.
 abbrev pub StopsBetween : Meaning → Stop → Meaning → Type 0

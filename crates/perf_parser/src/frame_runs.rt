@@ -8,10 +8,11 @@ ghost use Rattle.perf_parser.specs.Words.{buffer_of, config_of, reads_of, meanin
 ghost use Rattle.perf_reader.specs.Words as low;
 
 use crate::parser::Parser;
-use crate::runs::{RunEnd, Stop, end_of, read_header};
+use crate::runs::{RunEnd, end_of};
 use perf_base::endian::Endian;
 use perf_buffers::outer::Outer;
 use perf_buffers::parsebuf::ParseBuf;
+use perf_reader::header::Stop;
 use perf_reader::reader::Reader;
 use perf_records::frame_after::hand_after;
 use perf_records::frame_handler::FrameHandler;
@@ -49,7 +50,7 @@ fn hand_next<'p, B: ParseBuf<'p>, E: Endian, H: FrameHandler<'p, E>>(
         stream.KeepsRun start (n + stream.one_if_stopped result) (stream.stopped_by result)
         (low.meaning (λ (o : Outer B). B.source o.buf) E.order reader.new) }
 {
-    let header = match read_header(reader) {
+    let header = match reader.next_header() {
         Ok(header) => header,
         Err(stop) => return Err(stop),
     };

@@ -4,7 +4,7 @@ ghost use Rattle.std.specs.Prelude.{◌≡◌, ◌+◌, ◌≤◌, ◌<◌, ◌+
 ghost use Rattle.std.specs.Prelude.{max, min, length, drop};
 ghost use Rattle.std.specs.Prelude.{vec_len, vec_capacity};
 ghost use Rattle.std.specs.Prelude.{IsTrue, IfOk, IfErr, OnOk, OnErr};
-ghost use Rattle.perf_parser.specs.Words.{header_of, buffer_of, config_of, reads_of, meaning};
+ghost use Rattle.perf_parser.specs.Words.{buffer_of, config_of, reads_of, meaning};
 ghost use Rattle.perf_parser.specs.Runs as stream;
 ghost use Rattle.perf_reader.specs.Words as low;
 
@@ -14,10 +14,9 @@ use perf_base::error::{ErrorKind, ParseError, ParseResult};
 use perf_base::reads::ReadCounter;
 use perf_base::refusal::{ReadResult, Refusal};
 use perf_base::sys::{PERF_RECORD_SAMPLE, perf_event_header};
-use perf_buffers::input::Input;
 use perf_buffers::outer::Outer;
 use perf_buffers::parsebuf::ParseBuf;
-use perf_reader::header::header_in;
+use perf_reader::header::{Stop, stop_at};
 use perf_reader::reader::Reader;
 use perf_records::body_reader::{AsRecord, AsSample};
 use perf_records::frame_after::read_after;
@@ -49,90 +48,6 @@ pub enum RunEnd {
     /// The buffer could not go on, or memory was refused. Of the frame that was being read a
     /// beginning is consumed; over a slice, where only memory can be refused, none or all of it.
     Fault(ParseError),
-}
-
-// Why a run stops before its limit.
-#[derive(Copy, Clone)]
-pub(crate) enum Stop {
-    // Nothing is left.
-    Done,
-    // Fewer bytes are left than a header has.
-    CutHeader,
-    // The buffer could not go on, or memory was refused.
-    Refused(Refusal),
-}
-
-// The header whose first byte and others these are.
-#[inline]
-fn header_from<E: Endian>(endian: &E, first: [u8; 1], others: [u8; 7]) -> perf_event_header
-    ensures { result ≡ header_of (E.order endian.now) (first ++ others) }
-{
-    let [b0] = first;
-    let [b1, b2, b3, b4, b5, b6, b7] = others;
-    header_in(endian, [b0, b1, b2, b3, b4, b5, b6, b7])
-}
-
-// Why a run stops that cannot read the first byte of a header, or the others.
-#[inline]
-fn stop_at(refusal: Refusal, at_end: Stop) -> Stop
-    ensures eof { low.refusal_kind refusal ≡ ErrorKind.Eof → result ≡ at_end }
-    ensures other { (low.refusal_kind refusal ≡ ErrorKind.Eof → ⊥) → result ≡ Stop.Refused refusal }
-    ensures kind { stream.stop_kind at_end ≡ ErrorKind.Eof →
-        stream.stop_kind result ≡ low.refusal_kind refusal }
-{
-    if refusal.kind() == ErrorKind::Eof {
-        at_end
-    } else {
-        Stop::Refused(refusal)
-    }
-}
-
-// The header of the next frame: its first byte, of which there may be none, and the other seven.
-#[cold]
-#[inline(never)]
-fn read_header_in_two<'p, I: Input<'p>, E: Endian>(
-    reader: &mut Reader<I, E>,
-) -> Result<perf_event_header, Stop>
-    ensures stop { IsTrue (I.source (low.input_of reader.old)).told → IfErr result (λ s.
-        stream.StopsAt (low.meaning I.source E.order reader.old) s
-        (low.meaning I.source E.order reader.new)) }
-    ensures memory { low.TakesNoMemory (stream.stop_kinds result) }
-    ensures call { low.Call I.source E.order stream.ReadsHeader
-        reader.old (stream.stop_kinds result) reader.new }
-{
-    let first = match reader.read_array::<1>() {
-        Ok(bytes) => bytes,
-        Err(refusal) => return Err(stop_at(refusal, Stop::Done)),
-    };
-    let others = match reader.read_array::<7>() {
-        Ok(bytes) => bytes,
-        Err(refusal) => return Err(stop_at(refusal, Stop::CutHeader)),
-    };
-    Ok(header_from(reader.endian(), first, others))
-}
-
-// The header of the next frame: at once if the buffer shows all of it. A buffer may end inside it,
-// and whether it ends before its first byte or after says how the run ends.
-#[inline]
-pub(crate) fn read_header<'p, B: ParseBuf<'p>, E: Endian>(
-    reader: &mut Reader<Outer<B>, E>,
-) -> Result<perf_event_header, Stop>
-    ensures stop { IsTrue (B.source (low.buffer_of reader.old)).told → IfErr result (λ s.
-        stream.StopsAt (low.meaning (λ (o : Outer B). B.source o.buf) E.order reader.old) s
-        (low.meaning (λ (o : Outer B). B.source o.buf) E.order reader.new)) }
-    ensures memory { IsTrue (B.source (low.buffer_of reader.old)).told →
-        low.TakesNoMemory (stream.stop_kinds result) }
-    ensures call { low.Call (λ (o : Outer B). B.source o.buf) E.order stream.ReadsHeader
-        reader.old (stream.stop_kinds result) reader.new }
-{
-    match reader.read_shown_header() {
-        Ok(Some(header)) => Ok(header),
-        Ok(None) => match read_header_in_two(reader) {
-            Ok(header) => Ok(header),
-            Err(stop) => Err(stop),
-        },
-        Err(refusal) => Err(stop_at(refusal, Stop::Done)),
-    }
 }
 
 // Lists the answer of a frame that was refused, in room that was made; or answers the fault or the
@@ -398,7 +313,7 @@ fn list_next<'p, B: ParseBuf<'p>, E: Endian>(
         (stream.stopped_by result)
         (low.meaning (λ (o : Outer B). B.source o.buf) E.order reader.new) }
 {
-    let header = match read_header(reader) {
+    let header = match reader.next_header() {
         Ok(header) => header,
         Err(stop) => return Err(stop),
     };

@@ -2,6 +2,7 @@ pub mod AtOnce
 pub mod InRow
 pub mod AtHand
 pub mod HeaderAtOnce
+pub mod Stopping
 pub mod Paying
 pub mod Steps
 mod Single

@@ -5,6 +5,7 @@ pub mod BranchEntry
 pub mod AtOnce
 pub mod Calls
 pub mod Frames
+pub mod Headers
 pub mod Room
 pub mod Words
 pub mod AttributeGroups

@@ -1,15 +1,10 @@
 -- Frames: how a stream of records falls apart, each record by the size in its header (`struct
 -- perf_event_header`). A list of bytes is cut into the bytes of its frames. Nothing here has a
 -- position or a state.
-use Rattle.std.specs.Prelude.{ℕ, zero, suc, max, List, [], ◌∷◌, length, take, drop, nat_lt}
+use Rattle.std.specs.Prelude.{ℕ, zero, suc, List, [], ◌∷◌, length, take, drop, nat_lt}
 use Rattle.std.specs.Prelude.{if◌then◌else◌}
 use Rattle.perf_base.specs.Order.{Order}
-use Rattle.perf_base.specs.Header.{header_of}
-
--- The length of the frame at the front of bytes: the size that its header says, and the header's
--- eight where that is less.
-abbrev pub frame_length : Order → List ℕ → ℕ
-frame_length o bytes = max 8 (header_of o bytes).size
+pub use Rattle.perf_reader.specs.Headers.{frame_length}
 
 -- The bytes of the first n frames. A frame begins wherever eight bytes are left, and the next one
 -- begins at its end. The last one may be unfinished: it then has fewer bytes than its header says.

@@ -1,5 +1,5 @@
-use Rattle.std.proofs.Common.{◌≡◌, ℕ, ◌+◌, ◌*◌, ◌≤◌, ◌<◌, Bool, true, false, List, sym, ◌∙◌, ap, subst, refl, None, Some, arith}
-use Rattle.std.specs.Prelude.{IsTrue, Option}
+use Rattle.std.proofs.Common.{◌≡◌, ℕ, ◌+◌, Bool, true, false, sym, ◌∙◌, ap, subst, refl, Some, arith}
+use Rattle.std.specs.Prelude.{IsTrue}
 use Rattle.perf_base.specs.Configured.{configuration_of, endian_of}
 use Rattle.perf_base.specs.declared.config.ParseConfig.{ParseConfig}
 use Rattle.perf_buffers.specs.declared.outer.Outer.{Outer}
@@ -8,7 +8,7 @@ use Rattle.perf_reader.specs.Meaning.{Meaning}
 use Rattle.perf_records.specs.Frames.{behind_frames}
 use Rattle.perf_records.specs.Sights.{Sight}
 use Rattle.perf_parser.specs.Meaning.{meaning}
-use Rattle.perf_parser.specs.FrameRuns.{HandsNext, HandsFirst, EndsFrames, CountsHeaders, frames_refusal, one_if_run_ended}
+use Rattle.perf_parser.specs.FrameRuns.{HandsNext, HandsFirst, CountsHeaders, frames_refusal, one_if_run_ended}
 use Rattle.perf_parser.specs.Runs.{EndsWith, KeepsRun, end_refusal, one_if_ended}
 use Rattle.perf_parser.specs.declared.runs.RunEnd.TheVariants as end
 use Rattle.perf_parser.proofs.Ending.{run_none, run_ends, run_limit_back, same_meaning, end_kind}

@@ -1,5 +1,5 @@
-use Rattle.std.proofs.Common.{◌≡◌, ℕ, ◌+◌, Bool, List, take, drop, length, sym, ◌∙◌, ap, subst, refl, None, Some, arith}
-use Rattle.std.specs.Prelude.{IsTrue, Option}
+use Rattle.std.proofs.Common.{◌≡◌, ◌∙◌, ap, subst, None, Some, arith}
+use Rattle.std.specs.Prelude.{Option}
 use Rattle.perf_base.specs.Configured.{configuration_of, endian_of}
 use Rattle.perf_base.specs.Header.{header_of}
 use Rattle.perf_base.specs.Refusals.{refusal_kind}
@@ -21,13 +21,13 @@ use Rattle.perf_parser.proofs.frame_runs.hand_next.Goals as goal
 pub returns-in-Err-clause-keeps : goal.returns-in-Err-clause-keeps
 returns-in-Err-clause-keeps g c = λ start n k.
     let old : Meaning = meaning (λ (o : Outer g.row.B.Denot). g.B.ParseBuf.source o.buf) g.E.Endian.order c.args.reader.now in
-    let new : Meaning = meaning (λ (o : Outer g.row.B.Denot). g.B.ParseBuf.source o.buf) g.E.Endian.order c.read_header.new.reader in
+    let new : Meaning = meaning (λ (o : Outer g.row.B.Denot). g.B.ParseBuf.source o.buf) g.E.Endian.order c.next_header.new.self in
     run_stops start old new n c.in-Err.stop k (c.in-Err.ensures.call.keeps old (keeps_none old))
 
 pub returns-in-Ok-hand_after-clause-handed : goal.returns-in-Ok-hand_after-clause-handed
 returns-in-Ok-hand_after-clause-handed g c = λ told.
     let old : Meaning = meaning (λ (o : Outer g.row.B.Denot). g.B.ParseBuf.source o.buf) g.E.Endian.order c.args.reader.now in
-    let mid : Meaning = meaning (λ (o : Outer g.row.B.Denot). g.B.ParseBuf.source o.buf) g.E.Endian.order c.read_header.new.reader in
+    let mid : Meaning = meaning (λ (o : Outer g.row.B.Denot). g.B.ParseBuf.source o.buf) g.E.Endian.order c.next_header.new.self in
     let new : Meaning = meaning (λ (o : Outer g.row.B.Denot). g.B.ParseBuf.source o.buf) g.E.Endian.order c.hand_after.new.reader in
     let h = c.in-Ok.header in
     let call = c.in-Ok.ensures.call in
@@ -49,7 +49,7 @@ returns-in-Ok-hand_after-clause-handed g c = λ told.
 pub returns-in-Ok-hand_after-clause-keeps : goal.returns-in-Ok-hand_after-clause-keeps
 returns-in-Ok-hand_after-clause-keeps g c = λ start n k.
     let old : Meaning = meaning (λ (o : Outer g.row.B.Denot). g.B.ParseBuf.source o.buf) g.E.Endian.order c.args.reader.now in
-    let mid : Meaning = meaning (λ (o : Outer g.row.B.Denot). g.B.ParseBuf.source o.buf) g.E.Endian.order c.read_header.new.reader in
+    let mid : Meaning = meaning (λ (o : Outer g.row.B.Denot). g.B.ParseBuf.source o.buf) g.E.Endian.order c.next_header.new.self in
     let new : Meaning = meaning (λ (o : Outer g.row.B.Denot). g.B.ParseBuf.source o.buf) g.E.Endian.order c.hand_after.new.reader in
     let e = c.in-Ok-hand_after.ensures in
     let first : Keeps old None mid = c.in-Ok.ensures.call.keeps old (keeps_none old) in
@@ -60,7 +60,7 @@ returns-in-Ok-hand_after-clause-keeps g c = λ start n k.
 pub returns-in-Err-hand_after-clause-stop : goal.returns-in-Err-hand_after-clause-stop
 returns-in-Err-hand_after-clause-stop g c = λ told.
     let old : Meaning = meaning (λ (o : Outer g.row.B.Denot). g.B.ParseBuf.source o.buf) g.E.Endian.order c.args.reader.now in
-    let mid : Meaning = meaning (λ (o : Outer g.row.B.Denot). g.B.ParseBuf.source o.buf) g.E.Endian.order c.read_header.new.reader in
+    let mid : Meaning = meaning (λ (o : Outer g.row.B.Denot). g.B.ParseBuf.source o.buf) g.E.Endian.order c.next_header.new.self in
     let new : Meaning = meaning (λ (o : Outer g.row.B.Denot). g.B.ParseBuf.source o.buf) g.E.Endian.order c.hand_after.new.reader in
     let head = c.in-Ok.ensures.call.answer told in
     let e = c.in-Err-hand_after.ensures in
@@ -70,7 +70,7 @@ returns-in-Err-hand_after-clause-stop g c = λ told.
 pub returns-in-Err-hand_after-clause-keeps : goal.returns-in-Err-hand_after-clause-keeps
 returns-in-Err-hand_after-clause-keeps g c = λ start n k.
     let old : Meaning = meaning (λ (o : Outer g.row.B.Denot). g.B.ParseBuf.source o.buf) g.E.Endian.order c.args.reader.now in
-    let mid : Meaning = meaning (λ (o : Outer g.row.B.Denot). g.B.ParseBuf.source o.buf) g.E.Endian.order c.read_header.new.reader in
+    let mid : Meaning = meaning (λ (o : Outer g.row.B.Denot). g.B.ParseBuf.source o.buf) g.E.Endian.order c.next_header.new.self in
     let new : Meaning = meaning (λ (o : Outer g.row.B.Denot). g.B.ParseBuf.source o.buf) g.E.Endian.order c.hand_after.new.reader in
     let e = c.in-Err-hand_after.ensures in
     let kind : Option ErrorKind = Some (refusal_kind c.in-Err-hand_after.refusal) in

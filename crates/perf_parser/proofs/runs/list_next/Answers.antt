@@ -14,13 +14,13 @@ use Rattle.perf_parser.proofs.runs.list_next.Goals as goal
 pub returns-in-Err-clause-keeps : goal.returns-in-Err-clause-keeps
 returns-in-Err-clause-keeps g c = λ start k.
     let old : Meaning = meaning (λ (o : Outer g.row.B.Denot). g.B.ParseBuf.source o.buf) g.E.Endian.order c.args.reader.now in
-    let new : Meaning = meaning (λ (o : Outer g.row.B.Denot). g.B.ParseBuf.source o.buf) g.E.Endian.order c.read_header.new.reader in
+    let new : Meaning = meaning (λ (o : Outer g.row.B.Denot). g.B.ParseBuf.source o.buf) g.E.Endian.order c.next_header.new.self in
     run_stops start old new (refused_count c.args.frames.now.items) c.in-Err.stop k (c.in-Err.ensures.call.keeps old (keeps_none old))
 
 pub returns-in-Err-list_frame-clause-stop : goal.returns-in-Err-list_frame-clause-stop
 returns-in-Err-list_frame-clause-stop g c = λ told.
     let old : Meaning = meaning (λ (o : Outer g.row.B.Denot). g.B.ParseBuf.source o.buf) g.E.Endian.order c.args.reader.now in
-    let mid : Meaning = meaning (λ (o : Outer g.row.B.Denot). g.B.ParseBuf.source o.buf) g.E.Endian.order c.read_header.new.reader in
+    let mid : Meaning = meaning (λ (o : Outer g.row.B.Denot). g.B.ParseBuf.source o.buf) g.E.Endian.order c.next_header.new.self in
     let new : Meaning = meaning (λ (o : Outer g.row.B.Denot). g.B.ParseBuf.source o.buf) g.E.Endian.order c.list_frame.new.reader in
     let head = c.in-Ok.ensures.call.answer told in
     stops_behind old mid new c.in-Ok.header c.in-Err-list_frame.refusal c.in-Err-list_frame.ensures.stops.0 head.0 head.1 head.2
@@ -38,7 +38,7 @@ returns-in-Err-list_frame-clause-keeps g c = λ start k.
 pub returns-in-Ok-list_frame-clause-listed : goal.returns-in-Ok-list_frame-clause-listed
 returns-in-Ok-list_frame-clause-listed g c =
     let old : Meaning = meaning (λ (o : Outer g.row.B.Denot). g.B.ParseBuf.source o.buf) g.E.Endian.order c.args.reader.now in
-    let mid : Meaning = meaning (λ (o : Outer g.row.B.Denot). g.B.ParseBuf.source o.buf) g.E.Endian.order c.read_header.new.reader in
+    let mid : Meaning = meaning (λ (o : Outer g.row.B.Denot). g.B.ParseBuf.source o.buf) g.E.Endian.order c.next_header.new.self in
     let new : Meaning = meaning (λ (o : Outer g.row.B.Denot). g.B.ParseBuf.source o.buf) g.E.Endian.order c.list_frame.new.reader in
     let h = c.in-Ok.header in let read = c.in-Ok-list_frame.ensures.listed in let r = read.0 in
     let pushed : c.list_frame.new.frames.items ≡ c.args.frames.now.items ++ (h, r) ∷ [] = read.1 in (
@@ -68,7 +68,7 @@ returns-in-Err-clause-between g c = λ told whole kind. absurd (c.in-Err.ensures
 pub returns-in-Err-list_frame-clause-between : goal.returns-in-Err-list_frame-clause-between
 returns-in-Err-list_frame-clause-between g c = λ told whole.
     let old : Meaning = meaning (λ (o : Outer g.row.B.Denot). g.B.ParseBuf.source o.buf) g.E.Endian.order c.args.reader.now in
-    let mid : Meaning = meaning (λ (o : Outer g.row.B.Denot). g.B.ParseBuf.source o.buf) g.E.Endian.order c.read_header.new.reader in
+    let mid : Meaning = meaning (λ (o : Outer g.row.B.Denot). g.B.ParseBuf.source o.buf) g.E.Endian.order c.next_header.new.self in
     let new : Meaning = meaning (λ (o : Outer g.row.B.Denot). g.B.ParseBuf.source o.buf) g.E.Endian.order c.list_frame.new.reader in
     let call = c.in-Ok.ensures.call in let head = call.answer told in
     stops_spent old mid new c.in-Ok.header c.in-Err-list_frame.refusal head.1 head.2 (c.in-Err-list_frame.ensures.spent (call.told told) (call.whole ∙ whole))

@@ -3,9 +3,9 @@ use Rattle.perf_base.specs.declared.refusal.Refusal.TheVariants as why
 use Rattle.perf_buffers.specs.declared.outer.Outer.{Outer}
 use Rattle.perf_reader.specs.Meaning.{Meaning, meaning}
 use Rattle.perf_parser.specs.Runs.{StopsAt}
-use Rattle.perf_parser.specs.declared.runs.Stop.{Stop}
-use Rattle.perf_parser.specs.declared.runs.Stop.TheVariants as stop
-use Rattle.perf_parser.proofs.Ending.{stops_unshown}
+use Rattle.perf_reader.specs.declared.header.Stop.{Stop}
+use Rattle.perf_reader.specs.declared.header.Stop.TheVariants as stop
+use Rattle.perf_reader.proofs.Stopping.{stops_unshown}
 use Rattle.perf_parser.proofs.Meeting.{room_stops, err_then}
 use Rattle.perf_parser.proofs.runs.make_room.Goals as goal
 

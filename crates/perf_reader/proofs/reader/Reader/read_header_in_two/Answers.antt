@@ -5,27 +5,27 @@ use Rattle.perf_base.specs.Configured.{endian_of}
 use Rattle.perf_base.specs.Header.{header_of}
 use Rattle.perf_base.specs.Order.{Order}
 use Rattle.perf_reader.specs.Meaning.{Meaning, meaning}
-use Rattle.perf_records.proofs.Headers.{header_take}
-use Rattle.perf_parser.proofs.Ending.{taken, stops_first, stops_others}
-use Rattle.perf_parser.proofs.runs.read_header_in_two.Goals as goal
+use Rattle.perf_reader.proofs.HeaderAtOnce.{header_front}
+use Rattle.perf_reader.proofs.Stopping.{taken, stops_first, stops_others}
+use Rattle.perf_reader.proofs.reader.Reader.read_header_in_two.Goals as goal
 
 pub returns-in-Err-clause-stop : goal.returns-in-Err-clause-stop
 returns-in-Err-clause-stop g c = λ told.
-    stops_first (meaning g.I.Input.source g.E.Endian.order c.args.reader.now) (meaning g.I.Input.source g.E.Endian.order c.read_array.new.self)
+    stops_first (meaning g.I.Input.source g.E.Endian.order c.args.self.now) (meaning g.I.Input.source g.E.Endian.order c.read_array.new.self)
     c.in-Err.refusal c.stop_at.result c.stop_at.ensures.eof c.stop_at.ensures.other
     (c.in-Err.ensures.call.answer told) (c.in-Err.ensures.within told)
 
 pub returns-in-Err-read_array-clause-stop : goal.returns-in-Err-read_array-clause-stop
 returns-in-Err-read_array-clause-stop g c = λ told.
     let one = c.in-Ok.ensures.call in let others = c.in-Err-read_array.ensures in
-    stops_others (meaning g.I.Input.source g.E.Endian.order c.args.reader.now) (meaning g.I.Input.source g.E.Endian.order c.read_array.new.self)
+    stops_others (meaning g.I.Input.source g.E.Endian.order c.args.self.now) (meaning g.I.Input.source g.E.Endian.order c.read_array.new.self)
     (meaning g.I.Input.source g.E.Endian.order c.read_array-2.new.self) c.in-Err-read_array.refusal c.stop_at-in-Err-read_array.result c.in-Ok.bytes
     c.stop_at-in-Err-read_array.ensures.eof c.stop_at-in-Err-read_array.ensures.other
     (one.answer told) (others.call.answer (one.told told)) (others.within (one.told told))
 
 pub returns-clause-call : goal.returns-clause-call
 returns-clause-call g c =
-    let old : Meaning = meaning g.I.Input.source g.E.Endian.order c.args.reader.now in
+    let old : Meaning = meaning g.I.Input.source g.E.Endian.order c.args.self.now in
     let mid : Meaning = meaning g.I.Input.source g.E.Endian.order c.read_array.new.self in
     let new : Meaning = meaning g.I.Input.source g.E.Endian.order c.read_array-2.new.self in
     let one = c.in-Ok.ensures.call in let others = c.in-Ok-read_array.ensures.call in record {
@@ -40,7 +40,7 @@ returns-clause-call g c =
           ap (λ (xs : List ℕ). xs ++ c.in-Ok-read_array.bytes) a.1 ∙ ap (λ (xs : List ℕ). take 1 old.source.left ++ xs) (b.1 ∙ ap (take 7) a.2) ∙ sym (take-add 1 7 old.source.left) in
           let order : g.E.Endian.order c.endian.result.now ≡ old.order = ap g.E.Endian.order (c.endian.ensures ∙ ap endian_of (others.config ∙ one.config)) in
           let head : c.header_from.result ≡ header_of old.order old.source.left =
-          c.header_from.ensures ∙ ap (λ (o : Order). header_of o (c.in-Ok.bytes ++ c.in-Ok-read_array.bytes)) order ∙ ap (header_of old.order) eight ∙ header_take old.order 0 old.source.left in
+          c.header_from.ensures ∙ ap (λ (o : Order). header_of o (c.in-Ok.bytes ++ c.in-Ok-read_array.bytes)) order ∙ ap (header_of old.order) eight ∙ sym (header_front old.order old.source.left) in
           (omega (arith, a.0, b.0, left), head, b.2 ∙ ap (drop 7) a.2 ∙ drop-drop 7 1 old.source.left, omega (arith, a.3, b.3));
       keeps = λ start k. others.keeps start (one.keeps start k);
     }
