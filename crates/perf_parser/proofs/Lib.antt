@@ -6,6 +6,7 @@ pub mod InRow
 pub mod Metadata
 pub mod Listing
 pub mod Ending
+pub mod Answering
 pub mod Handing
 pub mod Meeting
 pub mod Covering

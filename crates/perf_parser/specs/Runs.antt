@@ -1,7 +1,7 @@
 -- What a run over a stream lists, how it ends, what it leaves, and how many elementary reads it
 -- makes.
 use Rattle.std.specs.Prelude.{Option, Some, Result, Ok, Err, true, IsTrue, ◌≡◌}
-use Rattle.std.specs.Prelude.{None, max, ◌*◌, ◌⊎◌}
+use Rattle.std.specs.Prelude.{None, max, ◌*◌, ◌⊎◌, OnOk, OnErr, IfErr}
 use Rattle.std.specs.Prelude.{ℕ, ◌+◌, ◌<◌, ◌≤◌, List, [], ◌∷◌, ◌++◌, map, length, drop, sum_by}
 use Rattle.perf_base.specs.Configuration.{Configuration}
 use Rattle.perf_base.specs.Errors.{kind_of}
@@ -13,11 +13,16 @@ use Rattle.perf_base.specs.declared.error.ErrorKind.TheVariants.{OutOfMemory}
 use Rattle.perf_base.specs.declared.error.ParseError.{ParseError}
 use Rattle.perf_base.specs.declared.sys.perf_event_header.{perf_event_header}
 use Rattle.perf_base.specs.declared.refusal.Refusal.{Refusal}
-use Rattle.perf_buffers.specs.Buffer.{Stays}
+use Rattle.perf_buffers.specs.Buffer.{Source, Stays}
+use Rattle.perf_buffers.specs.Room.{falls_short}
+use Rattle.perf_buffers.specs.Taking.{MovesWithin}
+use Rattle.perf_buffers.specs.declared.outer.Outer.{Outer}
+use Rattle.perf_reader.specs.Calls.{Call}
 pub use Rattle.perf_reader.specs.Headers.{ReadsHeader, StopsAt, LeavesWithin, stop_kind, stop_kinds}
-use Rattle.perf_reader.specs.Meaning.{Meaning}
+use Rattle.perf_reader.specs.Meaning.{Meaning, buffer_of}
 use Rattle.perf_reader.specs.Reading.{Says, of_layout, last_of, is_external}
 use Rattle.perf_reader.specs.declared.header.Stop.{Stop}
+use Rattle.perf_reader.specs.declared.reader.Reader.{Reader}
 use Rattle.perf_reader.specs.declared.header.Stop.TheVariants as stop
 use Rattle.perf_records.specs.Answers.{answer_of_frame, reads_behind, LeavesAllOrBehind}
 pub use Rattle.perf_records.specs.Answers.{SaysBehind, answers, body_length}
@@ -191,12 +196,36 @@ ListsNext old was now new =
     × (new.source.left ≡ drop (frame_length old.order old.source.left) old.source.left)
     × (new.reads ≡ old.reads + listed_reads old.settings old.order old.source.left))
 
--- ---- room for its answer
-
 -- the answer that was listed is no record
 abbrev pub ListsNoRecord : (was now : Pairs) → Type 0
 ListsNoRecord was now =
     (h : perf_event_header) × (e : ParseError) × (now ≡ was ++ (h, Err e) ∷ [])
+
+-- What is listed of the frame after a header that was read, in room that was made; or a fault or
+-- refused memory stops the run.
+pub record ListsFrame {B E : Type 0} (source : B → Source) (hint : B → Option ℕ) (order : E → Order)
+    (h : perf_event_header) (old new : Reader (Outer B) E) (was now : Pairs)
+    (result : Result (Unit {0}) Refusal) : Type 0 where
+  -- at most the frame's bytes are taken
+  pub within : IsTrue (source (buffer_of old)).told →
+      MovesWithin (source (buffer_of old)) (body_length h) (source (buffer_of new))
+  -- its answer is listed after the others
+  pub listed : OnOk result (ListsAnswer h was now (IsTrue (source (buffer_of old)).whole)
+      (λ seen. Call (λ (o : Outer B). source o.buf) order (SaysBehind h) old seen new))
+  -- no record is listed if the buffer reports, after the header, that it has too few bytes
+  pub short : falls_short (hint (buffer_of old)) (body_length h) ≡ true →
+      OnOk result (ListsNoRecord was now)
+  -- nothing is listed where the run stops
+  pub kept : OnErr result (now ≡ was)
+  -- it stops by a refusal that is not of the layout
+  pub stops : IfErr result (λ e. (IsTrue (of_layout (refusal_kind e)) → ⊥)
+      × Call (λ (o : Outer B). source o.buf) order (SaysBehind h) old (Err (refusal_kind e)) new)
+  -- if memory is refused over a slice, exactly the frame is taken
+  pub spent : IsTrue (source (buffer_of old)).told → IsTrue (source (buffer_of old)).whole →
+      IfErr result (λ e. refusal_kind e ≡ OutOfMemory →
+      (source (buffer_of new)).left ≡ drop (body_length h) (source (buffer_of old)).left)
+
+-- ---- room for its answer
 
 -- Room for answers is made for as many as frames of eight bytes or more are shown, at most 256, for
 -- as many again as there are, or for one.

@@ -1,7 +1,7 @@
 //! Runs over a stream of records.
 
-ghost use Rattle.std.specs.Prelude.{◌≡◌, ◌+◌, ◌≤◌, ◌<◌, ◌++◌, [], ◌∷◌, take, true, None, Ok, Err};
-ghost use Rattle.std.specs.Prelude.{max, min, length, drop};
+ghost use Rattle.std.specs.Prelude.{◌≡◌, ◌+◌, ◌≤◌, ◌<◌, ◌++◌, [], ◌∷◌, take, None, Ok};
+ghost use Rattle.std.specs.Prelude.{max, min, length};
 ghost use Rattle.std.specs.Prelude.{vec_len, vec_capacity};
 ghost use Rattle.std.specs.Prelude.{IsTrue, IfOk, IfErr, OnOk, OnErr};
 ghost use Rattle.perf_parser.specs.Words.{buffer_of, config_of, reads_of, meaning};
@@ -106,29 +106,8 @@ fn list_answer<'p, B: ParseBuf<'p>, E: Endian>(
     header: perf_event_header,
 ) -> ReadResult<()>
     requires room { vec_len frames.old < vec_capacity frames.old }
-    ensures within { IsTrue (B.source (low.buffer_of reader.old)).told →
-        low.MovesWithin (B.source (low.buffer_of reader.old)) (stream.body_length header)
-        (B.source (low.buffer_of reader.new)) }
-    ensures listed { OnOk result (stream.ListsAnswer header frames.old.items frames.new.items
-        (IsTrue (B.source (low.buffer_of reader.old)).whole)
-        (λ seen. low.Call (λ (o : Outer B). B.source o.buf) E.order (stream.SaysBehind header)
-        reader.old seen reader.new)) }
-
-    // No record is listed where the buffer says, after the header, that it has too few bytes.
-    ensures short { low.falls_short (B.hint (low.buffer_of reader.old))
-        (stream.body_length header) ≡ true →
-        OnOk result (stream.ListsNoRecord frames.old.items frames.new.items) }
-    ensures kept { OnErr result (frames.new.items ≡ frames.old.items) }
-    ensures stops { IfErr result (λ e. (IsTrue (low.of_layout (low.refusal_kind e)) → ⊥)
-        × low.Call (λ (o : Outer B). B.source o.buf) E.order (stream.SaysBehind header)
-        reader.old (Err (low.refusal_kind e)) reader.new) }
-
-    // If memory is refused over a slice, exactly the frame is taken.
-    ensures spent { IsTrue (B.source (low.buffer_of reader.old)).told →
-        IsTrue (B.source (low.buffer_of reader.old)).whole →
-        IfErr result (λ e. low.refusal_kind e ≡ low.OutOfMemory →
-        (B.source (low.buffer_of reader.new)).left
-        ≡ drop (stream.body_length header) (B.source (low.buffer_of reader.old)).left) }
+    ensures { stream.ListsFrame B.source B.hint E.order header reader.old reader.new
+        frames.old.items frames.new.items result }
 {
     match read_after(reader, header, AsRecord, &mut ()) {
         Ok(record) => {
@@ -165,25 +144,8 @@ fn list_sample<'p, B: ParseBuf<'p>, E: Endian>(
 ) -> ReadResult<()>
     requires ty { header.type_ ≡ 9 }
     requires room { vec_len frames.old < vec_capacity frames.old }
-    ensures within { IsTrue (B.source (low.buffer_of reader.old)).told →
-        low.MovesWithin (B.source (low.buffer_of reader.old)) (stream.body_length header)
-        (B.source (low.buffer_of reader.new)) }
-    ensures listed { OnOk result (stream.ListsAnswer header frames.old.items frames.new.items
-        (IsTrue (B.source (low.buffer_of reader.old)).whole)
-        (λ seen. low.Call (λ (o : Outer B). B.source o.buf) E.order (stream.SaysBehind header)
-        reader.old seen reader.new)) }
-    ensures short { low.falls_short (B.hint (low.buffer_of reader.old))
-        (stream.body_length header) ≡ true →
-        OnOk result (stream.ListsNoRecord frames.old.items frames.new.items) }
-    ensures kept { OnErr result (frames.new.items ≡ frames.old.items) }
-    ensures stops { IfErr result (λ e. (IsTrue (low.of_layout (low.refusal_kind e)) → ⊥)
-        × low.Call (λ (o : Outer B). B.source o.buf) E.order (stream.SaysBehind header)
-        reader.old (Err (low.refusal_kind e)) reader.new) }
-    ensures spent { IsTrue (B.source (low.buffer_of reader.old)).told →
-        IsTrue (B.source (low.buffer_of reader.old)).whole →
-        IfErr result (λ e. low.refusal_kind e ≡ low.OutOfMemory →
-        (B.source (low.buffer_of reader.new)).left
-        ≡ drop (stream.body_length header) (B.source (low.buffer_of reader.old)).left) }
+    ensures { stream.ListsFrame B.source B.hint E.order header reader.old reader.new
+        frames.old.items frames.new.items result }
 {
     match read_after(reader, header, AsSample, &mut ()) {
         Ok(sample) => {
@@ -205,25 +167,8 @@ fn list_frame<'p, B: ParseBuf<'p>, E: Endian>(
     header: perf_event_header,
 ) -> ReadResult<()>
     requires room { vec_len frames.old < vec_capacity frames.old }
-    ensures within { IsTrue (B.source (low.buffer_of reader.old)).told →
-        low.MovesWithin (B.source (low.buffer_of reader.old)) (stream.body_length header)
-        (B.source (low.buffer_of reader.new)) }
-    ensures listed { OnOk result (stream.ListsAnswer header frames.old.items frames.new.items
-        (IsTrue (B.source (low.buffer_of reader.old)).whole)
-        (λ seen. low.Call (λ (o : Outer B). B.source o.buf) E.order (stream.SaysBehind header)
-        reader.old seen reader.new)) }
-    ensures short { low.falls_short (B.hint (low.buffer_of reader.old))
-        (stream.body_length header) ≡ true →
-        OnOk result (stream.ListsNoRecord frames.old.items frames.new.items) }
-    ensures kept { OnErr result (frames.new.items ≡ frames.old.items) }
-    ensures stops { IfErr result (λ e. (IsTrue (low.of_layout (low.refusal_kind e)) → ⊥)
-        × low.Call (λ (o : Outer B). B.source o.buf) E.order (stream.SaysBehind header)
-        reader.old (Err (low.refusal_kind e)) reader.new) }
-    ensures spent { IsTrue (B.source (low.buffer_of reader.old)).told →
-        IsTrue (B.source (low.buffer_of reader.old)).whole →
-        IfErr result (λ e. low.refusal_kind e ≡ low.OutOfMemory →
-        (B.source (low.buffer_of reader.new)).left
-        ≡ drop (stream.body_length header) (B.source (low.buffer_of reader.old)).left) }
+    ensures { stream.ListsFrame B.source B.hint E.order header reader.old reader.new
+        frames.old.items frames.new.items result }
 {
     if header.type_ == PERF_RECORD_SAMPLE {
         list_sample(reader, frames, header)

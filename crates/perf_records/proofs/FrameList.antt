@@ -9,7 +9,8 @@ use Rattle.perf_records.specs.Frames.{frame_length, first_frames, frames}
 use Rattle.perf_records.specs.Sights.{Sight, sight_in}
 use Rattle.perf_records.proofs.Handing.{sight_alone}
 
-frames_short : (o : Order) (n : ℕ) (bytes : List ℕ) → length bytes < 8 → first_frames o n bytes ≡ []
+-- fewer bytes than a header has are no frame
+pub frames_short : (o : Order) (n : ℕ) (bytes : List ℕ) → length bytes < 8 → first_frames o n bytes ≡ []
 frames_short o zero bytes short = refl
 frames_short o (suc n) bytes short = let a : nat_lt (length bytes) 8 ≡ true = lt-ltb (length bytes) 8 short in rw a refl
 

@@ -1,10 +1,9 @@
 -- Frames that are read where their bytes are.
-use Rattle.std.proofs.Common.{◌≡◌, ℕ, ◌+◌, ◌-◌, ◌≤◌, List, Bool, length, take, drop, false, nat_lt, arith, refl, sym, ◌∙◌, ap, subst}
+use Rattle.std.proofs.Common.{◌≡◌, ℕ, ◌+◌, ◌-◌, ◌≤◌, List, Bool, length, take, drop, false, nat_lt, arith, refl, sym, ◌∙◌, ap}
 use Rattle.std.proofs.lemmas.Bool.{le-ltb}
 use Rattle.std.proofs.lemmas.List.{length-take-le, take-take, take_all}
 use Rattle.std.specs.Prelude.{Result, IsTrue, None, Some, Ok, Err, if◌then◌else◌}
 use Rattle.perf_base.specs.Configuration.{Configuration, under_misc}
-use Rattle.perf_base.specs.LayoutReads.{layout_reads}
 use Rattle.perf_base.specs.Order.{Order}
 use Rattle.perf_base.specs.Refusals.{kinds, refused, TakesNoMemory}
 use Rattle.perf_base.specs.declared.refusal.Refusal.{Refusal}
@@ -21,21 +20,19 @@ use Rattle.perf_reader.specs.Meaning.{Meaning, meaning}
 use Rattle.perf_reader.specs.declared.reader.Reader.{Reader}
 use Rattle.perf_reader.proofs.Paying.{keeps_more, can_fault}
 use Rattle.perf_reader.specs.Reading.{is_external, one_if_refused, Keeps}
-use Rattle.perf_records.specs.Answers.{FrameParts, body_length, parts_of, id_bytes, id_reads, split_reads, split_behind, record_in, record_reads, answer_behind, reads_behind, SaysBehind}
+use Rattle.perf_records.specs.Answers.{FrameParts, body_length, parts_of, id_reads, split_reads, split_behind, record_in, record_reads, answer_behind, reads_behind, SaysBehind}
 use Rattle.perf_records.specs.Bodies.{body, wants_memory}
-use Rattle.perf_records.specs.Records.{IsBorrowed}
-use Rattle.perf_records.specs.Metadata.{MetadataValue, id_length, id_of_type}
+use Rattle.perf_records.specs.Metadata.{id_length}
 use Rattle.perf_records.specs.Shown.{moment, VisitsBytes}
 use Rattle.perf_records.specs.declared.record.Record.{Record}
 use Rattle.perf_sample_types.specs.declared.sample.Sample.{Sample}
 use Rattle.std.specs.Prelude.{Box, IfOk}
-use Rattle.perf_sample_types.specs.SampleGroups.{IsBorrowedSample}
 use Rattle.std.specs.declared.alloc.Global.{Global}
 use Rattle.perf_records.specs.Visits.{Event, VisitsAll, VisitsBehind, BelongsTo, IsRecordOf, IsSampleOf}
 use Rattle.perf_records.specs.declared.record.Record.TheVariants as record_of
 use Rattle.perf_records.proofs.Finishing.{belongs, spares, visits_made, visits_keep, unsplit_visits}
 use Rattle.perf_records.proofs.Keeping.{moved_keeps, taken_pays, within_kept}
-use Rattle.perf_records.proofs.Making.{body_says, body_borrows_if}
+use Rattle.perf_records.proofs.Making.{body_says}
 use Rattle.perf_records.proofs.Splitting.{split_made, unsplit_cut}
 
 -- the front of what is in front

@@ -5,6 +5,7 @@ pub mod RecordTypes
 pub mod Bodies
 pub mod Frames
 pub mod Answers
+pub mod Parts
 pub mod FrameNumbers
 pub mod Visits
 pub mod Shown

@@ -1,10 +1,9 @@
 -- Frames that are read where their bytes are.
 use Rattle.std.specs.Prelude.{Result, ◌≡◌, ℕ, ◌+◌, ◌≤◌, Bool, true, false, List, IfOk, None}
-use Rattle.std.specs.Prelude.{length, drop, IsTrue}
+use Rattle.std.specs.Prelude.{drop, IsTrue}
 use Rattle.perf_base.specs.Configuration.{Configuration}
 use Rattle.perf_base.specs.Order.{Order}
-use Rattle.perf_base.specs.Refusals.{refused, refusal_kind, kinds, TakesNoMemory}
-use Rattle.perf_base.specs.declared.error.ErrorKind.{ErrorKind}
+use Rattle.perf_base.specs.Refusals.{refused, kinds, TakesNoMemory}
 use Rattle.perf_base.specs.declared.refusal.Refusal.{Refusal}
 use Rattle.perf_base.specs.declared.sys.perf_event_header.{perf_event_header}
 use Rattle.perf_reader.specs.Meaning.{Meaning}

@@ -1,7 +1,8 @@
 //! The parts of a frame: its body, and what is known beside it.
 
-ghost use Rattle.std.specs.Prelude.{◌≡◌, ◌≤◌, ◌<◌, ◌+◌, ◌-◌, true, length, take, Err};
+ghost use Rattle.std.specs.Prelude.{◌≡◌, ◌≤◌, ◌<◌, ◌+◌, true, length, Err};
 ghost use Rattle.std.specs.Prelude.{IsTrue, IfOk, IfErr};
+ghost use Rattle.perf_records.specs.Parts.{FindsId};
 ghost use Rattle.perf_records.specs.Words.{configuration_of, endian_of, input_of, config_of, Call};
 ghost use Rattle.perf_records.specs.Words.{reads_of, kinds, refusal_kind, cursor_left, body_length};
 ghost use Rattle.perf_records.specs.Words as words;
@@ -77,19 +78,8 @@ pub(crate) fn id_in<E: Endian>(
     config: &ParseConfig<E>,
     header: perf_event_header,
 ) -> ReadResult<FrameId>
-    ensures parts { IfOk result (λ id.
-        (words.id_length (configuration_of config.now) header.type_ ≤ length bytes.now)
-        × (words.frame_parts id.metadata (take id.len bytes.now)
-        ≡ words.parts_of (configuration_of config.now) (E.order (endian_of config.now)) header
-        bytes.now)) }
-    ensures len { IfOk result (λ id. id.len
-        ≡ length bytes.now - words.id_length (configuration_of config.now) header.type_) }
-    ensures reads { IfOk result (λ id. id.reads ≡ words.id_reads (configuration_of config.now)
-        (E.order (endian_of config.now)) header bytes.now) }
-    ensures bound { IfOk result (λ id.
-        id.reads ≤ words.id_length (configuration_of config.now) header.type_) }
-    ensures refused { IfErr result (λ e. (e ≡ words.NoRoomForId)
-        × (length bytes.now < words.id_length (configuration_of config.now) header.type_)) }
+    ensures { FindsId (configuration_of config.now) (E.order (endian_of config.now)) header
+        bytes.now result }
 {
     if !carries_sample_id(header.type_) {
         return Ok(FrameId {
@@ -121,19 +111,8 @@ pub(crate) fn id_of<E: Endian>(
     config: &ParseConfig<E>,
     header: perf_event_header,
 ) -> ReadResult<FrameId>
-    ensures parts { IfOk result (λ id.
-        (words.id_length (configuration_of config.now) header.type_ ≤ length bytes.now)
-        × (words.frame_parts id.metadata (take id.len bytes.now)
-        ≡ words.parts_of (configuration_of config.now) (E.order (endian_of config.now)) header
-        bytes.now)) }
-    ensures len { IfOk result (λ id. id.len
-        ≡ length bytes.now - words.id_length (configuration_of config.now) header.type_) }
-    ensures reads { IfOk result (λ id. id.reads ≡ words.id_reads (configuration_of config.now)
-        (E.order (endian_of config.now)) header bytes.now) }
-    ensures bound { IfOk result (λ id.
-        id.reads ≤ words.id_length (configuration_of config.now) header.type_) }
-    ensures refused { IfErr result (λ e. (e ≡ words.NoRoomForId)
-        × (length bytes.now < words.id_length (configuration_of config.now) header.type_)) }
+    ensures { FindsId (configuration_of config.now) (E.order (endian_of config.now)) header
+        bytes.now result }
 {
     if !carries_sample_id(header.type_) || !config.sample_id_all() {
         return Ok(FrameId {
@@ -146,55 +125,6 @@ pub(crate) fn id_of<E: Endian>(
         Ok(id) => Ok(id),
         Err(refusal) => Err(refusal),
     }
-}
-
-// What `take_id` leaves of a frame's bytes, and what it read.
-struct Taken<'p> {
-    body: ParseBufCursor<'p>,
-    metadata: RecordMetadata,
-    reads: ReadCounter,
-}
-
-// The bytes of a frame without its sample id, the metadata, and how many reads that took.
-#[inline]
-fn take_id<'p, E: Endian>(
-    alloc: Global,
-    frame: ParseBufCursor<'p>,
-    config: &ParseConfig<E>,
-    header: perf_event_header,
-) -> ReadResult<Taken<'p>>
-    ensures parts { IfOk result (λ taken.
-        (words.id_length (configuration_of config.now) header.type_
-        ≤ length (cursor_left frame.entry))
-        × (words.answered_parts (taken.body, taken.metadata)
-        ≡ words.parts_of (configuration_of config.now) (E.order (endian_of config.now)) header
-        (cursor_left frame.entry))) }
-    ensures reads { IfOk result (λ taken. taken.reads ≡ words.id_reads (configuration_of config.now)
-        (E.order (endian_of config.now)) header (cursor_left frame.entry)) }
-    ensures bound { IfOk result (λ taken.
-        taken.reads ≤ words.id_length (configuration_of config.now) header.type_) }
-    ensures form { IfOk result (λ taken.
-        words.cursor_lent taken.body ≡ words.cursor_lent frame.entry) }
-    ensures refused { IfErr result (λ e. (refusal_kind e ≡ words.InvalidRecord)
-        × (length (cursor_left frame.entry)
-        < words.id_length (configuration_of config.now) header.type_)) }
-    ensures why { IfErr result (λ e. e ≡ words.NoRoomForId) }
-{
-    let mut body = frame;
-    let FrameId {
-        len,
-        metadata,
-        reads,
-    } = match id_in(alloc, body.last(body.len()), config, header) {
-        Ok(id) => id,
-        Err(refusal) => return Err(refusal),
-    };
-    body.drop_last(body.len() - len);
-    Ok(Taken {
-        body,
-        metadata,
-        reads,
-    })
 }
 
 /// The bytes of the body of a frame whose header was read, and its metadata.
@@ -248,20 +178,24 @@ pub fn split<'p, I: Input<'p>, E: Endian>(
     if header.size < 8 {
         return Err(Refusal::SmallHeader);
     }
-    let frame = match reader.cut(header.size as usize - 8) {
+    let mut frame = match reader.cut(header.size as usize - 8) {
         Ok(frame) => frame,
         Err(refusal) => return Err(refusal),
     };
-    match take_id(reader.alloc(), frame, reader.config(), header) {
-        Ok(taken) => {
-            let Taken {
-                body,
-                metadata,
-                reads,
-            } = taken;
-            reader.count(reads);
-            Ok((body, metadata))
-        }
-        Err(refusal) => Err(refusal),
-    }
+    let FrameId {
+        len,
+        metadata,
+        reads,
+    } = match id_in(
+        reader.alloc(),
+        frame.last(frame.len()),
+        reader.config(),
+        header,
+    ) {
+        Ok(id) => id,
+        Err(refusal) => return Err(refusal),
+    };
+    frame.drop_last(frame.len() - len);
+    reader.count(reads);
+    Ok((frame, metadata))
 }

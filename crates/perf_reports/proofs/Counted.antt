@@ -34,6 +34,7 @@ use Rattle.perf_records.specs.Answers.{FrameParts, body_length, split_behind, re
 use Rattle.perf_records.specs.Frames.{frame_length, first_frames, frames, behind_frames}
 use Rattle.perf_records.specs.Records.{RecordValue}
 use Rattle.perf_records.specs.Sights.{Sight, whole, bad, sight_after, sight_in}
+use Rattle.perf_records.proofs.FrameList.{frames_short}
 use Rattle.perf_records.proofs.Handing.{finished}
 use Rattle.perf_records.proofs.Headers.{answer_whole}
 use Rattle.perf_parser.specs.FrameRuns.{Handed, HandsFirst, EndsFrames}
@@ -119,14 +120,10 @@ abbrev Headed : List (List ℕ) → Type 0
 Headed [] = Unit {0}
 Headed (frame ∷ more) = (8 ≤ length frame) × Headed more
 
-frames_none : (o : Order) (n : ℕ) (bytes : List ℕ) → length bytes < 8 → first_frames o n bytes ≡ []
-frames_none o zero bytes short = refl
-frames_none o (suc n) bytes short = let a : nat_lt (length bytes) 8 ≡ true = lt-ltb (length bytes) 8 short in rw a refl
-
 frames_headed : (o : Order) (n : ℕ) (bytes : List ℕ) → Headed (first_frames o n bytes)
 frames_headed o zero bytes = tt
 frames_headed o (suc n) bytes = elim (cases_lt (length bytes) 8) [
-  | inl short ↦ subst Headed (sym (frames_none o (suc n) bytes short)) tt
+  | inl short ↦ subst Headed (sym (frames_short o (suc n) bytes short)) tt
   | inr fits ↦ subst Headed (sym (frames_next o n bytes fits)) (omega (arith, length-take (frame_length o bytes) bytes, fits), frames_headed o n (drop (frame_length o bytes) bytes))
 ]
 

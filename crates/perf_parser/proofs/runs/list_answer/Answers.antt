@@ -1,38 +1,22 @@
-use Rattle.std.proofs.Common.{Ok, Err, sym, subst}
-use Rattle.perf_base.specs.Refusals.{refusal_kind}
-use Rattle.perf_base.specs.declared.error.ErrorKind.{ErrorKind}
-use Rattle.perf_buffers.specs.declared.outer.Outer.{Outer}
-use Rattle.perf_reader.specs.Calls.{Call}
-use Rattle.perf_reader.specs.Reading.{of_layout}
-use Rattle.perf_parser.specs.Runs.{SaysBehind}
-use Rattle.std.specs.Prelude.{IsTrue}
 use Rattle.perf_records.proofs.Making.{body_borrows}
 use Rattle.perf_records.proofs.Shown.{says_call}
-use Rattle.perf_parser.proofs.Ending.{same_call}
+use Rattle.perf_parser.proofs.Answering.{lists_record, lists_refused, lists_none}
 use Rattle.perf_parser.proofs.runs.list_answer.Goals as goal
 
-pub returns-in-Ok-list_refused-clause-listed : goal.returns-in-Ok-list_refused-clause-listed
-returns-in-Ok-list_refused-clause-listed g c =
-    let source = g.B.ParseBuf.source in let order = g.E.Endian.order in
-    let after = c.in-Ok-list_refused.ensures in
-    let listed = after.listed in let e = listed.0 in
-    let kind = refusal_kind c.in-Err.refusal in
-    let old = c.args.reader.now in let mid = c.read_after.new.reader in let new = c.list_refused.new.reader in
-    let call = same_call source order (SaysBehind c.args.header) old mid new (Err kind) after.buf after.config after.reads (says_call c.args.header c.in-Err.ensures.call) in
-    let P : ErrorKind → Type 0 = λ k. Call (λ (o : Outer g.row.B.Denot). source o.buf) order (SaysBehind c.args.header) old (Err k) new in (
-      Err e,
-      listed.1,
-      (λ whole. tt),
-      subst (λ k. IsTrue (of_layout k)) (sym listed.2.kind_is) listed.3,
-      subst P (sym listed.2.kind_is) call,
-    )
+pub returns-in-Ok : goal.returns-in-Ok
+returns-in-Ok g c =
+    let e = c.in-Ok.ensures in
+    lists_record g.B.ParseBuf.source g.B.ParseBuf.hint g.E.Endian.order c.args.header c.args.reader.now c.read_after.new.reader c.args.frames.now.items c.list_record.new.frames.items e.within
+    c.in-Ok.record (λ lacks. (e.short lacks).1) c.list_record.ensures (λ whole. body_borrows c.args.header (g.B.ParseBuf.source c.args.reader.now.input.buf).whole c.in-Ok.record e.event whole) (says_call c.args.header e.call)
 
-pub returns-in-Ok-clause-listed : goal.returns-in-Ok-clause-listed
-returns-in-Ok-clause-listed g c =
-    let e = c.in-Ok.ensures in (
-      Ok c.in-Ok.record,
-      c.list_record.ensures,
-      (λ whole. body_borrows c.args.header (g.B.ParseBuf.source c.args.reader.now.input.buf).whole c.in-Ok.record e.event whole),
-      tt,
-      says_call c.args.header e.call,
-    )
+pub returns-in-Ok-list_refused : goal.returns-in-Ok-list_refused
+returns-in-Ok-list_refused g c =
+    let e = c.in-Err.ensures in let after = c.in-Ok-list_refused.ensures in
+    lists_refused g.B.ParseBuf.source g.B.ParseBuf.hint g.E.Endian.order c.args.header c.args.reader.now c.read_after.new.reader c.args.frames.now.items c.list_refused.new.frames.items e.within
+    c.list_refused.new.reader c.in-Err.refusal (says_call c.args.header e.call) after.buf after.config after.reads after.listed
+
+pub returns-in-Err-list_refused : goal.returns-in-Err-list_refused
+returns-in-Err-list_refused g c =
+    let e = c.in-Err.ensures in let after = c.in-Err-list_refused.ensures in
+    lists_none g.B.ParseBuf.source g.B.ParseBuf.hint g.E.Endian.order c.args.header c.args.reader.now c.read_after.new.reader c.args.frames.now.items c.list_refused.new.frames.items e.within
+    c.list_refused.new.reader c.in-Err.refusal (says_call c.args.header e.call) after.buf after.config after.reads c.in-Err-list_refused.refusal after.stops after.kept e.spent

@@ -1,13 +1,11 @@
-use Rattle.std.proofs.Common.{rules, ◌≡◌, ℕ, ◌-◌, ◌≤◌, List, true, take, drop, length, max, arith, refl, sym, ◌∙◌, ap, subst}
-use Rattle.std.proofs.lemmas.Bool.Decides.{nat_tests}
+use Rattle.std.proofs.Common.{◌≡◌, ℕ, ◌-◌, ◌≤◌, List, true, take, drop, length, arith, refl, sym, ◌∙◌, ap, subst}
 use Rattle.std.proofs.lemmas.List.{take_all, length-drop}
 use Rattle.perf_base.specs.Header.{header_of}
 use Rattle.perf_base.specs.Order.{Order}
 use Rattle.perf_base.specs.declared.sys.perf_event_header.{perf_event_header}
 use Rattle.perf_buffers.specs.Buffer.{chunk_bytes, lasts}
 use Rattle.perf_records.specs.Answers.{body_length}
-use Rattle.perf_records.specs.Frames.{frame_length}
-use Rattle.perf_records.specs.Sights.{Sight, whole, sight_after, sight_in}
+use Rattle.perf_records.specs.Sights.{whole, sight_after}
 use Rattle.perf_records.proofs.Headers.{frame_behind, header_take}
 use Rattle.perf_records.proofs.Handing.{finished}
 use Rattle.perf_records.proofs.frame_list.cut_first.Goals as goal

@@ -1,4 +1,4 @@
-use Rattle.std.proofs.Common.{◌≡◌, ℕ, ◌+◌, ◌-◌, ◌≤◌, ◌<◌, List, length, refl, None, Some, Err, arith, sym, ◌∙◌, ap, subst, length-drop}
+use Rattle.std.proofs.Common.{◌≡◌, ℕ, ◌+◌, ◌-◌, ◌≤◌, ◌<◌, List, length, refl, take, drop, None, Some, Ok, Err, arith, sym, ◌∙◌, ap, subst, length-drop}
 use Rattle.std.specs.Prelude.{IsTrue}
 use Rattle.std.proofs.lemmas.List.{length-take-le}
 use Rattle.std.proofs.lemmas.Bool.Decides.{nat_tests}
@@ -15,7 +15,8 @@ use Rattle.perf_reader.specs.Calls.{Call}
 use Rattle.perf_reader.specs.Meaning.{Meaning, meaning}
 use Rattle.perf_reader.specs.Reading.{Keeps}
 use Rattle.perf_reader.proofs.Paying.{keeps_none, keeps_more, can_fault, within_taken}
-use Rattle.perf_records.specs.Answers.{body_length, FrameParts, answered_parts, parts_of, id_reads, SplitsBehind}
+use Rattle.perf_records.specs.Answers.{body_length, FrameParts, answered_parts, frame_parts, parts_of, SplitsBehind}
+use Rattle.perf_records.specs.Parts.{FindsId}
 use Rattle.perf_records.specs.Metadata.{id_length}
 use Rattle.perf_records.proofs.Keeping.{moved_keeps, stays_refused, within_none, within_kept, taken_pays}
 use Rattle.perf_records.proofs.Splitting.{unsplit_small, unsplit_cut, unsplit_room, split_made}
@@ -24,6 +25,10 @@ use Rattle.perf_records.proofs.parts.split.Goals as goal
 -- what is no record is not refused for want of memory
 invalid_no_memory : (e : ErrorKind) → e ≡ InvalidRecord → e ≡ OutOfMemory → ⊥
 invalid_no_memory e is memory = cc
+
+-- the last bytes of a frame, as many as it has
+last_all : (frame bytes : List ℕ) (n : ℕ) → n ≡ length frame → bytes ≡ drop (length frame - n) frame → bytes ≡ frame
+last_all frame bytes n all is = let none : length frame - n ≡ 0 = omega (arith, all) in is ∙ ap (λ (k : ℕ). drop k frame) none
 
 -- the cut was refused
 pub returns-in-Err-clause-call : goal.returns-in-Err-clause-call
@@ -44,60 +49,61 @@ returns-in-Err-clause-call g c =
     }
 
 -- the frame fell apart
-pub returns-in-Ok-take_id-clause-call : goal.returns-in-Ok-take_id-clause-call
-returns-in-Ok-take_id-clause-call g c =
+pub returns-clause-call : goal.returns-clause-call
+returns-clause-call g c =
     let old : Meaning = meaning g.I.Input.source g.E.Endian.order c.args.reader.now in
     let mid : Meaning = meaning g.I.Input.source g.E.Endian.order c.cut.new.self in
     let new : Meaning = meaning g.I.Input.source g.E.Endian.order c.count.new.self in
     let h = c.args.header in
     let frame : List ℕ = cursor_left c.in-Ok.frame in
-    let taken = c.in-Ok-take_id.taken in
-    let parts : FrameParts = answered_parts (taken.body, taken.metadata) in
+    let id = c.in-Ok-id_in.id in
+    let parts : FrameParts = answered_parts (c.drop_last.new.self, id.metadata) in
     let e = c.in-Ok.ensures in
-    let t = c.in-Ok-take_id.ensures in
+    let t = c.in-Ok-id_in.ensures in
+    let all : c.last.result.now ≡ frame = last_all frame c.last.result.now c.len.result c.len.ensures c.last.ensures in
+    let body : length frame - (c.len-2.result - id.len) ≡ id.len = omega (arith, c.len-2.ensures, t.len, ap length all) in
+    let cut : cursor_left c.drop_last.new.self ≡ take id.len frame = c.drop_last.ensures.left ∙ ap (λ (n : ℕ). take n frame) body in
     let sized : 8 ≤ h.size = grind (arith, nat_tests) in
     let config : c.config.result.now ≡ c.args.reader.now.config = c.config.ensures ∙ e.config in
     let same : new.source ≡ mid.source = ap g.I.Input.source c.count.ensures.input in
-    let P : ParseConfig g.row.E.Denot → Type 0 = λ k. (id_length (configuration_of k) h.type_ ≤ length frame) × (parts ≡ parts_of (configuration_of k) (g.E.Endian.order (endian_of k)) h frame) in
-    let Q : ParseConfig g.row.E.Denot → Type 0 = λ k. taken.reads ≡ id_reads (configuration_of k) (g.E.Endian.order (endian_of k)) h frame in
-    let R : ParseConfig g.row.E.Denot → Type 0 = λ k. taken.reads ≤ id_length (configuration_of k) h.type_ in
-    let are = subst P config t.parts in
-    let reads = subst Q config t.reads in
-    let bound = subst R config t.bound in
-    let less : taken.reads ≤ body_length h = omega (arith, bound, are.0, e.count) in
-    let count : new.reads ≡ old.reads + taken.reads = c.count.ensures.reads ∙ ap (λ n. n + taken.reads) e.reads in
+    let P : ParseConfig g.row.E.Denot → Type 0 = λ k. FindsId (configuration_of k) (g.E.Endian.order (endian_of k)) h frame (Ok id) in
+    let finds = subst P config (subst (λ xs. FindsId (configuration_of c.config.result.now) (g.E.Endian.order (endian_of c.config.result.now)) h xs (Ok id)) all t) in
+    let are : parts ≡ parts_of old.settings old.order h frame = ap (frame_parts id.metadata) cut ∙ finds.parts.1 in
+    let less : id.reads ≤ body_length h = omega (arith, finds.bound, finds.parts.0, e.count) in
+    let count : new.reads ≡ old.reads + id.reads = c.count.ensures.reads ∙ ap (λ n. n + id.reads) e.reads in
     let stays : Stays old.source None new.source = subst (λ s. Stays old.source None s) (sym same) e.stays in
-    let kept : Keeps old None new = moved_keeps old new None taken.reads count stays (λ x. cc) (λ told.
+    let kept : Keeps old None new = moved_keeps old new None id.reads count stays (λ x. cc) (λ told.
     let o = e.ok told in
-    let paid : taken.reads + length mid.source.left ≤ length old.source.left = taken_pays old.source mid.source (body_length h) taken.reads o.0 less in
-    subst (λ (s : Source). Moves old.source s × (taken.reads + length s.left ≤ length old.source.left + 0)) (sym same) (takes_moves old.source mid.source (body_length h) o.0, omega (arith, paid))) in record {
+    let paid : id.reads + length mid.source.left ≤ length old.source.left = taken_pays old.source mid.source (body_length h) id.reads o.0 less in
+    subst (λ (s : Source). Moves old.source s × (id.reads + length s.left ≤ length old.source.left + 0)) (sym same) (takes_moves old.source mid.source (body_length h) o.0, omega (arith, paid))) in record {
       config = c.count.ensures.config ∙ e.config;
       whole = stays.0;
       told = stays.3;
       answer = λ told.
           let o = e.ok told in
-          let m = split_made old.settings old.order h old.source.left frame parts sized o.0.0 o.1 are.0 are.1 in
-          (m.0, ap (λ (s : Source). s.left) same ∙ o.0.1, count ∙ ap (λ n. old.reads + n) (reads ∙ sym m.1));
+          let m = split_made old.settings old.order h old.source.left frame parts sized o.0.0 o.1 finds.parts.0 are in
+          (m.0, ap (λ (s : Source). s.left) same ∙ o.0.1, count ∙ ap (λ n. old.reads + n) (finds.reads ∙ sym m.1));
       keeps = λ start p. keeps_more start old new None p kept;
     }
 
 -- there is no room for its sample id
-pub returns-in-Err-take_id-clause-call : goal.returns-in-Err-take_id-clause-call
-returns-in-Err-take_id-clause-call g c =
+pub returns-in-Err-id_in-clause-call : goal.returns-in-Err-id_in-clause-call
+returns-in-Err-id_in-clause-call g c =
     let old : Meaning = meaning g.I.Input.source g.E.Endian.order c.args.reader.now in
     let new : Meaning = meaning g.I.Input.source g.E.Endian.order c.cut.new.self in
     let h = c.args.header in
     let frame : List ℕ = cursor_left c.in-Ok.frame in
     let e = c.in-Ok.ensures in
-    let t = c.in-Err-take_id.ensures in
+    let t = c.in-Err-id_in.ensures in
     let sized : 8 ≤ h.size = grind (arith, nat_tests) in
     let config : c.config.result.now ≡ c.args.reader.now.config = c.config.ensures ∙ e.config in
+    let all : c.last.result.now ≡ frame = last_all frame c.last.result.now c.len.result c.len.ensures c.last.ensures in
     let short : length frame < id_length (configuration_of c.args.reader.now.config) h.type_ =
-    subst (λ (k : ParseConfig g.row.E.Denot). length frame < id_length (configuration_of k) h.type_) config t.refused.1 in
+    subst (λ (k : ParseConfig g.row.E.Denot). length frame < id_length (configuration_of k) h.type_) config (omega (arith, t.refused.1, ap length all)) in
     let stays : Stays old.source (Some InvalidRecord) new.source = stays_refused old.source new.source InvalidRecord refl e.stays in
     let kept : Keeps old (Some InvalidRecord) new = moved_keeps old new (Some InvalidRecord) 0 (omega (arith, e.reads)) stays (λ x. cc) (λ told.
     let m = takes_moves old.source new.source (body_length h) (e.ok told).0 in (m, omega (arith, m.0))) in
-    subst (λ k. Call g.I.Input.source g.E.Endian.order (SplitsBehind h) c.args.reader.now (Err k) c.cut.new.self) (sym t.refused.0) (record {
+    subst (λ k. Call g.I.Input.source g.E.Endian.order (SplitsBehind h) c.args.reader.now (Err k) c.cut.new.self) (sym (ap refusal_kind t.refused.0)) (record {
       config = e.config;
       whole = stays.0;
       told = stays.3;
@@ -145,41 +151,41 @@ pub returns-in-Err-clause-paid : goal.returns-in-Err-clause-paid
 returns-in-Err-clause-paid g c = λ told. tt
 
 -- ---- and where the frame fell apart
-pub returns-in-Ok-take_id-clause-within : goal.returns-in-Ok-take_id-clause-within
-returns-in-Ok-take_id-clause-within g c = λ told.
+pub returns-clause-within : goal.returns-clause-within
+returns-clause-within g c = λ told.
     subst (λ (s : Source). MovesWithin (g.I.Input.source c.args.reader.now.input) (body_length c.args.header) s) (sym (ap g.I.Input.source c.count.ensures.input))
     (within_taken (g.I.Input.source c.args.reader.now.input) (g.I.Input.source c.cut.new.self.input) (body_length c.args.header) (c.in-Ok.ensures.ok told).0)
 
-pub returns-in-Ok-take_id-clause-named : goal.returns-in-Ok-take_id-clause-named
-returns-in-Ok-take_id-clause-named g c =
-    let parts = c.in-Ok-take_id.ensures.parts.1 in (ap (λ (p : FrameParts). p.metadata.ty) parts, ap (λ (p : FrameParts). p.metadata.misc) parts)
+pub returns-clause-named : goal.returns-clause-named
+returns-clause-named g c =
+    let parts = c.in-Ok-id_in.ensures.parts.1 in (ap (λ (p : FrameParts). p.metadata.ty) parts, ap (λ (p : FrameParts). p.metadata.misc) parts)
 
-pub returns-in-Ok-take_id-clause-whole : goal.returns-in-Ok-take_id-clause-whole
-returns-in-Ok-take_id-clause-whole g c = λ whole. subst IsTrue (sym c.in-Ok-take_id.ensures.form) (c.in-Ok.ensures.whole whole)
+pub returns-clause-whole : goal.returns-clause-whole
+returns-clause-whole g c = λ whole. subst IsTrue (sym c.drop_last.ensures.form) (c.in-Ok.ensures.whole whole)
 
-pub returns-in-Ok-take_id-clause-whole_memory : goal.returns-in-Ok-take_id-clause-whole_memory
-returns-in-Ok-take_id-clause-whole_memory g c = λ whole. tt
+pub returns-clause-whole_memory : goal.returns-clause-whole_memory
+returns-clause-whole_memory g c = λ whole. tt
 
-pub returns-in-Ok-take_id-clause-small : goal.returns-in-Ok-take_id-clause-small
-returns-in-Ok-take_id-clause-small g c = λ small. absurd (omega arith)
+pub returns-clause-small : goal.returns-clause-small
+returns-clause-small g c = λ small. absurd (omega arith)
 
-pub returns-in-Ok-take_id-clause-small_why : goal.returns-in-Ok-take_id-clause-small_why
-returns-in-Ok-take_id-clause-small_why g c = λ small. tt
+pub returns-clause-small_why : goal.returns-clause-small_why
+returns-clause-small_why g c = λ small. tt
 
-pub returns-in-Ok-take_id-clause-id_why : goal.returns-in-Ok-take_id-clause-id_why
-returns-in-Ok-take_id-clause-id_why g c = λ told sized. tt
+pub returns-clause-id_why : goal.returns-clause-id_why
+returns-clause-id_why g c = λ told sized. tt
 
-pub returns-in-Ok-take_id-clause-nothing : goal.returns-in-Ok-take_id-clause-nothing
-returns-in-Ok-take_id-clause-nothing g c = λ empty. (tt, subst IsTrue (sym c.in-Ok-take_id.ensures.form) (c.in-Ok.ensures.nothing empty).0)
+pub returns-clause-nothing : goal.returns-clause-nothing
+returns-clause-nothing g c = λ empty. (tt, subst IsTrue (sym c.drop_last.ensures.form) (c.in-Ok.ensures.nothing empty).0)
 
-pub returns-in-Ok-take_id-clause-short : goal.returns-in-Ok-take_id-clause-short
-returns-in-Ok-take_id-clause-short g c = λ lacks. absurd (c.in-Ok.ensures.short lacks).1
+pub returns-clause-short : goal.returns-clause-short
+returns-clause-short g c = λ lacks. absurd (c.in-Ok.ensures.short lacks).1
 
-pub returns-in-Ok-take_id-clause-beforehand : goal.returns-in-Ok-take_id-clause-beforehand
-returns-in-Ok-take_id-clause-beforehand g c = λ told made. tt
+pub returns-clause-beforehand : goal.returns-clause-beforehand
+returns-clause-beforehand g c = λ told made. tt
 
-pub returns-in-Ok-take_id-clause-paid : goal.returns-in-Ok-take_id-clause-paid
-returns-in-Ok-take_id-clause-paid g c = λ told.
+pub returns-clause-paid : goal.returns-clause-paid
+returns-clause-paid g c = λ told.
     let old : Source = g.I.Input.source c.args.reader.now.input in
     let mid : Source = g.I.Input.source c.cut.new.self.input in
     let new : Source = g.I.Input.source c.count.new.self.input in
@@ -187,47 +193,49 @@ returns-in-Ok-take_id-clause-paid g c = λ told.
     let frame : ℕ = length (cursor_left c.in-Ok.frame) in
     let id : ℕ = id_length (configuration_of c.config.result.now) c.args.header.type_ in
     let e = c.in-Ok.ensures in
-    let t = c.in-Ok-take_id.ensures in
+    let t = c.in-Ok-id_in.ensures in
     let took = (e.ok told).0 in
-    let body : length (cursor_left c.in-Ok-take_id.taken.body) ≡ frame - id = ap (λ (p : FrameParts). length p.body) t.parts.1 ∙ length-take-le (frame - id) (cursor_left c.in-Ok.frame) (omega arith) in
+    let all : length c.last.result.now ≡ frame = ap length (last_all (cursor_left c.in-Ok.frame) c.last.result.now c.len.result c.len.ensures c.last.ensures) in
+    let cut : ℕ = c.len-2.result - c.in-Ok-id_in.id.len in
+    let body : length (cursor_left c.drop_last.new.self) ≡ frame - cut = ap length c.drop_last.ensures.left ∙ length-take-le (frame - cut) (cursor_left c.in-Ok.frame) (omega arith) in
     let left : length mid.left ≡ length old.left - n = ap length took.1 ∙ length-drop n old.left in
     let same : length new.left ≡ length mid.left = ap (λ i. length (g.I.Input.source i).left) c.count.ensures.input in
-    omega (arith, c.count.ensures.reads, e.reads, t.bound, t.parts.0, body, left, same, e.count, took.0)
+    omega (arith, c.count.ensures.reads, e.reads, t.bound, t.parts.0, t.len, all, c.len-2.ensures, body, left, same, e.count, took.0)
 
 -- ---- and where it has no room for its sample id
-pub returns-in-Err-take_id-clause-within : goal.returns-in-Err-take_id-clause-within
-returns-in-Err-take_id-clause-within g c = λ told.
+pub returns-in-Err-id_in-clause-within : goal.returns-in-Err-id_in-clause-within
+returns-in-Err-id_in-clause-within g c = λ told.
     within_taken (g.I.Input.source c.args.reader.now.input) (g.I.Input.source c.cut.new.self.input) (body_length c.args.header) (c.in-Ok.ensures.ok told).0
 
-pub returns-in-Err-take_id-clause-named : goal.returns-in-Err-take_id-clause-named
-returns-in-Err-take_id-clause-named g c = tt
+pub returns-in-Err-id_in-clause-named : goal.returns-in-Err-id_in-clause-named
+returns-in-Err-id_in-clause-named g c = tt
 
-pub returns-in-Err-take_id-clause-whole : goal.returns-in-Err-take_id-clause-whole
-returns-in-Err-take_id-clause-whole g c = λ whole. tt
+pub returns-in-Err-id_in-clause-whole : goal.returns-in-Err-id_in-clause-whole
+returns-in-Err-id_in-clause-whole g c = λ whole. tt
 
-pub returns-in-Err-take_id-clause-whole_memory : goal.returns-in-Err-take_id-clause-whole_memory
-returns-in-Err-take_id-clause-whole_memory g c = λ whole memory. invalid_no_memory _ c.in-Err-take_id.ensures.refused.0 memory
+pub returns-in-Err-id_in-clause-whole_memory : goal.returns-in-Err-id_in-clause-whole_memory
+returns-in-Err-id_in-clause-whole_memory g c = λ whole memory. invalid_no_memory _ (ap refusal_kind c.in-Err-id_in.ensures.refused.0) memory
 
-pub returns-in-Err-take_id-clause-small : goal.returns-in-Err-take_id-clause-small
-returns-in-Err-take_id-clause-small g c = λ small. absurd (omega arith)
+pub returns-in-Err-id_in-clause-small : goal.returns-in-Err-id_in-clause-small
+returns-in-Err-id_in-clause-small g c = λ small. absurd (omega arith)
 
-pub returns-in-Err-take_id-clause-small_why : goal.returns-in-Err-take_id-clause-small_why
-returns-in-Err-take_id-clause-small_why g c = λ small. absurd (omega arith)
+pub returns-in-Err-id_in-clause-small_why : goal.returns-in-Err-id_in-clause-small_why
+returns-in-Err-id_in-clause-small_why g c = λ small. absurd (omega arith)
 
-pub returns-in-Err-take_id-clause-id_why : goal.returns-in-Err-take_id-clause-id_why
-returns-in-Err-take_id-clause-id_why g c = λ told sized no. c.in-Err-take_id.ensures.why
+pub returns-in-Err-id_in-clause-id_why : goal.returns-in-Err-id_in-clause-id_why
+returns-in-Err-id_in-clause-id_why g c = λ told sized no. c.in-Err-id_in.ensures.refused.0
 
-pub returns-in-Err-take_id-clause-nothing : goal.returns-in-Err-take_id-clause-nothing
-returns-in-Err-take_id-clause-nothing g c = λ empty. ((λ memory. invalid_no_memory _ c.in-Err-take_id.ensures.refused.0 memory), tt)
+pub returns-in-Err-id_in-clause-nothing : goal.returns-in-Err-id_in-clause-nothing
+returns-in-Err-id_in-clause-nothing g c = λ empty. ((λ memory. invalid_no_memory _ (ap refusal_kind c.in-Err-id_in.ensures.refused.0) memory), tt)
 
-pub returns-in-Err-take_id-clause-short : goal.returns-in-Err-take_id-clause-short
-returns-in-Err-take_id-clause-short g c = λ lacks. absurd (c.in-Ok.ensures.short lacks).1
+pub returns-in-Err-id_in-clause-short : goal.returns-in-Err-id_in-clause-short
+returns-in-Err-id_in-clause-short g c = λ lacks. absurd (c.in-Ok.ensures.short lacks).1
 
-pub returns-in-Err-take_id-clause-beforehand : goal.returns-in-Err-take_id-clause-beforehand
-returns-in-Err-take_id-clause-beforehand g c = λ told made memory. absurd (invalid_no_memory _ c.in-Err-take_id.ensures.refused.0 memory)
+pub returns-in-Err-id_in-clause-beforehand : goal.returns-in-Err-id_in-clause-beforehand
+returns-in-Err-id_in-clause-beforehand g c = λ told made memory. absurd (invalid_no_memory _ (ap refusal_kind c.in-Err-id_in.ensures.refused.0) memory)
 
-pub returns-in-Err-take_id-clause-paid : goal.returns-in-Err-take_id-clause-paid
-returns-in-Err-take_id-clause-paid g c = λ told. tt
+pub returns-in-Err-id_in-clause-paid : goal.returns-in-Err-id_in-clause-paid
+returns-in-Err-id_in-clause-paid g c = λ told. tt
 
 -- ---- and where the size does not count the header
 pub returns-then-header-lt8-clause-within : goal.returns-then-header-lt8-clause-within

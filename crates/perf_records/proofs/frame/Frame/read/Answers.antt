@@ -1,5 +1,4 @@
-use Rattle.std.proofs.Common.{◌≡◌, ℕ, ◌+◌, ◌-◌, ◌≤◌, List, Bool, length, take, arith, refl, sym, ◌∙◌, ap, subst}
-use Rattle.std.specs.Prelude.{Result}
+use Rattle.std.proofs.Common.{◌≡◌, ℕ, ◌+◌, ◌≤◌, List, Bool, length, take, arith, sym, ◌∙◌, ap, subst}
 use Rattle.std.proofs.lemmas.List.{length-take-le}
 use Rattle.perf_base.specs.Configuration.{Configuration, under_misc}
 use Rattle.perf_base.specs.Configured.{configuration_of, endian_of}
@@ -9,7 +8,6 @@ use Rattle.perf_buffers.specs.Buffer.{chunk_bytes, lasts}
 use Rattle.perf_reader.specs.Reading.{one_if_refused}
 use Rattle.perf_records.specs.Answers.{FrameParts, frame_parts, parts_of, id_reads}
 use Rattle.perf_records.specs.Bodies.{body}
-use Rattle.perf_records.specs.Metadata.{MetadataValue}
 use Rattle.perf_records.specs.Visits.{Event, VisitsAll}
 use Rattle.perf_records.proofs.Shown.{bytes_visited}
 use Rattle.perf_records.proofs.frame.Frame.read.Goals as goal
