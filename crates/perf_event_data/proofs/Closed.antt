@@ -37,10 +37,10 @@ word_ends : (c : Configuration) → Closed plain
 word_ends c = (tt, λ n. tt)
 
 moment_ended : AreEnded moment_fields
-moment_ended = (word_ends, (word_ends, (λ c. (tt, λ pid. (tt, λ tid. tt)), (word_ends, (word_ends, (word_ends, tt))))))
+moment_ended = (word_ends, (word_ends, (λ c. (tt, λ pid. (tt, λ tid. tt)), (word_ends, (word_ends, (word_ends, (word_ends, (λ c. (tt, λ number. (tt, λ u. tt)), (word_ends, tt)))))))))
 
 count_ended : AreEnded count_fields
-count_ended = (word_ends, (λ c. (tt, λ number. (tt, λ u. tt)), (word_ends, (values_end, (λ c. (tt, λ count. (tt, λ addresses. tt)), tt)))))
+count_ended = (values_end, (λ c. (tt, λ count. (tt, λ addresses. tt)), tt))
 
 state_ended : AreEnded state_fields
 state_ended = (

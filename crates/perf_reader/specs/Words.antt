@@ -9,7 +9,7 @@ pub use Rattle.perf_buffers.specs.Buffer.{Stays, Refuses}
 pub use Rattle.perf_buffers.specs.Cursor.{cursor_left, cursor_lent, IsAtStart}
 pub use Rattle.perf_buffers.specs.Room.{falls_short, is_made_beforehand}
 pub use Rattle.perf_buffers.specs.Taking.{Takes, FailsToKeep, CanFail, MovesWithin}
-pub use Rattle.perf_reader.specs.AtOnce.{ReadsAtOnce}
+pub use Rattle.perf_reader.specs.AtOnce.{ReadsAtOnce, PassesOver}
 pub use Rattle.perf_reader.specs.Calls.{Call}
 pub use Rattle.perf_reader.specs.Meaning.{Meaning, input_of, buffer_of, config_of, reads_of}
 pub use Rattle.perf_reader.specs.Meaning.{meaning}

@@ -17,4 +17,5 @@ pub mod read;
 pub mod reader;
 mod rest;
 mod room;
+mod shown;
 mod zeros;

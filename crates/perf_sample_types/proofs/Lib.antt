@@ -6,6 +6,7 @@ pub mod Flags
 pub mod Forms
 pub mod GroupRuns
 mod Origins
+pub mod RowFields
 pub mod SampleGetters
 pub mod SampleTable
 pub mod SampleIdLength

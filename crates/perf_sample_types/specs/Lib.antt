@@ -8,6 +8,7 @@ pub mod SampleForms
 pub mod SampleGetters
 pub mod SampleGroups
 pub mod SampleParts
+pub mod SampleRows
 pub mod SampleWords
 pub mod SampleId
 pub mod SampleIdFields

@@ -128,7 +128,8 @@ at_flag flag parts = record { flags = flag ∷ []; parts = λ c. parts }
 abbrev pub at_flag_under : ℕ → (Configuration → Parts FieldValue) → Field
 at_flag_under flag parts = record { flags = flag ∷ []; parts = parts }
 
--- what happened when and where: IDENTIFIER, IP, TID, TIME, ADDR, ID
+-- what happened when and where, and of which event: IDENTIFIER, IP, TID, TIME, ADDR, ID, STREAM_ID,
+-- CPU, PERIOD, each of eight bytes
 abbrev pub moment_fields : List Field
 moment_fields =
     at_flag 16 plain ∷
@@ -137,14 +138,14 @@ moment_fields =
     at_flag 2 plain ∷
     at_flag 3 plain ∷
     at_flag 6 plain ∷
-    []
-
--- of which event, and how the code got there: STREAM_ID, CPU, PERIOD, READ, CALLCHAIN
-abbrev pub count_fields : List Field
-count_fields =
     at_flag 9 plain ∷
     at_flag 7 cpu ∷
     at_flag 8 plain ∷
+    []
+
+-- what was counted, and how the code got there: READ, CALLCHAIN
+abbrev pub count_fields : List Field
+count_fields =
     at_flag_under 4 values ∷
     at_flag 5 call_chain ∷
     []

@@ -16,10 +16,20 @@ filled (Err e) x = Err e
 -- ---- groups without fields
 
 abbrev pub no_moment : Moment
-no_moment = record { identifier = None; ip = None; task = None; time = None; addr = None; id = None }
+no_moment = record {
+  identifier = None;
+  ip = None;
+  task = None;
+  time = None;
+  addr = None;
+  id = None;
+  stream_id = None;
+  cpu = None;
+  period = None;
+}
 
 abbrev pub no_counts : Counts
-no_counts = record { stream_id = None; cpu = None; period = None; values = None; call_chain = None }
+no_counts = record { values = None; call_chain = None }
 
 abbrev pub no_state : State
 no_state = record { raw = None; branches = None; regs_user = None; stack_user = None }

@@ -10,7 +10,7 @@ use Rattle.perf_sample_types.specs.declared.sample_groups.Costs.{Costs}
 use Rattle.perf_sample_types.specs.declared.sample_groups.Memory.{Memory}
 use Rattle.perf_sample_types.specs.declared.sample.Sample.{Sample}
 
--- what happened when and where
+-- what happened when and where, and of which event
 abbrev pub moment_value : Moment → SampleValue
 moment_value m =
     option_map number_is m.identifier ∷
@@ -19,14 +19,14 @@ moment_value m =
     option_map number_is m.time ∷
     option_map number_is m.addr ∷
     option_map number_is m.id ∷
+    option_map number_is m.stream_id ∷
+    option_map parts.cpu_value m.cpu ∷
+    option_map number_is m.period ∷
     []
 
--- of which event it was, and how the code got there
+-- what was counted, and how the code got there
 abbrev pub counts_value : Counts → SampleValue
 counts_value c =
-    option_map number_is c.stream_id ∷
-    option_map parts.cpu_value c.cpu ∷
-    option_map number_is c.period ∷
     option_map parts.group_value c.values ∷
     option_map parts.call_chain_value c.call_chain ∷
     []

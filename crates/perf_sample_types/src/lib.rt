@@ -12,3 +12,4 @@ mod sample_groups;
 pub mod sample_id;
 mod sample_made;
 mod sample_parts;
+mod sample_row;

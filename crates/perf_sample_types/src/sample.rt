@@ -60,11 +60,11 @@ impl<'a> Sample<'a> {
                 time: fields.time,
                 addr: fields.addr,
                 id: fields.id,
-            },
-            counts: Counts {
                 stream_id: fields.stream_id,
                 cpu: cpu_of(fields.cpu),
                 period: fields.period,
+            },
+            counts: Counts {
                 values: fields.values,
                 call_chain: call_chain_of(fields.callchain),
             },
@@ -163,7 +163,7 @@ impl<'a> Sample<'a> {
         ensures { result ≡
             (shown.getters_of (shown.sample_value self.now)).stream_id }
     {
-        self.counts.stream_id
+        self.moment.stream_id
     }
 
     /// The processor on which it happened (`PERF_SAMPLE_CPU`).
@@ -172,7 +172,7 @@ impl<'a> Sample<'a> {
         ensures { result ≡
             (shown.getters_of (shown.sample_value self.now)).cpu }
     {
-        match &self.counts.cpu {
+        match &self.moment.cpu {
             Some(cpu) => Some(cpu.0),
             None => None,
         }
@@ -185,7 +185,7 @@ impl<'a> Sample<'a> {
         ensures { result ≡
             (shown.getters_of (shown.sample_value self.now)).period }
     {
-        self.counts.period
+        self.moment.period
     }
 
     /// What was read of the event's counters: those of its group, or its own as a group of one

@@ -179,6 +179,9 @@ impl Moment {
             time: self.time,
             addr: self.addr,
             id: self.id,
+            stream_id: self.stream_id,
+            cpu: self.cpu,
+            period: self.period,
         }
     }
 }
@@ -190,13 +193,7 @@ impl<'a> Counts<'a> {
     {
         let values = clone_field_if(&self.values, alloc)?;
         let call_chain = clone_field_if(&self.call_chain, alloc)?;
-        Ok(Counts {
-            stream_id: self.stream_id,
-            cpu: self.cpu,
-            period: self.period,
-            values,
-            call_chain,
-        })
+        Ok(Counts { values, call_chain })
     }
 }
 

@@ -1,11 +1,14 @@
 //! The groups in which a sample's fields are read.
 
-ghost use Rattle.std.specs.Prelude.{◌≡◌, ◌==◌, ⊤, [], ◌∷◌, None};
+ghost use Rattle.std.specs.Prelude.{◌≡◌, ◌==◌, ⊤, [], ◌∷◌, None, true, false, Ok, Err, OnSome, IfErr};
 ghost use Rattle.std.specs.Int.RustNames.{bit_and};
 ghost use Rattle.perf_sample_types.specs.SampleEmpty as empty;
 ghost use Rattle.perf_sample_types.specs.SampleEmpty.{filled};
 ghost use Rattle.perf_sample_types.specs.Sample as sample;
 ghost use Rattle.perf_sample_types.specs.SampleGroups as groups;
+ghost use Rattle.perf_base.specs.Configuration.{Configuration};
+ghost use Rattle.perf_reader.specs.Words.{refusal_kind};
+ghost use Rattle.perf_sample_types.specs.SampleRows.{TakesFields};
 ghost use Rattle.perf_sample_types.specs.SampleWords.{Call, ReadsTable, kinds};
 ghost use Rattle.perf_words.specs.SetBits.{sample_flags_bits};
 
@@ -13,6 +16,7 @@ use crate::sample_field::{fill_field_if, fill_flagged};
 use crate::sample_parts::{
     AuxBytes, Branches, CallChain, Cpu, InterruptRegisters, RawData, Stack, Task, UserRegisters,
 };
+use crate::sample_row::{Row, take_flagged};
 use bitflags::Flags;
 use perf_base::endian::Endian;
 use perf_base::refusal::ReadResult;
@@ -47,7 +51,7 @@ fn clear_place<T: Drop>(place: &mut Option<T>)
     }
 }
 
-// What happened when and where.
+// What happened when and where, and of which event it was.
 #[derive(Debug, Drop)]
 pub(crate) struct Moment {
     pub(crate) identifier: Option<u64>,
@@ -56,6 +60,9 @@ pub(crate) struct Moment {
     pub(crate) time: Option<u64>,
     pub(crate) addr: Option<u64>,
     pub(crate) id: Option<u64>,
+    pub(crate) stream_id: Option<u64>,
+    pub(crate) cpu: Option<Cpu>,
+    pub(crate) period: Option<u64>,
 }
 
 impl Moment {
@@ -70,10 +77,14 @@ impl Moment {
             time: None,
             addr: None,
             id: None,
+            stream_id: None,
+            cpu: None,
+            period: None,
         }
     }
 
-    // Fills its places, which hold nothing yet.
+    // Fills its places, which are empty: at once if the input shows all of their bytes, and otherwise
+    // field by field.
     #[inline(always)]
     pub(crate) fn fill<'p, I: Input<'p>, E: Endian>(
         &mut self,
@@ -85,6 +96,94 @@ impl Moment {
             (λ _. ⊤))
             reader.old (filled (kinds result) self.new) reader.new }
     {
+        match self.fill_shown(reader) {
+            Ok(true) => Ok(()),
+            Ok(false) => self.fill_by_field(reader),
+            Err(refusal) => Err(refusal),
+        }
+    }
+
+    // Fills its places out of the bytes that the input shows, and takes those. If they are too few,
+    // nothing is read.
+    #[inline(always)]
+    fn fill_shown<'p, I: Input<'p>, E: Endian>(
+        &mut self,
+        reader: &mut Reader<I, E>,
+    ) -> ReadResult<bool>
+        requires { self.old ≡ empty.no_moment }
+        ensures nothing { result ≡ Ok false → reader.new ≡ reader.old }
+        ensures shown { result ≡ Ok true → Call I.source E.order
+            (ReadsTable (λ c. sample.fields_under c sample.moment_fields) groups.moment_value
+            (λ _. ⊤))
+            reader.old (Ok self.new) reader.new }
+        ensures refused { IfErr result (λ e. Call I.source E.order
+            (ReadsTable (λ c. sample.fields_under c sample.moment_fields) groups.moment_value
+            (λ _. ⊤))
+            reader.old (Err (refusal_kind e)) reader.new) }
+    {
+        let shown = reader.input().shown();
+        let mut row = Row::new(shown);
+        match self.take_fields(&mut row, reader.endian(), reader.config().sample_type()) {
+            Some(()) => (),
+            None => return Ok(false),
+        }
+        let (len, reads) = row.into_taken(shown.len());
+        match reader.pass(len, reads) {
+            Ok(()) => Ok(true),
+            Err(refusal) => Err(refusal),
+        }
+    }
+
+    // Takes the fields of its places, which are empty. It is `None` if too few bytes are at hand.
+    #[inline(always)]
+    fn take_fields<E: Endian>(
+        &mut self,
+        row: &mut Row<'_>,
+        order: &E,
+        flags: SampleFlags,
+    ) -> Option<()>
+        requires { self.old ≡ empty.no_moment }
+        ensures { OnSome result ((c : Configuration) → c.sample_type ≡ sample_flags_bits flags →
+            TakesFields (E.order order.now) (sample.fields_under c sample.moment_fields)
+            (groups.moment_value self.new) row.old row.new) }
+    {
+        take_flagged(
+            &mut self.identifier,
+            row,
+            order,
+            flags,
+            SampleFlags::IDENTIFIER,
+        )?;
+        take_flagged(&mut self.ip, row, order, flags, SampleFlags::IP)?;
+        take_flagged(&mut self.task, row, order, flags, SampleFlags::TID)?;
+        take_flagged(&mut self.time, row, order, flags, SampleFlags::TIME)?;
+        take_flagged(&mut self.addr, row, order, flags, SampleFlags::ADDR)?;
+        take_flagged(&mut self.id, row, order, flags, SampleFlags::ID)?;
+        take_flagged(
+            &mut self.stream_id,
+            row,
+            order,
+            flags,
+            SampleFlags::STREAM_ID,
+        )?;
+        take_flagged(&mut self.cpu, row, order, flags, SampleFlags::CPU)?;
+        take_flagged(&mut self.period, row, order, flags, SampleFlags::PERIOD)?;
+        Some(())
+    }
+
+    // Fills its places field by field. What they contain is dropped.
+    #[cold]
+    #[inline(never)]
+    fn fill_by_field<'p, I: Input<'p>, E: Endian>(
+        &mut self,
+        reader: &mut Reader<I, E>,
+    ) -> ReadResult<()>
+        ensures call { Call I.source E.order
+            (ReadsTable (λ c. sample.fields_under c sample.moment_fields) groups.moment_value
+            (λ _. ⊤))
+            reader.old (filled (kinds result) self.new) reader.new }
+    {
+        *self = Moment::none();
         let flags = reader.config().sample_type();
         fill_flagged(&mut self.identifier, reader, flags, SampleFlags::IDENTIFIER)?;
         fill_flagged(&mut self.ip, reader, flags, SampleFlags::IP)?;
@@ -92,16 +191,16 @@ impl Moment {
         fill_flagged(&mut self.time, reader, flags, SampleFlags::TIME)?;
         fill_flagged(&mut self.addr, reader, flags, SampleFlags::ADDR)?;
         fill_flagged(&mut self.id, reader, flags, SampleFlags::ID)?;
+        fill_flagged(&mut self.stream_id, reader, flags, SampleFlags::STREAM_ID)?;
+        fill_flagged(&mut self.cpu, reader, flags, SampleFlags::CPU)?;
+        fill_flagged(&mut self.period, reader, flags, SampleFlags::PERIOD)?;
         Ok(())
     }
 }
 
-// Of which event it was, and how the code got there.
+// What was counted, and how the code got there.
 #[derive(Debug, Drop)]
 pub(crate) struct Counts<'a> {
-    pub(crate) stream_id: Option<u64>,
-    pub(crate) cpu: Option<Cpu>,
-    pub(crate) period: Option<u64>,
     pub(crate) values: Option<ReadGroup<'a>>,
     pub(crate) call_chain: Option<CallChain<'a>>,
 }
@@ -112,9 +211,6 @@ impl<'p> Counts<'p> {
         ensures { result ≡ empty.no_counts }
     {
         Counts {
-            stream_id: None,
-            cpu: None,
-            period: None,
             values: None,
             call_chain: None,
         }
@@ -125,9 +221,6 @@ impl<'p> Counts<'p> {
     pub(crate) fn clear(&mut self)
         ensures { self.new ≡ empty.no_counts }
     {
-        self.stream_id = None;
-        self.cpu = None;
-        self.period = None;
         clear_place(&mut self.values);
         clear_place(&mut self.call_chain);
     }
@@ -145,9 +238,6 @@ impl<'p> Counts<'p> {
             reader.old (filled (kinds result) self.new) reader.new }
     {
         let flags = reader.config().sample_type();
-        fill_flagged(&mut self.stream_id, reader, flags, SampleFlags::STREAM_ID)?;
-        fill_flagged(&mut self.cpu, reader, flags, SampleFlags::CPU)?;
-        fill_flagged(&mut self.period, reader, flags, SampleFlags::PERIOD)?;
         fill_flagged(&mut self.values, reader, flags, SampleFlags::READ)?;
         fill_flagged(&mut self.call_chain, reader, flags, SampleFlags::CALLCHAIN)?;
         Ok(())

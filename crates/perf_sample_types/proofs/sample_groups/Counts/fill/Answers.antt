@@ -12,7 +12,7 @@ returns-in_err-fill_flagged g c =
     let up : c.from_residual.result ≡ Err c.in_err-fill_flagged.field-0.0 = came_up _ _ c.from_residual.ensures in rw up (
     record {
       call = of_row _ _ _ (λ t w. tt) (
-          flag_stops _ _ 9 _ _ (λ left m. refl) refl asked c.in_err-fill_flagged.ensures.call);
+          flag_stops _ _ 4 _ _ (λ left m. refl) refl asked c.in_err-fill_flagged.ensures.call);
     })
 
 pub returns-in_err-fill_flagged-2 : goal.returns-in_err-fill_flagged-2
@@ -21,44 +21,8 @@ returns-in_err-fill_flagged-2 g c =
     let up : c.from_residual-in_err-fill_flagged-2.result ≡ Err c.in_err-fill_flagged-2.field-0.0 = came_up _ _ c.from_residual-in_err-fill_flagged-2.ensures in rw up (
     record {
       call = of_row _ _ _ (λ t w. tt) (
-          flag_behind _ _ 9 _ _ refl asked c.in_ok-fill_flagged.ensures.call (λ kept.
-          flag_stops _ _ 7 _ _ (λ left m. refl) kept asked c.in_err-fill_flagged-2.ensures.call));
-    })
-
-pub returns-in_err-fill_flagged-3 : goal.returns-in_err-fill_flagged-3
-returns-in_err-fill_flagged-3 g c =
-    let asked : sample_flags_bits c.sample_type-flags.result ≡ (configuration_of c.args.reader.now.config).sample_type = c.sample_type-flags.ensures ∙ ap (λ k. (configuration_of k).sample_type) c.config.ensures in
-    let up : c.from_residual-in_err-fill_flagged-3.result ≡ Err c.in_err-fill_flagged-3.field-0.0 = came_up _ _ c.from_residual-in_err-fill_flagged-3.ensures in rw up (
-    record {
-      call = of_row _ _ _ (λ t w. tt) (
-          flag_behind _ _ 9 _ _ refl asked c.in_ok-fill_flagged.ensures.call (λ kept.
-          flag_behind _ _ 7 _ _ kept asked c.in_ok-fill_flagged-2.ensures.call (λ kept.
-          flag_stops _ _ 8 _ _ (λ left m. refl) kept asked c.in_err-fill_flagged-3.ensures.call)));
-    })
-
-pub returns-in_err-fill_flagged-4 : goal.returns-in_err-fill_flagged-4
-returns-in_err-fill_flagged-4 g c =
-    let asked : sample_flags_bits c.sample_type-flags.result ≡ (configuration_of c.args.reader.now.config).sample_type = c.sample_type-flags.ensures ∙ ap (λ k. (configuration_of k).sample_type) c.config.ensures in
-    let up : c.from_residual-in_err-fill_flagged-4.result ≡ Err c.in_err-fill_flagged-4.field-0.0 = came_up _ _ c.from_residual-in_err-fill_flagged-4.ensures in rw up (
-    record {
-      call = of_row _ _ _ (λ t w. tt) (
-          flag_behind _ _ 9 _ _ refl asked c.in_ok-fill_flagged.ensures.call (λ kept.
-          flag_behind _ _ 7 _ _ kept asked c.in_ok-fill_flagged-2.ensures.call (λ kept.
-          flag_behind _ _ 8 _ _ kept asked c.in_ok-fill_flagged-3.ensures.call (λ kept.
-          flag_stops _ _ 4 _ _ (λ left m. refl) kept asked c.in_err-fill_flagged-4.ensures.call))));
-    })
-
-pub returns-in_err-fill_flagged-5 : goal.returns-in_err-fill_flagged-5
-returns-in_err-fill_flagged-5 g c =
-    let asked : sample_flags_bits c.sample_type-flags.result ≡ (configuration_of c.args.reader.now.config).sample_type = c.sample_type-flags.ensures ∙ ap (λ k. (configuration_of k).sample_type) c.config.ensures in
-    let up : c.from_residual-in_err-fill_flagged-5.result ≡ Err c.in_err-fill_flagged-5.field-0.0 = came_up _ _ c.from_residual-in_err-fill_flagged-5.ensures in rw up (
-    record {
-      call = of_row _ _ _ (λ t w. tt) (
-          flag_behind _ _ 9 _ _ refl asked c.in_ok-fill_flagged.ensures.call (λ kept.
-          flag_behind _ _ 7 _ _ kept asked c.in_ok-fill_flagged-2.ensures.call (λ kept.
-          flag_behind _ _ 8 _ _ kept asked c.in_ok-fill_flagged-3.ensures.call (λ kept.
-          flag_behind _ _ 4 _ _ kept asked c.in_ok-fill_flagged-4.ensures.call (λ kept.
-          flag_stops _ _ 5 _ _ (λ left m. refl) kept asked c.in_err-fill_flagged-5.ensures.call)))));
+          flag_behind _ _ 4 _ _ refl asked c.in_ok-fill_flagged.ensures.call (λ kept.
+          flag_stops _ _ 5 _ _ (λ left m. refl) kept asked c.in_err-fill_flagged-2.ensures.call));
     })
 
 pub returns : goal.returns
@@ -66,10 +30,7 @@ returns g c =
     let asked : sample_flags_bits c.sample_type-flags.result ≡ (configuration_of c.args.reader.now.config).sample_type = c.sample_type-flags.ensures ∙ ap (λ k. (configuration_of k).sample_type) c.config.ensures in
     record {
       call = of_row _ _ _ (λ t w. tt) (
-          flag_behind _ _ 9 _ _ refl asked c.in_ok-fill_flagged.ensures.call (λ kept.
-          flag_behind _ _ 7 _ _ kept asked c.in_ok-fill_flagged-2.ensures.call (λ kept.
-          flag_behind _ _ 8 _ _ kept asked c.in_ok-fill_flagged-3.ensures.call (λ kept.
-          flag_behind _ _ 4 _ _ kept asked c.in_ok-fill_flagged-4.ensures.call (λ kept.
-          flag_behind _ _ 5 _ _ kept asked c.in_ok-fill_flagged-5.ensures.call (λ kept.
-          fields_give _ _ (λ left m. refl)))))));
+          flag_behind _ _ 4 _ _ refl asked c.in_ok-fill_flagged.ensures.call (λ kept.
+          flag_behind _ _ 5 _ _ kept asked c.in_ok-fill_flagged-2.ensures.call (λ kept.
+          fields_give _ _ (λ left m. refl))));
     }

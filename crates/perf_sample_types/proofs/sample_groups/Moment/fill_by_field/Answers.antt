@@ -4,7 +4,7 @@ use Rattle.perf_base.specs.Configured.{configuration_of}
 use Rattle.perf_reader.proofs.Asked.{fields_give, of_row}
 use Rattle.perf_types.proofs.Readings.{came_up}
 use Rattle.perf_sample_types.proofs.FlaggedFields.{flag_behind, flag_stops}
-use Rattle.perf_sample_types.proofs.sample_groups.Moment.fill.Goals as goal
+use Rattle.perf_sample_types.proofs.sample_groups.Moment.fill_by_field.Goals as goal
 
 pub returns-in_err-fill_flagged : goal.returns-in_err-fill_flagged
 returns-in_err-fill_flagged g c =
@@ -75,6 +75,54 @@ returns-in_err-fill_flagged-6 g c =
           flag_stops _ _ 6 _ _ (λ left m. refl) kept asked c.in_err-fill_flagged-6.ensures.call))))));
     })
 
+pub returns-in_err-fill_flagged-7 : goal.returns-in_err-fill_flagged-7
+returns-in_err-fill_flagged-7 g c =
+    let asked : sample_flags_bits c.sample_type-flags.result ≡ (configuration_of c.args.reader.now.config).sample_type = c.sample_type-flags.ensures ∙ ap (λ k. (configuration_of k).sample_type) c.config.ensures in
+    let up : c.from_residual-in_err-fill_flagged-7.result ≡ Err c.in_err-fill_flagged-7.field-0.0 = came_up _ _ c.from_residual-in_err-fill_flagged-7.ensures in rw up (
+    record {
+      call = of_row _ _ _ (λ t w. tt) (
+          flag_behind _ _ 16 _ _ refl asked c.in_ok-fill_flagged.ensures.call (λ kept.
+          flag_behind _ _ 0 _ _ kept asked c.in_ok-fill_flagged-2.ensures.call (λ kept.
+          flag_behind _ _ 1 _ _ kept asked c.in_ok-fill_flagged-3.ensures.call (λ kept.
+          flag_behind _ _ 2 _ _ kept asked c.in_ok-fill_flagged-4.ensures.call (λ kept.
+          flag_behind _ _ 3 _ _ kept asked c.in_ok-fill_flagged-5.ensures.call (λ kept.
+          flag_behind _ _ 6 _ _ kept asked c.in_ok-fill_flagged-6.ensures.call (λ kept.
+          flag_stops _ _ 9 _ _ (λ left m. refl) kept asked c.in_err-fill_flagged-7.ensures.call)))))));
+    })
+
+pub returns-in_err-fill_flagged-8 : goal.returns-in_err-fill_flagged-8
+returns-in_err-fill_flagged-8 g c =
+    let asked : sample_flags_bits c.sample_type-flags.result ≡ (configuration_of c.args.reader.now.config).sample_type = c.sample_type-flags.ensures ∙ ap (λ k. (configuration_of k).sample_type) c.config.ensures in
+    let up : c.from_residual-in_err-fill_flagged-8.result ≡ Err c.in_err-fill_flagged-8.field-0.0 = came_up _ _ c.from_residual-in_err-fill_flagged-8.ensures in rw up (
+    record {
+      call = of_row _ _ _ (λ t w. tt) (
+          flag_behind _ _ 16 _ _ refl asked c.in_ok-fill_flagged.ensures.call (λ kept.
+          flag_behind _ _ 0 _ _ kept asked c.in_ok-fill_flagged-2.ensures.call (λ kept.
+          flag_behind _ _ 1 _ _ kept asked c.in_ok-fill_flagged-3.ensures.call (λ kept.
+          flag_behind _ _ 2 _ _ kept asked c.in_ok-fill_flagged-4.ensures.call (λ kept.
+          flag_behind _ _ 3 _ _ kept asked c.in_ok-fill_flagged-5.ensures.call (λ kept.
+          flag_behind _ _ 6 _ _ kept asked c.in_ok-fill_flagged-6.ensures.call (λ kept.
+          flag_behind _ _ 9 _ _ kept asked c.in_ok-fill_flagged-7.ensures.call (λ kept.
+          flag_stops _ _ 7 _ _ (λ left m. refl) kept asked c.in_err-fill_flagged-8.ensures.call))))))));
+    })
+
+pub returns-in_err-fill_flagged-9 : goal.returns-in_err-fill_flagged-9
+returns-in_err-fill_flagged-9 g c =
+    let asked : sample_flags_bits c.sample_type-flags.result ≡ (configuration_of c.args.reader.now.config).sample_type = c.sample_type-flags.ensures ∙ ap (λ k. (configuration_of k).sample_type) c.config.ensures in
+    let up : c.from_residual-in_err-fill_flagged-9.result ≡ Err c.in_err-fill_flagged-9.field-0.0 = came_up _ _ c.from_residual-in_err-fill_flagged-9.ensures in rw up (
+    record {
+      call = of_row _ _ _ (λ t w. tt) (
+          flag_behind _ _ 16 _ _ refl asked c.in_ok-fill_flagged.ensures.call (λ kept.
+          flag_behind _ _ 0 _ _ kept asked c.in_ok-fill_flagged-2.ensures.call (λ kept.
+          flag_behind _ _ 1 _ _ kept asked c.in_ok-fill_flagged-3.ensures.call (λ kept.
+          flag_behind _ _ 2 _ _ kept asked c.in_ok-fill_flagged-4.ensures.call (λ kept.
+          flag_behind _ _ 3 _ _ kept asked c.in_ok-fill_flagged-5.ensures.call (λ kept.
+          flag_behind _ _ 6 _ _ kept asked c.in_ok-fill_flagged-6.ensures.call (λ kept.
+          flag_behind _ _ 9 _ _ kept asked c.in_ok-fill_flagged-7.ensures.call (λ kept.
+          flag_behind _ _ 7 _ _ kept asked c.in_ok-fill_flagged-8.ensures.call (λ kept.
+          flag_stops _ _ 8 _ _ (λ left m. refl) kept asked c.in_err-fill_flagged-9.ensures.call)))))))));
+    })
+
 pub returns : goal.returns
 returns g c =
     let asked : sample_flags_bits c.sample_type-flags.result ≡ (configuration_of c.args.reader.now.config).sample_type = c.sample_type-flags.ensures ∙ ap (λ k. (configuration_of k).sample_type) c.config.ensures in
@@ -86,5 +134,8 @@ returns g c =
           flag_behind _ _ 2 _ _ kept asked c.in_ok-fill_flagged-4.ensures.call (λ kept.
           flag_behind _ _ 3 _ _ kept asked c.in_ok-fill_flagged-5.ensures.call (λ kept.
           flag_behind _ _ 6 _ _ kept asked c.in_ok-fill_flagged-6.ensures.call (λ kept.
-          fields_give _ _ (λ left m. refl))))))));
+          flag_behind _ _ 9 _ _ kept asked c.in_ok-fill_flagged-7.ensures.call (λ kept.
+          flag_behind _ _ 7 _ _ kept asked c.in_ok-fill_flagged-8.ensures.call (λ kept.
+          flag_behind _ _ 8 _ _ kept asked c.in_ok-fill_flagged-9.ensures.call (λ kept.
+          fields_give _ _ (λ left m. refl)))))))))));
     }
