@@ -79,7 +79,7 @@ abbrev seen_pair : Configuration → Order → Sight → perf_event_header × Re
 seen_pair c o seen = (sight_header seen, sight_answer c o seen)
 
 -- the pair of a frame
-abbrev pair_of : Configuration → Order → List ℕ → perf_event_header × Result RecordValue ErrorKind
+abbrev pub pair_of : Configuration → Order → List ℕ → perf_event_header × Result RecordValue ErrorKind
 pair_of c o frame = (header_of o frame, answer_of_frame c o frame)
 
 after_pair : (c : Configuration) (o : Order) (h : perf_event_header) (bytes : List ℕ) (lasting : Bool) → seen_pair c o (sight_after h bytes lasting) ≡ (h, answer_behind c o h bytes)
@@ -91,13 +91,13 @@ after_pair c o h bytes lasting = elim (cases_lt h.size 8) [
   ]
 ]
 
-frame_pair : (c : Configuration) (o : Order) (frame : List ℕ) (lasting : Bool) → 8 ≤ length frame → seen_pair c o (sight_in o frame lasting) ≡ pair_of c o frame
+pub frame_pair : (c : Configuration) (o : Order) (frame : List ℕ) (lasting : Bool) → 8 ≤ length frame → seen_pair c o (sight_in o frame lasting) ≡ pair_of c o frame
 frame_pair c o frame lasting fits =
     after_pair c o (header_of o frame) (drop 8 frame) lasting ∙ ap (λ r. (header_of o frame, r)) (sym (answer_whole c o frame fits))
 
 -- ---- counts add up
 
-abbrev Answered : Type 0
+abbrev pub Answered : Type 0
 Answered = perf_event_header × Result RecordValue ErrorKind
 
 wrapped_sum : (m n : ℕ) → wrapped (wrapped m + wrapped n) ≡ wrapped (m + n)
@@ -116,11 +116,11 @@ counted_more xs ys =
 -- ---- frames that were handed out
 
 -- each frame has a header
-abbrev Headed : List (List ℕ) → Type 0
+abbrev pub Headed : List (List ℕ) → Type 0
 Headed [] = Unit {0}
 Headed (frame ∷ more) = (8 ≤ length frame) × Headed more
 
-frames_headed : (o : Order) (n : ℕ) (bytes : List ℕ) → Headed (first_frames o n bytes)
+pub frames_headed : (o : Order) (n : ℕ) (bytes : List ℕ) → Headed (first_frames o n bytes)
 frames_headed o zero bytes = tt
 frames_headed o (suc n) bytes = elim (cases_lt (length bytes) 8) [
   | inl short ↦ subst Headed (sym (frames_short o (suc n) bytes short)) tt
@@ -174,7 +174,7 @@ frames_take o (suc k) (suc n) bytes h le =
     ∙ ap (λ fs. take (frame_length o bytes) bytes ∷ fs) (frames_take o k n (drop (frame_length o bytes) bytes) (there_next o k bytes h) (omega arith))
     ∙ sym (frames_next o k bytes eight)
 
-first_answers : (c : Configuration) (o : Order) (n : ℕ) (bytes : List ℕ) → AreThere o n bytes → map (pair_of c o) (first_frames o n bytes) ≡ take n (answers c o bytes)
+pub first_answers : (c : Configuration) (o : Order) (n : ℕ) (bytes : List ℕ) → AreThere o n bytes → map (pair_of c o) (first_frames o n bytes) ≡ take n (answers c o bytes)
 first_answers c o n bytes there =
     ap (map (pair_of c o)) (sym (frames_take o n (length bytes) bytes there (frames_fit o n bytes there)))
     ∙ sym (take-map (pair_of c o) n (frames o bytes))

@@ -3,6 +3,7 @@ mod Control
 mod ControlLines
 mod Counted
 mod Escaped
+mod FramePrinted
 mod Hex
 mod Inode
 mod Printed

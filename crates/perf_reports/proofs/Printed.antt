@@ -1,16 +1,9 @@
 -- What goes out in steps.
-use Rattle.std.proofs.Common.{◌≡◌, ℕ, ◌+◌, ◌<◌, List, [], ◌∷◌, ◌++◌, ◌∙◌, Option, Some, None, length, take, drop, get_or, refl, sym, ap, subst, append_assoc, append-nil}
+use Rattle.std.proofs.Common.{◌≡◌, ℕ, List, [], ◌++◌, ◌∙◌, Option, Some, None, length, take, drop, refl, sym, ap, append_assoc, append-nil}
 use Rattle.std.specs.Io.KnownBytes.{Appends, Keeps}
-use Rattle.std.specs.Prelude.{Result}
-use Rattle.std.proofs.lemmas.List.{take_more, take-append-drop, map-append}
-use Rattle.std.proofs.lemmas.Grind.{flat_map-append}
+use Rattle.std.proofs.lemmas.List.{take-append-drop}
 use lib.Seq.{drop_at}
-use Rattle.perf_base.specs.declared.sys.perf_event_header.{perf_event_header}
-use Rattle.perf_base.specs.declared.error.ParseError.{ParseError}
-use Rattle.perf_records.specs.declared.record.Record.{Record}
-use Rattle.perf_parser.specs.Runs.{seen_answer, seen_answers}
-use Rattle.perf_reports.specs.declared.printing.Report.{Report}
-use Rattle.perf_reports.specs.Printing.{printed_answer, printed_answers, error_line, error_lines, Grows, GrowsWithin}
+use Rattle.perf_reports.specs.Printing.{Grows, GrowsWithin}
 
 pub grown : (a b c : Option (List ℕ)) (waited between waits first second : List ℕ) → Grows a b waited between first → Grows b c between waits second → Grows a c waited waits (first ++ second)
 grown None b c waited between waits first second p q = tt
@@ -117,45 +110,5 @@ none_waits (Some xs) None c waited text p q = absurd p
 none_waits (Some xs) (Some ys) None waited text p q = absurd q
 none_waits (Some xs) (Some ys) (Some zs) waited text p q = append-nil zs ∙ appends_more (Some xs) (Some ys) (Some zs) waited text p q
 
-abbrev Pairs : Type 0
-Pairs = List (perf_event_header × Result Record ParseError)
-
--- one more answer
-pub one_more : (report : Report) (frames : Pairs) (i : ℕ) (x : perf_event_header × Result Record ParseError) → i < length frames → x ≡ get_or frames i x
-    → printed_answers report (seen_answers (take (i + 1) frames)) ≡ printed_answers report (seen_answers (take i frames)) ++ printed_answer report (x.0, seen_answer x.1)
-one_more report frames i x h e =
-    ap (λ (xs : Pairs). printed_answers report (seen_answers xs)) (take_more frames i x h ∙ ap (λ (y : perf_event_header × Result Record ParseError). take i frames ++ (y ∷ [])) (sym e))
-    ∙ ap (λ xs. printed_answers report xs) (map-append (λ (pair : perf_event_header × Result Record ParseError). (pair.0, seen_answer pair.1)) (take i frames) (x ∷ []))
-    ∙ flat_map-append (printed_answer report) (seen_answers (take i frames)) (seen_answers (x ∷ []))
-    ∙ ap (λ ys. printed_answers report (seen_answers (take i frames)) ++ ys) (append-nil (printed_answer report (x.0, seen_answer x.1)))
-
-pub one_more_told : (frames : Pairs) (i : ℕ) (x : perf_event_header × Result Record ParseError) → i < length frames → x ≡ get_or frames i x
-    → error_lines (take (i + 1) frames) ≡ error_lines (take i frames) ++ error_line x
-one_more_told frames i x h e =
-    ap (λ (xs : Pairs). error_lines xs) (take_more frames i x h ∙ ap (λ (y : perf_event_header × Result Record ParseError). take i frames ++ (y ∷ [])) (sym e))
-    ∙ flat_map-append error_line (take i frames) (x ∷ [])
-    ∙ ap (λ ys. error_lines (take i frames) ++ ys) (append-nil (error_line x))
-
--- the first answers, and the others
-pub split : (report : Report) (frames : Pairs) (i : ℕ) → printed_answers report (seen_answers (take i frames)) ++ printed_answers report (seen_answers (drop i frames)) ≡ printed_answers report (seen_answers frames)
-split report frames i =
-    sym (flat_map-append (printed_answer report) (seen_answers (take i frames)) (seen_answers (drop i frames)))
-    ∙ ap (λ xs. printed_answers report xs) (sym (map-append (λ (pair : perf_event_header × Result Record ParseError). (pair.0, seen_answer pair.1)) (take i frames) (drop i frames)))
-    ∙ ap (λ (xs : Pairs). printed_answers report (seen_answers xs)) (take-append-drop i frames)
-
 pub whole_within : (a b : Option (List ℕ)) (text : List ℕ) → Appends a b text → GrowsWithin a b text
 whole_within a b text p = (text, [], append-nil text, p)
-
--- a part of the first lines is a part of all
-pub part_of_all : (a b : Option (List ℕ)) (waited : List ℕ) (report : Report) (frames : Pairs) (i : ℕ) → GrowsWithin a b (waited ++ printed_answers report (seen_answers (take i frames))) → GrowsWithin a b (waited ++ printed_answers report (seen_answers frames))
-part_of_all a b waited report frames i p =
-    let first = printed_answers report (seen_answers (take i frames)) in
-    let others = printed_answers report (seen_answers (drop i frames)) in
-    subst (λ text. GrowsWithin a b text) (append_assoc waited first others ∙ ap (λ s. waited ++ s) (split report frames i)) (longer a b (waited ++ first) others p)
-
--- and so is a part of what waits behind a part of the first lines
-pub waiting_part : (a b c : Option (List ℕ)) (waited waits : List ℕ) (report : Report) (frames : Pairs) (i : ℕ) → GrowsWithin a b (waited ++ printed_answers report (seen_answers (take i frames)))
-    → Grows a b waited waits (printed_answers report (seen_answers (take i frames))) → (n : ℕ) × Appends b c (take n waits) → GrowsWithin a c (waited ++ printed_answers report (seen_answers frames))
-waiting_part a b c waited waits report frames i p q r =
-    let first = printed_answers report (seen_answers (take i frames)) in
-    part_of_all a c waited report frames i (subst (λ text. GrowsWithin a c (waited ++ text)) (append-nil first) (within_more a b c waited waits first [] p q (within b c waits [] r)))

@@ -1,4 +1,5 @@
 pub mod Counting
+pub mod FramePrinting
 pub mod Printing
 pub mod SampleLines
 pub mod TaskLines

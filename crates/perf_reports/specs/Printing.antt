@@ -7,12 +7,11 @@ use Rattle.perf_base.specs.Errors.{error_text}
 use Rattle.perf_base.specs.declared.sys.perf_event_header.{perf_event_header}
 use Rattle.perf_base.specs.declared.error.ErrorKind.{ErrorKind}
 use Rattle.perf_base.specs.declared.error.ParseError.{ParseError}
-use Rattle.perf_records.specs.declared.record.Record.{Record}
 use Rattle.perf_records.specs.Records.{RecordValue}
 use Rattle.perf_reports.specs.declared.printing.Report.{Report}
 use Rattle.perf_reports.specs.declared.printing.Report.TheVariants.{Tasks, Samples}
 use Rattle.perf_reports.specs.declared.printing.Stopped.{Stopped}
-use Rattle.perf_reports.specs.declared.printing.Stopped.TheVariants.{Memory, Output}
+use Rattle.perf_reports.specs.declared.printing.Stopped.TheVariants.{Memory, Frame, Output}
 use Rattle.perf_reports.specs.SampleLines as samples
 use Rattle.perf_reports.specs.TaskLines as tasks
 
@@ -53,15 +52,16 @@ GrowsWithin old new text =
 -- ---- errors
 
 -- what is printed to the errors of the answer to a frame: of a refused one its text and a line feed
-abbrev pub error_line : perf_event_header × Result Record ParseError → List ℕ
+abbrev pub error_line : perf_event_header × Result RecordValue ParseError → List ℕ
 error_line (header, Ok r) = []
 error_line (header, Err e) = error_text e ++ codes "\n"
 
 -- the same of answers, in order
-abbrev pub error_lines : List (perf_event_header × Result Record ParseError) → List ℕ
+abbrev pub error_lines : List (perf_event_header × Result RecordValue ParseError) → List ℕ
 error_lines answers = flat_map error_line answers
 
 -- whether printing stopped because memory was refused
 abbrev pub is_memory : Stopped → Bool
 is_memory (Memory e) = true
+is_memory (Frame e) = true
 is_memory (Output e) = false

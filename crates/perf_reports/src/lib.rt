@@ -6,6 +6,7 @@
 mod backward;
 mod counting;
 pub mod counts;
+mod frame_printer;
 mod names;
 pub mod printing;
 mod record_sums;

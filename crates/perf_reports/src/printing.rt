@@ -1,26 +1,26 @@
 //! Lines of a recording: one for each record that a report tells of.
 
 ghost use Rattle.std.specs.Prelude.{◌≡◌, ◌≤◌, ◌⊎◌, ◌++◌, ℕ, false, IsTrue, [], take, length, string_bytes};
-ghost use Rattle.std.specs.Prelude.{is_ok, OnOk, IfOk, IfErr, if◌then◌else◌};
-ghost use Rattle.std.specs.List.{list_all};
+ghost use Rattle.std.specs.Prelude.{OnOk, IfOk, IfErr, if◌then◌else◌};
 ghost use Rattle.std.specs.Io.KnownBytes.{Appends};
 ghost use Rattle.perf_records.specs.Records as values;
-ghost use Rattle.perf_parser.specs.Runs.{seen_answers};
-ghost use Rattle.perf_reports.specs.Printing.{printed, printed_answers, Grows, GrowsWithin};
-ghost use Rattle.perf_reports.specs.Printing.{error_lines, is_memory};
+ghost use Rattle.perf_parser.specs.Words.{buffer_of, config_of, meaning};
+ghost use Rattle.perf_reports.specs.FramePrinting.{PrintsFirst, PrintsRun, answers_of};
+ghost use Rattle.perf_reports.specs.Printing.{printed, printed_answers, Grows, GrowsWithin, is_memory};
 
+use crate::frame_printer::FramePrinter;
 use crate::{samples, tasks};
 use anyhow::{Result, bail};
-use perf_event_data::endian::Little;
-use perf_event_data::parse::{ParseBuf, ParseConfig, ParseResult, Parser};
-use perf_event_data::sys::{perf_event_attr, perf_event_header};
-use perf_event_data::{Record, RunEnd, read_records};
+use perf_event_data::endian::{Endian, Little};
+use perf_event_data::parse::{ParseBuf, ParseConfig, ParseError, Parser};
+use perf_event_data::sys::perf_event_attr;
+use perf_event_data::{Record, RunEnd, Sample, each_frame};
 use std::alloc::{AllocError, Global};
 use std::error::Error;
 use std::io::{BufReader, Read, Write};
 use std::{fmt, io};
 
-// How many records are held at a time.
+// How many frames are read before all lines go out.
 const BATCH: usize = 256;
 
 // How many bytes of lines go out together, at most. Only a line that is longer goes out alone. A pipe
@@ -52,13 +52,29 @@ impl Report {
         }
         Ok(())
     }
+
+    // The same of a sample that is in no record.
+    fn push_sample(self, text: &mut String, sample: &Sample) -> Result<(), AllocError>
+        ensures { OnOk result (string_bytes text.new ≡ string_bytes text.old
+            ++ printed self (values.sample_is (values.sample_value sample.now))) }
+    {
+        match self {
+            Report::Tasks => Ok(()),
+            Report::Samples => {
+                samples::push_sample(text, sample)?;
+                text.push_str("\n")
+            }
+        }
+    }
 }
 
 // Why no more could be printed.
 #[derive(Debug, Drop)]
-enum Stopped {
-    // Memory was refused.
+pub(crate) enum Stopped {
+    // Memory was refused for a line.
     Memory(AllocError),
+    // Memory was refused for the record of a frame.
+    Frame(ParseError),
     // An output failed.
     Output(io::Error),
 }
@@ -67,6 +83,7 @@ impl fmt::Display for Stopped {
     fn fmt<W: fmt::Write>(&self, f: &mut fmt::Formatter<W>) -> fmt::Result {
         match self {
             Stopped::Memory(error) => write!(f, "{error}"),
+            Stopped::Frame(error) => write!(f, "{error}"),
             Stopped::Output(error) => write!(f, "{error}"),
         }
     }
@@ -84,7 +101,7 @@ impl From<io::Error> for Stopped {
 
 // Lines on their way to the output.
 #[derive(Drop)]
-struct Lines {
+pub(crate) struct Lines {
     // Lines that have not gone out yet.
     gathered: String,
     // Where the next line is made.
@@ -93,7 +110,7 @@ struct Lines {
 
 impl Lines {
     // No line.
-    fn new(alloc: Global) -> Lines
+    pub(crate) fn new(alloc: Global) -> Lines
         ensures { string_bytes result.gathered ≡ [] }
     {
         Lines {
@@ -104,7 +121,7 @@ impl Lines {
 
     // Makes the line of a record, if it has one, and gathers it. The lines before it go out first if
     // memory is refused, or if they would be too many with it.
-    fn add<W: Write>(
+    pub(crate) fn add<W: Write>(
         &mut self,
         output: &mut W,
         report: Report,
@@ -122,11 +139,37 @@ impl Lines {
             (string_bytes self.old.gathered)) }
     {
         self.next.clear();
-        if let Err(error) = report.push_line(&mut self.next, found) {
-            self.send(output)?;
-            return Err(Stopped::Memory(error));
+        match report.push_line(&mut self.next, found) {
+            Ok(()) => self.gather(output),
+            Err(error) => Err(self.stop(output, Stopped::Memory(error))),
         }
-        self.gather(output)
+    }
+
+    // The same of the line of a sample that is in no record.
+    pub(crate) fn add_sample<W: Write>(
+        &mut self,
+        output: &mut W,
+        report: Report,
+        sample: &Sample,
+    ) -> Result<(), Stopped>
+        ensures grown { OnOk result (Grows (W.contents output.old) (W.contents output.new)
+            (string_bytes self.old.gathered) (string_bytes self.new.gathered)
+            (printed report (values.sample_is (values.sample_value sample.now)))) }
+        ensures bound { OnOk result ((length (string_bytes self.new.gathered) ≤ GATHERED)
+            ⊎ (string_bytes self.new.gathered
+            ≡ printed report (values.sample_is (values.sample_value sample.now)))) }
+        ensures part { GrowsWithin (W.contents output.old) (W.contents output.new)
+            (string_bytes self.old.gathered
+            ++ printed report (values.sample_is (values.sample_value sample.now))) }
+        ensures refused { IfErr result (λ stopped. IsTrue (is_memory stopped) →
+            Appends (W.contents output.old) (W.contents output.new)
+            (string_bytes self.old.gathered)) }
+    {
+        self.next.clear();
+        match report.push_sample(&mut self.next, sample) {
+            Ok(()) => self.gather(output),
+            Err(error) => Err(self.stop(output, Stopped::Memory(error))),
+        }
     }
 
     // Gathers the next line. The lines before it go out first if they would be too many with it, or if
@@ -167,8 +210,22 @@ impl Lines {
         self.gathered.push_str(self.next.as_str()).is_ok()
     }
 
+    // Sends the lines that were gathered, and returns why printing stops: as it is passed, or because
+    // sending failed.
+    pub(crate) fn stop<W: Write>(&mut self, output: &mut W, why: Stopped) -> Stopped
+        ensures part { (n : ℕ) × Appends (W.contents output.old) (W.contents output.new)
+            (take n (string_bytes self.old.gathered)) }
+        ensures refused { IsTrue (is_memory result) → Appends (W.contents output.old)
+            (W.contents output.new) (string_bytes self.old.gathered) }
+    {
+        match self.send(output) {
+            Ok(()) => why,
+            Err(stopped) => stopped,
+        }
+    }
+
     // Sends the lines that were gathered.
-    fn send<W: Write>(&mut self, output: &mut W) -> Result<(), Stopped>
+    pub(crate) fn send<W: Write>(&mut self, output: &mut W) -> Result<(), Stopped>
         ensures sent { OnOk result (Appends (W.contents output.old) (W.contents output.new)
             (string_bytes self.old.gathered)) }
         ensures none { OnOk result (string_bytes self.new.gathered ≡ []) }
@@ -189,8 +246,8 @@ impl Lines {
 /// header, an output fails, or memory is refused; what was printed until then stays printed.
 ///
 /// Lines go to the output together, up to 4,096 bytes of whole lines in a write, and a longer line by
-/// itself. Before more is read, before an error is printed and before this returns, unless the output
-/// fails, all lines are out.
+/// itself. After each 256 frames, before the next one is read, before an error is printed and before
+/// this returns, unless the output fails, all lines are out.
 pub fn print_recording<R: Read + Drop, W: Write, E: Write>(
     alloc: Global,
     input: R,
@@ -202,29 +259,56 @@ pub fn print_recording<R: Read + Drop, W: Write, E: Write>(
     let mut parser = Parser::new(alloc, input, ParseConfig::<Little>::default());
     let attr = parser.parse::<perf_event_attr>()?;
     let mut parser = parser.reconfigure(ParseConfig::<Little>::from(attr));
-    print_records(alloc, &mut parser, output, errors, report)
+    let mut printer = FramePrinter::new(alloc, output, errors, report);
+    print_records(&mut parser, &mut printer)
 }
 
-// Prints the records that a parser reads to the end of its buffer, and says whether none was
+// Prints the records that a parser reads to the end of its buffer, and returns whether none was
 // refused.
-fn print_records<'p, B: ParseBuf<'p>, W: Write, E: Write>(
-    alloc: Global,
-    parser: &mut Parser<B, Little>,
-    output: &mut W,
-    errors: &mut E,
-    report: Report,
+fn print_records<'p, B: ParseBuf<'p>, O: Endian, W: Write, E: Write>(
+    parser: &mut Parser<B, O>,
+    printer: &mut FramePrinter<W, E>,
 ) -> Result<bool> {
-    let mut clean = true;
     for _ in 0..u64::MAX {
-        let run = read_records(parser, BATCH);
-        clean &= is_clean(&run.frames);
-        let mut lines = Lines::new(alloc);
-        print_frames(&mut lines, &run.frames, output, errors, report)?;
-        if !goes_on(run.end)? {
+        let end = match print_frames(parser, printer) {
+            Ok(end) => end,
+            Err(Stopped::Frame(error)) => return Err(error.into()),
+            Err(stopped) => return Err(stopped.into()),
+        };
+        if !goes_on(end)? {
             break;
         }
     }
-    Ok(clean)
+    Ok(printer.is_clean())
+}
+
+// Prints the next frames, at most `BATCH`, and returns how the run ended. Then all their lines are
+// written.
+fn print_frames<'p, B: ParseBuf<'p>, O: Endian, W: Write, E: Write>(
+    parser: &mut Parser<B, O>,
+    printer: &mut FramePrinter<W, E>,
+) -> Result<RunEnd, Stopped>
+    ensures config { config_of parser.new ≡ config_of parser.old }
+    ensures sent { IsTrue (B.source (buffer_of parser.old)).told → IfOk result (λ end.
+        PrintsRun W.contents E.contents printer.old (meaning B.source O.order parser.old) BATCH end
+        (B.source (buffer_of parser.new)).left printer.new) }
+    ensures none { OnOk result (string_bytes printer.new.lines.gathered ≡ []) }
+    ensures part { IsTrue (B.source (buffer_of parser.old)).told →
+        GrowsWithin (W.contents printer.old.output) (W.contents printer.new.output)
+        (string_bytes printer.old.lines.gathered ++ printed_answers printer.old.report
+        (take BATCH (answers_of (meaning B.source O.order parser.old)))) }
+    ensures refused { IsTrue (B.source (buffer_of parser.old)).told → IfErr result (λ stopped.
+        IsTrue (is_memory stopped) → (k : ℕ) × PrintsFirst W.contents E.contents printer.old
+        (answers_of (meaning B.source O.order parser.old)) k printer.new) }
+{
+    let run = each_frame(parser, BATCH, printer);
+    match run.end {
+        Some(end) => match printer.send() {
+            Ok(()) => Ok(end),
+            Err(stopped) => Err(stopped),
+        },
+        None => printer.end(),
+    }
 }
 
 // Whether frames may follow the last one that a run read. It is an error if the run could not go on, or
@@ -238,47 +322,6 @@ fn goes_on(end: RunEnd) -> Result<bool>
         RunEnd::CutHeader => bail!("the input ends inside a header"),
         RunEnd::Fault(error) => Err(error.into()),
     }
-}
-
-// Prints the line of each record that has one, and why others were refused. What was gathered goes
-// out before an error is printed, and in the end.
-fn print_frames<W: Write, E: Write>(
-    lines: &mut Lines,
-    frames: &[(perf_event_header, ParseResult<Record>)],
-    output: &mut W,
-    errors: &mut E,
-    report: Report,
-) -> Result<(), Stopped>
-    ensures sent { OnOk result (Appends (W.contents output.old) (W.contents output.new)
-        (string_bytes lines.old.gathered ++ printed_answers report (seen_answers frames.now))) }
-    ensures none { OnOk result (string_bytes lines.new.gathered ≡ []) }
-    ensures told { OnOk result (Appends (E.contents errors.old) (E.contents errors.new)
-        (error_lines frames.now)) }
-    ensures part { GrowsWithin (W.contents output.old) (W.contents output.new)
-        (string_bytes lines.old.gathered ++ printed_answers report (seen_answers frames.now)) }
-    ensures refused { IfErr result (λ stopped. IsTrue (is_memory stopped) → (k : ℕ)
-        × Appends (W.contents output.old) (W.contents output.new)
-        (string_bytes lines.old.gathered ++ printed_answers report (seen_answers (take k frames.now)))
-        × Appends (E.contents errors.old) (E.contents errors.new)
-        (error_lines (take k frames.now))) }
-{
-    for (_, answer) in frames {
-        match answer {
-            Ok(record) => lines.add(output, report, record)?,
-            Err(error) => {
-                lines.send(output)?;
-                write!(errors, "{error}\n")?;
-            }
-        }
-    }
-    lines.send(output)
-}
-
-// Whether no record was refused.
-fn is_clean(frames: &[(perf_event_header, ParseResult<Record>)]) -> bool
-    ensures { result ≡ list_all (λ pair. is_ok pair.1) frames.now }
-{
-    frames.iter().all(|frame| frame.1.is_ok())
 }
 
 // Writes bytes to their end. If that fails, a beginning of them was written.

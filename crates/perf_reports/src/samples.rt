@@ -62,7 +62,8 @@ fn sample_line(alloc: Global, sample: &Sample) -> Result<String, AllocError>
     Ok(text)
 }
 
-fn push_sample(text: &mut String, sample: &Sample) -> Result<(), AllocError>
+// Appends the line of a sample.
+pub(crate) fn push_sample(text: &mut String, sample: &Sample) -> Result<(), AllocError>
     ensures { OnOk result (string_bytes text.new ≡ string_bytes text.old
         ++ printed.sample_line (getters_of (values.sample_value sample.now))) }
 {

@@ -37,27 +37,55 @@ fn note(log: &Cell<u64>, mark: u64, byte: u8) {
     log.set(noted.wrapping_add(u64::from(byte)));
 }
 
-// Gives bytes, at most `most` a read, and then ends, or fails with each read. Its log has each read.
+// Gives bytes, at most `most` a read, and then ends, or fails with each read. A batch begins wherever
+// so many bytes are left as one of `batches` says: no read goes on past that, and the log has each read
+// there.
 #[derive(Copy, Clone)]
 struct Input<'a> {
     log: &'a Cell<u64>,
     bytes: &'a [u8],
     most: usize,
+    batches: &'a [usize],
     fault: Option<io::ErrorKind>,
 }
 
 impl Read for Input<'_> {
     fn read(&mut self, buf: &mut [u8]) -> io::Result<usize> {
-        note(self.log, 7, 0);
+        let left = self.bytes.len();
+        if self.batches.contains(&left) {
+            note(self.log, 7, 0);
+        }
         if self.bytes.is_empty() {
             return match self.fault {
                 Some(kind) => Err(io::Error::from(kind)),
                 None => Ok(0),
             };
         }
-        let count = buf.len().min(self.most);
+        let mut count = buf.len().min(self.most);
+        for batch in self.batches {
+            if *batch < left {
+                count = count.min(left - *batch);
+            }
+        }
         self.bytes.read(&mut buf[..count])
     }
+}
+
+// How many bytes are left, after an attribute of 64 bytes, where every 256th frame begins.
+fn batches_of(alloc: Global, bytes: &[u8]) -> Result<Vec<usize>, AllocError> {
+    let mut batches = Vec::new(alloc);
+    let mut rest = bytes.get(64..).unwrap_or_default();
+    for frame in 0..bytes.len() {
+        if frame % 256 == 0 {
+            batches.push(rest.len())?;
+        }
+        let size = match rest.get(6..8) {
+            Some([low, high]) => u16::from_le_bytes([*low, *high]),
+            _ => break,
+        };
+        rest = rest.get(usize::from(size.max(8))..).unwrap_or_default();
+    }
+    Ok(batches)
 }
 
 // Appends a COMM record of process 1 and thread 2, whose name ends in zeros up to eight bytes.
@@ -248,6 +276,7 @@ fn check_printed(rt: &(impl AllocGlobal + Abort), case: Printed<'_>) -> Result<(
             log: &log,
             bytes: bytes.as_slice(),
             most,
+            batches: &[],
             fault: case.fault,
         };
         let (mut output, mut errors) = (Vec::new(rt.alloc()), Vec::new(rt.alloc()));
@@ -479,17 +508,19 @@ struct Case<'a> {
     errors: usize,
 }
 
-// A number of what is read and of what goes out, how much room is left then, and how it ended.
+// A number of which batches are read and of what goes out, how much room is left then, and how it ended.
 fn told_of(
     alloc: Global,
     case: Case<'_>,
     gathered: bool,
 ) -> Result<(u64, usize, usize, String), AllocError> {
     let log = Cell::new(1);
+    let batches = batches_of(alloc, case.bytes)?;
     let input = Input {
         log: &log,
         bytes: case.bytes,
         most: 1_000,
+        batches: batches.as_slice(),
         fault: case.fault,
     };
     let mut output = Output {
@@ -511,7 +542,7 @@ fn told_of(
 }
 
 // Asserts that lines that go out together go out as if each went alone: the same bytes in the same
-// order, on both outputs, before the same reads, also if one fails, and with the same error.
+// order, on both outputs, before the same batch is read, also if one fails, and with the same error.
 fn check_gathered(rt: &(impl AllocGlobal + Abort), case: Case<'_>) -> Result<(), AllocError> {
     let gathered = told_of(rt.alloc(), case, true)?;
     let by_lines = told_of(rt.alloc(), case, false)?;

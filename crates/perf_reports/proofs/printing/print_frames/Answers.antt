@@ -1,68 +1,72 @@
-use Rattle.std.proofs.Common.{◌≡◌, ◌+◌, ◌++◌, ◌∙◌, ℕ, List, ap, sym, subst, take, string_bytes, append-nil}
-use Rattle.std.specs.Io.KnownBytes.{Appends}
-use Rattle.perf_records.specs.Records.{record_value}
-use Rattle.perf_parser.specs.Runs.{seen_answer, seen_answers}
-use Rattle.perf_reports.specs.Printing.{printed, printed_answer, printed_answers, error_line, error_lines, GrowsWithin}
-use Rattle.perf_reports.proofs.Printed.{grown, sent, flushed, appends_more, within_more, whole_within, part_of_all, waiting_part, one_more, one_more_told}
+use Rattle.std.proofs.Common.{ℕ, List, ◌∙◌, subst}
+use Rattle.std.specs.Prelude.{Option, IsTrue}
+use Rattle.perf_parser.specs.FrameRuns.{EndsFrames}
+use Rattle.perf_parser.specs.Meaning.{buffer_of, meaning}
+use Rattle.perf_parser.specs.declared.runs.RunEnd.{RunEnd}
+use Rattle.perf_reader.specs.Meaning.{Meaning}
+use Rattle.perf_reports.specs.FramePrinting.{PrintsFirst, answers_of}
+use Rattle.perf_reports.specs.Printing.{is_memory}
+use Rattle.perf_reports.specs.declared.printing.TheConstants.{BATCH}
+use Rattle.perf_reports.specs.declared.printing.Stopped.{Stopped}
+use Rattle.perf_reports.proofs.FramePrinted.{went_on_prints, stopped_prints, there, run_sent, run_part, run_stopped_part, run_refused, ok_of_none, err_of_one}
 use Rattle.perf_reports.proofs.printing.print_frames.Goals as goal
-use Rattle.perf_reports.proofs.printing.print_frames.Goals.{in-Ok+in_ok-add-in-Ok, in-Err+in_ok-send-in-Err+in_ok-write-in-Err}
 
-pub returns-in_err-add-in-Ok-clause-part : goal.returns-in_err-add-in-Ok-clause-part
-returns-in_err-add-in-Ok-clause-part g c =
-    let old = g.W.Write.contents c.args.output.now in
-    let new = g.W.Write.contents c.add.new.output in
-    let waited : List ℕ = string_bytes c.args.lines.now.gathered in
-    let i : ℕ = c.loop-answer.answer-index in
-    let item = c.loop-answer-item.result in
-    let first : List ℕ = printed_answers c.args.report (seen_answers (take i c.args.frames.now)) in
-    let more : printed_answers c.args.report (seen_answers (take (i + 1) c.args.frames.now)) ≡ first ++ printed c.args.report (record_value c.in-Ok.record) =
-    one_more c.args.report c.args.frames.now i item c.loop-answer-test.true c.loop-answer-item.is ∙ ap (λ a. first ++ printed_answer c.args.report (item.0, seen_answer a)) c.in-Ok.is in
-    let part = within_more old (g.W.Write.contents c.loop-answer.output) new waited _ first (printed c.args.report (record_value c.in-Ok.record)) c.loop-answer.invariant.part c.loop-answer.invariant.grown c.in_err-add-in-Ok.ensures.part in
-    part_of_all old new waited c.args.report c.args.frames.now (i + 1) (subst (λ text. GrowsWithin old new (waited ++ text)) (sym more) part)
+pub returns-in-Ok-clause-sent : goal.returns-in-Ok-clause-sent
+returns-in-Ok-clause-sent g c = λ told.
+    let out = g.W.Write.contents in let err = g.E.Write.contents in
+    let old : Meaning = meaning g.B.ParseBuf.source g.O.Endian.order c.args.parser.now in
+    let run = c.each_frame-run in
+    let left : List ℕ = (g.B.ParseBuf.source (buffer_of run.new.parser)).left in
+    let p = went_on_prints out err old run.result.count run.result.end c.in-Some.end c.args.printer.now run.new.handler c.in-Some.is (run.ensures.handed told) in
+    let same = c.send.ensures.same in (
+      run.result.count,
+      run_sent out err c.args.printer.now run.new.handler c.send.new.self (answers_of old) run.result.count p c.in-Ok.ensures.sent same.1,
+      same.0 ∙ p.report,
+      same.2 ∙ p.clean,
+      subst (λ (e : Option RunEnd). EndsFrames old.order BATCH old.source.left run.result.count e left) c.in-Some.is (run.ensures.end told),
+    )
 
-pub returns-in_err-send-in-Err-clause-part : goal.returns-in_err-send-in-Err-clause-part
-returns-in_err-send-in-Err-clause-part g c =
-    waiting_part _ _ _ _ _ c.args.report c.args.frames.now c.loop-answer.answer-index c.loop-answer.invariant.part c.loop-answer.invariant.grown c.in_err-send-in-Err.ensures.part
+pub returns-in-Ok-clause-part : goal.returns-in-Ok-clause-part
+returns-in-Ok-clause-part g c = λ told.
+    let out = g.W.Write.contents in let err = g.E.Write.contents in
+    let old : Meaning = meaning g.B.ParseBuf.source g.O.Endian.order c.args.parser.now in
+    let run = c.each_frame-run in
+    let p = went_on_prints out err old run.result.count run.result.end c.in-Some.end c.args.printer.now run.new.handler c.in-Some.is (run.ensures.handed told) in
+    run_part out err c.args.printer.now run.new.handler c.send.new.self (answers_of old) run.result.count BATCH run.ensures.count p c.send.ensures.part
 
-pub returns-in_err-write-in-Err-clause-part : goal.returns-in_err-write-in-Err-clause-part
-returns-in_err-write-in-Err-clause-part g c =
-    let old = g.W.Write.contents c.args.output.now in
-    let new = g.W.Write.contents c.send.new.output in
-    let waited : List ℕ = string_bytes c.args.lines.now.gathered in
-    let first : List ℕ = printed_answers c.args.report (seen_answers (take c.loop-answer.answer-index c.args.frames.now)) in
-    let all : Appends old new (waited ++ first) = flushed old (g.W.Write.contents c.loop-answer.output) new waited _ first c.loop-answer.invariant.grown c.in_ok-send-in-Err.ensures.sent in
-    part_of_all old new waited c.args.report c.args.frames.now c.loop-answer.answer-index (whole_within old new (waited ++ first) all)
+pub returns-in-Err-clause-part : goal.returns-in-Err-clause-part
+returns-in-Err-clause-part g c = λ told.
+    let out = g.W.Write.contents in let err = g.E.Write.contents in
+    let old : Meaning = meaning g.B.ParseBuf.source g.O.Endian.order c.args.parser.now in
+    let run = c.each_frame-run in
+    let p = went_on_prints out err old run.result.count run.result.end c.in-Some.end c.args.printer.now run.new.handler c.in-Some.is (run.ensures.handed told) in
+    run_part out err c.args.printer.now run.new.handler c.send.new.self (answers_of old) run.result.count BATCH run.ensures.count p c.send.ensures.part
 
-pub loop-answer-preserved : goal.loop-answer-preserved
-loop-answer-preserved g c =
-    let old = g.W.Write.contents c.args.output.now in
-    let between = g.W.Write.contents c.loop-answer.output in
-    let waited : List ℕ = string_bytes c.args.lines.now.gathered in
-    let i : ℕ = c.loop-answer.answer-index in
-    let item = c.loop-answer-item.result in
-    let first : List ℕ = printed_answers c.args.report (seen_answers (take i c.args.frames.now)) in
-    let told : List ℕ = error_lines (take i c.args.frames.now) in
-    let more = one_more c.args.report c.args.frames.now i item c.loop-answer-test.true c.loop-answer-item.is in
-    let more_told = one_more_told c.args.frames.now i item c.loop-answer-test.true c.loop-answer-item.is in
-    elim c.match-answer.branch [
-      | in-Ok+in_ok-add-in-Ok w ↦ let same = more ∙ ap (λ a. first ++ printed_answer c.args.report (item.0, seen_answer a)) w.in-Ok.is in
-          let same_told = more_told ∙ ap (λ a. told ++ error_line (item.0, a)) w.in-Ok.is ∙ append-nil told in
-          rw (w.lines-is, w.output-is, w.errors-is, same, same_told)
-          record {
-            grown = grown _ _ _ _ _ _ _ _ c.loop-answer.invariant.grown w.in_ok-add-in-Ok.ensures.grown;
-            part = within_more _ _ _ _ _ _ _ c.loop-answer.invariant.part c.loop-answer.invariant.grown w.in_ok-add-in-Ok.ensures.part;
-            told = c.loop-answer.invariant.told;
-          }
-      | in-Err+in_ok-send-in-Err+in_ok-write-in-Err w ↦ let same = more ∙ ap (λ a. first ++ printed_answer c.args.report (item.0, seen_answer a)) w.in-Err.is in
-          let same_told = more_told ∙ ap (λ a. told ++ error_line (item.0, a)) w.in-Err.is in
-          rw (w.lines-is, w.output-is, w.errors-is, same, same_told)
-          record {
-            grown = grown _ _ _ _ _ _ _ _ c.loop-answer.invariant.grown (sent _ _ _ _ w.in_ok-send-in-Err.ensures.sent w.in_ok-send-in-Err.ensures.none);
-            part = subst (λ text. GrowsWithin old (g.W.Write.contents w.send.new.output) (waited ++ text)) (sym (append-nil first)) (whole_within _ _ _ (flushed _ _ _ _ _ _ c.loop-answer.invariant.grown w.in_ok-send-in-Err.ensures.sent));
-            told = appends_more _ _ _ _ _ c.loop-answer.invariant.told w.in_ok-write-in-Err.ensures.bytes;
-          }
-    ]
+pub returns-in-None-clause-sent : goal.returns-in-None-clause-sent
+returns-in-None-clause-sent g c = λ told.
+    let out = g.W.Write.contents in let err = g.E.Write.contents in
+    let old : Meaning = meaning g.B.ParseBuf.source g.O.Endian.order c.args.parser.now in
+    let run = c.each_frame-run in
+    let s = stopped_prints out err old run.result.count run.result.end c.args.printer.now run.new.handler c.in-None.is (run.ensures.handed told) in
+    ok_of_none c.end.result s.why _ (c.end.ensures.stopped s.why s.kept).0
 
-pub returns-clause-part : goal.returns-clause-part
-returns-clause-part g c =
-    waiting_part _ _ _ _ _ c.args.report c.args.frames.now c.loop-answer.answer-index c.loop-answer.invariant.part c.loop-answer.invariant.grown c.send-2.ensures.part
+pub returns-in-None-clause-part : goal.returns-in-None-clause-part
+returns-in-None-clause-part g c = λ told.
+    let out = g.W.Write.contents in let err = g.E.Write.contents in
+    let old : Meaning = meaning g.B.ParseBuf.source g.O.Endian.order c.args.parser.now in
+    let run = c.each_frame-run in
+    let s = stopped_prints out err old run.result.count run.result.end c.args.printer.now run.new.handler c.in-None.is (run.ensures.handed told) in
+    run_stopped_part out err c.args.printer.now run.new.handler c.end.new.self (answers_of old) run.result.count BATCH run.ensures.count s (c.end.ensures.stopped s.why s.kept).1
+
+pub returns-in-None-clause-refused : goal.returns-in-None-clause-refused
+returns-in-None-clause-refused g c = λ told.
+    let out = g.W.Write.contents in let err = g.E.Write.contents in
+    let old : Meaning = meaning g.B.ParseBuf.source g.O.Endian.order c.args.parser.now in
+    let run = c.each_frame-run in
+    let was = c.args.printer.now in
+    let handed = run.ensures.handed told in
+    let s = stopped_prints out err old run.result.count run.result.end was run.new.handler c.in-None.is handed in
+    let e = c.end.ensures.stopped s.why s.kept in
+    let all = there out err old run.result.count run.result.end was run.new.handler handed in
+    let refused = run_refused out err was run.new.handler c.end.new.self (answers_of old) run.result.count all s e.1 e.2 in
+    err_of_one c.end.result s.why (λ (stopped : Stopped). IsTrue (is_memory stopped) → (k : ℕ) × PrintsFirst out err was (answers_of old) k c.end.new.self) e.0 refused

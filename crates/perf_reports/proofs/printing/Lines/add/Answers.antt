@@ -4,7 +4,7 @@ use Rattle.perf_reports.specs.Printing.{printed}
 use Rattle.perf_reports.proofs.Printed.{within}
 use Rattle.perf_reports.proofs.printing.Lines.add.Goals as goal
 
-pub returns-in_err-send-clause-part : goal.returns-in_err-send-clause-part
-returns-in_err-send-clause-part g c =
+pub returns-in-Err-clause-part : goal.returns-in-Err-clause-part
+returns-in-Err-clause-part g c =
     let contents = g.W.Write.contents in
-    within (contents c.args.output.now) (contents c.send.new.output) (string_bytes c.args.self.now.gathered) (printed c.args.report (record_value c.args.found.now)) c.in_err-send.ensures.part
+    within (contents c.args.output.now) (contents c.stop.new.output) (string_bytes c.args.self.now.gathered) (printed c.args.report (record_value c.args.found.now)) c.stop.ensures.part

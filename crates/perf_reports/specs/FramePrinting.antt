@@ -1,0 +1,114 @@
+-- What a printer prints of the frames that it is handed.
+use Rattle.std.specs.Prelude.{◌≡◌, ◌&&◌, ℕ, Bool, true, false, List, [], ◌∷◌, ◌++◌, map, take, Option, Some}
+use Rattle.std.specs.Prelude.{IsTrue, Result, Ok, Err, is_ok, string_bytes}
+use Rattle.std.specs.List.{list_all}
+use Rattle.std.specs.Io.KnownBytes.{Appends}
+use Rattle.perf_base.specs.Configuration.{Configuration}
+use Rattle.perf_base.specs.Order.{Order}
+use Rattle.perf_base.specs.Refusals.{error_kinds}
+use Rattle.perf_base.specs.declared.error.ErrorKind.{ErrorKind}
+use Rattle.perf_base.specs.declared.error.ParseError.{ParseError}
+use Rattle.perf_base.specs.declared.sys.perf_event_header.{perf_event_header}
+use Rattle.perf_reader.specs.Meaning.{Meaning}
+use Rattle.perf_buffers.specs.Buffer.{chunk_bytes}
+use Rattle.perf_records.specs.Answers.{answer_behind, answers}
+use Rattle.perf_records.specs.Records.{RecordValue}
+use Rattle.perf_records.specs.Sights.{Sight}
+use Rattle.perf_records.specs.declared.frame.Frame.{Frame}
+use Rattle.perf_parser.specs.Runs.{EndsWith}
+use Rattle.perf_parser.specs.declared.runs.RunEnd.{RunEnd}
+use Rattle.perf_reports.specs.Counting.{sight_header, sight_answer}
+use Rattle.perf_reports.specs.Printing.{printed_answers, error_lines, Grows, GrowsWithin, is_memory}
+use Rattle.perf_reports.specs.declared.frame_printer.FramePrinter.{FramePrinter}
+use Rattle.perf_reports.specs.declared.printing.Stopped.{Stopped}
+
+-- the header of a frame, and what the frame says
+abbrev pub Answered : Type 0
+Answered = perf_event_header × Result RecordValue ErrorKind
+
+-- answers whose refusals are seen by their kinds
+abbrev pub by_kinds : List (perf_event_header × Result RecordValue ParseError) → List Answered
+by_kinds told = map (λ pair. (pair.0, error_kinds pair.1)) told
+
+-- for each refused answer the text of an error of its kind and a line feed were appended, in order
+abbrev pub TellsErrors : (old new : Option (List ℕ)) → List Answered → Type 0
+TellsErrors old new answers =
+    (told : List (perf_event_header × Result RecordValue ParseError)) × (by_kinds told ≡ answers)
+    × Appends old new (error_lines told)
+
+-- whether none of the answers is refused
+abbrev pub all_clean : List Answered → Bool
+all_clean answers = list_all (λ pair. is_ok pair.1) answers
+
+-- what a printer has done with answers after which it goes on, where its outputs contain these bytes
+pub record Prints {W E : Type 0} (out : W → Option (List ℕ)) (err : E → Option (List ℕ))
+    (was : FramePrinter W E) (answers : List Answered) (now : FramePrinter W E) : Type 0 where
+  -- it prints the same report
+  pub report : now.report ≡ was.report
+  -- the lines of the answers were written, or are gathered
+  pub grown : Grows (out was.output) (out now.output) (string_bytes was.lines.gathered)
+      (string_bytes now.lines.gathered) (printed_answers was.report answers)
+  -- only a beginning of the lines was written
+  pub part : GrowsWithin (out was.output) (out now.output)
+      (string_bytes was.lines.gathered ++ printed_answers was.report answers)
+  -- the errors were written
+  pub told : TellsErrors (err was.errors) (err now.errors) answers
+  -- it is known whether one was refused
+  pub clean : now.clean ≡ (was.clean && all_clean answers)
+
+-- the answer of a whole frame
+abbrev pub frame_answer : Configuration → Order → Frame → Answered
+frame_answer c o frame = (frame.header, answer_behind c o frame.header (chunk_bytes frame.rest))
+
+-- what a printer has done when it stops at an answer
+pub record StopsAt {W E : Type 0} (out : W → Option (List ℕ)) (err : E → Option (List ℕ))
+    (was : FramePrinter W E) (answer : Answered) (why : Stopped) (now : FramePrinter W E)
+    : Type 0 where
+  -- only a beginning of the lines was written
+  pub part : GrowsWithin (out was.output) (out now.output)
+      (string_bytes was.lines.gathered ++ printed_answers was.report (answer ∷ []))
+  -- if memory was refused, all lines before that were written, and no error
+  pub refused : IsTrue (is_memory why) → Appends (out was.output) (out now.output)
+      (string_bytes was.lines.gathered) × (err now.errors ≡ err was.errors)
+
+-- a printer printed an answer, or stopped at it
+abbrev pub PrintsAnswer : {W E : Type 0} → (W → Option (List ℕ)) → (E → Option (List ℕ)) →
+    FramePrinter W E → Answered → Result (Unit {0}) Stopped → FramePrinter W E → Type 0
+PrintsAnswer out err was answer (Ok x) now = Prints out err was (answer ∷ []) now
+PrintsAnswer out err was answer (Err why) now = StopsAt out err was answer why now
+
+-- the answer of what a printer is handed
+abbrev pub sight_pair : Configuration → Order → Sight → Answered
+sight_pair c o seen = (sight_header seen, sight_answer c o seen)
+
+-- A printer was handed a frame, and returned whether the run goes on. If it does, the frame was
+-- printed, once; if not, it is kept why the printer stopped there.
+abbrev pub PrintsSight : {W E : Type 0} → (W → Option (List ℕ)) → (E → Option (List ℕ)) →
+    FramePrinter W E → Configuration → Order → Sight → Bool → FramePrinter W E → Type 0
+PrintsSight out err was c o seen true now =
+    Prints out err was (sight_pair c o seen ∷ []) now
+PrintsSight out err was c o seen false now =
+    (why : Stopped) × (now.stopped ≡ Some why)
+    × StopsAt out err was (sight_pair c o seen) why now
+
+-- what the frames say that a parser has not read yet
+abbrev pub answers_of : Meaning → List Answered
+answers_of m = answers m.settings m.order m.source.left
+
+-- Of the first k answers all lines and all errors were written, after the lines that were gathered.
+abbrev pub PrintsFirst : {W E : Type 0} → (W → Option (List ℕ)) → (E → Option (List ℕ)) →
+    FramePrinter W E → List Answered → (k : ℕ) → FramePrinter W E → Type 0
+PrintsFirst out err was answers k now =
+    Appends (out was.output) (out now.output)
+    (string_bytes was.lines.gathered ++ printed_answers was.report (take k answers))
+    × TellsErrors (err was.errors) (err now.errors) (take k answers)
+
+-- A run printed the first answers of what a parser has not read yet, and all their lines were written:
+-- how it ended, and what it left.
+abbrev pub PrintsRun : {W E : Type 0} → (W → Option (List ℕ)) → (E → Option (List ℕ)) →
+    FramePrinter W E → Meaning → (limit : ℕ) → RunEnd → (left : List ℕ) → FramePrinter W E → Type 0
+PrintsRun out err was old limit e left now =
+    (k : ℕ) × PrintsFirst out err was (answers_of old) k now
+    × (now.report ≡ was.report)
+    × (now.clean ≡ (was.clean && all_clean (take k (answers_of old))))
+    × EndsWith old.order limit old.source.left k e left

@@ -1,0 +1,214 @@
+//! Printing the frames that a run hands out.
+
+ghost use Rattle.std.specs.Prelude.{◌≡◌, ◌++◌, ℕ, [], take, true, false, None, Some, Err, IsTrue};
+ghost use Rattle.std.specs.Prelude.{OnOk, IfErr, string_bytes, Result};
+ghost use Rattle.std.specs.Io.KnownBytes.{Appends};
+ghost use Rattle.perf_base.specs.Configured.{configuration_of, endian_of};
+ghost use Rattle.perf_base.specs.Errors.{kind_of};
+ghost use Rattle.perf_base.specs.declared.error.ErrorKind.{ErrorKind as Kind};
+ghost use Rattle.perf_base.specs.declared.sys.perf_event_header.{perf_event_header};
+ghost use Rattle.perf_reader.specs.Reading.{of_layout};
+ghost use Rattle.perf_records.specs.Records.{RecordValue};
+ghost use Rattle.perf_records.specs.Sights.{sight_of};
+ghost use Rattle.perf_reports.specs.FramePrinting.{PrintsAnswer, PrintsSight, frame_answer, sight_pair};
+ghost use Rattle.perf_reports.specs.Printing.{is_memory};
+
+use crate::printing::{Lines, Report, Stopped};
+use perf_event_data::endian::Endian;
+use perf_event_data::parse::{ErrorKind, ParseConfig, ParseError};
+use perf_event_data::sys::PERF_RECORD_SAMPLE;
+use perf_event_data::{BadFrame, Frame, FrameHandler, RunEnd};
+use perf_sample_types::sample::empty_sample;
+use std::alloc::Global;
+use std::io::Write;
+
+/// Prints what a report tells of the frames that it is handed, and to another output why frames were
+/// refused. It ends the run if an output fails or memory is refused.
+#[derive(Drop)]
+pub(crate) struct FramePrinter<W, E> {
+    alloc: Global,
+    report: Report,
+    output: W,
+    errors: E,
+    // Lines that have not been written yet.
+    lines: Lines,
+    // Whether no frame was refused so far.
+    clean: bool,
+    // Why it ended the run, if it did.
+    stopped: Option<Stopped>,
+}
+
+impl<W: Write, E: Write> FramePrinter<W, E> {
+    /// It has printed nothing.
+    pub(crate) fn new(alloc: Global, output: W, errors: E, report: Report) -> FramePrinter<W, E>
+        ensures lines { string_bytes result.lines.gathered ≡ [] }
+        ensures outputs { (result.output ≡ output) × (result.errors ≡ errors) }
+        ensures report { result.report ≡ report }
+        ensures clean { result.clean ≡ true }
+    {
+        FramePrinter {
+            alloc,
+            report,
+            output,
+            errors,
+            lines: Lines::new(alloc),
+            clean: true,
+            stopped: None,
+        }
+    }
+
+    /// Whether no frame was refused so far.
+    pub(crate) fn is_clean(&self) -> bool
+        ensures { result ≡ self.now.clean }
+    {
+        self.clean
+    }
+
+    /// Writes the lines that have not been written yet.
+    pub(crate) fn send(&mut self) -> Result<(), Stopped>
+        ensures sent { OnOk result (Appends (W.contents self.old.output)
+            (W.contents self.new.output) (string_bytes self.old.lines.gathered)) }
+        ensures none { OnOk result (string_bytes self.new.lines.gathered ≡ []) }
+        ensures part { (n : ℕ) × Appends (W.contents self.old.output)
+            (W.contents self.new.output) (take n (string_bytes self.old.lines.gathered)) }
+        ensures failed { IfErr result (λ stopped. is_memory stopped ≡ false) }
+        ensures same { (self.new.report ≡ self.old.report) × (self.new.errors ≡ self.old.errors)
+            × (self.new.clean ≡ self.old.clean) }
+    {
+        self.lines.send(&mut self.output)
+    }
+
+    /// How the run ended, if it was ended here: by what stopped it.
+    pub(crate) fn end(&mut self) -> Result<RunEnd, Stopped>
+        ensures stopped { (why : Stopped) → self.old.stopped ≡ Some why → (result ≡ Err why)
+            × (self.new.output ≡ self.old.output) × (self.new.errors ≡ self.old.errors) }
+        ensures none { OnOk result (string_bytes self.new.lines.gathered ≡ []) }
+    {
+        match self.stopped.take() {
+            Some(stopped) => Err(stopped),
+            None => {
+                self.send()?;
+                Ok(RunEnd::Limit)
+            }
+        }
+    }
+
+    // Prints an error and a line feed, after the lines before it.
+    fn print_error(&mut self, error: &ParseError) -> Result<(), Stopped>
+        ensures { (h : perf_event_header) → PrintsAnswer W.contents E.contents self.old
+            (h, Err (kind_of error.now)) result self.new }
+    {
+        self.clean = false;
+        match self.send() {
+            Ok(()) => Ok(write!(self.errors, "{error}\n")?),
+            Err(stopped) => Err(stopped),
+        }
+    }
+
+    // Prints why the record of a frame was refused. If memory was, printing stops after the lines before
+    // it.
+    fn refuse(&mut self, error: ParseError) -> Result<(), Stopped>
+        ensures { (h : perf_event_header) → (answer : Result RecordValue Kind) →
+            (IsTrue (of_layout (kind_of error)) → answer ≡ Err (kind_of error)) →
+            PrintsAnswer W.contents E.contents self.old (h, answer) result self.new }
+    {
+        match error.kind() {
+            ErrorKind::External | ErrorKind::OutOfMemory => {
+                let why = Stopped::Frame(error);
+                Err(self.lines.stop(&mut self.output, why))
+            }
+            ErrorKind::Eof
+            | ErrorKind::InvalidRecord
+            | ErrorKind::UnsupportedConfig
+            | ErrorKind::UnsupportedData => self.print_error(&error),
+        }
+    }
+
+    // Prints what is told of a sample, without a box for it.
+    #[inline]
+    fn print_sample<O: Endian>(
+        &mut self,
+        config: &ParseConfig<O>,
+        frame: Frame<'_, '_>,
+    ) -> Result<(), Stopped>
+        requires { frame.header.type_ ≡ 9 }
+        ensures { PrintsAnswer W.contents E.contents self.old (frame_answer
+            (configuration_of config.now) (O.order (endian_of config.now)) frame.entry) result
+            self.new }
+    {
+        let mut sample = empty_sample();
+        match frame.sample_into(self.alloc, config, &mut sample) {
+            Ok(_) => self
+                .lines
+                .add_sample(&mut self.output, self.report, &sample),
+            Err(error) => self.refuse(error),
+        }
+    }
+
+    // Prints what is told of a frame that is no sample.
+    #[inline]
+    fn print_record<O: Endian>(
+        &mut self,
+        config: &ParseConfig<O>,
+        frame: Frame<'_, '_>,
+    ) -> Result<(), Stopped>
+        ensures { PrintsAnswer W.contents E.contents self.old (frame_answer
+            (configuration_of config.now) (O.order (endian_of config.now)) frame.entry) result
+            self.new }
+    {
+        match frame.record(self.alloc, config) {
+            Ok(record) => self.lines.add(&mut self.output, self.report, &record),
+            Err(error) => self.refuse(error),
+        }
+    }
+
+    // Prints what is told of a whole frame.
+    #[inline]
+    fn print_frame<O: Endian>(
+        &mut self,
+        config: &ParseConfig<O>,
+        frame: Frame<'_, '_>,
+    ) -> Result<(), Stopped>
+        ensures { PrintsAnswer W.contents E.contents self.old (frame_answer
+            (configuration_of config.now) (O.order (endian_of config.now)) frame.entry) result
+            self.new }
+    {
+        if frame.header().type_ == PERF_RECORD_SAMPLE {
+            self.print_sample(config, frame)
+        } else {
+            self.print_record(config, frame)
+        }
+    }
+
+    // Prints what is told of a frame, or why it is none.
+    #[inline]
+    fn print<O: Endian>(
+        &mut self,
+        config: &ParseConfig<O>,
+        frame: Result<Frame<'_, '_>, BadFrame>,
+    ) -> Result<(), Stopped>
+        ensures { PrintsAnswer W.contents E.contents self.old (sight_pair
+            (configuration_of config.now) (O.order (endian_of config.now)) (sight_of frame.entry))
+            result self.new }
+    {
+        match frame {
+            Ok(frame) => self.print_frame(config, frame),
+            Err(bad) => self.print_error(&bad.error()),
+        }
+    }
+}
+
+impl<'p, O: Endian, W: Write, E: Write> FrameHandler<'p, O> for FramePrinter<W, E> {
+    ghost gets = { PrintsSight W.contents E.contents };
+
+    #[inline]
+    fn frame(&mut self, config: &ParseConfig<O>, frame: Result<Frame<'_, 'p>, BadFrame>) -> bool {
+        match self.print(config, frame) {
+            Ok(()) => true,
+            Err(stopped) => {
+                self.stopped = Some(stopped);
+                false
+            }
+        }
+    }
+}
