@@ -15,28 +15,32 @@ use perf_base::refusal::{Kept, ReadResult, Refusal};
 use perf_event_data::endian::Endian;
 use perf_event_data::parse::{ErrorKind, ParseConfig};
 use perf_event_data::{BadFrame, Frame, FrameHandler, RunEnd};
+use perf_sample_types::sample::{Sample, empty_sample};
 use std::alloc::Global;
 
 /// Counts the frames that it is handed. If memory is refused for one, it ends the run and does not
 /// count that frame.
 #[derive(Drop)]
-pub(crate) struct FrameCounter {
+pub(crate) struct FrameCounter<'p> {
     alloc: Global,
     // What was counted so far.
     counts: Counts,
     // Why it ended the run, if it did.
     refusal: Option<Refusal>,
+    // Where samples are read.
+    sample: Sample<'p>,
 }
 
-impl FrameCounter {
+impl<'p> FrameCounter<'p> {
     /// It has counted nothing.
-    pub(crate) fn new(alloc: Global) -> FrameCounter
+    pub(crate) fn new(alloc: Global) -> FrameCounter<'p>
         ensures { result.counts ≡ counted [] }
     {
         FrameCounter {
             alloc,
             counts: Counts::NONE,
             refusal: None,
+            sample: empty_sample(),
         }
     }
 
@@ -81,10 +85,11 @@ impl FrameCounter {
 // What the record of a frame adds to the checksum. A record of a type that the kernel does not have adds
 // nothing, and is not read.
 #[inline]
-fn frame_sum<E: Endian>(
+fn frame_sum<'p, E: Endian>(
     alloc: Global,
     config: &ParseConfig<E>,
-    frame: Frame<'_, '_>,
+    frame: Frame<'_, 'p>,
+    place: &mut Sample<'p>,
 ) -> ReadResult<u64>
     ensures { SumsAnswer (answer_behind (configuration_of config.now)
         (E.order (endian_of config.now)) frame.entry.header (chunk_bytes frame.entry.rest)) result }
@@ -92,7 +97,7 @@ fn frame_sum<E: Endian>(
     if frame.kind().is_none() {
         return unknown_sum(alloc, config, frame);
     }
-    frame.read(alloc, config, Sum, &mut ()).0
+    frame.read(alloc, config, Sum, place).0
 }
 
 // The same of a record of such a type.
@@ -112,13 +117,13 @@ fn unknown_sum<E: Endian>(
     }
 }
 
-impl<'p, E: Endian> FrameHandler<'p, E> for FrameCounter {
+impl<'p, E: Endian> FrameHandler<'p, E> for FrameCounter<'p> {
     ghost gets = { CountsSight };
 
     #[inline]
     fn frame(&mut self, config: &ParseConfig<E>, frame: Result<Frame<'_, 'p>, BadFrame>) -> bool {
         match frame {
-            Ok(frame) => match frame_sum(self.alloc, config, frame) {
+            Ok(frame) => match frame_sum(self.alloc, config, frame, &mut self.sample) {
                 Ok(sum) => {
                     self.counts.add_record(frame.header(), sum);
                     true

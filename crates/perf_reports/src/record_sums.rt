@@ -19,16 +19,17 @@ use perf_event_data::{
     TextPoke, Throttle, Visitor,
 };
 use perf_reader::reader::Reader;
-use perf_records::body_reader::{BodyReader, ByVisitor, OfBody};
+use perf_records::body_reader::{BodyReader, ByVisitor, IntoSample, OfBody};
 use perf_sample_types::sample::{empty_sample, fill_sample};
 use std::alloc::Global;
 
-/// What a record adds to the checksum. Nothing of it is kept, so that no byte string is copied, also if
-/// the bytes do not last.
+/// What a record adds to the checksum. A sample whose bytes last is read into a place that is kept for
+/// the next, so that none is made for each; of all others nothing is kept, so that no byte string is
+/// copied.
 #[derive(Drop)]
 pub(crate) struct Sum;
 
-impl<'p> OfBody<'p, ()> for Sum {
+impl<'p> OfBody<'p, Sample<'p>> for Sum {
     type Output = u64;
 
     ghost reads = { λ _. ⊤ };
@@ -36,7 +37,7 @@ impl<'p> OfBody<'p, ()> for Sum {
     ghost gives = { λ seen _ output _. Adds seen output };
 }
 
-impl<'p> BodyReader<'p, ()> for Sum {
+impl<'p> BodyReader<'p, Sample<'p>> for Sum {
     #[inline]
     fn read<E: Endian>(
         self,
@@ -44,21 +45,52 @@ impl<'p> BodyReader<'p, ()> for Sum {
         bytes: ParseBufChunk<'_, 'p>,
         config: ParseConfig<E>,
         metadata: RecordMetadata,
-        state: &mut (),
+        place: &mut Sample<'p>,
     ) -> (ReadResult<u64>, ReadCounter) {
         if metadata.ty() == PERF_RECORD_SAMPLE {
-            return read_sample(alloc, bytes.as_bytes(), config, metadata);
+            return match bytes {
+                ParseBufChunk::External(bytes) => read_kept(alloc, bytes, config, metadata, place),
+                ParseBufChunk::Temporary(bytes) => read_sample(alloc, bytes, config, metadata),
+            };
         }
         let lent = ParseBufChunk::External(bytes.as_bytes());
         let visitor = ByVisitor {
             visitor: SumVisitor,
         };
-        visitor.read(alloc, lent, config, metadata, state)
+        visitor.read(alloc, lent, config, metadata, &mut ())
     }
 }
 
-// What a sample adds whose bytes these are, and how many elementary reads that took.
+// What a sample adds that is read into the place of another, and how many elementary reads that took.
 #[inline]
+fn read_kept<'p, E: Endian>(
+    alloc: Global,
+    bytes: &'p [u8],
+    config: ParseConfig<E>,
+    metadata: RecordMetadata,
+    place: &mut Sample<'p>,
+) -> (ReadResult<u64>, ReadCounter)
+    requires { metadata.ty ≡ 9 }
+    ensures answer { VisitsAll Adds metadata (E.order (endian_of config))
+        (body (configuration_of config) metadata.ty) bytes.now true (kinds result.0) result.1 }
+    ensures faults { is_external (refused (kinds result.0)) ≡ false }
+    ensures cost { result.1 ≤ length bytes.now + one_if_refused (refused (kinds result.0)) }
+{
+    let (read, reads) = IntoSample.read(
+        alloc,
+        ParseBufChunk::External(bytes),
+        config,
+        metadata,
+        place,
+    );
+    match read {
+        Ok(()) => (Ok(sample_sum(place)), reads),
+        Err(refusal) => (Err(refusal), reads),
+    }
+}
+
+// The same of a sample whose bytes do not last.
+#[inline(never)]
 fn read_sample<E: Endian>(
     alloc: Global,
     bytes: &[u8],
