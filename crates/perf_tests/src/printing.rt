@@ -49,10 +49,23 @@ struct Input<'a> {
     fault: Option<io::ErrorKind>,
 }
 
+impl Input<'_> {
+    // How many bytes are left before the next batch begins.
+    fn left_in_batch(&self) -> usize {
+        let left = self.bytes.len();
+        let mut count = left;
+        for batch in self.batches {
+            if *batch < left {
+                count = count.min(left - *batch);
+            }
+        }
+        count
+    }
+}
+
 impl Read for Input<'_> {
     fn read(&mut self, buf: &mut [u8]) -> io::Result<usize> {
-        let left = self.bytes.len();
-        if self.batches.contains(&left) {
+        if self.batches.contains(&self.bytes.len()) {
             note(self.log, 7, 0);
         }
         if self.bytes.is_empty() {
@@ -61,12 +74,7 @@ impl Read for Input<'_> {
                 None => Ok(0),
             };
         }
-        let mut count = buf.len().min(self.most);
-        for batch in self.batches {
-            if *batch < left {
-                count = count.min(left - *batch);
-            }
-        }
+        let count = buf.len().min(self.most).min(self.left_in_batch());
         self.bytes.read(&mut buf[..count])
     }
 }
