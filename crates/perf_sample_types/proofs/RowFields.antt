@@ -15,7 +15,7 @@ use Rattle.perf_buffers.specs.Buffer.{Source}
 use Rattle.perf_reader.specs.AtOnce.{PassesOver}
 use Rattle.perf_reader.specs.Calls.{Call}
 use Rattle.perf_reader.specs.Meaning.{Meaning, meaning}
-use Rattle.perf_reader.specs.TableRuns.{ReadsTable, before, field_took, table_took, table_by_places}
+use Rattle.perf_reader.specs.TableRuns.{ReadsTable, before, table_took}
 use Rattle.perf_reader.specs.declared.reader.Reader.{Reader}
 use Rattle.perf_reader.proofs.TableRuns.{field_there, field_absent, places_table}
 use Rattle.perf_sample_types.specs.Sample.{FieldValue, SampleValue, plain, task, cpu, number_is, task_is, has_one}

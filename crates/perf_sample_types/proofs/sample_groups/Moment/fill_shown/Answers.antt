@@ -1,4 +1,4 @@
-use Rattle.std.proofs.Common.{◌≡◌, ◌≤◌, length, take, List, ℕ, refl, sym, ◌∙◌, ap, arith, rules, subst, Ok}
+use Rattle.std.proofs.Common.{◌≡◌, ◌≤◌, length, take, List, ℕ, sym, ◌∙◌, ap, arith, rules, subst, Ok}
 use Rattle.std.specs.Prelude.{IsTrue}
 use Rattle.perf_base.specs.Configuration.{Configuration}
 use Rattle.perf_base.specs.Configured.{configuration_of}

@@ -1,5 +1,4 @@
 use Rattle.std.proofs.Common.{◌≡◌, List, [], ◌∷◌, option_map, sym}
-use Rattle.perf_base.specs.Layout.{Parts}
 use Rattle.perf_base.specs.Order.{Order}
 use Rattle.perf_words.specs.SetBits.{sample_flags_bits}
 use Rattle.perf_sample_types.specs.Sample.{Field, SampleValue, number_is, plain, task, cpu, at_flag, fields_under}

@@ -1,4 +1,4 @@
-use Rattle.std.proofs.Common.{◌+◌, Some, drop, take, sym, ◌∙◌, ap}
+use Rattle.std.proofs.Common.{◌+◌, Some, drop, sym, ◌∙◌, ap}
 use Rattle.perf_base.specs.Took.{took}
 use Rattle.perf_sample_types.specs.Sample.{task_is}
 use Rattle.perf_sample_types.proofs.RowFields.{word_task}
