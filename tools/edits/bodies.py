@@ -100,7 +100,7 @@ def owner_of(header):
 
 def trait_of(trait):
     """A trait's part of such a name. A parameter, which is one letter, is none."""
-    name, _, of = re.sub(r"'\w+,?\s*", "", trait).partition("<")
+    name, _, of = re.sub(r"'\w+,?\s*", "", trait).replace("()", "Unit").partition("<")
     of = re.match(r"&?[\w:]*", of)[0].replace("::", "").replace("&", "Ref")
     return name.split("::")[-1] + (of if len(of) > 1 else "")
 
