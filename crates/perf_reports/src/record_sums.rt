@@ -90,7 +90,7 @@ fn read_kept<'p, E: Endian>(
 }
 
 // The same of a sample whose bytes do not last.
-#[inline(never)]
+#[inline]
 fn read_sample<E: Endian>(
     alloc: Global,
     bytes: &[u8],

@@ -1,15 +1,15 @@
 //! Branch stacks. No claimed count makes room for branches.
 
-ghost use Rattle.std.specs.Prelude.{◌≡◌, ◌<◌, ◌≤◌, ◌*◌, [], true, length, IfOk};
+ghost use Rattle.std.specs.Prelude.{◌≡◌, ◌*◌, [], Bool, true, false, length, Ok, Err};
+ghost use Rattle.std.specs.Prelude.{IfOk, IfErr};
 ghost use Rattle.perf_buffers.specs.Room.{falls_short};
-ghost use Rattle.perf_reader.specs.Words.{input_of};
+ghost use Rattle.perf_reader.specs.Words.{input_of, refusal_kind};
 ghost use Rattle.perf_sample_types.specs.Branches.{branch_numbers};
 ghost use Rattle.perf_types.specs.Words.{Call, ReadsOne, TakesNoMemory, flat_map, kinds, words};
 
 use perf_base::endian::Endian;
 use perf_base::refusal::{ReadResult, Refusal};
 use perf_buffers::input::Input;
-use perf_reader::blocks::BLOCK;
 use perf_reader::reader::Reader;
 use perf_types::numbers::read_to_the_end;
 use perf_words::BranchEntry;
@@ -19,8 +19,11 @@ const NUMBERS: usize = 3;
 
 const SIZE: usize = 24;
 
-// How many branches a block has.
-const BRANCHES: usize = BLOCK / NUMBERS;
+// How many branches are taken at once.
+const BRANCHES: usize = 16;
+
+// How many numbers they are.
+const BLOCK: usize = 48;
 
 // Puts the branches of some numbers into their places.
 #[inline]
@@ -35,29 +38,31 @@ fn convert(numbers: &[u64], branches: &mut [BranchEntry])
     }
 }
 
-// Fills a block with the next branches, of which there is at least one, and at most [`BRANCHES`].
+// Fills a block with the next branches, if the input shows them all; otherwise nothing is read.
 #[inline]
-fn read_block<'p, I: Input<'p>, E: Endian>(
+fn read_shown<'p, I: Input<'p>, E: Endian>(
     reader: &mut Reader<I, E>,
-    branches: &mut [BranchEntry],
-) -> ReadResult<()>
-    requires some { 0 < length branches.old }
-    requires most { length branches.old ≤ 16 }
-    ensures { Call I.source E.order
-        (ReadsOne (words (3 * length branches.old)) (λ _. flat_map branch_numbers branches.new))
-        reader.old (kinds result) reader.new }
+    branches: &mut [BranchEntry; BRANCHES],
+) -> ReadResult<bool>
+    ensures shown { result ≡ Ok true → Call I.source E.order
+        (ReadsOne (words 48) (λ (_ : Bool). flat_map branch_numbers branches.new))
+        reader.old (Ok true) reader.new }
+    ensures nothing { result ≡ Ok false → reader.new ≡ reader.old }
+    ensures refused { IfErr result (λ e. Call I.source E.order
+        (ReadsOne (words 48) (λ (_ : Bool). flat_map branch_numbers branches.new))
+        reader.old (Err (refusal_kind e)) reader.new) }
 {
-    let mut block = [0; BLOCK];
-    let numbers = &mut block[..NUMBERS * branches.len()];
-    match reader.read_block(numbers) {
-        Ok(()) => (),
+    let mut numbers = [0; BLOCK];
+    match reader.read_shown(&mut numbers) {
+        Ok(true) => (),
+        Ok(false) => return Ok(false),
         Err(refusal) => return Err(refusal),
     }
-    convert(numbers, branches);
-    Ok(())
+    convert(&numbers, branches);
+    Ok(true)
 }
 
-// So many branches, in blocks. The list is empty.
+// So many branches: in blocks if the input shows them, and otherwise one by one. The list is empty.
 #[inline(never)]
 fn append_branches<'p, I: Input<'p>, E: Endian>(
     reader: &mut Reader<I, E>,
@@ -69,14 +74,28 @@ fn append_branches<'p, I: Input<'p>, E: Endian>(
         (ReadsOne (words (3 * count)) (λ v. flat_map branch_numbers v.items))
         reader.old (kinds result) reader.new }
 {
-    let mut block = [BranchEntry::from_words(0, 0, 0); BRANCHES];
-    while entries.len() < count {
-        let more = BRANCHES.min(count - entries.len());
-        match read_block(reader, &mut block[..more]) {
+    while BRANCHES <= count - entries.len() && reader.shows_numbers(BLOCK) {
+        let mut block = [BranchEntry::from_words(0, 0, 0); BRANCHES];
+        match read_shown(reader, &mut block) {
+            Ok(true) => (),
+            Ok(false) => break,
+            Err(refusal) => return Err(refusal),
+        }
+        if entries.extend_from_slice(&block).is_err() {
+            return Err(Refusal::OutOfMemory);
+        }
+    }
+    for _ in entries.len()..count {
+        let mut numbers = [0; NUMBERS];
+        match reader.read_block(&mut numbers) {
             Ok(()) => (),
             Err(refusal) => return Err(refusal),
         }
-        if entries.extend_from_slice(&block[..more]).is_err() {
+        let [from, to, word] = numbers;
+        if entries
+            .push(BranchEntry::from_words(from, to, word))
+            .is_err()
+        {
             return Err(Refusal::OutOfMemory);
         }
     }
