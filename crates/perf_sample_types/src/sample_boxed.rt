@@ -1,22 +1,98 @@
 //! Samples that are read in a box.
 #![tactic(auto, using(perf_reader::proofs::Paying::chain))]
 
-ghost use Rattle.std.specs.Prelude.{◌≡◌, ◌*◌, ◌%◌, ◌^◌, true, count_ones, Err, IfOk};
+ghost use Rattle.std.specs.Prelude.{◌≡◌, ◌*◌, ◌%◌, ◌^◌, ⊤, true, count_ones, Err, IfOk};
 ghost use Rattle.perf_base.specs.Configured.{configuration_of};
 ghost use Rattle.perf_buffers.specs.Room.{falls_short};
 ghost use Rattle.perf_reader.specs.Words.{input_of, config_of, refusal_kind};
+ghost use Rattle.perf_sample_types.specs.Sample as sample;
+ghost use Rattle.perf_sample_types.specs.SampleEmpty.{filled};
+ghost use Rattle.perf_sample_types.specs.SampleGroups as groups;
 ghost use Rattle.perf_sample_types.specs.SampleWords as shown;
-ghost use Rattle.perf_sample_types.specs.SampleWords.{Call, ReadsBorrowed, kinds};
+ghost use Rattle.perf_sample_types.specs.SampleWords.{Call, ReadsBorrowed, ReadsTable, kinds};
 
 use crate::sample::{Sample, empty_sample, fill_sample, least_len};
+use crate::sample_groups::{Costs, Counts, Memory, Moment, State};
 use perf_base::endian::Endian;
 use perf_base::refusal::{ReadResult, Refusal};
 use perf_buffers::input::Input;
 use perf_reader::reader::Reader;
 use std::boxed::Box;
 
-// Why there is no sample where there is no box for it, as the input is too short or there is no
-// memory: the refusal of its bytes, or out of memory.
+// Reads the fields with which a sample begins that is refused, and keeps nothing.
+fn pass_moment<'p, I: Input<'p>, E: Endian>(reader: &mut Reader<I, E>) -> ReadResult<()>
+    ensures { (read : Moment) × Call I.source E.order
+        (ReadsTable (λ c. sample.fields_under c sample.moment_fields) groups.moment_value (λ _. ⊤))
+        reader.old (filled (kinds result) read) reader.new }
+{
+    let mut read = Moment::none();
+    match read.fill_by_field(reader) {
+        Ok(()) => Ok(()),
+        Err(refusal) => Err(refusal),
+    }
+}
+
+// Reads what was counted and the call chain of a sample that is refused, and keeps nothing.
+#[inline(never)]
+fn pass_counts<'p, I: Input<'p>, E: Endian>(reader: &mut Reader<I, E>) -> ReadResult<()>
+    ensures { (read : Counts) × Call I.source E.order
+        (ReadsTable (λ c. sample.fields_under c sample.count_fields) groups.counts_value (λ _. ⊤))
+        reader.old (filled (kinds result) read) reader.new }
+{
+    let mut read = Counts::none();
+    match read.fill(reader) {
+        Ok(()) => Ok(()),
+        Err(refusal) => Err(refusal),
+    }
+}
+
+// Reads the state of a sample that is refused, and keeps nothing.
+#[inline(never)]
+fn pass_state<'p, I: Input<'p>, E: Endian>(reader: &mut Reader<I, E>) -> ReadResult<()>
+    ensures { (read : State) × Call I.source E.order
+        (ReadsTable (λ c. sample.fields_under c sample.state_fields) groups.state_value
+        groups.IsBorrowedState)
+        reader.old (filled (kinds result) read) reader.new }
+{
+    let mut read = State::none();
+    match read.fill(reader) {
+        Ok(()) => Ok(()),
+        Err(refusal) => Err(refusal),
+    }
+}
+
+// Reads the costs of a sample that is refused, and keeps nothing.
+#[inline(never)]
+fn pass_costs<'p, I: Input<'p>, E: Endian>(reader: &mut Reader<I, E>) -> ReadResult<()>
+    ensures { (read : Costs) × Call I.source E.order
+        (ReadsTable (λ c. sample.fields_under c sample.cost_fields) groups.costs_value (λ _. ⊤))
+        reader.old (filled (kinds result) read) reader.new }
+{
+    let mut read = Costs::none();
+    match read.fill(reader) {
+        Ok(()) => Ok(()),
+        Err(refusal) => Err(refusal),
+    }
+}
+
+// Reads the memory of a sample that is refused, and keeps nothing.
+#[inline(never)]
+fn pass_memory<'p, I: Input<'p>, E: Endian>(reader: &mut Reader<I, E>) -> ReadResult<()>
+    ensures { (read : Memory) × Call I.source E.order
+        (ReadsTable (λ c. sample.fields_under c sample.memory_fields) groups.memory_value
+        groups.IsBorrowedMemory)
+        reader.old (filled (kinds result) read) reader.new }
+{
+    let mut read = Memory::none();
+    match read.fill(reader) {
+        Ok(()) => Ok(()),
+        Err(refusal) => Err(refusal),
+    }
+}
+
+// Why there is no sample if there is no box for it, as the input is too short or there is no memory: the
+// refusal of its bytes, or out of memory. Its groups are read one after another, so that one that is
+// too short, which ends in the first of them, costs no place for the others.
 #[cold]
 #[inline(never)]
 fn refuse_sample<'p, I: Input<'p>, E: Endian>(reader: &mut Reader<I, E>) -> Refusal
@@ -24,10 +100,23 @@ fn refuse_sample<'p, I: Input<'p>, E: Endian>(reader: &mut Reader<I, E>) -> Refu
         (ReadsBorrowed shown.sample shown.boxed_value shown.IsBorrowedBox)
         reader.old (Err (refusal_kind result)) reader.new }
 {
-    let mut held = empty_sample();
-    let answer = fill_sample(&mut held, reader);
-    drop(held);
-    match answer {
+    match pass_moment(reader) {
+        Ok(()) => {}
+        Err(refusal) => return refusal,
+    }
+    match pass_counts(reader) {
+        Ok(()) => {}
+        Err(refusal) => return refusal,
+    }
+    match pass_state(reader) {
+        Ok(()) => {}
+        Err(refusal) => return refusal,
+    }
+    match pass_costs(reader) {
+        Ok(()) => {}
+        Err(refusal) => return refusal,
+    }
+    match pass_memory(reader) {
         Ok(()) => Refusal::OutOfMemory,
         Err(refusal) => refusal,
     }

@@ -174,7 +174,7 @@ impl Moment {
     // Fills its places field by field. What they contain is dropped.
     #[cold]
     #[inline(never)]
-    fn fill_by_field<'p, I: Input<'p>, E: Endian>(
+    pub(crate) fn fill_by_field<'p, I: Input<'p>, E: Endian>(
         &mut self,
         reader: &mut Reader<I, E>,
     ) -> ReadResult<()>
