@@ -94,6 +94,8 @@ impl<W: Write, E: Write> FramePrinter<W, E> {
     }
 
     // Prints an error and a line feed, after the lines before it.
+    #[cold]
+    #[inline(never)]
     fn print_error(&mut self, error: &ParseError) -> Result<(), Stopped>
         ensures { (h : perf_event_header) → PrintsAnswer W.contents E.contents self.old
             (h, Err (kind_of error.now)) result self.new }
@@ -107,6 +109,8 @@ impl<W: Write, E: Write> FramePrinter<W, E> {
 
     // Prints why the record of a frame was refused. If memory was, printing stops after the lines before
     // it.
+    #[cold]
+    #[inline(never)]
     fn refuse(&mut self, error: ParseError) -> Result<(), Stopped>
         ensures { (h : perf_event_header) → (answer : Result RecordValue Kind) →
             (IsTrue (of_layout (kind_of error)) → answer ≡ Err (kind_of error)) →
@@ -124,8 +128,9 @@ impl<W: Write, E: Write> FramePrinter<W, E> {
         }
     }
 
-    // Prints what is told of a sample, without a box for it.
-    #[inline]
+    // Prints what is told of a sample, without a box for it. It is not inlined, so that only a sample
+    // pays for its place, which is large.
+    #[inline(never)]
     fn print_sample<O: Endian>(
         &mut self,
         config: &ParseConfig<O>,
@@ -146,7 +151,7 @@ impl<W: Write, E: Write> FramePrinter<W, E> {
     }
 
     // Prints what is told of a frame that is no sample.
-    #[inline]
+    #[inline(never)]
     fn print_record<O: Endian>(
         &mut self,
         config: &ParseConfig<O>,
