@@ -1,4 +1,11 @@
 -- What a printer has printed of the frames that it was handed.
+use Rattle.perf_base.specs.declared.refusal.Refusal.{Refusal}
+use Rattle.perf_records.specs.Records.{record_value, sample_is, sample_value}
+use Rattle.perf_records.specs.Answers.{answer_behind}
+use Rattle.perf_records.specs.Shown.{VisitsBytes}
+use Rattle.perf_records.specs.Visits.{IsRecordOf, IsSampleIn}
+use Rattle.perf_records.specs.declared.record.Record.{Record}
+use Rattle.perf_sample_types.specs.declared.sample.Sample.{Sample}
 use Rattle.std.proofs.Common.{◌≡◌, ℕ, ◌+◌, ◌-◌, ◌≤◌, Bool, true, false, List, [], ◌∷◌, ◌++◌, ◌∙◌, ◌&&◌, Option, Some, None, length, take, drop, map, arith, refl, sym, ap, subst, append_assoc, append-nil, inl, inr, Ok, Err, string_bytes}
 use Rattle.std.proofs.Math.Bool.{and-true, and_assoc}
 use Rattle.std.proofs.Math.Seq.{take-add, take-append_seam}
@@ -300,3 +307,19 @@ module _ {W E : Type 0} (out : W → Option (List ℕ)) (err : E → Option (Lis
       HandsFirst (λ s x. PrintsSight out err s old.settings old.order x) old count ended was now → length (take count (answers_of old)) ≡ count
   there old count ended was now handed =
       sym (ap length (first_answers old.settings old.order count old.source.left handed.0)) ∙ length-map (first_frames old.order count old.source.left) (pair_of old.settings old.order) ∙ handed.0
+
+-- ---- what was read of a frame
+
+-- its record
+pub record_said : (h : perf_event_header) (c : Configuration) (o : Order) (bytes : List ℕ) (lasting : Bool) (r : Result Record Refusal) (k : ℕ) (x : Record) →
+    VisitsBytes IsRecordOf h c o bytes lasting r k → r ≡ Ok x → answer_behind c o h bytes ≡ Ok (record_value x)
+record_said h c o bytes lasting r k x visits is =
+    let said = (subst (λ (q : Result Record Refusal). VisitsBytes IsRecordOf h c o bytes lasting q k) is visits).0 in
+    said.6.0 ∙ ap Ok (sym said.3.0)
+
+-- its sample, in the place of another
+pub sample_said : (h : perf_event_header) (c : Configuration) (o : Order) (bytes : List ℕ) (lasting : Bool) (r : Result (Unit {0}) Refusal) (k : ℕ) (now : Sample) →
+    VisitsBytes (λ seen output. IsSampleIn seen now) h c o bytes lasting r k → r ≡ Ok tt → answer_behind c o h bytes ≡ Ok (sample_is (sample_value now))
+sample_said h c o bytes lasting r k now visits is =
+    let said = (subst (λ (q : Result (Unit {0}) Refusal). VisitsBytes (λ seen output. IsSampleIn seen now) h c o bytes lasting q k) is visits).0 in
+    said.6.0 ∙ ap Ok (sym said.3.0)

@@ -5,6 +5,7 @@ ghost use Rattle.std.specs.Prelude.{OnOk, IfErr, string_bytes, Result};
 ghost use Rattle.std.specs.Io.KnownBytes.{Appends};
 ghost use Rattle.perf_base.specs.Configured.{configuration_of, endian_of};
 ghost use Rattle.perf_base.specs.Errors.{kind_of};
+ghost use Rattle.perf_base.specs.Refusals.{refusal_kind};
 ghost use Rattle.perf_base.specs.declared.error.ErrorKind.{ErrorKind as Kind};
 ghost use Rattle.perf_base.specs.declared.sys.perf_event_header.{perf_event_header};
 ghost use Rattle.perf_reader.specs.Reading.{of_layout};
@@ -14,10 +15,12 @@ ghost use Rattle.perf_reports.specs.FramePrinting.{PrintsAnswer, PrintsSight, fr
 ghost use Rattle.perf_reports.specs.Printing.{is_memory};
 
 use crate::printing::{Lines, Report, Stopped};
+use perf_base::refusal::{Kept, Refusal};
 use perf_event_data::endian::Endian;
 use perf_event_data::parse::{ErrorKind, ParseConfig, ParseError};
 use perf_event_data::sys::PERF_RECORD_SAMPLE;
 use perf_event_data::{BadFrame, Frame, FrameHandler, RunEnd};
+use perf_records::body_reader::{AsRecord, IntoSample};
 use perf_sample_types::sample::empty_sample;
 use std::alloc::Global;
 use std::io::Write;
@@ -111,20 +114,20 @@ impl<W: Write, E: Write> FramePrinter<W, E> {
     // it.
     #[cold]
     #[inline(never)]
-    fn refuse(&mut self, error: ParseError) -> Result<(), Stopped>
+    fn refuse(&mut self, refusal: Refusal) -> Result<(), Stopped>
         ensures { (h : perf_event_header) → (answer : Result RecordValue Kind) →
-            (IsTrue (of_layout (kind_of error)) → answer ≡ Err (kind_of error)) →
+            (IsTrue (of_layout (refusal_kind refusal)) → answer ≡ Err (refusal_kind refusal)) →
             PrintsAnswer W.contents E.contents self.old (h, answer) result self.new }
     {
-        match error.kind() {
+        match refusal.kind() {
             ErrorKind::External | ErrorKind::OutOfMemory => {
-                let why = Stopped::Frame(error);
+                let why = Stopped::Frame(refusal);
                 Err(self.lines.stop(&mut self.output, why))
             }
             ErrorKind::Eof
             | ErrorKind::InvalidRecord
             | ErrorKind::UnsupportedConfig
-            | ErrorKind::UnsupportedData => self.print_error(&error),
+            | ErrorKind::UnsupportedData => self.print_error(&Kept::none().answer(refusal)),
         }
     }
 
@@ -142,11 +145,12 @@ impl<W: Write, E: Write> FramePrinter<W, E> {
             self.new }
     {
         let mut sample = empty_sample();
-        match frame.sample_into(self.alloc, config, &mut sample) {
-            Ok(_) => self
+        let (read, _reads) = frame.read(self.alloc, config, IntoSample, &mut sample);
+        match read {
+            Ok(()) => self
                 .lines
                 .add_sample(&mut self.output, self.report, &sample),
-            Err(error) => self.refuse(error),
+            Err(refusal) => self.refuse(refusal),
         }
     }
 
@@ -161,9 +165,10 @@ impl<W: Write, E: Write> FramePrinter<W, E> {
             (configuration_of config.now) (O.order (endian_of config.now)) frame.entry) result
             self.new }
     {
-        match frame.record(self.alloc, config) {
+        let (read, _reads) = frame.read(self.alloc, config, AsRecord, &mut ());
+        match read {
             Ok(record) => self.lines.add(&mut self.output, self.report, &record),
-            Err(error) => self.refuse(error),
+            Err(refusal) => self.refuse(refusal),
         }
     }
 

@@ -11,8 +11,9 @@ ghost use Rattle.perf_reports.specs.Printing.{printed, printed_answers, Grows, G
 use crate::frame_printer::FramePrinter;
 use crate::{samples, tasks};
 use anyhow::{Result, bail};
+use perf_base::refusal::{Kept, Refusal};
 use perf_event_data::endian::{Endian, Little};
-use perf_event_data::parse::{ParseBuf, ParseConfig, ParseError, Parser};
+use perf_event_data::parse::{ParseBuf, ParseConfig, Parser};
 use perf_event_data::sys::perf_event_attr;
 use perf_event_data::{Record, RunEnd, Sample, each_frame};
 use std::alloc::{AllocError, Global};
@@ -73,8 +74,8 @@ impl Report {
 pub(crate) enum Stopped {
     // Memory was refused for a line.
     Memory(AllocError),
-    // Memory was refused for the record of a frame.
-    Frame(ParseError),
+    // Memory was refused for the record of a frame. It is kept without its error, which is large.
+    Frame(Refusal),
     // An output failed.
     Output(io::Error),
 }
@@ -83,7 +84,7 @@ impl fmt::Display for Stopped {
     fn fmt<W: fmt::Write>(&self, f: &mut fmt::Formatter<W>) -> fmt::Result {
         match self {
             Stopped::Memory(error) => write!(f, "{error}"),
-            Stopped::Frame(error) => write!(f, "{error}"),
+            Stopped::Frame(refusal) => write!(f, "{}", Kept::none().answer(*refusal)),
             Stopped::Output(error) => write!(f, "{error}"),
         }
     }
@@ -272,7 +273,7 @@ fn print_records<'p, B: ParseBuf<'p>, O: Endian, W: Write, E: Write>(
     for _ in 0..u64::MAX {
         let end = match print_frames(parser, printer) {
             Ok(end) => end,
-            Err(Stopped::Frame(error)) => return Err(error.into()),
+            Err(Stopped::Frame(refusal)) => return Err(Kept::none().answer(refusal).into()),
             Err(stopped) => return Err(stopped.into()),
         };
         if !goes_on(end)? {

@@ -1,15 +1,17 @@
-use Rattle.std.proofs.Common.{Ok, ap, refl, sym, ◌∙◌}
+use Rattle.std.proofs.Common.{refl}
 use Rattle.perf_base.specs.Configured.{configuration_of, endian_of}
-use Rattle.perf_buffers.specs.Buffer.{chunk_bytes}
+use Rattle.perf_buffers.specs.Buffer.{chunk_bytes, lasts}
 use Rattle.perf_records.specs.Answers.{answer_behind}
 use Rattle.perf_records.specs.Records.{record_value}
-use Rattle.perf_reports.proofs.FramePrinted.{adds_line}
+use Rattle.perf_reports.proofs.FramePrinted.{adds_line, record_said}
 use Rattle.perf_reports.proofs.frame_printer.FramePrinter.print_record.Goals as goal
 
 pub returns-in-Ok : goal.returns-in-Ok
 returns-in-Ok g c =
     let f = c.args.frame in
-    let answer = answer_behind (configuration_of c.args.config.now) (g.O.Endian.order (endian_of c.args.config.now)) f.header (chunk_bytes f.rest) in
-    let gives = c.in-Ok.ensures in
+    let settings = configuration_of c.args.config.now in
+    let order = g.O.Endian.order (endian_of c.args.config.now) in
+    let bytes = chunk_bytes f.rest in
+    let said = record_said f.header settings order bytes (lasts f.rest) _ c.read-read.result.1 c.in-Ok.record (c.read-read.ensures.answer tt) c.in-Ok.is in
     let add = c.add.ensures in
-    adds_line g.W.Write.contents g.E.Write.contents c.args.self.now _ f.header answer (record_value c.in-Ok.record) c.add.result (gives.5 ∙ ap Ok (sym gives.3.0)) refl refl refl add.grown add.part add.refused
+    adds_line g.W.Write.contents g.E.Write.contents c.args.self.now _ f.header (answer_behind settings order f.header bytes) (record_value c.in-Ok.record) c.add.result said refl refl refl add.grown add.part add.refused
