@@ -65,8 +65,9 @@ pub struct ParseError {
 }
 
 impl ParseError {
-    #[cold]
-    #[inline(never)]
+    // It is inlined, and so are the calls that make one without a message: an error is large, and a
+    // caller that has it made elsewhere clears a place for it before it knows whether there is one.
+    #[inline(always)]
     pub(crate) fn plain(kind: ErrorKind) -> ParseError
         ensures { IsMadeOf result kind None None }
     {
@@ -100,8 +101,7 @@ impl ParseError {
     }
 
     /// There are not enough bytes.
-    #[cold]
-    #[inline(never)]
+    #[inline(always)]
     pub fn eof() -> ParseError
         ensures { IsMadeOf result ErrorKind.Eof None None }
     {
@@ -109,8 +109,7 @@ impl ParseError {
     }
 
     /// Memory was refused.
-    #[cold]
-    #[inline(never)]
+    #[inline(always)]
     pub fn out_of_memory() -> ParseError
         ensures { IsMadeOf result ErrorKind.OutOfMemory None None }
     {

@@ -33,8 +33,16 @@ impl ReadCounter {
     pub fn new() -> ReadCounter
         ensures { result ≡ 0 }
     {
+        ReadCounter::of(0)
+    }
+
+    /// So many reads.
+    #[inline]
+    pub fn of(count: u64) -> ReadCounter
+        ensures { result ≡ count }
+    {
         ReadCounter {
-            made: Snapshot::of(&Steps::Many(0)),
+            made: Snapshot::of(&Steps::Many(count)),
         }
     }
 
@@ -43,9 +51,7 @@ impl ReadCounter {
     pub fn tick(&mut self)
         ensures { self.new ≡ self.old + 1 }
     {
-        self.add(ReadCounter {
-            made: Snapshot::of(&Steps::Many(1)),
-        });
+        self.add(ReadCounter::of(1));
     }
 
     /// Counts one read where there is a byte to read.

@@ -1,6 +1,6 @@
 //! Buffers: where the bytes come from.
 
-ghost use Rattle.std.specs.Prelude.{◌≡◌, ℕ, ◌≤◌, true, false, None, Some, IsTrue, List, length};
+ghost use Rattle.std.specs.Prelude.{◌≡◌, ℕ, ◌≤◌, true, false, None, Some, IsTrue, List, length, Ok};
 ghost use Rattle.std.specs.Prelude.{Option, IfOk, IfErr, IfSome, ◌<◌, OnOk, IsOk, IsSome, take};
 ghost use Rattle.perf_buffers.specs.Words.{sem, Rests, kind_of, Source, Shows, ShowsReady, Refuses};
 ghost use Rattle.perf_buffers.specs.Words.{KeepsChunk, Advances, chunk_bytes, lasts, known};
@@ -110,28 +110,34 @@ impl<'p> ParseBuf<'p> for &'p [u8] {
 // The fault that an error of a reader is, whatever the reader calls it.
 #[cold]
 #[inline(never)]
-fn fault_of(error: io::Error) -> ParseError
+fn make_fault(error: io::Error) -> ParseError
     ensures { kind_of result ≡ ErrorKind.External }
 {
     ParseError::new(anyhow::Error::from(error))
 }
 
-// Reads ahead. Nothing that was read before is left to take.
+// The same. It is inlined, so that the place for the fault, which is large, is cleared where there is
+// one.
+#[inline(always)]
+fn fault_of(error: io::Error) -> ParseError
+    ensures { kind_of result ≡ ErrorKind.External }
+{
+    make_fault(error)
+}
+
+// Reads ahead, and returns whether there is more. Nothing that was read before is left to take.
 #[inline(never)]
-fn read_more<R: Read>(reader: &mut BufReader<R>) -> ParseResult<()>
-    ensures some { OnOk result (0 < length (reader_buffer reader.new)) }
+fn read_more<R: Read>(reader: &mut BufReader<R>) -> io::Result<bool>
+    ensures some { result ≡ Ok true → 0 < length (reader_buffer reader.new) }
+    ensures none { result ≡ Ok false →
+        RefusesReader (reader_remaining R.remaining reader.old) ErrorKind.Eof }
     ensures kept { IsTrue (is_known (reader_remaining R.remaining reader.old)) →
         reader_remaining R.remaining reader.new ≡ reader_remaining R.remaining reader.old }
-    ensures refuses { IfErr
-        result (λ e. RefusesReader (reader_remaining R.remaining reader.old) (kind_of e)) }
 {
     if let Err(error) = reader.fill_buf() {
-        return Err(fault_of(error));
+        return Err(error);
     }
-    if reader.buffer().is_empty() {
-        return Err(ParseError::eof());
-    }
-    Ok(())
+    Ok(!reader.buffer().is_empty())
 }
 
 // Reads ahead where nothing is read and not yet taken.
@@ -148,7 +154,11 @@ fn read_ahead<R: Read>(reader: &mut BufReader<R>) -> ParseResult<()>
     if !reader.buffer().is_empty() {
         return Ok(());
     }
-    read_more(reader)
+    match read_more(reader) {
+        Ok(true) => Ok(()),
+        Ok(false) => Err(ParseError::eof()),
+        Err(error) => Err(fault_of(error)),
+    }
 }
 
 /// Every fault of the reader is `External`, also where the reader calls it an interruption or an

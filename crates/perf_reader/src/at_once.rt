@@ -11,18 +11,6 @@ use perf_base::reads::ReadCounter;
 use perf_base::refusal::ReadResult;
 use perf_buffers::input::{Input, take_array};
 
-// So many reads.
-#[inline]
-fn reads_of_numbers(numbers: usize) -> ReadCounter
-    ensures { result ≡ numbers }
-{
-    let mut made = ReadCounter::new();
-    for _ in 0..numbers {
-        made.tick();
-    }
-    made
-}
-
 impl<'p, I: Input<'p>, E: Endian> Reader<I, E> {
     /// The bytes of so many numbers, `N` in all, if the input reports that it has them; otherwise
     /// nothing is read. They are taken at once, and each of the numbers is a read.
@@ -64,7 +52,7 @@ impl<'p, I: Input<'p>, E: Endian> Reader<I, E> {
             Ok(bytes) => bytes,
             Err(refusal) => return Err(refusal),
         };
-        self.reads.add(reads_of_numbers(numbers - 1));
+        self.reads.add(ReadCounter::of(numbers as u64 - 1));
         Ok(bytes)
     }
 }

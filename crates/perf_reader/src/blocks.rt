@@ -21,18 +21,6 @@ const SIZE: usize = 8;
 // How many bytes such a block has.
 const BYTES: usize = 384;
 
-// So many reads.
-#[inline]
-fn counted(count: usize) -> ReadCounter
-    ensures { result ≡ count }
-{
-    let mut made = ReadCounter::new();
-    for _ in 0..count {
-        made.tick();
-    }
-    made
-}
-
 // Puts the numbers of some bytes into their places.
 #[inline]
 fn convert<E: Endian>(order: &E, bytes: &[u8], numbers: &mut [u64])
@@ -77,7 +65,7 @@ impl<'p, I: Input<'p>, E: Endian> Reader<I, E> {
             Ok(()) => (),
             Err(refusal) => return Err(refusal),
         }
-        self.reads.add(counted(numbers.len() - 1));
+        self.reads.add(ReadCounter::of(numbers.len() as u64 - 1));
         Ok(true)
     }
 
@@ -140,7 +128,7 @@ impl<'p, I: Input<'p>, E: Endian> Reader<I, E> {
             Ok(()) => (),
             Err(refusal) => return Err(refusal),
         }
-        self.reads.add(counted(numbers.len() - 1));
+        self.reads.add(ReadCounter::of(numbers.len() as u64 - 1));
         convert(self.config.endian(), &bytes[..len], numbers);
         Ok(())
     }

@@ -76,7 +76,7 @@ impl WordField for u64 {
 
     #[inline(always)]
     fn reads() -> ReadCounter {
-        one_read()
+        ReadCounter::of(1)
     }
 }
 
@@ -93,7 +93,7 @@ impl WordField for Task {
 
     #[inline(always)]
     fn reads() -> ReadCounter {
-        two_reads()
+        ReadCounter::of(2)
     }
 }
 
@@ -107,7 +107,7 @@ impl WordField for Cpu {
 
     #[inline(always)]
     fn reads() -> ReadCounter {
-        two_reads()
+        ReadCounter::of(2)
     }
 }
 
@@ -127,25 +127,6 @@ fn second_half<E: Endian>(order: &E, word: [u8; 8]) -> u32
 {
     let [_, _, _, _, b4, b5, b6, b7] = word;
     order.convert_u32([b4, b5, b6, b7])
-}
-
-#[inline(always)]
-fn one_read() -> ReadCounter
-    ensures { result ≡ 1 }
-{
-    let mut reads = ReadCounter::new();
-    reads.tick();
-    reads
-}
-
-#[inline(always)]
-fn two_reads() -> ReadCounter
-    ensures { result ≡ 2 }
-{
-    let mut reads = ReadCounter::new();
-    reads.tick();
-    reads.tick();
-    reads
 }
 
 // Puts a field into its place, which is empty, if the sample type has its flag. It is `None` if too few

@@ -22,7 +22,7 @@ returns-clause-call g c =
     let old : Meaning = meaning g.I.Input.source g.E.Endian.order c.args.self.now in
     let new : Meaning = record { settings = old.settings; order = old.order; source = g.I.Input.source c.take_array.new.input; reads = c.add.new.self } in
     let e = c.in-Ok.ensures in
-    let count : new.reads ≡ old.reads + c.args.numbers = omega (arith, c.add.ensures, c.tick.ensures, c.reads_of_numbers.ensures, c.requires.some) in record {
+    let count : new.reads ≡ old.reads + c.args.numbers = omega (arith, c.add.ensures, c.tick.ensures, c.of.ensures, c.requires.some) in record {
       config = refl;
       whole = e.stays.0;
       told = e.stays.3;

@@ -1,6 +1,0 @@
-use Rattle.std.proofs.Common.{◌≡◌}
-use Rattle.perf_reader.proofs.blocks.counted.Given as goal
-
--- as many reads as were counted
-abbrev pub invariant-loop : goal.invariant-loop
-invariant-loop l = l.made ≡ l.counter
