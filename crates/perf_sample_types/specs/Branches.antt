@@ -1,6 +1,7 @@
 -- The numbers of a branch stack, three of each branch: where it came from, where it went, and a word
 -- of bit fields.
-use Rattle.std.specs.Prelude.{ℕ, List, [], ◌∷◌}
+use Rattle.std.specs.Prelude.{ℕ, List, [], ◌∷◌, take, drop}
+use Rattle.perf_base.specs.Order.{Order}
 use Rattle.perf_words.specs.Branch.{Branch}
 
 -- numbers, three and three
@@ -12,3 +13,11 @@ branches_of _ = []
 -- the numbers of a branch
 abbrev pub branch_numbers : Branch → List ℕ
 branch_numbers b = b.from ∷ b.to ∷ b.word ∷ []
+
+-- the branch whose 24 bytes these are
+abbrev pub branch_of : Order → List ℕ → Branch
+branch_of o bytes = record {
+  from = o.eight (take 8 bytes);
+  to = o.eight (take 8 (drop 8 bytes));
+  word = o.eight (take 8 (drop 16 bytes));
+}

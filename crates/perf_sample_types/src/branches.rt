@@ -2,12 +2,14 @@
 
 ghost use Rattle.std.specs.Prelude.{◌≡◌, ◌*◌, [], Bool, true, false, length, Ok, Err};
 ghost use Rattle.std.specs.Prelude.{IfOk, IfErr};
+ghost use Rattle.perf_base.specs.Layout.{words_of};
 ghost use Rattle.perf_buffers.specs.Room.{falls_short};
 ghost use Rattle.perf_reader.specs.Words.{input_of, refusal_kind};
-ghost use Rattle.perf_sample_types.specs.Branches.{branch_numbers};
+ghost use Rattle.perf_sample_types.specs.Branches.{branch_numbers, branch_of};
 ghost use Rattle.perf_types.specs.Words.{Call, ReadsOne, TakesNoMemory, flat_map, kinds, words};
 
 use perf_base::endian::Endian;
+use perf_base::reads::ReadCounter;
 use perf_base::refusal::{ReadResult, Refusal};
 use perf_buffers::input::Input;
 use perf_reader::reader::Reader;
@@ -19,50 +21,60 @@ const NUMBERS: usize = 3;
 
 const SIZE: usize = 24;
 
-// How many branches are taken at once.
-const BRANCHES: usize = 16;
-
-// How many numbers they are.
-const BLOCK: usize = 48;
-
-// Puts the branches of some numbers into their places.
-#[inline]
-fn convert(numbers: &[u64], branches: &mut [BranchEntry])
-    requires { length numbers.now ≡ 3 * length branches.old }
-    ensures { flat_map branch_numbers branches.new ≡ numbers.now }
+// The branch whose bytes these are.
+#[inline(always)]
+fn branch_in<E: Endian>(order: &E, bytes: &[u8; SIZE]) -> BranchEntry
+    ensures { result ≡ branch_of (E.order order.now) bytes.now }
 {
-    let (words, _) = numbers.as_chunks::<NUMBERS>();
+    let (words, _) = bytes.as_chunks::<8>();
+    let from = order.convert_u64(words[0]);
+    let to = order.convert_u64(words[1]);
+    let word = order.convert_u64(words[2]);
+    BranchEntry::from_words(from, to, word)
+}
+
+// Puts the branches of some bytes into their places.
+#[inline]
+fn convert<E: Endian>(order: &E, bytes: &[u8], branches: &mut [BranchEntry])
+    requires { length bytes.now ≡ 24 * length branches.old }
+    ensures { flat_map branch_numbers branches.new
+        ≡ words_of (E.order order.now) (3 * length branches.old) bytes.now }
+{
+    let (chunks, _) = bytes.as_chunks::<SIZE>();
     for i in 0..branches.len() {
-        let [from, to, word] = words[i];
-        branches[i] = BranchEntry::from_words(from, to, word);
+        branches[i] = branch_in(order, &chunks[i]);
     }
 }
 
-// Fills a block with the next branches, if the input shows them all; otherwise nothing is read.
+// Fills a list with the next branches, if the input shows them all; otherwise nothing is read. There
+// is at least one of them.
 #[inline]
 fn read_shown<'p, I: Input<'p>, E: Endian>(
     reader: &mut Reader<I, E>,
-    branches: &mut [BranchEntry; BRANCHES],
+    branches: &mut [BranchEntry],
 ) -> ReadResult<bool>
     ensures shown { result ≡ Ok true → Call I.source E.order
-        (ReadsOne (words 48) (λ (_ : Bool). flat_map branch_numbers branches.new))
+        (ReadsOne (words (3 * length branches.old)) (λ (_ : Bool). flat_map branch_numbers branches.new))
         reader.old (Ok true) reader.new }
     ensures nothing { result ≡ Ok false → reader.new ≡ reader.old }
     ensures refused { IfErr result (λ e. Call I.source E.order
-        (ReadsOne (words 48) (λ (_ : Bool). flat_map branch_numbers branches.new))
+        (ReadsOne (words (3 * length branches.old)) (λ (_ : Bool). flat_map branch_numbers branches.new))
         reader.old (Err (refusal_kind e)) reader.new) }
 {
-    let mut numbers = [0; BLOCK];
-    match reader.read_shown(&mut numbers) {
-        Ok(true) => (),
-        Ok(false) => return Ok(false),
-        Err(refusal) => return Err(refusal),
+    let shown = reader.input().shown();
+    let count = branches.len();
+    if shown.len() / SIZE < count {
+        return Ok(false);
     }
-    convert(&numbers, branches);
-    Ok(true)
+    let len = SIZE * count;
+    convert(reader.endian(), &shown[..len], branches);
+    match reader.pass(len, ReadCounter::of((NUMBERS * count) as u64)) {
+        Ok(()) => Ok(true),
+        Err(refusal) => Err(refusal),
+    }
 }
 
-// So many branches: in blocks if the input shows them, and otherwise one by one. The list is empty.
+// So many branches, one by one. The list is empty.
 #[inline(never)]
 fn append_branches<'p, I: Input<'p>, E: Endian>(
     reader: &mut Reader<I, E>,
@@ -74,18 +86,7 @@ fn append_branches<'p, I: Input<'p>, E: Endian>(
         (ReadsOne (words (3 * count)) (λ v. flat_map branch_numbers v.items))
         reader.old (kinds result) reader.new }
 {
-    while BRANCHES <= count - entries.len() && reader.shows_numbers(BLOCK) {
-        let mut block = [BranchEntry::from_words(0, 0, 0); BRANCHES];
-        match read_shown(reader, &mut block) {
-            Ok(true) => (),
-            Ok(false) => break,
-            Err(refusal) => return Err(refusal),
-        }
-        if entries.extend_from_slice(&block).is_err() {
-            return Err(Refusal::OutOfMemory);
-        }
-    }
-    for _ in entries.len()..count {
+    for _ in 0..count {
         let mut numbers = [0; NUMBERS];
         match reader.read_block(&mut numbers) {
             Ok(()) => (),
@@ -102,7 +103,8 @@ fn append_branches<'p, I: Input<'p>, E: Endian>(
     Ok(entries)
 }
 
-// So many branches. A list that does not fit takes no memory where the input says what it has.
+// So many branches, all at once where the input shows them. A list that does not fit takes no memory
+// where the input says what it has.
 pub(crate) fn read_branches<'p, I: Input<'p>, E: Endian>(
     reader: &mut Reader<I, E>,
     count: usize,
@@ -116,9 +118,20 @@ pub(crate) fn read_branches<'p, I: Input<'p>, E: Endian>(
     if reader.has_items(count, SIZE) == Some(false) {
         return Err(read_to_the_end(reader, NUMBERS, count));
     }
-    let entries = match reader.list_for(count) {
+    let mut entries = match reader.list_for(count) {
         Ok(entries) => entries,
         Err(refusal) => return Err(refusal),
     };
+    if 0 < count && count <= reader.input().shown().len() / SIZE {
+        let none = BranchEntry::from_words(0, 0, 0);
+        if entries.resize(count, none).is_err() {
+            return Err(Refusal::OutOfMemory);
+        }
+        match read_shown(reader, entries.as_mut_slice()) {
+            Ok(true) => return Ok(entries),
+            Ok(false) => entries.clear(),
+            Err(refusal) => return Err(refusal),
+        }
+    }
     append_branches(reader, entries, count)
 }

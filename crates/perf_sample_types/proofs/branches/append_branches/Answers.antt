@@ -1,4 +1,4 @@
-use Rattle.std.proofs.Common.{rules, Bool, true, Ok, ◌≡◌, ℕ, List, ◌+◌, ◌*◌, ◌≤◌, ◌++◌, ◌∷◌, [], length, ap, sym, ◌∙◌, arith}
+use Rattle.std.proofs.Common.{rules, ◌≡◌, ℕ, List, ◌+◌, ◌*◌, ◌≤◌, ◌++◌, ◌∷◌, [], length, ap, sym, ◌∙◌, arith}
 use Rattle.std.proofs.lemmas.List.{length-append}
 use Rattle.std.proofs.lemmas.List.Concat.{flat_map-append}
 use Rattle.std.specs.List.{flat_map}
@@ -7,52 +7,24 @@ use Rattle.perf_reader.proofs.InRow.{row_none, row_cast, row_seen, row_further, 
 use Rattle.perf_sample_types.specs.Branches.{branch_numbers}
 use Rattle.perf_words.specs.declared.branch.BranchEntry.{BranchEntry}
 use Rattle.perf_sample_types.proofs.BranchLists.{numbers_of_three}
-use Rattle.perf_types.specs.Words.{Call, ReadsOne, words}
 use Rattle.perf_sample_types.proofs.branches.append_branches.Goals as goal
 
-pub loop-reader-init : goal.loop-reader-init
-loop-reader-init g c =
+pub loop-init : goal.loop-init
+loop-init g c =
     let s = g.I.Input.source in let o = g.E.Endian.order in
     let none : length c.args.entries.items ≡ 0 = ap length c.requires in (
-      omega (arith, none),
-      row_cast s o 0 (3 * length c.args.entries.items) c.args.reader.now c.args.reader.now [] (flat_map branch_numbers c.args.entries.items) (omega (arith, none))
+      omega arith,
+      none,
+      row_cast s o 0 0 c.args.reader.now c.args.reader.now [] (flat_map branch_numbers c.args.entries.items) (omega arith)
           (sym (ap (flat_map branch_numbers) c.requires)) (row_none s o c.args.reader.now),
     )
 
 pub returns-in-Err : goal.returns-in-Err
 returns-in-Err g c =
     let s = g.I.Input.source in let o = g.E.Endian.order in
-    let n = length c.loop-reader.entries.items in
-    let len : c.len.result ≡ n = search rules in
-    let more : 3 * n + 48 ≤ 3 * c.args.count = omega (arith, len, c.loop-reader-test.true) in
-    row_ceases s o (λ v. flat_map branch_numbers v.items) _ (3 * n) 48 (3 * c.args.count) c.args.reader.now c.loop-reader.reader c.read_shown.new.reader (flat_map branch_numbers c.loop-reader.entries.items)
-    (refusal_kind c.in-Err.refusal) more c.loop-reader.invariant.1 c.in-Err.ensures.refused
-
-pub loop-reader-preserved : goal.loop-reader-preserved
-loop-reader-preserved g c =
-    let s = g.I.Input.source in let o = g.E.Endian.order in
-    let old : List BranchEntry = c.loop-reader.entries.items in
-    let block : List BranchEntry = c.read_shown.new.branches in
-    let ys : List ℕ = flat_map branch_numbers old in
-    let zs : List ℕ = flat_map branch_numbers block in
-    let len : c.len.result ≡ length old = search rules in
-    let all : length block ≡ 16 = search rules in
-    let kept : c.extend_from_slice.new.self.items ≡ old ++ block = search rules in
-    let sum : length c.extend_from_slice.new.self.items ≡ length old + length block = ap length kept ∙ length-append old block in
-    let call : Call {X = Bool} s o (ReadsOne (words 48) (λ (_ : Bool). zs)) c.loop-reader.reader (Ok true) c.read_shown.new.reader = search rules in (
-      omega (arith, sum, all, len, c.loop-reader-test.true),
-      row_cast s o (3 * length old + 48) (3 * length c.extend_from_slice.new.self.items) c.args.reader.now c.read_shown.new.reader (ys ++ zs) (flat_map branch_numbers c.extend_from_slice.new.self.items)
-          (omega (arith, sum, all)) (sym (ap (flat_map branch_numbers) kept ∙ flat_map-append branch_numbers old block))
-          (row_further s o (3 * length old) 48 c.args.reader.now c.loop-reader.reader c.read_shown.new.reader ys zs c.loop-reader.invariant.1
-          (row_seen s o (λ (_ : Bool). zs) 48 c.loop-reader.reader c.read_shown.new.reader true call)),
-    )
-
-pub returns-in-Err-read_block : goal.returns-in-Err-read_block
-returns-in-Err-read_block g c =
-    let s = g.I.Input.source in let o = g.E.Endian.order in
     let more : 3 * c.loop.counter + 3 ≤ 3 * c.args.count = omega (arith, c.loop-test.true) in
     row_ceases s o (λ v. flat_map branch_numbers v.items) (λ (none : Unit {0}). c.read_block.new.numbers) (3 * c.loop.counter) 3 (3 * c.args.count) c.args.reader.now c.loop.reader c.read_block.new.self (flat_map branch_numbers c.loop.entries.items)
-    (refusal_kind c.in-Err-read_block.refusal) more c.loop.invariant.2 c.in-Err-read_block.ensures.call
+    (refusal_kind c.in-Err.refusal) more c.loop.invariant.2 c.in-Err.ensures.call
 
 pub loop-preserved : goal.loop-preserved
 loop-preserved g c =

@@ -1,23 +1,35 @@
-use Rattle.std.proofs.Common.{rules, Bool, true, Ok, ℕ, List, [], refl, sym, arith}
+use Rattle.std.proofs.Common.{◌≡◌, ◌≤◌, ◌+◌, ◌*◌, ℕ, List, length, take, ap, ◌∙◌, subst, arith}
 use Rattle.std.specs.List.{flat_map}
-use Rattle.perf_base.specs.Refusals.{refusal_kind}
-use Rattle.perf_reader.proofs.InRow.{row_none, row_cast, row_seen, row_ceases, row_gives}
+use Rattle.std.specs.Prelude.{IsTrue}
+use Rattle.perf_base.specs.Layout.{words_of}
+use Rattle.perf_buffers.specs.Taking.{Takes}
+use Rattle.perf_reader.specs.Meaning.{Meaning, meaning}
+use Rattle.perf_reader.proofs.AtHand.{shown_there}
 use Rattle.perf_sample_types.specs.Branches.{branch_numbers}
-use Rattle.perf_types.specs.Words.{Call, ReadsOne, words}
 use Rattle.perf_sample_types.proofs.branches.read_shown.Goals as goal
 
-pub returns-clause-shown : goal.returns-clause-shown
-returns-clause-shown g c =
-    let s = g.I.Input.source in let o = g.E.Endian.order in
-    let a = c.args.reader.now in
-    let b = c.read_shown.new.self in
-    let zs : List ℕ = c.read_shown.new.numbers in
+pub returns-in-Ok-clause-shown : goal.returns-in-Ok-clause-shown
+returns-in-Ok-clause-shown g c =
+    let source = g.I.Input.source in
+    let order = g.E.Endian.order in
+    let old : Meaning = meaning source order c.args.reader.now in
+    let new : Meaning = meaning source order c.pass.new.self in
+    let n = length c.args.branches.now in
+    let shown : List ℕ = c.shown-shown.result.now in
     let ys : List ℕ = flat_map branch_numbers c.convert.new.branches in
-    let call : Call {X = Bool} s o (ReadsOne (words 48) (λ (_ : Bool). zs)) a (Ok true) b = search rules in
-    λ _. row_gives s o (λ (_ : Bool). ys) 48 a b true (row_cast s o 48 48 a b zs ys refl (sym c.convert.ensures) (row_seen s o (λ (_ : Bool). zs) 48 a b true call))
-
-pub returns-in-Err-clause-refused : goal.returns-in-Err-clause-refused
-returns-in-Err-clause-refused g c =
-    let s = g.I.Input.source in let o = g.E.Endian.order in
-    let a = c.args.reader.now in
-    row_ceases s o _ _ 0 48 48 a a c.read_shown.new.self [] (refusal_kind c.in-Err.refusal) (omega arith) (row_none s o a) c.in-Err.ensures.refused
+    let bytes : 24 * n ≡ 8 * (3 * n) = omega arith in
+    let within : 8 * (3 * n) ≤ length shown = omega (arith, c.if-shown-count.false) in
+    let shows = subst (λ i. IsTrue (source i).told → (length shown ≤ length (source i).left) × (shown ≡ take (length shown) (source i).left)) c.input.ensures c.shown-shown.ensures in
+    let made : ys ≡ words_of (order c.endian.result.now) (3 * n) (take (8 * (3 * n)) shown) =
+    c.convert.ensures ∙ ap (λ k. words_of (order c.endian.result.now) (3 * n) (take k shown)) bytes in
+    let call = c.in-Ok.ensures.call in
+    λ is. record {
+      config = call.config;
+      whole = call.whole;
+      told = call.told;
+      answer = λ t. let a = call.answer t in
+          shown_there old.order (order c.endian.result.now) old.source new.source (3 * n) old.reads new.reads shown ys
+          (ap order c.endian.ensures) (a.2 ∙ ap (λ k. old.reads + k) c.of.ensures) within (shows t).1
+          (subst (λ k. Takes old.source k new.source) bytes (a.0, a.1)) made;
+      keeps = call.keeps;
+    }
