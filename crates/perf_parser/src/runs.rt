@@ -50,8 +50,21 @@ pub enum RunEnd {
     Fault(ParseError),
 }
 
-// Lists the answer of a frame that was refused, in room that was made; or answers the fault or the
-// want of memory that stops the run.
+// Lists a frame that has too few bytes, in room that was made. It is not inlined, so that the place for
+// its answer, which is large, is cleared once.
+#[inline(never)]
+fn list_short<'p>(
+    frames: &mut Vec<(perf_event_header, ParseResult<Record<'p>>)>,
+    header: perf_event_header,
+)
+    requires { vec_len frames.old < vec_capacity frames.old }
+    ensures { stream.ListsRefused header Refusal.Eof frames.old.items frames.new.items }
+{
+    frames.push_reserved((header, Err(ParseError::eof())));
+}
+
+// Lists the answer of a frame that was refused, in room that was made; or returns the fault or the
+// want of memory that stops the run. Most are refused because they have too few bytes.
 #[inline(never)]
 fn list_refused<'p, B: ParseBuf<'p>, E: Endian>(
     reader: &mut Reader<Outer<B>, E>,
@@ -69,6 +82,10 @@ fn list_refused<'p, B: ParseBuf<'p>, E: Endian>(
     ensures config { low.config_of reader.new ≡ low.config_of reader.old }
     ensures reads { low.reads_of reader.new ≡ low.reads_of reader.old }
 {
+    if refusal == Refusal::Eof {
+        list_short(frames, header);
+        return Ok(());
+    }
     match refusal.kind() {
         ErrorKind::External | ErrorKind::OutOfMemory => Err(refusal),
         ErrorKind::Eof
@@ -224,9 +241,7 @@ fn make_room<'p, B: ParseBuf<'p>, E: Endian>(
     match reader.frames_shown(most, frames.is_empty()) {
         Ok(shown) => grow(frames, shown, most),
         Err(refusal) => {
-            let mut one = ReadCounter::new();
-            one.tick();
-            reader.count(one);
+            reader.count(ReadCounter::of(1));
             Err(stop_at(refusal, Stop::Done))
         }
     }

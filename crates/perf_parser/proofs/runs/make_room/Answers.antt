@@ -24,4 +24,4 @@ returns-in-Err-clause-stop g c = λ told.
     let new : Meaning = meaning source g.E.Endian.order c.count.new.self in
     let e = c.in-Err.ensures in
     let n = c.count.ensures in
-    stops_unshown old new c.in-Err.refusal c.stop_at.result c.stop_at.ensures.eof c.stop_at.ensures.other e.err told (ap (λ i. (source i).left) n.input ∙ e.same told) (omega (arith, n.reads, e.reads, c.tick.ensures, c.new-one.ensures))
+    stops_unshown old new c.in-Err.refusal c.stop_at.result c.stop_at.ensures.eof c.stop_at.ensures.other e.err told (ap (λ i. (source i).left) n.input ∙ e.same told) (omega (arith, n.reads, e.reads, c.of.ensures))
