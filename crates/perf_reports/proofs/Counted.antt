@@ -1,8 +1,8 @@
 -- What a counter has counted of the frames that it was handed.
-use Rattle.std.proofs.Common.{◌≡◌, ℕ, zero, suc, ◌+◌, ◌-◌, ◌<◌, ◌≤◌, Bool, true, false, List, [], ◌∷◌, ◌++◌, length, take, drop, map, arith, refl, sym, ◌∙◌, ap, subst, nat_lt, inl, inr, Ok, Err, None, Some, length-drop}
-use Rattle.std.specs.Prelude.{IsTrue, Option, Result, is_err, sum_by, count_by, nat_le}
+use Rattle.std.proofs.Common.{◌≡◌, ℕ, zero, suc, ◌+◌, ◌-◌, ◌*◌, ◌%◌, ◌^◌, ◌<◌, ◌≤◌, Bool, true, false, List, [], ◌∷◌, ◌++◌, length, take, drop, map, arith, refl, sym, ◌∙◌, ap, subst, nat_lt, inl, inr, Ok, Err, None, Some, length-drop}
+use Rattle.std.specs.Prelude.{IsTrue, IfOk, Option, Result, is_err, sum_by, count_by, count_ones, nat_le}
 use Rattle.std.proofs.lemmas.Bool.{cases_lt, lt-ltb, le-ltb, le-leb}
-use Rattle.std.proofs.lemmas.List.{length-append, length-take, length-take-le, append-nil, take-take, take-map, append_assoc}
+use Rattle.std.proofs.lemmas.List.{take_all, length-append, length-take, length-take-le, append-nil, take-take, take-map, append_assoc}
 use Rattle.std.proofs.lemmas.List.Sums.{sum_by-append}
 use Rattle.perf_base.specs.Errors.{kind_of}
 use Rattle.perf_base.specs.Header.{header_of}
@@ -22,17 +22,21 @@ use Rattle.perf_base.specs.Attribute.{attribute}
 use Rattle.perf_base.specs.Took.{took, quit, took_by_places}
 use Rattle.perf_base.specs.declared.sys.perf_event_attr.{perf_event_attr}
 use Rattle.perf_records.proofs.Saying.{took_says, quit_says}
-use Rattle.perf_base.specs.Layout.{Parts, layout, value}
+use Rattle.perf_base.specs.Layout.{Parts, done, mapped, layout, value}
+use Rattle.perf_base.proofs.Algebra.{then_inv}
+use Rattle.perf_base.proofs.Tables.{layout_run, run_layout}
+use Rattle.perf_sample_types.specs.Sample.{SampleValue, sample}
+use Rattle.perf_sample_types.proofs.LeastSamples.{short_sample}
 use Rattle.perf_base.specs.declared.refusal.Refusal.TheVariants.{NoRoomForId}
-use Rattle.perf_records.specs.Bodies.{body_of_type, unread}
+use Rattle.perf_records.specs.Bodies.{body, body_of_type, unread}
 use Rattle.perf_records.specs.FrameReadings.{metadata_in}
-use Rattle.perf_records.specs.Metadata.{MetadataValue}
+use Rattle.perf_records.specs.Metadata.{MetadataValue, id_length}
 use Rattle.perf_records.specs.RecordTypes.{type_of}
 use Rattle.perf_records.specs.Shown.{VisitsBytes}
 use Rattle.perf_records.specs.Visits.{VisitsAll}
-use Rattle.perf_records.specs.Answers.{FrameParts, body_length, split_behind, record_in, answer_behind, answer_of_frame, answers}
+use Rattle.perf_records.specs.Answers.{FrameParts, parts_of, body_length, split_behind, record_in, answer_behind, answer_of_frame, answers}
 use Rattle.perf_records.specs.Frames.{frame_length, first_frames, frames, behind_frames}
-use Rattle.perf_records.specs.Records.{RecordValue}
+use Rattle.perf_records.specs.Records.{RecordValue, sample_is}
 use Rattle.perf_records.specs.Sights.{Sight, whole, bad, sight_after, sight_in}
 use Rattle.perf_records.proofs.FrameList.{frames_short}
 use Rattle.perf_records.proofs.Handing.{finished}
@@ -42,7 +46,7 @@ use Rattle.perf_parser.specs.Runs.{EndsWith, LeavesWithin}
 use Rattle.perf_parser.specs.declared.runs.RunEnd.{RunEnd}
 use Rattle.perf_parser.proofs.Handing.{moved_by}
 use Rattle.perf_parser.proofs.Listing.{AreThere, frames_next, there_fits, there_next, behind_on, frames_fit}
-use Rattle.perf_reports.specs.Counting.{wrapped, frame_sum, counted, plus, sight_header, sight_answer, counted_sight, IsFault, EndsBy, CountsSight, CountsRun, RefusesSight, SumsAnswer, Adds, record_sum, attribute_in}
+use Rattle.perf_reports.specs.Counting.{wrapped, frame_sum, counted, plus, sight_header, sight_answer, counted_sight, IsRefused, IsFault, EndsBy, CountsSight, CountsRun, RefusesSight, SumsAnswer, Adds, record_sum, attribute_in}
 use Rattle.perf_reports.specs.declared.counting.FrameCounter.{FrameCounter}
 use Rattle.perf_reports.specs.declared.counts.Counts.{Counts}
 
@@ -112,6 +116,38 @@ counted_more xs ys =
   where
     made : {r r' f f' k k' : ℕ} → r ≡ r' → f ≡ f' → k ≡ k' → ◌≡◌ {A = Counts} (record { records = r; refused = f; checksum = k }) (record { records = r'; refused = f'; checksum = k' })
     made p q s = cc
+
+-- ---- samples that are too short for their fields
+
+-- whatever the refusal is, one refused frame is counted
+pub refused_counts : (h : perf_event_header) (says : Result RecordValue ErrorKind) → IsRefused says → counted ((h, says) ∷ []) ≡ counted ((h, Err Eof) ∷ [])
+refused_counts h (Ok value) refused = absurd refused
+refused_counts h (Err e) refused = refl
+
+-- no record is in them
+short_answer : (c : Configuration) (o : Order) (h : perf_event_header) (bytes : List ℕ) (v : RecordValue) → 8 ≤ h.size → length bytes ≡ body_length h → h.type_ ≡ 9 →
+    length bytes < 8 * count_ones (c.sample_type % 2 ^ 24) → answer_behind c o h bytes ≡ Ok v → ⊥
+short_answer c o h bytes v sized all_there is short answer =
+    let c' : Configuration = under_misc h.misc c in
+    let none : id_length c h.type_ ≡ 0 = ap (id_length c) is in
+    let small : nat_lt h.size 8 ≡ false = le-ltb h.size 8 sized in
+    let fits : nat_lt (length bytes) (body_length h) ≡ false = le-ltb (length bytes) (body_length h) (omega (arith, all_there)) in
+    let room : nat_lt (body_length h) (id_length c h.type_) ≡ false = le-ltb (body_length h) (id_length c h.type_) (omega (arith, none)) in
+    let all : take (body_length h) bytes ≡ bytes = take_all (body_length h) bytes (omega (arith, all_there)) in
+    let own : take (length bytes - id_length c h.type_) bytes ≡ bytes = take_all (length bytes - id_length c h.type_) bytes (omega (arith, none)) in
+    let split : split_behind c o h bytes ≡ Ok (parts_of c o h bytes) = rw (small, fits, room, all) refl in
+    let made : layout o (body c' 9) bytes ≡ Ok v =
+    sym (ap (λ b. layout o (body c' 9) b) own) ∙ sym (ap (λ ty. layout o (body c' ty) (take (length bytes - id_length c h.type_) bytes)) is) ∙ sym (ap (record_in c o h) split) ∙ answer in
+    let first = then_inv o (sample c') (λ s. done (sample_is s)) bytes v _ (layout_run o (mapped sample_is (sample c')) bytes v made) in
+    subst (λ (r : Result SampleValue ErrorKind). IfOk r (λ s. ⊥)) (run_layout o (sample c') bytes first.0 first.1 first.2).0 (short_sample c' o bytes short)
+
+pub short_refused : (c : Configuration) (o : Order) (h : perf_event_header) (bytes : List ℕ) → 8 ≤ h.size → length bytes ≡ body_length h → h.type_ ≡ 9 →
+    length bytes < 8 * count_ones (c.sample_type % 2 ^ 24) → IsRefused (answer_behind c o h bytes)
+short_refused c o h bytes sized all_there is short = go (answer_behind c o h bytes) refl
+  where
+    go : (says : Result RecordValue ErrorKind) → answer_behind c o h bytes ≡ says → IsRefused says
+    go (Ok v) answer = short_answer c o h bytes v sized all_there is short answer
+    go (Err e) answer = tt
 
 -- ---- frames that were handed out
 

@@ -1,6 +1,6 @@
 -- What is counted of the answers to frames.
 use Rattle.std.specs.Prelude.{ℕ, ◌+◌, ◌%◌, ◌^◌, List, [], ◌∷◌, length, sum, sum_by, count_by, unwrap_or}
-use Rattle.std.specs.Prelude.{Result, Ok, Err, is_err, Option, Some, None, Bool, true, false, IsTrue}
+use Rattle.std.specs.Prelude.{Result, Ok, Err, is_err, IfOk, Option, Some, None, Bool, true, false, IsTrue}
 use Rattle.std.specs.Prelude.{◌≡◌, take, drop}
 use Rattle.perf_base.specs.Attribute.{attribute}
 use Rattle.perf_base.specs.Configuration.{Configuration, plain, configured_by}
@@ -121,6 +121,10 @@ sight_header (bad h e) = h
 abbrev pub sight_answer : Configuration → Order → Sight → Result RecordValue ErrorKind
 sight_answer c o (whole h bytes lasting) = answer_behind c o h bytes
 sight_answer c o (bad h e) = Err e
+
+-- a frame is refused
+abbrev pub IsRefused : Result RecordValue ErrorKind → Type 0
+IsRefused says = IfOk says (λ value. ⊥)
 
 -- what is counted of it
 abbrev pub counted_sight : Configuration → Order → Sight → Counts

@@ -7,13 +7,20 @@ use Rattle.perf_base.specs.Errors.{error_text}
 use Rattle.perf_base.specs.declared.sys.perf_event_header.{perf_event_header}
 use Rattle.perf_base.specs.declared.error.ErrorKind.{ErrorKind}
 use Rattle.perf_base.specs.declared.error.ParseError.{ParseError}
-use Rattle.perf_records.specs.Records.{RecordValue}
+use Rattle.perf_records.specs.Records.{RecordValue, record_value, sample_is, sample_value}
+use Rattle.perf_reports.specs.declared.printing.Found.{Found}
+use Rattle.perf_reports.specs.declared.printing.Found.TheVariants as found
 use Rattle.perf_reports.specs.declared.printing.Report.{Report}
 use Rattle.perf_reports.specs.declared.printing.Report.TheVariants.{Tasks, Samples}
 use Rattle.perf_reports.specs.declared.printing.Stopped.{Stopped}
 use Rattle.perf_reports.specs.declared.printing.Stopped.TheVariants.{Memory, Frame, Output}
 use Rattle.perf_reports.specs.SampleLines as samples
 use Rattle.perf_reports.specs.TaskLines as tasks
+
+-- the record of what was found in a frame
+abbrev pub found_value : Found → RecordValue
+found_value (found.Record it) = record_value it.now
+found_value (found.Sample it) = sample_is (sample_value it.now)
 
 -- the line of a record in a report, if it has one
 abbrev pub line_in : Report → RecordValue → Option (List ℕ)

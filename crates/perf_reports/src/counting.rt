@@ -1,21 +1,23 @@
 //! Counting the frames that a run hands out.
 
-ghost use Rattle.std.specs.Prelude.{◌≡◌, [], None, IsTrue, false};
+ghost use Rattle.std.specs.Prelude.{◌≡◌, [], None, IsTrue, false, true};
 ghost use Rattle.perf_base.specs.Configured.{configuration_of, endian_of};
 ghost use Rattle.perf_base.specs.Refusals.{refusal_kind};
 ghost use Rattle.perf_buffers.specs.Words.{chunk_bytes};
 ghost use Rattle.perf_reader.specs.Reading.{of_layout};
 ghost use Rattle.perf_records.specs.Answers.{answer_behind};
 ghost use Rattle.perf_records.specs.RecordTypes.{type_of};
-ghost use Rattle.perf_reports.specs.Counting.{counted, CountsSight, EndsBy, RefusesSight, SumsAnswer};
+ghost use Rattle.perf_reports.specs.Counting.{counted, CountsSight, EndsBy, IsRefused, RefusesSight};
+ghost use Rattle.perf_reports.specs.Counting.{SumsAnswer};
 
 use crate::counts::Counts;
 use crate::record_sums::Sum;
 use perf_base::refusal::{Kept, ReadResult, Refusal};
 use perf_event_data::endian::Endian;
 use perf_event_data::parse::{ErrorKind, ParseConfig};
+use perf_event_data::sys::PERF_RECORD_SAMPLE;
 use perf_event_data::{BadFrame, Frame, FrameHandler, RunEnd};
-use perf_sample_types::sample::{Sample, empty_sample};
+use perf_sample_types::sample::{Sample, empty_sample, least_len};
 use std::alloc::Global;
 
 /// Counts the frames that it is handed. If memory is refused for one, it ends the run and does not
@@ -82,6 +84,15 @@ impl<'p> FrameCounter<'p> {
     }
 }
 
+// Whether a frame is a sample that has fewer bytes than its fields take at least, so that it is refused.
+#[inline]
+fn is_short_sample<E: Endian>(config: &ParseConfig<E>, frame: &Frame<'_, '_>) -> bool
+    ensures { result ≡ true → IsRefused (answer_behind (configuration_of config.now)
+        (E.order (endian_of config.now)) frame.now.header (chunk_bytes frame.now.rest)) }
+{
+    frame.header().type_ == PERF_RECORD_SAMPLE && frame.rest().len() < least_len(config)
+}
+
 // What the record of a frame adds to the checksum. A record of a type that the kernel does not have adds
 // nothing, and is not read.
 #[inline]
@@ -123,13 +134,19 @@ impl<'p, E: Endian> FrameHandler<'p, E> for FrameCounter<'p> {
     #[inline]
     fn frame(&mut self, config: &ParseConfig<E>, frame: Result<Frame<'_, 'p>, BadFrame>) -> bool {
         match frame {
-            Ok(frame) => match frame_sum(self.alloc, config, frame, &mut self.sample) {
-                Ok(sum) => {
-                    self.counts.add_record(frame.header(), sum);
-                    true
+            Ok(frame) => {
+                if is_short_sample(config, &frame) {
+                    self.counts.add_refused();
+                    return true;
                 }
-                Err(refusal) => self.refuse(refusal),
-            },
+                match frame_sum(self.alloc, config, frame, &mut self.sample) {
+                    Ok(sum) => {
+                        self.counts.add_record(frame.header(), sum);
+                        true
+                    }
+                    Err(refusal) => self.refuse(refusal),
+                }
+            }
             Err(_) => {
                 self.counts.add_refused();
                 true

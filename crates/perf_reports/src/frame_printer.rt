@@ -14,7 +14,7 @@ ghost use Rattle.perf_records.specs.Sights.{sight_of};
 ghost use Rattle.perf_reports.specs.FramePrinting.{PrintsAnswer, PrintsSight, frame_answer, sight_pair};
 ghost use Rattle.perf_reports.specs.Printing.{is_memory};
 
-use crate::printing::{Lines, Report, Stopped};
+use crate::printing::{Found, Lines, Report, Stopped};
 use perf_base::refusal::{Kept, Refusal};
 use perf_event_data::endian::Endian;
 use perf_event_data::parse::{ErrorKind, ParseConfig, ParseError};
@@ -147,9 +147,10 @@ impl<W: Write, E: Write> FramePrinter<W, E> {
         let mut sample = empty_sample();
         let (read, _reads) = frame.read(self.alloc, config, IntoSample, &mut sample);
         match read {
-            Ok(()) => self
-                .lines
-                .add_sample(&mut self.output, self.report, &sample),
+            Ok(()) => {
+                let found = Found::Sample(&sample);
+                self.lines.add(&mut self.output, self.report, found)
+            }
             Err(refusal) => self.refuse(refusal),
         }
     }
@@ -167,7 +168,10 @@ impl<W: Write, E: Write> FramePrinter<W, E> {
     {
         let (read, _reads) = frame.read(self.alloc, config, AsRecord, &mut ());
         match read {
-            Ok(record) => self.lines.add(&mut self.output, self.report, &record),
+            Ok(record) => {
+                let found = Found::Record(&record);
+                self.lines.add(&mut self.output, self.report, found)
+            }
             Err(refusal) => self.refuse(refusal),
         }
     }

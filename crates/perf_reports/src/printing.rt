@@ -3,10 +3,10 @@
 ghost use Rattle.std.specs.Prelude.{◌≡◌, ◌≤◌, ◌⊎◌, ◌++◌, ℕ, false, IsTrue, [], take, length, string_bytes};
 ghost use Rattle.std.specs.Prelude.{OnOk, IfOk, IfErr, if◌then◌else◌};
 ghost use Rattle.std.specs.Io.KnownBytes.{Appends};
-ghost use Rattle.perf_records.specs.Records as values;
 ghost use Rattle.perf_parser.specs.Words.{buffer_of, config_of, meaning};
 ghost use Rattle.perf_reports.specs.FramePrinting.{PrintsFirst, PrintsRun, answers_of};
-ghost use Rattle.perf_reports.specs.Printing.{printed, printed_answers, Grows, GrowsWithin, is_memory};
+ghost use Rattle.perf_reports.specs.Printing.{found_value, printed, printed_answers, is_memory};
+ghost use Rattle.perf_reports.specs.Printing.{Grows, GrowsWithin};
 
 use crate::frame_printer::FramePrinter;
 use crate::{samples, tasks};
@@ -38,35 +38,35 @@ pub enum Report {
 }
 
 impl Report {
-    // Appends the line of a record and a line feed behind it. Of records that it does not tell of it
+    // Appends the line of what was found and a line feed after it. Of what it does not tell of it
     // appends nothing.
-    fn push_line(self, text: &mut String, found: &Record) -> Result<(), AllocError>
+    fn push_line(self, text: &mut String, found: Found<'_, '_>) -> Result<(), AllocError>
         ensures { OnOk result (string_bytes text.new
-            ≡ string_bytes text.old ++ printed self (values.record_value found.now)) }
+            ≡ string_bytes text.old ++ printed self (found_value found.entry)) }
     {
-        let told = match self {
-            Report::Tasks => tasks::push_line(text, found)?,
-            Report::Samples => samples::push_line(text, found)?,
+        let told = match (self, found) {
+            (Report::Tasks, Found::Record(record)) => tasks::push_line(text, record)?,
+            (Report::Tasks, Found::Sample(_)) => false,
+            (Report::Samples, Found::Record(record)) => samples::push_line(text, record)?,
+            (Report::Samples, Found::Sample(sample)) => {
+                samples::push_sample(text, sample)?;
+                true
+            }
         };
         if told {
             text.push_str("\n")?;
         }
         Ok(())
     }
+}
 
-    // The same of a sample that is in no record.
-    fn push_sample(self, text: &mut String, sample: &Sample) -> Result<(), AllocError>
-        ensures { OnOk result (string_bytes text.new ≡ string_bytes text.old
-            ++ printed self (values.sample_is (values.sample_value sample.now))) }
-    {
-        match self {
-            Report::Tasks => Ok(()),
-            Report::Samples => {
-                samples::push_sample(text, sample)?;
-                text.push_str("\n")
-            }
-        }
-    }
+// What was found in a frame.
+#[derive(Copy, Clone)]
+pub(crate) enum Found<'a, 'p> {
+    // Its record.
+    Record(&'a Record<'p>),
+    // Its sample, which is in no record.
+    Sample(&'a Sample<'p>),
 }
 
 // Why no more could be printed.
@@ -120,54 +120,27 @@ impl Lines {
         }
     }
 
-    // Makes the line of a record, if it has one, and gathers it. The lines before it go out first if
-    // memory is refused, or if they would be too many with it.
+    // Makes the line of what was found, if it has one, and gathers it. The lines before it go out first
+    // if memory is refused, or if they would be too many with it.
     pub(crate) fn add<W: Write>(
         &mut self,
         output: &mut W,
         report: Report,
-        found: &Record,
+        found: Found<'_, '_>,
     ) -> Result<(), Stopped>
         ensures grown { OnOk result (Grows (W.contents output.old) (W.contents output.new)
             (string_bytes self.old.gathered) (string_bytes self.new.gathered)
-            (printed report (values.record_value found.now))) }
+            (printed report (found_value found.entry))) }
         ensures bound { OnOk result ((length (string_bytes self.new.gathered) ≤ GATHERED)
-            ⊎ (string_bytes self.new.gathered ≡ printed report (values.record_value found.now))) }
+            ⊎ (string_bytes self.new.gathered ≡ printed report (found_value found.entry))) }
         ensures part { GrowsWithin (W.contents output.old) (W.contents output.new)
-            (string_bytes self.old.gathered ++ printed report (values.record_value found.now)) }
+            (string_bytes self.old.gathered ++ printed report (found_value found.entry)) }
         ensures refused { IfErr result (λ stopped. IsTrue (is_memory stopped) →
             Appends (W.contents output.old) (W.contents output.new)
             (string_bytes self.old.gathered)) }
     {
         self.next.clear();
         match report.push_line(&mut self.next, found) {
-            Ok(()) => self.gather(output),
-            Err(error) => Err(self.stop(output, Stopped::Memory(error))),
-        }
-    }
-
-    // The same of the line of a sample that is in no record.
-    pub(crate) fn add_sample<W: Write>(
-        &mut self,
-        output: &mut W,
-        report: Report,
-        sample: &Sample,
-    ) -> Result<(), Stopped>
-        ensures grown { OnOk result (Grows (W.contents output.old) (W.contents output.new)
-            (string_bytes self.old.gathered) (string_bytes self.new.gathered)
-            (printed report (values.sample_is (values.sample_value sample.now)))) }
-        ensures bound { OnOk result ((length (string_bytes self.new.gathered) ≤ GATHERED)
-            ⊎ (string_bytes self.new.gathered
-            ≡ printed report (values.sample_is (values.sample_value sample.now)))) }
-        ensures part { GrowsWithin (W.contents output.old) (W.contents output.new)
-            (string_bytes self.old.gathered
-            ++ printed report (values.sample_is (values.sample_value sample.now))) }
-        ensures refused { IfErr result (λ stopped. IsTrue (is_memory stopped) →
-            Appends (W.contents output.old) (W.contents output.new)
-            (string_bytes self.old.gathered)) }
-    {
-        self.next.clear();
-        match report.push_sample(&mut self.next, sample) {
             Ok(()) => self.gather(output),
             Err(error) => Err(self.stop(output, Stopped::Memory(error))),
         }

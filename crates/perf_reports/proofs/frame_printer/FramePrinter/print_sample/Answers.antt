@@ -14,5 +14,5 @@ returns-in-Ok g c =
     let bytes = chunk_bytes f.rest in
     let now = c.read-read.new.state in
     let said = sample_said f.header settings order bytes (lasts f.rest) _ c.read-read.result.1 now (c.read-read.ensures.answer c.requires) c.in-Ok.is in
-    let add = c.add_sample.ensures in
-    adds_line g.W.Write.contents g.E.Write.contents c.args.self.now _ f.header (answer_behind settings order f.header bytes) (sample_is (sample_value now)) c.add_sample.result said refl refl refl add.grown add.part add.refused
+    let add = c.add.ensures in
+    adds_line g.W.Write.contents g.E.Write.contents c.args.self.now _ f.header (answer_behind settings order f.header bytes) (sample_is (sample_value now)) c.add.result said refl refl refl add.grown add.part add.refused

@@ -1,0 +1,15 @@
+use Rattle.std.proofs.Common.{◌≡◌, ◌<◌, length, ap, sym, ◌∙◌, arith}
+use Rattle.std.proofs.lemmas.Bool.{ltb-true}
+use Rattle.perf_base.specs.Configuration.{Configuration}
+use Rattle.perf_base.specs.Configured.{configuration_of, endian_of}
+use Rattle.perf_buffers.specs.Words.{chunk_bytes}
+use Rattle.perf_reports.proofs.Counted.{short_refused}
+use Rattle.perf_reports.proofs.counting.is_short_sample.Goals as goal
+
+pub returns-then-header-eq-PERF_RECORD_SAMPLE : goal.returns-then-header-eq-PERF_RECORD_SAMPLE
+returns-then-header-eq-PERF_RECORD_SAMPLE g c = λ is.
+    let f = c.args.frame.now in
+    let settings : Configuration = configuration_of c.args.config.now in
+    let rest : length c.rest.result.now ≡ length (chunk_bytes f.rest) = ap length c.rest.ensures in
+    let less : length c.rest.result.now < c.least_len.result = ltb-true _ _ is in
+    short_refused settings (g.E.Endian.order (endian_of c.args.config.now)) f.header (chunk_bytes f.rest) f.sized f.whole (sym (ap (λ h. h.type_) c.header.ensures) ∙ c.if-header-eq-PERF_RECORD_SAMPLE.true) (omega (arith, less, rest, c.least_len.ensures.value))
