@@ -5,7 +5,8 @@
 //! reading ended. With `attr` the input begins with an attribute, which says how the records behind
 //! it are read. The exit status is 0 where every record could be read, 1 where one was refused or
 //! the input ends inside a header, 2 where the attribute was refused and for other words, and 3
-//! where reading or writing failed or memory was refused.
+//! where reading or writing failed or memory was refused. Why there are fewer lines than records goes
+//! to standard error if the status is 2 or 3.
 #![tactic(auto)]
 
 use perf_event_data::endian::{Big, Endian, Little, Native};
@@ -36,7 +37,22 @@ fn main(rt: HostRuntime) -> ExitCode {
         OrderName::Big => run_command(&rt, Big, command),
         OrderName::Native => run_command(&rt, Native, command),
     };
+    if let Some(why) = reason(outcome) {
+        let _ = rt.eprintln(why);
+    }
     ExitCode::from(outcome.status())
+}
+
+// Why there are fewer lines than records, if there are.
+fn reason(outcome: Outcome) -> Option<&'static str> {
+    match outcome {
+        Outcome::Clean | Outcome::Refused => None,
+        Outcome::BadAttr => Some("perfrec: the input does not begin with an attribute"),
+        Outcome::Faulted => Some(
+            "perfrec: the input cannot be read to its end, as the last line says",
+        ),
+        Outcome::Stopped => Some("perfrec: the output cannot be written, or memory is refused"),
+    }
 }
 
 // The words behind the program's name.
