@@ -1,0 +1,3 @@
+pub mod Mark
+pub mod Sampling
+pub mod Span

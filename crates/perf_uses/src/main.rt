@@ -1,0 +1,236 @@
+//! Prints what the uses of the library make of a recording, and of a few bytes in this file.
+//!
+//! `docs/CALLING.md` explains the uses. Standard input is `examples/recording.stream`. What must be
+//! printed of it was made by `examples/uses.sh` of what `perf` itself reported of the recording. The
+//! last ten lines are worked out by hand from the bytes below.
+#![tactic(auto)]
+
+mod by_hand;
+mod call_stacks;
+mod own_bytes;
+mod own_mark;
+mod own_order;
+mod own_ring;
+mod own_span;
+mod sample_counter;
+mod sample_times;
+mod stamped;
+mod with_attribute;
+
+use crate::by_hand::{mapping_after, next_header};
+use crate::call_stacks::call_stacks;
+use crate::own_bytes::Received;
+use crate::own_mark::{Mark, mark_after, mark_in};
+use crate::own_order::HighWordFirst;
+use crate::own_ring::Ring;
+use crate::own_span::Span;
+use crate::sample_counter::count_samples;
+use crate::sample_times::sample_times;
+use crate::stamped::Stamped;
+use crate::with_attribute::open_recording;
+use anyhow::Result;
+use perf_event_data::endian::{Endian, Little};
+use perf_event_data::parse::{ParseBuf, ParseConfig, Parser};
+use perf_event_data::{Mmap2, Record, RecordVisitor, frames, read_records};
+use std::io::Read;
+
+// Prints the times of samples.
+fn print_times(
+    rt: &(impl AllocGlobal + Print),
+    config: &ParseConfig<Little>,
+    records: &[u8],
+) -> Result<()> {
+    for time in sample_times(rt.alloc(), config, records)?.iter() {
+        println!(rt; "sample at {time}")?;
+    }
+    Ok(())
+}
+
+// Prints how many frames and how many samples a buffered reader gives.
+fn print_counts(rt: &(impl AllocGlobal + Print), recording: &[u8]) -> Result<()> {
+    let (frames, samples) = count_samples(rt.alloc(), recording)?;
+    println!(rt; "{frames} frames, {samples} samples")?;
+    Ok(())
+}
+
+// Prints each call chain, and of how many samples it is.
+fn print_stacks(
+    rt: &(impl AllocGlobal + Print),
+    config: &ParseConfig<Little>,
+    records: &[u8],
+) -> Result<()> {
+    for (stack, count) in call_stacks(rt.alloc(), config, records)?.iter() {
+        println!(rt; "{count} {stack}")?;
+    }
+    Ok(())
+}
+
+// Prints which file a mapping is of.
+fn print_mapping(rt: &impl Print, mapping: &Mmap2<'_>) -> Result<()> {
+    let file = mapping.filename_os().unwrap_or("?");
+    match mapping.build_id() {
+        Some(id) => println!(rt; "{} maps {file} of build id {id:?}", mapping.pid)?,
+        None => println!(rt; "{} maps {file}", mapping.pid)?,
+    }
+    Ok(())
+}
+
+// Prints the mappings that are left in a buffer.
+fn print_mappings<'p, B: ParseBuf<'p>>(
+    rt: &impl Print,
+    parser: &mut Parser<B, Little>,
+) -> Result<()> {
+    for _ in 0..u64::MAX {
+        let Some(header) = next_header(parser)? else {
+            break;
+        };
+        if let Some(mapping) = mapping_after(parser, header)? {
+            print_mapping(rt, &mapping)?;
+        }
+    }
+    Ok(())
+}
+
+// Prints when tasks got their names, by a visitor.
+fn print_names<'p, B: ParseBuf<'p>>(
+    rt: &(impl AllocGlobal + Print),
+    parser: &mut Parser<B, Little>,
+) -> Result<()> {
+    for _ in 0..u64::MAX {
+        let Some(header) = next_header(parser)? else {
+            break;
+        };
+        let visitor = Stamped(RecordVisitor::new(rt.alloc()));
+        let (metadata, record) = parser.parse_record_with_header(visitor, header)?;
+        if let Record::Comm(comm) = record? {
+            let time = metadata.sample_id().time().unwrap_or(0);
+            println!(rt; "{time} {} is {}", comm.tid, comm.comm_os().unwrap_or("?"))?;
+        }
+    }
+    Ok(())
+}
+
+// Prints when tasks ended, by frames.
+fn print_ends(
+    rt: &(impl AllocGlobal + Print),
+    config: &ParseConfig<Little>,
+    records: &[u8],
+) -> Result<()> {
+    for frame in frames(records, Little) {
+        let Ok(frame) = frame else { continue };
+        if let Record::Exit(exit) = frame.record(rt.alloc(), config)? {
+            let metadata = frame.metadata(rt.alloc(), config)?;
+            let time = metadata.sample_id().time().unwrap_or(0);
+            println!(rt; "{time} {} ended", exit.tid)?;
+        }
+    }
+    Ok(())
+}
+
+// An MMAP2 record of process 5: 0x2000 bytes at 0x1000, of a file with a build id of four bytes,
+// which bit 14 of its `misc` (0x4002) announces.
+const MAPPING: &[u8] = b"\x0A\0\0\0\x02\x40\x50\0\x05\0\0\0\x05\0\0\0\
+    \0\x10\0\0\0\0\0\0\0\x20\0\0\0\0\0\0\0\0\0\0\0\0\0\0\
+    \x04\0\0\0\xDE\xAD\xBE\xEF\0\0\0\0\0\0\0\0\0\0\0\0\0\0\0\0\
+    \x05\0\0\0\x02\0\0\0/bin/a\0\0";
+
+// A mark of 32 bytes, LOST_SAMPLES, and a mark of 24 bytes: marks are of type 100.
+const MARKS: &[u8] = b"\x64\0\0\0\0\0\x20\0\x07\0\0\0\0\x01\0\0\0\0\0\0start\0\0\0\0\0\0\0\
+    \x0D\0\0\0\0\0\x10\0\x08\0\0\0\0\0\0\0\
+    \x64\0\0\0\0\0\x18\0\x08\0\0\0\x05\0\0\0\0\0\0\0stop";
+
+// LOST_SAMPLES whose number has its higher half first: 0x10008 samples were lost.
+const SWAPPED: &[u8] = b"\x0D\0\0\0\0\0\x10\0\0\0\0\0\x08\0\x01\0";
+
+// A ring that is read from byte 12 on: 8 samples were lost, and then 9. The second record has its
+// first four bytes at the end of the ring, and the others at its beginning.
+const RING: &[u8] = b"\0\0\x10\0\x09\0\0\0\0\0\0\0\
+    \x0D\0\0\0\0\0\x10\0\x08\0\0\0\0\0\0\0\x0D\0\0\0";
+
+// The body of a mark.
+const BODY: &[u8] = b"\x09\0\0\0\x01\0\0\0\0\0\0\0end\0";
+
+// Prints a mark.
+fn print_mark(rt: &(impl AllocGlobal + Print), mark: &Mark<'_>) -> Result<()> {
+    let name = String::from_utf8_lossy(rt.alloc(), mark.name.as_slice())?;
+    println!(rt; "mark {} of {}: {name}", mark.id, mark.value)?;
+    Ok(())
+}
+
+// Prints the marks among some frames.
+fn print_marks(rt: &(impl AllocGlobal + Print), bytes: &[u8]) -> Result<()> {
+    let mut parser = Parser::new(rt.alloc(), bytes, ParseConfig::<Little>::default());
+    for _ in 0..u64::MAX {
+        let Some(header) = next_header(&mut parser)? else {
+            break;
+        };
+        if let Some(mark) = mark_after(&mut parser, header)? {
+            print_mark(rt, &mark)?;
+        }
+    }
+    Ok(())
+}
+
+// A span of version 2, and one of version 3, which is refused.
+const SPANS: &[u8] = b"\x02\0\x64\0\0\0\0\0\0\0\x07\0\0\0\0\0\0\0\x04\0load\x03\0";
+
+// Prints the spans at the beginning of some bytes.
+fn print_spans(rt: &(impl AllocGlobal + Print), bytes: &[u8]) -> Result<()> {
+    let mut parser = Parser::new(rt.alloc(), bytes, ParseConfig::<Little>::default());
+    for _ in 0..2 {
+        match parser.parse::<Span>() {
+            Ok(span) => {
+                let label = String::from_utf8_lossy(rt.alloc(), span.label.as_slice())?;
+                println!(rt; "{label} from {} for {}", span.begun, span.lasted)?;
+            }
+            Err(error) => println!(rt; "{error}")?,
+        }
+    }
+    Ok(())
+}
+
+// Prints how many samples were lost.
+fn print_losses<'p, B: ParseBuf<'p>, E: Endian>(
+    rt: &impl Print,
+    parser: &mut Parser<B, E>,
+) -> Result<()> {
+    let run = read_records(parser, 10);
+    for (_, record) in run.frames.iter() {
+        if let Ok(Record::LostSamples(record)) = record {
+            println!(rt; "{} lost", record.lost)?;
+        }
+    }
+    Ok(())
+}
+
+// Prints what a recording contains.
+fn print_recording(rt: &(impl AllocGlobal + Print), recording: &[u8]) -> Result<()> {
+    let mut parser = open_recording(rt.alloc(), recording)?;
+    let records = parser.parse_rest()?;
+    print_times(rt, parser.config(), records.as_slice())?;
+    print_counts(rt, recording)?;
+    print_stacks(rt, parser.config(), records.as_slice())?;
+    print_mappings(rt, &mut open_recording(rt.alloc(), recording)?)?;
+    print_names(rt, &mut open_recording(rt.alloc(), recording)?)?;
+    print_ends(rt, parser.config(), records.as_slice())
+}
+
+fn main(rt: HostRuntime) -> Result<()> {
+    let mut recording = Vec::new(rt.alloc());
+    rt.stdin().read_to_end(&mut recording)?;
+    print_recording(&rt, recording.as_slice())?;
+
+    let plain = ParseConfig::<Little>::default();
+    print_mappings(&rt, &mut Parser::new(rt.alloc(), MAPPING, plain))?;
+    print_marks(&rt, MARKS)?;
+    print_mark(&rt, &mark_in(rt.alloc(), BODY)?)?;
+    print_spans(&rt, SPANS)?;
+    let swapped = ParseConfig::<Little>::default().with_endian(HighWordFirst);
+    print_losses(&rt, &mut Parser::new(rt.alloc(), SWAPPED, swapped))?;
+    let ring = Ring::new(&RING[12..], &RING[..12]);
+    let plain = ParseConfig::<Little>::default();
+    print_losses(&rt, &mut Parser::new(rt.alloc(), ring, plain))?;
+    let received = Received::new(Vec::from_slice(rt.alloc(), &RING[12..28])?);
+    let plain = ParseConfig::<Little>::default();
+    print_losses(&rt, &mut Parser::new(rt.alloc(), received, plain))
+}

@@ -1,0 +1,42 @@
+#!/usr/bin/env bash
+# What crates/perf_uses prints of recording.stream, made of what perf reported of it.
+#
+#     examples/uses.sh > lines
+#
+# The program prints ten lines more, of bytes in its source, which are worked out by hand.
+set -eu
+cd "$(dirname "$0")"
+
+# The time of each sample.
+awk '{ print "sample at " $1 }' recording.samples
+
+# How many records there are, and how many of them are samples.
+awk '/TOTAL events:/ { total = $3 } /SAMPLE events:/ { samples = $3 }
+    END { print total " frames, " samples " samples" }' recording.stats.txt
+
+# Each call chain, the outermost call first, and of how many samples it is.
+awk '{
+    stack = ""
+    for (i = NF; i > 6; i--) {
+        if ($i ~ /^0x/) stack = stack (stack == "" ? "" : ";") $i
+    }
+    print stack
+}' recording.samples | LC_ALL=C sort | uniq -c | awk '{ print $1 " " $2 }'
+
+# The file of each mapping.
+awk '$1 == "mmap2" { print $2 " maps " $NF }' recording.expected
+
+# When tasks got their names, and when they ended. A time is in seconds there, with nine digits after the point.
+nanoseconds='function nanoseconds(seconds) {
+    sub(/:$/, "", seconds)
+    sub(/\./, "", seconds)
+    return sprintf("%.0f", seconds)
+}'
+awk "$nanoseconds"' $5 ~ /^PERF_RECORD_COMM:?$/ {
+    split($NF, parts, /[:\/]/)
+    print nanoseconds($4) " " parts[3] " is " parts[1]
+}' recording.script.txt
+awk "$nanoseconds"' $5 ~ /^PERF_RECORD_EXIT/ {
+    split($5, parts, /[(:)]/)
+    print nanoseconds($4) " " parts[3] " ended"
+}' recording.script.txt
