@@ -1,4 +1,4 @@
--- A flag of one bit is in a set exactly where that bit is set.
+-- A one-bit flag is in a set if and only if its bit is set.
 use Rattle.std.proofs.Common.{◌≡◌, ℕ, ◌*◌, ◌/◌, ◌%◌, ◌^◌, ◌<◌, ◌==◌, arith}
 use Rattle.std.specs.Int.RustNames.{bit_and}
 use Rattle.std.proofs.lemmas.Nat.{pow_pos}
@@ -7,7 +7,7 @@ use Rattle.std.proofs.lemmas.Bool.Decides.{nat_tests}
 use Rattle.std.proofs.lemmas.Grind.{common_steps}
 use Rattle.perf_words.specs.Bits.{has_bit}
 
--- a bit at its place is that place exactly where the bit is 1
+-- masking the bit gives its place if and only if the bit is 1
 pub bit_in_place : (b p : ℕ) → 0 < p → b < 2 → (b * p == p) ≡ (b == 1)
 bit_in_place b p above small = grind (arith, nat_tests, common_steps)
 

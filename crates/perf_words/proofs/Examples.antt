@@ -1,4 +1,4 @@
--- Words of the kernel, read by hand: what their fields are.
+-- Words of the kernel, decoded by hand: the values of their fields.
 use Rattle.std.proofs.Common.{◌≡◌, true, false, refl}
 use Rattle.perf_words.specs.DataSource.{mem_op_of, mem_lvl_of, mem_snoop_of, mem_lock_of, mem_dtlb_of, mem_lvl_num_of, mem_remote_of, mem_blk_of, mem_hops_of, snoop_of}
 use Rattle.perf_words.specs.Branch.{mispred_of, predicted_of, in_tx_of, abort_of, cycles_of, type_of}
@@ -20,7 +20,7 @@ record LoadIsRead : Type 0 where
 load_is_read : LoadIsRead
 load_is_read = record { operation = refl; level = refl; snoop = refl; lock = refl; translation = refl; level_number = refl; remote = refl; block = refl; hops = refl }
 
--- A branch that was predicted wrongly, five cycles after the one before; its kind is not known.
+-- A branch that was mispredicted, five cycles after the previous one; its kind is unknown.
 record BranchIsRead : Type 0 where
   mispredicted : mispred_of 0x51 ≡ true
   predicted : predicted_of 0x51 ≡ false
@@ -32,11 +32,11 @@ record BranchIsRead : Type 0 where
 branch_is_read : BranchIsRead
 branch_is_read = record { mispredicted = refl; predicted = refl; in_transaction = refl; aborted = refl; cycles = refl; kind = refl }
 
--- the same where it was a return
+-- the same branch as a return
 return_is_read : type_of 0x600051 ≡ 6
 return_is_read = refl
 
--- two fields with every bit set fill their seven places and no other
+-- two fields with every bit set fill their seven bits and no others
 snoop_is_cut : snoop_of 0xffffffffffffffff 0xffffffffffffffff ≡ 0xc000f80000
 snoop_is_cut = refl
 

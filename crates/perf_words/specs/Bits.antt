@@ -1,8 +1,8 @@
 -- Bit fields of a word, as perf_event_open(2) writes them: `cycles : 16` is 16 bits from the lowest
--- that is not yet taken. Bits are counted from the lowest, whatever the machine.
+-- bit not yet taken. Bits are counted from the lowest, on every machine.
 use Rattle.std.specs.Prelude.{ℕ, ◌/◌, ◌%◌, ◌^◌, ◌==◌, Bool}
 
--- the number in `width` bits of a word, of which the lowest is bit `at`
+-- the number in `width` bits of a word, the lowest of which is bit `at`
 abbrev pub bit_field : (word at width : ℕ) → ℕ
 bit_field word at width = word / 2 ^ at % 2 ^ width
 

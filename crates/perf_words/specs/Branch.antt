@@ -1,19 +1,19 @@
--- A branch that the processor recorded, `struct perf_branch_entry` of perf_event.h: where it came
+-- A branch recorded by the processor, `struct perf_branch_entry` of perf_event.h: where it came
 -- from, where it went, and a word of bit fields. Bits from 24 on have no field here.
 use Rattle.std.specs.Prelude.{ℕ, Bool}
 use Rattle.perf_words.specs.Bits.{bit_field, has_bit}
 
--- a branch by its three words
+-- a branch as its three words
 pub record Branch : Type 0 where
   pub from : ℕ
   pub to : ℕ
   pub word : ℕ
 
--- it was predicted wrongly
+-- it was mispredicted
 abbrev pub mispred_of : ℕ → Bool
 mispred_of word = has_bit word 0
 
--- it was predicted rightly
+-- it was predicted correctly
 abbrev pub predicted_of : ℕ → Bool
 predicted_of word = has_bit word 1
 
@@ -25,10 +25,10 @@ in_tx_of word = has_bit word 2
 abbrev pub abort_of : ℕ → Bool
 abort_of word = has_bit word 3
 
--- cycles since the branch before
+-- cycles since the previous branch
 abbrev pub cycles_of : ℕ → ℕ
 cycles_of word = bit_field word 4 16
 
--- what kind of branch it was
+-- the kind of branch
 abbrev pub type_of : ℕ → ℕ
 type_of word = bit_field word 20 4

@@ -2,7 +2,7 @@
 use Rattle.std.specs.Prelude.{ℕ, ◌+◌, ◌*◌, ◌%◌, ◌^◌, Bool}
 use Rattle.perf_words.specs.Bits.{bit_field, has_bit}
 
--- what the instruction does
+-- what the instruction did
 abbrev pub mem_op_of : ℕ → ℕ
 mem_op_of word = bit_field word 0 5
 
@@ -10,11 +10,11 @@ mem_op_of word = bit_field word 0 5
 abbrev pub mem_lvl_of : ℕ → ℕ
 mem_lvl_of word = bit_field word 5 14
 
--- both snoop fields as one number, each at the place that it has in a data source
+-- both snoop fields as one number, each at its position in a data source
 abbrev pub snoop_of : (snoop snoopx : ℕ) → ℕ
 snoop_of snoop snoopx = (snoop % 32) * 2 ^ 19 + (snoopx % 4) * 2 ^ 38
 
--- what was found in other caches: the snoop fields, which stay at their places
+-- what was found in other caches: the snoop fields, kept at their positions
 abbrev pub mem_snoop_of : ℕ → ℕ
 mem_snoop_of word = bit_field word 19 5 * 2 ^ 19 + bit_field word 38 2 * 2 ^ 38
 
@@ -38,6 +38,6 @@ mem_remote_of word = has_bit word 37
 abbrev pub mem_blk_of : ℕ → ℕ
 mem_blk_of word = bit_field word 40 3
 
--- how far the data came: 0 says nothing, and n is PERF_MEM_HOPS_(n - 1)
+-- how far the data came: 0 is not given, and n is PERF_MEM_HOPS_(n - 1)
 abbrev pub mem_hops_of : ℕ → ℕ
 mem_hops_of word = bit_field word 43 3

@@ -1,8 +1,8 @@
--- The numbers that perf_event.h names: for each kind of number a table with a row for each name,
--- without the kernel's prefix. Numbers that have no row are values too.
+-- The numbers that perf_event.h names: for each kind of number a table with a row per name, without
+-- the kernel's prefix. Numbers without a row are valid values too.
 use Rattle.std.specs.Prelude.{ℕ, List, [], ◌∷◌, codes}
 
--- a row for each name, with its number
+-- a row per name, with its number
 abbrev pub NumberTable : Type 0
 NumberTable = List (List ℕ × ℕ)
 
@@ -13,7 +13,7 @@ branch_types =
     (codes "CALL", 4) ∷ (codes "IND_CALL", 5) ∷ (codes "RET", 6) ∷ (codes "SYSCALL", 7) ∷
     (codes "COND_CALL", 9) ∷ (codes "COND_RET", 10) ∷ []
 
--- formats of traces, `PERF_AUX_FLAG_CORESIGHT_FORMAT_*` without the eight bits below
+-- trace formats, `PERF_AUX_FLAG_CORESIGHT_FORMAT_*` shifted down by eight bits
 abbrev pub aux_pmu_format_types : NumberTable
 aux_pmu_format_types = (codes "CORESIGHT", 0) ∷ (codes "CORESIGHT_RAW", 1) ∷ []
 
@@ -28,7 +28,7 @@ mem_level_nums =
 abbrev pub bpf_event_types : NumberTable
 bpf_event_types = (codes "UNKNOWN", 0) ∷ (codes "PROG_LOAD", 1) ∷ (codes "PROG_UNLOAD", 2) ∷ []
 
--- what a symbol of the kernel is, `PERF_RECORD_KSYMBOL_TYPE_*`
+-- the kind of a kernel symbol, `PERF_RECORD_KSYMBOL_TYPE_*`
 abbrev pub ksymbol_types : NumberTable
 ksymbol_types = (codes "UNKNOWN", 0) ∷ (codes "BPF", 1) ∷ (codes "OOL", 2) ∷ []
 

@@ -1,4 +1,4 @@
--- The bits of a set of flags, as the number that the kernel writes: what a clause sees of a set.
+-- The bits of a set of flags, as the number that the kernel writes: a set as contracts see it.
 use Rattle.std.specs.Prelude.{ℕ}
 use Rattle.perf_words.specs.declared.flags.SampleFlags.{SampleFlags}
 use Rattle.perf_words.specs.declared.flags.ReadFormat.{ReadFormat}

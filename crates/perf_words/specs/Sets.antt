@@ -1,13 +1,13 @@
 -- The flags of perf_event_open(2) and of the kernel's perf_event.h: for each set a table with a row
--- for each flag, its name without the kernel's prefix and its bits.
+-- per flag, its name without the kernel's prefix and its bits.
 use Rattle.std.specs.Prelude.{ℕ, ◌+◌, ◌*◌, ◌^◌, List, [], ◌∷◌, codes, if◌then◌else◌}
 use Rattle.perf_words.specs.Bits.{has_bit}
 
--- a row for each flag: its name and its bits
+-- a row per flag: its name and its bits
 abbrev pub FlagTable : Type 0
 FlagTable = List (List ℕ × ℕ)
 
--- the fields that a sample may have, `PERF_SAMPLE_*`: a flag a bit
+-- the fields that a sample may have, `PERF_SAMPLE_*`: one bit per flag
 abbrev pub sample_flags_table : FlagTable
 sample_flags_table =
     (codes "IP", 2 ^ 0) ∷
@@ -37,7 +37,7 @@ sample_flags_table =
     (codes "WEIGHT_STRUCT", 2 ^ 24) ∷
     []
 
--- what a read gives beside a counter's value, `PERF_FORMAT_*`
+-- what a read returns besides a counter's value, `PERF_FORMAT_*`
 abbrev pub read_format_table : FlagTable
 read_format_table =
     (codes "TOTAL_TIME_ENABLED", 1) ∷
@@ -47,7 +47,7 @@ read_format_table =
     (codes "LOST", 16) ∷
     []
 
--- the flags of an AUX record, `PERF_AUX_FLAG_*`; the last is the place of a number
+-- the flags of an AUX record, `PERF_AUX_FLAG_*`; the last is the mask of a number
 abbrev pub aux_flags_table : FlagTable
 aux_flags_table =
     (codes "TRUNCATED", 1) ∷
@@ -63,7 +63,7 @@ ksymbol_flags_table =
     (codes "UNREGISTER", 1) ∷
     []
 
--- what a memory instruction does, `PERF_MEM_OP_*`
+-- what a memory instruction did, `PERF_MEM_OP_*`
 abbrev pub mem_op_table : FlagTable
 mem_op_table =
     (codes "NA", 1) ∷
@@ -111,7 +111,7 @@ mem_dtlb_table =
     (codes "OS", 64) ∷
     []
 
--- more of a snoop, as bits of its own field, `PERF_MEM_SNOOPX_*`
+-- more of a snoop, as bits of their own field, `PERF_MEM_SNOOPX_*`
 abbrev pub mem_snoop_x_table : FlagTable
 mem_snoop_x_table =
     (codes "FWD", 1) ∷
@@ -126,7 +126,7 @@ mem_blk_table =
     (codes "ADDR", 4) ∷
     []
 
--- both snoop fields, at the places that they have in a data source, `PERF_MEM_SNOOP_*` and
+-- both snoop fields, at their positions in a data source, `PERF_MEM_SNOOP_*` and
 -- `PERF_MEM_SNOOPX_*`
 abbrev pub mem_snoop_table : FlagTable
 mem_snoop_table =
@@ -139,7 +139,7 @@ mem_snoop_table =
     (codes "PEER", 2 * 2 ^ 38) ∷
     []
 
--- what a memory transaction did, `PERF_TXN_*`; the last is the place of a number
+-- what a memory transaction did, `PERF_TXN_*`; the last is the mask of a number
 abbrev pub txn_table : FlagTable
 txn_table =
     (codes "ELISION", 1) ∷
@@ -153,8 +153,8 @@ txn_table =
     (codes "ABORT_MASK", 0xffffffff * 2 ^ 32) ∷
     []
 
--- how many numbers each counter of a group has: its value, its id by the bit ID and its lost
--- samples by the bit LOST
+-- how many numbers each counter of a group has: its value, its id if bit ID is set, and its lost
+-- samples if bit LOST is set
 abbrev pub element_len : (read_format : ℕ) → ℕ
 element_len read_format =
     1 + (if has_bit read_format 2 then 1 else 0) + (if has_bit read_format 4 then 1 else 0)

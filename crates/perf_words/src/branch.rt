@@ -25,7 +25,7 @@ impl Model for BranchEntry {
 }
 
 impl BranchEntry {
-    /// The branch of these three words.
+    /// Makes a branch from its three words.
     #[inline]
     pub const fn from_words(from: u64, to: u64, word: u64) -> BranchEntry
         ensures { result ≡ record { from = from; to = to; word = word } }
@@ -33,7 +33,7 @@ impl BranchEntry {
         BranchEntry { from, to, word }
     }
 
-    /// The address that was left. The instruction there need not be a branch.
+    /// The source address. The instruction there need not be a branch.
     #[inline]
     pub const fn from(&self) -> u64
         ensures { result ≡ self.now.from }
@@ -41,7 +41,7 @@ impl BranchEntry {
         self.from
     }
 
-    /// The address that it went to.
+    /// The target address.
     #[inline]
     pub const fn to(&self) -> u64
         ensures { result ≡ self.now.to }
@@ -49,7 +49,7 @@ impl BranchEntry {
         self.to
     }
 
-    /// Whether it was predicted wrongly: bit 0 of the word.
+    /// Whether it was mispredicted: bit 0 of the word.
     #[inline]
     pub fn mispred(&self) -> bool
         ensures { result ≡ mispred_of self.now.word }
@@ -57,7 +57,7 @@ impl BranchEntry {
         bit_field(self.word, 0, 1) == 1
     }
 
-    /// Whether it was predicted rightly: bit 1.
+    /// Whether it was predicted correctly: bit 1.
     #[inline]
     pub fn predicted(&self) -> bool
         ensures { result ≡ predicted_of self.now.word }
@@ -81,7 +81,7 @@ impl BranchEntry {
         bit_field(self.word, 3, 1) == 1
     }
 
-    /// Cycles since the branch before: bits 4 to 19.
+    /// Cycles since the previous branch: bits 4 to 19.
     #[inline]
     pub fn cycles(&self) -> u16
         ensures { result ≡ cycles_of self.now.word }
@@ -89,7 +89,7 @@ impl BranchEntry {
         bit_field(self.word, 4, 16) as u16
     }
 
-    /// What kind of branch it was: bits 20 to 23.
+    /// The kind of branch: bits 20 to 23.
     #[inline]
     pub fn ty(&self) -> BranchType
         ensures { result ≡ type_of self.now.word }

@@ -13,7 +13,7 @@ use bitflags::{Flag, Flags};
 use std::fmt;
 use std::marker::Model;
 
-/// Where data that a memory instruction accessed came from, `union perf_mem_data_src`. Every word
+/// Where the data accessed by a memory instruction came from, `union perf_mem_data_src`. Every word
 /// is a data source: bits and numbers without a name are kept.
 #[derive(Copy, Clone)]
 pub struct DataSource {
@@ -28,7 +28,7 @@ impl Model for DataSource {
     ghost inverse = { λ n. record { word = n } };
 }
 
-/// The word 0, which says nothing.
+/// The word 0, in which nothing is set.
 impl Default for DataSource {
     ghost is_default = { λ source. source ≡ 0 };
 
@@ -38,7 +38,7 @@ impl Default for DataSource {
 }
 
 impl DataSource {
-    /// The data source of this word.
+    /// Makes a data source from its word.
     #[inline]
     pub const fn from_word(word: u64) -> DataSource
         ensures { result ≡ word }
@@ -70,7 +70,7 @@ impl DataSource {
         MemLevel(bit_field(self.word, 5, 14))
     }
 
-    /// What was found in other caches: bits 19 to 23 and 38 to 39, which stay at these places.
+    /// What was found in other caches: bits 19 to 23 and 38 to 39, kept at these positions.
     #[inline]
     pub fn mem_snoop(&self) -> MemSnoop
         ensures { bits.mem_snoop_bits result ≡ fields.mem_snoop_of self.now }
@@ -118,9 +118,9 @@ impl DataSource {
         MemBlk(bit_field(self.word, 40, 3))
     }
 
-    /// How far the data came: bits 43 to 45. 0 says nothing, 1 (`PERF_MEM_HOPS_0`) another core of
-    /// the same node, 2 (`PERF_MEM_HOPS_1`) another node of the same socket, 3
-    /// (`PERF_MEM_HOPS_2`) another socket of the same board, 4 (`PERF_MEM_HOPS_3`) another board.
+    /// How far the data came: bits 43 to 45. 0 is not given, 1 (`PERF_MEM_HOPS_0`) another core of
+    /// the same node, 2 (`PERF_MEM_HOPS_1`) another node of the same socket, 3 (`PERF_MEM_HOPS_2`)
+    /// another socket of the same board, 4 (`PERF_MEM_HOPS_3`) another board.
     #[inline]
     pub fn mem_hops(&self) -> u8
         ensures { result ≡ fields.mem_hops_of self.now }
@@ -145,24 +145,24 @@ impl fmt::Debug for DataSource {
     }
 }
 
-/// What a memory instruction does: `mem_op` of a data source, `PERF_MEM_OP_*`.
+/// What a memory instruction did: `mem_op` of a data source, `PERF_MEM_OP_*`.
 #[derive(Copy, Clone, Debug, PartialEq, Eq, Hash)]
 pub struct MemOp(u64);
 
 impl MemOp {
-    /// Not known, `PERF_MEM_OP_NA`.
+    /// Unknown, `PERF_MEM_OP_NA`.
     pub const NA: MemOp = MemOp(1);
 
-    /// It loads, `PERF_MEM_OP_LOAD`.
+    /// A load, `PERF_MEM_OP_LOAD`.
     pub const LOAD: MemOp = MemOp(2);
 
-    /// It stores, `PERF_MEM_OP_STORE`.
+    /// A store, `PERF_MEM_OP_STORE`.
     pub const STORE: MemOp = MemOp(4);
 
-    /// It fetches beforehand, `PERF_MEM_OP_PFETCH`.
+    /// A prefetch, `PERF_MEM_OP_PFETCH`.
     pub const PFETCH: MemOp = MemOp(8);
 
-    /// It is code that is executed, `PERF_MEM_OP_EXEC`.
+    /// An execution of code, `PERF_MEM_OP_EXEC`.
     pub const EXEC: MemOp = MemOp(16);
 
     const FLAGS: &'static [Flag<MemOp>] = flag_table!(MemOp: NA, LOAD, STORE, PFETCH, EXEC);
@@ -206,13 +206,13 @@ impl Flags for MemOp {
 pub struct MemLevel(u64);
 
 impl MemLevel {
-    /// Not known, `PERF_MEM_LVL_NA`.
+    /// Unknown, `PERF_MEM_LVL_NA`.
     pub const NA: MemLevel = MemLevel(1);
 
-    /// It was a hit, `PERF_MEM_LVL_HIT`.
+    /// A hit, `PERF_MEM_LVL_HIT`.
     pub const HIT: MemLevel = MemLevel(2);
 
-    /// It was a miss, `PERF_MEM_LVL_MISS`.
+    /// A miss, `PERF_MEM_LVL_MISS`.
     pub const MISS: MemLevel = MemLevel(4);
 
     /// The first cache level, `PERF_MEM_LVL_L1`.
@@ -242,10 +242,10 @@ impl MemLevel {
     /// A remote cache, two hops away, `PERF_MEM_LVL_REM_CCE2`.
     pub const REM_CCE2: MemLevel = MemLevel(0x800);
 
-    /// Memory of a device, `PERF_MEM_LVL_IO`.
+    /// Device memory, `PERF_MEM_LVL_IO`.
     pub const IO: MemLevel = MemLevel(0x1000);
 
-    /// Memory that is not cached, `PERF_MEM_LVL_UNC`.
+    /// Uncached memory, `PERF_MEM_LVL_UNC`.
     pub const UNC: MemLevel = MemLevel(0x2000);
 
     const FLAGS: &'static [Flag<MemLevel>] = flag_table!(MemLevel:
@@ -291,10 +291,10 @@ impl Flags for MemLevel {
 pub struct MemLock(u64);
 
 impl MemLock {
-    /// Not known, `PERF_MEM_LOCK_NA`.
+    /// Unknown, `PERF_MEM_LOCK_NA`.
     pub const NA: MemLock = MemLock(1);
 
-    /// It was locked, `PERF_MEM_LOCK_LOCKED`.
+    /// Locked, `PERF_MEM_LOCK_LOCKED`.
     pub const LOCKED: MemLock = MemLock(2);
 
     const FLAGS: &'static [Flag<MemLock>] = flag_table!(MemLock: NA, LOCKED);
@@ -338,13 +338,13 @@ impl Flags for MemLock {
 pub struct MemDtlb(u64);
 
 impl MemDtlb {
-    /// Not known, `PERF_MEM_TLB_NA`.
+    /// Unknown, `PERF_MEM_TLB_NA`.
     pub const NA: MemDtlb = MemDtlb(1);
 
-    /// It was a hit, `PERF_MEM_TLB_HIT`.
+    /// A hit, `PERF_MEM_TLB_HIT`.
     pub const HIT: MemDtlb = MemDtlb(2);
 
-    /// It was a miss, `PERF_MEM_TLB_MISS`.
+    /// A miss, `PERF_MEM_TLB_MISS`.
     pub const MISS: MemDtlb = MemDtlb(4);
 
     /// The first level, `PERF_MEM_TLB_L1`.
@@ -353,7 +353,7 @@ impl MemDtlb {
     /// The second level, `PERF_MEM_TLB_L2`.
     pub const L2: MemDtlb = MemDtlb(16);
 
-    /// The hardware's walker, `PERF_MEM_TLB_WK`.
+    /// The hardware page walker, `PERF_MEM_TLB_WK`.
     pub const WK: MemDtlb = MemDtlb(32);
 
     /// The operating system's fault handler, `PERF_MEM_TLB_OS`.
@@ -395,7 +395,7 @@ impl Flags for MemDtlb {
     }
 }
 
-/// More of the snoop: `mem_snoopx` of a data source, at its own place, `PERF_MEM_SNOOPX_*`.
+/// More of the snoop: `mem_snoopx` of a data source, as a field of its own, `PERF_MEM_SNOOPX_*`.
 #[derive(Copy, Clone, Debug, PartialEq, Eq, Hash)]
 pub struct MemSnoopX(u64);
 
@@ -447,13 +447,13 @@ impl Flags for MemSnoopX {
 pub struct MemBlk(u64);
 
 impl MemBlk {
-    /// Not known, `PERF_MEM_BLK_NA`.
+    /// Unknown, `PERF_MEM_BLK_NA`.
     pub const NA: MemBlk = MemBlk(1);
 
     /// Data could not be forwarded, `PERF_MEM_BLK_DATA`.
     pub const DATA: MemBlk = MemBlk(2);
 
-    /// The address conflicted, `PERF_MEM_BLK_ADDR`.
+    /// An address conflict, `PERF_MEM_BLK_ADDR`.
     pub const ADDR: MemBlk = MemBlk(4);
 
     const FLAGS: &'static [Flag<MemBlk>] = flag_table!(MemBlk: NA, DATA, ADDR);
@@ -492,25 +492,25 @@ impl Flags for MemBlk {
     }
 }
 
-/// What was found in other caches: both snoop fields of a data source, at the places that they have
-/// there, `PERF_MEM_SNOOP_*` and `PERF_MEM_SNOOPX_*`.
+/// What was found in other caches: both snoop fields of a data source, at their positions there,
+/// `PERF_MEM_SNOOP_*` and `PERF_MEM_SNOOPX_*`.
 #[derive(Copy, Clone, Debug, PartialEq, Eq, Hash)]
 pub struct MemSnoop(u64);
 
 impl MemSnoop {
-    /// Not known, `PERF_MEM_SNOOP_NA`.
+    /// Unknown, `PERF_MEM_SNOOP_NA`.
     pub const NA: MemSnoop = MemSnoop(1 << 19);
 
-    /// There was no snoop, `PERF_MEM_SNOOP_NONE`.
+    /// No snoop, `PERF_MEM_SNOOP_NONE`.
     pub const NONE: MemSnoop = MemSnoop(2 << 19);
 
-    /// The snoop was a hit, `PERF_MEM_SNOOP_HIT`.
+    /// A snoop hit, `PERF_MEM_SNOOP_HIT`.
     pub const HIT: MemSnoop = MemSnoop(4 << 19);
 
-    /// The snoop was a miss, `PERF_MEM_SNOOP_MISS`.
+    /// A snoop miss, `PERF_MEM_SNOOP_MISS`.
     pub const MISS: MemSnoop = MemSnoop(8 << 19);
 
-    /// It hit a modified line, `PERF_MEM_SNOOP_HITM`.
+    /// A hit on a modified line, `PERF_MEM_SNOOP_HITM`.
     pub const HITM: MemSnoop = MemSnoop(16 << 19);
 
     /// The line was forwarded, `PERF_MEM_SNOOPX_FWD`.
@@ -557,9 +557,8 @@ impl Flags for MemSnoop {
 }
 
 impl MemSnoop {
-    /// Both snoop fields, each put at the place that it has in a data source: the five bits of
-    /// `mem_snoop` from bit 19 on, and the two of `mem_snoopx` from bit 38 on. Higher bits of
-    /// either are left out.
+    /// Both snoop fields, each at its position in a data source: the five bits of `mem_snoop` from
+    /// bit 19 on, and the two of `mem_snoopx` from bit 38 on. Higher bits of either are dropped.
     #[inline]
     pub const fn new(mem_snoop: u64, mem_snoopx: u64) -> MemSnoop
         ensures { bits.mem_snoop_bits result ≡ fields.snoop_of mem_snoop mem_snoopx }
@@ -579,16 +578,16 @@ impl Txn {
     /// It came from a plain transaction, `PERF_TXN_TRANSACTION`.
     pub const TRANSACTION: Txn = Txn(2);
 
-    /// The abort was caused by the sampled instruction, `PERF_TXN_SYNC`.
+    /// The sampled instruction caused the abort, `PERF_TXN_SYNC`.
     pub const SYNC: Txn = Txn(4);
 
-    /// The abort was not caused by it, `PERF_TXN_ASYNC`.
+    /// The sampled instruction did not cause the abort, `PERF_TXN_ASYNC`.
     pub const ASYNC: Txn = Txn(8);
 
-    /// The transaction may be tried again, `PERF_TXN_RETRY`.
+    /// The transaction may be retried, `PERF_TXN_RETRY`.
     pub const RETRY: Txn = Txn(16);
 
-    /// Another thread touched the same memory, `PERF_TXN_CONFLICT`.
+    /// A conflict with another thread over the same memory, `PERF_TXN_CONFLICT`.
     pub const CONFLICT: Txn = Txn(32);
 
     /// Too much was written, `PERF_TXN_CAPACITY_WRITE`.
@@ -597,7 +596,7 @@ impl Txn {
     /// Too much was read, `PERF_TXN_CAPACITY_READ`.
     pub const CAPACITY_READ: Txn = Txn(128);
 
-    /// Where the abort code stands, `PERF_TXN_ABORT_MASK`.
+    /// The mask of the abort code, `PERF_TXN_ABORT_MASK`.
     pub const ABORT_MASK: Txn = Txn(0xffff_ffff << 32);
 
     const FLAGS: &'static [Flag<Txn>] = flag_table!(Txn:
@@ -640,7 +639,7 @@ impl Flags for Txn {
 }
 
 impl Txn {
-    /// The code that the program gave for its abort, which stands in bits 32 to 63.
+    /// The code that the program gave for its abort: bits 32 to 63.
     #[inline]
     pub fn abort(&self) -> u32
         ensures { result ≡ bit_field (bits.txn_bits self.now) 32 32 }

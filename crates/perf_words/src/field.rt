@@ -3,7 +3,7 @@
 ghost use Rattle.std.specs.Prelude.{◌≡◌, ◌<◌, ◌^◌};
 ghost use Rattle.perf_words.specs.Bits.{bit_field};
 
-// The number that stands in bits `at` to `at + width - 1`, counted from the lowest bit.
+// The number in bits `at` to `at + width - 1`, counted from the lowest bit.
 #[inline]
 pub(crate) fn bit_field(word: u64, at: u32, width: u32) -> u64
     requires inside { at < 64 }

@@ -28,7 +28,7 @@ impl SampleFlags {
     /// An address, such as that of a memory access, `PERF_SAMPLE_ADDR`.
     pub const ADDR: SampleFlags = SampleFlags(1 << 3);
 
-    /// Counter values, as `read(2)` gives them, `PERF_SAMPLE_READ`.
+    /// Counter values, as `read(2)` returns them, `PERF_SAMPLE_READ`.
     pub const READ: SampleFlags = SampleFlags(1 << 4);
 
     /// The chain of callers, `PERF_SAMPLE_CALLCHAIN`.
@@ -52,10 +52,10 @@ impl SampleFlags {
     /// The last branches that were taken, `PERF_SAMPLE_BRANCH_STACK`.
     pub const BRANCH_STACK: SampleFlags = SampleFlags(1 << 11);
 
-    /// Registers of the user's program, `PERF_SAMPLE_REGS_USER`.
+    /// Registers of the user program, `PERF_SAMPLE_REGS_USER`.
     pub const REGS_USER: SampleFlags = SampleFlags(1 << 12);
 
-    /// A piece of the user's stack, `PERF_SAMPLE_STACK_USER`.
+    /// Part of the user stack, `PERF_SAMPLE_STACK_USER`.
     pub const STACK_USER: SampleFlags = SampleFlags(1 << 13);
 
     /// A weight: how costly the sampled event was, `PERF_SAMPLE_WEIGHT`.
@@ -64,7 +64,7 @@ impl SampleFlags {
     /// Where accessed data came from, `PERF_SAMPLE_DATA_SRC`.
     pub const DATA_SRC: SampleFlags = SampleFlags(1 << 15);
 
-    /// The id at a fixed place, `PERF_SAMPLE_IDENTIFIER`.
+    /// The id at a fixed position, `PERF_SAMPLE_IDENTIFIER`.
     pub const IDENTIFIER: SampleFlags = SampleFlags(1 << 16);
 
     /// Why a memory transaction was aborted, `PERF_SAMPLE_TRANSACTION`.
@@ -76,19 +76,19 @@ impl SampleFlags {
     /// A physical address, `PERF_SAMPLE_PHYS_ADDR`.
     pub const PHYS_ADDR: SampleFlags = SampleFlags(1 << 19);
 
-    /// A piece of the AUX buffer, `PERF_SAMPLE_AUX`.
+    /// Part of the AUX buffer, `PERF_SAMPLE_AUX`.
     pub const AUX: SampleFlags = SampleFlags(1 << 20);
 
     /// The id of the control group, `PERF_SAMPLE_CGROUP`.
     pub const CGROUP: SampleFlags = SampleFlags(1 << 21);
 
-    /// The size of the page of the data, `PERF_SAMPLE_DATA_PAGE_SIZE`.
+    /// The page size of the data, `PERF_SAMPLE_DATA_PAGE_SIZE`.
     pub const DATA_PAGE_SIZE: SampleFlags = SampleFlags(1 << 22);
 
-    /// The size of the page of the code, `PERF_SAMPLE_CODE_PAGE_SIZE`.
+    /// The page size of the code, `PERF_SAMPLE_CODE_PAGE_SIZE`.
     pub const CODE_PAGE_SIZE: SampleFlags = SampleFlags(1 << 23);
 
-    /// A weight of several parts, `PERF_SAMPLE_WEIGHT_STRUCT`.
+    /// A weight in several parts, `PERF_SAMPLE_WEIGHT_STRUCT`.
     pub const WEIGHT_STRUCT: SampleFlags = SampleFlags(1 << 24);
 
     const FLAGS: &'static [Flag<SampleFlags>] = flag_table!(SampleFlags:
@@ -131,7 +131,7 @@ impl Flags for SampleFlags {
     }
 }
 
-/// What a read of a counter gives beside its value: the bits of `read_format`, `PERF_FORMAT_*`.
+/// What a read of a counter returns besides its value: the bits of `read_format`, `PERF_FORMAT_*`.
 #[derive(Copy, Clone, Debug, PartialEq, Eq, Hash)]
 pub struct ReadFormat(u64);
 
@@ -189,8 +189,8 @@ impl Flags for ReadFormat {
 }
 
 impl ReadFormat {
-    /// How many numbers of eight bytes each counter of a group has: its value, its id where
-    /// [`ReadFormat::ID`] is set, and its lost samples where [`ReadFormat::LOST`] is set.
+    /// How many eight-byte numbers each counter of a group has: its value, its id if
+    /// [`ReadFormat::ID`] is set, and its lost samples if [`ReadFormat::LOST`] is set.
     #[inline]
     pub fn element_len(&self) -> usize
         ensures { result ≡ element_len (read_format_bits self.now) }
@@ -205,7 +205,7 @@ impl ReadFormat {
 pub struct AuxFlags(u64);
 
 impl AuxFlags {
-    /// The data was cut to fit into the buffer, `PERF_AUX_FLAG_TRUNCATED`.
+    /// The data was truncated to fit into the buffer, `PERF_AUX_FLAG_TRUNCATED`.
     pub const TRUNCATED: AuxFlags = AuxFlags(1);
 
     /// The data overwrote older data, `PERF_AUX_FLAG_OVERWRITE`.
@@ -217,7 +217,7 @@ impl AuxFlags {
     /// The sample collided with another, `PERF_AUX_FLAG_COLLISION`.
     pub const COLLISION: AuxFlags = AuxFlags(8);
 
-    /// Where the number of the trace format stands, `PERF_AUX_FLAG_PMU_FORMAT_TYPE_MASK`.
+    /// The mask of the trace format's number, `PERF_AUX_FLAG_PMU_FORMAT_TYPE_MASK`.
     pub const PMU_FORMAT_MASK: AuxFlags = AuxFlags(0xff00);
 
     const FLAGS: &'static [Flag<AuxFlags>] =
@@ -249,7 +249,7 @@ impl Flags for AuxFlags {
 }
 
 impl AuxFlags {
-    /// The format of the trace, which stands in bits 8 to 15.
+    /// The format of the trace: bits 8 to 15.
     #[inline]
     pub fn pmu_format_type(&self) -> AuxPmuFormatType
         ensures { result ≡ bit_field (aux_flags_bits self.now) 8 8 }
@@ -263,7 +263,7 @@ impl AuxFlags {
 pub struct KSymbolFlags(u16);
 
 impl KSymbolFlags {
-    /// The symbol goes away, `PERF_RECORD_KSYMBOL_FLAGS_UNREGISTER`.
+    /// The symbol was unregistered, `PERF_RECORD_KSYMBOL_FLAGS_UNREGISTER`.
     pub const UNREGISTER: KSymbolFlags = KSymbolFlags(1);
 
     const FLAGS: &'static [Flag<KSymbolFlags>] = flag_table!(KSymbolFlags: UNREGISTER);

@@ -1,5 +1,5 @@
-//! Laws of equality and hashing: sets and named numbers are equal exactly where their numbers are,
-//! and hash as these do, whatever the hash function. So equal ones hash alike.
+//! Laws of equality and hashing: sets and named numbers are equal if and only if their numbers are,
+//! and hash as their numbers do, whatever the hash function. So equal ones have equal hashes.
 
 ghost use Rattle.std.specs.Hash as fed;
 ghost use Rattle.perf_words.specs.Alike.{IsByNumber, number_hash};
@@ -12,7 +12,7 @@ use crate::named::{
 };
 use std::hash::BuildHasher;
 
-/// What [`==`](PartialEq) says of two values, and the hash of each.
+/// The result of [`==`](PartialEq) for two values, and the hash of each.
 #[derive(Copy, Clone, Debug)]
 pub struct Compared {
     /// Whether they are equal.

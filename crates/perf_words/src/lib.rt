@@ -1,5 +1,5 @@
-//! The words of `perf_event_open(2)`: sets of flags, numbers with names, and words that hold bit
-//! fields. Nothing here takes memory, and bits and numbers that have no name are kept.
+//! The words of `perf_event_open(2)`: sets of flags, named numbers, and words of bit fields.
+//! Nothing here allocates, and bits and numbers without a name are kept.
 #![tactic(auto)]
 
 pub mod branch;

@@ -1,4 +1,4 @@
-//! Numbers of which some have a name. Every number is a value: those without a name are kept.
+//! Numbers, some of which have names. Every number is a value: those without a name are kept.
 
 ghost use Rattle.std.specs.Prelude.{◌≡◌, ℕ, map};
 ghost use Rattle.perf_words.specs.Named.{branch_types, aux_pmu_format_types, mem_level_nums};
@@ -7,7 +7,7 @@ ghost use Rattle.perf_words.specs.Named.{bpf_event_types, ksymbol_types, sample_
 use crate::macros::name_table;
 use std::marker::Model;
 
-/// What kind of branch a branch entry is of, `PERF_BR_*`.
+/// The kind of branch of a branch entry, `PERF_BR_*`.
 #[derive(Copy, Clone, Debug, PartialEq, Eq, Hash)]
 pub struct BranchType(u8);
 
@@ -20,16 +20,16 @@ impl Model for BranchType {
 }
 
 impl BranchType {
-    /// Not known, `PERF_BR_UNKNOWN`.
+    /// Unknown, `PERF_BR_UNKNOWN`.
     pub const UNKNOWN: BranchType = BranchType(0);
 
     /// A conditional branch, `PERF_BR_COND`.
     pub const COND: BranchType = BranchType(1);
 
-    /// An unconditional one, `PERF_BR_UNCOND`.
+    /// An unconditional branch, `PERF_BR_UNCOND`.
     pub const UNCOND: BranchType = BranchType(2);
 
-    /// An indirect one, `PERF_BR_IND`.
+    /// An indirect branch, `PERF_BR_IND`.
     pub const IND: BranchType = BranchType(3);
 
     /// A call, `PERF_BR_CALL`.
@@ -50,7 +50,7 @@ impl BranchType {
     /// A conditional return, `PERF_BR_COND_RET`.
     pub const COND_RET: BranchType = BranchType(10);
 
-    /// The value of this number.
+    /// Makes the value from its number.
     #[inline]
     pub const fn new(number: u8) -> BranchType
         ensures { result ≡ number }
@@ -89,13 +89,13 @@ impl Model for AuxPmuFormatType {
 }
 
 impl AuxPmuFormatType {
-    /// Frames of CoreSight, `PERF_AUX_FLAG_CORESIGHT_FORMAT_CORESIGHT`.
+    /// CoreSight frames, `PERF_AUX_FLAG_CORESIGHT_FORMAT_CORESIGHT`.
     pub const CORESIGHT: AuxPmuFormatType = AuxPmuFormatType(0);
 
-    /// The raw source's format, `PERF_AUX_FLAG_CORESIGHT_FORMAT_RAW`.
+    /// The raw format of the source, `PERF_AUX_FLAG_CORESIGHT_FORMAT_RAW`.
     pub const CORESIGHT_RAW: AuxPmuFormatType = AuxPmuFormatType(1);
 
-    /// The value of this number.
+    /// Makes the value from its number.
     #[inline]
     pub const fn new(number: u8) -> AuxPmuFormatType
         ensures { result ≡ number }
@@ -119,7 +119,7 @@ impl AuxPmuFormatType {
     }
 }
 
-/// The number of the memory level that an access ended at: `mem_lvl_num` of a data source,
+/// The number of the memory level at which an access ended: `mem_lvl_num` of a data source,
 /// `PERF_MEM_LVLNUM_*`.
 #[derive(Copy, Clone, Debug, PartialEq, Eq, Hash)]
 pub struct MemLevelNum(u8);
@@ -136,16 +136,16 @@ impl MemLevelNum {
     /// The first cache level, `PERF_MEM_LVLNUM_L1`.
     pub const L1: MemLevelNum = MemLevelNum(1);
 
-    /// The second, `PERF_MEM_LVLNUM_L2`.
+    /// The second cache level, `PERF_MEM_LVLNUM_L2`.
     pub const L2: MemLevelNum = MemLevelNum(2);
 
-    /// The third, `PERF_MEM_LVLNUM_L3`.
+    /// The third cache level, `PERF_MEM_LVLNUM_L3`.
     pub const L3: MemLevelNum = MemLevelNum(3);
 
-    /// The fourth, `PERF_MEM_LVLNUM_L4`.
+    /// The fourth cache level, `PERF_MEM_LVLNUM_L4`.
     pub const L4: MemLevelNum = MemLevelNum(4);
 
-    /// Some cache, `PERF_MEM_LVLNUM_ANY_CACHE`.
+    /// Any cache, `PERF_MEM_LVLNUM_ANY_CACHE`.
     pub const ANY_CACHE: MemLevelNum = MemLevelNum(11);
 
     /// The line fill buffer, `PERF_MEM_LVLNUM_LFB`.
@@ -157,10 +157,10 @@ impl MemLevelNum {
     /// Persistent memory, `PERF_MEM_LVLNUM_PMEM`.
     pub const PMEM: MemLevelNum = MemLevelNum(14);
 
-    /// Not known, `PERF_MEM_LVLNUM_NA`.
+    /// Unknown, `PERF_MEM_LVLNUM_NA`.
     pub const NA: MemLevelNum = MemLevelNum(15);
 
-    /// The value of this number.
+    /// Makes the value from its number.
     #[inline]
     pub const fn new(number: u8) -> MemLevelNum
         ensures { result ≡ number }
@@ -197,7 +197,7 @@ impl Model for BpfEventType {
 }
 
 impl BpfEventType {
-    /// Not known, `PERF_BPF_EVENT_UNKNOWN`.
+    /// Unknown, `PERF_BPF_EVENT_UNKNOWN`.
     pub const UNKNOWN: BpfEventType = BpfEventType(0);
 
     /// It was loaded, `PERF_BPF_EVENT_PROG_LOAD`.
@@ -206,7 +206,7 @@ impl BpfEventType {
     /// It was unloaded, `PERF_BPF_EVENT_PROG_UNLOAD`.
     pub const PROG_UNLOAD: BpfEventType = BpfEventType(2);
 
-    /// The value of this number.
+    /// Makes the value from its number.
     #[inline]
     pub const fn new(number: u16) -> BpfEventType
         ensures { result ≡ number }
@@ -230,7 +230,7 @@ impl BpfEventType {
     }
 }
 
-/// What a symbol of the kernel is: the type of `PERF_RECORD_KSYMBOL`, `PERF_RECORD_KSYMBOL_TYPE_*`.
+/// The kind of a kernel symbol: the type of `PERF_RECORD_KSYMBOL`, `PERF_RECORD_KSYMBOL_TYPE_*`.
 #[derive(Copy, Clone, Debug, PartialEq, Eq, Hash)]
 pub struct KSymbolType(u16);
 
@@ -243,16 +243,16 @@ impl Model for KSymbolType {
 }
 
 impl KSymbolType {
-    /// Not known, `PERF_RECORD_KSYMBOL_TYPE_UNKNOWN`.
+    /// Unknown, `PERF_RECORD_KSYMBOL_TYPE_UNKNOWN`.
     pub const UNKNOWN: KSymbolType = KSymbolType(0);
 
     /// A BPF function, `PERF_RECORD_KSYMBOL_TYPE_BPF`.
     pub const BPF: KSymbolType = KSymbolType(1);
 
-    /// Code out of line, such as a probe's, `PERF_RECORD_KSYMBOL_TYPE_OOL`.
+    /// Out-of-line code, such as that of a probe, `PERF_RECORD_KSYMBOL_TYPE_OOL`.
     pub const OOL: KSymbolType = KSymbolType(2);
 
-    /// The value of this number.
+    /// Makes the value from its number.
     #[inline]
     pub const fn new(number: u16) -> KSymbolType
         ensures { result ≡ number }
@@ -276,7 +276,7 @@ impl KSymbolType {
     }
 }
 
-/// Of which ABI the registers of a sample are, `PERF_SAMPLE_REGS_ABI_*`.
+/// The ABI of the registers of a sample, `PERF_SAMPLE_REGS_ABI_*`.
 #[derive(Copy, Clone, Debug, PartialEq, Eq, Hash)]
 pub struct SampleRegsAbi(u64);
 
@@ -289,16 +289,16 @@ impl Model for SampleRegsAbi {
 }
 
 impl SampleRegsAbi {
-    /// There are no registers, `PERF_SAMPLE_REGS_ABI_NONE`.
+    /// No registers, `PERF_SAMPLE_REGS_ABI_NONE`.
     pub const NONE: SampleRegsAbi = SampleRegsAbi(0);
 
-    /// 32 bits, `PERF_SAMPLE_REGS_ABI_32`.
+    /// The 32-bit ABI, `PERF_SAMPLE_REGS_ABI_32`.
     pub const ABI_32: SampleRegsAbi = SampleRegsAbi(1);
 
-    /// 64 bits, `PERF_SAMPLE_REGS_ABI_64`.
+    /// The 64-bit ABI, `PERF_SAMPLE_REGS_ABI_64`.
     pub const ABI_64: SampleRegsAbi = SampleRegsAbi(2);
 
-    /// The value of this number.
+    /// Makes the value from its number.
     #[inline]
     pub const fn new(number: u64) -> SampleRegsAbi
         ensures { result ≡ number }

@@ -4,7 +4,7 @@ use Rattle.perf_words.proofs.Contained.{contains_bit}
 use Rattle.perf_words.specs.Bits.{has_bit}
 use Rattle.perf_words.proofs.flags.ReadFormat.element_len.Goals as goal
 
--- `usize::from` of a truth value
+-- `usize::from` of a `bool`
 one_if : (b : Bool) → bool_byte b ≡ (if b then 1 else 0)
 one_if true = refl
 one_if false = refl
