@@ -1,4 +1,4 @@
--- How runs compose, and which bytes they hang on.
+-- How runs compose, and which bytes they depend on.
 use Rattle.std.proofs.Common.{◌≡◌, ℕ, ◌≤◌, true, false, List, [], ◌++◌, length, take, drop, refl, sym, ◌∙◌, ap, inl, inr, arith}
 use Rattle.std.proofs.lemmas.List.{length-append, length-take-le, take-append-le, drop-append-le, take-append-drop, append_assoc, take_at, drop_at}
 use Rattle.std.proofs.lemmas.Bool.{cases_lt}
@@ -41,7 +41,7 @@ then_inv o (part shape k) f bytes y left e =
           (again.0, again.1, run_yes o shape k bytes n refl fits ∙ again.2, again.3)
     ]
 
--- ---- the bytes behind what is read
+-- ---- the bytes after what is read
 pub bounded : (shape : Shape) → IsBounded shape → (m n : ℕ) → size shape m ≡ size shape n
 bounded (number w) h m n = refl
 bounded (byte_string k) h m n = refl
@@ -70,7 +70,7 @@ run_more o (part shape k) w v left more closed e =
           (run_more o (k (answer_of o shape (take n w))) (drop n w) v left more (closed.1 _) (sym (run_yes o shape k w n refl fits) ∙ e))
     ]
 
--- the bytes that are read, alone
+-- only the bytes that are read
 pub run_front : {A : Type 0} (o : Order) (p : Parts A) (bytes : List ℕ) (v : A) (left : List ℕ) → Closed p →
     run_parts o p bytes ≡ ran v left → (w : List ℕ) × (bytes ≡ w ++ left) × (run_parts o p w ≡ ran v [])
 run_front o (done x) bytes v left closed e =

@@ -1,4 +1,4 @@
--- An attribute that stands takes as many bytes as its size says.
+-- An attribute that is accepted takes as many bytes as its size says.
 use Rattle.std.proofs.Common.{◌≡◌, ℕ, ◌+◌, ◌-◌, ◌<◌, Bool, true, false, List, [], ◌∷◌, length, take, drop, Option, Some, None, Ok, Err, refl, sym, ◌∙◌, ap, subst, arith}
 use Rattle.std.specs.Prelude.{Result, ◌==◌, ◌||◌, nat_le, nat_lt, if◌then◌else◌}
 use Rattle.std.proofs.lemmas.Bool.{le-leb}
@@ -13,7 +13,7 @@ sized_if : (b : Bool) (w : Width) (left : ℕ) → size (optional b w) left ≡ 
 sized_if true w left = refl
 sized_if false w left = refl
 
--- n where it is at least k, as a number of bytes
+-- n as a number of bytes, if it is at least k
 abbrev from : ℕ → ℕ → ℕ → ℕ
 from k n bytes = if nat_le k n then bytes else 0
 
@@ -48,7 +48,7 @@ reached n h = go (n == 64) (n == 72) (n == 80) (n == 96) (n == 104) (n == 112) (
 ends_at : (o : Order) (body : List ℕ) → ending o body 0 attribute ≡ reach (o.four (take 4 (drop 4 body)))
 ends_at o body = simp sized_if
 
--- a layout that stands
+-- a layout that succeeds
 stood : {A : Type 0} (f : Option ErrorKind) (v a : A) → ◌≡◌ {A = Result A ErrorKind} (elim f [ None ↦ Ok v | Some e ↦ Err e ]) (Ok a) → (f ≡ None) × (v ≡ a)
 stood None v a h = (refl, cc)
 stood (Some e) v a h = absurd (cc)
@@ -57,7 +57,7 @@ first : (t : Bool) (f : Option ErrorKind) (e : ErrorKind) → ◌≡◌ {A = Opt
 first true f e h = (refl, h)
 first false f e h = absurd (cc)
 
--- the third of the spots, where it is a check
+-- the third of the spots, if it is a check
 abbrev ThirdHolds : List Spot → Type 0
 ThirdHolds [] = Unit {0}
 ThirdHolds (x ∷ []) = Unit {0}

@@ -1,4 +1,4 @@
--- A text that fits is kept whole.
+-- A text that fits is kept in full.
 use Rattle.std.proofs.Common.{◌≡◌, ◌≤◌, ℕ, List, length, rules}
 use Rattle.std.specs.Fmt.Cut.{cut_to}
 

@@ -1,4 +1,4 @@
--- Parts without a check stand wherever they end within the body.
+-- Parts without a check succeed whenever they end within the body.
 use Rattle.std.proofs.Common.{◌≡◌, ℕ, ◌+◌, ◌-◌, ◌≤◌, List, length, drop, Option, Some, None, refl, ◌∙◌, ap, arith}
 use Rattle.std.proofs.lemmas.Bool.{le-leb}
 use Rattle.perf_base.specs.Order.{Order}
@@ -7,7 +7,7 @@ use Rattle.perf_base.specs.Run.{Ran, ran, stopped, left_at, by_places}
 use Rattle.perf_base.specs.declared.error.ErrorKind.{ErrorKind}
 use Rattle.perf_base.proofs.Bridge.{taken}
 
--- there is no check among them
+-- there is no check among the parts
 abbrev pub Unchecked : {A : Type 0} → Parts A → Type 0
 Unchecked (done v) = Unit {0}
 Unchecked (part shape k) = (a : Answer shape) → Unchecked (k a)

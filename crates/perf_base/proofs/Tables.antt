@@ -29,7 +29,7 @@ pub run_layout : {A : Type 0} (o : Order) (p : Parts A) (body : List ℕ) (v : A
     (layout o p body ≡ Ok v) × (drop (ending o body 0 p) body ≡ left)
 run_layout o p body v left e = ran_ok (first_refusal (length body) (spots o body 0 p)) _ _ left _ v (sym (bridge o body 0 p (omega arith)) ∙ e)
 
--- ---- parts in a row
+-- ---- parts in sequence
 pub closed_then : {A B : Type 0} (p : Parts A) (f : A → Parts B) → Closed p → ((v : A) → Closed (f v)) → Closed (p >>= f)
 closed_then (done v) f c d = d v
 closed_then (part shape k) f c d = (c.0, λ a. closed_then (k a) f (c.1 a) d)
@@ -44,7 +44,7 @@ closed_table [] c = tt
 closed_table (field ∷ fields) c =
     closed_then (slot field) _ (closed_slot field c.0) (λ v. closed_then (table fields) _ (closed_table fields c.1) (λ vs. tt))
 
--- ---- tables in a row
+-- ---- tables in sequence
 pub tables_ok : {A : Type 0} (o : Order) (xs ys : List (Option (Parts A))) (body between left : List ℕ) (a c : List (Option A)) →
     run_parts o (table xs) body ≡ ran a between → run_parts o (table ys) between ≡ ran c left →
     run_parts o (table (xs ++ ys)) body ≡ ran (a ++ c) left
@@ -85,7 +85,7 @@ tables_inv o (x ∷ xs) ys body left vs e =
       ap suc again.6,
     )
 
--- ---- the bytes of a field are changed
+-- ---- changing the bytes of a field
 cons_ok : {A : Type 0} (o : Order) (x : Option (Parts A)) (ys : List (Option (Parts A))) (body z left : List ℕ) (v : Option A) (cs : List (Option A)) →
     run_parts o (slot x) body ≡ ran v z → run_parts o (table ys) z ≡ ran cs left → run_parts o (table (x ∷ ys)) body ≡ ran (v ∷ cs) left
 cons_ok o x ys body z left v cs e f =
@@ -130,7 +130,7 @@ spelled {A} o p w z closed s =
     let alone : run_parts o p w ≡ ran v [] = layout_run o p w v made ∙ ap (ran v) all in
     then_ok o p (λ u. done (Some u)) (w ++ z) v z (run_more o p w v [] z closed alone)
 
--- A field that is absent between xs and ys is put in.
+-- A field that is absent between xs and ys is inserted.
 pub put : {A : Type 0} (o : Order) (xs ys : List (Option (Parts A))) (p : Parts A) (body w : List ℕ) (vs : List (Option A)) →
     AllClosed xs → Closed p → layout o (table (xs ++ (None ∷ ys))) body ≡ Ok vs → Spells o p w →
     layout o (table (xs ++ (Some p ∷ ys))) (put_in body (ending o body 0 (table xs)) w) ≡ Ok (set vs (length xs) (Some (value o w 0 p)))
@@ -145,7 +145,7 @@ put o xs ys p body w vs closed closed' e s =
     (changed_at o xs ys None (Some p) body around.1 inside.1 left w vs around.0 inside.2 inside.0 (Some (value o w 0 p)) (ending o body 0 (table xs)) closed
     around.3 inside.3 inside.4 (around.5 ∙ ap (λ t. around.0 ++ t) inside.5) around.6 (spelled o p w inside.1 closed' s) after)).0
 
--- A field that stands between xs and ys is taken out.
+-- A field that is present between xs and ys is removed.
 pub out : {A : Type 0} (o : Order) (xs ys : List (Option (Parts A))) (field : Option (Parts A)) (body : List ℕ) (vs : List (Option A)) →
     AllClosed xs → layout o (table (xs ++ (field ∷ ys))) body ≡ Ok vs →
     layout o (table (xs ++ (None ∷ ys))) (take_out body (ending o body 0 (table xs)) (ending o body 0 (table (xs ++ (field ∷ []))))) ≡ Ok (set vs (length xs) None)
@@ -160,7 +160,7 @@ out o xs ys field body vs closed e =
     (changed_at o xs ys field None body around.1 inside.1 left [] vs around.0 inside.2 inside.0 None m closed
     around.3 inside.3 inside.4 (around.5 ∙ ap (λ t. around.0 ++ t) inside.5) around.6 refl after)).0
 
--- ---- by the number of the field
+-- ---- by the index of the field
 split_at : {X : Type 0} (xs : List X) (i : ℕ) (d : X) → i < length xs → xs ≡ take i xs ++ (get_or xs i d ∷ drop (suc i) xs)
 split_at xs i d h = sym (take-append-drop i xs) ∙ ap (λ t. take i xs ++ t) (drop_more xs i d h ∙ rw add-one refl)
 
@@ -186,7 +186,7 @@ cut_fields o fields i body vs h closed e =
     ∙ ap (λ t. layout o (table (take i fields ++ (None ∷ drop (suc i) fields))) (take_out body (place_of o body fields i) (ending o body 0 (table t)))) next
     ∙ made ∙ ap (λ k. Ok (set vs k None)) (length-take-le i fields (omega arith))
 
--- ---- the layout is the run's answer, also where it refuses; and the run of what a layout refuses
+-- ---- the layout is the run's result, also if it refuses; and the run of what a layout refuses
 answer_judged : {A : Type 0} (f : Option ErrorKind) (v : A) (left back : List ℕ) →
     ◌≡◌ {A = Result A ErrorKind} (elim f [ None ↦ Ok v | Some e ↦ Err e ]) (answer (elim f as (λ k. Ran A) [ None ↦ ran v left | Some e ↦ stopped e back ]))
 answer_judged None v left back = refl
@@ -195,7 +195,7 @@ answer_judged (Some e) v left back = refl
 pub layout_is_run : {A : Type 0} (o : Order) (p : Parts A) (body : List ℕ) → layout o p body ≡ answer (run_parts o p body)
 layout_is_run o p body = answer_judged (first_refusal (length body) (spots o body 0 p)) (value o body 0 p) (drop (ending o body 0 p) body) _ ∙ ap answer (sym (bridge o body 0 p (omega arith)))
 
--- the answer by places is the layout
+-- the result by offsets is the layout
 pub places_layout : {A : Type 0} (o : Order) (p : Parts A) (body : List ℕ) → answer (by_places o p body) ≡ layout o p body
 unfolding by_places
 places_layout o p body = sym (answer_judged (first_refusal (length body) (spots o body 0 p)) (value o body 0 p) (drop (ending o body 0 p) body) _)

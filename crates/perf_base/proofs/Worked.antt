@@ -11,7 +11,7 @@ abbrev zeros : ℕ → List ℕ
 zeros zero = []
 zeros (suc n) = 0 ∷ zeros n
 
--- the front of an attribute: the type 0, and a size below 256
+-- the start of an attribute: the type 0, and a size below 256
 abbrev sized : ℕ → List ℕ
 sized n = 0 ∷ 0 ∷ 0 ∷ 0 ∷ n ∷ 0 ∷ 0 ∷ 0 ∷ []
 
@@ -33,7 +33,7 @@ one_byte_short = refl
 no_such_size : layout little attribute (sized 100 ++ zeros 100) ≡ Err InvalidRecord
 no_such_size = refl
 
--- the fields between 80 and 136, each by one byte
+-- the fields between 80 and 136, each set by one byte
 abbrev behind_eighty : List ℕ
 behind_eighty =
     (1 ∷ zeros 7) ++ (2 ∷ zeros 7) ++ (3 ∷ zeros 3) ++ (255 ∷ 255 ∷ 255 ∷ 255 ∷ []) ++ (4 ∷ zeros 7)

@@ -1,5 +1,5 @@
--- The numbers by which orders and kinds of refusal compare and hash: their places in the list of
--- all.
+-- The numbers by which orders and kinds of refusal compare and hash: their positions in the list of
+-- all of them.
 use Rattle.std.specs.Prelude.{ℕ}
 use Rattle.perf_base.specs.declared.endian.Dynamic.{Dynamic}
 use Rattle.perf_base.specs.declared.endian.Dynamic.TheVariants.{Big, Little}

@@ -1,5 +1,5 @@
 -- The attribute of an event, `struct perf_event_attr` of perf_event.h: each kernel that made it
--- larger put its fields behind those that were there.
+-- larger added its fields at the end.
 use Rattle.std.specs.Prelude.{ℕ, pos, ◌-◌, Bool, ◌==◌, ◌||◌, nat_lt, nat_le, Option}
 use Rattle.std.specs.Option.{unwrap_or}
 use Rattle.std.specs.Int.{w32, cast_signed}
@@ -9,18 +9,18 @@ use Rattle.perf_base.specs.Zeros.{all_zero}
 use Rattle.perf_base.specs.declared.sys.perf_event_attr.{perf_event_attr}
 use Rattle.perf_base.specs.declared.error.ErrorKind.TheVariants.{InvalidRecord, UnsupportedData}
 
--- The sizes that an attribute has had, one for each time that it grew; a larger one is of a newer
--- kernel.
+-- The sizes that an attribute has had, one for each time that it grew; a larger one comes from a
+-- newer kernel.
 abbrev pub is_attribute_size : ℕ → Bool
 is_attribute_size n =
     n == 64 || n == 72 || n == 80 || n == 96 || n == 104 || n == 112 || n == 120 || n == 128
     || n == 136 || nat_lt 136 n
 
--- a field that the size does not reach is 0
+-- a field beyond the size is 0
 abbrev pub or_zero : Option ℕ → ℕ
 or_zero number = unwrap_or number 0
 
--- bytes that only a newer kernel has a meaning for, all of which must be zero
+-- bytes that have a meaning only to a newer kernel, all of which must be zero
 abbrev pub zero_tail : ℕ → Parts (Unit {0})
 zero_tail n = do
   tail ← bytes n
@@ -52,7 +52,7 @@ zero_attribute = record {
   config3 = 0;
 }
 
--- the fields in their order, each where the size reaches it
+-- the fields in order, each present if the size covers it
 abbrev pub attribute : Parts perf_event_attr
 attribute = do
   type_ ← u32

@@ -1,8 +1,8 @@
--- What a `ParseConfig` holds.
+-- The contents of a `ParseConfig`.
 use Rattle.perf_base.specs.Configuration.{Configuration, unpacked}
 use Rattle.perf_base.specs.declared.config.ParseConfig.{ParseConfig}
 
--- what it says, unpacked from its word and its masks
+-- its configuration, unpacked from its word and its masks
 abbrev pub configuration_of : {E : Type 0} → ParseConfig E → Configuration
 configuration_of c = unpacked c.word c.regs_user c.regs_intr
 

@@ -1,21 +1,21 @@
--- What a copy is. A form says of each list of a value, in the order of its fields, whether it is
+-- What a copy is. A form lists for each list of a value, in the order of its fields, whether it is
 -- borrowed.
 use Rattle.std.specs.Prelude.{◌≡◌, Bool, true, false, List, [], ◌∷◌, map, Result, IsOk, IfOk, IfErr}
 use Rattle.perf_base.specs.Errors.{kind_of}
 use Rattle.perf_base.specs.declared.error.ErrorKind.TheVariants.{OutOfMemory}
 use Rattle.perf_base.specs.declared.error.ParseError.{ParseError}
 
--- every list of a form is borrowed, by true, or is owned, by false
+-- every list of a form is borrowed (true) or owned (false)
 abbrev pub AllAre : Bool → List Bool → Type 0
 AllAre borrowed [] = Unit {0}
 AllAre borrowed (form ∷ forms) = (form ≡ borrowed) × AllAre borrowed forms
 
--- the form of as many lists that are all owned
+-- the form of the same lists, all owned
 abbrev pub owned_form : List Bool → List Bool
 owned_form forms = map (λ borrowed. false) forms
 
--- A copy has the value and the form that are wanted. It is refused for want of memory alone, and is
--- there where it needs none.
+-- A copy has the given value and form. It fails only if out of memory, and never if it needs no
+-- memory.
 pub record IsCopy {B V : Type 0} (value_of : B → V) (form_of : B → List Bool) (value : V)
     (form : List Bool) (NeedsNone : Type 0) (answer : Result B ParseError) : Type 0 where
   pub same : IfOk answer (λ copy. value_of copy ≡ value)
@@ -23,18 +23,18 @@ pub record IsCopy {B V : Type 0} (value_of : B → V) (form_of : B → List Bool
   pub refused : IfErr answer (λ e. kind_of e ≡ OutOfMemory)
   pub no_memory : NeedsNone → IsOk answer
 
--- A copy in the form that the lists have. What is borrowed stays so, and takes no memory.
+-- A copy in the form of the given lists. It needs no memory if all of them are borrowed.
 abbrev pub KeepsForm : {B V : Type 0} → (B → V) → (B → List Bool) → V → List Bool →
     Result B ParseError → Type 0
 KeepsForm value_of form_of value form answer =
     IsCopy value_of form_of value form (AllAre true form) answer
 
--- A clone is a copy of the same value in the form that it has.
+-- A clone is a copy of the same value in the same form.
 abbrev pub IsClone : {B V : Type 0} → (B → V) → (B → List Bool) → B → Result B ParseError → Type 0
 IsClone value_of form_of from answer =
     KeepsForm value_of form_of (value_of from) (form_of from) answer
 
--- An owned copy borrows nothing. What is owned already is handed on, and takes no memory.
+-- An owned copy borrows nothing. It needs no memory if all lists are owned already.
 abbrev pub IsOwnedCopy : {B V : Type 0} → (B → V) → (B → List Bool) → B → Result B ParseError →
     Type 0
 IsOwnedCopy value_of form_of from answer =

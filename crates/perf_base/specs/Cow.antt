@@ -3,16 +3,16 @@ use Rattle.std.specs.Prelude.{Bool, true, false, List, [], ◌∷◌}
 use Rattle.perf_base.specs.declared.cow.CowSlice.{CowSlice}
 use Rattle.perf_base.specs.declared.cow.CowSlice.TheVariants as cow
 
--- its items, wherever they lie
+-- its items, borrowed or owned
 abbrev pub cow_items : {T : Type 0} → CowSlice T → List T
 cow_items (cow.Borrowed items) = items.now
 cow_items (cow.Owned items) = items.items
 
--- whether it borrows them
+-- whether the items are borrowed
 abbrev pub is_borrowed : {T : Type 0} → CowSlice T → Bool
 is_borrowed (cow.Borrowed items) = true
 is_borrowed (cow.Owned items) = false
 
--- its form, as that of a value of one list
+-- its form, as that of a value with one list
 abbrev pub cow_form : {T : Type 0} → CowSlice T → List Bool
 cow_form items = is_borrowed items ∷ []

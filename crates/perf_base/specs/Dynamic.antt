@@ -1,4 +1,4 @@
--- The order that `Dynamic` stands for.
+-- The order that a `Dynamic` represents.
 use Rattle.std.specs.Prelude.{Bool, true, false}
 use Rattle.perf_base.specs.Order.{Order, little, big}
 use Rattle.perf_base.specs.declared.endian.Dynamic.{Dynamic}

@@ -1,4 +1,4 @@
--- What an error is made of, and what `{}` writes of it.
+-- What an error consists of, and its text under `{}`.
 use Rattle.std.specs.Prelude.{◌≡◌, ℕ, ◌++◌, List, codes, Bool, true, false, Option, Some, None}
 use Rattle.std.specs.Fmt.InlineText.{inline_text}
 use Rattle.std.specs.declared.io.Error.{Error as IoError}
@@ -19,27 +19,27 @@ use Rattle.perf_base.specs.declared.error.ParseError.{ParseError}
 abbrev pub kind_of : ParseError → ErrorKind
 kind_of e = e.kind
 
--- the message, where a detail is one
+-- the message, if the detail is one
 abbrev pub detail_message : Detail → Option (List ℕ)
 detail_message Nothing = None
 detail_message (Message text) = Some (inline_text text)
 detail_message (Cause cause) = None
 
--- the outside error, where a detail is one
+-- the outside error, if the detail is one
 abbrev pub detail_cause : Detail → Option Error
 detail_cause Nothing = None
 detail_cause (Message text) = None
 detail_cause (Cause cause) = Some cause
 
--- the message that an error was made with
+-- the message with which an error was made
 abbrev pub message_of : ParseError → Option (List ℕ)
 message_of e = detail_message e.detail
 
--- the outside error that it was made of
+-- the outside error from which it was made
 abbrev pub cause_of : ParseError → Option Error
 cause_of e = detail_cause e.detail
 
--- what an error was made of
+-- what an error consists of
 pub record IsMadeOf (e : ParseError) (kind : ErrorKind) (message : Option (List ℕ))
     (cause : Option Error) : Type 0 where
   pub kind_is : kind_of e ≡ kind
@@ -55,21 +55,21 @@ kind_text UnsupportedData = codes "unsupported serialized data"
 kind_text External = codes "user-provided error"
 kind_text OutOfMemory = codes "out of memory"
 
--- a colon, a space and the message or the cause, where there is one
+-- a colon, a space and the message or the cause, if there is one
 abbrev pub detail_text : Detail → List ℕ
 detail_text Nothing = codes ""
 detail_text (Message text) = codes ": " ++ inline_text text
 detail_text (Cause cause) = codes ": " ++ error_message cause
 
--- what `{}` writes of an error
+-- the text of an error under `{}`
 abbrev pub error_text : ParseError → List ℕ
 error_text e = kind_text e.kind ++ detail_text e.detail
 
--- whether a kind of std says that the input ended
+-- whether an error kind of std is an unexpected end of the input
 abbrev pub is_eof : IoKind → Bool
 is_eof UnexpectedEof = true
 is_eof _ = false
 
--- the error of a reader that says that the input ended
+-- the error of a reader that reports an unexpected end of the input
 abbrev pub is_unexpected_eof : IoError → Bool
 is_unexpected_eof e = is_eof (error_kind e)

@@ -1,4 +1,4 @@
--- The words in which the parts of a structure are written down, one line a field, as in the manual
+-- The words in which the parts of a structure are written, one line per field, as in the manual
 -- page.
 use Rattle.std.specs.Prelude.{ℕ, Bool, List, Option, if◌then◌else◌}
 use Rattle.perf_base.specs.Layout.{w1, w2, w4, w8, number, optional, byte_string, words, padding, rest}
@@ -22,15 +22,15 @@ u32 = part (number w4) done
 abbrev pub u64 : Parts ℕ
 u64 = part (number w8) done
 
--- a number of eight bytes that is there, or not
+-- an optional number of eight bytes
 abbrev pub u64_if : Bool → Parts (Option ℕ)
 u64_if present = part (optional present w8) done
 
--- one of four bytes that is there, or not
+-- an optional number of four bytes
 abbrev pub u32_if : Bool → Parts (Option ℕ)
 u32_if present = part (optional present w4) done
 
--- one of two bytes that is there, or not
+-- an optional number of two bytes
 abbrev pub u16_if : Bool → Parts (Option ℕ)
 u16_if present = part (optional present w2) done
 
@@ -42,22 +42,22 @@ bytes n = part (byte_string n) done
 abbrev pub numbers : ℕ → Parts (List ℕ)
 numbers n = part (words n) done
 
--- n bytes that say nothing
+-- n bytes without a meaning
 abbrev pub ignored : ℕ → Parts (Unit {0})
 ignored n = part (padding n) done
 
--- n bytes that say nothing and are there, or not
+-- n optional bytes without a meaning
 abbrev pub ignored_if : Bool → ℕ → Parts (Unit {0})
 ignored_if present n = ignored (if present then n else 0)
 
--- all bytes that are left
+-- all remaining bytes
 abbrev pub all_left : Parts (List ℕ)
 all_left = part rest done
 
--- a name: all bytes that are left, without the zero bytes at their end
+-- a name: all remaining bytes, without the zero bytes at the end
 abbrev pub name : Parts (List ℕ)
 name = mapped trimmed all_left
 
--- a check, which refuses with its kind where it is false
+-- a check, which refuses with its kind if it is false
 abbrev pub require : Bool → ErrorKind → Parts (Unit {0})
 require holds kind = check holds kind (done tt)

@@ -13,10 +13,10 @@ header = do
   size ← u16
   done (record { type_ = ty; misc = misc; size = size })
 
--- the header that stands at the front of bytes, of which there are at least eight
+-- the header in the first eight bytes, of which there are at least eight
 abbrev pub header_of : Order → List ℕ → perf_event_header
 header_of o bytes = value o bytes 0 header
 
--- one whose fields are all 0
+-- a header whose fields are all 0
 abbrev pub zero_header : perf_event_header
 zero_header = record { type_ = 0; misc = 0; size = 0 }

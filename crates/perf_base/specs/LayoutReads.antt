@@ -1,5 +1,5 @@
--- Elementary reads: how much work a layout may cost. One read is one number, or one run of bytes
--- that wants at least one.
+-- Elementary reads: how much work a layout may cost. One read is one number, or one run of at least
+-- one byte.
 use Rattle.std.specs.Prelude.{ℕ, zero, suc, ◌+◌, ◌-◌, ◌/◌, true, false, List, [], ◌∷◌, length, take}
 use Rattle.std.specs.Prelude.{drop, Option, Some, None, nat_le}
 use Rattle.perf_base.specs.Order.{Order}
@@ -7,13 +7,13 @@ use Rattle.perf_base.specs.Layout.{Shape, number, optional, byte_string, words, 
 use Rattle.perf_base.specs.Layout.{size, Parts, done, part, check, Spot, takes, holds, spots}
 use Rattle.perf_base.specs.declared.error.ErrorKind.{ErrorKind}
 
--- one, but none for nothing
+-- one, or zero for zero
 abbrev pub one_if_any : ℕ → ℕ
 one_if_any zero = 0
 one_if_any (suc n) = 1
 
--- The reads of a part of n bytes that stands: each number is one, and so are other bytes, where
--- there are any.
+-- The reads of a part of n bytes that succeeds: one per number, and one for other bytes, if there
+-- are any.
 abbrev pub reads_of : Shape → ℕ → ℕ
 reads_of (number w) n = 1
 reads_of (optional b w) n = one_if_any n
@@ -22,12 +22,12 @@ reads_of (words k) n = k
 reads_of (padding k) n = one_if_any n
 reads_of rest n = one_if_any n
 
--- The reads of one that does not, of which so many bytes are left: the last of them fails.
+-- The reads of a part that fails with `left` bytes remaining: the last of the reads fails.
 abbrev pub failed_reads : Shape → ℕ → ℕ
 failed_reads (words k) left = left / 8 + 1
 failed_reads _ left = 1
 
--- the reads of parts at their places, up to the first that does not stand
+-- the reads of parts at their offsets, up to the first that fails
 abbrev pub reads : ℕ → List Spot → ℕ
 reads len [] = 0
 reads len (takes s n shape ∷ xs) =
@@ -35,14 +35,14 @@ reads len (takes s n shape ∷ xs) =
     [ true ↦ reads_of shape n + reads len xs | false ↦ failed_reads shape (len - s) ]
 reads len (holds s t e ∷ xs) = elim t [ true ↦ reads len xs | false ↦ 0 ]
 
--- The bytes that are consumed: all, where bytes are lacking; those before a check that is false.
+-- The bytes consumed: all of them, if there are too few; those before a check that is false.
 abbrev pub consumed : ℕ → ℕ → List Spot → ℕ
 consumed len at [] = at
 consumed len at (takes s n shape ∷ xs) =
     elim (nat_le (s + n) len) [ true ↦ consumed len (s + n) xs | false ↦ len ]
 consumed len at (holds s t e ∷ xs) = elim t [ true ↦ consumed len s xs | false ↦ s ]
 
--- one where there was a refusal
+-- one if there was a refusal
 abbrev pub one_if_refusal : Option ErrorKind → ℕ
 one_if_refusal None = 0
 one_if_refusal (Some e) = 1
@@ -55,7 +55,7 @@ layout_reads o p body = reads (length body) (spots o body 0 p)
 abbrev pub layout_consumed : {A : Type 0} → Order → Parts A → List ℕ → ℕ
 layout_consumed o p body = consumed (length body) 0 (spots o body 0 p)
 
--- the reads of a run over the bytes that are left
+-- the reads of a run over the remaining bytes
 abbrev pub run_reads : {A : Type 0} → Order → Parts A → List ℕ → ℕ
 run_reads o (done v) bytes = 0
 run_reads o (part shape k) bytes =

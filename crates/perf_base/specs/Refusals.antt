@@ -1,4 +1,4 @@
--- Why this library refuses, and what error that becomes.
+-- Why this library refuses, and which error that becomes.
 use Rattle.std.specs.Prelude.{◌≡◌, ◌≢◌, ℕ, List, codes, Option, Some, None, Result, Ok, Err, IfErr}
 use Rattle.perf_base.specs.Errors.{kind_of, message_of, cause_of}
 use Rattle.perf_base.specs.declared.error.ErrorKind.{ErrorKind}
@@ -46,24 +46,24 @@ refusal_text why.GroupLength =
 refusal_text why.OutOfMemory = None
 refusal_text (why.Kept kind) = None
 
--- it was made here, and is not an error that came from elsewhere
+-- P, if the refusal was made here, and not by an error from elsewhere
 abbrev pub Own : Refusal → Type 0 → Type 0
 Own (why.Kept kind) P = Unit {0}
 Own _ P = P
 
--- the error that a refusal becomes: of its kind and, where it was made here, with its message
+-- the error that a refusal becomes: of its kind and, if it was made here, with its message
 pub record IsAnswerOf (e : ParseError) (r : Refusal) : Type 0 where
   pub kind_is : kind_of e ≡ refusal_kind r
   pub made_is : Own r ((message_of e ≡ refusal_text r) × (cause_of e ≡ None))
 
--- ---- answers, of which a refusal is seen by its kind alone
+-- ---- results, in which a refusal counts only by its kind
 
--- of a call inside this library
+-- the result of a call inside this library
 abbrev pub kinds : {A : Type 0} → Result A Refusal → Result A ErrorKind
 kinds (Ok x) = Ok x
 kinds (Err e) = Err (refusal_kind e)
 
--- of a public call
+-- the result of a public call
 abbrev pub error_kinds : {A : Type 0} → Result A ParseError → Result A ErrorKind
 error_kinds (Ok x) = Ok x
 error_kinds (Err e) = Err (kind_of e)
@@ -73,6 +73,6 @@ abbrev pub refused : {A : Type 0} → Result A ErrorKind → Option ErrorKind
 refused (Ok x) = None
 refused (Err e) = Some e
 
--- a call that takes no memory, so that none can be refused
+-- the call needs no memory, so it is never out of memory
 abbrev pub TakesNoMemory : {A : Type 0} → Result A ErrorKind → Type 0
 TakesNoMemory r = IfErr r (λ e. e ≢ OutOfMemory)

@@ -1,4 +1,4 @@
--- Zero bytes: those that fill up a name, and those behind an attribute that say nothing.
+-- Zero bytes: those that pad a name, and those at the end of an attribute that have no meaning.
 use Rattle.std.specs.Prelude.{ℕ, Bool, List, [], ◌∷◌, ◌==◌, if◌then◌else◌}
 use Rattle.std.specs.List.{list_all}
 
@@ -6,7 +6,7 @@ use Rattle.std.specs.List.{list_all}
 abbrev pub all_zero : List ℕ → Bool
 all_zero bytes = list_all (λ byte. byte == 0) bytes
 
--- Bytes without the zero bytes at their end; one further in front stays.
+-- Bytes without the zero bytes at the end; earlier zero bytes stay.
 abbrev pub trimmed : List ℕ → List ℕ
 trimmed [] = []
 trimmed (byte ∷ bytes) = if all_zero (byte ∷ bytes) then [] else byte ∷ trimmed bytes

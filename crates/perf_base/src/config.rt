@@ -12,7 +12,7 @@ use crate::sys::perf_event_attr;
 use bitflags::Flags;
 use perf_words::{ReadFormat, SampleFlags};
 
-// Where in the packed word what stands, and how many bits of it.
+// The fields of the packed word: where each begins, and its number of bits.
 const SAMPLE_TYPE_AT: u32 = 6;
 
 const SAMPLE_ID_ALL_AT: u32 = 46;
@@ -23,7 +23,7 @@ const MISC_AT: u32 = 48;
 
 const SAMPLE_TYPE_BITS: u32 = 40;
 
-/// What the parser has to know of the event that wrote the records: its flags, packed into one
+/// What the parser needs to know of the event that wrote the records: its flags, packed into one
 /// word, two masks of registers and the byte order.
 #[derive(Debug, Drop)]
 pub struct ParseConfig<E> {
@@ -33,7 +33,7 @@ pub struct ParseConfig<E> {
     endian: E,
 }
 
-// What is kept of a read format: six bits, of which the last says too whether there were others.
+// What is kept of a read format: six bits, of which the last is also set if there were others.
 #[inline]
 fn kept_read_format(read_format: u64) -> u64
     ensures value { result ≡ config.kept_read_format read_format }
@@ -47,8 +47,8 @@ fn kept_read_format(read_format: u64) -> u64
 }
 
 impl<E> ParseConfig<E> {
-    /// What a read of a counter gives beside its value, `read_format` of the attribute: the five
-    /// bits that are known, and bit 5 where there was any other.
+    /// What a read of a counter returns besides its value, `read_format` of the attribute: the five
+    /// known bits, and bit 5 if there was any other.
     #[inline]
     pub fn read_format(&self) -> ReadFormat
         ensures { read_format_bits result ≡ (configuration_of self.now).read_format }
@@ -64,7 +64,7 @@ impl<E> ParseConfig<E> {
         SampleFlags::from_bits_retain((self.word >> SAMPLE_TYPE_AT) % (1 << SAMPLE_TYPE_BITS))
     }
 
-    /// Which of the user's registers a sample has, a bit each.
+    /// Which user registers a sample has, one bit each.
     #[inline]
     pub fn regs_user(&self) -> u64
         ensures { result ≡ (configuration_of self.now).regs_user }
@@ -72,7 +72,7 @@ impl<E> ParseConfig<E> {
         self.regs_user
     }
 
-    /// Which registers at the interrupt a sample has, a bit each.
+    /// Which registers at the interrupt a sample has, one bit each.
     #[inline]
     pub fn regs_intr(&self) -> u64
         ensures { result ≡ (configuration_of self.now).regs_intr }
@@ -96,7 +96,7 @@ impl<E> ParseConfig<E> {
         (self.word >> BRANCH_HW_INDEX_AT) % 2 == 1
     }
 
-    /// The `misc` of the record that is read: 0 but while the body of a frame is.
+    /// The `misc` of the record being read, or 0 if no body of a frame is being read.
     #[inline]
     pub fn misc(&self) -> u16
         ensures { result ≡ (configuration_of self.now).misc }
@@ -126,7 +126,7 @@ impl<E> ParseConfig<E> {
         }
     }
 
-    /// Puts another `misc` in the place of this.
+    /// Replaces the `misc`.
     #[inline]
     pub fn set_misc(&mut self, misc: u16)
         ensures changed { configuration_of self.new ≡
@@ -136,7 +136,7 @@ impl<E> ParseConfig<E> {
         self.word = self.word % (1 << MISC_AT) + (u64::from(misc) << MISC_AT);
     }
 
-    /// The same configuration with another sample type, of which the lowest 40 bits are kept.
+    /// The same configuration with another sample type. Its lowest 40 bits are kept.
     pub fn with_sample_type(self, sample_type: SampleFlags) -> ParseConfig<E>
         ensures changed { configuration_of result ≡
             config.under_sample_type (sample_flags_bits sample_type) (configuration_of self) }
@@ -153,8 +153,8 @@ impl<E> ParseConfig<E> {
         }
     }
 
-    /// The same configuration with another read format. Its lowest six bits are kept, of which bit
-    /// 5 is also set where there are others above them.
+    /// The same configuration with another read format. Its lowest six bits are kept, and bit 5 is
+    /// also set if there are higher ones.
     pub fn with_read_format(self, read_format: ReadFormat) -> ParseConfig<E>
         ensures changed { configuration_of result ≡
             config.under_read_format (read_format_bits read_format) (configuration_of self) }
@@ -186,7 +186,7 @@ impl<E: Drop> ParseConfig<E> {
 }
 
 impl<E: Endian> ParseConfig<E> {
-    /// A configuration that reads alike and is lent the order.
+    /// The same configuration, which borrows the byte order.
     #[inline]
     pub fn lent(&self) -> ParseConfig<&E>
         ensures same { configuration_of result ≡ configuration_of self.now }
@@ -200,7 +200,7 @@ impl<E: Endian> ParseConfig<E> {
         }
     }
 
-    /// A second configuration that reads alike. It is refused where the order's `duplicate` is.
+    /// A second configuration that reads the same way. It is refused if the order's `duplicate` is.
     #[inline]
     pub fn duplicate(&self) -> ParseResult<ParseConfig<E>>
         ensures same { IfOk result (λ c. configuration_of c ≡ configuration_of self.now) }
@@ -232,7 +232,7 @@ impl<E: Default> Default for ParseConfig<E> {
     }
 }
 
-// The flags of an attribute, packed. There is no frame yet, so that misc is 0.
+// The flags of an attribute, packed. There is no frame yet, so misc is 0.
 fn packed(attr: &perf_event_attr) -> u64
     ensures { config.unpacked result attr.now.sample_regs_user attr.now.sample_regs_intr ≡
         config.configured_by attr.now }
@@ -246,7 +246,7 @@ fn packed(attr: &perf_event_attr) -> u64
         + (branch_hw_index << BRANCH_HW_INDEX_AT)
 }
 
-/// What an attribute says, and the default order. No frame is read yet, so that `misc` is 0.
+/// The settings of an attribute, and the default order. No frame is read yet, so `misc` is 0.
 impl<E: Default> From<perf_event_attr> for ParseConfig<E> {
     ghost from_gives = { λ attr c. (configuration_of c ≡ config.configured_by attr)
         × E.is_default (endian_of c) };

@@ -1,4 +1,4 @@
-//! A list that is borrowed from the input where it can be, and owned where it cannot.
+//! A list that is borrowed from the input if possible, and owned otherwise.
 
 ghost use Rattle.std.specs.Prelude.{◌≡◌, ◌≤◌, length, take, drop, IsTrue, ◌↔◌, [], IsOk, IfOk};
 ghost use Rattle.std.specs.Prelude.{IfErr};
@@ -9,13 +9,13 @@ ghost use Rattle.perf_base.specs.Errors.{kind_of};
 use crate::error::{ErrorKind, ParseResult};
 use std::alloc::Global;
 
-/// Items that are borrowed from the input, or owned. Its meaning is the list of its items,
-/// whichever it is.
+/// Items that are borrowed from the input, or owned. In contracts it is the list of its items,
+/// either way.
 #[derive(Debug, Drop)]
 pub enum CowSlice<'a, T: Copy> {
-    /// Borrowed from the input, for as long as that lives.
+    /// Borrowed from the input, and valid as long as the input.
     Borrowed(&'a [T]),
-    /// Owned, as the input does not last or lay in pieces.
+    /// Owned, because the input does not live long enough or was in pieces.
     Owned(Vec<T>),
 }
 
@@ -31,7 +31,7 @@ impl<'a, T: Copy> CowSlice<'a, T> {
         }
     }
 
-    /// How many items there are.
+    /// The number of items.
     #[inline]
     pub fn len(&self) -> usize
         ensures { result ≡ length (cow_items self.now) }
@@ -53,8 +53,8 @@ impl<'a, T: Copy> CowSlice<'a, T> {
         }
     }
 
-    /// The first `at` items, and those behind them. Both are borrowed where the items are, and then
-    /// no memory is taken.
+    /// The first `at` items, and those after them. Both are borrowed if the items are, and then no
+    /// memory is needed.
     pub fn split_at(
         self,
         alloc: Global,
@@ -81,7 +81,7 @@ impl<'a, T: Copy> CowSlice<'a, T> {
         }
     }
 
-    /// Keeps the first `len` items, and all where there are no more. It takes no memory.
+    /// Keeps the first `len` items, or all if there are fewer. It needs no memory.
     pub fn truncate(&mut self, len: usize)
         ensures items { cow_items self.new ≡ take len (cow_items self.old) }
         ensures form { is_borrowed self.new ≡ is_borrowed self.old }
@@ -96,8 +96,7 @@ impl<'a, T: Copy> CowSlice<'a, T> {
         }
     }
 
-    /// The same items: borrowed where they are, and then no memory is taken, else in memory of
-    /// their own.
+    /// A copy of the items: borrowed if they are, and then no memory is needed; otherwise owned.
     pub fn clone(&self, alloc: Global) -> ParseResult<CowSlice<'a, T>>
         ensures { IsClone cow_items cow_form self.now result }
     {
@@ -110,9 +109,8 @@ impl<'a, T: Copy> CowSlice<'a, T> {
         }
     }
 
-    /// The same items in memory of their own, so that they last as long as one likes. It takes no
-    /// memory where they are owned already. Where it is refused, `OutOfMemory`, the items are given
-    /// up.
+    /// Makes the items owned, so that they do not borrow from the input. It needs no memory if they
+    /// are owned already. If out of memory, it returns `OutOfMemory` and the items are dropped.
     pub fn into_owned<'b>(self, alloc: Global) -> ParseResult<CowSlice<'b, T>>
         ensures { IsOwnedCopy cow_items cow_form self.entry result }
     {

@@ -1,7 +1,7 @@
-//! Byte orders: how the bytes of a number become the number.
+//! Byte orders: how bytes become a number.
 //!
-//! Take [`Native`] for what this machine's kernel wrote, [`Dynamic`] for a file that says its order
-//! itself, and [`Little`] or [`Big`] where the order is known beforehand.
+//! Use [`Native`] for what this machine's kernel wrote, [`Dynamic`] for a file that specifies its
+//! order itself, and [`Little`] or [`Big`] if the order is known in advance.
 
 ghost use Rattle.std.specs.Prelude.{◌≡◌, Bool, true, false, IsTrue, IfOk, IfErr};
 ghost use Rattle.perf_base.specs.Order.{Order, little, big};
@@ -10,7 +10,7 @@ ghost use Rattle.perf_base.specs.Errors.{kind_of};
 
 use crate::error::{ErrorKind, ParseResult};
 
-/// Turns bytes of the source into numbers. What an order answers is its own stated function of the
+/// Turns bytes of the source into numbers. The result of an order is its own stated function of the
 /// bytes.
 pub trait Endian: Drop {
     ghost order: { Self → Order };
@@ -30,15 +30,15 @@ pub trait Endian: Drop {
     fn convert_u64(&self, bytes: [u8; 8]) -> u64
         ensures { result ≡ (order self.now).eight bytes };
 
-    /// Whether this is the machine's own order. No answer of this library depends on it. An order
-    /// that returns `true` converts like [`Little`]; one that does not know may keep `false`.
+    /// Whether this is the machine's own order. No result of this library depends on it. An order
+    /// that returns `true` converts like [`Little`]; one that does not know may return `false`.
     fn is_native(&self) -> bool
         ensures native { IsTrue result → order self.now ≡ little }
     {
         false
     }
 
-    /// A second order that converts alike. It is refused for want of memory alone.
+    /// A second order that converts the same way. It fails only if out of memory.
     fn duplicate(&self) -> ParseResult<Self>
         ensures alike { IfOk result (λ e. (order e ≡ order self.now)
             × (may_refuse e ≡ may_refuse self.now)) }
@@ -46,7 +46,7 @@ pub trait Endian: Drop {
             × IsTrue (may_refuse self.now)) };
 }
 
-/// The machine's own order, which is little on every machine that this library is built for.
+/// The machine's own order, which is little-endian on every machine this library is built for.
 #[derive(Copy, Clone, Debug, Default)]
 pub struct Native;
 
@@ -154,7 +154,7 @@ impl Endian for Big {
     }
 }
 
-/// An order that is lent, and converts alike.
+/// A borrowed order, which converts the same way.
 impl<E: Endian> Endian for &E {
     ghost order = { λ e. E.order e.now };
 

@@ -10,27 +10,27 @@ use std::alloc::{AllocError, AllocFailed};
 use std::fmt::InlineText;
 use std::{fmt, io};
 
-/// How many bytes of a message are kept. Every message of this library fits.
+/// The number of bytes of a message that are kept. Every message of this library fits.
 const ROOM: usize = 120;
 
-/// What a call of this library answers: a value, or why there is none.
+/// The result of a call of this library: a value, or why there is none.
 pub type ParseResult<T> = Result<T, ParseError>;
 
 /// The six kinds of refusal.
 #[derive(Copy, Clone, Debug, PartialEq, Eq, Hash)]
 pub enum ErrorKind {
-    /// There are fewer bytes than a number, a list or a record wants.
+    /// There are fewer bytes than a number, a list or a record needs.
     Eof,
-    /// A record says of itself what cannot be, such as a size below that of its header.
+    /// A record contains an impossible value, such as a size below that of its header.
     InvalidRecord,
-    /// The configuration asks for a format that this record cannot have.
+    /// The configuration specifies a format that this record cannot have.
     UnsupportedConfig,
-    /// An attribute has fields of a kernel that is newer than this library.
+    /// An attribute has fields of a kernel newer than this library.
     UnsupportedData,
-    /// The buffer could not go on, as where a reader failed. This library answers it for nothing
+    /// The buffer failed, such as by an error of its reader. This library returns it for nothing
     /// else.
     External,
-    /// Memory was refused.
+    /// Out of memory.
     OutOfMemory,
 }
 
@@ -49,7 +49,7 @@ impl ErrorKind {
     }
 }
 
-// What an error says beside its kind.
+// What an error contains besides its kind.
 #[derive(Drop)]
 enum Detail {
     Nothing,
@@ -57,7 +57,7 @@ enum Detail {
     Cause(anyhow::Error),
 }
 
-/// Why something could not be parsed: a kind, and perhaps a message or an outside cause.
+/// Why something could not be parsed: a kind, and possibly a message or an outside cause.
 #[derive(Drop)]
 pub struct ParseError {
     kind: ErrorKind,
@@ -66,7 +66,7 @@ pub struct ParseError {
 
 impl ParseError {
     // It is inlined, and so are the calls that make one without a message: an error is large, and a
-    // caller that has it made elsewhere clears a place for it before it knows whether there is one.
+    // caller that has it made elsewhere clears space for it before it knows whether there is one.
     #[inline(always)]
     pub(crate) fn plain(kind: ErrorKind) -> ParseError
         ensures { IsMadeOf result kind None None }
@@ -88,7 +88,7 @@ impl ParseError {
         }
     }
 
-    /// An error with a message, of which the first 120 bytes are kept.
+    /// An error with a message. Its first 120 bytes are kept.
     #[cold]
     pub fn custom(kind: ErrorKind, message: &'static str) -> ParseError
         ensures cut { IsMadeOf result kind (Some (cut_to 120 message.now)) None }
@@ -108,7 +108,7 @@ impl ParseError {
         ParseError::plain(ErrorKind::Eof)
     }
 
-    /// Memory was refused.
+    /// Out of memory.
     #[inline(always)]
     pub fn out_of_memory() -> ParseError
         ensures { IsMadeOf result ErrorKind.OutOfMemory None None }
@@ -124,7 +124,7 @@ impl ParseError {
         self.kind
     }
 
-    /// The message that it was made with, if there is one.
+    /// The message with which it was made, if there is one.
     pub fn message(&self) -> Option<&str>
         ensures { option_map (λ text. text.now) result ≡ message_of self.now }
     {
@@ -134,7 +134,7 @@ impl ParseError {
         }
     }
 
-    /// The outside error that it was made of, if there is one.
+    /// The outside error from which it was made, if there is one.
     pub fn cause(&self) -> Option<&anyhow::Error>
         ensures { option_map (λ cause. cause.now) result ≡ cause_of self.now }
     {
@@ -169,7 +169,7 @@ impl<T: Drop> From<AllocFailed<T>> for ParseError {
     }
 }
 
-/// An input that ended too early is [`ErrorKind::Eof`], and any other error
+/// An unexpected end of the input is [`ErrorKind::Eof`], and any other error
 /// [`ErrorKind::External`].
 impl From<io::Error> for ParseError {
     ghost from_gives = { λ x e.

@@ -1,4 +1,4 @@
-//! Laws of equality and hashing: two orders, or two kinds of refusal, are equal exactly where they
+//! Laws of equality and hashing: two orders, or two kinds of refusal, are equal if and only if they
 //! are the same one, and hash as its number does, whatever the hash function. And a law of the bits
 //! that `sys` names.
 
@@ -14,7 +14,7 @@ use crate::sys::{PERF_RECORD_MISC_MMAP_BUILD_ID, PERF_RECORD_MISC_SWITCH_OUT};
 use perf_words::laws::Compared;
 use std::hash::BuildHasher;
 
-/// How two values of [`Dynamic`] compare and hash: by which order it is.
+/// How two values of [`Dynamic`] compare and hash: by their order.
 pub fn dynamic_by_number<S: BuildHasher>(hashing: &S, first: Dynamic, second: Dynamic) -> Compared
     ensures { IsByNumber
         (number_hash S.Hasher.finish S.Hasher.write (S.build_hasher hashing.now) fed.u64)
@@ -28,7 +28,7 @@ pub fn dynamic_by_number<S: BuildHasher>(hashing: &S, first: Dynamic, second: Dy
     }
 }
 
-/// How two values of [`ErrorKind`] compare and hash: by which kind it is.
+/// How two values of [`ErrorKind`] compare and hash: by their kind.
 pub fn error_kind_by_number<S: BuildHasher>(
     hashing: &S,
     first: ErrorKind,
@@ -46,8 +46,8 @@ pub fn error_kind_by_number<S: BuildHasher>(
     }
 }
 
-/// The two bits of a header's `misc` that say how its record is read: that of a switch away from a
-/// task, and that of a mapping whose file is named by a build id.
+/// The two bits of a header's `misc` that specify how its record is read: that of a switch away
+/// from a task, and that of a mapping whose file is identified by a build id.
 pub fn misc_bits() -> (u16, u16)
     ensures switch_out { result.0 ≡ 2 ^ switch_out_bit }
     ensures build_id { result.1 ≡ 2 ^ build_id_bit }

@@ -1,6 +1,6 @@
-//! What every crate of the port stands on: byte orders, errors, byte strings that may be borrowed,
-//! the configuration and the header of a record. Its `specs/` hold the model of a layout that all
-//! contracts above cite.
+//! The base of every crate of the port: byte orders, errors, byte strings that may be borrowed, the
+//! configuration and the header of a record. Its `specs/` are the model of a layout that the
+//! contracts of all other crates cite.
 #![tactic(auto)]
 
 pub mod config;

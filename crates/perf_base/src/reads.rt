@@ -1,4 +1,4 @@
-//! A count of elementary reads that takes no bytes and no time.
+//! A count of elementary reads that costs no bytes and no time.
 
 ghost use Rattle.std.specs.Prelude.{◌≡◌, ℕ, ◌+◌};
 ghost use Rattle.perf_base.specs.ReadCount.{steps_of};
@@ -14,8 +14,8 @@ enum Steps {
     Sum(Snapshot<Steps>, Snapshot<Steps>),
 }
 
-/// How many elementary reads were made: a number for contracts alone, of which no byte is kept when
-/// it runs.
+/// The number of elementary reads made so far: a number for contracts alone, which takes no space
+/// at run time.
 #[derive(Drop)]
 pub struct ReadCounter {
     made: Snapshot<Steps>,
@@ -36,7 +36,7 @@ impl ReadCounter {
         ReadCounter::of(0)
     }
 
-    /// So many reads.
+    /// `count` reads.
     #[inline]
     pub fn of(count: u64) -> ReadCounter
         ensures { result ≡ count }
@@ -54,7 +54,7 @@ impl ReadCounter {
         self.add(ReadCounter::of(1));
     }
 
-    /// Counts one read where there is a byte to read.
+    /// Counts one read if there is a byte to read.
     #[inline]
     pub fn tick_if_any(&mut self, count: usize)
         ensures { self.new ≡ self.old + one_if_any count }

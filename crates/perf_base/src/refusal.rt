@@ -1,5 +1,5 @@
-//! Why the calls inside this library refuse: a value of two bytes, which becomes an error where it
-//! is answered.
+//! Why the calls inside this library refuse: a value of two bytes, which becomes an error when a
+//! public call returns it.
 
 ghost use Rattle.std.specs.Prelude.{◌≡◌, option_map};
 ghost use Rattle.perf_base.specs.Errors.{kind_of};
@@ -7,42 +7,43 @@ ghost use Rattle.perf_base.specs.Refusals.{refusal_kind, refusal_text, IsAnswerO
 
 use crate::error::{ErrorKind, ParseError};
 
-/// What a call inside this library answers: a value, or the reason why there is none.
+/// The result of a call inside this library: a value, or the reason why there is none.
 pub type ReadResult<T> = Result<T, Refusal>;
 
-/// Why this library refuses. It takes two bytes, and becomes a [`ParseError`] where it is answered.
+/// Why this library refuses. It takes two bytes, and becomes a [`ParseError`] when a public call
+/// returns it.
 #[derive(Copy, Clone, Debug, PartialEq, Eq)]
 pub enum Refusal {
     /// There are not enough bytes.
     Eof,
-    /// A header's size does not count the header.
+    /// A header's size is smaller than the header.
     SmallHeader,
     /// A frame is too short for its sample id.
     NoRoomForId,
     /// No attribute has that size.
     AttributeSize,
-    /// An attribute has fields that are not known.
+    /// An attribute has unknown fields.
     AttributeTail,
-    /// A build id says that it is longer than its bytes.
+    /// The length of a build id is greater than its number of bytes.
     BuildIdLength,
-    /// A user's stack says that more of it was used than the record has.
+    /// The used size of a user stack is greater than the record's copy of it.
     UsedStack,
-    /// A single counter was to be read where the format is that of a group.
+    /// A single counter was to be read, but the format is that of a group.
     SingleRead,
-    /// A group was to be read where the format is that of a single counter.
+    /// A group was to be read, but the format is that of a single counter.
     GroupRead,
-    /// The format of a counter's read has flags that are not known.
+    /// The read format of a counter has unknown flags.
     ReadFormat,
-    /// A group says that it has more numbers than can be counted.
+    /// A group has more numbers than can be counted.
     GroupLength,
-    /// Memory was refused.
+    /// Out of memory.
     OutOfMemory,
-    /// An error of that kind, which was not made here and is kept beside.
+    /// An error of that kind that was made elsewhere, and is kept separately.
     Kept(ErrorKind),
 }
 
 impl Refusal {
-    /// The kind of the error that it becomes.
+    /// The kind of the error it becomes.
     #[inline]
     pub fn kind(self) -> ErrorKind
         ensures { result ≡ refusal_kind self }
@@ -64,7 +65,7 @@ impl Refusal {
         }
     }
 
-    // The message of the error that it becomes, if it has one.
+    // The message of the error it becomes, if it has one.
     fn message(self) -> Option<&'static str>
         ensures { option_map (λ text. text.now) result ≡ refusal_text self }
     {
@@ -93,7 +94,7 @@ impl Refusal {
         }
     }
 
-    // The error of its kind and its message.
+    // The error with its kind and its message.
     fn error(self) -> ParseError
         ensures { IsAnswerOf result self }
     {
@@ -104,7 +105,7 @@ impl Refusal {
     }
 }
 
-/// The error of a buffer or of a caller's own type, until it is answered.
+/// The error of a buffer or of a caller's own type, until it is returned.
 #[derive(Drop)]
 pub struct Kept {
     error: Option<ParseError>,
@@ -117,7 +118,7 @@ impl Kept {
         Kept { error: None }
     }
 
-    /// Keeps an error, in the place of an earlier one.
+    /// Keeps an error, which replaces an earlier one.
     #[cold]
     #[inline(never)]
     pub fn keep(&mut self, error: ParseError) -> Refusal
@@ -128,7 +129,7 @@ impl Kept {
         Refusal::Kept(kind)
     }
 
-    // The error that is kept, where it is of that kind.
+    // The error that is kept, if it is of that kind.
     fn take(&mut self, kind: ErrorKind) -> ParseError
         ensures { kind_of result ≡ kind }
     {
