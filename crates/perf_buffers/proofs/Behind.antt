@@ -1,4 +1,4 @@
--- A call behind others, and what its answer says of all of them.
+-- A call after others, and what its result states for all of them.
 use Rattle.std.proofs.Common.{◌≡◌, ℕ, ◌-◌, ◌<◌, ◌≤◌, List, length, drop, ◌∙◌, ap, arith, length-drop, refl}
 use Rattle.std.proofs.lemmas.Bool.Decides.{nat_tests}
 use Rattle.std.specs.Prelude.{Option, None, Some, Result, Ok, Err, IfErr, Bool, true, false, is_some, nat_lt}
@@ -10,7 +10,7 @@ use Rattle.perf_buffers.specs.Taking.{Moves, MovesWithin, Takes, FailsToTake, Fa
 use Rattle.perf_buffers.proofs.Chunks.{within_none}
 use Rattle.perf_buffers.proofs.Taking.{takes_moves, moves_more}
 
--- some bytes were taken, and then fewer than were asked for
+-- some bytes were taken, and then fewer than requested
 within_on : (a b c : Source) (m n : ℕ) → m ≤ n → Takes a m b → MovesWithin b (n - m) c → MovesWithin a n c
 within_on a b c m n le p q =
     let behind : length b.left ≡ length a.left - m = ap length p.1 ∙ length-drop m a.left in
@@ -44,7 +44,7 @@ moves_same a b c same q =
     let taken : consumed b c ≡ consumed a c = ap (λ k. k - length c.left) long in
     (omega arith, q.1 ∙ ap (λ k. drop k b.left) taken ∙ ap (λ xs. drop (consumed a c) xs) same)
 
--- nothing was taken, and then fewer than were asked for
+-- nothing was taken, and then fewer than requested
 within_same : (a b c : Source) (n : ℕ) → b.left ≡ a.left → MovesWithin b n c → MovesWithin a n c
 within_same a b c n same q =
     let long : length b.left ≡ length a.left = ap length same in
@@ -66,7 +66,7 @@ takes_same a b c n UnsupportedConfig same q = q
 takes_same a b c n UnsupportedData same q = q
 takes_same a b c n OutOfMemory same q = q
 
--- a beginning was taken, and then the rest was refused
+-- a prefix was taken, and then the rest was refused
 pub rest_on : (a b c : Source) (n : ℕ) (k : ErrorKind) → Takes a n b → FailsInRest b k c → FailsInRest a k c
 rest_on a b c n Eof p q = q
 rest_on a b c n External p q = moves_more a b c (takes_moves a b n p) q
@@ -84,7 +84,7 @@ rest_same a b c UnsupportedConfig same q = q
 rest_same a b c UnsupportedData same q = q
 rest_same a b c OutOfMemory same q = moves_same a b c same q
 
--- a read that keeps nothing fails as one that keeps the bytes
+-- a read that keeps no bytes fails like one that keeps them
 pub fails_to_keep : (a b : Source) (n : ℕ) (k : ErrorKind) → FailsToTake a n k b → FailsToKeep a n k b
 fails_to_keep a b n Eof q = q
 fails_to_keep a b n External q = q
@@ -93,38 +93,38 @@ fails_to_keep a b n UnsupportedConfig q = q
 fails_to_keep a b n UnsupportedData q = q
 fails_to_keep a b n OutOfMemory q = absurd q
 
--- what every refusal says
+-- what every refusal implies
 pub if_err : {X E : Type 0} (P Q : E → Type 0) (r : Result X E) → ((e : E) → P e → Q e) → IfErr r P → IfErr r Q
 if_err P Q (Ok x) f p = tt
 if_err P Q (Err e) f p = f e p
 
--- a hint never falls short of nothing
+-- a hint never falls short of zero
 pub never_short : (hint : Option ℕ) (len : ℕ) → len ≡ 0 → falls_short hint len ≡ true → ⊥
 never_short None len none short = cc
 never_short (Some left) len none short = grind (arith, nat_tests)
 
--- what a hint says before the first byte, and what it says once it is known not to fall short
+-- what a hint means before the first byte, and what it means once it is known not to fall short
 pub all_room : (hint : Option ℕ) (len : ℕ) → is_made_beforehand hint len ≡ true → makes_all_room (is_some hint) len ≡ true
 all_room None len made = made
 all_room (Some left) len made = refl
 
--- all room is as much as was asked for
+-- all capacity is as much as requested
 pub made_room : (hinted : Bool) (len : ℕ) → makes_all_room hinted len ≡ true → room_made hinted len ≡ len
 made_room true len made = refl
 made_room false len made = grind (arith, nat_tests)
 
--- a hint that is the number of bytes does not fall short of fewer
+-- a hint that is the exact number of bytes does not fall short of fewer
 pub enough : (left len : ℕ) → len ≤ left → nat_lt left len ≡ true → ⊥
 enough left len there short = grind (arith, nat_tests)
 
 pub fewer : (left len : ℕ) → nat_lt left len ≡ true → left < len
 fewer left len short = grind (arith, nat_tests)
 
--- the bytes behind a place of one's own
+-- the bytes from a place on
 abbrev pub own : List ℕ → ℕ → Source
 own bytes place = record { left = drop place bytes; told = true; whole = false; can_fault = false; faults = None }
 
--- what a refused copy of them is for a read
+-- what a failed copy of them means for a read
 pub record RefusedBehind (n : ℕ) (k : ErrorKind) (bytes : List ℕ) (old new : ℕ) : Type 0 where
   pub faults : None ≡ faults_after None (Some k)
   pub can_fail : CanFail (own bytes old) (Some k)

@@ -12,7 +12,7 @@ use Rattle.perf_buffers.specs.Buffer.{Source, Stays, Refuses, KeepsChunk, Shows,
 use Rattle.perf_buffers.specs.Taking.{Moves, MovesWithin, Takes, FailsToTake, FailsToKeep, FailsInRest, CanFail, consumed}
 use Rattle.perf_buffers.specs.declared.parsebuf.ParseBufChunk.{ParseBufChunk}
 
--- calls that were not refused, and then another
+-- calls that were not refused, and then another call
 pub stays_then : (a b c : Source) (e : Option ErrorKind) → Stays a None b → Stays b e c → Stays a e c
 stays_then a b c e p q = (q.0 ∙ p.0, (λ x. p.1 (q.1 x)), q.2 ∙ ap (λ n. faults_after n e) p.2, (λ t. q.3 (p.3 t)))
 
@@ -25,7 +25,7 @@ can_fail_then a b (Some UnsupportedData) p q = tt
 can_fail_then a b (Some External) p q = p.1 q
 can_fail_then a b (Some OutOfMemory) p q = tt
 
--- an error that a `?` hands on as it is
+-- an error that a `?` returns unchanged
 pub came_up : {X E : Type 0} (r : Result X E) (e : E) → IsErr r × IsErrAnd r (λ x. x ≡ e) → r ≡ Err e
 came_up (Ok x) e h = cc
 came_up (Err x) e h = ap Err h.1
@@ -42,7 +42,7 @@ within_none a b n same =
     let long : length b.left ≡ length a.left = ap length same in
     (omega arith, moves_none a b same)
 
--- what a refused chunk is for a read of n bytes
+-- what a refused chunk means for a read of n bytes
 pub record Refused (a : Source) (n : ℕ) (k : ErrorKind) (b : Source) : Type 0 where
   pub stays : Stays a (Some k) b
   pub can_fail : CanFail a (Some k)
@@ -83,7 +83,7 @@ refused_chunk a b ready n r e some why is kept =
     let k = subst (λ s. KeepsChunk a s b ready) is kept in
     refused a b n (kind_of e) some why k.0 k.1
 
--- what a chunk is that was shown
+-- what a shown chunk means
 pub record Shown (a : Source) (c : ParseBufChunk) (ready : List ℕ) (b : Source) : Type 0 where
   pub stays : Stays a None b
   pub same : IsTrue a.told → b.left ≡ a.left
@@ -116,19 +116,19 @@ taken_chunk a m b c ready n within h on = record {
   same = λ t. ap (λ xs. take n xs) (sym (h.shows.1 t)) ∙ take-take n (length (chunk_bytes c)) a.left within;
 }
 
--- bytes that were appended, or not
+-- bytes that were appended, or were not
 pub appended : (b : Bool) (out now more left : List ℕ) (n : ℕ) → out ≡ if b then (now ++ take n more) else now → b ≡ true → take n more ≡ take n left → out ≡ now ++ take n left
 appended b out now more left n p q r = p ∙ rw q (ap (λ xs. now ++ xs) r)
 
 pub left_as_was : (b : Bool) (out now more : List ℕ) → out ≡ if b then more else now → b ≡ false → out ≡ now
 left_as_was b out now more p q = p ∙ rw q refl
 
--- room that was there is not refused
+-- space within the capacity is not refused
 pub room_was_short : {X E : Type 0} (r : Result X E) (len part n room : ℕ) → is_ok r ≡ false → (len + part ≤ room → IsOk r) → part ≤ n → len + n ≤ room → ⊥
 room_was_short (Ok x) len part n room failed fits within there = cc
 room_was_short (Err e) len part n room failed fits within there = let never = fits (omega arith) in cc
 
--- memory was refused, and nothing was taken
+-- the allocation failed, and nothing was taken
 pub record Starved (a : Source) (n : ℕ) (k : ErrorKind) (b : Source) : Type 0 where
   pub stays : Stays a (Some k) b
   pub can_fail : CanFail a (Some k)
@@ -152,7 +152,7 @@ is_eof e k b p q r = sym p ∙ same_true the_type (search rules) k Eof (sym q �
 pub is_not_eof : (e : ParseError) (k : ErrorKind) (b : Bool) → k ≡ kind_of e → b ≡ sameb the_type k Eof → b ≡ false → kind_of e ≢ Eof
 is_not_eof e k b p q r h = same_false the_type k Eof (sym q ∙ r) (p ∙ h)
 
--- what the end is for a read that goes on
+-- what the end means for a read that goes on
 pub record Ended (a b : Source) : Type 0 where
   pub stays : Stays a None b
   pub same : IsTrue a.told → b.left ≡ a.left

@@ -1,4 +1,4 @@
--- Reads one after the other.
+-- Reads one after another.
 use Rattle.std.proofs.Common.{rules, ◌≡◌, ℕ, ◌+◌, ◌-◌, ◌≤◌, Bool, List, length, take, drop, arith, sym, ◌∙◌, ap, ◌++◌, length-drop, [], refl}
 use Rattle.std.proofs.lemmas.List.{append_assoc, drop-drop, take_at, drop_at, take-append-le, length-take-le, take_all, nil_from_length}
 use Rattle.std.proofs.Math.Seq.{take-add}

@@ -1,5 +1,5 @@
--- A buffer: the bytes that are left in it, and what its calls show, refuse and take. Above, only what
--- a viewer is handed is a chunk.
+-- A buffer: the bytes left in it, and what its calls show, refuse and take. In the crates above, only
+-- what a `FrameReader` is given is a chunk.
 use Rattle.std.specs.Prelude.{Option, Result, ◌≡◌, ℕ, ◌+◌, ◌<◌, Bool, true, false, IsTrue, List, []}
 use Rattle.std.specs.Prelude.{length, drop, Ok, Err, Some, None, IfOk, IfErr, IsOkAnd, ◌≢◌}
 use Rattle.std.specs.Io.{StartsWith}
@@ -12,17 +12,17 @@ use Rattle.perf_base.specs.declared.error.ParseError.{ParseError}
 use Rattle.perf_buffers.specs.declared.parsebuf.ParseBufChunk.{ParseBufChunk}
 use Rattle.perf_buffers.specs.declared.parsebuf.ParseBufChunk.TheVariants as chunk
 
--- What a buffer holds.
+-- The state of a buffer.
 pub record Source : Type 0 where
   -- the bytes that are left
   pub left : List ℕ
-  -- it tells them: else `left` says nothing
+  -- its bytes are known; otherwise `left` has no meaning
   pub told : Bool
-  -- each chunk lasts as long as the input, and is all that is left
+  -- contiguous: each chunk lives as long as the input, and is all that is left
   pub whole : Bool
-  -- it may refuse a chunk by a fault
+  -- it may refuse a chunk with a fault
   pub can_fault : Bool
-  -- how many faults it has answered, where it counts them
+  -- the number of faults it has returned, if it counts them
   pub faults : Option ℕ
 
 -- ---- what `chunk` shows
@@ -32,24 +32,25 @@ abbrev pub chunk_bytes : ParseBufChunk → List ℕ
 chunk_bytes (chunk.Temporary bytes) = bytes.now
 chunk_bytes (chunk.External bytes) = bytes.now
 
--- it lasts as long as the input
+-- it lives as long as the input
 abbrev pub lasts : ParseBufChunk → Bool
 lasts (chunk.Temporary bytes) = false
 lasts (chunk.External bytes) = true
 
--- A chunk is a non-empty beginning of what is left. Of a whole buffer it lasts, and is all of it.
+-- A chunk is a non-empty prefix of what is left. That of a whole buffer is borrowed, and is all of
+-- it.
 abbrev pub Shows : Source → ParseBufChunk → Type 0
 Shows old c =
     (0 < length (chunk_bytes c)) × (IsTrue old.told → StartsWith old.left (chunk_bytes c))
     × (IsTrue old.whole → (chunk_bytes c ≡ old.left) × IsTrue (lasts c) × IsTrue old.told)
 
--- Bytes that are ready are shown once more, until `advance` takes them.
+-- Bytes that are ready are shown again, until `advance` takes them.
 abbrev pub ShowsReady : List ℕ → Result ParseBufChunk ParseError → Type 0
 ShowsReady ready r = 0 < length ready → IsOkAnd r (λ c. chunk_bytes c ≡ ready)
 
 -- ---- why it refuses
 
--- the end comes only where nothing is left, a fault only where there can be one, and nothing else
+-- the end only if nothing is left, a fault only if there can be one, and nothing else
 abbrev pub Refuses : Source → ErrorKind → Type 0
 Refuses old Eof = IsTrue old.told → old.left ≡ []
 Refuses old External = IsTrue old.can_fault
@@ -63,18 +64,18 @@ abbrev pub refusal : {A : Type 0} → Result A ParseError → Option ErrorKind
 refusal (Ok x) = None
 refusal (Err e) = Some (kind_of e)
 
--- a call that takes no memory, so that none can be refused
+-- the call needs no memory, so it is never out of memory
 abbrev pub NeedsNoMemory : {A : Type 0} → Result A ParseError → Type 0
 NeedsNoMemory r = IfErr r (λ e. kind_of e ≢ OutOfMemory)
 
 -- ---- what it leaves
 
--- one fault more, where they are counted
+-- one more fault, if they are counted
 abbrev pub one_more : Option ℕ → Option ℕ
 one_more None = None
 one_more (Some n) = Some (n + 1)
 
--- the count of faults after a call, which rises with a fault and with nothing else
+-- the count of faults after a call, which only a fault increases
 abbrev pub faults_after : Option ℕ → Option ErrorKind → Option ℕ
 faults_after n None = n
 faults_after n (Some Eof) = n
@@ -84,14 +85,14 @@ faults_after n (Some UnsupportedData) = n
 faults_after n (Some External) = one_more n
 faults_after n (Some OutOfMemory) = n
 
--- What any call keeps: a buffer stays whole and goes on telling its bytes, one that cannot fault
--- never can again, and faults are counted.
+-- What every call preserves: a whole buffer stays whole, known bytes stay known, a buffer that
+-- cannot fault never can, and faults are counted.
 abbrev pub Stays : Source → Option ErrorKind → Source → Type 0
 Stays old e new =
     (new.whole ≡ old.whole) × (IsTrue new.can_fault → IsTrue old.can_fault)
     × (new.faults ≡ faults_after old.faults e) × (IsTrue old.told → IsTrue new.told)
 
--- `chunk` takes nothing, and what it showed is ready.
+-- `chunk` takes nothing, and the bytes that it showed are ready.
 abbrev pub KeepsChunk : Source → Result ParseBufChunk ParseError → Source → List ℕ → Type 0
 KeepsChunk old r new ready =
     Stays old (refusal r) new × (IsTrue old.told → new.left ≡ old.left)
@@ -101,19 +102,19 @@ KeepsChunk old r new ready =
 abbrev pub Advances : Source → ℕ → Source → Type 0
 Advances old n new = Stays old None new × (IsTrue old.told → new.left ≡ drop n old.left)
 
--- ---- the bytes of a reader, where it tells them
+-- ---- the bytes of a reader, if they are known
 
--- the bytes that a reader tells, or none
+-- the bytes of a reader if known, otherwise none
 abbrev pub known : Option (List ℕ) → List ℕ
 known None = []
 known (Some xs) = xs
 
--- whether it tells them
+-- whether they are known
 abbrev pub is_known : Option (List ℕ) → Bool
 is_known None = false
 is_known (Some xs) = true
 
--- why one with these bytes refuses: the end comes only where nothing is left
+-- why a reader with these bytes refuses: the end only if nothing is left
 abbrev pub RefusesReader : Option (List ℕ) → ErrorKind → Type 0
 RefusesReader old Eof = IsTrue (is_known old) → known old ≡ []
 RefusesReader old External = Unit {0}

@@ -1,4 +1,4 @@
--- What a `PieceBuf` was made of.
+-- The contents of a `PieceBuf`.
 use Rattle.std.specs.Prelude.{ℕ, Bool, true, false, List, take, None}
 use Rattle.perf_buffers.specs.Buffer.{Source}
 use Rattle.perf_buffers.specs.declared.pieces.PieceBuf.{PieceBuf}
@@ -7,15 +7,15 @@ use Rattle.perf_buffers.specs.declared.pieces.PieceBuf.{PieceBuf}
 abbrev pub piece_bytes : PieceBuf → List ℕ
 piece_bytes b = b.bytes.now
 
--- how many bytes a piece has at most
+-- the maximal number of bytes of a piece
 abbrev pub piece_most : PieceBuf → ℕ
 piece_most b = b.most
 
--- whether its pieces last
+-- whether its pieces live as long as the input
 abbrev pub piece_lasting : PieceBuf → Bool
 piece_lasting b = b.lasting
 
--- what it holds: bytes that it tells, which come in pieces and never by a fault
+-- its state as a buffer: known bytes, which come in pieces and without faults
 abbrev pub piece_source : PieceBuf → Source
 piece_source b = record {
   left = b.bytes.now;

@@ -1,24 +1,24 @@
--- When room for n bytes is made before the first of them is taken.
+-- When capacity for n bytes is allocated before the first of them is taken.
 use Rattle.std.specs.Prelude.{ℕ, Bool, true, false, Option, Some, None, nat_le, nat_lt, min}
 
--- the buffer says that it has fewer than n
+-- the buffer reports that it has fewer than n
 abbrev pub falls_short : Option ℕ → ℕ → Bool
 falls_short None n = false
 falls_short (Some left) n = nat_lt left n
 
--- All room is made beforehand where the buffer says that it has n bytes, or where it does not say
--- and n is at most 16,384.
+-- All capacity is allocated first if the buffer reports that it has n bytes, or if it reports
+-- nothing and n is at most 16,384.
 abbrev pub is_made_beforehand : Option ℕ → ℕ → Bool
 is_made_beforehand None n = nat_le n 16384
 is_made_beforehand (Some left) n = nat_le n left
 
--- the same, where the buffer does not say that it has fewer
+-- the same, if the buffer does not report that it has fewer
 abbrev pub makes_all_room : Bool → ℕ → Bool
 makes_all_room true n = true
 makes_all_room false n = nat_le n 16384
 
--- The room that is made first: all of it, or no more than 16,384 bytes where the buffer does not
--- say what it has.
+-- The capacity that is allocated first: all of it, or at most 16,384 bytes if the buffer does not
+-- report how much it has.
 abbrev pub room_made : Bool → ℕ → ℕ
 room_made true n = n
 room_made false n = min n 16384

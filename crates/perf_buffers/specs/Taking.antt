@@ -1,4 +1,4 @@
--- What a read takes from a buffer that tells its bytes.
+-- What a read takes from a buffer whose bytes are known.
 use Rattle.std.specs.Prelude.{Option, ◌≡◌, ℕ, ◌+◌, ◌-◌, ◌<◌, ◌≤◌, Bool, true, false, IsTrue, List}
 use Rattle.std.specs.Prelude.{[], length, take, drop, Some, None}
 use Rattle.perf_buffers.specs.Buffer.{Source}
@@ -7,15 +7,15 @@ use Rattle.perf_base.specs.declared.error.ErrorKind.TheVariants.{Eof, InvalidRec
 use Rattle.perf_base.specs.declared.error.ErrorKind.TheVariants.{UnsupportedConfig, UnsupportedData}
 use Rattle.perf_base.specs.declared.error.ErrorKind.TheVariants.{External, OutOfMemory}
 
--- how many bytes lie between the two
+-- the number of bytes between the two states
 abbrev pub consumed : Source → Source → ℕ
 consumed old new = length old.left - length new.left
 
--- some bytes were taken, from the front
+-- some bytes were taken from the front
 abbrev pub Moves : Source → Source → Type 0
 Moves old new = (length new.left ≤ length old.left) × (new.left ≡ drop (consumed old new) old.left)
 
--- of n bytes a beginning was taken
+-- a prefix of the next n bytes was taken
 abbrev pub MovesWithin : Source → ℕ → Source → Type 0
 MovesWithin old n new = (length old.left ≤ length new.left + n) × Moves old new
 
@@ -23,8 +23,8 @@ MovesWithin old n new = (length old.left ≤ length new.left + n) × Moves old n
 abbrev pub Takes : Source → ℕ → Source → Type 0
 Takes old n new = (n ≤ length old.left) × (new.left ≡ drop n old.left)
 
--- What a refused read of n bytes took: all that was left, where that is too little; after a fault a
--- beginning.
+-- What a refused read of n bytes took: all that was left, if that is too little; after a fault a
+-- prefix.
 abbrev pub FailsToTake : Source → ℕ → ErrorKind → Source → Type 0
 FailsToTake old n Eof new = (length old.left < n) × (new.left ≡ [])
 FailsToTake old n External new = MovesWithin old n new
@@ -33,7 +33,7 @@ FailsToTake old n UnsupportedConfig new = ⊥
 FailsToTake old n UnsupportedData new = ⊥
 FailsToTake old n OutOfMemory new = ⊥
 
--- The same of a read that keeps the bytes, for which memory may be refused too.
+-- The same for a read that keeps the bytes, which may also be out of memory.
 abbrev pub FailsToKeep : Source → ℕ → ErrorKind → Source → Type 0
 FailsToKeep old n Eof new = (length old.left < n) × (new.left ≡ [])
 FailsToKeep old n External new = MovesWithin old n new
@@ -61,13 +61,13 @@ CanFail old (Some UnsupportedData) = Unit {0}
 CanFail old (Some External) = IsTrue old.can_fault
 CanFail old (Some OutOfMemory) = Unit {0}
 
--- n bytes were taken at once, and are in out; or none was
+-- n bytes were taken at once, and are in out; or nothing was taken
 abbrev pub TakesAtOnce : Source → ℕ → Bool → List ℕ → Source → Type 0
 TakesAtOnce old n true out new = Takes old n new × (out ≡ take n old.left)
 TakesAtOnce old n false out new = new.left ≡ old.left
 
--- What a refused copy of n bytes behind a place took: all, where that is too little; nothing, where
--- memory was refused.
+-- What a refused copy of n bytes from a place on took: all, if there are too few; nothing, if out
+-- of memory.
 abbrev pub FailsBehind : ErrorKind → ℕ → List ℕ → (old new : ℕ) → Type 0
 FailsBehind Eof n bytes old new = (length (drop old bytes) < n) × (drop new bytes ≡ [])
 FailsBehind External n bytes old new = ⊥

@@ -1,4 +1,4 @@
--- The words that contracts of buffers and inputs are written in.
+-- The definitions used in the contracts of buffers and inputs.
 pub use Rattle.std.specs.Borrow.{sem}
 pub use Rattle.std.specs.Io.BufRead.{Rests}
 pub use Rattle.std.specs.Io.Buffered.{reader_remaining, reader_buffer}

@@ -21,14 +21,14 @@ pub(crate) enum Held<'p> {
     Own(Vec<u8>, usize),
 }
 
-/// The bytes of one frame: borrowed from the input, or its own.
+/// The bytes of one frame: borrowed from the input, or owned.
 #[derive(Debug, Drop)]
 pub struct ParseBufCursor<'p> {
     pub(crate) held: Held<'p>,
 }
 
 impl<'p> ParseBufCursor<'p> {
-    // Bytes that are lent.
+    // Borrowed bytes.
     #[inline]
     pub(crate) fn lent(bytes: &'p [u8]) -> ParseBufCursor<'p>
         ensures left { words.cursor_left result ≡ bytes.now }
@@ -50,7 +50,7 @@ impl<'p> ParseBufCursor<'p> {
         }
     }
 
-    /// How many bytes are left.
+    /// The number of bytes left.
     #[inline]
     pub fn len(&self) -> usize
         ensures { result ≡ length (words.held_left self.now.held) }
@@ -66,7 +66,7 @@ impl<'p> ParseBufCursor<'p> {
         self.rest().is_empty()
     }
 
-    /// The last `count` bytes of what is left.
+    /// The last `count` bytes that are left.
     #[inline]
     pub fn last(&self, count: usize) -> &[u8]
         requires { count ≤ length (words.held_left self.now.held) }
@@ -77,7 +77,7 @@ impl<'p> ParseBufCursor<'p> {
         &bytes[bytes.len() - count..]
     }
 
-    /// Drops the last `count` bytes of what is left.
+    /// Drops the last `count` bytes that are left.
     #[inline]
     pub fn drop_last(&mut self, count: usize)
         requires { count ≤ length (words.held_left self.old.held) }
@@ -91,7 +91,7 @@ impl<'p> ParseBufCursor<'p> {
         }
     }
 
-    /// The bytes, of which none was taken yet.
+    /// The bytes. None of them has been taken yet.
     #[inline]
     pub fn into_bytes(self) -> CowSlice<'p, u8>
         requires { words.is_at_start self.held }
@@ -104,7 +104,7 @@ impl<'p> ParseBufCursor<'p> {
         }
     }
 
-    /// What is left, where the bytes are borrowed.
+    /// The bytes that are left, if they are borrowed.
     #[inline]
     pub fn as_slice(&self) -> Option<&'p [u8]>
         ensures { MatchOption result (words.cursor_lent self.now ≡ false)
@@ -158,10 +158,11 @@ impl<'p> ParseBuf<'p> for ParseBufCursor<'p> {
 impl<'p> ParseBufCursor<'p> {
     /// Cuts the next `len` bytes off a buffer.
     ///
-    /// They are borrowed where one chunk has them all and lasts. Otherwise they are copied: where
-    /// the buffer says that it has them, or does not say and `len` is at most 16,384, all room is
-    /// made first, so that refused memory takes nothing. Too few bytes are `Eof`, for which no room
-    /// is made where the buffer says so, and all of them are taken.
+    /// They are borrowed if one chunk contains them all and lives as long as the input. Otherwise
+    /// they are copied: if the buffer reports that it has them, or reports nothing and `len` is at
+    /// most 16,384, all capacity is allocated first, so that nothing is taken if out of memory. Too
+    /// few bytes are `Eof`, and all of them are taken; nothing is allocated if the buffer reports
+    /// it.
     #[inline]
     pub fn new<B: ParseBuf<'p>>(
         alloc: Global,
@@ -171,15 +172,15 @@ impl<'p> ParseBufCursor<'p> {
         ensures stays { Stays (B.source buf.old) (refusal result) (B.source buf.new) }
         ensures can_fail { CanFail (B.source buf.old) (refusal result) }
 
-        // A whole buffer lends its bytes, and nothing is always there: neither takes memory.
+        // Bytes of a whole buffer are borrowed, and zero bytes never fail: neither needs memory.
         ensures whole { IsTrue (B.source buf.old).whole →
             IfOk result (λ c. IsTrue (words.cursor_lent c)) }
         ensures whole_memory { IsTrue (B.source buf.old).whole → NeedsNoMemory result }
         ensures nothing { len ≡ 0 → IfOk result (λ c. IsTrue (words.cursor_lent c)) × IsOk result
             × (B.source buf.new ≡ B.source buf.old) }
 
-        // No room is made where the buffer says that it has too few, and else all room first, where
-        // that is little.
+        // Nothing is allocated if the buffer reports that it has too few bytes. Otherwise all
+        // capacity is allocated first, if that is little.
         ensures short { words.falls_short (B.hint buf.old) len ≡ true →
             NeedsNoMemory result × IfOk result (λ c. ⊥) }
         ensures beforehand { IsTrue (B.source buf.old).told →

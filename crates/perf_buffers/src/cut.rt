@@ -1,4 +1,4 @@
-//! Bytes that are cut off a buffer as one frame, and bytes that are skipped.
+//! Cutting bytes off a buffer as one frame, and skipping bytes.
 
 ghost use Rattle.std.specs.Prelude.{◌≡◌, ◌≢◌, ◌<◌, ◌≤◌, true, Some, length, take};
 ghost use Rattle.std.specs.Prelude.{IsTrue, IsOk, OnOk, IfOk, IfErr, IfSome, MatchOption};
@@ -13,10 +13,11 @@ use perf_base::error::{ErrorKind, ParseError, ParseResult};
 use perf_base::refusal::{Kept, ReadResult, Refusal};
 use std::alloc::Global;
 
-// Room that is made for bytes of which the buffer does not say whether it has them.
+// The capacity allocated first if the buffer does not report how many bytes it has.
 const UNHINTED_ROOM: usize = 16384;
 
-// The next `len` bytes, where the first chunk has them all: lent where it lasts, and else copied.
+// The next `len` bytes, if the first chunk has them all: borrowed if it lives as long as the input,
+// and otherwise copied.
 #[inline]
 fn cut_at_once<'p, B: ParseBuf<'p>>(
     alloc: Global,
@@ -61,7 +62,7 @@ fn cut_at_once<'p, B: ParseBuf<'p>>(
     Ok(Some(held))
 }
 
-// Takes what one chunk has, at most `len` bytes, and keeps none of it.
+// Takes what one chunk has, at most `len` bytes, and keeps none of them.
 fn skip_some<'p, B: ParseBuf<'p>>(buf: &mut B, len: usize) -> ParseResult<usize>
     requires { 0 < len }
     ensures stays { Stays (B.source buf.old) (refusal result) (B.source buf.new) }
@@ -96,7 +97,7 @@ pub fn skip<'p, B: ParseBuf<'p>>(buf: &mut B, len: usize) -> ParseResult<()>
     Ok(())
 }
 
-// The refusal where fewer than `len` bytes are left, all of which are taken.
+// The refusal if fewer than `len` bytes are left. All of them are taken.
 #[cold]
 #[inline(never)]
 pub(crate) fn shortage<'p, B: ParseBuf<'p>>(buf: &mut B, kept: &mut Kept, len: usize) -> Refusal
@@ -113,7 +114,7 @@ pub(crate) fn shortage<'p, B: ParseBuf<'p>>(buf: &mut B, kept: &mut Kept, len: u
     }
 }
 
-// How much room is made before the first byte is taken.
+// The capacity that is allocated before the first byte is taken.
 #[inline]
 fn first_room(hinted: bool, len: usize) -> usize
     ensures { result ≡ words.room_made hinted len }
@@ -121,7 +122,7 @@ fn first_room(hinted: bool, len: usize) -> usize
     if hinted { len } else { len.min(UNHINTED_ROOM) }
 }
 
-// Puts the next `len` bytes together, in the place of what `bytes` held. Its capacity is kept.
+// Assembles the next `len` bytes in `bytes`, replacing its contents. Its capacity is kept.
 pub(crate) fn assemble<'p, B: ParseBuf<'p>>(
     buf: &mut B,
     bytes: &mut Vec<u8>,
@@ -176,7 +177,7 @@ fn copy<'p, B: ParseBuf<'p>>(
     }
 }
 
-// Whether the buffer says that it has fewer than `len` bytes.
+// Whether the buffer reports that it has fewer than `len` bytes.
 #[inline]
 pub(crate) fn says_too_few(hint: Option<usize>, len: usize) -> bool
     ensures { result ≡ words.falls_short hint len }
@@ -187,8 +188,8 @@ pub(crate) fn says_too_few(hint: Option<usize>, len: usize) -> bool
     }
 }
 
-// The next `len` bytes, copied from as many chunks as it takes, with the error of a fault kept
-// aside.
+// The next `len` bytes, copied from as many chunks as needed. The error of a fault is kept
+// separately.
 #[cold]
 #[inline(never)]
 fn cut_slowly<'p, B: ParseBuf<'p>>(
@@ -219,7 +220,7 @@ fn cut_slowly<'p, B: ParseBuf<'p>>(
     }
 }
 
-// Cuts the next `len` bytes off a buffer, with the error of a fault kept aside.
+// Cuts the next `len` bytes off a buffer. The error of a fault is kept separately.
 #[inline]
 pub(crate) fn cut<'p, B: ParseBuf<'p>>(
     alloc: Global,

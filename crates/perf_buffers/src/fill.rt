@@ -1,5 +1,5 @@
-//! Bytes that are copied, from one chunk or from several: those of a number, and those that are
-//! appended to others.
+//! Copying bytes from one chunk or from several: those of a number, and those that are appended to
+//! others.
 
 ghost use Rattle.std.specs.Prelude.{◌≡◌, ◌+◌, ◌<◌, ◌≤◌, [], ◌++◌, length, take, OnOk, IfOk, IfErr};
 ghost use Rattle.std.specs.Prelude.{IsTrue, vec_len, vec_capacity};
@@ -11,7 +11,7 @@ use crate::parsebuf::ParseBuf;
 use perf_base::error::{ErrorKind, ParseError, ParseResult};
 use perf_base::refusal::{Kept, ReadResult};
 
-// Fills `out` where one chunk has all its bytes, and else takes nothing.
+// Fills `out` if one chunk has all its bytes, and otherwise takes nothing.
 #[inline]
 fn fill_at_once<'p, B: ParseBuf<'p>>(
     buf: &mut B,
@@ -41,7 +41,7 @@ fn fill_at_once<'p, B: ParseBuf<'p>>(
     Ok(true)
 }
 
-// Takes what one chunk has, at most as much as there is room for.
+// Takes what one chunk has, at most as much as fits.
 fn take_some<'p, B: ParseBuf<'p>>(buf: &mut B, out: &mut [u8]) -> ParseResult<usize>
     requires { 0 < length out.old }
     ensures count { IfOk result (λ n. (0 < n) × (n ≤ length out.old)) }
@@ -63,7 +63,7 @@ fn take_some<'p, B: ParseBuf<'p>>(buf: &mut B, out: &mut [u8]) -> ParseResult<us
     Ok(count)
 }
 
-// Fills `out` from as many chunks as it takes.
+// Fills `out` from as many chunks as needed.
 fn fill_on<'p, B: ParseBuf<'p>>(buf: &mut B, out: &mut [u8]) -> ParseResult<()>
     ensures stays { Stays (B.source buf.old) (refusal result) (B.source buf.new) }
     ensures can_fail { CanFail (B.source buf.old) (refusal result) }
@@ -114,7 +114,7 @@ fn append_some<'p, B: ParseBuf<'p>>(
     Ok(count)
 }
 
-// Appends the next `len` bytes, or all that is left where there are fewer.
+// Appends the next `len` bytes, or all that are left if there are fewer.
 pub(crate) fn append<'p, B: ParseBuf<'p>>(
     buf: &mut B,
     out: &mut Vec<u8>,
@@ -143,7 +143,8 @@ pub(crate) fn append<'p, B: ParseBuf<'p>>(
     Ok(())
 }
 
-// The same, with the error of a fault kept aside: off the way of numbers that one chunk has whole.
+// The same, with the error of a fault kept separately: off the path of numbers that lie within one
+// chunk.
 #[cold]
 #[inline(never)]
 fn fill_slowly<'p, B: ParseBuf<'p>>(buf: &mut B, kept: &mut Kept, out: &mut [u8]) -> ReadResult<()>
@@ -162,7 +163,7 @@ fn fill_slowly<'p, B: ParseBuf<'p>>(buf: &mut B, kept: &mut Kept, out: &mut [u8]
     }
 }
 
-// Fills `out`, which has room for at least one byte.
+// Fills `out`, which has space for at least one byte.
 #[inline]
 pub(crate) fn fill<'p, B: ParseBuf<'p>>(
     buf: &mut B,

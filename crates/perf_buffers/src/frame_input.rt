@@ -13,7 +13,7 @@ use perf_base::refusal::{ReadResult, Refusal};
 use std::alloc::Global;
 use std::mem;
 
-// The bytes behind a place.
+// The bytes from a place on.
 #[inline]
 pub(crate) fn behind(bytes: &[u8], place: usize) -> &[u8]
     ensures { result.now ≡ drop place bytes.now }
@@ -25,7 +25,7 @@ pub(crate) fn behind(bytes: &[u8], place: usize) -> &[u8]
     }
 }
 
-// The next `len` bytes behind a place. All of them are taken where there are fewer.
+// The next `len` bytes from a place on. If there are fewer, all of them are taken.
 #[inline]
 fn take_behind<'a>(bytes: &'a [u8], place: &mut usize, len: usize) -> ReadResult<&'a [u8]>
     ensures ok { IfOk result (λ next. (len ≤ length (drop place.old bytes.now))
@@ -43,7 +43,7 @@ fn take_behind<'a>(bytes: &'a [u8], place: &mut usize, len: usize) -> ReadResult
     Ok(&left[..len])
 }
 
-// The same, copied. Where memory is refused, none is taken.
+// The same, copied. If out of memory, nothing is taken.
 fn copy_behind(alloc: Global, bytes: &[u8], place: &mut usize, len: usize) -> ReadResult<Vec<u8>>
     ensures short { length (drop place.old bytes.now) < len → TakesNoMemory (kinds result) }
     ensures ok { IfOk result (λ next. (len ≤ length (drop place.old bytes.now))
@@ -63,7 +63,7 @@ fn copy_behind(alloc: Global, bytes: &[u8], place: &mut usize, len: usize) -> Re
     }
 }
 
-// All bytes behind a place. Where none was taken yet, they are not copied.
+// All bytes from a place on. If nothing was taken yet, they are not copied.
 fn take_all(alloc: Global, bytes: &mut Vec<u8>, place: &mut usize) -> ReadResult<Vec<u8>>
     ensures ok { IfOk result (λ rest. (rest.items ≡ drop place.old bytes.old.items)
         × (drop place.new bytes.new.items ≡ [])) }

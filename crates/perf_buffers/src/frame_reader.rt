@@ -1,4 +1,4 @@
-//! What is made of the bytes of one frame, in place or assembled.
+//! Readers of the bytes of one frame, in place or assembled.
 
 ghost use Rattle.std.specs.Prelude.{◌≡◌, ◌<◌, ◌≤◌, ◌*◌, ℕ, Bool, List, length, true, IsTrue};
 ghost use Rattle.std.specs.Prelude.{IfOk, IfErr, OnErr};
@@ -12,7 +12,7 @@ use perf_base::endian::Endian;
 use perf_base::error::ErrorKind;
 use perf_base::refusal::{Kept, ReadResult};
 
-/// Makes something of the bytes of a frame, and of a state of the caller's.
+/// Makes something of the bytes of a frame, and of a state of the caller.
 pub trait FrameReader<'p, S>: Drop {
     /// What is made of them.
     type Output;
@@ -20,8 +20,8 @@ pub trait FrameReader<'p, S>: Drop {
     // how many bytes it reads
     ghost len: { Self → ℕ };
 
-    // which outputs and new states belong to bytes that last as long as the input, or do not, and to
-    // a state
+    // which outputs and new states belong to bytes, which live as long as the input or do not, and
+    // to a state
     ghost gives: { Self → List ℕ → Bool → S → Self.Output → S → Type 0 };
 
     /// What is made of a frame's bytes.
@@ -31,11 +31,11 @@ pub trait FrameReader<'p, S>: Drop {
             state.old result state.new };
 }
 
-// A frame as the next chunk has it.
+// A frame as found in the next chunk.
 pub(crate) enum Found<O, F> {
-    // It is whole, and this was made of it.
+    // It is complete, and this was made of it.
     Whole(O),
-    // The chunk ends before it. Nothing was taken, and this is its reader.
+    // The chunk ends before the frame does. Nothing was taken, and this is its reader.
     Cut(F),
 }
 
@@ -74,8 +74,8 @@ pub(crate) fn read_in_place<'p, S, B: ParseBuf<'p>, F: FrameReader<'p, S>>(
     Ok(Found::Whole(output))
 }
 
-// What a reader makes of the next `len` bytes, which are assembled in `room`. Its capacity is kept for
-// the next frame.
+// What a reader makes of the next `len` bytes, which are assembled in `room`. Its capacity is kept
+// for the next frame.
 #[cold]
 #[inline(never)]
 pub(crate) fn read_assembled<'p, S, B: ParseBuf<'p>, F: FrameReader<'p, S>>(
@@ -109,7 +109,7 @@ pub(crate) fn read_assembled<'p, S, B: ParseBuf<'p>, F: FrameReader<'p, S>>(
     }
 }
 
-// How many frames begin in these bytes, each with its whole header, at most `most`.
+// How many frames begin in these bytes, each with a complete header, at most `most`.
 pub(crate) fn frames_in<E: Endian>(endian: &E, bytes: &[u8], most: usize) -> usize
     ensures most { result ≤ most }
     ensures shown { 8 * result ≤ length bytes.now }

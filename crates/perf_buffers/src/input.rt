@@ -1,7 +1,7 @@
-//! What the calls inside this library take bytes from.
+//! The sources of bytes for calls inside this library.
 //!
-//! An input is asked for what is wanted, and refuses by a [`Refusal`] of two bytes. A slice and the
-//! bytes of a frame are inputs as they are; any other buffer is one as an
+//! An input returns the bytes that are requested, or a [`Refusal`] of two bytes. A slice and the
+//! bytes of a frame are inputs themselves; any other buffer is one as an
 //! [`Outer`](crate::outer::Outer).
 
 ghost use Rattle.std.specs.Prelude.{◌≡◌, ℕ, ◌<◌, ◌≤◌, [], length, take, drop, true, false, Some};
@@ -16,14 +16,14 @@ use perf_base::cow::CowSlice;
 use perf_base::refusal::{ReadResult, Refusal};
 use std::alloc::Global;
 
-/// Bytes that are taken as they are wanted.
+/// Bytes that are taken as they are needed.
 pub trait Input<'p> {
     ghost source: { Self → words.Source };
 
-    // how many bytes are left, where it knows it
+    // how many bytes are left, if known
     ghost hint: { Self → Option ℕ };
 
-    /// Takes as many bytes as `out` has, of which there is at least one, into it.
+    /// Fills `out`, which has at least one byte.
     fn fill(&mut self, out: &mut [u8]) -> ReadResult<()>
         requires { 0 < length out.old }
         ensures stays { Stays (source self.old) (refused (kinds result)) (source self.new) }
@@ -35,7 +35,7 @@ pub trait Input<'p> {
         ensures err { IsTrue (source self.old).told → IfErr result (λ e.
             FailsToTake (source self.old) (length out.old) (refusal_kind e) (source self.new)) };
 
-    /// Takes `len` bytes, of which there is at least one, and keeps none of them.
+    /// Takes `len` bytes, at least one, and keeps none of them.
     fn skip(&mut self, len: usize) -> ReadResult<()>
         requires { 0 < len }
         ensures stays { Stays (source self.old) (refused (kinds result)) (source self.new) }
@@ -46,7 +46,7 @@ pub trait Input<'p> {
         ensures err { IsTrue (source self.old).told → IfErr result (λ e.
             FailsToTake (source self.old) len (refusal_kind e) (source self.new)) };
 
-    /// The same: whether all of them are zero.
+    /// The same. Returns whether all of them are zero.
     fn take_zeros(&mut self, len: usize) -> ReadResult<bool>
         requires { 0 < len }
         ensures stays { Stays (source self.old) (refused (kinds result)) (source self.new) }
@@ -58,7 +58,7 @@ pub trait Input<'p> {
         ensures err { IsTrue (source self.old).told → IfErr result (λ e.
             FailsToTake (source self.old) len (refusal_kind e) (source self.new)) };
 
-    /// All that is left, borrowed where it is whole, and where there is nothing.
+    /// All that is left, borrowed if the input is whole or nothing is left.
     fn take_rest(&mut self, alloc: Global) -> ReadResult<CowSlice<'p, u8>>
         ensures stays { Stays (source self.old) (refused (kinds result)) (source self.new) }
         ensures can_fail { CanFail (source self.old) (refused (kinds result)) }
@@ -72,8 +72,9 @@ pub trait Input<'p> {
         ensures err { IsTrue (source self.old).told → IfErr result (λ e.
             words.FailsInRest (source self.old) (refusal_kind e) (source self.new)) };
 
-    /// Cuts off the next `len` bytes. They are borrowed where one chunk has them all and lasts, and
-    /// else copied, into room that is made by the rules of [`ParseBufCursor::new`].
+    /// Cuts off the next `len` bytes. They are borrowed if one chunk contains them all and lives as
+    /// long as the input, and otherwise copied, into capacity allocated by the rules of
+    /// [`ParseBufCursor::new`].
     fn cut(&mut self, alloc: Global, len: usize) -> ReadResult<ParseBufCursor<'p>>
         ensures stays { Stays (source self.old) (refused (kinds result)) (source self.new) }
         ensures can_fail { CanFail (source self.old) (refused (kinds result)) }
@@ -95,21 +96,20 @@ pub trait Input<'p> {
         ensures err { IsTrue (source self.old).told → IfErr result (λ e.
             FailsToKeep (source self.old) len (refusal_kind e) (source self.new)) };
 
-    /// Bytes that are at hand, of which none is taken: the first of those that are left. There need
-    /// not be any.
+    /// Bytes at hand, none of which is taken: the first of those that are left. There may be none.
     fn shown(&self) -> &[u8]
         ensures { IsTrue (source self.now).told →
             (length result.now ≤ length (source self.now).left)
             × (result.now ≡ take (length result.now) (source self.now).left) };
 
-    /// How many bytes are left, where it is known.
+    /// How many bytes are left, if known.
     fn remaining_hint(&self) -> Option<usize>
         ensures is { result ≡ hint self.now }
         ensures exact { IfSome result (λ n.
             IsTrue (source self.now).told → n ≡ length (source self.now).left) };
 }
 
-/// The next `N` bytes, of which there is at least one.
+/// The next `N` bytes, at least one.
 #[inline]
 pub fn take_array<'p, I: Input<'p>, const N: usize>(input: &mut I) -> ReadResult<[u8; N]>
     requires { 0 < N }
@@ -127,7 +127,7 @@ pub fn take_array<'p, I: Input<'p>, const N: usize>(input: &mut I) -> ReadResult
     Ok(bytes)
 }
 
-// The next `len` bytes of a slice. All of it is taken where it has fewer.
+// The next `len` bytes of a slice. If it has fewer, all of it is taken.
 #[inline]
 pub(crate) fn take_front<'p>(bytes: &mut &'p [u8], len: usize) -> ReadResult<&'p [u8]>
     ensures ok { IfOk result (λ front. (len ≤ length bytes.old.now)

@@ -1,4 +1,4 @@
-//! Bytes that are lent for a while, as an input: what is kept of them is copied.
+//! Bytes that are borrowed for a short time, as an input: what is kept of them is copied.
 
 ghost use Rattle.std.specs.Prelude.{◌≡◌, length, true, false, Some, None};
 
@@ -8,14 +8,14 @@ use perf_base::cow::CowSlice;
 use perf_base::refusal::{ReadResult, Refusal};
 use std::alloc::Global;
 
-/// Bytes that are lent for a while.
+/// Bytes that are borrowed for a short time.
 #[derive(Debug, Drop)]
 pub struct Loan<'a> {
     bytes: &'a [u8],
 }
 
 impl<'a> Loan<'a> {
-    /// These bytes.
+    /// An input over these bytes.
     #[inline]
     pub fn new(bytes: &'a [u8]) -> Loan<'a>
         ensures { result.bytes.now ≡ bytes.now }

@@ -1,4 +1,4 @@
-//! A buffer of any kind as an input.
+//! Any kind of buffer as an input.
 
 ghost use Rattle.std.specs.Prelude.{◌≡◌, ◌≤◌, ◌*◌, [], length, true, IsTrue, IsOk, IfOk, IfErr, OnErr};
 ghost use Rattle.perf_base.specs.Errors.{kind_of};
@@ -21,20 +21,20 @@ use perf_base::error::{ErrorKind, ParseError};
 use perf_base::refusal::{Kept, ReadResult, Refusal};
 use std::alloc::Global;
 
-// How many bytes a small frame has.
+// The size of a small frame in bytes.
 const SMALL_FRAME: usize = 32;
 
-/// A buffer, the error of its last fault, and room for a frame that no chunk shows whole.
+/// A buffer, the error of its last fault, and space for a frame that no chunk contains in full.
 #[derive(Drop)]
 pub struct Outer<B> {
     buf: B,
     kept: Kept,
-    // Where frames are assembled. It is kept for the next one.
+    // Where frames are assembled. It is kept for the next frame.
     room: Vec<u8>,
 }
 
 impl<B> Outer<B> {
-    /// A buffer that has answered no fault.
+    /// A buffer that has returned no fault.
     #[inline]
     pub fn new(alloc: Global, buf: B) -> Outer<B>
         ensures { result.buf ≡ buf }
@@ -54,7 +54,7 @@ impl<B> Outer<B> {
         &self.buf
     }
 
-    /// The error that a refusal becomes: the buffer's own, where it was the buffer that refused.
+    /// The error that a refusal becomes: the buffer's own, if the buffer refused.
     #[inline]
     pub fn answer(&mut self, refusal: Refusal) -> ParseError
         ensures error { IsAnswerOf result refusal }
@@ -98,8 +98,8 @@ impl<'p, B: ParseBuf<'p>> Outer<B> {
         Ok(Some(front))
     }
 
-    /// How many frames begin in the bytes that the next chunk has, at most `most`: they are counted,
-    /// or as many as small frames would be. Nothing is taken.
+    /// How many frames begin in the bytes of the next chunk, at most `most`: they are counted, or
+    /// estimated as if all frames were small. Nothing is taken.
     #[inline]
     pub fn frames_shown<E: Endian>(
         &mut self,

@@ -10,17 +10,17 @@ ghost use Rattle.perf_buffers.specs.Words.{RefusesReader, reader_remaining, read
 use perf_base::error::{ErrorKind, ParseError, ParseResult};
 use std::io::{self, BufRead, BufReader, Read};
 
-/// The bytes that a buffer shows next.
+/// The next bytes of a buffer.
 #[derive(Copy, Clone, Debug)]
 pub enum ParseBufChunk<'tmp, 'p> {
-    /// Bytes that the buffer holds itself. They last until it advances.
+    /// Bytes that the buffer owns. They are valid until it advances.
     Temporary(&'tmp [u8]),
-    /// Bytes of the input, which outlast the buffer.
+    /// Bytes of the input, which outlive the buffer.
     External(&'p [u8]),
 }
 
 impl<'tmp, 'p> ParseBufChunk<'tmp, 'p> {
-    /// The bytes, however long they last.
+    /// The bytes, of either kind.
     #[inline]
     pub fn as_bytes(&self) -> &[u8]
         ensures { result.now ≡ chunk_bytes self.now }
@@ -31,7 +31,7 @@ impl<'tmp, 'p> ParseBufChunk<'tmp, 'p> {
         }
     }
 
-    /// The first `len` of the bytes, which last as long.
+    /// The first `len` of the bytes, which live as long.
     #[inline]
     pub fn first(self, len: usize) -> ParseBufChunk<'tmp, 'p>
         requires { len ≤ length (chunk_bytes self) }
@@ -49,15 +49,15 @@ impl<'tmp, 'p> ParseBufChunk<'tmp, 'p> {
 pub trait ParseBuf<'p> {
     ghost source: { Self → Source };
 
-    // the bytes that the next chunk shows again, as `chunk` showed them before; none where it may
+    // the bytes that the next chunk shows again, as `chunk` showed them before; none if it may
     // still read more
     ghost ready: { Self → List ℕ };
 
-    // what `remaining_hint` answers
+    // the value of `remaining_hint`
     ghost hint: { Self → Option ℕ };
 
-    /// A non-empty beginning of what is left, and the same until [`ParseBuf::advance`] takes of it.
-    /// The refusal is `Eof` only where nothing is left, and otherwise `External`, which takes
+    /// A non-empty prefix of what is left. It stays the same until [`ParseBuf::advance`] takes from
+    /// it. The refusal is `Eof` only if nothing is left, and otherwise `External`, which takes
     /// nothing.
     fn chunk(&mut self) -> ParseResult<ParseBufChunk<'_, 'p>>
         ensures shows { IfOk result (λ c. Shows (source self.old) c) }
@@ -71,7 +71,7 @@ pub trait ParseBuf<'p> {
         requires { count ≤ length (ready self.old) }
         ensures { Advances (source self.old) count (source self.new) };
 
-    /// How many bytes are left, where the buffer knows it. One that is whole does.
+    /// How many bytes are left, if the buffer knows it. A whole one does.
     fn remaining_hint(&self) -> Option<usize>
         ensures is { result ≡ hint self.now }
         ensures whole { IsTrue (source self.now).whole → IsSome result }
@@ -107,7 +107,7 @@ impl<'p> ParseBuf<'p> for &'p [u8] {
     }
 }
 
-// The fault that an error of a reader is, whatever the reader calls it.
+// The fault for an error of a reader, whatever the reader calls it.
 #[cold]
 #[inline(never)]
 fn make_fault(error: io::Error) -> ParseError
@@ -116,8 +116,8 @@ fn make_fault(error: io::Error) -> ParseError
     ParseError::new(anyhow::Error::from(error))
 }
 
-// The same. It is inlined, so that the place for the fault, which is large, is cleared where there is
-// one.
+// The same. It is inlined, so that the space for the fault, which is large, is cleared only if
+// there is one.
 #[inline(always)]
 fn fault_of(error: io::Error) -> ParseError
     ensures { kind_of result ≡ ErrorKind.External }
@@ -125,7 +125,7 @@ fn fault_of(error: io::Error) -> ParseError
     make_fault(error)
 }
 
-// Reads ahead, and returns whether there is more. Nothing that was read before is left to take.
+// Reads ahead, and returns whether there is more. All bytes read before have been taken.
 #[inline(never)]
 fn read_more<R: Read>(reader: &mut BufReader<R>) -> io::Result<bool>
     ensures some { result ≡ Ok true → 0 < length (reader_buffer reader.new) }
@@ -140,7 +140,7 @@ fn read_more<R: Read>(reader: &mut BufReader<R>) -> io::Result<bool>
     Ok(!reader.buffer().is_empty())
 }
 
-// Reads ahead where nothing is read and not yet taken.
+// Reads ahead if all bytes read before have been taken.
 #[inline]
 fn read_ahead<R: Read>(reader: &mut BufReader<R>) -> ParseResult<()>
     ensures ready { 0 < length (reader_buffer reader.old) →
@@ -161,8 +161,8 @@ fn read_ahead<R: Read>(reader: &mut BufReader<R>) -> ParseResult<()>
     }
 }
 
-/// Every fault of the reader is `External`, also where the reader calls it an interruption or an
-/// early end.
+/// Every fault of the reader is `External`, even if the reader calls it an interruption or an
+/// unexpected end.
 impl<'p, R: Read> ParseBuf<'p> for BufReader<R> {
     ghost source = { λ s. record {
       left = known (reader_remaining R.remaining s);

@@ -5,7 +5,7 @@ ghost use Rattle.std.specs.Prelude.{◌≡◌, ◌<◌, Some, [], length, take, 
 use crate::parsebuf::{ParseBuf, ParseBufChunk};
 use perf_base::error::{ParseError, ParseResult};
 
-/// Hands a slice out in pieces, as a source does that never has all bytes at once.
+/// Hands a slice out in pieces, like a source that never has all bytes at once.
 #[derive(Debug, Drop)]
 pub struct PieceBuf<'p> {
     bytes: &'p [u8],
@@ -18,8 +18,8 @@ impl<'p> PieceBuf<'p> {
     ghost use Rattle.perf_buffers.specs.Buffer.{chunk_bytes, lasts};
     ghost use Rattle.perf_buffers.specs.Pieces.{piece_bytes, piece_most, piece_lasting};
 
-    /// Pieces of at most `most` bytes of the slice. They last as long as the slice where `lasting`
-    /// says so, and else until the buffer advances.
+    /// Pieces of at most `most` bytes of the slice. They live as long as the slice if `lasting`,
+    /// and otherwise until the buffer advances.
     pub fn new(bytes: &'p [u8], most: usize, lasting: bool) -> PieceBuf<'p>
         requires { 0 < most }
         ensures bytes { piece_bytes result ≡ bytes.now }
@@ -33,7 +33,7 @@ impl<'p> PieceBuf<'p> {
         }
     }
 
-    // The next piece, which lasts where pieces do.
+    // The next piece, which lives as long as pieces do.
     #[inline]
     fn piece(&self) -> ParseBufChunk<'_, 'p>
         ensures bytes { chunk_bytes result ≡ take (piece_most self.now) (piece_bytes self.now) }
@@ -62,7 +62,7 @@ impl<'p> ParseBuf<'p> for PieceBuf<'p> {
 
     ghost hint = { λ s. Some (length s.bytes.now) };
 
-    /// The next piece. It lasts as long as the slice where pieces do, and else until the buffer
+    /// The next piece. It lives as long as the slice if pieces do, and otherwise until the buffer
     /// advances.
     #[inline]
     fn chunk(&mut self) -> ParseResult<ParseBufChunk<'_, 'p>>

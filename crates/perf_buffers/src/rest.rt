@@ -11,7 +11,8 @@ use perf_base::cow::CowSlice;
 use perf_base::error::{ErrorKind, ParseError, ParseResult};
 use std::alloc::Global;
 
-// The first chunk, where it lasts, and else nothing of it; `None` where nothing is left.
+// The first chunk, if it lives as long as the input, and otherwise no bytes; `None` if nothing is
+// left.
 #[inline]
 fn lend_first<'p, B: ParseBuf<'p>>(buf: &mut B) -> ParseResult<Option<&'p [u8]>>
     ensures stays { Stays (B.source buf.old) (refusal result) (B.source buf.new) }
@@ -56,7 +57,7 @@ fn is_at_end<'p, B: ParseBuf<'p>>(buf: &mut B) -> ParseResult<bool>
     }
 }
 
-// Appends all that is left. A buffer that never ends is refused for want of memory.
+// Appends all that is left. A buffer that never ends runs out of memory.
 fn append_rest<'p, B: ParseBuf<'p>>(buf: &mut B, out: &mut Vec<u8>) -> ParseResult<()>
     ensures stays { Stays (B.source buf.old) (refusal result) (B.source buf.new) }
     ensures can_fail { CanFail (B.source buf.old) (refusal result) }
@@ -73,7 +74,7 @@ fn append_rest<'p, B: ParseBuf<'p>>(buf: &mut B, out: &mut Vec<u8>) -> ParseResu
     }
 }
 
-// The bytes of `first`, and all that is left behind them.
+// The bytes of `first`, and all that is left after them.
 #[cold]
 #[inline(never)]
 fn copy_rest<'p, B: ParseBuf<'p>>(alloc: Global, buf: &mut B, first: &[u8]) -> ParseResult<Vec<u8>>
@@ -95,7 +96,7 @@ fn copy_rest<'p, B: ParseBuf<'p>>(alloc: Global, buf: &mut B, first: &[u8]) -> P
     }
 }
 
-/// All that is left, borrowed where the buffer is whole, and where there is nothing.
+/// All that is left, borrowed if the buffer is whole or nothing is left.
 #[inline]
 pub fn take_rest<'p, B: ParseBuf<'p>>(alloc: Global, buf: &mut B) -> ParseResult<CowSlice<'p, u8>>
     ensures stays { Stays (B.source buf.old) (refusal result) (B.source buf.new) }

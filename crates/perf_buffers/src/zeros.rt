@@ -1,4 +1,4 @@
-//! Bytes that have to be zero.
+//! Bytes that must be zero.
 
 ghost use Rattle.std.specs.Prelude.{◌≡◌, ◌<◌, ◌≤◌, take, IsTrue, IfOk, IfErr};
 ghost use Rattle.perf_base.specs.Errors.{kind_of};
@@ -15,7 +15,8 @@ pub(crate) fn is_zero(bytes: &[u8]) -> bool
     bytes.iter().all(|byte| *byte == 0)
 }
 
-// Takes what one chunk has, at most `len` bytes: how many, and whether all of them are zero.
+// Takes what one chunk has, at most `len` bytes. Returns how many, and whether all of them are
+// zero.
 fn take_some_zeros<'p, B: ParseBuf<'p>>(buf: &mut B, len: usize) -> ParseResult<(usize, bool)>
     requires { 0 < len }
     ensures stays { Stays (B.source buf.old) (refusal result) (B.source buf.new) }
@@ -36,7 +37,7 @@ fn take_some_zeros<'p, B: ParseBuf<'p>>(buf: &mut B, len: usize) -> ParseResult<
     Ok((count, zero))
 }
 
-/// Takes `len` bytes and keeps none of them: whether all of them are zero.
+/// Takes `len` bytes and keeps none of them. Returns whether all of them are zero.
 pub fn take_zeros<'p, B: ParseBuf<'p>>(buf: &mut B, len: usize) -> ParseResult<bool>
     ensures stays { Stays (B.source buf.old) (refusal result) (B.source buf.new) }
     ensures can_fail { CanFail (B.source buf.old) (refusal result) }

@@ -6,7 +6,7 @@ use Rattle.std.specs.Io.KnownBytes.{prepend_known}
 use Rattle.perf_buffers.specs.Words.{reader_remaining, known, is_known}
 use Rattle.perf_buffers.proofs.parsebuf.BufReaderParseBuf.chunk.Goals as goal
 
--- bytes that were read ahead are the first of those that are known
+-- bytes that were read ahead are the first of the known ones
 ahead : (none : Bool) (bytes : List ℕ) (rest : Option (List ℕ)) → IsTrue (is_known (if none then None else prepend_known bytes rest)) → StartsWith (known (if none then None else prepend_known bytes rest)) bytes
 ahead true bytes rest told = cc
 ahead false bytes None told = cc
