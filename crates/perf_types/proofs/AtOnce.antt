@@ -1,4 +1,4 @@
--- Heads of records whose bytes are taken at once: what numbers they are.
+-- Heads of records whose bytes are taken at once: the numbers in them.
 use Rattle.std.proofs.Common.{◌≡◌, ℕ, ◌+◌, ◌≤◌, List, length, take, drop, refl, sym, ◌∙◌, ap, arith}
 use Rattle.perf_base.specs.FieldWords.{u32, u64}
 use Rattle.perf_base.specs.Layout.{done, ◌>>=◌, value}

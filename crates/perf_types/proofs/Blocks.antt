@@ -1,4 +1,4 @@
--- Blocks of a list: how many there are, which stands where, and the last of them.
+-- Blocks of a list: how many there are, the position of each, and the last one.
 use Rattle.std.proofs.Common.{rules, ◌^◌, Option, nat_lt, ◌≡◌, ◌≤◌, ◌<◌, ℕ, zero, suc, ◌+◌, ◌*◌, ◌/◌, ◌%◌, Bool, true, false}
 use Rattle.std.proofs.Common.{List, [], ◌∷◌, ◌++◌, length, take, drop, map}
 use Rattle.std.proofs.Common.{Some, None, option_map, slice_get}
@@ -32,7 +32,7 @@ length-entries_left it = length-entries_of it.with_id it.with_lost it.left it.wo
 
 -- ---- lengths of lists
 
--- a list of whole blocks has as many numbers as its blocks have
+-- a list of whole blocks has as many numbers as its blocks have together
 pub whole_blocks : (i l : Bool) (n : ℕ) → n % block_len i l ≡ 0 →
     n ≡ n / block_len i l * block_len i l
 whole_blocks false false n is = omega (arith, is)
@@ -47,7 +47,7 @@ counted_blocks false true count = omega arith
 counted_blocks true false count = omega arith
 counted_blocks true true count = omega arith
 
--- what the reading of a group needs
+-- what reading a group needs
 pub ruleset group_reads = (read_flags, counted_blocks, chain)
 
 -- a list of `count` blocks has as many entries
@@ -62,7 +62,7 @@ pub all_entries-counted : (i l : Bool) (count : ℕ) (words : List ℕ) →
 all_entries-counted i l count words is =
     ap (λ k. entries_of i l k words) (counted i l (length words) count is)
 
--- a block that is there ends within the list
+-- a block of the list ends within the list
 pub block_fits : (m n k : ℕ) → k < n / m → k * m + m ≤ n
 block_fits m n k is =
     let next : (k + 1) * m ≤ n / m * m = mul-le-mul_right m (omega (arith, is)) in
@@ -70,7 +70,7 @@ block_fits m n k is =
     let same : (k + 1) * m ≡ k * m + m = grind arith in
     omega (arith, next, all, same)
 
--- ---- which stands where
+-- ---- the position of each
 
 block_at : {T : Type 0} (n count k : ℕ) (xs : List T) → k < count →
     slice_get (blocks n count xs) k ≡ Some (take n (drop (k * n) xs))
@@ -98,13 +98,13 @@ no_entry_at i l count k words past =
     let all : length (entries_of i l count words) ≡ count = length-entries_of i l count words in
     slice_get_past (entries_of i l count words) k (omega (arith, all, past))
 
--- no entry has an id where the entries have none
+-- no entry has the id if the entries have no ids
 pub none_with_id : (l : Bool) (id count : ℕ) (words : List ℕ) →
     entry_with_id id (entries_of false l count words) ≡ None
 none_with_id l id zero words = refl
 none_with_id l id (suc count) words = none_with_id l id count (drop (block_len false l) words)
 
--- ---- the last of them
+-- ---- the last one
 
 blocks-back : {T : Type 0} (n count : ℕ) (front back : List T) →
     length front ≡ count * n → length back ≡ n →
@@ -129,7 +129,7 @@ entries-back i l count left words front back is parts before last =
     rw (is, parts) (ap (map (entry_of i l)) (blocks-back n count front back before last)
     ∙ map-append (entry_of i l) (blocks n count front) (back ∷ []))
 
--- ---- a product that is counted in a word, and one that is not
+-- ---- a product that fits into a word, and one that does not
 pub product_counted : (r : Option ℕ) (n len : ℕ) → SomeIff r (n < 18446744073709551616) n → r ≡ Some len → (n ≡ len) × (nat_lt n (2 ^ 64) ≡ true)
 product_counted r n len s is = (search rules, search rules)
 

@@ -1,5 +1,5 @@
--- The entries of a NAMESPACES record and their numbers. Twice as many numbers as it counts are as many entries as it
--- counts.
+-- The entries of a NAMESPACES record and their numbers. Twice as many numbers as the count are as
+-- many entries as the count.
 use Rattle.std.proofs.Common.{◌≡◌, ℕ, zero, suc, ◌*◌, List, [], ◌∷◌, ◌++◌, length, refl, ap, arith}
 use Rattle.std.specs.List.{flat_map}
 use Rattle.perf_base.specs.Layout.{words_of}
@@ -21,7 +21,7 @@ pub entries_flat : (xs : List NamespaceEntry) → entries_of (flat_map entry_num
 entries_flat [] = refl
 entries_flat (x ∷ xs) = ap (λ (ys : List NamespaceEntry). x ∷ ys) (entries_flat xs)
 
--- the numbers of an entry more
+-- the numbers of one more entry
 pub flat_more : (xs : List NamespaceEntry) (dev inode : ℕ) → (flat_map entry_numbers xs ++ dev ∷ []) ++ inode ∷ [] ≡ flat_map entry_numbers (xs ++ record { dev = dev; inode = inode } ∷ [])
 flat_more [] dev inode = refl
 flat_more (x ∷ xs) dev inode = ap (λ (ys : List ℕ). x.dev ∷ x.inode ∷ ys) (flat_more xs dev inode)

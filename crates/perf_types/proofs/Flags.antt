@@ -1,4 +1,4 @@
--- The flags of a read format, as sets of them answer, and bits of misc.
+-- The flags of a read format, as sets of them report, and bits of misc.
 use Rattle.std.proofs.Common.{◌≡◌, ℕ, ◌==◌}
 use Rattle.std.specs.Int.RustNames.{bit_and}
 use Rattle.perf_base.specs.Misc.{switch_out_bit, build_id_bit}

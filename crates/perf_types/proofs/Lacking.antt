@@ -1,4 +1,4 @@
--- Numbers that are read in a row out of an input that has fewer.
+-- Numbers that are read one after another from an input that has fewer.
 use Rattle.std.proofs.Common.{◌≡◌, inl, inr, ℕ, ◌+◌, ◌*◌, ◌<◌, ◌≤◌, Bool, false, true, Option, List, length, ◌∙◌, ap, arith}
 use Rattle.std.proofs.lemmas.Bool.{false≢true, ltb-true}
 use Rattle.std.proofs.lemmas.Bool.Decides.{leb_tells}
@@ -45,7 +45,7 @@ lacking start m h = record {
 }
 
 module _ {I E : Type 0} (source : I → Source) (order : E → Order) where
-  -- all of them cannot have been read, where the input tells its bytes
+  -- not all of them can have been read, if the input's bytes are known
   pub row_lacks : (k : ℕ) (a b : Reader I E) (ys : List ℕ) →
       (IsTrue (source a.input).told → length (source a.input).left < 8 * k) →
       InRow source order k a ys b →

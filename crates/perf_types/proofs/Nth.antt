@@ -1,4 +1,4 @@
--- What `nth` and `nth_back` answer and leave, where each call gives an end of what is left.
+-- What `nth` and `nth_back` return and leave, if each call gives an end of what is left.
 use Rattle.std.proofs.Common.{◌≡◌, ◌≤◌, ℕ, ◌+◌, List, [], ◌∷◌, ◌++◌, length, drop, reverse}
 use Rattle.std.proofs.Common.{Option, Some, None, slice_get, refl, sym, ◌∙◌, ap, arith}
 use Rattle.std.proofs.lemmas.Option.{slice_get_past}
@@ -7,7 +7,7 @@ use Rattle.std.proofs.Math.ListN.{drop_of_length-le}
 use Rattle.std.proofs.Math.Seq.{drop-append-add}
 use Rattle.std.specs.Iterator.{YieldsFirst, YieldsLast, SkipsThenYields, Yields}
 
--- the n-th of what was left is answered, and what stands behind it is left
+-- the n-th of what was left is returned, and what follows it is left
 pub record IsNth {A : Type 0} (n : ℕ) (all : List A) (answer : Option A) (rest : List A) : Type 0
   where
     pub answered : answer ≡ slice_get all n
@@ -19,7 +19,7 @@ item_at [] x ys = refl
 item_at (y ∷ xs) x ys = item_at xs x ys
 
 module _ {S A : Type 0} (rest : S → List A) where
-  -- calls that gave xs had xs in front of what is left
+  -- calls that gave xs had xs before what is left
   in_front : (s : S) (xs : List A) (t : S) →
       Yields (YieldsFirst rest) s xs t → rest s ≡ xs ++ rest t
   in_front s [] t gave = ap rest gave
@@ -42,7 +42,7 @@ module _ {S A : Type 0} (rest : S → List A) where
         left = sym (drop-append-add xs (x ∷ rest u) 1);
       })
 
--- from the back it is the same of what is left, in reverse
+-- from the back it is the same, with what is left in reverse
 module _ {S A : Type 0} (rest : S → List A) where
   abbrev turned : S → List A
   turned s = reverse (rest s)

@@ -1,4 +1,4 @@
--- The groups in which an MMAP2 record is read are its body.
+-- The groups in which an MMAP2 record is read form its body.
 use Rattle.std.proofs.Common.{◌≡◌, refl, sym, subst}
 use Rattle.std.specs.Prelude.{Result, Ok, Err, IsTrue}
 use Rattle.perf_base.specs.Configuration.{Configuration}
@@ -22,7 +22,7 @@ groups_are_it : (c : Configuration) → (place >>= λ p. behind_place p c) ≡ m
 groups_are_it c = refl
 
 module _ {I E : Type 0} {source : I → Source} {order : E → Order} where
-  -- the second group was read behind the first
+  -- the second group was read after the first
   pub places_read : {a b c : Reader I E} {p : Place} {seen : Result Mmap2 ErrorKind} →
       Call source order (Reads (λ _. place) (λ p. p)) a (Ok p) b →
       Call source order (ReadsLent (behind_place p) mmap2_value IsBorrowedMmap2) b seen c →
@@ -62,7 +62,7 @@ module _ {I E : Type 0} {source : I → Source} {order : E → Order} where
         keeps = all.keeps;
       }
 
-  -- the path was read behind the detail
+  -- the path was read after the detail
   pub detail_read : (p : Place) {a b c : Reader I E} {d : MmapDetail} {seen : Result Mmap2 ErrorKind} →
       Call source order (Reads mmap_detail detail_value) a (Ok d) b →
       Call source order (ReadsLent (λ _. behind_detail p (detail_value d)) mmap2_value IsBorrowedMmap2) b seen c →

@@ -1,5 +1,5 @@
--- How many bytes of code a TEXT_POKE record has: the least number that is at least the sum of both lengths and is four
--- modulo eight. And its value and its form, by those of its byte strings.
+-- How many bytes of code a TEXT_POKE record has: the least number that is at least the sum of both
+-- lengths and is four modulo eight. And its value and its form, from those of its byte strings.
 use Rattle.std.proofs.Common.{◌≡◌, ◌≤◌, ℕ, ◌%◌, List, Bool, ◌++◌, arith}
 use Rattle.perf_types.specs.TextPoke.{TextPokeValue, poked_len}
 

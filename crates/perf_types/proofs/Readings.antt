@@ -1,4 +1,4 @@
--- Calls of a reader that the lemmas of `perf_reader` on parts one behind another do not have.
+-- Calls of a reader that are missing in the lemmas of `perf_reader` on parts one after another.
 use Rattle.std.proofs.Common.{◌≡◌, ℕ, List, Bool, refl, sym, ◌∙◌, subst, ap, arith}
 use Rattle.std.specs.Prelude.{Result, Err, None, Some}
 use Rattle.perf_base.specs.Configuration.{Configuration}
@@ -16,7 +16,7 @@ use Rattle.perf_reader.specs.Reading.{AnswersRun, Reads, ReadsOne, Keeps}
 use Rattle.perf_reader.specs.declared.reader.Reader.{Reader}
 use Rattle.perf_words.specs.Bits.{has_bit}
 
--- a bit of a word, as a set of flags that is that word answers it
+-- a bit of a word, as reported by the set of flags that is that word
 pub bit_is : (bit flags word : ℕ) (has test : Bool) → flags ≡ word → has ≡ test → test ≡ has_bit flags bit → has_bit word bit ≡ has
 bit_is bit flags word has test same is means = ap (λ w. has_bit w bit) (sym same) ∙ (sym means ∙ sym is)
 
@@ -29,7 +29,7 @@ starving start m h = record {
 }
 
 module _ {I E : Type 0} {source : I → Source} {order : E → Order} where
-  -- memory was refused, and nothing more is read
+  -- the allocation failed, and nothing more is read
   pub call_starves : {Y B : Type 0} {show : Y → B} {a : Reader I E} (p : Configuration → Parts B) →
       Call source order (Reads p show) a (Err OutOfMemory) a
   call_starves {Y} {B} {show} {a} p = record {
@@ -40,7 +40,7 @@ module _ {I E : Type 0} {source : I → Source} {order : E → Order} where
     keeps = λ start h. starving start _ h;
   }
 
-  -- bytes of which there are so many
+  -- n bytes, with another name for n
   pub bytes_many : {X : Type 0} {view : X → List ℕ} {a b : Reader I E} {seen : Result X ErrorKind} (n k : ℕ) →
       n ≡ k → Call source order (ReadsOne (byte_string n) view) a seen b →
       Call source order (ReadsOne (byte_string k) view) a seen b

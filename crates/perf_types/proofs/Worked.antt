@@ -33,14 +33,14 @@ lost_body = 0x10 ∷ 0 ∷ 0x99 ∷ 0 ∷ 0 ∷ 0 ∷ 0 ∷ 0 ∷ 0 ∷ 0xAF ∷
 lost_of_sixteen_bytes : layout little lost lost_body ≡ Ok (record { id = 0x990010; lost = 0x7B000000AF00 })
 lost_of_sixteen_bytes = refl
 
--- bytes behind the last part do not matter
+-- bytes after the last part do not matter
 lost_with_more : layout little lost (lost_body ++ 1 ∷ 2 ∷ 3 ∷ []) ≡ Ok (record { id = 0x990010; lost = 0x7B000000AF00 })
 lost_with_more = refl
 
 lost_of_eight_bytes : layout little lost (1 ∷ 0 ∷ 0 ∷ 0 ∷ 0 ∷ 0 ∷ 0 ∷ 0 ∷ []) ≡ Err Eof
 lost_of_eight_bytes = refl
 
--- the number, and the read that fails; all is consumed
+-- the number, and the read that fails; all bytes are consumed
 reads_of_eight_bytes : layout_reads little lost (1 ∷ 0 ∷ 0 ∷ 0 ∷ 0 ∷ 0 ∷ 0 ∷ 0 ∷ []) ≡ 2
 reads_of_eight_bytes = refl
 
@@ -126,7 +126,7 @@ comm_without_a_name = refl
 comm_of_six_bytes : layout little comm (four 1 0 ++ 2 ∷ 0 ∷ []) ≡ Err Eof
 comm_of_six_bytes = refl
 
--- a zero byte inside stays
+-- a zero byte in the middle stays
 cgroup_with_a_zero_byte_inside : layout little cgroup (eight 7 0 ++ 0x2F ∷ 0 ∷ 0x61 ∷ 0 ∷ []) ≡ Ok (record { id = 7; path = 0x2F ∷ 0 ∷ 0x61 ∷ [] })
 cgroup_with_a_zero_byte_inside = refl
 
@@ -153,7 +153,7 @@ mmap_of_another_process = refl
 mmap_of_16_bytes : layout little mmap lost_body ≡ Err Eof
 mmap_of_16_bytes = refl
 
--- the fields in front of a detail, and those behind it
+-- the fields before a detail, and those after it
 abbrev in_front : List ℕ
 in_front = four 1 0 ++ four 2 0 ++ eight 0 16 ++ eight 0 32 ++ eight 0 0
 
@@ -172,12 +172,12 @@ mmap2_with_a_build_id : layout little (mmap2 (under_misc 0x4000)) (in_front ++ 2
     Ok (record { pid = 1; tid = 2; addr = 4096; len = 8192; pgoff = 0; detail = build_id_is twenty; prot = 5; flags = 2; filename = 0x61 ∷ 0x62 ∷ [] })
 mmap2_with_a_build_id = refl
 
--- the three bytes behind the length say nothing, and those behind the build id neither
+-- the three bytes after the length have no meaning, nor have those after the build id
 mmap2_with_a_build_id_of_two_bytes : layout little (mmap2 (under_misc 0x4000)) (in_front ++ 2 ∷ 7 ∷ 8 ∷ 9 ∷ twenty ++ behind) ≡
     Ok (record { pid = 1; tid = 2; addr = 4096; len = 8192; pgoff = 0; detail = build_id_is (1 ∷ 2 ∷ []); prot = 5; flags = 2; filename = 0x61 ∷ 0x62 ∷ [] })
 mmap2_with_a_build_id_of_two_bytes = refl
 
--- a length of 21 is refused once all 24 bytes are there, also where nothing is behind them
+-- a length of 21 is refused once all 24 bytes are present, even if nothing follows them
 mmap2_with_a_build_id_too_long : layout little (mmap2 (under_misc 0x4000)) (in_front ++ 21 ∷ 0 ∷ 0 ∷ 0 ∷ twenty) ≡ Err InvalidRecord
 mmap2_with_a_build_id_too_long = refl
 
@@ -196,7 +196,7 @@ namespaces_of_none = refl
 namespaces_of_one_and_a_half : layout little namespaces (four 1 0 ++ four 2 0 ++ eight 2 0 ++ eight 3 0 ++ eight 4 0 ++ eight 5 0) ≡ Err Eof
 namespaces_of_one_and_a_half = refl
 
--- a count that no bytes can have
+-- a count beyond any number of bytes
 namespaces_of_too_many : layout little namespaces (four 1 0 ++ four 2 0 ++ 0 ∷ 0 ∷ 0 ∷ 0 ∷ 0 ∷ 0 ∷ 0 ∷ 0x80 ∷ []) ≡ Err Eof
 namespaces_of_too_many = refl
 
@@ -212,7 +212,7 @@ text_poke_of_one_byte = refl
 text_poke_of_one_and_one : layout little text_poke (eight 16 0 ++ 1 ∷ 0 ∷ 1 ∷ 0 ∷ 0xAA ∷ 0xBB ∷ 0 ∷ 0 ∷ []) ≡ Ok (record { addr = 16; old_bytes = 0xAA ∷ []; new_bytes = 0xBB ∷ [] })
 text_poke_of_one_and_one = refl
 
--- the bytes behind both strings have to be there
+-- the bytes after both strings must be present
 text_poke_with_three_bytes : layout little text_poke (eight 16 0 ++ 1 ∷ 0 ∷ 1 ∷ 0 ∷ 0xAA ∷ 0xBB ∷ 0 ∷ []) ≡ Err Eof
 text_poke_with_three_bytes = refl
 
@@ -229,11 +229,12 @@ read_in_big : layout big (read (reading 4)) (0 ∷ 0 ∷ 0 ∷ 1 ∷ 0 ∷ 0 ∷
     Ok (record { pid = 1; tid = 2; values = record { value = 3; time_enabled = None; time_running = None; id = Some 256; lost = None } })
 read_in_big = refl
 
--- a number that is lacking
+-- a missing number
 read_of_four_numbers : layout little (read (reading 0x17)) (four 1 0 ++ four 2 0 ++ eight 3 0 ++ eight 4 0 ++ eight 5 0 ++ eight 6 0) ≡ Err Eof
 read_of_four_numbers = refl
 
--- a read format that is refused is found behind the process and its thread, and the value is not read
+-- a read format that is refused is found after the process and its thread, and the value is not
+-- read
 read_of_a_group : layout little (read (reading 8)) (four 1 0 ++ four 2 0 ++ eight 3 0) ≡ Err UnsupportedConfig
 read_of_a_group = refl
 
@@ -259,7 +260,7 @@ seven_bytes_of_bit_six = refl
 single_value : layout little (read_value (reading 0)) (eight 3 0) ≡ Ok (record { value = 3; time_enabled = None; time_running = None; id = None; lost = None })
 single_value = refl
 
--- lost samples stand right behind the value where nothing else is asked for
+-- lost samples come right after the value if no other number is present
 single_with_lost_samples : layout little (read_value (reading 0x10)) (eight 3 0 ++ eight 7 0) ≡
     Ok (record { value = 3; time_enabled = None; time_running = None; id = None; lost = Some 7 })
 single_with_lost_samples = refl
@@ -300,7 +301,7 @@ group_of_two_with_ids : layout little (read_group (reading 0x0D)) group_body ≡
     })
 group_of_two_with_ids = refl
 
--- lost samples stand behind the id
+-- lost samples come after the id
 group_with_lost_samples : layout little (read_group (reading 0x1C)) (eight 1 0 ++ eight 5 0 ++ eight 6 0 ++ eight 7 0) ≡
     Ok (record { time_enabled = None; time_running = None; with_id = true; with_lost = true; entries = record { value = 5; id = Some 6; lost = Some 7 } ∷ [] })
 group_with_lost_samples = refl
@@ -316,14 +317,14 @@ group_of_none = refl
 group_without_its_last_number : layout little (read_group (reading 0x0C)) (eight 2 0 ++ eight 1 0 ++ eight 2 0 ++ eight 3 0) ≡ Err Eof
 group_without_its_last_number = refl
 
--- a list longer than any number is refused, and a shorter one lacks its numbers
+-- a list longer than any number is refused, and a shorter one has missing numbers
 group_of_too_many : layout little (read_group (reading 0x0C)) bit_63 ≡ Err InvalidRecord
 group_of_too_many = refl
 
 group_of_many : layout little (read_group (reading 0x0C)) bit_62 ≡ Err Eof
 group_of_many = refl
 
--- a list that is refused is not read, and one that lacks numbers is read to its end
+-- a list that is refused is not read, and one with missing numbers is read to its end
 reads_of_too_many : layout_reads little (read_group (reading 0x0C)) (bit_63 ++ eight 1 0) ≡ 1
 reads_of_too_many = refl
 
@@ -333,7 +334,7 @@ reads_of_many = refl
 consumed_of_many : layout_consumed little (read_group (reading 0x0C)) (bit_62 ++ eight 1 0 ++ eight 2 0) ≡ 24
 consumed_of_many = refl
 
--- where each entry has one number, no count is too many
+-- if each entry has one number, no count is too large
 group_of_many_values : layout little (read_group (reading 8)) bit_63 ≡ Err Eof
 group_of_many_values = refl
 

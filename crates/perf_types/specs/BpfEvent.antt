@@ -1,17 +1,17 @@
--- PERF_RECORD_BPF_EVENT: what happened, flags, the program's number and the eight bytes of its tag.
+-- PERF_RECORD_BPF_EVENT: what happened, flags, the program's id and the eight bytes of its tag.
 use Rattle.std.specs.Prelude.{ℕ, List}
 use Rattle.perf_base.specs.Layout.{Parts, done, ◌>>=◌}
 use Rattle.perf_base.specs.FieldWords.{u16, u32, bytes}
 use Rattle.perf_types.specs.declared.bpf_event.BpfEvent.{BpfEvent}
 
--- a BPF_EVENT record in plain numbers
+-- a BPF_EVENT record as plain numbers
 pub record BpfEventValue : Type 0 where
   pub ty : ℕ
   pub flags : ℕ
   pub id : ℕ
   pub tag : List ℕ
 
--- the value of a record of the code
+-- the value of a record
 abbrev pub bpf_event_value : BpfEvent → BpfEventValue
 bpf_event_value r = record { ty = r.ty; flags = r.flags; id = r.id; tag = r.tag }
 

@@ -3,7 +3,7 @@ use Rattle.perf_base.specs.Layout.{Parts, done, ◌>>=◌}
 use Rattle.perf_base.specs.FieldWords.{u32, u64}
 use Rattle.perf_types.specs.declared.exit.Exit.{Exit}
 
--- the body: the task, where it comes from, and a time
+-- the body: the task, its origin, and a time
 abbrev pub exit : Parts Exit
 exit = do
   pid ← u32

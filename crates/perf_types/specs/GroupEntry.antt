@@ -1,21 +1,21 @@
--- The entries of a group: blocks of a list of numbers, one behind another, a block for each
+-- The entries of a group: blocks of a list of numbers, one after another, with a block for each
 -- counter.
 use Rattle.std.specs.Prelude.{ℕ, zero, suc, ◌+◌, ◌==◌, Bool, false, if◌then◌else◌}
 use Rattle.std.specs.Prelude.{List, [], ◌∷◌, map, take, drop, slice_index, find}
 use Rattle.std.specs.Prelude.{Option, Some, None}
 use Rattle.perf_types.specs.declared.group_entry.GroupEntry.{GroupEntry}
 
--- ---- what an entry has
+-- ---- the fields of an entry
 
 -- the counter's value
 abbrev pub entry_value : GroupEntry → ℕ
 entry_value e = e.value
 
--- the kernel's own number of its event, if it has one
+-- the kernel's id of its event, if it has one
 abbrev pub entry_id : GroupEntry → Option ℕ
 entry_id e = e.id
 
--- how many samples of it were lost, if that is told
+-- how many of its samples were lost, if that is reported
 abbrev pub entry_lost : GroupEntry → Option ℕ
 entry_lost e = e.lost
 
@@ -45,11 +45,11 @@ entries_of with_id with_lost count words =
 
 -- ---- the entry of a counter
 
--- whether a number is there, and is that one
+-- whether a number is present, and is the given one
 abbrev pub is_number : ℕ → Option ℕ → Bool
 is_number n (Some m) = m == n
 is_number n None = false
 
--- the first entry with an id
+-- the first entry with the given id
 abbrev pub entry_with_id : ℕ → List GroupEntry → Option GroupEntry
 entry_with_id id entries = find (λ e. is_number id e.id) entries

@@ -1,5 +1,5 @@
--- PERF_RECORD_MMAP2: as PERF_RECORD_MMAP, and which file was mapped, how its memory may be used,
--- and how it was mapped.
+-- PERF_RECORD_MMAP2: as PERF_RECORD_MMAP, and also which file was mapped, how its memory may be
+-- used, and how it was mapped.
 use Rattle.std.specs.Prelude.{ℕ, List, IsTrue, Bool}
 use Rattle.perf_base.specs.Configuration.{Configuration}
 use Rattle.perf_base.specs.Cow.{cow_items, is_borrowed, cow_form}
@@ -10,7 +10,7 @@ use Rattle.perf_types.specs.MmapDetail.{DetailValue, detail_value, mmap_detail}
 use Rattle.perf_types.specs.declared.mmap2.Mmap2.{Mmap2}
 use Rattle.perf_types.specs.declared.mmap2.Place.{Place}
 
--- an MMAP2 record in plain numbers and bytes
+-- an MMAP2 record as plain numbers and bytes
 pub record Mmap2Value : Type 0 where
   pub pid : ℕ
   pub tid : ℕ
@@ -22,7 +22,7 @@ pub record Mmap2Value : Type 0 where
   pub flags : ℕ
   pub filename : List ℕ
 
--- the value of a record of the code, wherever its bytes lie
+-- the value of a record, borrowed or owned
 abbrev pub mmap2_value : Mmap2 → Mmap2Value
 mmap2_value r = record {
   pid = r.pid;
@@ -36,7 +36,7 @@ mmap2_value r = record {
   filename = cow_items r.filename;
 }
 
--- what an MMAP record says of the same mapping
+-- the MMAP record of the same mapping
 abbrev pub mapping_of : Mmap2Value → MmapValue
 mapping_of r = record {
   pid = r.pid;
@@ -55,7 +55,7 @@ mmap2_form r = cow_form r.filename
 abbrev pub IsBorrowedMmap2 : Mmap2 → Type 0
 IsBorrowedMmap2 r = IsTrue (is_borrowed r.filename)
 
--- the body: numbers with the detail between them, and the path behind them
+-- the body: numbers with the detail between them, and then the path
 abbrev pub mmap2 : Configuration → Parts Mmap2Value
 mmap2 c = do
   pid ← u32
@@ -79,9 +79,9 @@ mmap2 c = do
     filename = filename;
   })
 
--- ---- in groups, as it is read; `proofs/Places` shows that they are the body
+-- ---- in groups, as it is read; `proofs/Places` shows that they form the body
 
--- the task, and what it mapped where
+-- the task, and what it mapped and where
 abbrev pub place : Parts Place
 place = do
   pid ← u32
@@ -91,7 +91,7 @@ place = do
   pgoff ← u64
   done (record { pid = pid; tid = tid; addr = addr; len = len; pgoff = pgoff })
 
--- what stands behind the detail
+-- what follows the detail
 abbrev pub behind_detail : Place → DetailValue → Parts Mmap2Value
 behind_detail p detail = do
   prot ← u32
@@ -109,7 +109,7 @@ behind_detail p detail = do
     filename = filename;
   })
 
--- what stands behind the place
+-- what follows the place
 abbrev pub behind_place : Place → Configuration → Parts Mmap2Value
 behind_place p c = do
   detail ← mmap_detail c

@@ -1,4 +1,4 @@
--- The 24 bytes of PERF_RECORD_MMAP2 that say which file was mapped: an inode, or a build id.
+-- The 24 bytes of PERF_RECORD_MMAP2 that identify the mapped file: an inode, or a build id.
 use Rattle.std.specs.Prelude.{ℕ, Bool, true, List, take, Option, Some, None, nat_le, if◌then◌else◌}
 use Rattle.perf_base.specs.Configuration.{Configuration}
 use Rattle.perf_base.specs.Misc.{build_id_bit}
@@ -9,12 +9,12 @@ use Rattle.perf_base.specs.declared.error.ErrorKind.TheVariants.{InvalidRecord}
 use Rattle.perf_types.specs.declared.mmap2.MmapDetail.{MmapDetail}
 use Rattle.perf_types.specs.declared.mmap2.MmapDetail.TheVariants as detail
 
--- a detail in plain numbers and bytes
+-- a detail as plain numbers and bytes
 pub data DetailValue : Type 0 where
   inode_is : (maj min ino ino_generation : ℕ) → DetailValue
   build_id_is : List ℕ → DetailValue
 
--- the value of a detail of the code: of a build id the bytes that count
+-- the value of a detail: for a build id, only the bytes that count
 abbrev pub detail_value : MmapDetail → DetailValue
 detail_value (detail.Default maj min ino ino_generation) = inode_is maj min ino ino_generation
 detail_value (detail.BuildId build_id len) = build_id_is (take len build_id)
@@ -24,29 +24,29 @@ abbrev pub has_fitting_id : MmapDetail → Bool
 has_fitting_id (detail.Default maj min ino ino_generation) = true
 has_fitting_id (detail.BuildId build_id len) = nat_le len 20
 
--- ---- what a detail has, or lacks
+-- ---- the fields that a detail has, or does not have
 
--- the major number of the device, of an inode
+-- the major number of the device, if it is an inode
 abbrev pub maj_of : DetailValue → Option ℕ
 maj_of (inode_is maj min ino ino_generation) = Some maj
 maj_of (build_id_is id) = None
 
--- the minor number of the device, of an inode
+-- the minor number of the device, if it is an inode
 abbrev pub min_of : DetailValue → Option ℕ
 min_of (inode_is maj min ino ino_generation) = Some min
 min_of (build_id_is id) = None
 
--- the number of an inode
+-- the number of the inode
 abbrev pub ino_of : DetailValue → Option ℕ
 ino_of (inode_is maj min ino ino_generation) = Some ino
 ino_of (build_id_is id) = None
 
--- the generation of an inode
+-- the generation of the inode
 abbrev pub ino_generation_of : DetailValue → Option ℕ
 ino_generation_of (inode_is maj min ino ino_generation) = Some ino_generation
 ino_generation_of (build_id_is id) = None
 
--- the bytes of a build id
+-- the bytes of the build id
 abbrev pub build_id_of : DetailValue → Option (List ℕ)
 build_id_of (inode_is maj min ino ino_generation) = None
 build_id_of (build_id_is id) = Some id
@@ -62,8 +62,8 @@ inode = do
   ino_generation ← u64
   done (inode_is maj min ino ino_generation)
 
--- Twenty bytes, of which the first `len` are the build id. A length above twenty is found once all
--- bytes are there.
+-- Twenty bytes, the first `len` of which are the build id. A length above twenty is refused once
+-- all bytes are present.
 abbrev pub build_id : Parts DetailValue
 build_id = do
   len ← u8
@@ -72,6 +72,6 @@ build_id = do
   require (nat_le len 20) InvalidRecord
   done (build_id_is (take len id))
 
--- Which of both it is: misc has the bit PERF_RECORD_MISC_MMAP_BUILD_ID, or not.
+-- An inode or a build id, depending on bit PERF_RECORD_MISC_MMAP_BUILD_ID of misc.
 abbrev pub mmap_detail : Configuration → Parts DetailValue
 mmap_detail c = if has_bit c.misc build_id_bit then build_id else inode

@@ -6,13 +6,13 @@ use Rattle.perf_base.specs.FieldWords.{u32, u64, numbers}
 use Rattle.perf_types.specs.declared.namespaces.NamespaceEntry.{NamespaceEntry}
 use Rattle.perf_types.specs.declared.namespaces.Namespaces.{Namespaces}
 
--- a NAMESPACES record in plain numbers and a list
+-- a NAMESPACES record as plain numbers and a list
 pub record NamespacesValue : Type 0 where
   pub pid : ℕ
   pub tid : ℕ
   pub namespaces : List NamespaceEntry
 
--- the value of a record of the code, wherever its list lies
+-- the value of a record, borrowed or owned
 abbrev pub namespaces_value : Namespaces → NamespacesValue
 namespaces_value r = record { pid = r.pid; tid = r.tid; namespaces = cow_items r.namespaces }
 
@@ -20,7 +20,7 @@ namespaces_value r = record { pid = r.pid; tid = r.tid; namespaces = cow_items r
 abbrev pub namespaces_form : Namespaces → List Bool
 namespaces_form r = cow_form r.namespaces
 
--- ---- where each namespace stands in the list: NET_NS_INDEX and the like of perf_event.h
+-- ---- the index of each namespace in the list: NET_NS_INDEX and the like of perf_event.h
 
 -- NET_NS_INDEX
 abbrev pub network_index : ℕ
@@ -42,7 +42,7 @@ pid_index = 3
 abbrev pub user_index : ℕ
 user_index = 4
 
--- CGROUP_NS_INDEX; at 5 stands MNT_NS_INDEX
+-- CGROUP_NS_INDEX; MNT_NS_INDEX is 5
 abbrev pub cgroup_index : ℕ
 cgroup_index = 6
 
@@ -55,7 +55,7 @@ namespace_entry = do
   inode ← u64
   done (record { dev = dev; inode = inode })
 
--- numbers, two and two
+-- pairs of numbers
 abbrev pub entries_of : List ℕ → List NamespaceEntry
 entries_of (dev ∷ inode ∷ words) = record { dev = dev; inode = inode } ∷ entries_of words
 entries_of _ = []
@@ -64,7 +64,7 @@ entries_of _ = []
 abbrev pub entry_numbers : NamespaceEntry → List ℕ
 entry_numbers e = e.dev ∷ e.inode ∷ []
 
--- the body: the task, a count, and as many namespaces
+-- the body: the task, a count, and that many namespaces
 abbrev pub namespaces : Parts NamespacesValue
 namespaces = do
   pid ← u32

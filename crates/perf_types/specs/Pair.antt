@@ -3,7 +3,7 @@ use Rattle.std.specs.Prelude.{ℕ}
 use Rattle.perf_base.specs.Layout.{Parts, done, ◌>>=◌}
 use Rattle.perf_base.specs.FieldWords.{u32}
 
--- one behind the other
+-- one after the other
 abbrev pub pair : Parts (ℕ × ℕ)
 pair = do
   first ← u32

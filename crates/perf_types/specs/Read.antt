@@ -6,17 +6,17 @@ use Rattle.perf_base.specs.FieldWords.{u32}
 use Rattle.perf_types.specs.ReadValue.{SingleRead, single_read, read_value}
 use Rattle.perf_types.specs.declared.read.Read.{Read}
 
--- a READ record in plain numbers
+-- a READ record as plain numbers
 pub record TaskRead : Type 0 where
   pub pid : ℕ
   pub tid : ℕ
   pub values : SingleRead
 
--- the numbers of a record of the code
+-- the numbers of a record
 abbrev pub task_read : Read → TaskRead
 task_read r = record { pid = r.pid; tid = r.tid; values = single_read r.values }
 
--- A read format that is refused is found behind the process and its thread.
+-- A read format that is refused is found after the process and its thread.
 abbrev pub read : Configuration → Parts TaskRead
 read c = do
   pid ← u32

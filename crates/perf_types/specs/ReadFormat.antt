@@ -1,4 +1,4 @@
--- The flags of a read format, PERF_FORMAT_*: which numbers a read of a counter has beside its
+-- The flags of a read format, PERF_FORMAT_*: which numbers a read of a counter has besides its
 -- value.
 use Rattle.std.specs.Prelude.{ℕ, ◌^◌, Bool, nat_lt}
 use Rattle.perf_words.specs.Bits.{has_bit}
@@ -11,7 +11,7 @@ has_time_enabled read_format = has_bit read_format 0
 abbrev pub has_time_running : (read_format : ℕ) → Bool
 has_time_running read_format = has_bit read_format 1
 
--- PERF_FORMAT_ID: the kernel's own number of the event
+-- PERF_FORMAT_ID: the kernel's id of the event
 abbrev pub has_id : (read_format : ℕ) → Bool
 has_id read_format = has_bit read_format 2
 
@@ -19,10 +19,10 @@ has_id read_format = has_bit read_format 2
 abbrev pub has_group : (read_format : ℕ) → Bool
 has_group read_format = has_bit read_format 3
 
--- PERF_FORMAT_LOST: how many samples of it were lost
+-- PERF_FORMAT_LOST: how many of its samples were lost
 abbrev pub has_lost : (read_format : ℕ) → Bool
 has_lost read_format = has_bit read_format 4
 
--- It has no other bit than those five.
+-- It has no bits other than those five.
 abbrev pub is_known : (read_format : ℕ) → Bool
 is_known read_format = nat_lt read_format (2 ^ 5)

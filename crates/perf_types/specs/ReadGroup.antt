@@ -16,12 +16,12 @@ use Rattle.perf_types.specs.GroupEntry.{block_len, entries_of}
 use Rattle.perf_types.specs.declared.group_entry.GroupEntry.{GroupEntry}
 use Rattle.perf_types.specs.declared.read_group.ReadGroup.{ReadGroup}
 
--- the read of a group in plain numbers
+-- the read of a group as plain numbers
 pub record GroupRead : Type 0 where
   -- how long the group was enabled, and how long it ran, in nanoseconds
   pub time_enabled : Option ℕ
   pub time_running : Option ℕ
-  -- which numbers each entry has beside its value
+  -- which numbers each entry has besides its value
   pub with_id : Bool
   pub with_lost : Bool
   pub entries : List GroupEntry
@@ -31,7 +31,7 @@ abbrev pub all_entries : (with_id with_lost : Bool) → List ℕ → List GroupE
 all_entries with_id with_lost words =
     entries_of with_id with_lost (length words / block_len with_id with_lost) words
 
--- the value of a group of the code, wherever its numbers lie
+-- the value of a group, borrowed or owned
 abbrev pub group_read : ReadGroup → GroupRead
 group_read g = record {
   time_enabled = g.time_enabled;
@@ -41,7 +41,7 @@ group_read g = record {
   entries = all_entries g.with_id g.with_lost (cow_items g.words);
 }
 
--- the group of these numbers: of the times those count whose flag a read format has
+-- the group of these numbers: a time counts only if its flag is in the read format
 abbrev pub group_with : (read_format time_enabled time_running : ℕ) → List ℕ → GroupRead
 group_with read_format time_enabled time_running words = record {
   time_enabled = then_some (has_time_enabled read_format) time_enabled;
@@ -51,7 +51,7 @@ group_with read_format time_enabled time_running words = record {
   entries = all_entries (has_id read_format) (has_lost read_format) words;
 }
 
--- no number of it was copied
+-- none of its numbers were copied
 abbrev pub is_borrowed_group : ReadGroup → Bool
 is_borrowed_group g = is_borrowed g.words
 
@@ -71,13 +71,13 @@ group_of r = record {
   entries = record { value = r.value; id = r.id; lost = r.lost } ∷ [];
 }
 
--- a number where it is wanted: 0 where it is lacking
+-- a number if requested, or 0 if it is missing
 abbrev pub wanted : Bool → Option ℕ → Option ℕ
 wanted true number = Some (unwrap_or number 0)
 wanted false number = None
 
--- an entry, also one of another group, as a single read with the times of a group and the numbers
--- that its entries have
+-- an entry, possibly of another group, as a single read with the times of a group and the numbers
+-- that the group's entries have
 abbrev pub single_of : GroupRead → GroupEntry → SingleRead
 single_of g e = record {
   value = e.value;
@@ -87,15 +87,15 @@ single_of g e = record {
   lost = wanted g.with_lost e.lost;
 }
 
--- the one entry of a list that has no other
+-- the entry of a list that has exactly one
 abbrev pub only_entry : List GroupEntry → Option GroupEntry
 only_entry (e ∷ []) = Some e
 only_entry _ = None
 
 -- ---- table
 
--- A read format that asks for no group, or for what is not known, is refused before the count. A
--- list of more numbers than 2 ^ 64 - 1 is refused behind the times.
+-- A read format without a group, or with unknown flags, is refused before the count. A list of more
+-- than 2 ^ 64 - 1 numbers is refused after the times.
 abbrev pub read_group : Configuration → Parts GroupRead
 read_group c = do
   require (has_group c.read_format) kind.UnsupportedConfig

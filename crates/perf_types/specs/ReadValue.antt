@@ -1,5 +1,5 @@
 -- A read of one counter, `struct read_format` of perf_event_open(2) without PERF_FORMAT_GROUP: the
--- counter's value, and behind it a number for each other flag.
+-- counter's value, followed by a number for each other flag.
 use Rattle.std.specs.Prelude.{ℕ, not, List, codes, Option}
 use Rattle.std.specs.Bool.{then_some}
 use Rattle.perf_base.specs.Configuration.{Configuration}
@@ -10,18 +10,18 @@ use Rattle.perf_types.specs.ReadFormat.{has_time_enabled, has_time_running, has_
 use Rattle.perf_types.specs.ReadFormat.{has_group, is_known}
 use Rattle.perf_types.specs.declared.read_value.ReadValue.{ReadValue}
 
--- the read of one counter in plain numbers
+-- the read of one counter as plain numbers
 pub record SingleRead : Type 0 where
   pub value : ℕ
   -- how long the event was enabled, and how long it ran, in nanoseconds
   pub time_enabled : Option ℕ
   pub time_running : Option ℕ
-  -- the kernel's own number of the event
+  -- the kernel's id of the event
   pub id : Option ℕ
-  -- how many samples of it were lost
+  -- how many of its samples were lost
   pub lost : Option ℕ
 
--- the numbers of a read of the code
+-- the numbers of a read
 abbrev pub single_read : ReadValue → SingleRead
 single_read r = record {
   value = r.value;
@@ -31,7 +31,7 @@ single_read r = record {
   lost = r.lost;
 }
 
--- the read of these numbers, of which those count whose flag a read format has
+-- the read of these numbers: each counts only if its flag is in the read format
 abbrev pub read_with : (read_format value time_enabled time_running id lost : ℕ) → SingleRead
 read_with read_format value time_enabled time_running id lost = record {
   value = value;
@@ -41,12 +41,11 @@ read_with read_format value time_enabled time_running id lost = record {
   lost = then_some (has_lost read_format) lost;
 }
 
--- what is written of a group that cannot be one read
+-- the message for a group that cannot be one read
 abbrev pub not_one_text : List ℕ
 not_one_text = codes "can only convert groups with a single element to ReadValues"
 
--- A read format that asks for a group, or for what is not known, is refused before the first
--- number.
+-- A read format with a group, or with unknown flags, is refused before the first number.
 abbrev pub read_value : Configuration → Parts SingleRead
 read_value c = do
   require (not (has_group c.read_format)) UnsupportedConfig

@@ -1,5 +1,5 @@
--- PERF_RECORD_SWITCH_CPU_WIDE: the other task's process and thread. The header's misc says which
--- way the switch went.
+-- PERF_RECORD_SWITCH_CPU_WIDE: the other task's process and thread. The header's misc specifies the
+-- direction of the switch.
 use Rattle.std.specs.Prelude.{ℕ, if◌then◌else◌}
 use Rattle.perf_base.specs.Configuration.{Configuration}
 use Rattle.perf_base.specs.Misc.{switch_out_bit}
@@ -19,7 +19,7 @@ abbrev pub other_tid : SwitchCpuWide → ℕ
 other_tid (switch.In pid tid) = tid
 other_tid (switch.Out pid tid) = tid
 
--- Away from the task where misc has the bit PERF_RECORD_MISC_SWITCH_OUT, else to it.
+-- Away from the task if misc has the bit PERF_RECORD_MISC_SWITCH_OUT, otherwise to it.
 abbrev pub switch_cpu_wide : Configuration → Parts SwitchCpuWide
 switch_cpu_wide c = do
   pid ← u32

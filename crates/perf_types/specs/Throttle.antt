@@ -1,4 +1,4 @@
--- PERF_RECORD_THROTTLE and PERF_RECORD_UNTHROTTLE: a time, and two numbers of the event.
+-- PERF_RECORD_THROTTLE and PERF_RECORD_UNTHROTTLE: a time, and two ids of the event.
 use Rattle.perf_base.specs.Layout.{Parts, done, ◌>>=◌}
 use Rattle.perf_base.specs.FieldWords.{u64}
 use Rattle.perf_types.specs.declared.throttle.Throttle.{Throttle}

@@ -1,4 +1,4 @@
--- The words that contracts of records are written in.
+-- The definitions used in the contracts of records.
 pub use Rattle.std.specs.List.{flat_map}
 pub use Rattle.std.specs.Option.{option_copied}
 pub use Rattle.std.specs.Result.{result_ok}

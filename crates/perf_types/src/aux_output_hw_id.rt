@@ -10,11 +10,11 @@ use perf_buffers::input::Input;
 use perf_reader::read::{Meant, ReadFrom};
 use perf_reader::reader::Reader;
 
-/// The hardware's own number of an event whose output goes into the AUX buffer
+/// The hardware's id of an event whose output goes to the AUX buffer
 /// (`PERF_RECORD_AUX_OUTPUT_HW_ID`).
 #[derive(Copy, Clone, Debug)]
 pub struct AuxOutputHwId {
-    /// That number, as a trace in the AUX buffer names the event.
+    /// The id by which a trace in the AUX buffer names the event.
     pub hw_id: u64,
 }
 

@@ -15,24 +15,24 @@ use perf_reader::read::{Meant, ReadFrom};
 use perf_reader::reader::Reader;
 use std::alloc::Global;
 
-/// A control group was made (`PERF_RECORD_CGROUP`).
+/// A control group was created (`PERF_RECORD_CGROUP`).
 #[derive(Debug, Drop)]
 pub struct CGroup<'a> {
-    /// The kernel's own number of the group.
+    /// The kernel's id of the group.
     pub id: u64,
-    /// Its path below the root of all groups, without the zero bytes behind it.
+    /// Its path relative to the root of all groups, without the trailing zero bytes.
     pub path: CowSlice<'a, u8>,
 }
 
 impl<'a> CGroup<'a> {
-    /// The path as text, or `None` where it is not UTF-8.
+    /// The path as text, or `None` if it is not UTF-8.
     pub fn path_os(&self) -> Option<&str>
         ensures { option_map (λ text. text.now) result ≡ text_of (cow_items self.now.path) }
     {
         text(self.path.as_slice())
     }
 
-    /// The same record. It takes no memory where the path is borrowed.
+    /// A copy of the record. It needs no memory if the path is borrowed.
     pub fn clone(&self, alloc: Global) -> ParseResult<CGroup<'a>>
         ensures { IsClone cgroup_value cgroup_form self.now result }
     {
@@ -42,9 +42,9 @@ impl<'a> CGroup<'a> {
         })
     }
 
-    /// The same record with its path in memory of its own, so that it lasts as long as one likes.
-    /// It takes no memory where it owns the path already. Where it is refused, `OutOfMemory`, the
-    /// record is given up.
+    /// Makes the record own its path, so that it does not borrow from the input. It needs no memory
+    /// if it owns the path already. If out of memory, it returns `OutOfMemory` and the record is
+    /// dropped.
     pub fn into_owned<'b>(self, alloc: Global) -> ParseResult<CGroup<'b>>
         ensures { IsOwnedCopy cgroup_value cgroup_form self.entry result }
     {

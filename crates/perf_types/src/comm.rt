@@ -16,26 +16,26 @@ use perf_reader::read::{Meant, ReadFrom};
 use perf_reader::reader::Reader;
 use std::alloc::Global;
 
-/// A task was given a name (`PERF_RECORD_COMM`), as by `execve(2)` or `prctl(2)`.
+/// A task was given a name (`PERF_RECORD_COMM`), for example by `execve(2)` or `prctl(2)`.
 #[derive(Debug, Drop)]
 pub struct Comm<'a> {
-    /// The process of the task.
+    /// The process id of the task.
     pub pid: u32,
-    /// The task's thread.
+    /// The thread id of the task.
     pub tid: u32,
-    /// The new name, without the zero bytes behind it.
+    /// The new name, without the trailing zero bytes.
     pub comm: CowSlice<'a, u8>,
 }
 
 impl<'a> Comm<'a> {
-    /// The new name as text, or `None` where it is not UTF-8.
+    /// The new name as text, or `None` if it is not UTF-8.
     pub fn comm_os(&self) -> Option<&str>
         ensures { option_map (λ text. text.now) result ≡ text_of (cow_items self.now.comm) }
     {
         text(self.comm.as_slice())
     }
 
-    /// The same record. It takes no memory where the name is borrowed.
+    /// A copy of the record. It needs no memory if the name is borrowed.
     pub fn clone(&self, alloc: Global) -> ParseResult<Comm<'a>>
         ensures { IsClone comm_value comm_form self.now result }
     {
@@ -46,9 +46,9 @@ impl<'a> Comm<'a> {
         })
     }
 
-    /// The same record with its name in memory of its own, so that it lasts as long as one likes.
-    /// It takes no memory where it owns the name already. Where it is refused, `OutOfMemory`, the
-    /// record is given up.
+    /// Makes the record own its name, so that it does not borrow from the input. It needs no memory
+    /// if it owns the name already. If out of memory, it returns `OutOfMemory` and the record is
+    /// dropped.
     pub fn into_owned<'b>(self, alloc: Global) -> ParseResult<Comm<'b>>
         ensures { IsOwnedCopy comm_value comm_form self.entry result }
     {

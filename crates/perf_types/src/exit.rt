@@ -13,35 +13,35 @@ use perf_buffers::input::Input;
 use perf_reader::read::{Meant, ReadFrom};
 use perf_reader::reader::Reader;
 
-/// A task ended (`PERF_RECORD_EXIT`), or was made (`PERF_RECORD_FORK`), as perf_event_open(2) lays
-/// both out.
+/// A task ended (`PERF_RECORD_EXIT`), or was created (`PERF_RECORD_FORK`), as perf_event_open(2)
+/// lays out both.
 #[derive(Clone, Debug, Drop)]
 pub struct Exit {
-    /// The process of the task.
+    /// The process id of the task.
     pub pid: u32,
-    /// The process that made the task, of a FORK; of an EXIT that of the task's parent.
+    /// For FORK, the process that created the task; for EXIT, that of the task's parent.
     pub ppid: u32,
-    /// The task's thread.
+    /// The thread id of the task.
     pub tid: u32,
-    /// The thread that made the task, of a FORK. Of an EXIT `ppid` once more, since Linux 5.8.
+    /// For FORK, the thread that created the task; for EXIT, `ppid` again, since Linux 5.8.
     pub ptid: u32,
     /// When it happened, in nanoseconds of the event's clock.
     pub time: u64,
 }
 
-/// A task was made by `fork(2)` or `clone(2)`: the same fields as an [`Exit`].
+/// A task was created by `fork(2)` or `clone(2)`: the same fields as an [`Exit`].
 pub type Fork = Exit;
 
 impl Meant for Exit {
     ghost says = { ReadsPlain (λ _. exit) (λ r. r) };
 }
 
-// How many bytes they have, and how many numbers.
+// The size of the fields in bytes, and how many numbers they are.
 const SIZE: usize = 24;
 
 const NUMBERS: usize = 5;
 
-// The fields that these bytes are.
+// The fields in these bytes.
 #[inline]
 #[tactic(auto)]
 fn exit_in<E: Endian>(endian: &E, bytes: [u8; SIZE]) -> Exit

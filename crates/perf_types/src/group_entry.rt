@@ -1,11 +1,11 @@
-//! What a group read has of each counter.
+//! The numbers of one counter in a group read.
 
 ghost use Rattle.std.specs.Prelude.{◌≡◌, length};
 ghost use Rattle.perf_types.specs.GroupEntry.{entry_value, entry_id, entry_lost};
 ghost use Rattle.perf_types.specs.GroupEntry.{entry_of, block_len};
 
-/// What a read of a group has of one counter: its value, and the numbers that the group's read
-/// format asks for.
+/// What a read of a group contains for one counter: its value, and the numbers selected by the
+/// group's read format.
 #[derive(Copy, Clone, Debug)]
 pub struct GroupEntry {
     value: u64,
@@ -13,7 +13,7 @@ pub struct GroupEntry {
     lost: Option<u64>,
 }
 
-// How many numbers of a group each counter has: its value, its id and its lost samples.
+// How many numbers of a group belong to each counter: its value, its id and its lost samples.
 #[inline]
 pub(crate) fn block_len(with_id: bool, with_lost: bool) -> usize
     ensures { result ≡ block_len with_id with_lost }
@@ -26,7 +26,7 @@ pub(crate) fn block_len(with_id: bool, with_lost: bool) -> usize
 }
 
 impl GroupEntry {
-    // The entry of a counter's numbers.
+    // The entry in a counter's numbers.
     #[inline]
     pub(crate) fn of_block(block: &[u64], with_id: bool, with_lost: bool) -> GroupEntry
         requires { length block.now ≡ block_len with_id with_lost }
@@ -52,7 +52,7 @@ impl GroupEntry {
         self.value
     }
 
-    /// The kernel's own number of the event, where the read format has `PERF_FORMAT_ID`.
+    /// The kernel's id of the event, if the read format has `PERF_FORMAT_ID`.
     #[inline]
     pub fn id(&self) -> Option<u64>
         ensures { result ≡ entry_id self.now }
@@ -60,7 +60,7 @@ impl GroupEntry {
         self.id
     }
 
-    /// How many samples of the event were lost, where the read format has `PERF_FORMAT_LOST`.
+    /// How many samples of the event were lost, if the read format has `PERF_FORMAT_LOST`.
     #[inline]
     pub fn lost(&self) -> Option<u64>
         ensures { result ≡ entry_lost self.now }

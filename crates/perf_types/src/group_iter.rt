@@ -7,8 +7,8 @@ use crate::group_entry::{GroupEntry, block_len};
 use std::alloc::AllocError;
 use std::iter::FusedIterator;
 
-/// The entries of a group, first to last, and from the back too. It reads the group's numbers in
-/// place and takes no memory. Once nothing is left it answers `None` from then on.
+/// The entries of a group, first to last, and also from the back. It reads the group's numbers in
+/// place and needs no memory. Once nothing is left it always returns `None`.
 #[derive(Drop)]
 pub struct GroupIter<'a> {
     words: &'a [u64],
@@ -41,7 +41,7 @@ impl<'a> GroupIter<'a> {
     }
 }
 
-/// A second iterator over what is left. It takes no memory.
+/// A second iterator over the remaining entries. It needs no memory.
 impl<'a> Clone for GroupIter<'a> {
     ghost use Rattle.std.specs.Prelude.{⊤};
     ghost use Rattle.perf_types.specs.GroupIter.{entries_left};

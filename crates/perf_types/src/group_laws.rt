@@ -1,5 +1,5 @@
-//! The laws of groups: what the calls of [`GroupIter`] answer in any mixture, and that the read of
-//! one counter goes through a group unchanged.
+//! The laws of groups: what the calls of [`GroupIter`] return in any mixture, and that the read of
+//! one counter is unchanged when it goes through a group.
 
 ghost use Rattle.std.specs.Prelude.{◌≡◌, IfOk, IfErr, Some, option_map};
 ghost use Rattle.perf_types.specs.EntryCalls.{answer_of, left_by, answers_of, left_by_all};
@@ -27,7 +27,7 @@ pub enum EntryCall {
     NthBack(usize),
 }
 
-/// The answer of one call: an entry from an end of those that are left. Past the last it is `None`.
+/// The result of one call: an entry from an end of those that are left, or `None` past the last.
 pub fn entry_call(entries: &mut GroupIter<'_>, call: EntryCall) -> Option<GroupEntry>
     ensures answer { result ≡ answer_of call (entries_left entries.old) }
     ensures left { entries_left entries.new ≡ left_by call (entries_left entries.old) }
@@ -40,7 +40,7 @@ pub fn entry_call(entries: &mut GroupIter<'_>, call: EntryCall) -> Option<GroupE
     }
 }
 
-/// The answers of calls one after another, and what is left behind them.
+/// The results of calls one after another, and what is left after them.
 pub fn entry_calls(
     alloc: Global,
     entries: &mut GroupIter<'_>,
@@ -59,7 +59,7 @@ pub fn entry_calls(
     Ok(answers)
 }
 
-/// The read of one counter as a group of one, and that again as the read of one counter.
+/// The read of one counter as a group of one, and this group as the read of one counter again.
 pub fn through_a_group(
     alloc: Global,
     value: ReadValue,

@@ -2,7 +2,7 @@
 
 use std::fmt;
 
-/// Shows bytes by their hexadecimal digits, two for each.
+/// Shows bytes as hexadecimal digits, two for each.
 #[derive(Drop)]
 pub struct Hex<'a>(pub &'a [u8]);
 

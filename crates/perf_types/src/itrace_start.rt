@@ -10,12 +10,12 @@ use perf_buffers::input::Input;
 use perf_reader::read::{Meant, ReadFrom};
 use perf_reader::reader::Reader;
 
-/// A trace of instructions began (`PERF_RECORD_ITRACE_START`).
+/// An instruction trace began (`PERF_RECORD_ITRACE_START`).
 #[derive(Clone, Debug, Drop)]
 pub struct ITraceStart {
-    /// The process that is traced.
+    /// The id of the traced process.
     pub pid: u32,
-    /// Its thread.
+    /// The id of its thread.
     pub tid: u32,
 }
 

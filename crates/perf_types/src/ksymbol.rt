@@ -16,23 +16,23 @@ use perf_words::flags::KSymbolFlags;
 use perf_words::named::KSymbolType;
 use std::alloc::Global;
 
-/// A symbol of the kernel was registered or went away (`PERF_RECORD_KSYMBOL`).
+/// A kernel symbol was registered or unregistered (`PERF_RECORD_KSYMBOL`).
 #[derive(Debug, Drop)]
 pub struct KSymbol<'a> {
-    /// Where the symbol begins in the kernel's memory.
+    /// The address of the symbol in kernel memory.
     pub addr: u64,
-    /// How many bytes it has there.
+    /// Its size there in bytes.
     pub len: u32,
-    /// What the symbol is, `PERF_RECORD_KSYMBOL_TYPE_*`.
+    /// The kind of the symbol, `PERF_RECORD_KSYMBOL_TYPE_*`.
     pub ksym_type: KSymbolType,
-    /// Whether it went away, `PERF_RECORD_KSYMBOL_FLAGS_*`.
+    /// Whether it was unregistered, `PERF_RECORD_KSYMBOL_FLAGS_*`.
     pub flags: KSymbolFlags,
-    /// Its name, without the zero bytes behind it.
+    /// Its name, without the trailing zero bytes.
     pub name: CowSlice<'a, u8>,
 }
 
 impl<'a> KSymbol<'a> {
-    /// The same record. It takes no memory where the name is borrowed.
+    /// A copy of the record. It needs no memory if the name is borrowed.
     pub fn clone(&self, alloc: Global) -> ParseResult<KSymbol<'a>>
         ensures { IsClone ksymbol_value ksymbol_form self.now result }
     {
@@ -45,9 +45,9 @@ impl<'a> KSymbol<'a> {
         })
     }
 
-    /// The same record with its name in memory of its own, so that it lasts as long as one likes.
-    /// It takes no memory where it owns the name already. Where it is refused, `OutOfMemory`, the
-    /// record is given up.
+    /// Makes the record own its name, so that it does not borrow from the input. It needs no memory
+    /// if it owns the name already. If out of memory, it returns `OutOfMemory` and the record is
+    /// dropped.
     pub fn into_owned<'b>(self, alloc: Global) -> ParseResult<KSymbol<'b>>
         ensures { IsOwnedCopy ksymbol_value ksymbol_form self.entry result }
     {

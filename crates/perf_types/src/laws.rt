@@ -1,6 +1,6 @@
-//! The law of equality and hashing of [`NamespaceEntry`]: entries are equal exactly where both of
+//! The law of equality and hashing of [`NamespaceEntry`]: entries are equal if and only if both of
 //! their numbers are, and hash as these do, the device's first, whatever the hash function. So
-//! equal ones hash alike.
+//! equal ones have equal hashes.
 
 ghost use Rattle.std.specs.Hash as fed;
 ghost use Rattle.perf_types.specs.Alike.{IsByFields, entry_hash};

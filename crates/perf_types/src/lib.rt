@@ -1,4 +1,4 @@
-//! The records that the kernel writes but for samples, and the reads of counters, as plain values.
+//! The kernel's records except samples, and the reads of counters, as plain values.
 #![tactic(auto)]
 
 pub mod aux_output_hw_id;

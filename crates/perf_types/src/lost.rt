@@ -10,10 +10,10 @@ use perf_buffers::input::Input;
 use perf_reader::read::{Meant, ReadFrom};
 use perf_reader::reader::Reader;
 
-/// Events were lost, as the ring buffer had no room (`PERF_RECORD_LOST`).
+/// Events were lost, because the ring buffer was full (`PERF_RECORD_LOST`).
 #[derive(Copy, Clone, Debug)]
 pub struct Lost {
-    /// The kernel's own number of the event that lost them.
+    /// The kernel's id of the event that lost them.
     pub id: u64,
     /// How many were lost.
     pub lost: u64,

@@ -10,7 +10,7 @@ use perf_buffers::input::Input;
 use perf_reader::read::{Meant, ReadFrom};
 use perf_reader::reader::Reader;
 
-/// Samples of the hardware were lost (`PERF_RECORD_LOST_SAMPLES`).
+/// Hardware samples were lost (`PERF_RECORD_LOST_SAMPLES`).
 #[derive(Clone, Debug, Drop)]
 pub struct LostSamples {
     /// How many may have been lost.

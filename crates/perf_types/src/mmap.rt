@@ -16,34 +16,34 @@ use perf_reader::read::{Meant, ReadFrom};
 use perf_reader::reader::Reader;
 use std::alloc::Global;
 
-/// A process mapped something into its memory (`PERF_RECORD_MMAP`): what it can run, and where the
-/// attribute has `mmap_data` what it cannot run too.
+/// A process mapped something into its memory (`PERF_RECORD_MMAP`): something executable, or if the
+/// attribute has `mmap_data`, also something that is not.
 #[derive(Debug, Drop)]
 pub struct Mmap<'a> {
-    /// The process.
+    /// The process id.
     pub pid: u32,
-    /// Its thread.
+    /// The id of its thread.
     pub tid: u32,
-    /// Where the mapping begins in the process's memory.
+    /// The address of the mapping in the process's memory.
     pub addr: u64,
-    /// How many bytes it has.
+    /// The size of the mapping in bytes.
     pub len: u64,
-    /// Where it begins in the file, in bytes.
+    /// The offset of the mapping in the file, in bytes.
     pub pgoff: u64,
-    /// The file's path, without the zero bytes behind it. Where there is no file it is a word of
-    /// the kernel's for what is mapped, such as `//anon` or `[vdso]`.
+    /// The file's path, without the trailing zero bytes. If there is no file, it is the kernel's
+    /// name for what is mapped, such as `//anon` or `[vdso]`.
     pub filename: CowSlice<'a, u8>,
 }
 
 impl<'a> Mmap<'a> {
-    /// The path as text, or `None` where it is not UTF-8.
+    /// The path as text, or `None` if it is not UTF-8.
     pub fn filename_os(&self) -> Option<&str>
         ensures { option_map (λ text. text.now) result ≡ text_of (cow_items self.now.filename) }
     {
         text(self.filename.as_slice())
     }
 
-    /// The same record. It takes no memory where the path is borrowed.
+    /// A copy of the record. It needs no memory if the path is borrowed.
     pub fn clone(&self, alloc: Global) -> ParseResult<Mmap<'a>>
         ensures { IsClone mmap_value mmap_form self.now result }
     {
@@ -57,9 +57,9 @@ impl<'a> Mmap<'a> {
         })
     }
 
-    /// The same record with its path in memory of its own, so that it lasts as long as one likes.
-    /// It takes no memory where it owns the path already. Where it is refused, `OutOfMemory`, the
-    /// record is given up.
+    /// Makes the record own its path, so that it does not borrow from the input. It needs no memory
+    /// if it owns the path already. If out of memory, it returns `OutOfMemory` and the record is
+    /// dropped.
     pub fn into_owned<'b>(self, alloc: Global) -> ParseResult<Mmap<'b>>
         ensures { IsOwnedCopy mmap_value mmap_form self.entry result }
     {

@@ -23,57 +23,57 @@ use perf_reader::reader::Reader;
 use std::alloc::Global;
 use std::fmt;
 
-/// A process mapped something into its memory (`PERF_RECORD_MMAP2`): as [`Mmap`], and which file it
-/// was.
+/// A process mapped something into its memory (`PERF_RECORD_MMAP2`): as [`Mmap`], and also which
+/// file it was.
 #[derive(Debug, Drop)]
 pub struct Mmap2<'a> {
-    /// The process.
+    /// The process id.
     pub pid: u32,
-    /// Its thread.
+    /// The id of its thread.
     pub tid: u32,
-    /// Where the mapping begins in the process's memory.
+    /// The address of the mapping in the process's memory.
     pub addr: u64,
-    /// How many bytes it has.
+    /// The size of the mapping in bytes.
     pub len: u64,
-    /// Where it begins in the file, in bytes.
+    /// The offset of the mapping in the file, in bytes.
     pub pgoff: u64,
     /// How the memory may be used, `PROT_*` of mmap(2).
     pub prot: u32,
     /// How it was mapped, `MAP_*` of mmap(2).
     pub flags: u32,
-    /// The file's path, without the zero bytes behind it. Where there is no file it is a word of
-    /// the kernel's for what is mapped, such as `//anon` or `[vdso]`.
+    /// The file's path, without the trailing zero bytes. If there is no file, it is the kernel's
+    /// name for what is mapped, such as `//anon` or `[vdso]`.
     pub filename: CowSlice<'a, u8>,
     detail: MmapDetail,
     ghost fitting: { IsTrue (file.has_fitting_id detail) },
 }
 
 /// Which file was mapped: one by its inode, or a program by its build id. Bit 14 of the header's
-/// `misc`, `PERF_RECORD_MISC_MMAP_BUILD_ID`, says which of both a record has.
+/// `misc`, `PERF_RECORD_MISC_MMAP_BUILD_ID`, specifies which of the two a record has.
 #[derive(Clone, Drop)]
 pub enum MmapDetail {
     /// The file's inode.
     Default {
-        /// The major number of the device that holds the file.
+        /// The major number of the device that contains the file.
         maj: u32,
         /// The minor number of that device.
         min: u32,
         /// The number of the inode.
         ino: u64,
-        /// The generation of the inode, which tells files apart that had its number one after
+        /// The generation of the inode, which distinguishes files that used its number one after
         /// another.
         ino_generation: u64,
     },
     /// The program's build id: the first `len` bytes of `build_id`.
     BuildId {
-        /// The build id, and behind it bytes that say nothing.
+        /// The build id, followed by bytes without a meaning.
         build_id: [u8; 20],
-        /// How many bytes the build id has, 20 at most.
+        /// The size of the build id in bytes, at most 20.
         len: u8,
     },
 }
 
-/// A build id is shown by its hexadecimal digits, without the bytes behind it.
+/// A build id is shown as hexadecimal digits, without the bytes after it.
 impl fmt::Debug for MmapDetail {
     fn fmt<W: fmt::Write>(&self, f: &mut fmt::Formatter<W>) -> fmt::Result {
         match self {
@@ -104,7 +104,7 @@ impl<'a> Mmap2<'a> {
     ghost use Rattle.perf_types.specs.Mmap2.{mmap2_value, mmap2_form, mapping_of};
     ghost use Rattle.perf_types.specs.Words.{KeepsForm, IsClone, IsOwnedCopy};
 
-    /// The record of these fields, the bytes behind a build id too.
+    /// The record of these fields, including the bytes after a build id.
     pub fn from_parts(
         pid: u32,
         tid: u32,
@@ -144,14 +144,14 @@ impl<'a> Mmap2<'a> {
         }
     }
 
-    /// The path as text, or `None` where it is not UTF-8.
+    /// The path as text, or `None` if it is not UTF-8.
     pub fn filename_os(&self) -> Option<&str>
         ensures { option_map (λ text. text.now) result ≡ text_of (cow_items self.now.filename) }
     {
         text(self.filename.as_slice())
     }
 
-    /// The major number of the device that holds the file, where the record names an inode.
+    /// The major number of the device that contains the file, if the record has an inode.
     pub fn maj(&self) -> Option<u32>
         ensures { result ≡ file.maj_of (mmap2_value self.now).detail }
     {
@@ -161,7 +161,7 @@ impl<'a> Mmap2<'a> {
         }
     }
 
-    /// The minor number of that device, where the record names an inode.
+    /// The minor number of that device, if the record has an inode.
     pub fn min(&self) -> Option<u32>
         ensures { result ≡ file.min_of (mmap2_value self.now).detail }
     {
@@ -171,7 +171,7 @@ impl<'a> Mmap2<'a> {
         }
     }
 
-    /// The number of the inode, where the record names one.
+    /// The number of the inode, if the record has one.
     pub fn ino(&self) -> Option<u64>
         ensures { result ≡ file.ino_of (mmap2_value self.now).detail }
     {
@@ -181,7 +181,7 @@ impl<'a> Mmap2<'a> {
         }
     }
 
-    /// The generation of the inode, where the record names one.
+    /// The generation of the inode, if the record has one.
     pub fn ino_generation(&self) -> Option<u64>
         ensures { result ≡ file.ino_generation_of (mmap2_value self.now).detail }
     {
@@ -191,8 +191,8 @@ impl<'a> Mmap2<'a> {
         }
     }
 
-    /// The build id of the program, where the record has one: the first bytes of its twenty, as
-    /// many as it says.
+    /// The build id of the program, if the record has one: the first bytes of the twenty, as many
+    /// as the record specifies.
     pub fn build_id(&self) -> Option<&[u8]>
         ensures { option_map (λ id. id.now) result ≡
             file.build_id_of (mmap2_value self.now).detail }
@@ -203,7 +203,7 @@ impl<'a> Mmap2<'a> {
         }
     }
 
-    /// What an MMAP record says of the same mapping. It takes no memory where the path is borrowed.
+    /// The MMAP record of the same mapping. It needs no memory if the path is borrowed.
     pub fn to_mmap(&self, alloc: Global) -> ParseResult<Mmap<'a>>
         ensures { KeepsForm mmap_value mmap_form (mapping_of (mmap2_value self.now))
             (mmap2_form self.now) result }
@@ -218,7 +218,7 @@ impl<'a> Mmap2<'a> {
         })
     }
 
-    /// What an MMAP record says of the same mapping. It takes no memory.
+    /// The MMAP record of the same mapping. It needs no memory.
     pub fn into_mmap(self) -> Mmap<'a>
         ensures same { mmap_value result ≡ mapping_of (mmap2_value self.entry) }
         ensures form { is_borrowed result.filename ≡ is_borrowed self.entry.filename }
@@ -233,8 +233,8 @@ impl<'a> Mmap2<'a> {
         }
     }
 
-    /// The same record, the bytes behind a build id too. It takes no memory where the path is
-    /// borrowed.
+    /// A copy of the record, including the bytes after a build id. It needs no memory if the path
+    /// is borrowed.
     pub fn clone(&self, alloc: Global) -> ParseResult<Mmap2<'a>>
         ensures copy { IsClone mmap2_value mmap2_form self.now result }
         ensures detail { IfOk result (λ copy. copy.detail ≡ self.now.detail) }
@@ -253,9 +253,9 @@ impl<'a> Mmap2<'a> {
         })
     }
 
-    /// The same record with its path in memory of its own, so that it lasts as long as one likes.
-    /// It takes no memory where it owns the path already. Where it is refused, `OutOfMemory`, the
-    /// record is given up.
+    /// Makes the record own its path, so that it does not borrow from the input. It needs no memory
+    /// if it owns the path already. If out of memory, it returns `OutOfMemory` and the record is
+    /// dropped.
     pub fn into_owned<'b>(self, alloc: Global) -> ParseResult<Mmap2<'b>>
         ensures copy { IsOwnedCopy mmap2_value mmap2_form self.entry result }
         ensures detail { IfOk result (λ copy. copy.detail ≡ self.entry.detail) }
@@ -312,10 +312,10 @@ impl<'a> From<Mmap2<'a>> for Mmap<'a> {
     }
 }
 
-// How long a build id can be.
+// The maximal size of a build id in bytes.
 const BUILD_ID_SIZE_MAX: u8 = 20;
 
-// Whether the record whose `misc` this is names its file by a build id.
+// Whether the record with this `misc` identifies its file by a build id.
 #[inline]
 #[tactic(auto, using(crate::proofs::Flags::misc_bits))]
 fn has_build_id(misc: u16) -> bool
@@ -324,10 +324,10 @@ fn has_build_id(misc: u16) -> bool
     misc & PERF_RECORD_MISC_MMAP_BUILD_ID == PERF_RECORD_MISC_MMAP_BUILD_ID
 }
 
-// How many bytes the numbers of an inode have.
+// The size of an inode's numbers in bytes.
 const INODE_SIZE: usize = 24;
 
-// The inode that these bytes are.
+// The inode in these bytes.
 #[inline]
 #[tactic(auto)]
 fn inode_in<E: Endian>(endian: &E, bytes: [u8; INODE_SIZE]) -> MmapDetail
@@ -409,7 +409,7 @@ impl<'p, I: Input<'p>> ReadFrom<'p, I> for MmapDetail {
     }
 }
 
-// The task, and what it mapped where.
+// The task, and what it mapped and where.
 #[derive(Copy, Clone)]
 pub(crate) struct Place {
     pub(crate) pid: u32,
@@ -419,13 +419,13 @@ pub(crate) struct Place {
     pub(crate) pgoff: u64,
 }
 
-// How many bytes a place has.
+// The size of a place in bytes.
 const PLACE_SIZE: usize = 32;
 
 impl Place {
     ghost use Rattle.perf_types.specs.Mmap2.{place};
 
-    // The place that these bytes are.
+    // The place in these bytes.
     #[inline]
     #[tactic(auto)]
     fn from_bytes<E: Endian>(endian: &E, bytes: [u8; PLACE_SIZE]) -> Place
@@ -465,7 +465,7 @@ impl<'p> Mmap2<'p> {
     ghost use Rattle.perf_types.specs.Mmap2.{mmap2_value, IsBorrowedMmap2};
     ghost use Rattle.perf_types.specs.Mmap2.{behind_place, behind_detail};
 
-    // What stands behind the place.
+    // What follows the place.
     #[inline]
     fn read_behind<I: Input<'p>, E: Endian>(
         reader: &mut Reader<I, E>,
@@ -481,7 +481,7 @@ impl<'p> Mmap2<'p> {
         }
     }
 
-    // What stands behind the detail.
+    // What follows the detail.
     #[inline]
     fn read_path<I: Input<'p>, E: Endian>(
         reader: &mut Reader<I, E>,

@@ -1,4 +1,4 @@
-//! NAMESPACES. No claimed count makes room for entries.
+//! NAMESPACES. Nothing is allocated from a claimed count of entries alone.
 #![tactic(auto, using(perf_reader::proofs::Paying::chain))]
 
 ghost use Rattle.std.specs.Prelude.{◌≡◌, ◌*◌, true, IfOk, slice_get};
@@ -18,7 +18,7 @@ use perf_reader::read::{Meant, ReadFrom};
 use perf_reader::reader::Reader;
 use std::alloc::Global;
 
-// Where the network namespace stands in the list, `NET_NS_INDEX` of perf_event.h.
+// The index of the network namespace in the list, `NET_NS_INDEX` of perf_event.h.
 const NETWORK: usize = 0;
 
 // `UTS_NS_INDEX`
@@ -33,26 +33,24 @@ const PID: usize = 3;
 // `USER_NS_INDEX`
 const USER: usize = 4;
 
-// `CGROUP_NS_INDEX`. The one of mounts, `MNT_NS_INDEX` at 5, has no call.
+// `CGROUP_NS_INDEX`. The mount namespace, `MNT_NS_INDEX` at 5, has no method.
 const CGROUP: usize = 6;
 
-/// The namespaces that a task is in (`PERF_RECORD_NAMESPACES`), when it was made or changed one of
-/// them.
+/// The namespaces of a task (`PERF_RECORD_NAMESPACES`), when it was created or changed one of them.
 #[derive(Debug, Drop)]
 pub struct Namespaces<'a> {
-    /// The process of the task.
+    /// The process id of the task.
     pub pid: u32,
-    /// The task's thread.
+    /// The thread id of the task.
     pub tid: u32,
-    /// Its namespaces. Each kind of namespace has a place of its own, for which there are calls
-    /// below.
+    /// Its namespaces. Each kind of namespace has a fixed index, for which there are methods below.
     pub namespaces: CowSlice<'a, NamespaceEntry>,
 }
 
-/// A namespace, by the file in `/proc/PID/ns` that stands for it.
+/// A namespace, identified by the file in `/proc/PID/ns` that represents it.
 #[derive(Copy, Clone, Debug, PartialEq, Eq, Hash)]
 pub struct NamespaceEntry {
-    /// The number of the device that holds the file.
+    /// The number of the device that contains the file.
     pub dev: u64,
     /// The file's inode.
     pub inode: u64,
@@ -67,7 +65,7 @@ impl<'a> Namespaces<'a> {
         self.namespaces.as_slice().get(NETWORK)
     }
 
-    /// The namespace of the host's name, if it is listed: `UTS_NS_INDEX`.
+    /// The host name namespace, if it is listed: `UTS_NS_INDEX`.
     pub fn uts(&self) -> Option<&NamespaceEntry>
         ensures { option_copied result ≡
             slice_get (cow_items self.now.namespaces) spaces.uts_index }
@@ -108,7 +106,7 @@ impl<'a> Namespaces<'a> {
         self.namespaces.as_slice().get(CGROUP)
     }
 
-    /// The same record. It takes no memory where the list is borrowed.
+    /// A copy of the record. It needs no memory if the list is borrowed.
     pub fn clone(&self, alloc: Global) -> ParseResult<Namespaces<'a>>
         ensures { IsClone spaces.namespaces_value spaces.namespaces_form self.now result }
     {
@@ -134,12 +132,13 @@ impl<'p, I: Input<'p>> ReadFrom<'p, I> for NamespaceEntry {
     }
 }
 
-// How many numbers an entry is, and how many bytes.
+// How many numbers an entry has, and how many bytes.
 const NUMBERS: usize = 2;
 
 const SIZE: usize = 16;
 
-// So many entries. A list that does not fit takes no memory where the input says what it has.
+// Reads `count` entries. A list that does not fit needs no memory if the input reports how much it
+// has.
 fn read_entries<'p, I: Input<'p>, E: Endian>(
     reader: &mut Reader<I, E>,
     count: usize,

@@ -1,4 +1,4 @@
-//! Counted lists of numbers. No claimed count makes room for them.
+//! Counted lists of numbers. Nothing is allocated from a claimed count alone.
 
 ghost use Rattle.std.specs.Prelude.{◌≡◌, ◌≢◌, ◌<◌, ◌*◌, [], true, length, Err, IsTrue, IfOk};
 ghost use Rattle.perf_buffers.specs.Room.{falls_short};
@@ -11,11 +11,11 @@ use perf_buffers::input::Input;
 use perf_reader::blocks::BLOCK;
 use perf_reader::reader::Reader;
 
-// How many bytes a number has.
+// The size of a number in bytes.
 const SIZE: usize = 8;
 
-/// Reads `count` items of so many numbers, of which the input has fewer, up to its end, and returns
-/// the refusal. None of them is kept, so that no memory is taken.
+/// Reads `count` items of `numbers` numbers each, up to the end of an input that has fewer, and
+/// returns the refusal. None of them is kept, so no memory is needed.
 pub fn read_to_the_end<'p, I: Input<'p>, E: Endian>(
     reader: &mut Reader<I, E>,
     numbers: usize,
@@ -37,7 +37,7 @@ pub fn read_to_the_end<'p, I: Input<'p>, E: Endian>(
     Refusal::Eof
 }
 
-// So many numbers, in blocks. The list is empty.
+// Reads `count` numbers in blocks. The list is empty.
 #[inline(never)]
 fn append_numbers<'p, I: Input<'p>, E: Endian>(
     reader: &mut Reader<I, E>,
@@ -63,8 +63,8 @@ fn append_numbers<'p, I: Input<'p>, E: Endian>(
     Ok(numbers)
 }
 
-/// So many numbers, all at once where the input shows them. A list that does not fit takes no memory
-/// where the input says what it has.
+/// Reads `count` numbers, all at once if the input shows them. A list that does not fit needs no
+/// memory if the input reports how much it has.
 pub fn read_numbers<'p, I: Input<'p>, E: Endian>(
     reader: &mut Reader<I, E>,
     count: usize,

@@ -10,10 +10,10 @@ use perf_base::refusal::ReadResult;
 use perf_buffers::input::Input;
 use perf_reader::reader::Reader;
 
-// How many bytes both have.
+// The size of both in bytes.
 const SIZE: usize = 8;
 
-// The numbers that these bytes are.
+// The numbers in these bytes.
 #[inline]
 pub(crate) fn pair_in<E: Endian>(endian: &E, bytes: [u8; SIZE]) -> (u32, u32)
     ensures { result ≡ value (E.order endian.now) bytes 0 pair }

@@ -11,13 +11,13 @@ use perf_buffers::input::Input;
 use perf_reader::read::{Meant, ReadFrom};
 use perf_reader::reader::Reader;
 
-/// The kernel read a counter of a task (`PERF_RECORD_READ`), as it does where the attribute has
+/// The kernel read a counter of a task (`PERF_RECORD_READ`), which it does if the attribute has
 /// `inherit_stat`.
 #[derive(Clone, Debug, Drop)]
 pub struct Read {
-    /// The process.
+    /// The process id.
     pub pid: u32,
-    /// Its thread.
+    /// The id of its thread.
     pub tid: u32,
     /// What was read.
     pub values: ReadValue,

@@ -1,4 +1,4 @@
-//! Which reads of counters are known.
+//! Which read formats are known.
 
 ghost use Rattle.std.specs.Prelude.{◌≡◌};
 ghost use Rattle.perf_types.specs.ReadFormat.{is_known};
@@ -7,8 +7,7 @@ ghost use Rattle.perf_words.specs.SetBits.{read_format_bits};
 use bitflags::Flags;
 use perf_words::ReadFormat;
 
-// Whether a read format has no other flags than those that are known, which are its lowest five
-// bits.
+// Whether a read format has no flags other than the known ones, which are its lowest five bits.
 #[inline]
 pub(crate) fn is_known(read_format: ReadFormat) -> bool
     ensures { result ≡ is_known (read_format_bits read_format) }

@@ -40,9 +40,9 @@ impl<'a> ReadGroup<'a> {
     ghost use Rattle.perf_types.specs.Words.{IsClone, IsOwnedCopy};
     ghost use Rattle.perf_types.specs.Words.{single_read, entry_with_id, entries_left};
 
-    /// The group of these numbers: times, of which one whose flag the read format lacks is not
-    /// looked at, and the entries' numbers one behind another, for each as many as
-    /// [`ReadFormat::element_len`] says: its value, its id and its lost samples.
+    /// The group of these numbers. A time whose flag is not in the read format is ignored. The
+    /// entries' numbers follow one another, [`ReadFormat::element_len`] for each: its value, its id
+    /// and its lost samples.
     #[tactic(auto, using(crate::proofs::Flags::read_flags))]
     pub fn from_parts(
         read_format: ReadFormat,
@@ -69,8 +69,8 @@ impl<'a> ReadGroup<'a> {
         }
     }
 
-    /// The read of one counter as a group of one, which owns its numbers. It is refused only for
-    /// want of memory.
+    /// The read of one counter as a group of one, which owns its numbers. It fails only if out of
+    /// memory.
     pub fn from_value(alloc: Global, value: ReadValue) -> ParseResult<ReadGroup<'a>>
         ensures same { IfOk result (λ group. group_read group ≡ group_of (single_read value)) }
         ensures owned { IfOk result (λ group. IsTrue (not (is_borrowed_group group))) }
@@ -91,7 +91,7 @@ impl<'a> ReadGroup<'a> {
         })
     }
 
-    /// How many counters the group has.
+    /// The number of counters in the group.
     #[inline]
     pub fn len(&self) -> usize
         ensures { result ≡ length (group_read self.now).entries }
@@ -107,7 +107,7 @@ impl<'a> ReadGroup<'a> {
         self.words.is_empty()
     }
 
-    /// How long the group was enabled, in nanoseconds, where the read format has
+    /// How long the group was enabled, in nanoseconds, if the read format has
     /// `PERF_FORMAT_TOTAL_TIME_ENABLED`.
     #[inline]
     pub fn time_enabled(&self) -> Option<u64>
@@ -116,9 +116,9 @@ impl<'a> ReadGroup<'a> {
         self.time_enabled
     }
 
-    /// How long the group ran, in nanoseconds, where the read format has
-    /// `PERF_FORMAT_TOTAL_TIME_RUNNING`. It is less than [`ReadGroup::time_enabled`] where groups
-    /// took turns, as there were more events than counters.
+    /// How long the group ran, in nanoseconds, if the read format has
+    /// `PERF_FORMAT_TOTAL_TIME_RUNNING`. It is less than [`ReadGroup::time_enabled`] if groups took
+    /// turns, because there were more events than counters.
     #[inline]
     pub fn time_running(&self) -> Option<u64>
         ensures { result ≡ (group_read self.now).time_running }
@@ -134,7 +134,7 @@ impl<'a> ReadGroup<'a> {
         self.with_id
     }
 
-    // Whether each entry has its lost samples.
+    // Whether each entry has a count of lost samples.
     #[inline]
     pub(crate) fn with_lost(&self) -> bool
         ensures { result ≡ (group_read self.now).with_lost }
@@ -142,7 +142,7 @@ impl<'a> ReadGroup<'a> {
         self.with_lost
     }
 
-    /// The entry at a place, counted from 0. It takes the same time wherever that is.
+    /// The entry at an index, counted from 0. It takes the same time for every index.
     #[inline]
     #[tactic(auto, using(crate::proofs::Blocks::block_fits))]
     pub fn get(&self, index: usize) -> Option<GroupEntry>
@@ -158,7 +158,7 @@ impl<'a> ReadGroup<'a> {
         Some(GroupEntry::of_block(block, self.with_id, self.with_lost))
     }
 
-    /// The first entry with an id. There is none where the read format lacks `PERF_FORMAT_ID`.
+    /// The first entry with this id. There is none if the read format does not have `PERF_FORMAT_ID`.
     pub fn get_by_id(&self, id: u64) -> Option<GroupEntry>
         ensures first { result ≡ entry_with_id id (group_read self.now).entries }
         ensures without_ids { IsTrue (not (group_read self.now).with_id) → IsNone result }
@@ -169,7 +169,7 @@ impl<'a> ReadGroup<'a> {
         self.entries().find(|entry| entry.id() == Some(id))
     }
 
-    /// The entries, in their order.
+    /// The entries, in order.
     #[inline]
     pub fn entries(&self) -> GroupIter<'_>
         ensures { entries_left result ≡ (group_read self.now).entries }
@@ -182,7 +182,7 @@ impl<'a> ReadGroup<'a> {
         )
     }
 
-    /// The same group. It takes no memory where its numbers are borrowed.
+    /// A copy of the group. It needs no memory if its numbers are borrowed.
     pub fn clone(&self, alloc: Global) -> ParseResult<ReadGroup<'a>>
         ensures { IsClone group_read read_group_form self.now result }
     {
@@ -196,9 +196,9 @@ impl<'a> ReadGroup<'a> {
         })
     }
 
-    /// The same group with its numbers in memory of its own, so that it lasts as long as one likes.
-    /// It takes no memory where it owns them already. Where it is refused, `OutOfMemory`, the group
-    /// is given up.
+    /// Makes the group own its numbers, so that it does not borrow from the input. It needs no
+    /// memory if it owns them already. If out of memory, it returns `OutOfMemory` and the group is
+    /// dropped.
     pub fn into_owned<'b>(self, alloc: Global) -> ParseResult<ReadGroup<'b>>
         ensures { IsOwnedCopy group_read read_group_form self.entry result }
     {
@@ -226,10 +226,10 @@ impl Meant for ReadGroup<'_> {
     ghost says = { Reads read_group group_read };
 }
 
-/// A read format that asks for no group is [`Refusal::GroupRead`], and one with flags that are not
-/// known is [`Refusal::ReadFormat`], both before the count. A list of more numbers than can be
-/// counted is [`Refusal::GroupLength`], behind the times. No claimed count makes room for numbers,
-/// and a list takes no memory where the input says that it has fewer.
+/// A read format without a group is [`Refusal::GroupRead`], and one with unknown flags is
+/// [`Refusal::ReadFormat`], both before the count. A list of more numbers than can be counted is
+/// [`Refusal::GroupLength`], after the times. Nothing is allocated from a claimed count alone, and
+/// a list needs no memory if the input reports that it has fewer.
 impl<'p, I: Input<'p>> ReadFrom<'p, I> for ReadGroup<'p> {
     #[tactic(auto, using(crate::proofs::Blocks::group_reads))]
     fn read<E: Endian>(reader: &mut Reader<I, E>) -> ReadResult<Self> {

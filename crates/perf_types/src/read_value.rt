@@ -18,7 +18,7 @@ use perf_reader::reader::Reader;
 use perf_words::ReadFormat;
 use std::fmt;
 
-/// What was read of one counter: its value, and the numbers that the read format asks for
+/// What was read of one counter: its value, and the numbers selected by the read format
 /// (`read_format` of the attribute).
 #[derive(Clone, Debug, Drop)]
 pub struct ReadValue {
@@ -29,7 +29,7 @@ pub struct ReadValue {
     lost: Option<u64>,
 }
 
-// A number where it is wanted: 0 where it is lacking.
+// A number if requested, or 0 if it is missing.
 #[inline]
 fn wanted(number: Option<u64>, with: bool) -> Option<u64>
     ensures { result ≡ wanted with number }
@@ -38,7 +38,7 @@ fn wanted(number: Option<u64>, with: bool) -> Option<u64>
 }
 
 impl ReadValue {
-    /// The read of these numbers. Those whose flag the read format lacks are not looked at.
+    /// The read of these numbers. Those whose flag is not in the read format are ignored.
     #[tactic(auto, using(crate::proofs::Flags::read_flags))]
     pub fn from_parts(
         read_format: ReadFormat,
@@ -64,8 +64,8 @@ impl ReadValue {
         }
     }
 
-    /// An entry as a read of its own, with the times of a group and the numbers that the group's
-    /// entries have. The entry may be one of another group: a number that it lacks is 0.
+    /// An entry as a single read, with the times of a group and the numbers that the group's
+    /// entries have. The entry may come from another group: a number that it does not have is 0.
     pub fn from_group_and_entry(group: &ReadGroup<'_>, entry: &GroupEntry) -> ReadValue
         ensures { single_read result ≡ single_of (group_read group.now) entry.now }
     {
@@ -86,7 +86,7 @@ impl ReadValue {
         self.value
     }
 
-    /// How long the event was enabled, in nanoseconds, where the read format has
+    /// How long the event was enabled, in nanoseconds, if the read format has
     /// `PERF_FORMAT_TOTAL_TIME_ENABLED`.
     #[inline]
     pub fn time_enabled(&self) -> Option<u64>
@@ -95,9 +95,9 @@ impl ReadValue {
         self.time_enabled
     }
 
-    /// How long the event ran, in nanoseconds, where the read format has
-    /// `PERF_FORMAT_TOTAL_TIME_RUNNING`. It is less than [`ReadValue::time_enabled`] where events
-    /// took turns, as there were more of them than counters.
+    /// How long the event ran, in nanoseconds, if the read format has
+    /// `PERF_FORMAT_TOTAL_TIME_RUNNING`. It is less than [`ReadValue::time_enabled`] if events took
+    /// turns, because there were more of them than counters.
     #[inline]
     pub fn time_running(&self) -> Option<u64>
         ensures { result ≡ (single_read self.now).time_running }
@@ -105,7 +105,7 @@ impl ReadValue {
         self.time_running
     }
 
-    /// The kernel's own number of the event, where the read format has `PERF_FORMAT_ID`.
+    /// The kernel's id of the event, if the read format has `PERF_FORMAT_ID`.
     #[inline]
     pub fn id(&self) -> Option<u64>
         ensures { result ≡ (single_read self.now).id }
@@ -113,7 +113,7 @@ impl ReadValue {
         self.id
     }
 
-    /// How many samples of the event were lost, where the read format has `PERF_FORMAT_LOST`.
+    /// How many samples of the event were lost, if the read format has `PERF_FORMAT_LOST`.
     #[inline]
     pub fn lost(&self) -> Option<u64>
         ensures { result ≡ (single_read self.now).lost }
@@ -128,8 +128,8 @@ impl Meant for ReadValue {
     ghost says = { ReadsPlain read_value single_read };
 }
 
-/// A read format that asks for a group is [`Refusal::SingleRead`], and one with flags that are not
-/// known is [`Refusal::ReadFormat`], both before the first number.
+/// A read format with a group is [`Refusal::SingleRead`], and one with unknown flags is
+/// [`Refusal::ReadFormat`], both before the first number.
 impl<'p, I: Input<'p>> ReadFrom<'p, I> for ReadValue {
     #[inline]
     #[tactic(auto, using(crate::proofs::Flags::read_flags, perf_reader::proofs::Paying::chain))]
@@ -151,7 +151,8 @@ impl<'p, I: Input<'p>> ReadFrom<'p, I> for ReadValue {
     }
 }
 
-/// The only entry of a group. A group of none or of several is refused. It takes no memory.
+/// The only entry of a group. A group without entries or with several is refused. It needs no
+/// memory.
 impl<'a> TryFrom<ReadGroup<'a>> for ReadValue {
     type Error = TryFromGroupError;
 
@@ -167,7 +168,7 @@ impl<'a> TryFrom<ReadGroup<'a>> for ReadValue {
     }
 }
 
-/// A group of none or of several entries was to become the read of one counter.
+/// A group without entries, or with several, was to become the read of one counter.
 #[derive(Clone, Debug, Drop)]
 pub struct TryFromGroupError(());
 

@@ -14,29 +14,28 @@ use perf_buffers::input::Input;
 use perf_reader::read::{Meant, ReadFrom};
 use perf_reader::reader::Reader;
 
-/// The processor went from one task to another (`PERF_RECORD_SWITCH_CPU_WIDE`), as an event of the
-/// whole processor sees it. Which way it went is bit 13 of the header's `misc`,
-/// `PERF_RECORD_MISC_SWITCH_OUT`.
+/// The processor switched from one task to another (`PERF_RECORD_SWITCH_CPU_WIDE`), as seen by a
+/// CPU-wide event. The direction is bit 13 of the header's `misc`, `PERF_RECORD_MISC_SWITCH_OUT`.
 #[derive(Copy, Clone, Debug)]
 pub enum SwitchCpuWide {
     /// To the task of this record's sample id.
     In {
-        /// The process of the task before.
+        /// The process id of the previous task.
         pid: u32,
-        /// Its thread.
+        /// The id of its thread.
         tid: u32,
     },
     /// Away from the task of this record's sample id.
     Out {
-        /// The process of the task that comes next.
+        /// The process id of the next task.
         pid: u32,
-        /// Its thread.
+        /// The id of its thread.
         tid: u32,
     },
 }
 
 impl SwitchCpuWide {
-    /// The process of the other task: of the one before, or of the next.
+    /// The process id of the other task: the previous or the next one.
     #[inline]
     pub fn pid(&self) -> u32
         ensures { result ≡ other_pid self.now }
@@ -46,7 +45,7 @@ impl SwitchCpuWide {
         }
     }
 
-    /// The thread of the other task: of the one before, or of the next.
+    /// The thread id of the other task: the previous or the next one.
     #[inline]
     pub fn tid(&self) -> u32
         ensures { result ≡ other_tid self.now }
@@ -57,7 +56,7 @@ impl SwitchCpuWide {
     }
 }
 
-// Whether the record whose `misc` this is says that a task left its CPU.
+// Whether the record with this `misc` reports that a task left its CPU.
 #[inline]
 #[tactic(auto, using(crate::proofs::Flags::misc_bits))]
 fn is_switch_out(misc: u16) -> bool

@@ -19,16 +19,16 @@ use std::alloc::Global;
 /// The kernel changed its own code (`PERF_RECORD_TEXT_POKE`).
 #[derive(Debug, Drop)]
 pub struct TextPoke<'a> {
-    /// Where the change begins in the kernel's memory.
+    /// The address of the change in kernel memory.
     pub addr: u64,
-    /// The bytes that stood there. There are none where the code is new.
+    /// The bytes that were there. There are none if the code is new.
     pub old_bytes: CowSlice<'a, u8>,
-    /// The bytes that stand there now. There are none where the code went away.
+    /// The bytes that are there now. There are none if the code was removed.
     pub new_bytes: CowSlice<'a, u8>,
 }
 
 impl<'a> TextPoke<'a> {
-    /// The same record. It takes no memory where both byte strings are borrowed.
+    /// A copy of the record. It needs no memory if both byte strings are borrowed.
     pub fn clone(&self, alloc: Global) -> ParseResult<TextPoke<'a>>
         ensures { IsClone text_poke_value text_poke_form self.now result }
     {
@@ -41,9 +41,9 @@ impl<'a> TextPoke<'a> {
         })
     }
 
-    /// The same record with both byte strings in memory of its own, so that it lasts as long as one
-    /// likes. It takes no memory for those that it owns already. Where it is refused,
-    /// `OutOfMemory`, the record is given up.
+    /// Makes the record own both byte strings, so that it does not borrow from the input. It needs
+    /// no memory for those that it owns already. If out of memory, it returns `OutOfMemory` and the
+    /// record is dropped.
     pub fn to_owned<'b>(self, alloc: Global) -> ParseResult<TextPoke<'b>>
         ensures { IsOwnedCopy text_poke_value text_poke_form self.entry result }
     {
@@ -62,7 +62,7 @@ impl<'a> TextPoke<'a> {
     }
 }
 
-// How many bytes stand behind the lengths: so many that the record ends at a multiple of eight.
+// How many bytes follow the lengths, so that the record ends at a multiple of eight.
 #[inline]
 fn poked_len(both: usize) -> usize
     requires { both < 2 ^ 17 }

@@ -13,19 +13,19 @@ use Rattle.perf_types.specs.declared.group_laws.EntryCall.{EntryCall}
 use Rattle.perf_types.specs.declared.group_laws.EntryCall.TheVariants.{Next}
 use Rattle.perf_types.proofs.group_laws.entry_calls.Goals as goal
 
--- one call more
+-- one more call
 further : (calls others : List EntryCall) (call : EntryCall) (given : List (Option GroupEntry)) (one : Option GroupEntry) (before after : List GroupEntry) →
     calls ≡ call ∷ others → one ≡ answer_of call before → after ≡ left_by call before →
     ((given ++ one ∷ []) ++ answers_of others after ≡ given ++ answers_of calls before) × (left_by_all others after ≡ left_by_all calls before)
 further calls others call given one before after is answered left =
     rw (is, answered, left) (append_assoc given (answer_of call before ∷ []) (answers_of others (left_by call before)), refl)
 
--- what is said of an answer, where it is an error
+-- what a clause on the value states of an error
 no_answer : {X E : Type 0} (r : Result X E) (P : X → Type 0) → IsErr r → IfOk r P
 no_answer (Ok x) P h = cc
 no_answer (Err e) P h = tt
 
--- an error that memory was refused with
+-- an out-of-memory error
 out_of_memory : {X : Type 0} (r : Result X ParseError) → IsErr r × IsErrAnd r (λ e. IsMadeOf e OutOfMemory None None) → IfErr r (λ e. kind_of e ≡ OutOfMemory)
 out_of_memory (Ok x) h = tt
 out_of_memory (Err e) h = h.1.kind_is

@@ -3,8 +3,8 @@ use Rattle.perf_types.specs.EntryCalls.{answers_of, left_by_all}
 use Rattle.perf_types.specs.GroupIter.{entries_left}
 use Rattle.perf_types.proofs.group_laws.entry_calls.Given as goal
 
--- The answers so far and those to the calls that come are the answers to all, and what all of them
--- leave is what those that come leave.
+-- The results so far and those of the remaining calls are the results of all calls, and what all of
+-- them leave is what the remaining calls leave.
 abbrev pub invariant-loop-call : goal.invariant-loop-call
 invariant-loop-call l =
     let first = entries_left l.fn.entries in

@@ -19,11 +19,11 @@ overflow_sub-count g c =
     let len : c.len.result ≡ length c.loop-block.numbers.items = search rules in
     omega (arith, len, c.loop-block.invariant.0)
 
--- what a list has behind one that was appended from a block
+-- the contents of a list after a block was appended
 appended : (ys zs block items : List ℕ) (k more : ℕ) → k ≡ more → length zs ≡ k → items ≡ ys ++ take more (zs ++ drop more block) → items ≡ ys ++ zs
 appended ys zs block items k more is long kept = kept ∙ ap (λ (ws : List ℕ). ys ++ ws) (take_at zs (drop more block) more (long ∙ is))
 
--- how long a block is behind a read
+-- the length of a block after a read
 filled : (zs block : List ℕ) (k more : ℕ) → k ≡ more → more ≤ 48 → length zs ≡ k → length block ≡ 48 → length (zs ++ drop more block) ≡ 48
 filled zs block k more is within long all = omega (arith, length-append zs (drop more block), length-drop more block, is, within, long, all)
 

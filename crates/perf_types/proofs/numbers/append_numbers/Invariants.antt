@@ -2,7 +2,7 @@ use Rattle.std.proofs.Common.{◌≡◌, ◌-◌, ◌≤◌, length}
 use Rattle.perf_reader.proofs.InRow.{InRow}
 use Rattle.perf_types.proofs.numbers.append_numbers.Given as goal
 
--- numbers were read in a row, and all of them are kept; the block has its length
+-- numbers were read one after another, and all of them are kept; the block has its length
 abbrev pub invariant-loop-block : goal.invariant-loop-block
 invariant-loop-block g l =
     (length l.numbers.items ≤ l.count)

@@ -6,7 +6,7 @@ use Rattle.std.specs.Str.{IsUtf8, is_utf8}
 use Rattle.perf_types.specs.Text.{text_of}
 use Rattle.perf_types.proofs.text.text.Goals as goal
 
--- a test for UTF-8 answers the bytes, or that they are not UTF-8
+-- a test for UTF-8 returns the bytes, or reports that they are not UTF-8
 tested : {E : Type 0} (Q : E → Type 0) (bytes : List ℕ) (r : Result (Bor (List ℕ)) E) →
     MatchResult r (λ s. (s.now ≡ bytes) × IsUtf8 bytes) (λ e. (¬ (IsUtf8 bytes)) × Q e) →
     option_map (λ s. s.now) (result_ok r) ≡ text_of bytes

@@ -8,7 +8,7 @@ use Rattle.perf_reader.proofs.Behind.{call_behind, call_stops, call_none, lent}
 use Rattle.perf_types.proofs.Readings.{came_up}
 use Rattle.perf_types.proofs.comm.CommReadFrom.read.Goals as goal
 
--- what stands behind the two numbers
+-- what follows the two numbers
 abbrev behind : ℕ × ℕ → Parts CommValue
 behind ids = name >>= λ comm. done (record { pid = ids.0; tid = ids.1; comm = comm })
 

@@ -9,7 +9,7 @@ use Rattle.perf_reader.proofs.Behind.{call_behind, call_stops, call_none, lent}
 use Rattle.perf_types.proofs.Readings.{came_up}
 use Rattle.perf_types.proofs.mmap.MmapReadFrom.read.Goals as goal
 
--- the record of a place and a path, and what is left to read behind the place
+-- the record of a place and a path, and what is left to read after the place
 abbrev mapped : Place → List ℕ → Parts MmapValue
 mapped p filename = done (record { pid = p.pid; tid = p.tid; addr = p.addr; len = p.len; pgoff = p.pgoff; filename = filename })
 

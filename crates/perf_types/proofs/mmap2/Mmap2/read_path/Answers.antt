@@ -12,11 +12,11 @@ use Rattle.perf_types.specs.declared.mmap2.Place.{Place}
 use Rattle.perf_types.proofs.Readings.{came_up}
 use Rattle.perf_types.proofs.mmap2.Mmap2.read_path.Goals as goal
 
--- a record of these
+-- a record made from these
 abbrev made : Place → DetailValue → ℕ × ℕ → List ℕ → Mmap2Value
 made p detail words path = record { pid = p.pid; tid = p.tid; addr = p.addr; len = p.len; pgoff = p.pgoff; detail = detail; prot = words.0; flags = words.1; filename = path }
 
--- what stands behind the two numbers
+-- what follows the two numbers
 abbrev behind : Place → DetailValue → ℕ × ℕ → Parts Mmap2Value
 behind p detail words = name >>= λ path. done (made p detail words path)
 

@@ -11,7 +11,7 @@ use Rattle.perf_types.specs.declared.switch_cpu_wide.SwitchCpuWide.{SwitchCpuWid
 use Rattle.perf_types.specs.declared.switch_cpu_wide.SwitchCpuWide.TheVariants as switch
 use Rattle.perf_types.proofs.switch_cpu_wide.SwitchCpuWideReadFrom.read.Goals as goal
 
--- the switch that the configuration tells
+-- the switch that the configuration specifies
 abbrev told : ℕ → ℕ → Configuration → SwitchCpuWide
 told pid tid s = if has_bit s.misc switch_out_bit then switch.Out pid tid else switch.In pid tid
 
