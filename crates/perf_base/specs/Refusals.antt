@@ -46,7 +46,7 @@ refusal_text why.GroupLength =
 refusal_text why.OutOfMemory = None
 refusal_text (why.Kept kind) = None
 
--- P, if the refusal was made here, and not by an error from elsewhere
+-- P, if the refusal was made here, and is not an error from elsewhere
 abbrev pub Own : Refusal → Type 0 → Type 0
 Own (why.Kept kind) P = Unit {0}
 Own _ P = P

@@ -42,7 +42,7 @@ pub struct perf_event_attr {
     pub size: u32,
     /// Which event of that kind.
     pub config: u64,
-    /// A sample is taken after this many events; or `sample_freq`, the samples per second.
+    /// A sample is taken after this many events; or `sample_freq`, the desired samples per second.
     pub sample_period: u64,
     /// Which fields a sample has, `PERF_SAMPLE_*`.
     pub sample_type: u64,

@@ -1,5 +1,5 @@
--- A buffer: the bytes left in it, and what its calls show, refuse and take. In the crates above, only
--- what a `FrameReader` is given is a chunk.
+-- A buffer: the bytes left in it, and what its calls show, refuse and take. In the crates above,
+-- only what a `FrameReader` is given is a chunk.
 use Rattle.std.specs.Prelude.{Option, Result, ◌≡◌, ℕ, ◌+◌, ◌<◌, Bool, true, false, IsTrue, List, []}
 use Rattle.std.specs.Prelude.{length, drop, Ok, Err, Some, None, IfOk, IfErr, IsOkAnd, ◌≢◌}
 use Rattle.std.specs.Io.{StartsWith}

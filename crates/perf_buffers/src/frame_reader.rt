@@ -20,8 +20,8 @@ pub trait FrameReader<'p, S>: Drop {
     // how many bytes it reads
     ghost len: { Self → ℕ };
 
-    // which outputs and new states belong to bytes, which live as long as the input or do not, and
-    // to a state
+    // which outputs and new states belong to these bytes, to whether they live as long as the
+    // input, and to a state
     ghost gives: { Self → List ℕ → Bool → S → Self.Output → S → Type 0 };
 
     /// What is made of a frame's bytes.

@@ -125,11 +125,11 @@ impl<'p, B: ParseBuf<'p>> Outer<B> {
 
     /// Hands the next `len` bytes to a reader of frames and takes them.
     ///
-    /// This is the one rule for the bytes of a frame. The buffer's hint is asked for first, once: if
-    /// it is less than `len`, the frame is `Eof` and its bytes are skipped. If the next chunk has all
-    /// of them they are read in place, and otherwise they are assembled in memory, which is kept for
-    /// the next frame that needs it. No bytes are read without asking for a chunk. If the frame is
-    /// refused, the state is unchanged.
+    /// This is the one rule for the bytes of a frame. The buffer's hint is asked for first, once:
+    /// if it is less than `len`, the frame is `Eof` and its bytes are skipped. If the next chunk
+    /// has all of them they are read in place, and otherwise they are assembled in memory, which is
+    /// kept for the next frame that needs it. No bytes are read without asking for a chunk. If the
+    /// frame is refused, the state is unchanged.
     #[inline]
     pub fn with_frame<S, F: FrameReader<'p, S>>(
         &mut self,

@@ -40,7 +40,7 @@ module _ {I E : Type 0} {source : I → Source} {order : E → Order} where
     keeps = λ start h. starving start _ h;
   }
 
-  -- n bytes, with another name for n
+  -- n bytes are k bytes, if n is k
   pub bytes_many : {X : Type 0} {view : X → List ℕ} {a b : Reader I E} {seen : Result X ErrorKind} (n k : ℕ) →
       n ≡ k → Call source order (ReadsOne (byte_string n) view) a seen b →
       Call source order (ReadsOne (byte_string k) view) a seen b

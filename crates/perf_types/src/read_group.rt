@@ -158,7 +158,7 @@ impl<'a> ReadGroup<'a> {
         Some(GroupEntry::of_block(block, self.with_id, self.with_lost))
     }
 
-    /// The first entry with this id. There is none if the read format does not have `PERF_FORMAT_ID`.
+    /// The first entry with this id. There is none if the read format has no `PERF_FORMAT_ID`.
     pub fn get_by_id(&self, id: u64) -> Option<GroupEntry>
         ensures first { result ≡ entry_with_id id (group_read self.now).entries }
         ensures without_ids { IsTrue (not (group_read self.now).with_id) → IsNone result }

@@ -7,7 +7,7 @@ use Rattle.std.proofs.lemmas.Bool.Decides.{nat_tests}
 use Rattle.std.proofs.lemmas.Grind.{common_steps}
 use Rattle.perf_words.specs.Bits.{has_bit}
 
--- masking the bit gives its place if and only if the bit is 1
+-- a bit times its weight is that weight if and only if the bit is 1
 pub bit_in_place : (b p : ℕ) → 0 < p → b < 2 → (b * p == p) ≡ (b == 1)
 bit_in_place b p above small = grind (arith, nat_tests, common_steps)
 
