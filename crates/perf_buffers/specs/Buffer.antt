@@ -37,8 +37,7 @@ abbrev pub lasts : ParseBufChunk → Bool
 lasts (chunk.Temporary bytes) = false
 lasts (chunk.External bytes) = true
 
--- A chunk is a non-empty prefix of what is left. That of a whole buffer is borrowed, and is all of
--- it.
+-- A chunk is a non-empty prefix of what is left; of a whole buffer it is borrowed, and all of it.
 abbrev pub Shows : Source → ParseBufChunk → Type 0
 Shows old c =
     (0 < length (chunk_bytes c)) × (IsTrue old.told → StartsWith old.left (chunk_bytes c))
