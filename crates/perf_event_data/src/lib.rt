@@ -1,7 +1,8 @@
-//! Reads what Linux writes for performance events, as perf_event_open(2) lays it out.
+//! Reads the records that Linux writes for performance events, as perf_event_open(2) lays them out.
 //!
-//! [`parse::Parser`] reads records out of a buffer: a slice, a buffered reader, or bytes that come
-//! in pieces. [`read_records`] answers every frame of a stream, a refused one by its error.
+//! [`parse::Parser`] reads records from a buffer: a slice, a buffered reader, or bytes that come in
+//! pieces. [`read_records`] returns a result for every frame of a stream; that of a refused frame
+//! is its error.
 #![tactic(auto)]
 
 pub mod laws;
