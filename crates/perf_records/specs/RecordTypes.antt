@@ -30,7 +30,8 @@ type_of ty =
     else (if ty == 21 then Some type.AuxOutputHwId
     else None))))))))))))))))))))
 
--- Records of it take memory, also where a whole buffer lends its bytes: for a list, or for a box.
+-- Records of this type need memory, for a list or for a box, even if a whole buffer lends its
+-- bytes.
 abbrev pub type_wants_memory : RecordType → Bool
 type_wants_memory type.Sample = true
 type_wants_memory type.Namespaces = true
