@@ -102,8 +102,7 @@ pub record KeepsId (before after : SampleValue) : Type 0 where
 
 -- If a body is a sample without field f, and w encodes that field, the body with w inserted is a
 -- sample under the configuration with any one of the field's flags. The field has the value of w,
--- and each other field its old value. If ID is present, the id is still that of ID, even if
--- IDENTIFIER is inserted.
+-- and each other its old value. If ID is present, the id is still that of ID, even for IDENTIFIER.
 abbrev pub SpliceLaw : Configuration → List ℕ → ℕ → List ℕ → Type 0
 SpliceLaw c body f w =
     (o : Order) (flag : ℕ) (before : SampleValue) →
@@ -115,9 +114,8 @@ SpliceLaw c body f w =
     × (is_there c id_field ≡ true → KeepsId before after)
 
 -- If a body is a sample with field f, the body without the field's bytes is a sample under the
--- configuration without the field's flags. The field is absent, and each other field has its old
--- value. If ID is present and stays, so does the id; if ID itself is cut out, the id is that of
--- IDENTIFIER.
+-- configuration without the field's flags. The field is absent, each other has its old value. If ID
+-- is present and stays, so does the id; if ID itself is cut out, the id is that of IDENTIFIER.
 abbrev pub CutLaw : Configuration → List ℕ → ℕ → Type 0
 CutLaw c body f =
     (o : Order) (before : SampleValue) →

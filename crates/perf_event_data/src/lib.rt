@@ -1,8 +1,7 @@
 //! Reads the records that Linux writes for performance events, as perf_event_open(2) lays them out.
 //!
 //! [`parse::Parser`] reads records from a buffer: a slice, a buffered reader, or bytes that come in
-//! pieces. [`read_records`] returns a result for every frame of a stream; that of a refused frame
-//! is its error.
+//! pieces. [`read_records`] returns a record or an error for every frame of a stream.
 #![tactic(auto)]
 
 pub mod laws;

@@ -167,9 +167,8 @@ SaysFrame old seen new =
     IfOk seen IsBorrowed
     × (wants_memory (header_of o bytes).type_ ≡ false → TakesNoMemory seen))
 
--- What the header of a frame refuses, before memory is needed for anything: fewer than 8 bytes are
--- `Eof`, and a size that does not count the header is `InvalidRecord`. Only a fault comes before
--- that.
+-- What the header of a frame refuses, before memory is needed: fewer than 8 bytes are `Eof`, and a
+-- size that does not count the header is `InvalidRecord`. Only a fault comes before that.
 abbrev pub RefusesHeader : {X : Type 0} → Order → List ℕ → Result X ErrorKind → Type 0
 RefusesHeader o bytes seen = is_external (refused seen) ≡ false →
     (length bytes < 8 → seen ≡ Err Eof)

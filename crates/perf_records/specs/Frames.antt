@@ -7,8 +7,7 @@ use Rattle.perf_base.specs.Order.{Order}
 pub use Rattle.perf_reader.specs.Headers.{frame_length}
 
 -- The bytes of the first n frames. A frame begins wherever eight bytes are left, and the next one
--- begins at its end. The last one may be unfinished: it then has fewer bytes than its header
--- specifies.
+-- begins at its end. The last one may be unfinished: its header then states a size beyond its end.
 abbrev pub first_frames : Order → ℕ → List ℕ → List (List ℕ)
 first_frames o zero bytes = []
 first_frames o (suc n) bytes =

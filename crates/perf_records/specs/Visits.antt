@@ -92,8 +92,7 @@ MakesNoSample gives output = (seen : Event) → IsSample seen.value → gives se
 
 -- ---- outputs of a visitor that leaves records out
 
--- for MMAP2 the record of the same mapping without the file's identity, and otherwise the record
--- itself
+-- for MMAP2 the same mapping without the file's identity, and otherwise the record itself
 abbrev pub mapping_in : RecordValue → RecordValue
 mapping_in (mmap2_is m) = mmap_is (mapping_of m)
 mapping_in v = v
@@ -140,8 +139,7 @@ VisitsUnread gives m = VisitsOf gives m None
 abbrev pub VisitsBody : {O : Type 0} → (Event → O → Type 0) → MetadataValue → Says O
 VisitsBody gives m = VisitsOf gives m (type_of m.ty)
 
--- The visit of all of a body, whose bytes are borrowed or not: its layout, with the number of
--- reads.
+-- The visit of all of a body, of borrowed bytes or not: its layout, and the number of reads.
 abbrev pub VisitsAll : {O : Type 0} → (Event → O → Type 0) → MetadataValue → Order →
     Parts RecordValue → List ℕ → Bool → Result O ErrorKind → ℕ → Type 0
 VisitsAll gives m o p bytes from (Ok output) k =

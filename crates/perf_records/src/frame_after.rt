@@ -56,8 +56,7 @@ impl<'p, S, E: Endian, M: BodyReader<'p, S>> ConfiguredFrameReader<'p, E, S> for
 }
 
 /// Makes an output from the frame whose header was read. Exactly the frame is taken, even if it is
-/// refused; after a fault, or if memory for the frame cannot be allocated, only a prefix of it is
-/// taken.
+/// refused; after a fault, or without memory for the frame, only a prefix of it is taken.
 ///
 /// This is the only way from a header to a frame. Its bytes are obtained by the rule of
 /// [`Outer::with_frame`]: in place if the buffer shows all of them, and otherwise assembled.

@@ -70,8 +70,7 @@ impl<'p, E: Endian> FrameIter<'p, E> {
     }
 }
 
-// The frame or bad frame at the front of bytes, and the bytes after it, or `None` if there is no
-// whole header.
+// The frame or bad frame at the front of bytes, and the bytes after it, if there is a header.
 #[inline]
 fn cut_first<'p, E: Endian>(
     order: &E,

@@ -150,8 +150,7 @@ count_fields =
     at_flag 5 call_chain ∷
     []
 
--- what the event wrote, and what the processor and the task contained: RAW, BRANCH_STACK,
--- REGS_USER, STACK_USER
+-- the state of event, processor and task: RAW, BRANCH_STACK, REGS_USER, STACK_USER
 abbrev pub state_fields : List Field
 state_fields =
     at_flag 10 raw ∷

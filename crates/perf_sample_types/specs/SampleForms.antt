@@ -59,7 +59,7 @@ interrupt_form r = registers_form r.0
 abbrev pub counts_form : Counts → List Bool
 counts_form c = form_if read_group_form c.values ++ form_if call_chain_form c.call_chain
 
--- what the event wrote, and what the processor and the task contained
+-- the state of event, processor and task
 abbrev pub state_form : State → List Bool
 state_form s =
     form_if raw_form s.raw

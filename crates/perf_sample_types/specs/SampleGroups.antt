@@ -31,7 +31,7 @@ counts_value c =
     option_map parts.call_chain_value c.call_chain ∷
     []
 
--- what the event wrote, and what the processor and the task contained
+-- the state of event, processor and task
 abbrev pub state_value : State → SampleValue
 state_value s =
     option_map parts.raw_value s.raw ∷

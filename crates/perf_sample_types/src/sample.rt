@@ -412,8 +412,7 @@ impl<'p, I: Input<'p>> ReadFrom<'p, I> for Sample<'p> {
     }
 }
 
-// The flags that have a field of their own: bits 0 to 23. `WEIGHT_STRUCT` is another flag of the
-// weight.
+// The flags that have a field of their own: bits 0 to 23. `WEIGHT_STRUCT` shares `WEIGHT`'s.
 const FIELDS: u64 = (1 << 24) - 1;
 
 /// The least number of bytes that a sample can have: each of its fields takes eight or more. A

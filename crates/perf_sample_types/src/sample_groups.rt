@@ -244,7 +244,7 @@ impl<'p> Counts<'p> {
     }
 }
 
-// What the event wrote, and what the processor and the task contained.
+// The state of event, processor and task.
 #[derive(Debug, Drop)]
 pub(crate) struct State<'a> {
     pub(crate) raw: Option<RawData<'a>>,
