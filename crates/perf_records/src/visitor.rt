@@ -102,8 +102,8 @@ pub trait Visitor<'a>: Drop {
 
     /// A file was mapped, with the file's identity (`PERF_RECORD_MMAP2`).
     ///
-    /// In a visitor that does not need the file's identity: `self.visit_mmap(held.into_mmap(),
-    /// metadata)`.
+    /// In a visitor that does not need the file's identity:
+    /// `self.visit_mmap(held.into_mmap(), metadata)`.
     fn visit_mmap2(self, held: Mmap2<'a>, metadata: RecordMetadata) -> Self::Output
         ensures { gives (event (words.mmap2_is (words.mmap2_value held.entry))
             (words.is_borrowed held.entry.filename) metadata) result };
