@@ -40,8 +40,8 @@ pub trait OfBody<'p, S>: Drop {
 
 /// What is made from a body, whether or not its bytes live as long as the input.
 pub trait BodyReader<'p, S>: OfBody<'p, S> {
-    /// Makes the output from the body with these bytes, and returns the number of elementary reads
-    /// that took. Bytes after the record are ignored.
+    /// Makes the output from the body with these bytes, and returns it with the number of
+    /// elementary reads made. Bytes after the record are ignored.
     fn read<E: Endian>(
         self,
         alloc: Global,
@@ -74,7 +74,7 @@ pub trait ReadBody<'p, S, I: Input<'p>>: OfBody<'p, S> {
             reader.old (kinds result) reader.new };
 }
 
-// Makes the output from the body with these bytes, and returns the number of reads that took.
+// Makes the output from the body with these bytes, and returns it with the number of reads made.
 #[inline]
 fn read_from<'p, S, I: Input<'p> + Drop, E: Endian, M: ReadBody<'p, S, I>>(
     alloc: Global,

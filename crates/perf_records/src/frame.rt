@@ -57,7 +57,7 @@ impl<'c, 'p> Frame<'c, 'p> {
     }
 
     /// Makes an output from the frame's body, under a configuration and the frame's own `misc`, and
-    /// returns the number of elementary reads of the bytes after the header that took.
+    /// returns it with the number of elementary reads made after the header.
     #[inline]
     pub fn read<S, E: Endian, M: BodyReader<'p, S>>(
         self,

@@ -262,8 +262,8 @@ pub trait PartialVisitor: Drop + Sized {
         self.visit_unimplemented(metadata)
     }
 
-    /// A record of a type that this library does not know, which the metadata gives: the bytes
-    /// between its header and its sample id.
+    /// A record of a type that this library does not know: the bytes between its header and its
+    /// sample id. The metadata gives its type.
     #[inline]
     fn visit_unknown(self, bytes: CowSlice<'_, u8>, metadata: RecordMetadata) -> Self::Output
         ensures { GivesOrLeavesOut gives left_out
@@ -275,7 +275,7 @@ pub trait PartialVisitor: Drop + Sized {
     }
 }
 
-/// The [`Visitor`] made from a partial one.
+/// A [`Visitor`] made from a [`PartialVisitor`].
 #[derive(Drop)]
 pub struct Partial<V>(pub V);
 

@@ -62,7 +62,7 @@ fn read_id<'x, E: Endian>(reader: &mut Reader<&'x [u8], E>, ty: u32) -> SampleId
     }
 }
 
-// The metadata of a frame, the length of its body in bytes, and the number of reads that took.
+// The metadata of a frame, the length of its body in bytes, and the number of reads made.
 #[derive(Drop)]
 pub(crate) struct FrameId {
     pub(crate) len: usize,

@@ -181,8 +181,8 @@ pub trait Visitor<'a>: Drop {
     fn visit_aux_output_hw_id(self, held: AuxOutputHwId, metadata: RecordMetadata) -> Self::Output
         ensures { gives (event (words.aux_output_hw_id_is held) true metadata) result };
 
-    /// A record of a type that this library does not know, which the metadata gives: the bytes
-    /// between its header and its sample id.
+    /// A record of a type that this library does not know: the bytes between its header and its
+    /// sample id. The metadata gives its type.
     ///
     /// In a visitor that leaves it out: `self.visit_unimplemented(metadata)`.
     fn visit_unknown(self, bytes: CowSlice<'a, u8>, metadata: RecordMetadata) -> Self::Output

@@ -31,8 +31,8 @@ use perf_types::read_group::ReadGroup;
 use perf_words::{BranchEntry, DataSource, Txn};
 use std::alloc::Global;
 
-/// An event happened, and this was true at that moment (`PERF_RECORD_SAMPLE`). A field is present
-/// if the sample type has its flag.
+/// An event happened, and this was recorded with it (`PERF_RECORD_SAMPLE`). A field is present if
+/// the sample type has its flag.
 #[derive(Debug, Drop)]
 pub struct Sample<'a> {
     moment: Moment,

@@ -17,7 +17,7 @@ use perf_base::endian::Endian;
 use perf_base::reads::ReadCounter;
 use perf_words::SampleFlags;
 
-// Bytes from which fields are taken one after another, and how many elementary reads that took.
+// Bytes from which fields are taken one after another, and how many elementary reads were made.
 #[derive(Drop)]
 pub(crate) struct Row<'c> {
     left: &'c [u8],
