@@ -10,7 +10,7 @@ use Rattle.perf_event_data.specs.SampleLaws.{flags_of, parts_of, is_there, with_
 
 -- ---- the fields by their numbers
 
--- IDENTIFIER, IP, TID, TIME, ADDR, ID, and so on, as the doc of the functions counts them
+-- IDENTIFIER, IP, TID, TIME, ADDR, ID, and so on, in the order given in the doc of the functions
 flags_by_number : map flags_of (0 ∷ 1 ∷ 2 ∷ 3 ∷ 4 ∷ 5 ∷ 6 ∷ 7 ∷ 8 ∷ 9 ∷ 10 ∷ 11 ∷ 12 ∷ 13 ∷ 14 ∷ 15 ∷ 16 ∷ 17 ∷ 18 ∷ 19 ∷ 20 ∷ 21 ∷ 22 ∷ 23 ∷ []) ≡
     (16 ∷ []) ∷ (0 ∷ []) ∷ (1 ∷ []) ∷ (2 ∷ []) ∷ (3 ∷ []) ∷ (6 ∷ []) ∷ (9 ∷ []) ∷ (7 ∷ []) ∷ (8 ∷ []) ∷ (4 ∷ []) ∷ (5 ∷ []) ∷ (10 ∷ []) ∷
     (11 ∷ []) ∷ (12 ∷ []) ∷ (13 ∷ []) ∷ (14 ∷ 24 ∷ []) ∷ (15 ∷ []) ∷ (17 ∷ []) ∷ (18 ∷ []) ∷ (19 ∷ []) ∷ (21 ∷ []) ∷ (22 ∷ []) ∷ (23 ∷ []) ∷ (20 ∷ []) ∷ []

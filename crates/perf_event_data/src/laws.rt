@@ -14,7 +14,6 @@ use perf_base::config::ParseConfig;
 /// of the field's flags in the sample type: the new body is a sample, in which the field has the
 /// value that `w` encodes and each other field has the value it had before. If ID is present, the
 /// sample's id is still that of ID, even if the inserted field is IDENTIFIER.
-/// even if it is IDENTIFIER that is put in.
 ///
 /// `f` is the index of one of the 24 fields of a sample in their order, from 0: IDENTIFIER, IP,
 /// TID, TIME, ADDR, ID, STREAM_ID, CPU, PERIOD, READ, CALLCHAIN, RAW, BRANCH_STACK, REGS_USER,

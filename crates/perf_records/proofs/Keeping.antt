@@ -32,7 +32,7 @@ stays_refused a b OutOfMemory x p = p
 pub no_fault : (e : Option ErrorKind) (P : Type 0) → is_external e ≡ false → is_external e ≡ true → P
 no_fault e P p q = absurd (cc)
 
--- ---- nothing and all taken are a beginning
+-- ---- taking nothing or everything takes a prefix
 pub within_none : (old new : Source) (n : ℕ) → new.left ≡ old.left → MovesWithin old n new
 within_none old new n e =
     let same : length new.left ≡ length old.left = ap length e in

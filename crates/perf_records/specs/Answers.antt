@@ -55,7 +55,7 @@ parts_of c o h bytes = record {
   body = take (length bytes - id_length c h.type_) bytes;
 }
 
--- the reads of its sample id
+-- the number of reads of its sample id
 abbrev pub id_reads : Configuration → Order → perf_event_header → List ℕ → ℕ
 id_reads c o h bytes = layout_reads o (id_of_type c h.type_) (id_bytes c h bytes)
 

@@ -1,4 +1,4 @@
-//! The visitor that makes the record itself.
+//! The visitor that returns the record itself.
 
 ghost use Rattle.perf_records.specs.Words as words;
 ghost use Rattle.perf_records.specs.Words.{Event, event, MakesRecord, MakesNoSample};

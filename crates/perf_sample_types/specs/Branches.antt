@@ -1,5 +1,5 @@
--- The numbers of a branch stack, three of each branch: where it came from, where it went, and a word
--- of bit fields.
+-- The numbers of a branch stack, three for each branch: where it came from, where it went, and a
+-- word of bit fields.
 use Rattle.std.specs.Prelude.{ℕ, List, [], ◌∷◌, take, drop}
 use Rattle.perf_base.specs.Order.{Order}
 use Rattle.perf_words.specs.Branch.{Branch}

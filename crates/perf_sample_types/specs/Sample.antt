@@ -143,7 +143,7 @@ moment_fields =
     at_flag 8 plain ∷
     []
 
--- what was counted, and how the code got there: READ, CALLCHAIN
+-- the counters that were read, and the call chain: READ, CALLCHAIN
 abbrev pub count_fields : List Field
 count_fields =
     at_flag_under 4 values ∷

@@ -1,5 +1,5 @@
--- Which lists of a sample of the code are borrowed, in the order of its fields. A field that is absent
--- has none.
+-- Which lists of a sample of the code are borrowed, in the order of its fields. An absent field has
+-- none.
 use Rattle.std.specs.Prelude.{Bool, List, [], ◌++◌, Option, Some, None}
 pub use Rattle.perf_base.specs.Cow.{cow_form}
 use Rattle.perf_types.specs.ReadGroup.{read_group_form}

@@ -24,7 +24,7 @@ moment_value m =
     option_map number_is m.period ∷
     []
 
--- what was counted, and how the code got there
+-- the counters that were read, and the call chain
 abbrev pub counts_value : Counts → SampleValue
 counts_value c =
     option_map parts.group_value c.values ∷

@@ -1,4 +1,4 @@
-//! Registers of a task.
+//! The registers of a task.
 
 ghost use Rattle.std.specs.Prelude.{◌≡◌};
 ghost use Rattle.perf_sample_types.specs.Registers as shown;

@@ -1,4 +1,4 @@
-//! SAMPLE.
+//! The SAMPLE record.
 
 ghost use Rattle.std.specs.Prelude.{◌≡◌, ℕ, ◌*◌, ◌%◌, ◌^◌, ◌<◌, List, length, count_ones, IfOk};
 ghost use Rattle.std.specs.Prelude.{option_map, OnErr};
@@ -319,7 +319,7 @@ impl<'a> Sample<'a> {
         }
     }
 
-    /// The physical address that belongs to [`Sample::addr`] (`PERF_SAMPLE_PHYS_ADDR`).
+    /// The physical address of [`Sample::addr`] (`PERF_SAMPLE_PHYS_ADDR`).
     #[inline]
     #[tactic(auto, using(crate::proofs::SampleGetters::kept))]
     pub fn phys_addr(&self) -> Option<u64>
@@ -341,7 +341,7 @@ impl<'a> Sample<'a> {
         }
     }
 
-    /// The number of the task's control group (`PERF_SAMPLE_CGROUP`).
+    /// The id of the task's control group (`PERF_SAMPLE_CGROUP`).
     #[inline]
     #[tactic(auto, using(crate::proofs::SampleGetters::kept))]
     pub fn cgroup(&self) -> Option<u64>

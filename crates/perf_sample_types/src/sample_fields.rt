@@ -61,11 +61,11 @@ pub struct SampleFields<'a> {
     pub transaction: Option<Txn>,
     /// The registers that the processor had at the interrupt.
     pub regs_intr: Option<Registers<'a>>,
-    /// The physical address that belongs to `addr`.
+    /// The physical address of `addr`.
     pub phys_addr: Option<u64>,
     /// Bytes of the AUX area.
     pub aux: Option<CowSlice<'a, u8>>,
-    /// The number of the task's control group.
+    /// The id of the task's control group.
     pub cgroup: Option<u64>,
     /// The size in bytes of the page of `addr`.
     pub data_page_size: Option<u64>,

@@ -83,8 +83,8 @@ impl Moment {
         }
     }
 
-    // Fills its places, which are empty: at once if the input shows all of their bytes, and otherwise
-    // field by field.
+    // Fills its places, which are empty: at once if the input shows all of their bytes, and
+    // otherwise field by field.
     #[inline(always)]
     pub(crate) fn fill<'p, I: Input<'p>, E: Endian>(
         &mut self,
@@ -198,7 +198,7 @@ impl Moment {
     }
 }
 
-// What was counted, and how the code got there.
+// The counters that were read, and the call chain.
 #[derive(Debug, Drop)]
 pub(crate) struct Counts<'a> {
     pub(crate) values: Option<ReadGroup<'a>>,
