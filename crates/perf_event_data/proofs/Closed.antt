@@ -1,4 +1,4 @@
--- The fields of a SAMPLE end by themselves, so that bytes may follow them.
+-- The fields of a SAMPLE find their own end, so that bytes may follow them.
 use Rattle.std.proofs.Common.{ℕ, zero, suc, true, false, List, [], ◌∷◌, ◌++◌, take}
 use Rattle.std.specs.Prelude.{if◌then◌else◌}
 use Rattle.perf_base.specs.Configuration.{Configuration}
@@ -54,7 +54,7 @@ cost_ended = (word_ends, (word_ends, (word_ends, (λ c. registers_end c.regs_int
 memory_ended : AreEnded memory_fields
 memory_ended = (word_ends, (word_ends, (word_ends, (word_ends, (λ c. (tt, λ size. (tt, λ contents. tt)), tt)))))
 
--- ---- all of them
+-- ---- all fields
 
 both_ended : (xs ys : List Field) → AreEnded xs → AreEnded ys → AreEnded (xs ++ ys)
 both_ended [] ys a b = b
@@ -78,7 +78,7 @@ sample_ended = groups_ended sample_groups (moment_ended, (count_ended, (state_en
 closed_field : (c : Configuration) (g : Field) → ((c : Configuration) → Closed (g.parts c)) → IsClosed (field_under c g)
 closed_field c g ends = elim (is_present c g) as (λ b. IsClosed {A = FieldValue} (present_if b (g.parts (settings_of c)))) [ true ↦ ends (settings_of c) | false ↦ tt ]
 
--- the fields in front of one
+-- the fields before one
 pub front_closed : (fields : List Field) (c : Configuration) (i : ℕ) → AreEnded fields → AllClosed (take i (fields_under c fields))
 front_closed fields c zero ends = tt
 front_closed [] c (suc i) ends = tt

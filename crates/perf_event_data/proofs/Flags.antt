@@ -39,7 +39,7 @@ set_other n k i ne =
 split_bit : (n k : ℕ) → n / 2 ^ k * 2 ^ k + n % 2 ^ k ≡ n
 split_bit n k = omega (arith, pow_pos k)
 
--- Where bit k is 1, the number without it has 0 there, and all bits above as before.
+-- If bit k is 1, the number without it has 0 there, and all bits above as before.
 less_same : (q l k : ℕ) → q % 2 ≡ 1 → l < 2 ^ k → bit_at ((q - 1) * 2 ^ k + l) k ≡ 0
 less_same q l k odd small =
     let none : k - k ≡ 0 = omega arith in
@@ -282,7 +282,7 @@ under_true c g e = ap (λ b. present_if b (g.parts (settings_of c))) e
 pub under_false : (c : Configuration) (g : Field) → is_present c g ≡ false → field_under c g ≡ None
 under_false c g e = ap (λ b. present_if b (g.parts (settings_of c))) e
 
--- another sample type, which changes whether field f is there, and no other field
+-- another sample type, which changes whether field f is present, and no other field
 changed_fields : (fields : List Field) (c : Configuration) (t f : ℕ) (now : Option (Parts FieldValue)) →
     tables_kept fields ≡ true → f < length fields →
     ((j : ℕ) → j < length fields → j ≢ f → has_one t (field_of fields j).flags ≡ has_one c.sample_type (field_of fields j).flags) →

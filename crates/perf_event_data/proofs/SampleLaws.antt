@@ -43,7 +43,7 @@ sample_counted : (c : Configuration) (o : Order) (body : List ℕ) (vs : SampleV
 unfolding sample
 sample_counted c o body vs e = counted o (under c) body _ vs (layout_run o (table (under c)) body vs e) ∙ length-map sample_fields (field_under c)
 
--- ---- what a field says is what its parts say
+-- ---- the value of a field is that of its parts
 
 said_at : {A : Type 0} (o : Order) (fields : List (Option (Parts A))) (i : ℕ) (bytes left : List ℕ) (vs : List (Option A)) →
     i < length fields → run_parts o (table fields) bytes ≡ ran vs left →
@@ -65,7 +65,7 @@ plain_says o v front back e =
     let same : Some (number_is first.0) ≡ v = cc in
     (first.0, sym same)
 
--- ID says a number where it is there
+-- ID is a number if it is present
 id_says : (c : Configuration) (o : Order) (body : List ℕ) (vs : SampleValue) → is_there c id_field ≡ true → layout o (sample c) body ≡ Ok vs →
     (n : ℕ) × (said_id vs ≡ Some n)
 unfolding sample

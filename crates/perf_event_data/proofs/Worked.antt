@@ -1,4 +1,4 @@
--- The laws of a SAMPLE, computed: fields spliced and cut by hand.
+-- The laws of a SAMPLE, computed: fields inserted and cut out by hand.
 use Rattle.std.proofs.Common.{◌≡◌, ℕ, zero, suc, false, List, [], ◌∷◌, ◌++◌, map, Some, None, Ok, refl}
 use Rattle.perf_base.specs.Configuration.{Configuration}
 use Rattle.perf_base.specs.Layout.{layout}
@@ -10,7 +10,7 @@ use Rattle.perf_event_data.specs.SampleLaws.{flags_of, parts_of, is_there, with_
 
 -- ---- the fields by their numbers
 
--- IDENTIFIER, IP, TID, TIME, ADDR, ID, and so on, as the doc of the functions counts them
+-- IDENTIFIER, IP, TID, TIME, ADDR, ID, and so on, in the order given in the doc of the functions
 flags_by_number : map flags_of (0 ∷ 1 ∷ 2 ∷ 3 ∷ 4 ∷ 5 ∷ 6 ∷ 7 ∷ 8 ∷ 9 ∷ 10 ∷ 11 ∷ 12 ∷ 13 ∷ 14 ∷ 15 ∷ 16 ∷ 17 ∷ 18 ∷ 19 ∷ 20 ∷ 21 ∷ 22 ∷ 23 ∷ []) ≡
     (16 ∷ []) ∷ (0 ∷ []) ∷ (1 ∷ []) ∷ (2 ∷ []) ∷ (3 ∷ []) ∷ (6 ∷ []) ∷ (9 ∷ []) ∷ (7 ∷ []) ∷ (8 ∷ []) ∷ (4 ∷ []) ∷ (5 ∷ []) ∷ (10 ∷ []) ∷
     (11 ∷ []) ∷ (12 ∷ []) ∷ (13 ∷ []) ∷ (14 ∷ 24 ∷ []) ∷ (15 ∷ []) ∷ (17 ∷ []) ∷ (18 ∷ []) ∷ (19 ∷ []) ∷ (21 ∷ []) ∷ (22 ∷ []) ∷ (23 ∷ []) ∷ (20 ∷ []) ∷ []
@@ -50,7 +50,7 @@ said_by_three : layout little (sample three) of_three ≡
 unfolding sample
 said_by_three = refl
 
--- ---- TIME put in, between TID and ID
+-- ---- TIME inserted between TID and ID
 
 abbrev time : List ℕ
 time = 7 ∷ 0 ∷ 0 ∷ 0 ∷ 0 ∷ 0 ∷ 1 ∷ 0 ∷ []
@@ -72,7 +72,7 @@ said_with_time : layout little (sample (with_flag three 2)) (spliced three littl
 unfolding sample
 said_with_time = refl
 
--- the calls answer the same but for the time
+-- the getters return the same except for the time
 calls_with_time : (before after : SampleValue) → layout little (sample three) of_three ≡ Ok before →
     layout little (sample (with_flag three 2)) (spliced three little of_three 3 time) ≡ Ok after →
     getters_of after ≡ record (getters_of before) { time = Some 0x1000000000007 }
@@ -94,13 +94,13 @@ time_is_cut_out = refl
 time_was_bit_2 : without_field (of_type 0x47) 3 ≡ three
 time_was_bit_2 = refl
 
--- by the flag of the next field, ADDR, its bytes are that field's
+-- with the flag of the next field, ADDR, its bytes are that field's
 said_by_bit_3 : layout little (sample (with_flag three 3)) (spliced three little of_three 3 time) ≡
     Ok (None ∷ Some (number_is 0x2010) ∷ Some (task_is (Some 1) (Some 2)) ∷ None ∷ Some (number_is 0x1000000000007) ∷ Some (number_is 9) ∷ absent 18)
 unfolding sample
 said_by_bit_3 = refl
 
--- ---- RAW put in behind ID, with the bytes that fill it up
+-- ---- RAW inserted after ID, with its padding
 
 abbrev raw : List ℕ
 raw = 2 ∷ 0 ∷ 0 ∷ 0 ∷ 0xAA ∷ 0xBB ∷ 0 ∷ 0 ∷ []
@@ -133,7 +133,7 @@ said_by_bit_24 : layout little (sample (with_flag three 24)) (spliced three litt
 unfolding sample
 said_by_bit_24 = refl
 
--- both flags go with the field
+-- both flags are removed with the field
 both_flags_go : without_field (of_type 0x1004043) 15 ≡ three
 both_flags_go = refl
 
@@ -150,13 +150,13 @@ said_without_tid : layout little (sample (without_field three 2)) (without_bytes
 unfolding sample
 said_without_tid = refl
 
--- where its bytes are left, ID says them
+-- if its bytes are left, ID gets them
 said_with_tid_left : layout little (sample (without_field three 2)) of_three ≡
     Ok (None ∷ Some (number_is 0x2010) ∷ None ∷ None ∷ None ∷ Some (number_is 0x200000001) ∷ absent 18)
 unfolding sample
 said_with_tid_left = refl
 
--- ---- the id: ID says it, and where ID is lacking IDENTIFIER
+-- ---- the id: that of ID, or else of IDENTIFIER
 
 abbrev identifier : List ℕ
 identifier = 5 ∷ 0 ∷ 0 ∷ 0 ∷ 0 ∷ 0 ∷ 0 ∷ 0 ∷ []

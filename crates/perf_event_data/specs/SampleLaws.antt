@@ -1,7 +1,7 @@
--- How the body of a SAMPLE changes with its sample type. Where the sample type gets a flag, the
--- bytes of that flag's field are put in at their place; where it loses a field's flags, the field's
--- bytes are cut out. All else stays. It is one law over the table of the fields, with no case for
--- any of them. Fields are counted from 0, in the order of the table.
+-- How the body of a SAMPLE changes with its sample type. If a flag is added to the sample type, the
+-- bytes of that flag's field are inserted at their place; if a field's flags are removed, the
+-- field's bytes are cut out. Everything else stays the same. It is one law over the table of the
+-- fields, with no case for any of them. Fields are counted from 0, in the order of the table.
 use Rattle.std.specs.Prelude.{◌≡◌, ◌≢◌, ℕ, suc, ◌-◌, ◌^◌, Bool, true, false, List, [], ◌∷◌}
 use Rattle.std.specs.Prelude.{get_or, Option, Some, None, Ok, bit_or, if◌then◌else◌}
 use Rattle.std.specs.List.{Contains}
@@ -17,7 +17,7 @@ use Rattle.perf_words.specs.Bits.{has_bit}
 
 -- ---- fields by their numbers
 
--- a field that is never there
+-- a field that is never present
 abbrev pub no_field : Field
 no_field = record { flags = []; parts = λ c. plain }
 
@@ -33,29 +33,29 @@ identifier_field = 0
 abbrev pub id_field : ℕ
 id_field = 5
 
--- the flags of field f, by their bits
+-- the flags of field f, as bit numbers
 abbrev pub flags_of : ℕ → List ℕ
 flags_of f = (table_field f).flags
 
--- what bytes field f takes
+-- the parts that make up field f
 abbrev pub parts_of : Configuration → ℕ → Parts FieldValue
 parts_of c f = (table_field f).parts (settings_of c)
 
--- field f is there
+-- field f is present
 abbrev pub is_there : Configuration → ℕ → Bool
 is_there c f = is_present c (table_field f)
 
--- the place that field f has in a body, or would have
+-- the offset of field f in a body, or the one it would have
 abbrev pub field_place : Configuration → Order → List ℕ → ℕ → ℕ
 field_place c o body f = place_of o body (fields_under c sample_fields) f
 
 -- ---- configurations
 
--- the configuration with one flag more, as `with_sample_type` of `ParseConfig` makes it
+-- the configuration with one more flag, as `with_sample_type` of `ParseConfig` makes it
 abbrev pub with_flag : Configuration → ℕ → Configuration
 with_flag c flag = under_sample_type (bit_or c.sample_type (2 ^ flag)) c
 
--- a number without one bit: 2 ^ bit less where it has that bit
+-- a number without one bit: 2 ^ bit less if it has that bit
 abbrev pub without_bit : (n bit : ℕ) → ℕ
 without_bit n bit = if has_bit n bit then n - 2 ^ bit else n
 
@@ -70,7 +70,7 @@ without_field c f = under_sample_type (without_bits c.sample_type (flags_of f)) 
 
 -- ---- bodies
 
--- the body with w put in at the place of field f
+-- the body with w inserted at the place of field f
 abbrev pub spliced : Configuration → Order → List ℕ → ℕ → List ℕ → List ℕ
 spliced c o body f w = put_in body (field_place c o body f) w
 
@@ -80,29 +80,29 @@ without_bytes c o body f = take_out body (field_place c o body f) (field_place c
 
 -- ---- samples
 
--- the number that ID says
+-- the value of ID
 abbrev pub said_id : SampleValue → Option ℕ
 said_id fields = number_in (field_at fields id_field)
 
--- the number that IDENTIFIER says
+-- the value of IDENTIFIER
 abbrev pub said_identifier : SampleValue → Option ℕ
 said_identifier fields = number_in (field_at fields identifier_field)
 
--- Afterwards field f says v, and each other field says what it said before.
+-- Afterwards field f has the value v, and each other field the value it had before.
 pub record ChangesField (before after : SampleValue) (f : ℕ) (v : Option FieldValue) : Type 0 where
   pub field : field_at after f ≡ v
   pub others : (g : ℕ) → g ≢ f → field_at after g ≡ field_at before g
 
--- What ID said is the id of both samples.
+-- The value that ID had before is the id of both samples.
 pub record KeepsId (before after : SampleValue) : Type 0 where
   pub was : (getters_of before).id ≡ said_id before
   pub stays : (getters_of after).id ≡ said_id before
 
 -- ---- the law, in both directions
 
--- Where a body is a sample without field f, and w spells that field, the body with w put in is a
--- sample under the configuration with any one of the field's flags. The field says what w says, and
--- each other what it said. Where ID is there, the id stays what ID says, even if IDENTIFIER comes.
+-- If a body is a sample without field f, and w encodes that field, the body with w inserted is a
+-- sample under the configuration with any one of the field's flags. The field has the value of w,
+-- and each other its old value. If ID is present, the id is still that of ID, even for IDENTIFIER.
 abbrev pub SpliceLaw : Configuration → List ℕ → ℕ → List ℕ → Type 0
 SpliceLaw c body f w =
     (o : Order) (flag : ℕ) (before : SampleValue) →
@@ -113,9 +113,9 @@ SpliceLaw c body f w =
     × ChangesField before after f (Some (value o w 0 (parts_of c f)))
     × (is_there c id_field ≡ true → KeepsId before after)
 
--- Where a body is a sample with field f, the body without the field's bytes is a sample under the
--- configuration without the field's flags. The field is absent, each other says what it said.
--- Where ID stays there, so does the id; where ID itself is cut out, the id is what IDENTIFIER says.
+-- If a body is a sample with field f, the body without the field's bytes is a sample under the
+-- configuration without the field's flags. The field is absent, each other has its old value. If ID
+-- is present and stays, so does the id; if ID itself is cut out, the id is that of IDENTIFIER.
 abbrev pub CutLaw : Configuration → List ℕ → ℕ → Type 0
 CutLaw c body f =
     (o : Order) (before : SampleValue) →

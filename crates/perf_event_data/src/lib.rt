@@ -1,7 +1,7 @@
-//! Reads what Linux writes for performance events, as perf_event_open(2) lays it out.
+//! Reads the records that Linux writes for performance events, as perf_event_open(2) lays them out.
 //!
-//! [`parse::Parser`] reads records out of a buffer: a slice, a buffered reader, or bytes that come
-//! in pieces. [`read_records`] answers every frame of a stream, a refused one by its error.
+//! [`parse::Parser`] reads records from a buffer: a slice, a buffered reader, or bytes that come in
+//! pieces. [`read_records`] returns a record or an error for every frame of a stream.
 #![tactic(auto)]
 
 pub mod laws;

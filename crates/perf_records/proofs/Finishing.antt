@@ -1,4 +1,4 @@
--- A frame behind its header: its parts, and then the visit of its body.
+-- A frame after its header: its parts, and then the visit of its body.
 use Rattle.std.proofs.Common.{◌≡◌, ℕ, ◌+◌, ◌≤◌, length, drop, List, Bool, false, arith, sym, ◌∙◌, ap, subst}
 use Rattle.std.specs.Prelude.{Option, None, Some, Result, Ok, Err, IsTrue, IfOk, IfErr}
 use Rattle.perf_base.specs.Configuration.{Configuration, under_misc}
@@ -26,7 +26,7 @@ belongs gives h whole from m o p bytes k (Ok output) named lends v =
     (event v.0 v.1 m, v.2, named.0, named.1, (λ is. v.5 (lends is)), (λ is. ap wants_memory (sym named.0) ∙ v.6 is))
 belongs gives h whole from m o p bytes k (Err e) named lends v = tt
 
--- no memory is taken for a body of lent bytes whose type wants none
+-- no memory is taken for a body of borrowed bytes whose type needs none
 pub spares : {O : Type 0} (gives : Event → O → Type 0) (h : perf_event_header) (from : Bool) (m : MetadataValue) (o : Order) (p : Parts RecordValue) (bytes : List ℕ) (k : ℕ) (result : Result O Refusal) →
     m.ty ≡ h.type_ → IsTrue from → wants_memory h.type_ ≡ false → VisitsAll gives m o p bytes from (kinds result) k → TakesNoMemory (kinds result)
 spares gives h from m o p bytes k (Ok output) named lent none v = tt
@@ -37,14 +37,14 @@ pub refused_so : {A E : Type 0} (result : Result A E) (X : E → Type 0) (P : Ty
 refused_so (Ok a) X P p = tt
 refused_so (Err e) X P p = λ x. p
 
--- a frame that did not fall apart is not visited
+-- a frame that could not be split is not visited
 pub unsplit_visits : {O : Type 0} (gives : Event → O → Type 0) (h : perf_event_header) (old new : Meaning) (e : ErrorKind) → SplitsBehind h old (Err e) new → VisitsBehind gives h old (Err e) new
 unsplit_visits gives h old new e s = λ kind.
     let w = s kind in
     let none : record_reads old.settings old.order h (split_behind old.settings old.order h old.source.left) ≡ 0 = ap (record_reads old.settings old.order h) w.0 in
     (ap (record_in old.settings old.order h) w.0, w.1, omega (arith, w.2, none))
 
--- the visit of a frame that fell apart, by that of its body
+-- the visit of a frame that was split, by that of its body
 pub visits_made : {O : Type 0} (gives : Event → O → Type 0) (h : perf_event_header) (old mid new : Meaning) (parts : FrameParts) (o : Order) (c : Configuration) (from : Bool) (made : ℕ) (seen : Result O ErrorKind) →
     o ≡ old.order → c ≡ under_misc h.misc old.settings → parts.metadata.ty ≡ h.type_ → (IsTrue old.source.whole → IsTrue from) → new.source ≡ mid.source → new.reads ≡ mid.reads + made →
     (split_behind old.settings old.order h old.source.left ≡ Ok parts) × (mid.source.left ≡ drop (body_length h) old.source.left) × (mid.reads ≡ old.reads + split_reads old.settings old.order h old.source.left) →
@@ -76,7 +76,7 @@ stays_any : (a b : Source) (e : Option ErrorKind) → is_external e ≡ false �
 stays_any a b None inner p = p
 stays_any a b (Some e) inner p = stays_refused a b e inner p
 
--- what a call keeps that was paid for n reads, and makes no more of them
+-- what a call keeps that was paid for n reads, and makes no more than these
 pub visits_keep : (start old mid new : Meaning) (made n : ℕ) (e : Option ErrorKind) → Keeps start None old → Keeps start None mid →
     (IsTrue old.source.told → mid.reads + n + length mid.source.left ≤ old.reads + length old.source.left) → new.source ≡ mid.source → new.reads ≡ mid.reads + made → made ≤ n + one_if_refused e → is_external e ≡ false → Keeps start e new
 visits_keep start old mid new made n e p q paid same count cost inner = record {

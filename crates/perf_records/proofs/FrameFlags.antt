@@ -1,4 +1,4 @@
--- The flags of a sample type that stand before a number, as sets of them answer.
+-- The flags of a sample type that come before a number, as sets report them.
 use Rattle.std.proofs.Common.{◌≡◌, ℕ, ◌==◌}
 use Rattle.std.specs.Int.RustNames.{bit_and}
 use Rattle.perf_words.specs.Bits.{has_bit}

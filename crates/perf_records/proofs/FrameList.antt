@@ -1,4 +1,4 @@
--- The frames of bytes that are all at hand.
+-- The frames of bytes that are all in memory.
 use Rattle.std.specs.Prelude.{if◌then◌else◌}
 use Rattle.std.proofs.Common.{◌≡◌, ◌≢◌, ℕ, zero, suc, ◌≤◌, ◌<◌, List, [], ◌∷◌, length, take, drop, map, refl, sym, ◌∙◌, ap, true, false, nat_lt, arith}
 use Rattle.std.proofs.lemmas.Bool.{lt-ltb, le-ltb}
@@ -45,7 +45,7 @@ next_sight o bytes after x fits is rest =
 pub no_sight : (o : Order) (bytes : List ℕ) → length bytes < 8 → sights o bytes ≡ []
 no_sight o bytes short = ap (map (λ frame. sight_in o frame true)) (frames_short o (length bytes) bytes short)
 
--- there is a first one where a header is there
+-- there is a first one if a header is present
 pub some_sight : (o : Order) (bytes : List ℕ) → 8 ≤ length bytes → sights o bytes ≢ []
 some_sight o bytes fits none =
     let tail : List ℕ = drop (frame_length o bytes) bytes in

@@ -1,4 +1,4 @@
--- The numbers by places are those that the whole reading of a frame has.
+-- The numbers at their offsets are those in the parsed frame.
 use Rattle.std.proofs.Common.{◌≡◌, ℕ, ◌+◌, ◌-◌, ◌*◌, ◌≤◌, ◌<◌, Bool, true, false, ◌==◌, ◌&&◌, not, List, length, take, drop, Option, Some, None, Ok, Err, refl, sym, ◌∙◌, ap, subst, inl, inr, arith, if◌then◌else◌}
 use Rattle.std.specs.Prelude.{◌⊎◌, option_map, nat_le, nat_lt, IfOk, MatchResult, Result}
 use Rattle.std.proofs.lemmas.Bool.{cases_lt, le-leb, lt-leb}
@@ -27,7 +27,7 @@ use Rattle.perf_records.proofs.Splitting.{split_whole, split_no_room}
 use Rattle.perf_records.proofs.IdNumbers.{there, id_time, id_pid, id_tid, id_cpu, id_id, of_type}
 use Rattle.perf_records.proofs.SampleNumbers.{Made, sample_time, sample_pid_is, sample_tid_is, sample_cpu, sample_identifier, chosen, sample_id_read}
 
--- ---- frames that end with a sample id, or with none
+-- ---- frames with a sample id at the end, or with none
 
 pick : {A : Type 0} (present nine fits : Bool) (x y : Option A) → nine ≡ false → fits ≡ true → (if present then (if nine then x else (if fits then y else None)) else None) ≡ (if present then y else None)
 pick present false true x y e f = refl
@@ -52,7 +52,7 @@ split_all c o h bytes sized whole room =
     let all : take (body_length h) bytes ≡ bytes = take_all (body_length h) bytes (omega arith) in
     split_whole c o h bytes sized (omega arith) (omega arith) ∙ ap (λ b. Ok (parts_of c o h b)) all
 
--- the number by its place is that of the sample id, where there is room for it
+-- the number at its offset is that of the sample id, if the frame is long enough for it
 other : (of_id : SampleIdValue → Option ℕ) (read : List ℕ → ℕ) (c : Configuration) (o : Order) (place : Place) (h : perf_event_header) (bytes : List ℕ) →
     8 ≤ h.size → length bytes ≡ body_length h → (h.type_ ≡ 9 → ⊥) →
     ((ids : List ℕ) → length ids ≡ id_length c h.type_ → of_id (value o ids 0 (id_of_type c h.type_)) ≡ option_map read (if place.present then eight_at ids place.in_id else None)) →
@@ -89,7 +89,7 @@ sample_run c o h bytes s sized whole is answer =
     let same : first.0 ≡ s = cc in
     (first.1, first.2 ∙ ap (λ v. ran v first.1) same)
 
--- ---- both, as the contracts say it
+-- ---- both, as in the contracts
 
 sampled : (of_sample : SampleValue → Option ℕ) (read : List ℕ → ℕ) (c : Configuration) (o : Order) (place : Place) (h : perf_event_header) (bytes : List ℕ) →
     8 ≤ h.size → length bytes ≡ body_length h →
@@ -164,7 +164,7 @@ last_eight bytes n q fits all =
     ∙ ap (λ m. Some (take 8 (drop m bytes))) (sym same) ∙ sym (ap (λ xs. Some (take 8 xs)) (drop-drop q k bytes))
     ∙ sym (there (drop k bytes) q (omega arith))
 
--- it stands where the sample id has IDENTIFIER
+-- it is present if the sample id has IDENTIFIER
 identifier_placed : (c : Configuration) (h : perf_event_header) (bytes : List ℕ) → has_bit c.sample_type 16 ≡ true → carries_sample_id h.type_ ≡ true → c.sample_id_all ≡ true → id_length c h.type_ ≤ length bytes →
     identifier_bytes h.type_ bytes ≡ field_bytes c identifier_field h bytes
 identifier_placed c h bytes set carries all room =
@@ -180,7 +180,7 @@ identifier_placed c h bytes set carries all room =
     ∙ sym (ap (λ (b : Bool). if b then eight_at ids q else None) set)
     ∙ sym (pick (has_bit t 16) (h.type_ == 9) (nat_le (id_length c h.type_) (length bytes)) (eight_at bytes 0) (eight_at ids q) (other_type (nat_lt h.type_ 64) (h.type_ == 9) carries) (le-leb (id_length c h.type_) (length bytes) room))
 
--- and is the id of that, where the sample type has no ID
+-- and is the id of that, if the sample type has no ID
 identifier_is_id : (c : Configuration) (o : Order) (h : perf_event_header) (bytes : List ℕ) → has_bit c.sample_type 6 ≡ false →
     option_map o.eight (field_bytes c identifier_field h bytes) ≡ id_in c o h bytes
 identifier_is_id c o h bytes none =

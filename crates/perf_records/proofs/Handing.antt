@@ -1,4 +1,4 @@
--- What a handler is handed.
+-- What a handler gets.
 use Rattle.std.proofs.Common.{◌≡◌, ℕ, ◌<◌, ◌≤◌, List, Bool, length, take, drop, arith, refl, sym, ◌∙◌, ap, subst, true, false, nat_lt, [], inl, inr}
 use Rattle.std.specs.Prelude.{IsTrue}
 use Rattle.std.proofs.lemmas.Bool.{cases_lt, lt-ltb, le-ltb}
@@ -28,7 +28,7 @@ finished h bytes lasting sized fits =
     let b : nat_lt (length bytes) (body_length h) ≡ false = le-ltb (length bytes) (body_length h) fits in
     rw (a, b) refl
 
--- a frame that is unfinished was handed over as that
+-- a frame that is unfinished was passed on as that
 pub hands_unfinished : {S : Type 0} (gets : S → Sight → Bool → S → Type 0) (h : perf_event_header) (old new : Source) (was now : S) (go : Bool) → 8 ≤ h.size → (body_length h ≡ 0 → ⊥) →
     (IsTrue old.told → FailsToKeep old (body_length h) Eof new) → gets was (bad h Eof) go now → HandsAfter gets h old was go new now
 hands_unfinished {S} gets h old new was now go sized some fails got = by old.told refl
@@ -47,7 +47,7 @@ hands_unfinished {S} gets h old new was now go sized some fails got = by old.tol
         let short : length {A = ℕ} [] < body_length h = omega (arith, n) in
         ([], true, subst P (sym (unfinished h [] true sized short)) got, (λ told. let never : false ≡ true = sym untold ∙ told in absurd (cc)), (λ whole. refl))
 
--- a refusal that is not the end is none of the layout
+-- a refusal other than the end is none of the layout
 pub stops_run : (old new : Source) (n : ℕ) (e : ErrorKind) → (e ≡ Eof → ⊥) → FailsToKeep old n e new → IsTrue (of_layout e) → ⊥
 stops_run old new n Eof other p kind = other refl
 stops_run old new n InvalidRecord other p kind = p
@@ -56,7 +56,7 @@ stops_run old new n UnsupportedData other p kind = p
 stops_run old new n External other p kind = absurd (cc)
 stops_run old new n OutOfMemory other p kind = absurd (cc)
 
--- a frame looks the same whatever stands after it
+-- a frame looks the same whatever comes after it
 pub sight_take : (h : perf_event_header) (bytes : List ℕ) (lasting : Bool) → sight_after h (take (body_length h) bytes) lasting ≡ sight_after h bytes lasting
 sight_take h bytes lasting = elim (cases_lt h.size 8) [
   | inl small ↦ let a : nat_lt h.size 8 ≡ true = lt-ltb h.size 8 small in rw a refl

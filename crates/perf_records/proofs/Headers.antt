@@ -1,4 +1,4 @@
--- The header at the front of bytes, and what a frame says by its own bytes alone.
+-- The header at the front of bytes, and the contents of a frame by its own bytes alone.
 use Rattle.std.proofs.Common.{◌≡◌, ℕ, ◌+◌, ◌<◌, ◌≤◌, List, [], length, take, drop, arith, refl, sym, ◌∙◌, ap, true, false, inl, inr, Ok, Err, max, nat_lt, subst}
 use Rattle.std.specs.Prelude.{Result, IsTrue, Some, ◌≢◌}
 use Rattle.std.proofs.lemmas.Bool.{cases_lt, lt-ltb, le-ltb}
@@ -117,18 +117,18 @@ reads_take c o h bytes =
     ap (λ (k : ℕ). k + record_reads c o h (split_behind c o h (take n bytes))) split
     ∙ ap (λ (r : Result FrameParts ErrorKind). split_reads c o h bytes + record_reads c o h r) same
 
--- what stands behind a header that is whole
+-- what comes after a header that is whole
 pub frame_whole : {V : Type 0} (says : perf_event_header → List ℕ → Result V ErrorKind) (o : Order) (bytes : List ℕ) → 8 ≤ length bytes → of_frame says o bytes ≡ says (header_of o bytes) (drop 8 bytes)
 frame_whole says o bytes fits = let a : nat_lt (length bytes) 8 ≡ false = le-ltb (length bytes) 8 fits in rw a refl
 
 pub answer_whole : (c : Configuration) (o : Order) (bytes : List ℕ) → 8 ≤ length bytes → answer_of_frame c o bytes ≡ answer_behind c o (header_of o bytes) (drop 8 bytes)
 answer_whole c o bytes fits = frame_whole (answer_behind c o) o bytes fits
 
--- the frame's length, in the words of its body
+-- the frame's length, in terms of its body
 pub frame_body : (h : perf_event_header) → max 8 h.size ≡ 8 + body_length h
 frame_body h = omega arith
 
--- A frame says by its own bytes what it says in front of others.
+-- A frame has the same contents by its own bytes as with others after them.
 pub answer_alone : (c : Configuration) (o : Order) (bytes : List ℕ) → 8 ≤ length bytes → answer_of_frame c o (take (frame_length o bytes) bytes) ≡ answer_of_frame c o bytes
 answer_alone c o bytes fits =
     let h : perf_event_header = header_of o bytes in
@@ -149,7 +149,7 @@ answer_alone c o bytes fits =
 pub header_alone : (o : Order) (bytes : List ℕ) → header_of o (take (frame_length o bytes) bytes) ≡ header_of o bytes
 header_alone o bytes = ap (λ n. header_of o (take n bytes)) (frame_body (header_of o bytes)) ∙ header_take o (body_length (header_of o bytes)) bytes
 
--- A frame takes as many reads behind its header as it does in front of others.
+-- A frame takes the same reads after its header as with other bytes after it.
 pub reads_alone : (c : Configuration) (o : Order) (bytes : List ℕ) →
     let frame : List ℕ = take (frame_length o bytes) bytes in
     reads_behind c o (header_of o frame) (drop 8 frame) ≡ reads_behind c o (header_of o bytes) (drop 8 bytes)
@@ -162,7 +162,7 @@ reads_alone c o bytes =
     ∙ ap (reads_behind c o h) behind
     ∙ reads_take c o h (drop 8 bytes)
 
--- ---- a frame, from its header and what stands behind it
+-- ---- a frame, from its header and what comes after it
 pub frame_behind : (o : Order) (bytes mid new : List ℕ) (h : perf_event_header) → h ≡ header_of o bytes → mid ≡ drop 8 bytes → new ≡ drop (body_length h) mid → new ≡ drop (frame_length o bytes) bytes
 frame_behind o bytes mid new h e m n =
     n ∙ ap (drop (body_length h)) m ∙ drop-drop (body_length h) 8 bytes ∙ ap (λ k. drop k bytes) (sym (ap (λ (q : perf_event_header). max 8 q.size) (sym e) ∙ frame_body h))
@@ -182,7 +182,7 @@ told_reads reads old mid h made fits e m n p =
     let same : reads h mid.source.left ≡ reads (header_of old.order old.source.left) (drop 8 old.source.left) = ap (λ k. reads k mid.source.left) e ∙ ap (reads (header_of old.order old.source.left)) m in
     omega (arith, p, n, same, reads_whole reads old.order old.source.left fits)
 
--- what is told behind a header is told of the frame
+-- what holds after a header holds for the frame
 pub tells_frame : {X V : Type 0} (view : X → V) (says : perf_event_header → List ℕ → Result V ErrorKind) (reads : perf_event_header → List ℕ → ℕ)
     (old mid new : Meaning) (h : perf_event_header) (r : Result X ErrorKind) →
     8 ≤ length old.source.left → h ≡ header_of old.order old.source.left → mid.source.left ≡ drop 8 old.source.left → mid.reads ≡ old.reads + layout_reads old.order header old.source.left →
@@ -199,7 +199,7 @@ tells_frame view says reads old mid new h (Err x) fits e m n p = λ kind. let q 
   told_reads reads old mid h new.reads fits e m n q.2,
 )
 
--- a header that is lacking
+-- a header that is missing
 pub tells_no_header : {X V : Type 0} (view : X → V) (says : perf_event_header → List ℕ → Result V ErrorKind) (reads : perf_event_header → List ℕ → ℕ) (old new : Meaning) (e : ErrorKind) →
     length old.source.left < 8 → e ≡ Eof → new.source.left ≡ [] → new.reads ≡ old.reads + layout_reads old.order header old.source.left →
     AnswersExactly view (of_frame says old.order old.source.left) (frame_length old.order old.source.left) (frame_reads reads old.order old.source.left) old (Err e) new
@@ -232,7 +232,7 @@ pub refuses_read : {X : Type 0} (o : Order) (bytes : List ℕ) (h : perf_event_h
     RefusesHeader o bytes seen
 refuses_read o bytes h seen fits e small = λ inside. ((λ short. absurd (omega arith)), (λ long little. small (subst (λ (k : perf_event_header). k.size < 8) (sym e) little)))
 
--- one that is lacking
+-- one that is missing
 lacking : {X : Type 0} (o : Order) (bytes : List ℕ) (e : ErrorKind) → (length bytes < 8) × (e ≡ Eof) → RefusesHeader {X = X} o bytes (Err e)
 lacking o bytes e p = λ inside. ((λ short. ap Err p.1), (λ long little. absurd (omega (arith, p.0))))
 

@@ -1,4 +1,4 @@
--- The numbers of a sample id stand at their places in it.
+-- The numbers of a sample id are at their places in it.
 use Rattle.std.proofs.Common.{◌≡◌, ℕ, ◌+◌, ◌*◌, ◌≤◌, Bool, true, false, List, length, take, drop, Option, Some, None, refl, sym, ◌∙◌, ap, arith, if◌then◌else◌}
 use Rattle.std.specs.Prelude.{option_map, nat_le}
 use Rattle.std.proofs.lemmas.Bool.{le-leb, lt-leb}
@@ -11,7 +11,7 @@ use Rattle.perf_sample_types.specs.SampleId.{SampleIdValue, one_if, first_of, no
 use Rattle.perf_records.specs.FrameNumbers.{eight_at, bytes_of, time_field, task_field, id_field, cpu_field, identifier_field, first_half, second_half}
 use Rattle.perf_records.specs.Metadata.{carries_sample_id, id_of_type, id_length}
 
--- ---- sample ids: a number that is there or not, at its place
+-- ---- sample ids: a number, present or absent, at its place
 
 four_if : (flag : Bool) (left : ℕ) → size (optional flag w4) left ≡ 4 * one_if flag
 four_if true left = refl
@@ -33,7 +33,7 @@ eight_answer : (o : Order) (present : Bool) (ids : List ℕ) (s p left : ℕ) �
 eight_answer o false ids s p left e fits = refl
 eight_answer o true ids s p left e fits = ap (λ n. Some (o.eight (slice ids n 8))) e ∙ sym (ap (option_map o.eight) (there ids p fits))
 
--- the half of a field of eight bytes that stands k bytes behind its begin
+-- the half of a field of eight bytes that is k bytes after its beginning
 half : (o : Order) (k p : ℕ) (bytes : List ℕ) → k + 4 ≤ 8 → o.four (slice bytes (p + k) 4) ≡ o.four (slice (slice bytes p 8) k 4)
 half o k p bytes small = ap o.four (sym (in_front k 4 8 (drop p bytes) small ∙ ap (take 4) (drop-drop k p bytes)))
 
@@ -46,7 +46,7 @@ four_answer o true ids s p k left e small fits =
 
 -- ---- and the fields of a sample id
 
--- Its bytes are as many as its flags say.
+-- Its bytes are as many as its flags require.
 abbrev pub Long : ℕ → List ℕ → Type 0
 Long t ids = length ids ≡ 8 * sample_id_flags t
 
@@ -66,7 +66,7 @@ pub id_cpu : (o : Order) (t : ℕ) (ids : List ℕ) → Long t ids →
     (value o ids 0 (sample_id_fields t)).cpu ≡ option_map (first_half o) (if has_cpu t then eight_at ids (bytes_of t cpu_field.in_id) else None)
 id_cpu o t ids long = four_answer o (has_cpu t) ids _ (bytes_of t cpu_field.in_id) 0 _ (λ e. simp (four_if, eight_if) (omega arith)) (omega arith) (omega arith)
 
--- what ID says, or else IDENTIFIER
+-- the value of ID, or else of IDENTIFIER
 pub either : (o : Order) (first second : Bool) (ids : List ℕ) (p q : ℕ) → p + 8 * one_if first ≤ length ids →
     first_of (option_map o.eight (if first then eight_at ids p else None)) (option_map o.eight (if second then eight_at ids q else None))
     ≡ option_map o.eight (if first then eight_at ids p else (if second then eight_at ids q else None))
@@ -94,7 +94,7 @@ nothing : (read : List ℕ → ℕ) (present : Bool) (ids : List ℕ) (p : ℕ) 
 nothing read false ids p none = refl
 nothing read true ids p none = let t : nat_le (p + 8) (length ids) ≡ false = lt-leb (p + 8) (length ids) (omega arith) in rw t refl
 
--- what a number of a sample id says, of those of every type
+-- the value of a number of a sample id, of those of every type
 pub of_type : (of_id : SampleIdValue → Option ℕ) (read : List ℕ → ℕ) (c : Configuration) (o : Order) (ty : ℕ) (present : Bool) (p : ℕ) → of_id no_sample_id ≡ None →
     ((ids : List ℕ) → Long c.sample_type ids → of_id (value o ids 0 (sample_id_fields c.sample_type)) ≡ option_map read (if present then eight_at ids p else None)) →
     (ids : List ℕ) → length ids ≡ id_length c ty → of_id (value o ids 0 (id_of_type c ty)) ≡ option_map read (if present then eight_at ids p else None)

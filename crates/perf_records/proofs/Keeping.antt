@@ -32,7 +32,7 @@ stays_refused a b OutOfMemory x p = p
 pub no_fault : (e : Option ErrorKind) (P : Type 0) → is_external e ≡ false → is_external e ≡ true → P
 no_fault e P p q = absurd (cc)
 
--- ---- nothing and all taken are a beginning
+-- ---- taking nothing or everything takes a prefix
 pub within_none : (old new : Source) (n : ℕ) → new.left ≡ old.left → MovesWithin old n new
 within_none old new n e =
     let same : length new.left ≡ length old.left = ap length e in
@@ -53,19 +53,19 @@ within_kept old new n UnsupportedData p = absurd p
 within_kept old new n External p = p
 within_kept old new n OutOfMemory p = p
 
--- the reads of the bytes that were taken are paid
+-- the reads of the bytes that were taken are paid for
 pub taken_pays : (old new : Source) (n k : ℕ) → Takes old n new → k ≤ n → k + length new.left ≤ length old.left
 taken_pays old new n k p less =
     let left : length new.left ≡ length old.left - n = ap length p.1 ∙ length-drop n old.left in
     omega (arith, p.0)
 
--- bytes that were taken are within as many
+-- bytes that were taken are at most that many
 pub taken_within : (old new : Source) (n : ℕ) → Takes old n new → length old.left ≤ length new.left + n
 taken_within old new n p =
     let left : length new.left ≡ length old.left - n = ap length p.1 ∙ length-drop n old.left in
     omega (arith, p.0)
 
--- a read that has its bytes, takes no memory and cannot fault
+-- a read that has its bytes, needs no memory and cannot fault
 pub never_refused : (P : Type 0) (e : ErrorKind) (have want : ℕ) → have ≡ want → e ≢ OutOfMemory → (is_external (Some e) ≡ true → IsTrue false) → (IsTrue (of_layout e) → have < want) → P
 never_refused P Eof have want same memory fault lacks = absurd (omega (arith, same, lacks refl))
 never_refused P InvalidRecord have want same memory fault lacks = absurd (omega (arith, same, lacks refl))

@@ -24,7 +24,7 @@ both a b p q = cc
 pub text_poke_lent : (r : TextPoke) → IsBorrowedTextPoke r → IsTrue (is_lent_text_poke r)
 text_poke_lent r p = both _ _ p.0 p.1
 
--- ---- and the other way round
+-- ---- and the converse
 
 two : (a b : Bool) → IsTrue (a && b) → IsTrue a × IsTrue b
 two true true p = (refl, refl)

@@ -1,4 +1,4 @@
--- Records that are made of what was visited.
+-- Records that are made from what was visited.
 use Rattle.std.proofs.Common.{◌≡◌, Bool, true, false, refl, arith, sym, ◌∙◌, ap, subst}
 use Rattle.std.specs.Prelude.{Result, None, Some, Ok, Err, IfOk, IsTrue}
 use Rattle.perf_base.specs.Refusals.{kinds, refusal_kind}
@@ -35,7 +35,7 @@ use Rattle.perf_records.specs.declared.record.Record.{Record}
 abbrev Gives : Event → Result Record Refusal → Type 0
 Gives seen output = GivesRecord seen (kinds output)
 
--- what a call keeps that was refused for want of memory
+-- what a call keeps that ran out of memory
 pub keeps_unmade : (start new : Meaning) → Keeps start None new → Keeps start (Some OutOfMemory) new
 keeps_unmade start new p = record {
   buffer = p.buffer;
@@ -47,7 +47,7 @@ keeps_unmade start new p = record {
 -- ---- bodies
 
 module _ {I E : Type 0} {source : I → Source} {order : E → Order} (m : MetadataValue) {a b : Reader I E} where
-  -- the record that was made is what the body says
+  -- the record that was made is what the body contains
   pub made_body : (output : Result Record Refusal) (r : Record) → output ≡ Ok r → Call source order (VisitsBody Gives m) a (Ok output) b → Call source order (VisitsBody IsRecordOf m) a (Ok r) b
   unfolding GivesRecord
   made_body output r is call = record {
@@ -61,7 +61,7 @@ module _ {I E : Type 0} {source : I → Source} {order : E → Order} (m : Metad
     keeps = call.keeps;
   }
 
-  -- one that was not made is refused for want of memory
+  -- one that was not made ran out of memory
   pub unmade_body : (output : Result Record Refusal) (e : Refusal) → output ≡ Err e → IsTrue (source a.input).told → Call source order (VisitsBody Gives m) a (Ok output) b →
       Call source order (VisitsBody IsRecordOf m) a (Err (refusal_kind e)) b
   unfolding GivesRecord
@@ -78,7 +78,7 @@ module _ {I E : Type 0} {source : I → Source} {order : E → Order} (m : Metad
 
 -- ---- samples
 module _ {I E : Type 0} {source : I → Source} {order : E → Order} (m : MetadataValue) {a b : Reader I E} where
-  -- one that was read in a box
+  -- one that was read into a box
   pub boxed_visit : (held : Box Sample Global) → Call source order (ReadsBorrowed sample boxed_value IsBorrowedBox) a (Ok held) b → Call source order (VisitsType IsSampleOf m type.Sample) a (Ok held) b
   boxed_visit held call = visited IsSampleOf m sample boxed_value sample_is (is_lent_sample held.value) true (refl, lent_sample held.value) (λ t w. sample_lent held.value ((call.answer t).1 w)) (λ is. refl) (of_said (λ says. says.0) call)
 
@@ -100,7 +100,7 @@ module _ {I E : Type 0} {source : I → Source} {order : E → Order} (m : Metad
   pub unboxed_body : (e : ErrorKind) → m.ty ≡ 9 → Call source order (VisitsType IsSampleOf m type.Sample) a (Err e) b → Call source order (VisitsBody IsRecordOf m) a (Err e) b
   unboxed_body e is call = visits_type IsRecordOf m (ap type_of is) (record { config = call.config; whole = call.whole; told = call.told; answer = λ t. call.answer t; keeps = call.keeps })
 
--- the record of a frame's body is what the frame says
+-- the record of a frame's body is what the frame contains
 pub body_says : (h : perf_event_header) (old new : Meaning) (seen : Result Record ErrorKind) → VisitsBehind IsRecordOf h old seen new → SaysBehind h old seen new
 body_says h old new (Ok r) v = (v.6.0 ∙ ap Ok (sym v.3.0), v.6.1, v.6.2)
 body_says h old new (Err e) v = v

@@ -1,4 +1,4 @@
--- The numbers of a sample stand at their places in it.
+-- The numbers of a sample are at their places in it.
 use Rattle.std.proofs.Common.{◌≡◌, ℕ, suc, ◌+◌, ◌-◌, ◌*◌, ◌≤◌, ◌<◌, Bool, true, false, List, [], ◌∷◌, ◌++◌, length, take, drop, get_or, Option, Some, None, refl, sym, ◌∙◌, ap, inl, inr, arith, if◌then◌else◌}
 use Rattle.std.specs.Prelude.{option_map}
 use Rattle.std.proofs.lemmas.Bool.{cases_lt}
@@ -24,7 +24,7 @@ use Rattle.perf_records.proofs.IdNumbers.{there, either}
 
 -- ---- samples: fields of eight bytes in a row
 
--- parts of eight bytes that nothing refuses, by what they say
+-- parts of eight bytes that nothing refuses, by their values
 record IsEight (o : Order) (p : Parts FieldValue) (f : List ℕ → FieldValue) : Type 0 where
   fits : (bytes : List ℕ) → 8 ≤ length bytes → run_parts o p bytes ≡ ran (f (take 8 bytes)) (drop 8 bytes)
   lacks : (bytes : List ℕ) (v : FieldValue) (left : List ℕ) → length bytes < 8 → run_parts o p bytes ≡ ran v left → ⊥
@@ -88,7 +88,7 @@ eight_cpu o = record {
       ];
 }
 
--- a field at its place, that is there or not
+-- a field at its place, present or absent
 slot_run : (o : Order) (present : Bool) (p : Parts FieldValue) (f : List ℕ → FieldValue) → IsEight o p f → (body : List ℕ) (s : ℕ) → s ≤ length body →
     (v : Option FieldValue) (z : List ℕ) → run_parts o (slot (present_if present p)) (drop s body) ≡ ran v z →
     (v ≡ option_map f (if present then eight_at body s else None)) × (z ≡ drop (s + 8 * one_if present) body) × (s + 8 * one_if present ≤ length body)
@@ -117,7 +117,7 @@ AllEight : Order → Configuration → List Field → Type 0
 AllEight o c [] = Unit {0}
 AllEight o c (field ∷ fields) = ((f : List ℕ → FieldValue) × IsEight o (field.parts (settings_of c)) f) × AllEight o c fields
 
--- how many bytes those have that are there
+-- how many bytes those have that are present
 abbrev front_length : Configuration → List Field → ℕ
 front_length c [] = 0
 front_length c (field ∷ fields) = 8 * one_if (is_present c field) + front_length c fields
@@ -143,7 +143,7 @@ walk o c (x ∷ xs) behind all body s within vs left e =
       omega (arith, next.5),
     )
 
--- what a field says behind such fields
+-- the value of a field after such fields
 field_says : (o : Order) (c : Configuration) (front : List Field) (x : Field) (behind : List Field) (f : List ℕ → FieldValue) → AllEight o c front → IsEight o (x.parts (settings_of c)) f →
     (body : List ℕ) (vs : SampleValue) (left : List ℕ) → run_parts o (table (fields_under c (front ++ (x ∷ behind)))) body ≡ ran vs left →
     (get_or vs (length front) None ≡ option_map f (if is_present c x then eight_at body (front_length c front) else None))
@@ -233,7 +233,7 @@ sample_own_id o c bytes s made =
     ap number_in ((field_says o c id_front (at_flag 6 plain) (drop 6 sample_fields) _ ((_, p), ((_, p), ((_, eight_task o), ((_, p), ((_, p), tt))))) p bytes s made.0 made.1).0)
     ∙ number_of o.eight _ ∙ simp only_flag
 
--- its bytes are there, where it is
+-- its bytes are present, if it is
 sample_room : (o : Order) (c : Configuration) (bytes : List ℕ) (s : SampleValue) → Made o c bytes s →
     bytes_of c.sample_type id_field.in_sample + 8 * one_if (has_bit c.sample_type 6) ≤ length bytes
 unfolding sample AllEight
@@ -250,7 +250,7 @@ sample_identifier o c bytes s made =
 
 -- ---- the event's id, of ID or else of IDENTIFIER
 
--- the field that is chosen is the first of the two that is there
+-- the field that is chosen is the first of the two that is present
 pub chosen : {A : Type 0} (t : ℕ) (at : NumberField → Option A) →
     (if has_bit t 6 then at id_field else (if has_bit t 16 then at identifier_field else None)) ≡ (if has_bit t (event_field t).flag then at (event_field t) else None)
 chosen {A} t at = go (has_bit t 6) refl
@@ -261,7 +261,7 @@ chosen {A} t at = go (has_bit t 6) refl
     go true e = ap (λ (b : Bool). if b then at id_field else None) (sym e)
     go false e = refl
 
--- the id of a sample, where ID stands wholly in its bytes
+-- the id of a sample, if ID is wholly within its bytes
 pub sample_id_read : (o : Order) (c : Configuration) (bytes : List ℕ) (s : SampleValue) → Made o c bytes s →
     first_of (number_in (field_at s 5)) (number_in (field_at s 0))
     ≡ option_map o.eight (if has_bit c.sample_type (event_field c.sample_type).flag then eight_at bytes (bytes_of c.sample_type (event_field c.sample_type).in_sample) else None)

@@ -1,4 +1,4 @@
--- What was read by places is what the layout says, with as many reads.
+-- What was read by places is the value of the layout, with as many reads.
 use Rattle.std.proofs.Common.{◌≡◌, ℕ, ◌+◌, List, length, drop}
 use Rattle.std.specs.Prelude.{Option, None, Some, Result, Ok, Err}
 use Rattle.perf_base.specs.Layout.{Parts, spots, first_refusal, ending, value, layout}
@@ -16,13 +16,13 @@ laid f v = elim f [ None ↦ Ok v | Some e ↦ Err e ]
 abbrev placed : {A : Type 0} → Option ErrorKind → A → (there back : List ℕ) → Ran A
 placed f v there back = elim f [ None ↦ ran v there | Some e ↦ stopped e back ]
 
--- what a value says of both
+-- what a value means for both
 ran_of : {A : Type 0} (f : Option ErrorKind) (v w : A) (there back left : List ℕ) (k m : ℕ) → with_reads (placed f v there back) k ≡ took w left m →
     (laid f v ≡ Ok w) × (w ≡ v) × (placed f v there back ≡ ran w left) × (m ≡ k)
 ran_of None v w there back left k m h = (cc, cc, cc, cc)
 ran_of (Some e) v w there back left k m h = absurd (cc)
 
--- what a refusal says of both
+-- what a refusal means for both
 stopped_of : {A : Type 0} (f : Option ErrorKind) (v : A) (e : ErrorKind) (there back left : List ℕ) (k m : ℕ) → with_reads (placed f v there back) k ≡ quit e left m →
     (laid f v ≡ Err e) × (placed f v there back ≡ stopped e left) × (m ≡ k)
 stopped_of None v e there back left k m h = absurd (cc)

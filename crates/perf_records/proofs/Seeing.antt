@@ -19,7 +19,7 @@ use Rattle.perf_records.specs.Records.{RecordValue}
 use Rattle.perf_records.specs.Visits.{Event, event, Visits, IsSample}
 
 module _ {I E : Type 0} {source : I → Source} {order : E → Order} where
-  -- a call of which less is said
+  -- a call with a weaker contract
   pub of_said : {X : Type 0} {P Q : Says X} {a b : Reader I E} {seen : Result X ErrorKind} →
       (P (meaning source order a) seen (meaning source order b) → Q (meaning source order a) seen (meaning source order b)) →
       Call source order P a seen b → Call source order Q a seen b
@@ -85,7 +85,7 @@ module _ {I E O : Type 0} {source : I → Source} {order : E → Order} (gives :
       Call source order (ReadsPlain p view) a (Err e) b → Call source order (Visits gives m (λ c. mapped is (p c)) false) a (Err e) b
   no_plain p view is call = unvisited p view is false (λ t w unwanted. (call.answer t).1) (of_said (λ says. says.0) call)
 
-  -- one with byte strings, which are lent or not
+  -- one with byte strings, which are borrowed or not
   pub saw_lent : {X A : Type 0} {Borrowed : X → Type 0} {a b : Reader I E} {held : X} {output : O} (p : Configuration → Parts A) (view : X → A) (is : A → RecordValue) (lent : X → Bool) →
       gives (event (is (view held)) (lent held) m) output → (Borrowed held → IsTrue (lent held)) → (IsSample (is (view held)) → ⊥) →
       Call source order (ReadsLent p view Borrowed) a (Ok held) b →

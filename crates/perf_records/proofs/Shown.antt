@@ -1,4 +1,4 @@
--- Frames that are read where their bytes are.
+-- Frames that are read in place.
 use Rattle.std.proofs.Common.{◌≡◌, ℕ, ◌+◌, ◌-◌, ◌≤◌, List, Bool, length, take, drop, false, nat_lt, arith, refl, sym, ◌∙◌, ap}
 use Rattle.std.proofs.lemmas.Bool.{le-ltb}
 use Rattle.std.proofs.lemmas.List.{length-take-le, take-take, take_all}
@@ -35,7 +35,7 @@ use Rattle.perf_records.proofs.Keeping.{moved_keeps, taken_pays, within_kept}
 use Rattle.perf_records.proofs.Making.{body_says}
 use Rattle.perf_records.proofs.Splitting.{split_made, unsplit_cut}
 
--- the front of what is in front
+-- the front of a front
 pub front_of : (chunk frame part : List ℕ) (n m : ℕ) → frame ≡ take n chunk → n ≤ length chunk → part ≡ take m frame → m ≤ n → take (length part) chunk ≡ part
 front_of chunk frame part n m p within q less =
     let whole : length frame ≡ n = ap length p ∙ length-take-le n chunk within in
@@ -64,7 +64,7 @@ bytes_visited gives h c under o o2 frame lasting parts id made all result sized 
       omega (arith, total, bound, cost, inside, long, room),
     )
 
--- ---- a frame says the same whatever stands behind it
+-- ---- a frame has the same contents whatever comes after it
 same_split : (c : Configuration) (o : Order) (h : perf_event_header) (xs ys : List ℕ) → 8 ≤ h.size → body_length h ≤ length xs → body_length h ≤ length ys → take (body_length h) xs ≡ take (body_length h) ys →
     split_behind c o h xs ≡ split_behind c o h ys
 same_split c o h xs ys sized p q same =
@@ -91,7 +91,7 @@ pub frame_visits : {O : Type 0} (gives : Event → O → Type 0) (h : perf_event
 frame_visits gives h a d alone behind (Ok x) whole split says reads left count none p = (p.0, p.1, p.2, p.3, split ∙ p.4, (λ is. p.5 (whole is)), (says ∙ p.6.0, left, omega (arith, p.6.2, count, none, reads)))
 frame_visits gives h a d alone behind (Err e) whole split says reads left count none p = λ layout. let q = p layout in (says ∙ q.0, left, omega (arith, q.2, count, none, reads))
 
--- the same of a buffer that is whole only where the bytes last
+-- the same of a buffer that is whole only if the bytes live as long as the input
 belongs_whole : {O : Type 0} (gives : Event → O → Type 0) (h : perf_event_header) (from whole : Bool) (result : Result O Refusal) → (IsTrue whole → IsTrue from) → IfOk result (λ x. BelongsTo gives h from x) → IfOk result (λ x. BelongsTo gives h whole x)
 belongs_whole gives h from whole (Ok x) lends b = (b.0, b.1, b.2, b.3, (λ is. b.4 (lends is)), b.5)
 belongs_whole gives h from whole (Err e) lends b = tt
@@ -128,7 +128,7 @@ module _ {I E O : Type 0} (source : I → Source) (order : E → Order) (gives :
         keeps = λ start p. visits_keep start a b d made n (refused (kinds result)) p (keeps_more start a b None p kept) (λ told. let paid = taken_pays a.source d.source n n (takes told) (omega arith) in omega (arith, paid)) refl frame.1 v.4 v.3;
       }
 
-  -- no memory is taken over a whole buffer, where none is wanted
+  -- no memory is taken over a whole buffer, if none is needed
   pub frame_spares : (result : Result O Refusal) → Read result → IsTrue (source old.input).whole → wants_memory h.type_ ≡ false → TakesNoMemory (kinds result)
   frame_spares result frame whole none = frame.2.2.2 (frame.2.5 whole) none
 
@@ -147,13 +147,13 @@ module _ {I E O : Type 0} (source : I → Source) (order : E → Order) (gives :
         keeps = λ start p. keeps_more start a d (Some e) p kept;
       }
 
-  -- what is known of it also where the buffer does not tell its bytes
+  -- what is known of it even if the buffer's bytes are not known
   pub frame_belongs : (result : Result O Refusal) → Read result → IfOk result (λ x. BelongsTo gives h (source old.input).whole x)
   frame_belongs result frame = belongs_whole gives h frame.2.1 (source old.input).whole result (λ is. frame.2.5 is) frame.2.2.1
 
--- ---- what is said of records and of boxed samples, where a visit of them is
+-- ---- the contracts of records and of boxed samples, by those of their visits
 module _ {I E : Type 0} {source : I → Source} {order : E → Order} (h : perf_event_header) {old new : Reader I E} where
-  -- a record that was read is what the frame says
+  -- a record that was read is what the frame contains
   pub says_call : {seen : Result Record ErrorKind} → Call source order (VisitsBehind IsRecordOf h) old seen new → Call source order (SaysBehind h) old seen new
   says_call {seen} call = record {
     config = call.config;

@@ -1,4 +1,4 @@
--- How a frame falls apart.
+-- How a frame is split.
 use Rattle.std.proofs.Common.{◌≡◌, ℕ, ◌<◌, ◌≤◌, List, length, take, drop, arith, refl, sym, ◌∙◌, ap, true, false, nat_lt}
 use Rattle.std.specs.Prelude.{Ok, Err, IsTrue, Result}
 use Rattle.std.proofs.lemmas.Bool.{lt-ltb, le-ltb}
@@ -39,9 +39,9 @@ split_whole c o h bytes sized fits room =
     let d : nat_lt (body_length h) (id_length c h.type_) ≡ false = le-ltb (body_length h) (id_length c h.type_) room in
     rw (a, b, d) refl
 
--- ---- frames that are refused, each with no read behind the header
+-- ---- frames that are refused, with no read after the header
 
--- the answer of a split that was refused
+-- the result of a split that was refused
 abbrev pub Unsplit : Configuration → Order → perf_event_header → List ℕ → ErrorKind → Type 0
 Unsplit c o h bytes e = (split_behind c o h bytes ≡ Err e) × (split_reads c o h bytes ≡ 0)
 
@@ -68,7 +68,7 @@ unsplit_room c o h bytes frame sized fits cut small =
     let long : length frame ≡ body_length h = ap length cut ∙ length-take-le (body_length h) bytes fits in
     unsplit c o h bytes InvalidRecord (split_no_room c o h bytes sized fits (omega arith))
 
--- ---- frames that fall apart
+-- ---- frames that are split
 pub split_made : (c : Configuration) (o : Order) (h : perf_event_header) (bytes frame : List ℕ) (parts : FrameParts) → 8 ≤ h.size → body_length h ≤ length bytes → frame ≡ take (body_length h) bytes →
     id_length c h.type_ ≤ length frame → parts ≡ parts_of c o h frame → (split_behind c o h bytes ≡ Ok parts) × (split_reads c o h bytes ≡ id_reads c o h frame)
 split_made c o h bytes frame parts sized fits cut room are =

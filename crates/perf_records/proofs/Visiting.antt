@@ -22,7 +22,7 @@ use Rattle.perf_records.specs.Visits.{Event, VisitsOf, VisitsBody, VisitsAll, Vi
 use Rattle.perf_records.proofs.Saying.{took_says, quit_says}
 use Rattle.perf_records.proofs.Headers.{tells_frame, frame_whole}
 
--- the visit of a type, where that is the one that the metadata names
+-- the visit of a type, if that is the one given by the metadata
 pub visits_type : {I E O : Type 0} {source : I → Source} {order : E → Order} (gives : Event → O → Type 0) (m : MetadataValue) {type : Option RecordType} {old new : Reader I E} {seen : Result O ErrorKind} →
     type_of m.ty ≡ type → Call source order (VisitsOf gives m type) old seen new → Call source order (VisitsBody gives m) old seen new
 visits_type {source} {order} gives m {old} {new} {seen} is call = subst (λ t. Call source order (VisitsOf gives m t) old seen new) (sym is) call
@@ -39,7 +39,7 @@ visits_all gives m (Err e) old new from none lends v = (
   (λ is. v.1 (lends is)),
 )
 
--- the visit of a frame whose header was read in front of it
+-- the visit of a frame whose header was read before it
 pub visits_frame : {O : Type 0} (gives : Event → O → Type 0) (old mid new : Meaning) (h : perf_event_header) (seen : Result O ErrorKind) →
     8 ≤ length old.source.left → h ≡ header_of old.order old.source.left → mid.source.left ≡ drop 8 old.source.left → mid.reads ≡ old.reads + layout_reads old.order header old.source.left →
     mid.source.whole ≡ old.source.whole → (let c = old.settings in let o = old.order in let bytes = mid.source.left in

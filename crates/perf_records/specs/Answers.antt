@@ -1,5 +1,5 @@
--- How a frame falls apart, what it says and how many elementary reads that takes: by its own bytes
--- alone.
+-- How a frame is split, the record in it, and how many elementary reads that takes: by its own
+-- bytes alone.
 use Rattle.std.specs.Prelude.{◌⊎◌, Result, Ok, Err, ◌≡◌, ℕ, ◌+◌, ◌-◌, ◌<◌, ◌≤◌, List, [], map}
 use Rattle.std.specs.Prelude.{length}
 use Rattle.std.specs.Prelude.{take, drop, IsTrue, IfOk, false, nat_lt, if◌then◌else◌}
@@ -25,23 +25,22 @@ use Rattle.perf_records.specs.Metadata.{MetadataValue, id_of_type, id_length}
 use Rattle.perf_records.specs.Records.{RecordValue, record_value, IsBorrowed}
 use Rattle.perf_records.specs.declared.record.Record.{Record}
 
--- how many bytes of a frame stand behind its header
+-- how many bytes of a frame come after its header
 abbrev pub body_length : perf_event_header → ℕ
 body_length h = h.size - 8
 
--- ---- how a frame falls apart
+-- ---- how a frame is split
 
--- What is known of a frame beside its record, and the bytes of its body: those between its header
--- and its sample id.
+-- The metadata of a frame, and the bytes of its body: those between its header and its sample id.
 pub record FrameParts : Type 0 where
   pub metadata : MetadataValue
   pub body : List ℕ
 
--- the parts of a frame with that metadata and that body
+-- the parts of a frame with this metadata and body
 abbrev pub frame_parts : MetadataValue → List ℕ → FrameParts
 frame_parts m bytes = record { metadata = m; body = bytes }
 
--- the bytes of the sample id, of a frame whose header is followed by these bytes and no others
+-- the bytes of the sample id, of a frame with exactly these bytes after its header
 abbrev pub id_bytes : Configuration → perf_event_header → List ℕ → List ℕ
 id_bytes c h bytes = drop (length bytes - id_length c h.type_) bytes
 
@@ -56,12 +55,12 @@ parts_of c o h bytes = record {
   body = take (length bytes - id_length c h.type_) bytes;
 }
 
--- the reads of its sample id
+-- the number of reads of its sample id
 abbrev pub id_reads : Configuration → Order → perf_event_header → List ℕ → ℕ
 id_reads c o h bytes = layout_reads o (id_of_type c h.type_) (id_bytes c h bytes)
 
--- How a frame falls apart, by its header and the bytes behind that: a size below the header's own
--- is refused, and so is a frame that is unfinished, or one that has no room for its sample id.
+-- How a frame is split, by its header and the bytes after it: a size below the header's own is
+-- refused, and so is a frame that is unfinished, or one that is too short for its sample id.
 abbrev pub split_behind : Configuration → Order → perf_event_header → List ℕ →
     Result FrameParts ErrorKind
 split_behind c o h bytes =
@@ -70,14 +69,14 @@ split_behind c o h bytes =
     else (if nat_lt (body_length h) (id_length c h.type_) then Err InvalidRecord
     else Ok (parts_of c o h (take (body_length h) bytes))))
 
--- the reads that takes: those of the sample id, where there is a frame
+-- the number of reads for that: those of the sample id, if there is a whole frame
 abbrev pub split_reads : Configuration → Order → perf_event_header → List ℕ → ℕ
 split_reads c o h bytes = elim (split_behind c o h bytes) [
   | Ok parts ↦ id_reads c o h (take (body_length h) bytes)
   | Err e ↦ 0
 ]
 
--- ---- what a frame says
+-- ---- the record in a frame
 
 -- The record in a frame's body: the layout of its bytes by the table of the frame's type, under the
 -- frame's own misc.
@@ -86,77 +85,77 @@ abbrev pub record_in : Configuration → Order → perf_event_header → Result 
 record_in c o h (Ok parts) = layout o (body (under_misc h.misc c) h.type_) parts.body
 record_in c o h (Err e) = Err e
 
--- the reads of it
+-- the number of reads for it
 abbrev pub record_reads : Configuration → Order → perf_event_header →
     Result FrameParts ErrorKind → ℕ
 record_reads c o h (Ok parts) = layout_reads o (body (under_misc h.misc c) h.type_) parts.body
 record_reads c o h (Err e) = 0
 
--- what a frame says, by its header and the bytes behind that
+-- the record in a frame, by its header and the bytes after it
 abbrev pub answer_behind : Configuration → Order → perf_event_header → List ℕ →
     Result RecordValue ErrorKind
 answer_behind c o h bytes = record_in c o h (split_behind c o h bytes)
 
--- the reads that it takes behind its header: those of the sample id and of the record
+-- the number of reads after its header: those of the sample id and of the record
 abbrev pub reads_behind : Configuration → Order → perf_event_header → List ℕ → ℕ
 reads_behind c o h bytes = split_reads c o h bytes + record_reads c o h (split_behind c o h bytes)
 
--- the same of a frame's own bytes, with the header in front
+-- the same of a frame's own bytes, beginning with the header
 abbrev pub of_frame : {V : Type 0} → (perf_event_header → List ℕ → Result V ErrorKind) →
     Order → List ℕ → Result V ErrorKind
 of_frame says o frame =
     if nat_lt (length frame) 8 then Err Eof else says (header_of o frame) (drop 8 frame)
 
--- how a frame falls apart, by its bytes
+-- how a frame is split, by its bytes
 abbrev pub split_of_frame : Configuration → Order → List ℕ → Result FrameParts ErrorKind
 split_of_frame c o frame = of_frame (split_behind c o) o frame
 
--- what a frame says, by its bytes
+-- the record in a frame, by its bytes
 abbrev pub answer_of_frame : Configuration → Order → List ℕ → Result RecordValue ErrorKind
 answer_of_frame c o frame = of_frame (answer_behind c o) o frame
 
--- the reads of a frame whose header is read as three numbers, and of what stands behind it
+-- the number of reads of a frame, of which the header is three, and those after it
 abbrev pub frame_reads : (perf_event_header → List ℕ → ℕ) → Order → List ℕ → ℕ
 frame_reads behind o frame =
     layout_reads o header frame
     + (if nat_lt (length frame) 8 then 0 else behind (header_of o frame) (drop 8 frame))
 
--- The answers of a stream: the header and the answer of each of its frames.
+-- The results of a stream: the header and the result of each of its frames.
 abbrev pub answers : Configuration → Order → List ℕ →
     List (perf_event_header × Result RecordValue ErrorKind)
 answers c o bytes = map (λ frame. (header_of o frame, answer_of_frame c o frame)) (frames o bytes)
 
--- ---- what a call answers, in the same words
+-- ---- what a call returns, in the same terms
 
--- A call answers what a definition says, seen through `view`, takes n bytes, or all that were left
--- where that is less, and makes k reads. Of a fault and of want of memory this says nothing.
+-- A call returns what a definition gives, seen through `view`, takes n bytes, or all that are left
+-- if there are fewer, and makes k reads. This does not cover a fault or out of memory.
 abbrev pub AnswersExactly : {X V : Type 0} → (X → V) → Result V ErrorKind → (n k : ℕ) → Says X
 AnswersExactly view says n k old (Ok x) new =
     (says ≡ Ok (view x)) × (new.source.left ≡ drop n old.source.left) × (new.reads ≡ old.reads + k)
 AnswersExactly view says n k old (Err e) new = IsTrue (of_layout e) →
     (says ≡ Err e) × (new.source.left ≡ drop n old.source.left) × (new.reads ≡ old.reads + k)
 
--- the parts of a frame that a call answers: the bytes of the body, and the metadata
+-- the parts of a frame that a call returns: the bytes of the body, and the metadata
 abbrev pub answered_parts : ParseBufCursor × MetadataValue → FrameParts
 answered_parts pair = record { metadata = pair.1; body = cursor_left pair.0 }
 
--- how a frame falls apart behind its header; exactly its body and its sample id are taken
+-- how a frame is split after its header; exactly its body and its sample id are taken
 abbrev pub SplitsBehind : perf_event_header → Says (ParseBufCursor × MetadataValue)
 SplitsBehind h old seen new =
     let c = old.settings in let o = old.order in let bytes = old.source.left in
     AnswersExactly answered_parts (split_behind c o h bytes) (body_length h) (split_reads c o h bytes)
     old seen new
 
--- what a frame says behind its header; exactly its body and its sample id are taken
+-- the record in a frame after its header; exactly its body and its sample id are taken
 abbrev pub SaysBehind : perf_event_header → Says Record
 SaysBehind h old seen new =
     let c = old.settings in let o = old.order in let bytes = old.source.left in
     AnswersExactly record_value (answer_behind c o h bytes) (body_length h) (reads_behind c o h bytes)
     old seen new
 
--- What the reading of a frame means, with its header: what its bytes say, and exactly they are
--- taken. Where it is refused otherwise, but by a fault, a beginning of them is taken. Of a whole
--- buffer no byte is copied, and memory is taken for a list or a box alone.
+-- What reading a frame with its header does: it returns what the frame's bytes contain, and takes
+-- exactly them. If it is refused in another way, except by a fault, a prefix of them is taken. No
+-- byte of a whole buffer is copied, and memory is needed only for a list or a box.
 abbrev pub SaysFrame : Says Record
 SaysFrame old seen new =
     let c = old.settings in let o = old.order in let bytes = old.source.left in
@@ -168,14 +167,14 @@ SaysFrame old seen new =
     IfOk seen IsBorrowed
     × (wants_memory (header_of o bytes).type_ ≡ false → TakesNoMemory seen))
 
--- What the header of a frame refuses, before memory is needed for anything: fewer than 8 bytes are
--- `Eof`, and a size that does not count the header is `InvalidRecord`. Only a fault comes before that.
+-- What the header of a frame refuses, before memory is needed: fewer than 8 bytes are `Eof`, and a
+-- size that does not count the header is `InvalidRecord`. Only a fault comes before that.
 abbrev pub RefusesHeader : {X : Type 0} → Order → List ℕ → Result X ErrorKind → Type 0
 RefusesHeader o bytes seen = is_external (refused seen) ≡ false →
     (length bytes < 8 → seen ≡ Err Eof)
     × (8 ≤ length bytes → (header_of o bytes).size < 8 → seen ≡ Err InvalidRecord)
 
--- what the reading of a record means: what its frame says, and what the header of that refuses
+-- what reading a record does: it returns what its frame contains, or what the header refuses
 abbrev pub SaysRecord : Says Record
 SaysRecord old seen new = SaysFrame old seen new × RefusesHeader old.order old.source.left seen
 
@@ -185,8 +184,8 @@ LeavesAllOrBehind old n new = (new.left ≡ old.left) ⊎ (new.left ≡ drop n o
 
 -- ---- how a frame's body is cut off
 
--- What a refused cut leaves: all where the header's size is too small, nothing where bytes are
--- lacking, and else what stood there but for a beginning of the body.
+-- What a refused cut leaves: everything if the header's size is too small, nothing if bytes are
+-- missing, and otherwise all but a prefix of the body.
 abbrev pub FailsToCut : Source → perf_event_header → ErrorKind → Source → Type 0
 FailsToCut old h Eof new = (8 ≤ h.size) × (length old.left < body_length h) × (new.left ≡ [])
 FailsToCut old h InvalidRecord new = (h.size < 8) × (new.left ≡ old.left)

@@ -1,4 +1,4 @@
--- What stands between a record's header and its sample id, by its type.
+-- The contents between a record's header and its sample id, by its type.
 use Rattle.std.specs.Prelude.{ℕ, Bool, false, Option, Some, None}
 use Rattle.perf_base.specs.Configuration.{Configuration}
 use Rattle.perf_base.specs.FieldWords.{all_left}
@@ -59,7 +59,7 @@ body_of c ty type.CGroup = mapped cgroup_is cgroup
 body_of c ty type.TextPoke = mapped text_poke_is text_poke
 body_of c ty type.AuxOutputHwId = mapped aux_output_hw_id_is aux_output_hw_id
 
--- the same of a type, or of none
+-- the same for a type, or for none
 abbrev pub body_of_type : Configuration → ℕ → Option RecordType → Parts RecordValue
 body_of_type c ty type = elim type [ Some type ↦ body_of c ty type | None ↦ unread ty ]
 
@@ -67,7 +67,7 @@ body_of_type c ty type = elim type [ Some type ↦ body_of c ty type | None ↦ 
 abbrev pub body : Configuration → ℕ → Parts RecordValue
 body c ty = body_of_type c ty (type_of ty)
 
--- a type whose records take memory, also where a whole buffer lends its bytes
+-- a type whose records need memory, even if a whole buffer lends its bytes
 abbrev pub wants_memory_of_type : Option RecordType → Bool
 wants_memory_of_type type = elim type [ Some type ↦ type_wants_memory type | None ↦ false ]
 

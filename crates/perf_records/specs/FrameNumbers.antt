@@ -1,5 +1,5 @@
--- Single numbers of a frame, by the places where they stand: a SAMPLE has them in front, and another
--- frame of the kernel's in its sample id, each in a field of eight bytes.
+-- Single numbers of a frame, by their offsets: a SAMPLE has them at its front, and another frame of
+-- the kernel's in its sample id, each in a field of eight bytes.
 use Rattle.std.specs.Prelude.{ℕ, ◌+◌, ◌-◌, ◌*◌, List, [], ◌∷◌, length, Option, Some, None, option_map}
 use Rattle.std.specs.Prelude.{◌==◌, nat_le, nat_lt, if◌then◌else◌, ◌≡◌, Ok, IfOk, MatchResult, true, false}
 use Rattle.perf_base.specs.Configuration.{Configuration}
@@ -17,11 +17,11 @@ use Rattle.perf_words.specs.Bits.{has_bit}
 
 -- ---- places
 
--- the eight bytes from a place on, None where they are not all there
+-- the eight bytes at an offset, None if there are fewer
 abbrev pub eight_at : List ℕ → ℕ → Option (List ℕ)
 eight_at bytes place = if nat_le (place + 8) (length bytes) then Some (slice bytes place 8) else None
 
--- how many bytes the fields of these flags have: eight for each that the sample type has
+-- how many bytes the fields of these flags take: eight for each that the sample type has
 abbrev pub bytes_of : (sample_type : ℕ) → (flags : List ℕ) → ℕ
 bytes_of t [] = 0
 bytes_of t (flag ∷ flags) = 8 * one_if (has_bit t flag) + bytes_of t flags
@@ -32,20 +32,20 @@ pub record NumberField : Type 0 where
   pub in_sample : List ℕ
   pub in_id : List ℕ
 
--- PERF_SAMPLE_TIME, in a SAMPLE behind IDENTIFIER, IP and TID, in a sample id behind TID
+-- PERF_SAMPLE_TIME, in a SAMPLE after IDENTIFIER, IP and TID, in a sample id after TID
 abbrev pub time_field : NumberField
 time_field = record { flag = 2; in_sample = 16 ∷ 0 ∷ 1 ∷ []; in_id = 1 ∷ [] }
 
--- PERF_SAMPLE_TID, in a SAMPLE behind IDENTIFIER and IP, in a sample id the first
+-- PERF_SAMPLE_TID, in a SAMPLE after IDENTIFIER and IP, in a sample id the first
 abbrev pub task_field : NumberField
 task_field = record { flag = 1; in_sample = 16 ∷ 0 ∷ []; in_id = [] }
 
--- PERF_SAMPLE_ID, in a SAMPLE behind IDENTIFIER, IP, TID, TIME and ADDR, in a sample id behind TID
+-- PERF_SAMPLE_ID, in a SAMPLE after IDENTIFIER, IP, TID, TIME and ADDR, in a sample id after TID
 -- and TIME
 abbrev pub id_field : NumberField
 id_field = record { flag = 6; in_sample = 16 ∷ 0 ∷ 1 ∷ 2 ∷ 3 ∷ []; in_id = 1 ∷ 2 ∷ [] }
 
--- PERF_SAMPLE_CPU, in a SAMPLE behind these, ID and STREAM_ID, in a sample id behind TID, TIME, ID
+-- PERF_SAMPLE_CPU, in a SAMPLE after these, ID and STREAM_ID, in a sample id after TID, TIME, ID
 -- and STREAM_ID
 abbrev pub cpu_field : NumberField
 cpu_field = record {
@@ -54,16 +54,16 @@ cpu_field = record {
   in_id = 1 ∷ 2 ∷ 6 ∷ 9 ∷ [];
 }
 
--- PERF_SAMPLE_IDENTIFIER, in a SAMPLE the first, in a sample id the last, behind TID, TIME, ID,
+-- PERF_SAMPLE_IDENTIFIER, in a SAMPLE the first, in a sample id the last, after TID, TIME, ID,
 -- STREAM_ID and CPU
 abbrev pub identifier_field : NumberField
 identifier_field = record { flag = 16; in_sample = []; in_id = 1 ∷ 2 ∷ 6 ∷ 9 ∷ 7 ∷ [] }
 
--- the field that says the event's id: ID where the sample type has that, and else IDENTIFIER
+-- the field with the event's id: ID if the sample type has that, or else IDENTIFIER
 abbrev pub event_field : (sample_type : ℕ) → NumberField
 event_field t = if has_bit t 6 then id_field else identifier_field
 
--- where a field stands under a sample type
+-- the place of a field under a sample type
 abbrev pub place_of : (sample_type : ℕ) → NumberField → Place
 place_of t field = record {
   present = has_bit t field.flag;
@@ -71,9 +71,9 @@ place_of t field = record {
   in_id = bytes_of t field.in_id;
 }
 
--- The eight bytes of a field, of a frame whose header is followed by these bytes: None where the
--- sample type has no such flag, where a SAMPLE ends before them, or where another frame has no
--- sample id or no room for it.
+-- The eight bytes of a field, in a frame with these bytes after its header: None if the sample type
+-- does not have its flag, if a SAMPLE ends before them, or if another frame has no sample id or is
+-- too short for it.
 abbrev pub bytes_at : Configuration → Place → perf_event_header → List ℕ → Option (List ℕ)
 bytes_at c place h bytes =
     if place.present
@@ -113,25 +113,25 @@ tid_in c o h bytes = option_map (second_half o) (field_bytes c task_field h byte
 abbrev pub cpu_in : Configuration → Order → perf_event_header → List ℕ → Option ℕ
 cpu_in c o h bytes = option_map (first_half o) (field_bytes c cpu_field h bytes)
 
--- of which event: what ID says where the sample type has that, and else IDENTIFIER
+-- of which event: the value of ID if the sample type has that, or else of IDENTIFIER
 abbrev pub id_in : Configuration → Order → perf_event_header → List ℕ → Option ℕ
 id_in c o h bytes = option_map o.eight (field_bytes c (event_field c.sample_type) h bytes)
 
--- The bytes of IDENTIFIER where the sample type has it: the first eight bytes of a SAMPLE, and the last
--- of another frame of the kernel's, whose types are below 64. None where there are fewer.
+-- The bytes of IDENTIFIER if the sample type has it: the first eight bytes of a SAMPLE, and the
+-- last of another frame of the kernel's, whose types are below 64. None if there are fewer.
 abbrev pub identifier_bytes : (type : ℕ) → List ℕ → Option (List ℕ)
 identifier_bytes type bytes =
     if type == 9 then eight_at bytes 0
     else (if nat_lt type 64 then eight_at bytes (length bytes - 8) else None)
 
--- what it says
+-- its value
 abbrev pub identifier_in : Order → perf_event_header → List ℕ → Option ℕ
 identifier_in o h bytes = option_map o.eight (identifier_bytes h.type_ bytes)
 
--- ---- what the whole reading has
+-- ---- the same number in the parsed record
 
--- It is the number that the whole reading of a frame has: of a SAMPLE one of the sample, where that
--- is not refused; of another frame one of the sample id, and None where there is no room for that.
+-- It is the number in the parsed frame: of a SAMPLE that of the sample, if it is not refused; of
+-- another frame that of the sample id, and None if the frame is too short for it.
 abbrev pub IsRead : (of_sample : SampleValue → Option ℕ) → (of_id : SampleIdValue → Option ℕ) →
     Configuration → Order → perf_event_header → List ℕ → Option ℕ → Type 0
 IsRead of_sample of_id c o h bytes n =
@@ -140,9 +140,9 @@ IsRead of_sample of_id c o h bytes n =
     × ((h.type_ ≡ 9 → ⊥) → MatchResult (split_behind c o h bytes)
     (λ parts. n ≡ of_id parts.metadata.sample_id) (λ e. n ≡ None))
 
--- It is what IDENTIFIER says, under every configuration whose sample type has that: of a SAMPLE the
--- field of the sample, where that is not refused. Of another frame that ends with a sample id it
--- stands where that has IDENTIFIER, and is its id where the sample type has no ID.
+-- It is the value of IDENTIFIER, under every configuration whose sample type has that: of a SAMPLE
+-- the field of the sample, if it is not refused. Of another frame that ends with a sample id it is
+-- the IDENTIFIER in that, which is also its id if the sample type has no ID.
 abbrev pub IsIdentifierRead : Order → perf_event_header → List ℕ → Option ℕ → Type 0
 IsIdentifierRead o h bytes n = (c : Configuration) → has_bit c.sample_type 16 ≡ true →
     (h.type_ ≡ 9 → (s : SampleValue) → answer_behind c o h bytes ≡ Ok (sample_is s) →

@@ -1,5 +1,5 @@
--- What the readings of one whole frame return: by its header, the bytes after that, and whether they
--- last as long as the input.
+-- What the methods that read one whole frame return: by its header, the bytes after it, and whether
+-- they live as long as the input.
 use Rattle.std.specs.Prelude.{Result, Ok, Err, ◌≡◌, ◌≢◌, ◌<◌, List, ℕ, Bool, true, false, IsTrue}
 use Rattle.perf_base.specs.Configuration.{Configuration}
 use Rattle.perf_base.specs.Errors.{kind_of}
@@ -18,20 +18,20 @@ use Rattle.perf_records.specs.Records.{RecordValue}
 use Rattle.perf_records.specs.Visits.{Event, event, IsSampleIn}
 use Rattle.perf_sample_types.specs.declared.sample.Sample.{Sample}
 
--- what is known of a frame beside its record, where it falls apart
+-- the metadata of a frame, if it can be split
 abbrev pub metadata_in : Result FrameParts ErrorKind → Result MetadataValue ErrorKind
 metadata_in (Ok parts) = Ok parts.metadata
 metadata_in (Err e) = Err e
 
--- a frame has no room for its sample id
+-- a frame is too short for its sample id
 abbrev pub HasNoRoom : perf_event_header → Configuration → Type 0
 HasNoRoom h c = body_length h < id_length c h.type_
 
--- What a reading of a whole frame returns. A value belongs to the event of the frame, which is what the
--- frame says and its metadata, with nothing copied if the bytes last. An error is of the kind that the
--- frame is refused with, or memory was refused. A frame without room for its sample id has the error
--- of that. No error is a buffer's fault, and if the bytes last, memory is needed only for a type that
--- wants it.
+-- What reading a whole frame returns. A value belongs to the event of the frame, which is its
+-- record and its metadata, with nothing copied if the bytes live as long as the input. An error is
+-- of the kind that the frame is refused with, or out of memory. A frame too short for its sample id
+-- has the error for that. No error is a buffer's fault, and if the bytes live as long as the input,
+-- memory is needed only for a type that takes it.
 abbrev pub FrameGives : {O : Type 0} → (Event → O → Type 0) → perf_event_header → Configuration →
     Order → List ℕ → Bool → Result O ParseError → Type 0
 FrameGives gives h c o bytes lasting (Ok output) =
@@ -45,6 +45,6 @@ FrameGives gives h c o bytes lasting (Err e) =
     × (kind_of e ≢ External)
     × (IsTrue lasting → wants_memory h.type_ ≡ false → kind_of e ≢ OutOfMemory)
 
--- it is said that there is a sample, and that is the event's
+-- true was returned, and the place contains the event's sample
 abbrev pub PutsSample : Event → Bool → Sample → Type 0
 PutsSample seen put sample = (put ≡ true) × IsSampleIn seen sample

@@ -1,4 +1,4 @@
--- Frames: how a stream of records falls apart, each record by the size in its header (`struct
+-- Frames: how a stream of records is divided, each record by the size in its header (`struct
 -- perf_event_header`). A list of bytes is cut into the bytes of its frames. Nothing here has a
 -- position or a state.
 use Rattle.std.specs.Prelude.{ℕ, zero, suc, List, [], ◌∷◌, length, take, drop, nat_lt}
@@ -7,7 +7,7 @@ use Rattle.perf_base.specs.Order.{Order}
 pub use Rattle.perf_reader.specs.Headers.{frame_length}
 
 -- The bytes of the first n frames. A frame begins wherever eight bytes are left, and the next one
--- begins at its end. The last one may be unfinished: it then has fewer bytes than its header says.
+-- begins at its end. The last one may be unfinished: its header then states a size beyond its end.
 abbrev pub first_frames : Order → ℕ → List ℕ → List (List ℕ)
 first_frames o zero bytes = []
 first_frames o (suc n) bytes =
@@ -18,7 +18,7 @@ first_frames o (suc n) bytes =
 abbrev pub frames : Order → List ℕ → List (List ℕ)
 frames o bytes = first_frames o (length bytes) bytes
 
--- the bytes behind the first n frames
+-- the bytes after the first n frames
 abbrev pub behind_frames : Order → ℕ → List ℕ → List ℕ
 behind_frames o zero bytes = bytes
 behind_frames o (suc n) bytes = behind_frames o n (drop (frame_length o bytes) bytes)
@@ -27,11 +27,11 @@ behind_frames o (suc n) bytes = behind_frames o n (drop (frame_length o bytes) b
 pub data StreamEnd : Type 0 where
   done cut_header : StreamEnd
 
--- the end, by how many bytes there are behind the last frame
+-- the end, by how many bytes there are after the last frame
 abbrev pub end_with : ℕ → StreamEnd
 end_with zero = done
 end_with (suc n) = cut_header
 
--- how a stream ends, by what is left behind its last frame
+-- how a stream ends, by what is left after its last frame
 abbrev pub stream_end : Order → List ℕ → StreamEnd
 stream_end o bytes = end_with (length (behind_frames o (length (frames o bytes)) bytes))

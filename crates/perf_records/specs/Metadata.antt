@@ -1,5 +1,5 @@
--- What is known of every record beside what it says itself: `struct perf_event_header` in front of
--- it, and the sample id behind it, as perf_event.h lays out records under `sample_id_all`.
+-- The metadata of a record: from the `struct perf_event_header` before it and the sample id after
+-- it, as perf_event.h lays out records under `sample_id_all`.
 use Rattle.std.specs.Prelude.{ℕ, Bool, ◌==◌, ◌&&◌, not, nat_lt, if◌then◌else◌}
 use Rattle.perf_base.specs.Configuration.{Configuration}
 use Rattle.perf_base.specs.Layout.{Parts, done}
@@ -11,8 +11,8 @@ pub record MetadataValue : Type 0 where
   pub misc : ℕ
   pub sample_id : SampleIdValue
 
--- The types whose records end with a sample id: the kernel's own, below 64, but SAMPLE, which has
--- its fields in front.
+-- The types whose records end with a sample id: those of the kernel, below 64, except SAMPLE, which
+-- has its fields at the front.
 abbrev pub carries_sample_id : ℕ → Bool
 carries_sample_id ty = nat_lt ty 64 && not (ty == 9)
 

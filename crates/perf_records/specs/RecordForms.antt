@@ -12,7 +12,7 @@ use Rattle.perf_types.specs.TextPoke.{text_poke_form}
 use Rattle.perf_records.specs.declared.record.Record.{Record}
 use Rattle.perf_records.specs.declared.record.Record.TheVariants as record_of
 
--- whether each list of it is borrowed; the box of a sample counts as one that is owned, in front
+-- whether each list of it is borrowed; the box of a sample counts as an owned one, and comes first
 abbrev pub record_form : Record → List Bool
 record_form (record_of.Mmap r) = mmap_form r
 record_form (record_of.Lost r) = []

@@ -30,7 +30,7 @@ type_of ty =
     else (if ty == 21 then Some type.AuxOutputHwId
     else None))))))))))))))))))))
 
--- Records of it take memory, also where a whole buffer lends its bytes: for a list, or for a box.
+-- Records of this type need memory, even over a whole buffer: for a list, or for a box.
 abbrev pub type_wants_memory : RecordType → Bool
 type_wants_memory type.Sample = true
 type_wants_memory type.Namespaces = true

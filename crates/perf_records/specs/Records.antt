@@ -1,4 +1,4 @@
--- What a record is in plain numbers and lists.
+-- The contents of a record in plain numbers and lists.
 use Rattle.std.specs.Prelude.{ℕ, List, IsTrue, ◌≡◌}
 use Rattle.perf_base.specs.Cow.{cow_items, is_borrowed}
 use Rattle.perf_types.specs.declared.lost.Lost.{Lost}
@@ -35,7 +35,7 @@ use Rattle.perf_types.specs.TextPoke.{TextPokeValue, IsBorrowedTextPoke}
 use Rattle.perf_records.specs.declared.record.Record.{Record}
 use Rattle.perf_records.specs.declared.record.Record.TheVariants as record_of
 
--- A record's value, wherever its bytes lie.
+-- A record's value, wherever its bytes are stored.
 pub data RecordValue : Type 0 where
   mmap_is : MmapValue → RecordValue
   lost_is : Lost → RecordValue

@@ -1,4 +1,4 @@
--- Frames that are read where their bytes are.
+-- Frames that are read in place.
 use Rattle.std.specs.Prelude.{Result, ◌≡◌, ℕ, ◌+◌, ◌≤◌, Bool, true, false, List, IfOk, None}
 use Rattle.std.specs.Prelude.{drop, IsTrue}
 use Rattle.perf_base.specs.Configuration.{Configuration}
@@ -12,7 +12,7 @@ use Rattle.perf_records.specs.Answers.{body_length}
 use Rattle.perf_records.specs.Bodies.{wants_memory}
 use Rattle.perf_records.specs.Visits.{Event, VisitsBehind, BelongsTo}
 
--- a moment of a reader of these bytes, which last or not
+-- the state of a reader of these bytes, which live as long as the input or not
 abbrev pub moment : Configuration → Order → List ℕ → Bool → ℕ → Meaning
 moment c o bytes lasting reads = record {
   settings = c;
@@ -21,7 +21,7 @@ moment c o bytes lasting reads = record {
   reads = reads;
 }
 
--- The visit of the frame whose bytes after its header are these, in k reads.
+-- The visit of the frame with these bytes after its header, in k reads.
 abbrev pub VisitsBytes : {O : Type 0} → (Event → O → Type 0) → perf_event_header →
     Configuration → Order → List ℕ → Bool → Result O Refusal → (k : ℕ) → Type 0
 VisitsBytes gives h c o bytes lasting result k =

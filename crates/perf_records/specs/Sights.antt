@@ -1,4 +1,4 @@
--- What a run hands out where a frame begins.
+-- What a run passes on at the beginning of a frame.
 use Rattle.std.specs.Prelude.{◌≡◌, ℕ, IsTrue, List, Bool, Result, Ok, Err, length, take, drop, nat_lt, if◌then◌else◌}
 use Rattle.perf_base.specs.Header.{header_of}
 use Rattle.perf_base.specs.Order.{Order}
@@ -11,19 +11,19 @@ use Rattle.perf_records.specs.Answers.{body_length}
 use Rattle.perf_records.specs.declared.frame.Frame.{Frame}
 use Rattle.perf_records.specs.declared.frame_handler.BadFrame.{BadFrame}
 
--- What stands where a frame begins: a whole frame, by its header, the bytes after that and whether
--- they last as long as the input; or a header that none follows, and why.
+-- What is found at the beginning of a frame: a whole frame, as its header, the bytes after it and
+-- whether they live as long as the input; or a header without a whole frame after it, and why.
 pub data Sight : Type 0 where
   whole : perf_event_header → List ℕ → Bool → Sight
   bad : perf_event_header → ErrorKind → Sight
 
--- what a handler is handed
+-- what a handler gets
 abbrev pub sight_of : Result Frame BadFrame → Sight
 sight_of (Ok f) = whole f.header (chunk_bytes f.rest) (lasts f.rest)
 sight_of (Err b) = bad b.header (refusal_kind b.refusal)
 
--- What stands there by the header and all bytes after it, which last or not: a size below the header's
--- own is refused, and so is a frame that is unfinished.
+-- What is found there, by the header and all bytes after it, which live as long as the input or
+-- not: a size below the header's own is refused, and so is a frame that is unfinished.
 abbrev pub sight_after : perf_event_header → List ℕ → Bool → Sight
 sight_after h bytes lasting =
     if nat_lt h.size 8 then bad h InvalidRecord
@@ -34,9 +34,9 @@ sight_after h bytes lasting =
 abbrev pub sight_in : Order → List ℕ → Bool → Sight
 sight_in o frame lasting = sight_after (header_of o frame) (drop 8 frame) lasting
 
--- The handler was handed what stands after a header, and exactly that was taken, or all that was left
--- where that is less. Where the buffer does not tell its bytes, it was handed some. Of a whole buffer
--- they last as long as the input.
+-- The handler got what comes after a header, and exactly that was taken, or all that was left if
+-- there is less. If the buffer's bytes are not known, it got some bytes. From a whole buffer they
+-- live as long as the input.
 abbrev pub HandsAfter : {S : Type 0} → (S → Sight → Bool → S → Type 0) → perf_event_header → Source → S →
     Bool → Source → S → Type 0
 HandsAfter gets h old was go new now =

@@ -33,8 +33,8 @@ use Rattle.perf_types.specs.declared.text_poke.TextPoke.{TextPoke}
 
 -- ---- what is visited
 
--- What a visitor sees of a record: its value, whether none of its byte strings was copied, and what
--- is known beside it.
+-- What a visitor sees of a record: its value, whether none of its byte strings was copied, and its
+-- metadata.
 pub record Event : Type 0 where
   pub value : RecordValue
   pub lent : Bool
@@ -55,7 +55,7 @@ is_lent_sample s =
     && (elim s.state.stack_user [ Some stack ↦ is_borrowed stack.0 | None ↦ true ]
     && elim s.memory.aux [ Some aux ↦ is_borrowed aux.0 | None ↦ true ])
 
--- it is a sample, which a record holds in a box
+-- it is a sample, which a record stores in a box
 abbrev pub IsSample : RecordValue → Type 0
 IsSample (sample_is s) = Unit {0}
 IsSample _ = ⊥
@@ -66,7 +66,7 @@ IsSample _ = ⊥
 abbrev pub IsRecordOf : Event → Record → Type 0
 IsRecordOf seen r = (record_value r ≡ seen.value) × (IsTrue seen.lent → IsBorrowed r)
 
--- The record of the event, or there was no memory for the box of a sample. It is opened only where a
+-- The record of the event, or there was no memory for the box of a sample. It is opened only when a
 -- proof asks for it.
 unfoldable pub GivesRecord : Event → Result Record ErrorKind → Type 0
 GivesRecord seen (Ok r) = IsRecordOf seen r
@@ -80,19 +80,19 @@ IsSampleIn seen s = (sample_is (sample_value s) ≡ seen.value) × (IsTrue seen.
 abbrev pub IsSampleOf : Event → Box Sample Global → Type 0
 IsSampleOf seen held = IsSampleIn seen held.value
 
--- what a record is answered by belongs to each event that it is the record of
+-- what is returned for a record belongs to each event that it is the record of
 abbrev pub MakesRecord : {O : Type 0} → (Event → O → Type 0) → Record → O → Type 0
 MakesRecord gives r output =
     (seen : Event) → record_value r ≡ seen.value → (IsTrue seen.lent → IsBorrowed r) →
     gives seen output
 
--- what answers a sample that has no box belongs to its event, whichever that is
+-- what is returned for a sample without a box belongs to its event, whichever that is
 abbrev pub MakesNoSample : {O : Type 0} → (Event → O → Type 0) → O → Type 0
 MakesNoSample gives output = (seen : Event) → IsSample seen.value → gives seen output
 
--- ---- what a visitor gives that leaves records out
+-- ---- outputs of a visitor that leaves records out
 
--- the record of the same mapping without which file it is, of MMAP2, and else the record itself
+-- for MMAP2 the same mapping without the file's identity, and otherwise the record itself
 abbrev pub mapping_in : RecordValue → RecordValue
 mapping_in (mmap2_is m) = mmap_is (mapping_of m)
 mapping_in v = v
@@ -105,10 +105,10 @@ GivesOrLeavesOut gives left_out seen output =
     ⊎ (gives (event (mapping_in seen.value) seen.lent seen.metadata) output
     ⊎ left_out seen.metadata output)
 
--- ---- what a visit of a body says
+-- ---- what a visit of a body does
 
--- The output belongs to what the parts say, with that metadata. Of a whole buffer nothing is copied,
--- and memory is taken only where the type wants it.
+-- The output belongs to the record that the parts give, with that metadata. Nothing of a whole
+-- buffer is copied, and memory is needed only if the type takes it.
 abbrev pub Visits : {O : Type 0} → (Event → O → Type 0) → MetadataValue →
     (Configuration → Parts RecordValue) → Bool → Says O
 Visits gives m parts wants old (Ok output) new =
@@ -122,24 +122,24 @@ Visits gives m parts wants old (Err e) new =
     ≡ quit e new.source.left new.reads)
     × (IsTrue old.source.whole → wants ≡ false → e ≢ OutOfMemory)
 
--- the same of a type that is known, or has no table
+-- the same for a known type, or for one that has no table
 abbrev pub VisitsOf : {O : Type 0} → (Event → O → Type 0) → MetadataValue → Option RecordType →
     Says O
 VisitsOf gives m type = Visits gives m (λ c. body_of_type c m.ty type) (wants_memory_of_type type)
 
--- the same of a type
+-- the same for a type
 abbrev pub VisitsType : {O : Type 0} → (Event → O → Type 0) → MetadataValue → RecordType → Says O
 VisitsType gives m type = VisitsOf gives m (Some type)
 
--- the same of all bytes
+-- the same for all bytes
 abbrev pub VisitsUnread : {O : Type 0} → (Event → O → Type 0) → MetadataValue → Says O
 VisitsUnread gives m = VisitsOf gives m None
 
--- the same of the type that the metadata names
+-- the same for the type given by the metadata
 abbrev pub VisitsBody : {O : Type 0} → (Event → O → Type 0) → MetadataValue → Says O
 VisitsBody gives m = VisitsOf gives m (type_of m.ty)
 
--- The visit of all of a body, whose bytes were lent or not: its layout, with the reads that makes.
+-- The visit of all of a body, of borrowed bytes or not: its layout, and the number of reads.
 abbrev pub VisitsAll : {O : Type 0} → (Event → O → Type 0) → MetadataValue → Order →
     Parts RecordValue → List ℕ → Bool → Result O ErrorKind → ℕ → Type 0
 VisitsAll gives m o p bytes from (Ok output) k =
@@ -150,11 +150,11 @@ VisitsAll gives m o p bytes from (Err e) k =
     (IsTrue (of_layout e) → (layout o p bytes ≡ Err e) × (k ≡ layout_reads o p bytes))
     × (IsTrue from → wants_memory m.ty ≡ false → e ≢ OutOfMemory)
 
--- ---- what a visit of a frame says
+-- ---- what a visit of a frame does
 
--- The output belongs to the record that a definition says and to its metadata, and of a whole buffer
--- nothing was copied; or the refusal is the definition's. n bytes are taken, or all that were left
--- where that is less, and k reads are made.
+-- The output belongs to the record that a definition gives and to its metadata, and nothing of a
+-- whole buffer was copied; or the refusal is the definition's. n bytes are taken, or all that are
+-- left if there are fewer, and k reads are made.
 abbrev pub VisitsExactly : {O : Type 0} → (Event → O → Type 0) → Result FrameParts ErrorKind →
     Result RecordValue ErrorKind → (n k : ℕ) → Says O
 VisitsExactly gives split says n k old (Ok output) new =
@@ -165,15 +165,15 @@ VisitsExactly gives split says n k old (Ok output) new =
 VisitsExactly gives split says n k old (Err e) new =
     AnswersExactly (λ (v : RecordValue). v) says n k old (Err e) new
 
--- what a frame says behind its header; exactly its body and its sample id are taken
+-- the visit of a frame after its header; exactly its body and its sample id are taken
 abbrev pub VisitsBehind : {O : Type 0} → (Event → O → Type 0) → perf_event_header → Says O
 VisitsBehind gives h old seen new =
     let c = old.settings in let o = old.order in let bytes = old.source.left in
     VisitsExactly gives (split_behind c o h bytes) (answer_behind c o h bytes) (body_length h)
     (reads_behind c o h bytes) old seen new
 
--- The same of a frame with its header. Where it is refused otherwise, but by a fault, a beginning of
--- the frame is taken. Of a whole buffer memory is taken for a list or a box alone.
+-- The same of a frame with its header. If it is refused in another way, except by a fault, a prefix
+-- of the frame is taken. Memory over a whole buffer is needed only for a list or a box.
 abbrev pub VisitsFrame : {O : Type 0} → (Event → O → Type 0) → Says O
 VisitsFrame gives old seen new =
     let c = old.settings in let o = old.order in let bytes = old.source.left in
@@ -184,8 +184,8 @@ VisitsFrame gives old seen new =
     × (IsTrue old.source.whole → wants_memory (header_of o bytes).type_ ≡ false →
     TakesNoMemory seen)
 
--- What is known of an output also where a buffer does not tell its bytes: the type and the misc of
--- its event are those of the header, and of a whole buffer nothing was copied.
+-- What is known of an output even if a buffer's bytes are not known: the type and the misc of its
+-- event are those of the header, and nothing of a whole buffer was copied.
 abbrev pub BelongsTo : {O : Type 0} → (Event → O → Type 0) → perf_event_header → Bool → O → Type 0
 BelongsTo gives h whole output =
     (seen : Event) × gives seen output

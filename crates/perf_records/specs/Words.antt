@@ -1,4 +1,4 @@
--- The words that contracts of records of every type are written in.
+-- The names that contracts of records of every type are written in.
 pub use Rattle.perf_base.specs.Configured.{configuration_of, endian_of}
 pub use Rattle.perf_base.specs.Cow.{cow_items, is_borrowed}
 pub use Rattle.perf_base.specs.Layout.{value}

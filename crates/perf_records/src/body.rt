@@ -1,7 +1,7 @@
-//! Visits of the record of a type, out of the bytes between header and sample id.
+//! Visits the record of a type, read from the bytes between header and sample id.
 //!
-//! Each type is read in a function of its own, so that a call has no more on its stack than that
-//! type wants.
+//! Each type is read in a function of its own, so that a call uses no more stack than that type
+//! needs.
 #![tactic(auto, using(perf_reader::proofs::Paying::chain))]
 
 ghost use Rattle.perf_records.specs.Words.{Call, VisitsBody, VisitsType, VisitsUnread, kinds};
@@ -33,7 +33,7 @@ use perf_types::switch_cpu_wide::SwitchCpuWide;
 use perf_types::text_poke::TextPoke;
 use perf_types::throttle::Throttle;
 
-// Reads a type, and hands it to its call.
+// Reads a record of a type, and passes it to the visitor's method for that type.
 macro_rules! visited {
     ($reader:ident, $metadata:ident, $visitor:ident, $type:ty => $visit:ident) => {
         match $reader.read::<$type>() {
@@ -139,7 +139,7 @@ fn visit_read<'p, I: Input<'p>, E: Endian, V: Visitor<'p>>(
     visited!(reader, metadata, visitor, Read => visit_read)
 }
 
-// A sample is read where it stays, as it is large.
+// A sample is read in place, as it is large.
 #[inline(never)]
 fn visit_sample<'p, I: Input<'p>, E: Endian, V: Visitor<'p>>(
     reader: &mut Reader<I, E>,
@@ -291,7 +291,7 @@ fn visit_aux_output_hw_id<'p, I: Input<'p>, E: Endian, V: Visitor<'p>>(
     visited!(reader, metadata, visitor, AuxOutputHwId => visit_aux_output_hw_id)
 }
 
-// All bytes, of a type that has no table.
+// All bytes, for a type that has no table.
 #[inline(never)]
 fn visit_unread<'p, I: Input<'p>, E: Endian, V: Visitor<'p>>(
     reader: &mut Reader<I, E>,
@@ -307,8 +307,8 @@ fn visit_unread<'p, I: Input<'p>, E: Endian, V: Visitor<'p>>(
     }
 }
 
-/// Visits the record of the type that the metadata names, out of the bytes of its body. Those that
-/// are left behind the record do not matter. A body that is refused is not visited.
+/// Visits the record in the bytes of a body, of the type given by the metadata. Bytes left after
+/// the record are ignored. A body that is refused is not visited.
 #[inline]
 pub fn visit_body<'p, I: Input<'p>, E: Endian, V: Visitor<'p>>(
     reader: &mut Reader<I, E>,

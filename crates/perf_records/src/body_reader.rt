@@ -1,4 +1,4 @@
-//! What is made of the body of a frame.
+//! What is made from the body of a frame.
 
 ghost use Rattle.std.specs.Prelude.{◌≡◌, ◌≤◌, ◌+◌, ℕ, ⊤, false, length, IsTrue};
 ghost use Rattle.perf_records.specs.Words.{Call, VisitsBody, VisitsAll, IsRecordOf, IsSampleOf, IsSampleIn};
@@ -26,22 +26,22 @@ use perf_sample_types::sample_boxed::read_boxed_sample;
 use std::alloc::Global;
 use std::boxed::Box;
 
-/// What is made of a body, and of a state of the caller's.
+/// What is made from a body, together with a state of the caller's.
 pub trait OfBody<'p, S>: Drop {
-    /// What is made of it.
+    /// What is made from it.
     type Output;
 
-    // the types of the records that it is made of
+    // the types of records that it reads
     ghost reads: { ℕ → Type 0 };
 
     // which outputs and new states belong to an event and a state
     ghost gives: { Event → S → Self.Output → S → Type 0 };
 }
 
-/// What is made of a body, whether its bytes last as long as the input or not.
+/// What is made from a body, whether or not its bytes live as long as the input.
 pub trait BodyReader<'p, S>: OfBody<'p, S> {
-    /// What is made of the body whose bytes these are, and how many elementary reads that took. Bytes
-    /// after the record do not matter.
+    /// Makes the output from the body with these bytes, and returns it with the number of
+    /// elementary reads made. Bytes after the record are ignored.
     fn read<E: Endian>(
         self,
         alloc: Global,
@@ -61,7 +61,7 @@ pub trait BodyReader<'p, S>: OfBody<'p, S> {
 
 /// The same, for one kind of input.
 pub trait ReadBody<'p, S, I: Input<'p>>: OfBody<'p, S> {
-    /// What is made of the body that the reader's input has.
+    /// Makes the output from the body in the reader's input.
     fn read_body<E: Endian>(
         self,
         reader: &mut Reader<I, E>,
@@ -74,7 +74,7 @@ pub trait ReadBody<'p, S, I: Input<'p>>: OfBody<'p, S> {
             reader.old (kinds result) reader.new };
 }
 
-// What is made of a body whose bytes these are, and how many reads that took.
+// Makes the output from the body with these bytes, and returns it with the number of reads made.
 #[inline]
 fn read_from<'p, S, I: Input<'p> + Drop, E: Endian, M: ReadBody<'p, S, I>>(
     alloc: Global,
@@ -99,7 +99,7 @@ fn read_from<'p, S, I: Input<'p> + Drop, E: Endian, M: ReadBody<'p, S, I>>(
     (output, reader.into_reads())
 }
 
-// The same of bytes that last as long as the input, or do not: what is kept of them is borrowed or
+// The same of bytes that live as long as the input, or do not: what is kept of them is borrowed or
 // copied.
 macro_rules! read_either {
     ($alloc:ident, $bytes:ident, $config:ident, $metadata:ident, $made:ident, $state:ident) => {
@@ -155,8 +155,8 @@ impl<'p, I: Input<'p>, V: Visitor<'p>> ReadBody<'p, (), I> for ByVisitor<V> {
     }
 }
 
-/// The record of a body. A visit by [`Recording`] makes it, except of a sample, which is large: that
-/// is read where it stays, in its box.
+/// The record of a body. A visit by [`Recording`] makes it, except for a sample, which is large:
+/// that is read in place, in its box.
 #[derive(Drop)]
 pub struct AsRecord;
 
@@ -204,7 +204,7 @@ impl<'p, I: Input<'p>> ReadBody<'p, (), I> for AsRecord {
     }
 }
 
-/// The sample of a body, in its box.
+/// The sample of a body, in a box.
 #[derive(Drop)]
 pub struct AsSample;
 
@@ -245,7 +245,7 @@ impl<'p, I: Input<'p>> ReadBody<'p, (), I> for AsSample {
     }
 }
 
-/// The sample of a body, read into the place of another.
+/// The sample of a body, read into the place of an existing one.
 #[derive(Drop)]
 pub struct IntoSample;
 

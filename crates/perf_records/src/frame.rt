@@ -1,4 +1,4 @@
-//! One whole frame in place.
+//! One whole frame, in place.
 
 ghost use Rattle.std.specs.Prelude.{◌≡◌, ◌≤◌, length, IfErr};
 ghost use Rattle.perf_records.specs.FrameReadings.{HasNoRoom};
@@ -16,8 +16,8 @@ use perf_base::sys::perf_event_header;
 use perf_buffers::parsebuf::ParseBufChunk;
 use std::alloc::Global;
 
-/// One whole frame in place: its header (`struct perf_event_header`), and the bytes after it, which
-/// are as many as the header's size says. They last as long as the input or until the buffer
+/// One whole frame, in place: its header (`struct perf_event_header`) and the bytes after it, as
+/// many as the header's size specifies. They live as long as the input, or until the buffer
 /// advances.
 #[derive(Copy, Clone, Debug)]
 pub struct Frame<'c, 'p> {
@@ -28,7 +28,7 @@ pub struct Frame<'c, 'p> {
 }
 
 impl<'c, 'p> Frame<'c, 'p> {
-    // The frame of that header, and of all bytes after it.
+    // The frame with that header, and with all of these bytes after it.
     #[inline]
     pub(crate) fn new(header: perf_event_header, rest: ParseBufChunk<'c, 'p>) -> Frame<'c, 'p>
         requires sized { 8 ≤ header.size }
@@ -56,8 +56,8 @@ impl<'c, 'p> Frame<'c, 'p> {
         self.rest.as_bytes()
     }
 
-    /// What is made of the frame's body, under a configuration and the frame's own `misc`, and how
-    /// many elementary reads of the bytes after the header that took.
+    /// Makes an output from the frame's body, under a configuration and the frame's own `misc`, and
+    /// returns it with the number of elementary reads made after the header.
     #[inline]
     pub fn read<S, E: Endian, M: BodyReader<'p, S>>(
         self,

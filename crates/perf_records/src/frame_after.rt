@@ -1,4 +1,4 @@
-//! The frame after a header that was read.
+//! The frame after a header that was already read.
 
 ghost use Rattle.std.specs.Prelude.{◌≡◌, ◌≤◌, ◌<◌, ℕ, false, true, drop, length, Err};
 ghost use Rattle.std.specs.Prelude.{IsTrue, IfOk, IfErr, OnErr};
@@ -26,7 +26,7 @@ use perf_reader::read::{Meant, ReadFrom};
 use perf_reader::reader::Reader;
 use std::alloc::Global;
 
-// Reads the body of the frame of that header.
+// Reads the body of the frame with that header.
 #[derive(Drop)]
 struct FrameOf<M> {
     header: perf_event_header,
@@ -55,11 +55,11 @@ impl<'p, S, E: Endian, M: BodyReader<'p, S>> ConfiguredFrameReader<'p, E, S> for
     }
 }
 
-/// What is made of the frame whose header was read. Exactly the frame is taken, also if it is refused;
-/// after a fault, and if memory for the frame is refused, a beginning of it.
+/// Makes an output from the frame whose header was read. Exactly the frame is taken, even if it is
+/// refused; after a fault, or without memory for the frame, only a prefix of it is taken.
 ///
-/// This is the one way from a header to a frame. The rule for its bytes is that of
-/// [`Outer::with_frame`]: in place if they are shown whole, and otherwise assembled.
+/// This is the only way from a header to a frame. Its bytes are obtained by the rule of
+/// [`Outer::with_frame`]: in place if the buffer shows all of them, and otherwise assembled.
 #[inline]
 pub fn read_after<'p, S, B: ParseBuf<'p>, E: Endian, M: BodyReader<'p, S>>(
     reader: &mut Reader<Outer<B>, E>,
@@ -82,9 +82,9 @@ pub fn read_after<'p, S, B: ParseBuf<'p>, E: Endian, M: BodyReader<'p, S>>(
         × (B.source (buffer_of reader.new) ≡ B.source (buffer_of reader.old)) }
     ensures small_why { header.size < 8 → IfErr result (λ e. e ≡ words.SmallHeader) }
 
-    // Memory is taken by the rules of a frame, and by what the body takes. If memory for the frame is
-    // refused, nothing is taken if all room was made first; if it is refused for the body, exactly the
-    // frame is.
+    // Memory is allocated by the rules of a frame, and as the body needs it. If there is no memory
+    // for the frame, nothing is taken if the full capacity is reserved first; if there is none for
+    // the body, exactly the frame is taken.
     ensures nothing { body_length header ≡ 0 → words.wants_memory header.type_ ≡ false →
         words.TakesNoMemory (kinds result) }
     ensures short { words.falls_short (B.hint (buffer_of reader.old)) (body_length header) ≡ true →
@@ -113,7 +113,7 @@ pub fn read_after<'p, S, B: ParseBuf<'p>, E: Endian, M: BodyReader<'p, S>>(
     }
 }
 
-// Hands the frame of that header to a handler.
+// Passes the frame with that header to a handler.
 #[derive(Drop)]
 struct Hand {
     header: perf_event_header,
@@ -141,7 +141,7 @@ impl<'p, E: Endian, H: FrameHandler<'p, E>> ConfiguredFrameReader<'p, E, H> for 
     }
 }
 
-// Whether it is refused because bytes are lacking.
+// Whether it was refused because bytes are missing.
 #[inline]
 fn is_eof(refusal: Refusal) -> bool
     ensures eof { IsTrue result → refusal_kind refusal ≡ ErrorKind.Eof }
@@ -150,8 +150,8 @@ fn is_eof(refusal: Refusal) -> bool
     refusal.kind() == ErrorKind::Eof
 }
 
-/// Hands the frame whose header was read to a handler, and returns whether the run goes on. If the
-/// frame is not whole, the handler is handed that.
+/// Passes the frame whose header was read to a handler, and returns whether the run goes on. If the
+/// frame is not whole, the handler gets a [`BadFrame`].
 #[inline]
 pub fn hand_after<'p, B: ParseBuf<'p>, E: Endian, H: FrameHandler<'p, E>>(
     reader: &mut Reader<Outer<B>, E>,

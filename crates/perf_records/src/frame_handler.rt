@@ -1,4 +1,4 @@
-//! What takes the frames of a run.
+//! Handlers, which take the frames of a run.
 
 ghost use Rattle.std.specs.Prelude.{◌≡◌, Bool};
 ghost use Rattle.perf_base.specs.Configuration.{Configuration};
@@ -14,20 +14,20 @@ use perf_base::error::{ErrorKind, ParseError};
 use perf_base::refusal::{Kept, Refusal};
 use perf_base::sys::perf_event_header;
 
-/// A header that no whole frame follows: its size does not count the header, or there are fewer bytes
-/// than it says.
+/// A header without a whole frame after it: its size does not count the header, or fewer bytes are
+/// left than it specifies.
 #[derive(Copy, Clone, Debug)]
 pub struct BadFrame {
     pub(crate) header: perf_event_header,
     pub(crate) refusal: Refusal,
 }
 
-/// Takes the frames of a run, one after the other.
+/// Takes the frames of a run, one after another.
 pub trait FrameHandler<'p, E: Endian> {
-    // what it becomes by what it is handed under a configuration, and whether the run goes on
+    // its new state after what it gets under a configuration, and whether the run goes on
     ghost gets: { Self → Configuration → Order → Sight → Bool → Self → Type 0 };
 
-    /// Takes a whole frame, or a header that none follows, and returns whether the run goes on. The
+    /// Takes a whole frame, or a header without one, and returns whether the run goes on. The
     /// configuration is that of the run's parser.
     fn frame(&mut self, config: &ParseConfig<E>, frame: Result<Frame<'_, 'p>, BadFrame>) -> bool
         ensures { gets self.old (configuration_of config.now) (E.order (endian_of config.now))
@@ -35,7 +35,7 @@ pub trait FrameHandler<'p, E: Endian> {
 }
 
 impl BadFrame {
-    /// One of that header.
+    /// The bad frame with that header.
     #[inline]
     pub fn new(header: perf_event_header, refusal: Refusal) -> BadFrame
         ensures header { result.header ≡ header }
@@ -53,7 +53,7 @@ impl BadFrame {
     }
 
     /// The kind of its refusal: [`ErrorKind::InvalidRecord`] if the size does not count the header,
-    /// [`ErrorKind::Eof`] if bytes are lacking.
+    /// [`ErrorKind::Eof`] if bytes are missing.
     #[inline]
     pub fn kind(&self) -> ErrorKind
         ensures { result ≡ refusal_kind self.now.refusal }
@@ -61,7 +61,7 @@ impl BadFrame {
         self.refusal.kind()
     }
 
-    /// The error that it is in the answers of a run.
+    /// The error that a run returns for it.
     pub fn error(&self) -> ParseError
         ensures { IsAnswerOf result self.now.refusal }
     {

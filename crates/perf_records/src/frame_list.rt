@@ -1,4 +1,4 @@
-//! The frames of bytes that are all at hand.
+//! The frames of bytes that are all in memory.
 
 ghost use Rattle.std.specs.Prelude.{◌≡◌, ◌≢◌, ◌<◌, ◌≤◌, [], true, length, drop, MatchOption};
 ghost use Rattle.perf_records.specs.FrameList.{sights, end_before};
@@ -13,18 +13,18 @@ use perf_base::refusal::Refusal;
 use perf_buffers::parsebuf::ParseBufChunk;
 use perf_reader::header::header_in;
 
-/// The frames of some bytes, each once, in order. It is made by [`frames`].
+/// The frames of a slice of bytes, each once, in order. Made by [`frames`].
 #[derive(Drop)]
 pub struct FrameIter<'p, E> {
     order: E,
     left: &'p [u8],
 }
 
-/// The frames of these bytes, each once, in order: an iterator over whole frames, and over headers that
-/// none follows. Nothing is copied and no memory is needed.
+/// The frames of these bytes, each once, in order: an iterator over whole frames, and over headers
+/// without one. Nothing is copied and no memory is allocated.
 ///
-/// If the size in a header does not count the header, the next frame begins after the header. A frame
-/// that is unfinished is the last. The iterator ends when fewer bytes are left than a header has.
+/// If the size in a header does not count the header, the next frame begins right after the header.
+/// An unfinished frame is the last. The iterator ends when fewer bytes are left than a header has.
 #[inline]
 pub fn frames<'p, E: Endian>(bytes: &'p [u8], order: E) -> FrameIter<'p, E>
     ensures left { result.left.now ≡ bytes.now }
@@ -33,7 +33,7 @@ pub fn frames<'p, E: Endian>(bytes: &'p [u8], order: E) -> FrameIter<'p, E>
     FrameIter { order, left: bytes }
 }
 
-/// How the frames of some bytes end.
+/// How a list of frames ends.
 #[derive(Copy, Clone, Debug, PartialEq, Eq)]
 pub enum FramesEnd {
     /// No byte is left.
@@ -43,8 +43,8 @@ pub enum FramesEnd {
 }
 
 impl<'p, E> FrameIter<'p, E> {
-    /// The bytes after the frames that were returned. At the end of the iterator they are none, or the
-    /// beginning of a header that is cut off.
+    /// The bytes after the frames returned so far. At the end of the iterator there are none, or
+    /// they are the beginning of a header that is cut off.
     #[inline]
     pub fn left(&self) -> &'p [u8]
         ensures { result.now ≡ self.now.left.now }
@@ -54,7 +54,7 @@ impl<'p, E> FrameIter<'p, E> {
 }
 
 impl<'p, E: Endian> FrameIter<'p, E> {
-    /// How the frames end, once all of them were returned, and `None` before that.
+    /// How the list ends, once all frames were returned, and `None` before that.
     #[inline]
     #[tactic(auto, using(crate::proofs::FrameList::some_sight, crate::proofs::FrameList::no_sight))]
     pub fn end(&self) -> Option<FramesEnd>
@@ -70,7 +70,7 @@ impl<'p, E: Endian> FrameIter<'p, E> {
     }
 }
 
-// What stands at the front of bytes and what is after it, or `None` if no header is there.
+// The frame or bad frame at the front of bytes, and the bytes after it, if there is a header.
 #[inline]
 fn cut_first<'p, E: Endian>(
     order: &E,

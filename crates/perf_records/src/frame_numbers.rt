@@ -1,4 +1,4 @@
-//! Single numbers of a frame, which are read where they stand, without the rest of the frame.
+//! Single numbers of a frame, read at their offsets, without reading the rest of the frame.
 
 ghost use Rattle.std.specs.Prelude.{◌≡◌, ◌≤◌, ◌*◌, ◌==◌};
 ghost use Rattle.perf_records.specs.Words.{configuration_of, endian_of};
@@ -18,7 +18,7 @@ use perf_base::endian::Endian;
 use perf_base::sys::PERF_RECORD_SAMPLE;
 use perf_words::SampleFlags;
 
-// Where a field of eight bytes stands: whether the sample type has it, and how many bytes stand
+// The place of a field of eight bytes: whether the sample type has it, and how many bytes come
 // before it in a SAMPLE and in a sample id.
 #[derive(Copy, Clone)]
 struct Place {
@@ -27,7 +27,7 @@ struct Place {
     in_id: usize,
 }
 
-// How many bytes the field of a flag has under a sample type.
+// How many bytes the field of a flag takes under a sample type.
 #[inline]
 fn len_of(field: SampleFlags, flags: SampleFlags) -> usize
     ensures len { result ≡ 8 * one_if (bit_and (sample_flags_bits flags)
@@ -106,7 +106,7 @@ fn identifier_place(flags: SampleFlags) -> Place
     }
 }
 
-// Where the event's id stands: in ID, or else in IDENTIFIER.
+// The place of the event's id: that of ID, or else that of IDENTIFIER.
 #[inline]
 #[tactic(auto, using(crate::proofs::FrameFlags::number_flags))]
 fn event_place(flags: SampleFlags) -> Place
@@ -120,7 +120,7 @@ fn event_place(flags: SampleFlags) -> Place
     }
 }
 
-// The eight bytes from a place on.
+// The eight bytes at an offset.
 #[inline]
 fn eight_at(bytes: &[u8], place: usize) -> Option<[u8; 8]>
     ensures { result ≡ numbers.eight_at bytes.now place }
@@ -134,7 +134,7 @@ fn eight_at(bytes: &[u8], place: usize) -> Option<[u8; 8]>
     }
 }
 
-// The eight bytes that IDENTIFIER has in a frame of that type, if it is there.
+// The eight bytes of IDENTIFIER in a frame of that type, if present.
 #[inline]
 fn identifier_bytes(bytes: &[u8], ty: u32) -> Option<[u8; 8]>
     ensures { result ≡ numbers.identifier_bytes ty bytes.now }
@@ -166,9 +166,9 @@ fn second_half<E: Endian>(endian: &E, bytes: [u8; 8]) -> u32
     endian.convert_u32([b4, b5, b6, b7])
 }
 
-// A frame has single numbers that are read where they stand, without a look at the rest of it.
+// Single numbers of a frame are read at their offsets, without looking at the rest of it.
 impl<'c, 'p> Frame<'c, 'p> {
-    // The eight bytes of the field that stands there.
+    // The eight bytes of the field at that place.
     #[inline]
     fn field<E>(&self, config: &ParseConfig<E>, place: Place) -> Option<[u8; 8]>
         ensures { result ≡ numbers.bytes_at (configuration_of config.now) place self.now.header
@@ -190,12 +190,12 @@ impl<'c, 'p> Frame<'c, 'p> {
     }
 
     /// When it happened, in nanoseconds of the event's clock: `PERF_SAMPLE_TIME` of a SAMPLE, or of
-    /// the sample id of another frame of the kernel's. `None` where the sample type has no such
-    /// flag, where a SAMPLE ends before it, and where another frame has no sample id or no room for
-    /// it.
+    /// the sample id of another frame written by the kernel. `None` if the sample type does not
+    /// have this flag, if a SAMPLE ends before the field, or if another frame has no sample id or
+    /// is too short for it.
     ///
-    /// It is the number that the whole reading has. A sample that is refused for what stands behind
-    /// has it too, though the whole reading then has none.
+    /// This is the same number as in the fully parsed record. A SAMPLE that is refused because of
+    /// what follows this field still has it, though it has no parsed record.
     #[inline]
     pub fn time<E: Endian>(&self, config: &ParseConfig<E>) -> Option<u64>
         ensures place { result ≡ numbers.time_in (configuration_of config.now)
@@ -210,9 +210,9 @@ impl<'c, 'p> Frame<'c, 'p> {
         }
     }
 
-    /// The process in which it happened: the first half of `PERF_SAMPLE_TID`. Like [`Frame::time`]
-    /// it is the number that the whole reading has, and `None` where that field does not stand in
-    /// the frame.
+    /// The process in which it happened: the first half of `PERF_SAMPLE_TID`. As for
+    /// [`Frame::time`] it is the same number as in the fully parsed record, and `None` if the frame
+    /// does not contain the field.
     #[inline]
     pub fn pid<E: Endian>(&self, config: &ParseConfig<E>) -> Option<u32>
         ensures place { result ≡ numbers.pid_in (configuration_of config.now)
@@ -227,7 +227,7 @@ impl<'c, 'p> Frame<'c, 'p> {
         }
     }
 
-    /// The thread in which it happened: the second half of `PERF_SAMPLE_TID`, or `None` like
+    /// The thread in which it happened: the second half of `PERF_SAMPLE_TID`, or `None` as for
     /// [`Frame::pid`].
     #[inline]
     pub fn tid<E: Endian>(&self, config: &ParseConfig<E>) -> Option<u32>
@@ -243,9 +243,9 @@ impl<'c, 'p> Frame<'c, 'p> {
         }
     }
 
-    /// The processor on which it happened: the first half of `PERF_SAMPLE_CPU`. Like
-    /// [`Frame::time`] it is the number that the whole reading has, and `None` where that field does
-    /// not stand in the frame.
+    /// The processor on which it happened: the first half of `PERF_SAMPLE_CPU`. As for
+    /// [`Frame::time`] it is the same number as in the fully parsed record, and `None` if the frame
+    /// does not contain the field.
     #[inline]
     pub fn cpu<E: Endian>(&self, config: &ParseConfig<E>) -> Option<u32>
         ensures place { result ≡ numbers.cpu_in (configuration_of config.now)
@@ -261,8 +261,9 @@ impl<'c, 'p> Frame<'c, 'p> {
     }
 
     /// The kernel's own number of the event, or of its group's leader: `PERF_SAMPLE_ID`, or
-    /// `PERF_SAMPLE_IDENTIFIER` where the sample type has only that. Like [`Frame::time`] it is the
-    /// number that the whole reading has, and `None` where that field does not stand in the frame.
+    /// `PERF_SAMPLE_IDENTIFIER` if the sample type has only that. As for [`Frame::time`] it is the
+    /// same number as in the fully parsed record, and `None` if the frame does not contain the
+    /// field.
     #[inline]
     pub fn id<E: Endian>(&self, config: &ParseConfig<E>) -> Option<u64>
         ensures place { result ≡ numbers.id_in (configuration_of config.now)
@@ -277,14 +278,15 @@ impl<'c, 'p> Frame<'c, 'p> {
         }
     }
 
-    /// The kernel's own number of the event by `PERF_SAMPLE_IDENTIFIER`, before it is known which
-    /// configuration the frame was written under: the first 8 bytes of a SAMPLE's body, and the last
-    /// 8 of another frame of the kernel's. `None` where there are fewer, and of frames that programs
-    /// write, whose types are 64 or more.
+    /// The kernel's own number of the event, from `PERF_SAMPLE_IDENTIFIER`, for use before it is
+    /// known which configuration the frame was written under: the first 8 bytes of a SAMPLE's body,
+    /// or the last 8 of another frame written by the kernel. `None` if there are fewer, and for
+    /// frames written by programs, whose types are 64 or more.
     ///
-    /// Under every configuration whose sample type has that flag, and `sample_id_all` for another
-    /// frame than a SAMPLE, it is the number that the whole reading has there. Of another frame the
-    /// whole reading has one id, which is that of `PERF_SAMPLE_ID` where the sample type has both.
+    /// Under every configuration whose sample type has that flag, with `sample_id_all` for a frame
+    /// other than a SAMPLE, it is the same number as in the fully parsed record. The metadata of a
+    /// frame other than a SAMPLE has one id, which is that of `PERF_SAMPLE_ID` if the sample type
+    /// has both.
     #[inline]
     pub fn identifier<E: Endian>(&self, order: &E) -> Option<u64>
         ensures place { result ≡ numbers.identifier_in (E.order order.now) self.now.header

@@ -1,4 +1,4 @@
-//! What one whole frame says.
+//! What one whole frame contains.
 
 ghost use Rattle.std.specs.Prelude.{◌≡◌, false, Ok, IfErr, OnErr};
 ghost use Rattle.perf_base.specs.Refusals.{IsAnswerOf, error_kinds};
@@ -34,7 +34,7 @@ fn error_of(refusal: Refusal) -> ParseError
 }
 
 impl<'c, 'p> Frame<'c, 'p> {
-    // What is made of the frame's body, with the error of a refusal.
+    // Makes an output from the frame's body; a refusal becomes an error.
     #[inline]
     fn read_answer<S, E: Endian, M: BodyReader<'p, S>>(
         &self,
@@ -55,8 +55,8 @@ impl<'c, 'p> Frame<'c, 'p> {
         }
     }
 
-    /// The type of the frame's record, by the number in its header (`enum perf_event_type`), or `None`
-    /// if the kernel has no such type.
+    /// The type of the frame's record, by the number in its header (`enum perf_event_type`), or
+    /// `None` if the kernel has no such type.
     #[inline]
     pub fn kind(&self) -> Option<RecordType>
         ensures { result ≡ type_of self.now.header.type_ }
@@ -64,12 +64,12 @@ impl<'c, 'p> Frame<'c, 'p> {
         RecordType::of(self.header().type_)
     }
 
-    /// What is known of the frame's record beside what it says itself: the type and the `misc` in its
-    /// header, and the sample id at its end (`struct sample_id`), which is there under `sample_id_all`.
-    /// A sample, and a type of 64 or more, has no sample id: its fields are absent.
+    /// The metadata of the frame's record: the type and the `misc` from its header, and the sample
+    /// id at its end (`struct sample_id`), which is present under `sample_id_all`. A SAMPLE, and a
+    /// type of 64 or more, has no sample id: its fields are absent.
     ///
-    /// The only refusal is that of a frame which has no room for its sample id, which is
-    /// `InvalidRecord`. No memory is needed.
+    /// The only refusal is `InvalidRecord`, if the frame is too short for its sample id. No memory
+    /// is needed.
     #[inline]
     pub fn metadata<E: Endian>(
         &self,
@@ -87,14 +87,15 @@ impl<'c, 'p> Frame<'c, 'p> {
         }
     }
 
-    /// The frame's record, as the kernel lays it out (perf_event_open(2)), under the frame's own `misc`.
-    /// Its byte strings are borrowed if the frame's bytes last as long as the input, and else copied.
-    /// Bytes after the record's last field do not matter.
+    /// The frame's record, as the kernel lays it out (perf_event_open(2)), under the frame's own
+    /// `misc`. Its byte strings are borrowed if the frame's bytes live as long as the input, and
+    /// otherwise copied. Bytes after the record's last field are ignored.
     ///
     /// The refusals are those of the layout: `Eof` if the frame ends before its record does,
-    /// `InvalidRecord` if it has no room for its sample id or contains a length that cannot be, and
-    /// `UnsupportedConfig` if the configuration does not fit it. `OutOfMemory` comes only for a SAMPLE
-    /// or a NAMESPACES record, which need memory, or if the bytes do not last. `External` never comes.
+    /// `InvalidRecord` if it is too short for its sample id or contains an impossible length, and
+    /// `UnsupportedConfig` if the configuration does not fit it. `OutOfMemory` is possible only for
+    /// a SAMPLE or a NAMESPACES record, which need memory, or if the bytes do not live as long as
+    /// the input. `External` never occurs.
     #[inline]
     pub fn record<E: Endian>(
         &self,
@@ -108,7 +109,7 @@ impl<'c, 'p> Frame<'c, 'p> {
     }
 
     /// What a visitor makes of the frame's record and metadata. The refusals are those of
-    /// [`Frame::record`], and come before the visitor is called.
+    /// [`Frame::record`], and occur before the visitor is called.
     #[inline]
     pub fn visit<E: Endian, V: Visitor<'p>>(
         &self,
@@ -122,12 +123,12 @@ impl<'c, 'p> Frame<'c, 'p> {
         self.read_answer(alloc, config, ByVisitor { visitor }, &mut ())
     }
 
-    /// Reads a SAMPLE (`PERF_RECORD_SAMPLE`) into the place of another, and returns `true`; nothing of
-    /// what the place contained is left. A frame of another type leaves the place as it is, and the
-    /// answer is `false`. This is for a caller that reads many samples into one place, without a box
-    /// for each.
+    /// Reads a SAMPLE (`PERF_RECORD_SAMPLE`) into the place of an existing one, and returns `true`;
+    /// nothing of the old sample is left. For a frame of another type the place is unchanged, and
+    /// `false` is returned. This is for callers that read many samples into one place, without a
+    /// box for each.
     ///
-    /// The refusals are those of [`Frame::record`]. After one all fields of the sample are absent.
+    /// The refusals are those of [`Frame::record`]. After one, all fields of the sample are absent.
     #[inline]
     pub fn sample_into<E: Endian>(
         &self,

@@ -1,4 +1,4 @@
-//! What is known of every record beside what it says itself.
+//! The metadata of records, which is the same for every type.
 
 ghost use Rattle.std.specs.Prelude.{◌≡◌};
 ghost use Rattle.perf_records.specs.Metadata.{MetadataValue};
@@ -6,8 +6,8 @@ ghost use Rattle.perf_records.specs.Metadata.{MetadataValue};
 use perf_sample_types::sample_id::SampleId;
 use std::marker::Model;
 
-/// What the header of a record and the sample id at its end say: its type, its `misc`, and which
-/// task and event it belongs to.
+/// The contents of a record's header and of the sample id at its end: its type, its `misc`, and
+/// which task and event it belongs to.
 #[derive(Clone, Debug, Drop)]
 pub struct RecordMetadata {
     ty: u32,
@@ -24,7 +24,7 @@ impl Model for RecordMetadata {
 }
 
 impl RecordMetadata {
-    /// The metadata of a type, a `misc` and a sample id.
+    /// The metadata with that type, `misc` and sample id.
     #[inline]
     pub fn from_parts(ty: u32, misc: u16, sample_id: SampleId) -> RecordMetadata
         ensures { result ≡ record { ty = ty; misc = misc; sample_id = sample_id } }
@@ -52,7 +52,7 @@ impl RecordMetadata {
         self.misc
     }
 
-    /// The sample id. It has no fields where the record carries none.
+    /// The sample id. Its fields are all absent if the record has none.
     #[inline]
     pub fn sample_id(&self) -> &SampleId
         ensures { result.now ≡ self.now.sample_id }

@@ -1,4 +1,4 @@
-//! A visitor that leaves records out.
+//! Visitors that handle only some types of records.
 
 ghost use Rattle.std.specs.Prelude.{true};
 ghost use Rattle.perf_records.specs.Words as words;
@@ -26,10 +26,10 @@ use perf_types::switch_cpu_wide::SwitchCpuWide;
 use perf_types::text_poke::TextPoke;
 use perf_types::throttle::Throttle;
 
-/// Takes one record, and makes one answer of all that it leaves out.
+/// Takes one record, and makes one output for all types that it leaves out.
 ///
-/// Only [`PartialVisitor::visit_unimplemented`] has to be written, and the call of each type of
-/// record that matters; [`Partial`] is then a [`Visitor`]. An output borrows nothing of the input.
+/// Only [`PartialVisitor::visit_unimplemented`] is required, and the method of each type of record
+/// that matters; [`Partial`] then makes it a [`Visitor`]. An output borrows nothing from the input.
 pub trait PartialVisitor: Drop + Sized {
     /// What is made of a record.
     type Output;
@@ -44,7 +44,7 @@ pub trait PartialVisitor: Drop + Sized {
     fn visit_unimplemented(self, metadata: RecordMetadata) -> Self::Output
         ensures { left_out metadata result };
 
-    /// A file was mapped that can be run (`PERF_RECORD_MMAP`).
+    /// An executable file was mapped (`PERF_RECORD_MMAP`).
     #[inline]
     fn visit_mmap(self, held: Mmap<'_>, metadata: RecordMetadata) -> Self::Output
         ensures { GivesOrLeavesOut gives left_out
@@ -86,7 +86,7 @@ pub trait PartialVisitor: Drop + Sized {
         self.visit_unimplemented(metadata)
     }
 
-    /// The kernel began to hold samples back (`PERF_RECORD_THROTTLE`).
+    /// The kernel began to throttle samples (`PERF_RECORD_THROTTLE`).
     #[inline]
     fn visit_throttle(self, held: Throttle, metadata: RecordMetadata) -> Self::Output
         ensures { GivesOrLeavesOut gives left_out
@@ -96,7 +96,7 @@ pub trait PartialVisitor: Drop + Sized {
         self.visit_unimplemented(metadata)
     }
 
-    /// It takes samples again (`PERF_RECORD_UNTHROTTLE`).
+    /// The kernel takes samples again (`PERF_RECORD_UNTHROTTLE`).
     #[inline]
     fn visit_unthrottle(self, held: Throttle, metadata: RecordMetadata) -> Self::Output
         ensures { GivesOrLeavesOut gives left_out
@@ -106,7 +106,7 @@ pub trait PartialVisitor: Drop + Sized {
         self.visit_unimplemented(metadata)
     }
 
-    /// A task was made (`PERF_RECORD_FORK`).
+    /// A task was created (`PERF_RECORD_FORK`).
     #[inline]
     fn visit_fork(self, held: Fork, metadata: RecordMetadata) -> Self::Output
         ensures { GivesOrLeavesOut gives left_out
@@ -137,9 +137,9 @@ pub trait PartialVisitor: Drop + Sized {
         self.visit_unimplemented(metadata)
     }
 
-    /// A file was mapped, with which file it is (`PERF_RECORD_MMAP2`).
+    /// A file was mapped, with the file's identity (`PERF_RECORD_MMAP2`).
     ///
-    /// One that does not name it takes it as [`PartialVisitor::visit_mmap`] does.
+    /// By default it is handled like [`PartialVisitor::visit_mmap`].
     #[inline]
     fn visit_mmap2(self, held: Mmap2<'_>, metadata: RecordMetadata) -> Self::Output
         ensures { GivesOrLeavesOut gives left_out
@@ -179,8 +179,8 @@ pub trait PartialVisitor: Drop + Sized {
         self.visit_unimplemented(metadata)
     }
 
-    /// A task came onto its CPU or left it (`PERF_RECORD_SWITCH`), of which the record says nothing
-    /// else.
+    /// A task was scheduled on its CPU or off it (`PERF_RECORD_SWITCH`); the record contains
+    /// nothing else.
     #[inline]
     fn visit_switch(self, metadata: RecordMetadata) -> Self::Output
         ensures { GivesOrLeavesOut gives left_out (event words.switch_is true metadata) result }
@@ -188,7 +188,7 @@ pub trait PartialVisitor: Drop + Sized {
         self.visit_unimplemented(metadata)
     }
 
-    /// Which task another one gave its CPU to, or got it from (`PERF_RECORD_SWITCH_CPU_WIDE`).
+    /// Which task another one handed its CPU to, or got it from (`PERF_RECORD_SWITCH_CPU_WIDE`).
     #[inline]
     fn visit_switch_cpu_wide(self, held: SwitchCpuWide, metadata: RecordMetadata) -> Self::Output
         ensures { GivesOrLeavesOut gives left_out
@@ -208,7 +208,7 @@ pub trait PartialVisitor: Drop + Sized {
         self.visit_unimplemented(metadata)
     }
 
-    /// A symbol of the kernel came or went (`PERF_RECORD_KSYMBOL`).
+    /// A kernel symbol was registered or unregistered (`PERF_RECORD_KSYMBOL`).
     #[inline]
     fn visit_ksymbol(self, held: KSymbol<'_>, metadata: RecordMetadata) -> Self::Output
         ensures { GivesOrLeavesOut gives left_out
@@ -262,8 +262,8 @@ pub trait PartialVisitor: Drop + Sized {
         self.visit_unimplemented(metadata)
     }
 
-    /// A record of a type that this library does not read, which the metadata names: the bytes
-    /// between its header and its sample id.
+    /// A record of a type that this library does not know: the bytes between its header and its
+    /// sample id. The metadata gives its type.
     #[inline]
     fn visit_unknown(self, bytes: CowSlice<'_, u8>, metadata: RecordMetadata) -> Self::Output
         ensures { GivesOrLeavesOut gives left_out
@@ -275,7 +275,7 @@ pub trait PartialVisitor: Drop + Sized {
     }
 }
 
-/// The visitor that a partial one is.
+/// A [`Visitor`] made from a [`PartialVisitor`].
 #[derive(Drop)]
 pub struct Partial<V>(pub V);
 

@@ -1,4 +1,4 @@
-//! The parts of a frame: its body, and what is known beside it.
+//! The parts of a frame: its body and its metadata.
 
 ghost use Rattle.std.specs.Prelude.{◌≡◌, ◌≤◌, ◌<◌, ◌+◌, true, length, Err};
 ghost use Rattle.std.specs.Prelude.{IsTrue, IfOk, IfErr};
@@ -19,7 +19,7 @@ use perf_reader::reader::Reader;
 use perf_sample_types::sample_id::SampleId;
 use std::alloc::Global;
 
-// Whether records of a type end with a sample id: the kernel's own do, but SAMPLE.
+// Whether records of a type end with a sample id: those of the kernel do, except SAMPLE.
 #[inline]
 fn carries_sample_id(ty: u32) -> bool
     ensures { result ≡ words.carries_sample_id ty }
@@ -39,7 +39,7 @@ pub(crate) fn id_len<E>(config: &ParseConfig<E>, ty: u32) -> usize
     }
 }
 
-// The sample id whose bytes these are. So many bytes are never refused.
+// The sample id in these bytes. With that many bytes it is never refused.
 #[inline]
 fn read_id<'x, E: Endian>(reader: &mut Reader<&'x [u8], E>, ty: u32) -> SampleId
     requires { length (input_of reader.old).now
@@ -62,7 +62,7 @@ fn read_id<'x, E: Endian>(reader: &mut Reader<&'x [u8], E>, ty: u32) -> SampleId
     }
 }
 
-// What is known of a frame beside its body, how many bytes that has, and how many reads that took.
+// The metadata of a frame, the length of its body in bytes, and the number of reads made.
 #[derive(Drop)]
 pub(crate) struct FrameId {
     pub(crate) len: usize,
@@ -70,7 +70,7 @@ pub(crate) struct FrameId {
     pub(crate) reads: ReadCounter,
 }
 
-// The metadata of the frame whose bytes after its header are these.
+// The metadata of the frame with these bytes after its header.
 #[inline]
 pub(crate) fn id_in<E: Endian>(
     alloc: Global,
@@ -102,7 +102,7 @@ pub(crate) fn id_in<E: Endian>(
     })
 }
 
-// The same. It is inlined, so that a caller whose frame has no sample id, as a SAMPLE, makes no
+// The same, inlined, so that a caller whose frame has no sample id, such as a SAMPLE, makes no
 // metadata that it does not use.
 #[inline(always)]
 pub(crate) fn id_of<E: Endian>(
@@ -130,8 +130,8 @@ pub(crate) fn id_of<E: Endian>(
 /// The bytes of the body of a frame whose header was read, and its metadata.
 ///
 /// A size that does not count the header is `InvalidRecord`, with nothing taken. Too few bytes are
-/// `Eof`, and all of them are taken. A frame without room for its sample id is `InvalidRecord`, and
-/// exactly it is taken.
+/// `Eof`, with all of them taken. A frame too short for its sample id is `InvalidRecord`, with
+/// exactly the frame taken.
 #[inline]
 pub fn split<'p, I: Input<'p>, E: Endian>(
     reader: &mut Reader<I, E>,
@@ -152,12 +152,12 @@ pub fn split<'p, I: Input<'p>, E: Endian>(
         × (I.source (input_of reader.new) ≡ I.source (input_of reader.old)) }
     ensures small_why { header.size < 8 → IfErr result (λ e. e ≡ words.SmallHeader) }
 
-    // With another size it is no record only where there is no room for its sample id.
+    // With another size it is no record only if it is too short for its sample id.
     ensures id_why { IsTrue (I.source (input_of reader.old)).told → 8 ≤ header.size →
         IfErr result (λ e. refusal_kind e ≡ words.InvalidRecord → e ≡ words.NoRoomForId) }
 
-    // Memory is taken by the rules of a cut: for nothing none, none where the input says that it
-    // has too few bytes, and else all room first, where that is little.
+    // Memory is allocated by the rules of a cut: none for an empty body, none if the input reports
+    // too few bytes, and otherwise the full capacity first, if it is small.
     ensures nothing { body_length header ≡ 0 → words.TakesNoMemory (kinds result)
         × IfOk result (λ parts. IsTrue (words.cursor_lent parts.0)) }
     ensures short { words.falls_short (I.hint (input_of reader.old)) (body_length header) ≡ true →

@@ -1,4 +1,4 @@
-//! Any record.
+//! Records of any type.
 
 ghost use Rattle.std.specs.Prelude.{◌≡◌, IfOk, IfErr};
 ghost use Rattle.perf_base.specs.Errors.{kind_of};
@@ -30,7 +30,7 @@ use std::boxed::Box;
 /// A record of any type, as perf_event_open(2) names them.
 #[derive(Debug, Drop)]
 pub enum Record<'a> {
-    /// A file was mapped that can be run.
+    /// An executable file was mapped.
     Mmap(Mmap<'a>),
     /// Events were lost.
     Lost(Lost),
@@ -38,17 +38,17 @@ pub enum Record<'a> {
     Comm(Comm<'a>),
     /// A task ended.
     Exit(Exit),
-    /// The kernel began to hold samples back.
+    /// The kernel began to throttle samples.
     Throttle(Throttle),
-    /// It takes samples again.
+    /// The kernel takes samples again.
     Unthrottle(Throttle),
-    /// A task was made.
+    /// A task was created.
     Fork(Fork),
     /// A counter of a task was read.
     Read(Read),
     /// An event happened.
     Sample(Box<Sample<'a>>),
-    /// A file was mapped, with which file it is.
+    /// A file was mapped, with the file's identity.
     Mmap2(Mmap2<'a>),
     /// There is new data in the AUX buffer.
     Aux(Aux),
@@ -56,13 +56,13 @@ pub enum Record<'a> {
     ITraceStart(ITraceStart),
     /// Samples were lost.
     LostSamples(LostSamples),
-    /// A task came onto its CPU or left it.
+    /// A task was scheduled on its CPU or off it.
     Switch,
-    /// Which task another one gave its CPU to, or got it from.
+    /// Which task another one handed its CPU to, or got it from.
     SwitchCpuWide(SwitchCpuWide),
     /// The namespaces of a task.
     Namespaces(Namespaces<'a>),
-    /// A symbol of the kernel came or went.
+    /// A kernel symbol was registered or unregistered.
     KSymbol(KSymbol<'a>),
     /// A BPF program was loaded or unloaded.
     BpfEvent(BpfEvent),
@@ -72,9 +72,9 @@ pub enum Record<'a> {
     TextPoke(TextPoke<'a>),
     /// The hardware's id of an event whose data is in the AUX buffer.
     AuxOutputHwId(AuxOutputHwId),
-    /// A record of a type that this library does not read.
+    /// A record of a type that this library does not know.
     Unknown {
-        /// The type that its header says.
+        /// The type in its header.
         ty: u32,
         /// The bytes between its header and its sample id.
         bytes: CowSlice<'a, u8>,
@@ -126,8 +126,8 @@ impl From<Read> for Record<'_> {
 }
 
 impl<'a> Record<'a> {
-    /// A sample as a record, which is a box of the same sample. Where there is no memory for the
-    /// box, `OutOfMemory`, the sample is given up.
+    /// A sample as a record, which is a box of the same sample. If there is no memory for the box,
+    /// that is `OutOfMemory`, and the sample is dropped.
     pub fn from_sample(alloc: Global, sample: Sample<'a>) -> ParseResult<Record<'a>>
         ensures same { IfOk result (λ r. HoldsSample sample.entry r) }
         ensures refused { IfErr result (λ e. kind_of e ≡ ErrorKind.OutOfMemory) }

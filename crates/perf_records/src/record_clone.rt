@@ -1,4 +1,4 @@
-//! Copies of any record.
+//! Copies of records.
 
 ghost use Rattle.perf_base.specs.Copies.{IsClone};
 ghost use Rattle.perf_records.specs.RecordForms.{record_form};
@@ -12,8 +12,8 @@ use std::alloc::Global;
 use std::boxed::Box;
 
 impl<'a> Record<'a> {
-    /// The same record. It takes no memory where all lists of it are borrowed, but for the box of a
-    /// sample. Where memory is refused, that is `OutOfMemory`, and the record stays as it is.
+    /// The same record. It allocates nothing if all of its lists are borrowed, except for the box
+    /// of a sample. A failed allocation is `OutOfMemory`, and the record stays as it is.
     pub fn clone(&self, alloc: Global) -> ParseResult<Record<'a>>
         ensures { IsClone record_value record_form self.now result }
     {
@@ -47,7 +47,7 @@ impl<'a> Record<'a> {
     }
 }
 
-// The same bytes of a type that has no table.
+// The same bytes, for a type that has no table.
 fn clone_unknown<'a>(ty: u32, bytes: &CowSlice<'a, u8>, alloc: Global) -> ParseResult<Record<'a>>
     ensures { IsClone record_value record_form (Unknown ty bytes.now) result }
 {

@@ -60,7 +60,7 @@ pub enum RecordType {
 }
 
 impl RecordType {
-    /// The type of that number in a header, or `None` where the kernel has no such type.
+    /// The type with that number in a header, or `None` if the kernel has no such type.
     #[inline]
     pub fn of(ty: u32) -> Option<RecordType>
         ensures { result ≡ type_of ty }

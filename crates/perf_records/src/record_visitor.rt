@@ -1,4 +1,4 @@
-//! The visitor that makes the record itself.
+//! The visitor that returns the record itself.
 
 ghost use Rattle.perf_records.specs.Words as words;
 ghost use Rattle.perf_records.specs.Words.{Event, event, MakesRecord, MakesNoSample};
@@ -30,24 +30,24 @@ use perf_types::throttle::Throttle;
 use std::alloc::Global;
 use std::boxed::Box;
 
-/// How the records that were visited are answered.
+/// How visited records are returned.
 pub trait Answer<'a>: Drop {
-    /// The answer.
+    /// What is returned.
     type Output;
 
-    // which answers belong to an event
+    // which results belong to an event
     ghost gives: { Event → Self.Output → Type 0 };
 
-    /// The answer of a record.
+    /// The result for a record.
     fn record(self, held: Record<'a>) -> Self::Output
         ensures { MakesRecord gives held.entry result };
 
-    /// The answer of a sample for whose box there is no memory.
+    /// The result for a sample when there is no memory for its box.
     fn no_memory(self) -> Self::Output
         ensures { MakesNoSample gives result };
 }
 
-/// Answers a record, or an error.
+/// Returns a record, or an error.
 #[derive(Copy, Clone)]
 pub struct OrError;
 
@@ -69,7 +69,7 @@ impl<'a> Answer<'a> for OrError {
     }
 }
 
-/// Answers a record, or a small refusal, for what reads records by the thousand.
+/// Returns a record, or a small refusal, for code that reads records by the thousand.
 #[derive(Copy, Clone)]
 pub struct OrRefusal;
 
@@ -91,19 +91,19 @@ impl<'a> Answer<'a> for OrRefusal {
     }
 }
 
-/// Makes the record itself of what it visits.
+/// Makes the record itself from what it visits.
 #[derive(Drop)]
 pub struct Recording<A> {
     answer: A,
     alloc: Global,
 }
 
-/// Makes the record itself of what it visits. A sample goes into a box: where there is no memory for
-/// that, the output is `OutOfMemory`.
+/// Makes the record itself from what it visits. A sample is boxed: if there is no memory for the
+/// box, the output is `OutOfMemory`.
 pub type RecordVisitor = Recording<OrError>;
 
 impl Recording<OrError> {
-    /// A visitor whose boxes are in the memory of `alloc`.
+    /// A visitor whose boxes are allocated in `alloc`.
     #[inline]
     pub fn new(alloc: Global) -> Recording<OrError> {
         Recording {
@@ -114,7 +114,7 @@ impl Recording<OrError> {
 }
 
 impl Recording<OrRefusal> {
-    /// The same with small refusals.
+    /// The same, with small refusals.
     #[inline]
     pub fn small(alloc: Global) -> Recording<OrRefusal> {
         Recording {
@@ -129,7 +129,7 @@ impl<'a, A: Answer<'a>> Visitor<'a> for Recording<A> {
 
     ghost gives = { λ seen output. A.gives seen output };
 
-    // nothing calls it
+    // never called
     #[inline]
     fn visit_unimplemented(self, metadata: RecordMetadata) -> Self::Output {
         self.answer.record(Record::Unknown {
@@ -178,7 +178,7 @@ impl<'a, A: Answer<'a>> Visitor<'a> for Recording<A> {
         self.answer.record(Record::Read(held))
     }
 
-    // It is large, and is to be moved once, into its box.
+    // A sample is large, and should be moved only once, into its box.
     #[inline(always)]
     fn visit_sample(self, held: Sample<'a>, _metadata: RecordMetadata) -> Self::Output {
         match Box::new(self.alloc, held) {

@@ -1,4 +1,4 @@
-//! What visits records.
+//! Visitors of records.
 
 ghost use Rattle.std.specs.Prelude.{true};
 ghost use Rattle.perf_records.specs.Words as words;
@@ -25,12 +25,13 @@ use perf_types::switch_cpu_wide::SwitchCpuWide;
 use perf_types::text_poke::TextPoke;
 use perf_types::throttle::Throttle;
 
-/// Takes one record, of whatever type it is, and makes an output of it.
+/// Takes one record, of any type, and makes an output from it.
 ///
-/// Each call gets what its type says, and the metadata that every record has. A call that a visitor
-/// has no use for is the line `self.visit_unimplemented(metadata)`, and [`Visitor::visit_mmap2`] is
-/// the line `self.visit_mmap(held.into_mmap(), metadata)`; a visitor whose outputs borrow nothing is
-/// written without these lines as a [`PartialVisitor`](crate::partial::PartialVisitor).
+/// Each method gets the contents of its type, and the metadata that every record has. A method that
+/// a visitor has no use for is the line `self.visit_unimplemented(metadata)`, and
+/// [`Visitor::visit_mmap2`] is the line `self.visit_mmap(held.into_mmap(), metadata)`; a visitor
+/// whose outputs borrow nothing can be written without these lines as a
+/// [`PartialVisitor`](crate::partial::PartialVisitor).
 pub trait Visitor<'a>: Drop {
     /// What is made of a record.
     type Output;
@@ -38,70 +39,70 @@ pub trait Visitor<'a>: Drop {
     // which outputs belong to an event
     ghost gives: { Event → Self.Output → Type 0 };
 
-    /// What the visitor makes of a record that it leaves out. Nothing but the visitor itself calls
-    /// it, and a visitor states itself what it answers.
+    /// What the visitor makes of a record that it leaves out. Only the visitor itself calls it, and
+    /// each visitor specifies its own result.
     fn visit_unimplemented(self, metadata: RecordMetadata) -> Self::Output;
 
-    /// A file was mapped that can be run (`PERF_RECORD_MMAP`).
+    /// An executable file was mapped (`PERF_RECORD_MMAP`).
     ///
-    /// The line of a visitor that leaves it out: `self.visit_unimplemented(metadata)`.
+    /// In a visitor that leaves it out: `self.visit_unimplemented(metadata)`.
     fn visit_mmap(self, held: Mmap<'a>, metadata: RecordMetadata) -> Self::Output
         ensures { gives (event (words.mmap_is (words.mmap_value held.entry))
             (words.is_borrowed held.entry.filename) metadata) result };
 
     /// Events were lost (`PERF_RECORD_LOST`).
     ///
-    /// The line of a visitor that leaves it out: `self.visit_unimplemented(metadata)`.
+    /// In a visitor that leaves it out: `self.visit_unimplemented(metadata)`.
     fn visit_lost(self, held: Lost, metadata: RecordMetadata) -> Self::Output
         ensures { gives (event (words.lost_is held) true metadata) result };
 
     /// A task changed its name (`PERF_RECORD_COMM`).
     ///
-    /// The line of a visitor that leaves it out: `self.visit_unimplemented(metadata)`.
+    /// In a visitor that leaves it out: `self.visit_unimplemented(metadata)`.
     fn visit_comm(self, held: Comm<'a>, metadata: RecordMetadata) -> Self::Output
         ensures { gives (event (words.comm_is (words.comm_value held.entry))
             (words.is_borrowed held.entry.comm) metadata) result };
 
     /// A task ended (`PERF_RECORD_EXIT`).
     ///
-    /// The line of a visitor that leaves it out: `self.visit_unimplemented(metadata)`.
+    /// In a visitor that leaves it out: `self.visit_unimplemented(metadata)`.
     fn visit_exit(self, held: Exit, metadata: RecordMetadata) -> Self::Output
         ensures { gives (event (words.exit_is held) true metadata) result };
 
-    /// The kernel began to hold samples back (`PERF_RECORD_THROTTLE`).
+    /// The kernel began to throttle samples (`PERF_RECORD_THROTTLE`).
     ///
-    /// The line of a visitor that leaves it out: `self.visit_unimplemented(metadata)`.
+    /// In a visitor that leaves it out: `self.visit_unimplemented(metadata)`.
     fn visit_throttle(self, held: Throttle, metadata: RecordMetadata) -> Self::Output
         ensures { gives (event (words.throttle_is held) true metadata) result };
 
-    /// It takes samples again (`PERF_RECORD_UNTHROTTLE`).
+    /// The kernel takes samples again (`PERF_RECORD_UNTHROTTLE`).
     ///
-    /// The line of a visitor that leaves it out: `self.visit_unimplemented(metadata)`.
+    /// In a visitor that leaves it out: `self.visit_unimplemented(metadata)`.
     fn visit_unthrottle(self, held: Throttle, metadata: RecordMetadata) -> Self::Output
         ensures { gives (event (words.unthrottle_is held) true metadata) result };
 
-    /// A task was made (`PERF_RECORD_FORK`).
+    /// A task was created (`PERF_RECORD_FORK`).
     ///
-    /// The line of a visitor that leaves it out: `self.visit_unimplemented(metadata)`.
+    /// In a visitor that leaves it out: `self.visit_unimplemented(metadata)`.
     fn visit_fork(self, held: Fork, metadata: RecordMetadata) -> Self::Output
         ensures { gives (event (words.fork_is held) true metadata) result };
 
     /// A counter of a task was read (`PERF_RECORD_READ`).
     ///
-    /// The line of a visitor that leaves it out: `self.visit_unimplemented(metadata)`.
+    /// In a visitor that leaves it out: `self.visit_unimplemented(metadata)`.
     fn visit_read(self, held: Read, metadata: RecordMetadata) -> Self::Output
         ensures { gives (event (words.read_is (words.task_read held)) true metadata) result };
 
     /// An event happened (`PERF_RECORD_SAMPLE`).
     ///
-    /// The line of a visitor that leaves it out: `self.visit_unimplemented(metadata)`.
+    /// In a visitor that leaves it out: `self.visit_unimplemented(metadata)`.
     fn visit_sample(self, held: Sample<'a>, metadata: RecordMetadata) -> Self::Output
         ensures { gives (event (words.sample_is (words.sample_value held.entry))
             (words.is_lent_sample held.entry) metadata) result };
 
-    /// A file was mapped, with which file it is (`PERF_RECORD_MMAP2`).
+    /// A file was mapped, with the file's identity (`PERF_RECORD_MMAP2`).
     ///
-    /// The line of a visitor that leaves out which file it is:
+    /// In a visitor that does not need the file's identity:
     /// `self.visit_mmap(held.into_mmap(), metadata)`.
     fn visit_mmap2(self, held: Mmap2<'a>, metadata: RecordMetadata) -> Self::Output
         ensures { gives (event (words.mmap2_is (words.mmap2_value held.entry))
@@ -109,66 +110,66 @@ pub trait Visitor<'a>: Drop {
 
     /// There is new data in the AUX buffer (`PERF_RECORD_AUX`).
     ///
-    /// The line of a visitor that leaves it out: `self.visit_unimplemented(metadata)`.
+    /// In a visitor that leaves it out: `self.visit_unimplemented(metadata)`.
     fn visit_aux(self, held: Aux, metadata: RecordMetadata) -> Self::Output
         ensures { gives (event (words.aux_is (words.aux_value held)) true metadata) result };
 
     /// An instruction trace began (`PERF_RECORD_ITRACE_START`).
     ///
-    /// The line of a visitor that leaves it out: `self.visit_unimplemented(metadata)`.
+    /// In a visitor that leaves it out: `self.visit_unimplemented(metadata)`.
     fn visit_itrace_start(self, held: ITraceStart, metadata: RecordMetadata) -> Self::Output
         ensures { gives (event (words.itrace_start_is held) true metadata) result };
 
     /// Samples were lost (`PERF_RECORD_LOST_SAMPLES`).
     ///
-    /// The line of a visitor that leaves it out: `self.visit_unimplemented(metadata)`.
+    /// In a visitor that leaves it out: `self.visit_unimplemented(metadata)`.
     fn visit_lost_samples(self, held: LostSamples, metadata: RecordMetadata) -> Self::Output
         ensures { gives (event (words.lost_samples_is held) true metadata) result };
 
-    /// A task came onto its CPU or left it (`PERF_RECORD_SWITCH`), of which the record says nothing
-    /// else.
+    /// A task was scheduled on its CPU or off it (`PERF_RECORD_SWITCH`); the record contains
+    /// nothing else.
     ///
-    /// The line of a visitor that leaves it out: `self.visit_unimplemented(metadata)`.
+    /// In a visitor that leaves it out: `self.visit_unimplemented(metadata)`.
     fn visit_switch(self, metadata: RecordMetadata) -> Self::Output
         ensures { gives (event words.switch_is true metadata) result };
 
-    /// Which task another one gave its CPU to, or got it from (`PERF_RECORD_SWITCH_CPU_WIDE`).
+    /// Which task another one handed its CPU to, or got it from (`PERF_RECORD_SWITCH_CPU_WIDE`).
     ///
-    /// The line of a visitor that leaves it out: `self.visit_unimplemented(metadata)`.
+    /// In a visitor that leaves it out: `self.visit_unimplemented(metadata)`.
     fn visit_switch_cpu_wide(self, held: SwitchCpuWide, metadata: RecordMetadata) -> Self::Output
         ensures { gives (event (words.switch_cpu_wide_is held) true metadata) result };
 
     /// The namespaces of a task (`PERF_RECORD_NAMESPACES`).
     ///
-    /// The line of a visitor that leaves it out: `self.visit_unimplemented(metadata)`.
+    /// In a visitor that leaves it out: `self.visit_unimplemented(metadata)`.
     fn visit_namespaces(self, held: Namespaces<'a>, metadata: RecordMetadata) -> Self::Output
         ensures { gives (event (words.namespaces_is (words.namespaces_value held.entry))
             true metadata) result };
 
-    /// A symbol of the kernel came or went (`PERF_RECORD_KSYMBOL`).
+    /// A kernel symbol was registered or unregistered (`PERF_RECORD_KSYMBOL`).
     ///
-    /// The line of a visitor that leaves it out: `self.visit_unimplemented(metadata)`.
+    /// In a visitor that leaves it out: `self.visit_unimplemented(metadata)`.
     fn visit_ksymbol(self, held: KSymbol<'a>, metadata: RecordMetadata) -> Self::Output
         ensures { gives (event (words.ksymbol_is (words.ksymbol_value held.entry))
             (words.is_borrowed held.entry.name) metadata) result };
 
     /// A BPF program was loaded or unloaded (`PERF_RECORD_BPF_EVENT`).
     ///
-    /// The line of a visitor that leaves it out: `self.visit_unimplemented(metadata)`.
+    /// In a visitor that leaves it out: `self.visit_unimplemented(metadata)`.
     fn visit_bpf_event(self, held: BpfEvent, metadata: RecordMetadata) -> Self::Output
         ensures { gives (event (words.bpf_event_is (words.bpf_event_value held))
             true metadata) result };
 
     /// A control group: its id and path (`PERF_RECORD_CGROUP`).
     ///
-    /// The line of a visitor that leaves it out: `self.visit_unimplemented(metadata)`.
+    /// In a visitor that leaves it out: `self.visit_unimplemented(metadata)`.
     fn visit_cgroup(self, held: CGroup<'a>, metadata: RecordMetadata) -> Self::Output
         ensures { gives (event (words.cgroup_is (words.cgroup_value held.entry))
             (words.is_borrowed held.entry.path) metadata) result };
 
     /// The kernel changed its own instructions (`PERF_RECORD_TEXT_POKE`).
     ///
-    /// The line of a visitor that leaves it out: `self.visit_unimplemented(metadata)`.
+    /// In a visitor that leaves it out: `self.visit_unimplemented(metadata)`.
     fn visit_text_poke(self, held: TextPoke<'a>, metadata: RecordMetadata) -> Self::Output
         ensures { gives (event (words.text_poke_is (words.text_poke_value held.entry))
             (words.is_lent_text_poke held.entry) metadata) result };
@@ -176,14 +177,14 @@ pub trait Visitor<'a>: Drop {
     /// The hardware's id of an event whose data is in the AUX buffer
     /// (`PERF_RECORD_AUX_OUTPUT_HW_ID`).
     ///
-    /// The line of a visitor that leaves it out: `self.visit_unimplemented(metadata)`.
+    /// In a visitor that leaves it out: `self.visit_unimplemented(metadata)`.
     fn visit_aux_output_hw_id(self, held: AuxOutputHwId, metadata: RecordMetadata) -> Self::Output
         ensures { gives (event (words.aux_output_hw_id_is held) true metadata) result };
 
-    /// A record of a type that this library does not read, which the metadata names: the bytes
-    /// between its header and its sample id.
+    /// A record of a type that this library does not know: the bytes between its header and its
+    /// sample id. The metadata gives its type.
     ///
-    /// The line of a visitor that leaves it out: `self.visit_unimplemented(metadata)`.
+    /// In a visitor that leaves it out: `self.visit_unimplemented(metadata)`.
     fn visit_unknown(self, bytes: CowSlice<'a, u8>, metadata: RecordMetadata) -> Self::Output
         ensures { gives (event (words.unknown_is metadata.ty (words.cow_items bytes.entry))
             (words.is_borrowed bytes.entry) metadata) result };

@@ -1,4 +1,4 @@
--- Groups of fields of which the sample type has no flag.
+-- Groups of fields for which the sample type has no flag.
 use Rattle.std.proofs.Common.{◌≡◌, ℕ, ◌^◌, ◌<◌, ◌==◌, List, [], ◌∷◌, Bool, true, false, refl, sym, ◌∙◌, ap, zero, suc, arith}
 use Rattle.std.specs.Prelude.{Result, Ok, Option, None, option_map}
 use Rattle.std.specs.Int.Bits.{and_zero_l}
@@ -31,7 +31,7 @@ not_nothing : (n : ℕ) → 0 < n → (0 == n) ≡ false
 not_nothing zero some = absurd (omega (arith, some))
 not_nothing (suc n) some = eqb-zero-suc n
 
--- a flag of a mask of which no flag is there
+-- a flag of a mask none of whose flags is set
 bit_out : (word type mask bit : ℕ) → word ≡ type → bit_and mask (2 ^ bit) ≡ 2 ^ bit → bit_and word mask ≡ 0 → has_bit type bit ≡ false
 bit_out word type mask bit asked inside none =
     let nothing : bit_and word (2 ^ bit) ≡ 0 =
@@ -48,7 +48,7 @@ flags_out word type mask bit other asked inside outside none = rw (bit_out word 
 -- ---- fields
 
 module _ {I E : Type 0} {source : I → Source} {order : E → Order} where
-  -- one that is absent, and those behind it
+  -- one that is absent, and those after it
   absent_behind : {Y A : Type 0} {a c : Reader I E} {seen : Result Y ErrorKind}
       (view : Y → List (Option A)) (f : Took (List (Option A)) → Took (List (Option A))) (flags : List ℕ) (p : Configuration → Parts A) (fields : Configuration → List (Option (Parts A))) →
       has_one (configuration_of a.config).sample_type flags ≡ false → Call source order (Row (λ r. f (before None r)) fields view) a seen c →

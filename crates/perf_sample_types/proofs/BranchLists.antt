@@ -24,7 +24,7 @@ numbers_of_three (x ∷ y ∷ []) long = absurd (omega (arith, long))
 numbers_of_three (x ∷ y ∷ z ∷ []) long = refl
 numbers_of_three (x ∷ y ∷ z ∷ n ∷ ns) long = absurd (omega (arith, long))
 
--- bytes are the numbers of the branches of their pieces of 24
+-- bytes are the numbers of the branches in their pieces of 24
 pub branch_words : (o : Order) (k : ℕ) (bytes : List ℕ) → flat_map branch_numbers (map (branch_of o) (first_chunks 24 k bytes)) ≡ words_of o (3 * k) bytes
 branch_words o zero bytes = refl
 branch_words o (suc k) bytes =

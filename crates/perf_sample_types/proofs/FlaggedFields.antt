@@ -1,4 +1,4 @@
--- Fields that are there by flags of the sample type, as calls one behind another read them.
+-- Fields that are present by flags of the sample type, as calls one after another read them.
 use Rattle.std.proofs.Common.{◌≡◌, ℕ, ◌^◌, ◌==◌, List, [], ◌∷◌, Bool, true, false, refl, sym, ◌∙◌, ap}
 use Rattle.std.specs.Prelude.{Result, Ok, Err, Option, Some, None, option_map, IfSome}
 use Rattle.std.specs.Int.RustNames.{bit_and}
@@ -22,7 +22,7 @@ use Rattle.perf_words.proofs.Contained.{contains_bit}
 use Rattle.perf_sample_types.specs.Sample.{has_one}
 use Rattle.perf_sample_types.proofs.Flags.{only_flag}
 
--- a set has the flag where the sample type that it stands for has its bit
+-- a set has the flag if the sample type that it represents has its bit
 pub flag_asked : (bit : ℕ) {word type : ℕ} → word ≡ type → has_one type (bit ∷ []) ≡ (bit_and word (2 ^ bit) == 2 ^ bit)
 flag_asked bit {word} {type} asked = only_flag (has_bit type bit) ∙ sym (contains_bit word bit ∙ ap (λ w. has_bit w bit) asked)
 
@@ -41,7 +41,7 @@ module _ {I E : Type 0} {source : I → Source} {order : E → Order} where
         keeps = λ start k. k;
       }
 
-  -- it is there, and was read
+  -- it is present, and was read
   pub field_read : {X A : Type 0} {value : X → A} {borrowed : X → Type 0} {a b : Reader I E} {x : X} (present : Bool) (p : Configuration → Parts A) → present ≡ true →
       Call source order (ReadsBorrowed p value borrowed) a (Ok x) b →
       Call {X = Option X} source order (ReadsField (λ s. present_if present (p s)) (option_map value) (λ x. IfSome x borrowed)) a (Ok (Some x)) b
@@ -55,7 +55,7 @@ module _ {I E : Type 0} {source : I → Source} {order : E → Order} where
         keeps = first.keeps;
       }
 
-  -- it is there, and was refused
+  -- it is present, and was refused
   pub field_refused : {X A : Type 0} {value : X → A} {borrowed : X → Type 0} {a b : Reader I E} {e : ErrorKind} (present : Bool) (p : Configuration → Parts A) → present ≡ true →
       Call source order (ReadsBorrowed p value borrowed) a (Err e) b →
       Call {X = Option X} source order (ReadsField (λ s. present_if present (p s)) (option_map value) (λ x. IfSome x borrowed)) a (Err e) b
@@ -69,9 +69,9 @@ module _ {I E : Type 0} {source : I → Source} {order : E → Order} where
         keeps = first.keeps;
       }
 
-  -- ---- fields one behind another
+  -- ---- fields one after another
 
-  -- one that was read, there or absent; the sample type stays for those behind it
+  -- one that was read, present or absent; the sample type stays for those after it
   pub flags_behind : {X Y A : Type 0} {value : X → Option A} {borrowed : X → Type 0} {a b c : Reader I E} {x : X} {seen : Result Y ErrorKind} {type : ℕ}
       (view : Y → List (Option A)) (f : Took (List (Option A)) → Took (List (Option A))) (flags : List ℕ) (present : Bool) (p : Configuration → Parts A) (fields : Configuration → List (Option (Parts A))) →
       (configuration_of a.config).sample_type ≡ type → has_one type flags ≡ present → Call source order (ReadsField (λ s. present_if present (p s)) value borrowed) a (Ok x) b →

@@ -1,4 +1,4 @@
--- The flags of a sample type, as sets of them answer.
+-- The flags of a sample type, as sets report them.
 use Rattle.std.proofs.Common.{◌≡◌, ℕ, ◌==◌, Bool, true, false, ◌||◌, refl}
 use Rattle.std.specs.Int.RustNames.{bit_and}
 use Rattle.perf_words.specs.Bits.{has_bit}

@@ -1,5 +1,5 @@
--- Lists that are all borrowed, or all owned: those in front and those behind. The lists of groups are
--- those of their fields.
+-- Lists that are all borrowed, or all owned: the first ones and those after them. The lists of
+-- groups are those of their fields.
 use Rattle.std.proofs.Common.{◌≡◌, Bool, List, [], ◌∷◌, ◌++◌, append_assoc, sym, ◌∙◌, ap}
 use Rattle.perf_base.specs.Copies.{AllAre}
 
@@ -18,13 +18,13 @@ list_by_list xs ys zs = append_assoc xs ys zs
 
 pub ruleset lists_of_groups = (list_by_list)
 
--- four lists and those behind them
+-- four lists and those after them
 pub four_ahead : (xs ys zs us vs : List Bool) → (xs ++ (ys ++ (zs ++ us))) ++ vs ≡ xs ++ (ys ++ (zs ++ (us ++ vs)))
 four_ahead xs ys zs us vs =
     append_assoc xs (ys ++ (zs ++ us)) vs
     ∙ ap (λ ls. xs ++ ls) (append_assoc ys (zs ++ us) vs ∙ ap (λ ls. ys ++ ls) (append_assoc zs us vs))
 
--- they stay, where the four and those behind them do
+-- they stay the same, if the four and those after them do
 pub four_stay : (xs ys zs us vs xs' ys' zs' us' vs' : List Bool) → xs ++ (ys ++ (zs ++ us)) ≡ xs' ++ (ys' ++ (zs' ++ us')) → vs ≡ vs' →
     xs ++ (ys ++ (zs ++ (us ++ vs))) ≡ xs' ++ (ys' ++ (zs' ++ (us' ++ vs')))
 four_stay xs ys zs us vs xs' ys' zs' us' vs' four behind =

@@ -1,4 +1,4 @@
--- Groups of a sample's fields, as calls one behind another read them.
+-- Groups of a sample's fields, as calls one after another read them.
 use Rattle.std.proofs.Common.{◌≡◌, ℕ, List, [], ◌∷◌, refl, sym, ◌∙◌, ap, subst}
 use Rattle.std.specs.Prelude.{Result, Ok, Err, Option, IsTrue, IfOk}
 use Rattle.perf_base.specs.Configuration.{Configuration}
@@ -16,7 +16,8 @@ use Rattle.perf_reader.specs.declared.reader.Reader.{Reader}
 use Rattle.perf_sample_types.specs.Sample.{SampleValue, sample, sample_groups, groups_under}
 use Rattle.perf_sample_types.proofs.SampleTable.{places_sample}
 
--- the groups of a table, where f does what is left to do with their values; it is opened only where a proof asks for it
+-- The groups of a table, where f does the rest with their values. It is opened only when a proof
+-- asks for it.
 unfoldable pub Groups : {X A : Type 0} → (Took (List (Option A)) → Took (List (Option A))) → (Configuration → List (List (Option (Parts A)))) → (X → List (Option A)) → Says X
 Groups f groups view old seen new = AnswersRun view (f (groups_took old.order (groups old.settings) old.source.left old.reads)) seen new
 

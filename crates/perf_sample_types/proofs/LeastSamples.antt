@@ -1,4 +1,4 @@
--- No sample is shorter than eight bytes for each field that is there.
+-- No sample is shorter than eight bytes for each field that is present.
 use Rattle.std.proofs.Common.{◌≡◌, ℕ, zero, suc, ◌+◌, ◌-◌, ◌*◌, ◌/◌, ◌%◌, ◌^◌, ◌≤◌, ◌<◌, Bool, true, false, List, [], ◌∷◌, length, drop, Option, Some, None, Ok, Err, refl, sym, ◌∙◌, ap, inl, inr, arith, mod-lt, pow-suc}
 use Rattle.std.specs.Prelude.{IfOk, count_ones, nat_le, ◌==◌, ◌||◌, if◌then◌else◌}
 use Rattle.std.proofs.lemmas.Bool.{cases_lt, le-leb, lt-leb}
@@ -67,7 +67,7 @@ ending-bind o body s (part shape k) f =
     ending-bind o body (s + n) (k (answer_of o shape (slice body s n))) f
 ending-bind o body s (check t e p) f = ending-bind o body s p f
 
--- what stands ends within the body
+-- a body that is not refused contains the end of its parts
 ends_within : {A : Type 0} (o : Order) (body : List ℕ) (s : ℕ) (p : Parts A) → s ≤ length body →
     first_refusal (length body) (spots o body s p) ≡ None → ending o body s p ≤ length body
 ends_within o body s (done v) within stands = within
@@ -146,7 +146,7 @@ one_if : Bool → ℕ
 one_if true = 1
 one_if false = 0
 
--- how many of these fields are there
+-- how many of these fields are present
 present : Configuration → List Field → ℕ
 unfolding one_if
 present c [] = 0
@@ -156,7 +156,7 @@ AllAtLeastEight : Configuration → List Field → Type 0
 AllAtLeastEight c [] = Unit {0}
 AllAtLeastEight c (field ∷ fields) = AtLeastEight (field.parts (settings_of c)) × AllAtLeastEight c fields
 
--- a field that is there takes eight bytes or more
+-- a field that is present takes eight bytes or more
 of_slot : (there : Bool) (p : Parts FieldValue) → AtLeastEight p → (o : Order) (body : List ℕ) (s : ℕ) →
     s + 8 * one_if there ≤ ending o body s (slot (present_if there p))
 unfolding one_if AtLeastEight
@@ -201,12 +201,12 @@ of_flag : (word at : ℕ) (others : Bool) → word / 2 ^ at % 2 ≤ one_if (has_
 of_flag word at others =
     omega (arith, of_digit (word / 2 ^ at % 2) (mod-lt (word / 2 ^ at) (omega arith)), first_of (has_bit word at) others)
 
--- the fields stand in another order than their flags
+-- the order of the fields is not that of their flags
 in_order : (x0 x1 x2 x3 x4 x5 x6 x7 x8 x9 x10 x11 x12 x13 x14 x15 x16 x17 x18 x19 x20 x21 x22 x23 y0 y1 y2 y3 y4 y5 y6 y7 y8 y9 y10 y11 y12 y13 y14 y15 y16 y17 y18 y19 y20 y21 y22 y23 : ℕ) → x0 ≤ y0 → x1 ≤ y1 → x2 ≤ y2 → x3 ≤ y3 → x4 ≤ y4 → x5 ≤ y5 → x6 ≤ y6 → x7 ≤ y7 → x8 ≤ y8 → x9 ≤ y9 → x10 ≤ y10 → x11 ≤ y11 → x12 ≤ y12 → x13 ≤ y13 → x14 ≤ y14 → x15 ≤ y15 → x16 ≤ y16 → x17 ≤ y17 → x18 ≤ y18 → x19 ≤ y19 → x20 ≤ y20 → x21 ≤ y21 → x22 ≤ y22 → x23 ≤ y23 →
     x0 + (x1 + (x2 + (x3 + (x4 + (x5 + (x6 + (x7 + (x8 + (x9 + (x10 + (x11 + (x12 + (x13 + (x14 + (x15 + (x16 + (x17 + (x18 + (x19 + (x20 + (x21 + (x22 + (x23 + 0))))))))))))))))))))))) ≤ y16 + (y0 + (y1 + (y2 + (y3 + (y6 + (y9 + (y7 + (y8 + (y4 + (y5 + (y10 + (y11 + (y12 + (y13 + (y14 + (y15 + (y17 + (y18 + (y19 + (y21 + (y22 + (y23 + (y20 + 0)))))))))))))))))))))))
 in_order x0 x1 x2 x3 x4 x5 x6 x7 x8 x9 x10 x11 x12 x13 x14 x15 x16 x17 x18 x19 x20 x21 x22 x23 y0 y1 y2 y3 y4 y5 y6 y7 y8 y9 y10 y11 y12 y13 y14 y15 y16 y17 y18 y19 y20 y21 y22 y23 h0 h1 h2 h3 h4 h5 h6 h7 h8 h9 h10 h11 h12 h13 h14 h15 h16 h17 h18 h19 h20 h21 h22 h23 = omega (arith, h0, h1, h2, h3, h4, h5, h6, h7, h8, h9, h10, h11, h12, h13, h14, h15, h16, h17, h18, h19, h20, h21, h22, h23)
 
--- of the flags 0 to 23 each is that of another field
+-- each of the flags 0 to 23 is that of another field
 enough : (c : Configuration) → count_ones (c.sample_type % 2 ^ 24) ≤ present c sample_fields
 unfolding present bits_from
 enough c =

@@ -1,4 +1,4 @@
--- The two groups in which a sample id is read are its fields.
+-- The two groups in which a sample id is read make up its fields.
 use Rattle.std.proofs.Common.{◌≡◌, refl}
 use Rattle.std.specs.Prelude.{Result, Ok, Err}
 use Rattle.perf_base.specs.Layout.{◌>>=◌}
@@ -18,7 +18,7 @@ groups_are_it : (has : Present) → (origin has >>= behind_origin has) ≡ field
 groups_are_it has = refl
 
 module _ {I E : Type 0} {source : I → Source} {order : E → Order} where
-  -- the second group was read behind the first
+  -- the second group was read after the first
   pub origin_read : {a b c : Reader I E} {o : Origin} {seen : Result SampleIdValue ErrorKind} (has : Present) →
       Call source order (ReadsPlain (λ _. origin has) (λ o. o)) a (Ok o) b →
       Call source order (ReadsPlain (λ _. behind_origin has o) (λ s. s)) b seen c →

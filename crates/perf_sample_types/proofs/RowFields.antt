@@ -1,4 +1,4 @@
--- Fields of eight bytes that are taken one after another out of bytes at hand.
+-- Fields of eight bytes that are taken one after another from bytes in memory.
 use Rattle.std.proofs.Common.{◌≡◌, ℕ, ◌+◌, ◌-◌, ◌≤◌, ◌^◌, ◌==◌, List, [], ◌∷◌, ◌++◌, length, take, drop, Bool, true, false, refl, sym, ◌∙◌, ap, subst, arith}
 use Rattle.std.proofs.lemmas.List.{take-append-drop, take-append-le, drop-append-le, append_assoc, length-append, length-take-le, length-drop, take-take, drop-take, drop-drop}
 use Rattle.std.proofs.Math.Seq.{drop-append_seam}
@@ -25,7 +25,7 @@ use Rattle.perf_sample_types.proofs.FlaggedFields.{flag_asked}
 
 -- ---- what eight bytes are
 
--- one part that is there, and then the others
+-- one part that is present, and then the others
 step : {A : Type 0} (o : Order) (shape : Shape) (k : Answer shape → Parts A) (bytes : List ℕ) (n : ℕ) → size shape (length bytes) ≤ length bytes →
     take_parts o (part shape k) bytes n
     ≡ take_parts o (k (answer_of o shape (take (size shape (length bytes)) bytes))) (drop (size shape (length bytes)) bytes) (n + reads_of shape (size shape (length bytes)))
@@ -116,7 +116,7 @@ flag_in_row o p fields v vs a b c {word} {type} bit asked first next =
 pub field_not_taken : (o : Order) (present : Bool) (p : Parts FieldValue) (a : Row) → present ≡ false → TakesField o (present_if present p) None a a
 field_not_taken o present p a absent = (front_none a, λ tail n. field_absent o present p (a.left.now ++ tail) (n + a.reads) absent)
 
--- it is there, and takes eight bytes
+-- it is present, and takes eight bytes
 pub field_taken : (o : Order) (present : Bool) (p : Parts FieldValue) (v : FieldValue) (word : List ℕ) (k : ℕ) (a b : Row) → present ≡ true →
     8 ≤ length a.left.now → take 8 a.left.now ≡ word → b.left.now ≡ drop 8 a.left.now → b.reads ≡ a.reads + k → k ≤ 8 →
     ((bytes : List ℕ) (n : ℕ) → 8 ≤ length bytes → take 8 bytes ≡ word → take_parts o p bytes n ≡ took v (drop 8 bytes) (n + k)) →
@@ -145,7 +145,7 @@ front_length a b front =
     (omega (arith, long), omega (arith, long, front.2))
 
 module _ {I E : Type 0} {source : I → Source} {order : E → Order} where
-  -- a table whose fields were taken out of what is shown, which then was passed over
+  -- a table whose fields were taken from the shown bytes, which were then skipped
   pub row_call : {Y : Type 0} {a b : Reader I E} {y : Y} (fields : Configuration → List (Option (Parts FieldValue))) (view : Y → SampleValue) (shown : List ℕ) (was now : Row) (len : ℕ) →
       (IsTrue (source a.input).told → (length shown ≤ length (source a.input).left) × (shown ≡ take (length shown) (source a.input).left)) →
       was.left.now ≡ shown → was.reads ≡ 0 → len ≡ length shown - length now.left.now →

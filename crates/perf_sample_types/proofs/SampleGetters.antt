@@ -1,4 +1,4 @@
--- What the calls of a sample see of a field that is a number.
+-- What the getters of a sample return for a field that is a number.
 use Rattle.std.proofs.Common.{◌≡◌, ℕ, Option, Some, None, option_map, refl}
 use Rattle.perf_sample_types.specs.Sample.{number_is}
 use Rattle.perf_sample_types.specs.SampleGetters.{number_in}

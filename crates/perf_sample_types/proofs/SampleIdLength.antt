@@ -1,4 +1,4 @@
--- A sample id takes as many bytes as `sample_id_length` says, whatever they are.
+-- A sample id takes `sample_id_length` bytes, whatever they are.
 use Rattle.std.proofs.Common.{◌≡◌, ℕ, ◌*◌, ◌≤◌, ◌<◌, Bool, true, false, List, length, drop, if◌then◌else◌, refl, sym, ◌∙◌, ap, arith, inl, inr}
 use Rattle.std.proofs.lemmas.Bool.{cases_lt}
 use Rattle.perf_base.specs.Configuration.{Configuration}
@@ -33,12 +33,12 @@ under false o body t = refl
 pub ending-sample_id : (c : Configuration) (o : Order) (body : List ℕ) → ending o body 0 (sample_id c) ≡ sample_id_length c
 ending-sample_id c o body = under c.sample_id_all o body c.sample_type
 
--- there is no check among its fields
+-- none of its fields is checked
 free : (all : Bool) (t : ℕ) → Unchecked (if all then sample_id_fields t else done no_sample_id)
 free true t = λ pid tid time id stream_id cpu nothing identifier. tt
 free false t = tt
 
--- It stands wherever that many bytes are left, and takes exactly them.
+-- It is read whenever that many bytes are left, and takes exactly them.
 pub sample_id_there : (c : Configuration) (o : Order) (bytes : List ℕ) → sample_id_length c ≤ length bytes →
     by_places o (sample_id c) bytes ≡ ran (value o bytes 0 (sample_id c)) (drop (sample_id_length c) bytes)
 sample_id_there c o bytes fits =

@@ -1,4 +1,4 @@
--- The fields of a sample id, by which of them are there, are its layout.
+-- The fields of a sample id, by which of them are present, are its layout.
 use Rattle.std.proofs.Common.{◌≡◌, ℕ, List, true, refl, sym, ◌∙◌, ap, if◌then◌else◌, length, drop, ◌<◌}
 use Rattle.perf_base.specs.Configuration.{Configuration}
 use Rattle.perf_base.specs.Layout.{Parts, done}
@@ -43,7 +43,7 @@ places_stopped : {A : Type 0} (o : Order) (p : Parts A) (bytes : List ℕ) (n : 
 unfolding took_by_places by_places
 places_stopped o p bytes n e left m h = stopped_reads (judged o bytes 0 p) _ e left m h
 
--- it takes as many bytes as it has, or they are lacking
+-- it takes as many bytes as it has, or there are too few
 pub id_takes : (c : Configuration) (o : Order) (bytes : List ℕ) (n : ℕ) (v : SampleIdValue) (left : List ℕ) (m : ℕ) → took_by_places o (sample_id c) bytes n ≡ took v left m → left ≡ drop (sample_id_length c) bytes
 id_takes c o bytes n v left m h = sample_id_takes c o bytes left v (places_ran o (sample_id c) bytes n v left m h)
 

@@ -1,4 +1,4 @@
--- The body of a sample is its groups of fields, one behind another.
+-- The body of a sample is its groups of fields, one after another.
 use Rattle.std.proofs.Common.{◌≡◌, ℕ, List, refl, ◌∙◌}
 use Rattle.perf_base.specs.Configuration.{Configuration}
 use Rattle.perf_base.specs.Order.{Order}

@@ -34,7 +34,7 @@ sample_id_of_all_fields : layout little (sample_id (with_ids 0x1FFFFFF)) (four 1
     Ok (record { pid = Some 1; tid = Some 2; time = Some 3; id = Some 4; stream_id = Some 5; cpu = Some 6 })
 sample_id_of_all_fields = refl
 
--- the four bytes behind the processor have to be there
+-- the four bytes after the processor must be present
 sample_id_with_half_a_cpu : layout little (sample_id (with_ids 0x80)) (four 6 0) ≡ Err Eof
 sample_id_with_half_a_cpu = refl
 

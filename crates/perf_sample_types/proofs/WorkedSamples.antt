@@ -38,7 +38,7 @@ no_fields : layout little (sample (typed 0)) [] ≡ Ok none
 unfolding sample
 no_fields = refl
 
--- ---- the order of all plain fields, each of which holds its place in the kernel's order
+-- ---- the order of all plain fields, each at its place in the kernel's order
 abbrev plain_flags : ℕ
 plain_flags =
     2 ^ 16 + 2 ^ 0 + 2 ^ 1 + 2 ^ 2 + 2 ^ 3 + 2 ^ 6 + 2 ^ 9 + 2 ^ 7 + 2 ^ 8 + 2 ^ 14 + 2 ^ 15 + 2 ^ 17 + 2 ^ 19 + 2 ^ 21 + 2 ^ 22
@@ -80,7 +80,7 @@ order_of_plain_fields : layout little (sample (typed plain_flags)) plain_body �
 unfolding sample
 order_of_plain_fields = refl
 
--- a read for each number, and one for the four bytes behind the processor
+-- a read for each number, and one for the four bytes after the processor
 reads_of_plain_fields : layout_reads little (sample (typed plain_flags)) plain_body ≡ 18
 unfolding sample
 reads_of_plain_fields = refl
@@ -141,7 +141,7 @@ branch_of_three_words : layout little (sample (typed (2 ^ 11))) (eight 1 ++ eigh
 unfolding sample branch_stack
 branch_of_three_words = refl
 
--- the hardware's index is read for no branches too
+-- the hardware's index is read even without branches
 index_of_no_branches : layout little (sample (record (typed (2 ^ 11)) { branch_hw_index = true })) (eight 0 ++ eight 6) ≡ Ok (only 12 (branches_are (Some 6) (Some [])))
 unfolding sample branch_stack
 index_of_no_branches = refl
@@ -152,7 +152,7 @@ registers_of_three : layout little (sample (record (typed (2 ^ 12)) { regs_user 
 unfolding sample registers ones
 registers_of_three = refl
 
--- none are there without an abi
+-- there are none without an abi
 registers_of_none : layout little (sample (record (typed (2 ^ 18)) { regs_user = 0x15; regs_intr = 3 })) (eight 0 ++ eight 7) ≡
     Ok (only 18 (registers_are (record { abi = 0; mask = 3; regs = [] })))
 unfolding sample registers
@@ -167,7 +167,7 @@ stack_of_too_many_used : layout little (sample (typed (2 ^ 13))) (eight 8 ++ (1 
 unfolding sample
 stack_of_too_many_used = refl
 
--- an empty one has no size that was used
+-- an empty one has no used size
 stack_of_none : layout little (sample (typed (2 ^ 13 + 2 ^ 14))) (eight 0 ++ eight 4) ≡ Ok (set (only 14 (bytes_are [])) 15 (Some (number_is 4)))
 unfolding sample
 stack_of_none = refl
@@ -193,7 +193,7 @@ unknown_read_format : layout little (sample (record (typed (2 ^ 4)) { read_forma
 unfolding sample values
 unknown_read_format = refl
 
--- ---- the id: that of ID before that of IDENTIFIER
+-- ---- the id: that of ID, or else of IDENTIFIER
 id_before_identifier : id_of (Some (number_is 9) ∷ None ∷ None ∷ None ∷ None ∷ Some (number_is 7) ∷ []) ≡ Some 7
 id_before_identifier = refl
 

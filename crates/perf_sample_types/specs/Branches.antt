@@ -1,10 +1,10 @@
--- The numbers of a branch stack, three of each branch: where it came from, where it went, and a word
--- of bit fields.
+-- The numbers of a branch stack, three for each branch: where it came from, where it went, and a
+-- word of bit fields.
 use Rattle.std.specs.Prelude.{ℕ, List, [], ◌∷◌, take, drop}
 use Rattle.perf_base.specs.Order.{Order}
 use Rattle.perf_words.specs.Branch.{Branch}
 
--- numbers, three and three
+-- numbers, three for each branch
 abbrev pub branches_of : List ℕ → List Branch
 branches_of (from ∷ to ∷ word ∷ words) =
     record { from = from; to = to; word = word } ∷ branches_of words
@@ -14,7 +14,7 @@ branches_of _ = []
 abbrev pub branch_numbers : Branch → List ℕ
 branch_numbers b = b.from ∷ b.to ∷ b.word ∷ []
 
--- the branch whose 24 bytes these are
+-- the branch in these 24 bytes
 abbrev pub branch_of : Order → List ℕ → Branch
 branch_of o bytes = record {
   from = o.eight (take 8 bytes);

@@ -6,13 +6,13 @@ use Rattle.perf_base.specs.FieldWords.{u64, numbers}
 use Rattle.perf_base.specs.Layout.{Parts, done, ◌>>=◌}
 use Rattle.perf_sample_types.specs.declared.registers.Registers.{Registers}
 
--- registers: what kind of task they are of, which they are, and a number for each
+-- registers: the task's ABI, the mask, and a number for each
 pub record RegistersValue : Type 0 where
   pub abi : ℕ
   pub mask : ℕ
   pub regs : List ℕ
 
--- the value of registers of the code, wherever their numbers lie
+-- the value of registers of the code, wherever their numbers are stored
 abbrev pub registers_value : Registers → RegistersValue
 registers_value r = record { abi = r.abi; mask = r.mask; regs = cow_items r.regs }
 
@@ -20,13 +20,12 @@ registers_value r = record { abi = r.abi; mask = r.mask; regs = cow_items r.regs
 abbrev pub registers_form : Registers → List Bool
 registers_form r = cow_form r.regs
 
--- How many registers there are: one for each bit of the mask, but none where the kind of task says
--- that there are none.
+-- How many registers there are: one for each bit of the mask, but none if the ABI is 0.
 abbrev pub register_count : (mask abi : ℕ) → ℕ
 register_count mask zero = 0
 register_count mask (suc kind) = count_ones mask
 
--- the registers of a mask in plain numbers: the kind of task, and a number for each
+-- the registers of a mask in plain numbers: the ABI, and a number for each
 abbrev pub registers_of : ℕ → Parts RegistersValue
 registers_of mask = do
   abi ← u64

@@ -1,5 +1,5 @@
--- PERF_RECORD_SAMPLE: what was true when an event happened. 24 fields stand one behind another in
--- the order in which the kernel writes them, each where the sample type has its flag.
+-- PERF_RECORD_SAMPLE: what was true when an event happened. 24 fields follow one another in the
+-- order in which the kernel writes them, each present if the sample type has its flag.
 use Rattle.std.specs.Prelude.{ℕ, ◌-◌, ◌*◌, ◌%◌, Bool, false, ◌||◌, nat_le, nat_lt}
 use Rattle.std.specs.Prelude.{List, [], ◌∷◌, map, take, Option, Some, unwrap_or, if◌then◌else◌}
 use Rattle.perf_base.specs.Configuration.{Configuration}
@@ -18,7 +18,7 @@ use Rattle.perf_words.specs.Branch.{Branch}
 
 -- ---- values
 
--- what a field says
+-- the value of a field
 pub data FieldValue : Type 0 where
   -- a number
   number_is : ℕ → FieldValue
@@ -30,12 +30,12 @@ pub data FieldValue : Type 0 where
   numbers_are : List ℕ → FieldValue
   -- bytes
   bytes_are : List ℕ → FieldValue
-  -- branches, and where the hardware's own list of them had its newest
+  -- branches, and the position of the newest in the hardware's own list
   branches_are : (hw_index : Option ℕ) → Option (List Branch) → FieldValue
   -- registers
   registers_are : RegistersValue → FieldValue
 
--- ---- what bytes a field takes
+-- ---- the parts of a field
 
 -- a number of eight bytes
 abbrev pub plain : Parts FieldValue
@@ -48,33 +48,33 @@ task = do
   tid ← u32
   done (task_is (Some pid) (Some tid))
 
--- a processor's number, and four bytes that say nothing
+-- a processor's number, and four unused bytes
 abbrev pub cpu : Parts FieldValue
 cpu = do
   number ← u32
   ignored 4
   done (number_is number)
 
--- A read of the group, or of one counter, which is a group of one. Like the other fields that hang on
--- the configuration it is opened only where a proof asks for it.
+-- A read of the group, or of one counter, which is a group of one. Like the other fields that
+-- depend on the configuration it is opened only when a proof asks for it.
 unfoldable pub values : Configuration → Parts FieldValue
 values c =
     if has_group c.read_format
     then mapped group_is (read_group c)
     else mapped (λ one. group_is (group_of one)) (read_value c)
 
--- a count, and as many addresses
+-- a count, and that many addresses
 abbrev pub call_chain : Parts FieldValue
 call_chain = do
   count ← u64
   addresses ← numbers count
   done (numbers_are addresses)
 
--- how many bytes fill up raw bytes, with the four of their length, to a multiple of eight
+-- how many bytes pad raw bytes, with the four of their length, to a multiple of eight
 abbrev pub raw_padding : ℕ → ℕ
 raw_padding length = (12 - length % 8) % 8
 
--- a length of four bytes, as many bytes, and those that fill up
+-- a length of four bytes, that many bytes, and the padding
 abbrev pub raw : Parts FieldValue
 raw = do
   length ← u32
@@ -82,8 +82,8 @@ raw = do
   ignored (raw_padding length)
   done (bytes_are contents)
 
--- a count, the hardware's index where the configuration says that there is one, and as many
--- branches of three numbers
+-- a count, the hardware's index if the configuration has one, and that many branches of three
+-- numbers
 unfoldable pub branch_stack : Configuration → Parts FieldValue
 branch_stack c = do
   count ← u64
@@ -95,8 +95,8 @@ branch_stack c = do
 unfoldable pub registers : ℕ → Parts FieldValue
 registers mask = mapped registers_are (registers_of mask)
 
--- A size, as many bytes of the stack, and where there are any, how many of them the kernel used: no
--- others count. It cannot have used more than there are.
+-- A size, that many bytes of the stack, and if there are any, how many of them the kernel used: the
+-- others do not count. The used size cannot exceed the size.
 abbrev pub stack : Parts FieldValue
 stack = do
   size ← u64
@@ -105,7 +105,7 @@ stack = do
   require (nat_le (unwrap_or used 0) size) InvalidRecord
   done (bytes_are (take (unwrap_or used 0) contents))
 
--- a size, and as many bytes
+-- a size, and that many bytes
 abbrev pub sized_bytes : Parts FieldValue
 sized_bytes = do
   size ← u64
@@ -114,22 +114,22 @@ sized_bytes = do
 
 -- ---- fields
 
--- A field is there where the sample type has one of its flags, PERF_SAMPLE_*, here by their bits.
--- What it takes does not hang on the sample type.
+-- A field is present if the sample type has one of its flags, PERF_SAMPLE_*, given here as bit
+-- numbers. Its parts do not depend on the sample type.
 pub record Field : Type 0 where
   pub flags : List ℕ
   pub parts : Configuration → Parts FieldValue
 
--- a field of one flag, whatever the configuration says
+-- a field of one flag, the same under every configuration
 abbrev pub at_flag : ℕ → Parts FieldValue → Field
 at_flag flag parts = record { flags = flag ∷ []; parts = λ c. parts }
 
--- a field of one flag, which hangs on the configuration
+-- a field of one flag, which depends on the configuration
 abbrev pub at_flag_under : ℕ → (Configuration → Parts FieldValue) → Field
 at_flag_under flag parts = record { flags = flag ∷ []; parts = parts }
 
--- what happened when and where, and of which event: IDENTIFIER, IP, TID, TIME, ADDR, ID, STREAM_ID,
--- CPU, PERIOD, each of eight bytes
+-- when and where it happened, and which event it was: IDENTIFIER, IP, TID, TIME, ADDR, ID,
+-- STREAM_ID, CPU, PERIOD, each of eight bytes
 abbrev pub moment_fields : List Field
 moment_fields =
     at_flag 16 plain ∷
@@ -143,14 +143,14 @@ moment_fields =
     at_flag 8 plain ∷
     []
 
--- what was counted, and how the code got there: READ, CALLCHAIN
+-- the counters that were read, and the call chain: READ, CALLCHAIN
 abbrev pub count_fields : List Field
 count_fields =
     at_flag_under 4 values ∷
     at_flag 5 call_chain ∷
     []
 
--- what the event, the processor and the task held: RAW, BRANCH_STACK, REGS_USER, STACK_USER
+-- the state of event, processor and task: RAW, BRANCH_STACK, REGS_USER, STACK_USER
 abbrev pub state_fields : List Field
 state_fields =
     at_flag 10 raw ∷
@@ -194,11 +194,11 @@ abbrev pub has_one : (sample_type : ℕ) → List ℕ → Bool
 has_one sample_type [] = false
 has_one sample_type (flag ∷ flags) = has_bit sample_type flag || has_one sample_type flags
 
--- a field is there
+-- a field is present
 abbrev pub is_present : Configuration → Field → Bool
 is_present c field = has_one c.sample_type field.flags
 
--- what of a configuration a field's parts may hang on: all but the sample type
+-- what of a configuration a field's parts may depend on: all but the sample type
 abbrev pub settings_of : Configuration → Configuration
 settings_of c = record c { sample_type = 0 }
 
@@ -215,10 +215,10 @@ abbrev pub groups_under : Configuration → List (List Field) →
     List (List (Option (Parts FieldValue)))
 groups_under c groups = map (fields_under c) groups
 
--- A sample is the list of what its fields say, None for one that is absent.
+-- A sample is the list of the values of its fields, None for one that is absent.
 abbrev pub SampleValue : Type 0
 SampleValue = List (Option FieldValue)
 
--- the body; it is opened only where a proof asks for it
+-- the body; it is opened only when a proof asks for it
 unfoldable pub sample : Configuration → Parts SampleValue
 sample c = table (fields_under c sample_fields)

@@ -11,7 +11,7 @@ use Rattle.perf_sample_types.specs.declared.sample_fields.Trace.{Trace}
 
 -- ---- the counters, the call chain, raw bytes and branches
 
--- what they say
+-- their values
 pub record TraceValue : Type 0 where
   pub values : Option GroupRead
   pub callchain : Option (List ℕ)
@@ -38,7 +38,7 @@ trace_of f = record { values = f.values; callchain = f.callchain; raw = f.raw; l
 
 -- ---- registers, the stack and bytes of the AUX area
 
--- what they say
+-- their values
 pub record HeldValue : Type 0 where
   pub regs_user : Option RegistersValue
   pub stack_user : Option (List ℕ)

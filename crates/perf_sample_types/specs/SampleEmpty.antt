@@ -1,4 +1,4 @@
--- Samples that are filled in place: how they begin, and what was read where a place was filled.
+-- Samples that are filled in place: how they begin, and what is read when a place is filled.
 use Rattle.std.specs.Prelude.{Result, Ok, Err, None}
 use Rattle.perf_base.specs.declared.error.ErrorKind.{ErrorKind}
 use Rattle.perf_sample_types.specs.declared.sample_groups.Moment.{Moment}
@@ -8,7 +8,7 @@ use Rattle.perf_sample_types.specs.declared.sample_groups.Costs.{Costs}
 use Rattle.perf_sample_types.specs.declared.sample_groups.Memory.{Memory}
 use Rattle.perf_sample_types.specs.declared.sample.Sample.{Sample}
 
--- what a call read that filled a place: the value that is there, or its refusal
+-- what a call read that filled a place: the value in the place, or its refusal
 abbrev pub filled : {X Y : Type 0} → Result Y ErrorKind → X → Result X ErrorKind
 filled (Ok y) x = Ok x
 filled (Err e) x = Err e

@@ -1,5 +1,5 @@
--- Which lists of a sample of the code are borrowed, in the order of its fields. A field that is absent
--- has none.
+-- Which lists of a sample of the code are borrowed, in the order of its fields. An absent field has
+-- none.
 use Rattle.std.specs.Prelude.{Bool, List, [], ◌++◌, Option, Some, None}
 pub use Rattle.perf_base.specs.Cow.{cow_form}
 use Rattle.perf_types.specs.ReadGroup.{read_group_form}
@@ -45,7 +45,7 @@ stack_form s = cow_form s.0
 abbrev pub aux_form : AuxBytes → List Bool
 aux_form a = cow_form a.0
 
--- whether registers of the task's own code are borrowed
+-- whether registers of the task's user-space code are borrowed
 abbrev pub user_form : UserRegisters → List Bool
 user_form r = registers_form r.0
 
@@ -59,7 +59,7 @@ interrupt_form r = registers_form r.0
 abbrev pub counts_form : Counts → List Bool
 counts_form c = form_if read_group_form c.values ++ form_if call_chain_form c.call_chain
 
--- what the event, the processor and the task held
+-- the state of event, processor and task
 abbrev pub state_form : State → List Bool
 state_form s =
     form_if raw_form s.raw
@@ -81,7 +81,7 @@ abbrev pub sample_form : Sample → List Bool
 sample_form s =
     counts_form s.counts ++ (state_form s.state ++ (costs_form s.costs ++ memory_form s.memory))
 
--- the lists of fields by their names
+-- the lists of fields by name
 abbrev pub fields_form : SampleFields → List Bool
 fields_form f =
     form_if read_group_form f.values

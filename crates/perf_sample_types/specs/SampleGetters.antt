@@ -1,5 +1,5 @@
--- What the calls of a sample answer, in the order in which they are printed: each is a field of the
--- table, by its place there, and None where that is absent.
+-- What the getters of a sample return, in the order in which they are printed: each is a field of
+-- the table, by its place there, and None if that is absent.
 use Rattle.std.specs.Prelude.{ℕ, List, get_or, Option, Some, None, option_map, IfSome, IsTrue}
 use Rattle.perf_base.specs.Cow.{cow_items, is_borrowed}
 use Rattle.perf_types.specs.ReadGroup.{GroupRead, group_read}
@@ -11,7 +11,7 @@ use Rattle.perf_sample_types.specs.declared.sample_fields.SampleFields.{SampleFi
 use Rattle.perf_words.specs.Branch.{Branch}
 use Rattle.perf_words.specs.SetBits.{txn_bits}
 
--- the answers of all calls
+-- the results of all getters
 pub record Getters : Type 0 where
   pub ip : Option ℕ
   pub pid : Option ℕ
@@ -39,7 +39,7 @@ pub record Getters : Type 0 where
   pub data_page_size : Option ℕ
   pub code_page_size : Option ℕ
 
--- ---- what a field says, seen as one kind of value
+-- ---- the value of a field, as one kind of value
 
 -- its number
 abbrev pub number_in : Option FieldValue → Option ℕ
@@ -86,17 +86,17 @@ abbrev pub registers_in : Option FieldValue → Option RegistersValue
 registers_in (Some (registers_are registers)) = Some registers
 registers_in _ = None
 
--- ---- the calls
+-- ---- the getters
 
--- what field i says, None where it is absent
+-- the value of field i, None if it is absent
 abbrev pub field_at : SampleValue → ℕ → Option FieldValue
 field_at vs i = get_or vs i None
 
--- the value of ID, where that is there, else of IDENTIFIER
+-- the value of ID, or else of IDENTIFIER
 abbrev pub id_of : SampleValue → Option ℕ
 id_of vs = first_of (number_in (field_at vs 5)) (number_in (field_at vs 0))
 
--- what the calls answer of a sample
+-- what the getters return for a sample
 abbrev pub getters_of : SampleValue → Getters
 getters_of vs = record {
   ip = number_in (field_at vs 1);
@@ -126,7 +126,7 @@ getters_of vs = record {
   code_page_size = number_in (field_at vs 22);
 }
 
--- the sample id that says the same
+-- the sample id with the same values
 abbrev pub sample_id_of : SampleValue → SampleIdValue
 sample_id_of vs = record {
   pid = (getters_of vs).pid;
@@ -139,7 +139,7 @@ sample_id_of vs = record {
 
 -- ---- fields of the code
 
--- what the calls of a sample of these fields answer: each its own
+-- what the getters of a sample with these fields return: each its own
 abbrev pub fields_getters : SampleFields → Getters
 fields_getters f = record {
   ip = f.ip;
@@ -169,7 +169,7 @@ fields_getters f = record {
   code_page_size = f.code_page_size;
 }
 
--- the answers where no field is there
+-- the results if all fields are absent
 abbrev pub no_getters : Getters
 no_getters = record {
   ip = None;

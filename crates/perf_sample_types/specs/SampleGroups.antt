@@ -1,4 +1,4 @@
--- What the groups of a sample of the code say, field by field.
+-- The values of the groups of a sample of the code, field by field.
 use Rattle.std.specs.Prelude.{[], ◌∷◌, ◌++◌, option_map, IfSome, IsTrue}
 use Rattle.perf_base.specs.Cow.{is_borrowed}
 use Rattle.perf_sample_types.specs.Sample.{number_is, SampleValue}
@@ -10,7 +10,7 @@ use Rattle.perf_sample_types.specs.declared.sample_groups.Costs.{Costs}
 use Rattle.perf_sample_types.specs.declared.sample_groups.Memory.{Memory}
 use Rattle.perf_sample_types.specs.declared.sample.Sample.{Sample}
 
--- what happened when and where, and of which event
+-- when and where it happened, and which event it was
 abbrev pub moment_value : Moment → SampleValue
 moment_value m =
     option_map number_is m.identifier ∷
@@ -24,14 +24,14 @@ moment_value m =
     option_map number_is m.period ∷
     []
 
--- what was counted, and how the code got there
+-- the counters that were read, and the call chain
 abbrev pub counts_value : Counts → SampleValue
 counts_value c =
     option_map parts.group_value c.values ∷
     option_map parts.call_chain_value c.call_chain ∷
     []
 
--- what the event, the processor and the task held
+-- the state of event, processor and task
 abbrev pub state_value : State → SampleValue
 state_value s =
     option_map parts.raw_value s.raw ∷

@@ -1,5 +1,5 @@
 -- The sample id, `struct sample_id` of perf_event_open(2): fields that the kernel writes at the end
--- of records where `sample_id_all` is set. Each flag of the sample type has eight bytes.
+-- of records if `sample_id_all` is set. Each flag of the sample type takes eight bytes.
 use Rattle.std.specs.Prelude.{ℕ, ◌+◌, ◌*◌, Bool, Option, Some, None, if◌then◌else◌}
 use Rattle.perf_base.specs.Configuration.{Configuration}
 use Rattle.perf_words.specs.Bits.{has_bit}
@@ -48,12 +48,12 @@ has_identifier sample_type = has_bit sample_type 16
 
 -- ---- tables
 
--- the first number, where it is there, else the second
+-- the first number if present, or else the second
 abbrev pub first_of : Option ℕ → Option ℕ → Option ℕ
 first_of (Some n) _ = Some n
 first_of None second = second
 
--- The fields of a sample type. The id stands at one of two places, or at both.
+-- The fields of a sample type. The id is at one of two places, or at both.
 abbrev pub sample_id_fields : ℕ → Parts SampleIdValue
 sample_id_fields sample_type = do
   pid ← u32_if (has_tid sample_type)

@@ -1,4 +1,4 @@
--- The fields of a sample id, by which of them are there, and how many bytes they take.
+-- The fields of a sample id, by which of them are present, and how many bytes they take.
 use Rattle.std.specs.Prelude.{◌≡◌, ℕ, ◌<◌, Ok, Err, IsTrue, length, drop}
 use Rattle.perf_base.specs.FieldWords.{u32_if, u64_if, ignored_if}
 use Rattle.perf_base.specs.Layout.{Parts, done, ◌>>=◌, ◌>>◌}
@@ -7,7 +7,7 @@ use Rattle.perf_sample_types.specs.SampleId.{SampleIdValue, first_of}
 use Rattle.perf_sample_types.specs.declared.sample_id.Present.{Present}
 use Rattle.perf_sample_types.specs.declared.sample_id.Origin.{Origin}
 
--- the fields that are there, one behind another
+-- the fields that are present, one after another
 abbrev pub fields_of : Present → Parts SampleIdValue
 fields_of has = do
   pid ← u32_if has.tid
@@ -38,7 +38,7 @@ origin has = do
   id ← u64_if has.id
   done (record { pid = pid; tid = tid; time = time; id = id })
 
--- what stands behind them
+-- the fields after these
 abbrev pub behind_origin : Present → Origin → Parts SampleIdValue
 behind_origin has o = do
   stream_id ← u64_if has.stream_id
@@ -56,7 +56,7 @@ behind_origin has o = do
 
 -- ---- how many bytes
 
--- n bytes were taken; or fewer were left, where it was refused with a kind of the layout
+-- n bytes were taken; or fewer were left, if it was refused with a kind of the layout
 abbrev pub TakesOrLacks : {X : Type 0} → ℕ → Says X
 TakesOrLacks n old (Ok x) new = new.source.left ≡ drop n old.source.left
 TakesOrLacks n old (Err e) new = IsTrue (of_layout e) → length old.source.left < n

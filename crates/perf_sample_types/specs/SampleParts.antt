@@ -1,4 +1,4 @@
--- What a field of a sample of the code says, wherever its bytes and numbers lie.
+-- The value of a field of a sample of the code, wherever its bytes and numbers are stored.
 use Rattle.std.specs.Prelude.{option_map}
 use Rattle.perf_base.specs.Cow.{cow_items}
 use Rattle.perf_types.specs.ReadGroup.{group_read}
@@ -54,7 +54,7 @@ stack_value s = bytes_are (cow_items s.0)
 abbrev pub aux_value : AuxBytes → FieldValue
 aux_value a = bytes_are (cow_items a.0)
 
--- registers of the task's own code
+-- registers of the task's user-space code
 abbrev pub user_value : UserRegisters → FieldValue
 user_value r = registers_are (registers_value r.0)
 

@@ -1,4 +1,4 @@
--- How fields are taken one after another out of bytes at hand.
+-- How fields are taken one after another from bytes in memory.
 use Rattle.std.specs.Prelude.{◌≡◌, ◌≤◌, ◌+◌, ◌++◌, ℕ, List, Option, length}
 use Rattle.perf_base.specs.Layout.{Parts}
 use Rattle.perf_base.specs.Order.{Order}
@@ -7,13 +7,13 @@ use Rattle.perf_reader.specs.TableRuns.{field_took, table_took}
 use Rattle.perf_sample_types.specs.Sample.{FieldValue, SampleValue}
 use Rattle.perf_sample_types.specs.declared.sample_row.Row.{Row}
 
--- bytes were taken off the front of a row, in no more reads than they are bytes
+-- bytes were taken from the front of a row, in at most one read for each
 abbrev pub TakesFront : (was now : Row) → Type 0
 TakesFront was now =
     (taken : List ℕ) × (was.left.now ≡ taken ++ now.left.now) × (now.reads ≤ was.reads + length taken)
 
--- A field of a table was taken so: whatever bytes come after the row, and however many reads were made
--- before, it has this value in all those bytes, in as many reads.
+-- A field of a table was taken like this: whatever bytes come after the row, and however many reads
+-- were made before, it has this value in all those bytes, in as many reads.
 abbrev pub TakesField : Order → Option (Parts FieldValue) → Option FieldValue → (was now : Row) → Type 0
 TakesField o field value was now =
     TakesFront was now

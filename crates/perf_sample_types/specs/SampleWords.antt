@@ -1,4 +1,4 @@
--- The words that contracts of samples are written in.
+-- The names that contracts of samples are written in.
 pub use Rattle.perf_base.specs.Layout.{Parts}
 pub use Rattle.perf_base.specs.Cow.{cow_items, is_borrowed}
 pub use Rattle.perf_reader.specs.TableRuns.{ReadsBorrowed, ReadsField, ReadsTable}

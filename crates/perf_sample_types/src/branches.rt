@@ -1,4 +1,4 @@
-//! Branch stacks. No claimed count makes room for branches.
+//! Branch stacks. A claimed count of branches is never trusted for allocation.
 
 ghost use Rattle.std.specs.Prelude.{◌≡◌, ◌*◌, [], Bool, true, false, length, Ok, Err};
 ghost use Rattle.std.specs.Prelude.{IfOk, IfErr};
@@ -16,12 +16,12 @@ use perf_reader::reader::Reader;
 use perf_types::numbers::read_to_the_end;
 use perf_words::BranchEntry;
 
-// How many numbers a branch is, and how many bytes.
+// How many numbers a branch has, and how many bytes.
 const NUMBERS: usize = 3;
 
 const SIZE: usize = 24;
 
-// The branch whose bytes these are.
+// The branch in these bytes.
 #[inline(always)]
 fn branch_in<E: Endian>(order: &E, bytes: &[u8; SIZE]) -> BranchEntry
     ensures { result ≡ branch_of (E.order order.now) bytes.now }
@@ -33,7 +33,7 @@ fn branch_in<E: Endian>(order: &E, bytes: &[u8; SIZE]) -> BranchEntry
     BranchEntry::from_words(from, to, word)
 }
 
-// Puts the branches of some bytes into their places.
+// Puts the branches in some bytes into their places.
 #[inline]
 fn convert<E: Endian>(order: &E, bytes: &[u8], branches: &mut [BranchEntry])
     requires { length bytes.now ≡ 24 * length branches.old }
@@ -46,8 +46,8 @@ fn convert<E: Endian>(order: &E, bytes: &[u8], branches: &mut [BranchEntry])
     }
 }
 
-// Fills a list with the next branches, if the input shows them all; otherwise nothing is read. There
-// is at least one of them.
+// Fills a list with the next branches, if the input shows all of their bytes; otherwise nothing is
+// read. There is at least one of them.
 #[inline]
 fn read_shown<'p, I: Input<'p>, E: Endian>(
     reader: &mut Reader<I, E>,
@@ -74,7 +74,7 @@ fn read_shown<'p, I: Input<'p>, E: Endian>(
     }
 }
 
-// So many branches, one by one. The list is empty.
+// Reads n branches, one by one. The list is empty.
 #[inline(never)]
 fn append_branches<'p, I: Input<'p>, E: Endian>(
     reader: &mut Reader<I, E>,
@@ -103,8 +103,8 @@ fn append_branches<'p, I: Input<'p>, E: Endian>(
     Ok(entries)
 }
 
-// So many branches, all at once where the input shows them. A list that does not fit takes no memory
-// where the input says what it has.
+// Reads n branches, all at once if the input shows their bytes. If the input reports how many bytes
+// it has, nothing is allocated for a list that does not fit.
 pub(crate) fn read_branches<'p, I: Input<'p>, E: Endian>(
     reader: &mut Reader<I, E>,
     count: usize,

@@ -1,4 +1,4 @@
-//! Registers of a task.
+//! The registers of a task.
 
 ghost use Rattle.std.specs.Prelude.{◌≡◌};
 ghost use Rattle.perf_sample_types.specs.Registers as shown;
@@ -13,19 +13,20 @@ use perf_types::numbers::read_numbers;
 use perf_words::SampleRegsAbi;
 use std::alloc::Global;
 
-/// The registers of a task when an event happened, those of its own code (`PERF_SAMPLE_REGS_USER`)
-/// or those that the processor had at the interrupt (`PERF_SAMPLE_REGS_INTR`).
+/// The registers of a task when an event happened: those of its user-space code
+/// (`PERF_SAMPLE_REGS_USER`) or those that the processor had at the interrupt
+/// (`PERF_SAMPLE_REGS_INTR`).
 #[derive(Debug, Drop)]
 pub struct Registers<'a> {
-    /// Whether the task is one of 32 or of 64 bits, `PERF_SAMPLE_REGS_ABI_*`. With
-    /// [`SampleRegsAbi::NONE`] no registers were written, as for a thread of the kernel, which has
-    /// none of a user.
+    /// Whether the task is a 32-bit or a 64-bit one, `PERF_SAMPLE_REGS_ABI_*`. With
+    /// [`SampleRegsAbi::NONE`] no registers were written, as for a kernel thread, which has no user
+    /// registers.
     pub abi: SampleRegsAbi,
-    /// Which registers the event asks for: a bit each, by the numbers of the machine's
+    /// Which registers the event asks for: one bit for each, by the numbers in the architecture's
     /// `perf_regs.h`.
     pub mask: u64,
-    /// What they held, one for each bit of the mask from its lowest on. There is none where `abi`
-    /// is [`SampleRegsAbi::NONE`].
+    /// Their values, one for each bit of the mask, the lowest bit first. Empty if `abi` is
+    /// [`SampleRegsAbi::NONE`].
     pub regs: CowSlice<'a, u64>,
 }
 
@@ -33,7 +34,7 @@ impl<'p> Registers<'p> {
     ghost use Rattle.perf_sample_types.specs.Registers.{registers_of, registers_value, registers_form};
     ghost use Rattle.perf_types.specs.Words.{Call, Reads, kinds, IsClone};
 
-    /// Reads registers of a mask.
+    /// Reads the registers of a mask.
     #[inline]
     #[tactic(auto, using(perf_reader::proofs::Paying::chain))]
     pub fn read_by<I: Input<'p>, E: Endian>(
@@ -53,7 +54,7 @@ impl<'p> Registers<'p> {
         })
     }
 
-    /// The same registers. They take no memory where their numbers are borrowed.
+    /// The same registers. Allocates nothing if their values are borrowed.
     pub fn clone(&self, alloc: Global) -> ParseResult<Registers<'p>>
         ensures { IsClone registers_value registers_form self.now result }
     {
@@ -65,7 +66,7 @@ impl<'p> Registers<'p> {
     }
 }
 
-// How many registers of a mask there are.
+// How many registers a mask has.
 #[inline]
 fn register_count(mask: u64, abi: u64) -> usize
     ensures { result ≡ shown.register_count mask abi }

@@ -1,4 +1,4 @@
-//! SAMPLE.
+//! The SAMPLE record.
 
 ghost use Rattle.std.specs.Prelude.{◌≡◌, ℕ, ◌*◌, ◌%◌, ◌^◌, ◌<◌, List, length, count_ones, IfOk};
 ghost use Rattle.std.specs.Prelude.{option_map, OnErr};
@@ -31,8 +31,8 @@ use perf_types::read_group::ReadGroup;
 use perf_words::{BranchEntry, DataSource, Txn};
 use std::alloc::Global;
 
-/// An event happened, and this was true then (`PERF_RECORD_SAMPLE`). A field is there where the
-/// sample type has its flag.
+/// An event happened, and this was recorded with it (`PERF_RECORD_SAMPLE`). A field is present if
+/// the sample type has its flag.
 #[derive(Debug, Drop)]
 pub struct Sample<'a> {
     moment: Moment,
@@ -43,8 +43,8 @@ pub struct Sample<'a> {
 }
 
 impl<'a> Sample<'a> {
-    /// The sample of these fields. A sample type that has their flags has all of them. Each of its
-    /// lists is borrowed or owned as the one that is given.
+    /// The sample with these fields. A sample type with their flags has all of them. Each of its
+    /// lists is borrowed or owned like the one given.
     #[tactic(auto, using(crate::proofs::SampleGetters::kept, crate::proofs::Forms::lists_of_groups))]
     pub fn from_fields(fields: SampleFields<'a>) -> Sample<'a>
         ensures fields { shown.getters_of (shown.sample_value result) ≡
@@ -90,7 +90,7 @@ impl<'a> Sample<'a> {
         }
     }
 
-    /// Where the code was: the address of an instruction (`PERF_SAMPLE_IP`).
+    /// The instruction pointer: the address of an instruction (`PERF_SAMPLE_IP`).
     #[inline]
     #[tactic(auto, using(crate::proofs::SampleGetters::kept))]
     pub fn ip(&self) -> Option<u64>
@@ -134,8 +134,7 @@ impl<'a> Sample<'a> {
         self.moment.time
     }
 
-    /// An address that belongs to the event, such as the one that a fault wanted
-    /// (`PERF_SAMPLE_ADDR`).
+    /// An address that belongs to the event, such as that of a page fault (`PERF_SAMPLE_ADDR`).
     #[inline]
     #[tactic(auto, using(crate::proofs::SampleGetters::kept))]
     pub fn addr(&self) -> Option<u64>
@@ -198,9 +197,9 @@ impl<'a> Sample<'a> {
         self.counts.values.as_ref()
     }
 
-    /// Addresses of calls, the innermost first. Numbers from `PERF_CONTEXT_MAX` on, -4095 as a u64,
-    /// are no addresses but say whose those behind them are. It is there where the sample type has
-    /// `PERF_SAMPLE_CALLCHAIN`.
+    /// The addresses of a call chain, the innermost first. Numbers from `PERF_CONTEXT_MAX` (-4095
+    /// as a u64) on are not addresses: they state the context of the addresses after them. Present
+    /// if the sample type has `PERF_SAMPLE_CALLCHAIN`.
     #[inline]
     pub fn callchain(&self) -> Option<&[u64]>
         ensures { option_map (λ items. items.now) result ≡
@@ -224,7 +223,7 @@ impl<'a> Sample<'a> {
         }
     }
 
-    /// Where the hardware's own list of branches had its newest one (`PERF_SAMPLE_BRANCH_STACK` and
+    /// The position of the newest branch in the hardware's own list (`PERF_SAMPLE_BRANCH_STACK` and
     /// the branch sample type `PERF_SAMPLE_BRANCH_HW_INDEX`).
     #[inline]
     pub fn lbr_hw_index(&self) -> Option<u64>
@@ -254,7 +253,7 @@ impl<'a> Sample<'a> {
         }
     }
 
-    /// The registers of the task's own code (`PERF_SAMPLE_REGS_USER`).
+    /// The registers of the task's user-space code (`PERF_SAMPLE_REGS_USER`).
     #[inline]
     pub fn regs_user(&self) -> Option<&Registers<'a>>
         ensures { option_map (λ regs. registers_value regs.now) result ≡
@@ -266,7 +265,7 @@ impl<'a> Sample<'a> {
         }
     }
 
-    /// What the kernel copied of the task's stack, from its top on: as many bytes as it used
+    /// What the kernel copied of the task's user stack, from its top on: as many bytes as were used
     /// (`PERF_SAMPLE_STACK_USER`).
     #[inline]
     pub fn stack_user(&self) -> Option<&[u8]>
@@ -320,7 +319,7 @@ impl<'a> Sample<'a> {
         }
     }
 
-    /// The physical address that belongs to [`Sample::addr`] (`PERF_SAMPLE_PHYS_ADDR`).
+    /// The physical address of [`Sample::addr`] (`PERF_SAMPLE_PHYS_ADDR`).
     #[inline]
     #[tactic(auto, using(crate::proofs::SampleGetters::kept))]
     pub fn phys_addr(&self) -> Option<u64>
@@ -342,7 +341,7 @@ impl<'a> Sample<'a> {
         }
     }
 
-    /// The number of the task's control group (`PERF_SAMPLE_CGROUP`).
+    /// The id of the task's control group (`PERF_SAMPLE_CGROUP`).
     #[inline]
     #[tactic(auto, using(crate::proofs::SampleGetters::kept))]
     pub fn cgroup(&self) -> Option<u64>
@@ -352,7 +351,7 @@ impl<'a> Sample<'a> {
         self.memory.cgroup
     }
 
-    /// How many bytes the page of [`Sample::addr`] has (`PERF_SAMPLE_DATA_PAGE_SIZE`).
+    /// The size in bytes of the page of [`Sample::addr`] (`PERF_SAMPLE_DATA_PAGE_SIZE`).
     #[inline]
     #[tactic(auto, using(crate::proofs::SampleGetters::kept))]
     pub fn data_page_size(&self) -> Option<u64>
@@ -362,7 +361,7 @@ impl<'a> Sample<'a> {
         self.memory.data_page_size
     }
 
-    /// How many bytes the page of [`Sample::ip`] has (`PERF_SAMPLE_CODE_PAGE_SIZE`).
+    /// The size in bytes of the page of [`Sample::ip`] (`PERF_SAMPLE_CODE_PAGE_SIZE`).
     #[inline]
     #[tactic(auto, using(crate::proofs::SampleGetters::kept))]
     pub fn code_page_size(&self) -> Option<u64>
@@ -372,7 +371,7 @@ impl<'a> Sample<'a> {
         self.memory.code_page_size
     }
 
-    /// The same sample. It takes no memory where no list of it is owned.
+    /// The same sample. Allocates nothing if it owns no list.
     #[tactic(auto, using(crate::proofs::Forms::parts_of_a_form))]
     pub fn clone(&self, alloc: Global) -> ParseResult<Sample<'a>>
         ensures { shown.IsClone shown.sample_value shown.sample_form self.now result }
@@ -395,10 +394,10 @@ impl Meant for Sample<'_> {
     ghost says = { ReadsBorrowed shown.sample shown.sample_value shown.IsBorrowedSample };
 }
 
-/// Registers of [`SampleRegsAbi::NONE`](perf_words::SampleRegsAbi::NONE) have no values. A user's
-/// stack of which more was used than the record has is [`Refusal::UsedStack`], behind the size that
-/// was used. No claimed count makes room for numbers or branches. Byte strings are borrowed from a
-/// whole buffer.
+/// Registers of [`SampleRegsAbi::NONE`](perf_words::SampleRegsAbi::NONE) have no values. A user
+/// stack with a used size greater than its size in the record is refused as [`Refusal::UsedStack`],
+/// after the used size was read. Claimed counts of numbers or branches are never trusted for
+/// allocation. Byte strings are borrowed from a whole buffer.
 impl<'p, I: Input<'p>> ReadFrom<'p, I> for Sample<'p> {
     #[inline]
     fn read<E: Endian>(reader: &mut Reader<I, E>) -> ReadResult<Self> {
@@ -413,11 +412,11 @@ impl<'p, I: Input<'p>> ReadFrom<'p, I> for Sample<'p> {
     }
 }
 
-// The flags that have a field of their own: bits 0 to 23. `WEIGHT_STRUCT` is another of the weight.
+// The flags that have a field of their own: bits 0 to 23. `WEIGHT_STRUCT` shares `WEIGHT`'s.
 const FIELDS: u64 = (1 << 24) - 1;
 
-/// How many bytes a sample has at least: each of its fields takes eight or more. A shorter body is
-/// refused.
+/// The least number of bytes that a sample can have: each of its fields takes eight or more. A
+/// shorter body is refused.
 #[inline]
 pub fn least_len<E>(config: &ParseConfig<E>) -> usize
     ensures value { result ≡ 8 * count_ones ((configuration_of config.now).sample_type % 2 ^ 24) }
@@ -441,7 +440,7 @@ pub fn empty_sample<'p>() -> Sample<'p>
     }
 }
 
-/// Empties a sample. Of one whose fields are numbers alone that clears no more than their places.
+/// Empties a sample. If its fields are only numbers, this just clears their places.
 #[inline]
 pub fn clear_sample(sample: &mut Sample)
     ensures { sample.new ≡ no_sample }
@@ -453,8 +452,8 @@ pub fn clear_sample(sample: &mut Sample)
     sample.memory.clear();
 }
 
-/// Reads the fields of a sample into one that has none, where they stay: a sample is large. It is not
-/// inlined, so that the fields are no locals of the caller's, each of which would be moved once more.
+/// Reads the fields of a sample into an empty one, in place: a sample is large. It is not inlined,
+/// so that the fields do not become locals of the caller, each of which would be moved once more.
 #[inline(never)]
 pub fn fill_sample<'p, I: Input<'p>, E: Endian>(
     sample: &mut Sample<'p>,
@@ -487,8 +486,8 @@ pub fn fill_sample<'p, I: Input<'p>, E: Endian>(
     }
 }
 
-/// Reads a sample into the place of another, whatever that held, for a caller that reads many of them
-/// into one place. After an `Err` the place holds a sample without fields.
+/// Reads a sample into the place of an existing one, whatever its contents, for callers that read
+/// many samples into one place. After an `Err` the place contains a sample without fields.
 #[inline]
 pub fn refill_sample<'p, I: Input<'p>, E: Endian>(
     sample: &mut Sample<'p>,

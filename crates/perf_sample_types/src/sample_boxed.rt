@@ -1,4 +1,4 @@
-//! Samples that are read in a box.
+//! Samples that are read into a box.
 #![tactic(auto, using(perf_reader::proofs::Paying::chain))]
 
 ghost use Rattle.std.specs.Prelude.{◌≡◌, ◌*◌, ◌%◌, ◌^◌, ⊤, true, count_ones, Err, IfOk};
@@ -19,7 +19,7 @@ use perf_buffers::input::Input;
 use perf_reader::reader::Reader;
 use std::boxed::Box;
 
-// Reads the fields with which a sample begins that is refused, and keeps nothing.
+// Reads the first fields of a sample that is refused, and keeps nothing.
 fn pass_moment<'p, I: Input<'p>, E: Endian>(reader: &mut Reader<I, E>) -> ReadResult<()>
     ensures { (read : Moment) × Call I.source E.order
         (ReadsTable (λ c. sample.fields_under c sample.moment_fields) groups.moment_value (λ _. ⊤))
@@ -32,7 +32,7 @@ fn pass_moment<'p, I: Input<'p>, E: Endian>(reader: &mut Reader<I, E>) -> ReadRe
     }
 }
 
-// Reads what was counted and the call chain of a sample that is refused, and keeps nothing.
+// Reads the counters and the call chain of a sample that is refused, and keeps nothing.
 #[inline(never)]
 fn pass_counts<'p, I: Input<'p>, E: Endian>(reader: &mut Reader<I, E>) -> ReadResult<()>
     ensures { (read : Counts) × Call I.source E.order
@@ -46,7 +46,7 @@ fn pass_counts<'p, I: Input<'p>, E: Endian>(reader: &mut Reader<I, E>) -> ReadRe
     }
 }
 
-// Reads the state of a sample that is refused, and keeps nothing.
+// Reads the `State` group of a sample that is refused, and keeps nothing.
 #[inline(never)]
 fn pass_state<'p, I: Input<'p>, E: Endian>(reader: &mut Reader<I, E>) -> ReadResult<()>
     ensures { (read : State) × Call I.source E.order
@@ -61,7 +61,7 @@ fn pass_state<'p, I: Input<'p>, E: Endian>(reader: &mut Reader<I, E>) -> ReadRes
     }
 }
 
-// Reads the costs of a sample that is refused, and keeps nothing.
+// Reads the `Costs` group of a sample that is refused, and keeps nothing.
 #[inline(never)]
 fn pass_costs<'p, I: Input<'p>, E: Endian>(reader: &mut Reader<I, E>) -> ReadResult<()>
     ensures { (read : Costs) × Call I.source E.order
@@ -75,7 +75,7 @@ fn pass_costs<'p, I: Input<'p>, E: Endian>(reader: &mut Reader<I, E>) -> ReadRes
     }
 }
 
-// Reads the memory of a sample that is refused, and keeps nothing.
+// Reads the `Memory` group of a sample that is refused, and keeps nothing.
 #[inline(never)]
 fn pass_memory<'p, I: Input<'p>, E: Endian>(reader: &mut Reader<I, E>) -> ReadResult<()>
     ensures { (read : Memory) × Call I.source E.order
@@ -90,9 +90,9 @@ fn pass_memory<'p, I: Input<'p>, E: Endian>(reader: &mut Reader<I, E>) -> ReadRe
     }
 }
 
-// Why there is no sample if there is no box for it, as the input is too short or there is no memory: the
-// refusal of its bytes, or out of memory. Its groups are read one after another, so that one that is
-// too short, which ends in the first of them, costs no place for the others.
+// Why there is no sample if it gets no box, because the input is too short or memory ran out: the
+// refusal of its bytes, or out of memory. Its groups are read one after another, so that a sample
+// that is too short and ends in the first group uses no stack for the others.
 #[cold]
 #[inline(never)]
 fn refuse_sample<'p, I: Input<'p>, E: Endian>(reader: &mut Reader<I, E>) -> Refusal
@@ -122,8 +122,8 @@ fn refuse_sample<'p, I: Input<'p>, E: Endian>(reader: &mut Reader<I, E>) -> Refu
     }
 }
 
-/// Reads a sample, which is large, in its box. If the input reports fewer bytes than such a sample has
-/// at least, which its layout refuses, no box is made.
+/// Reads a sample, which is large, into a box. If the input reports fewer bytes than such a sample
+/// needs at least, its layout refuses it, and no box is allocated.
 #[inline(never)]
 pub fn read_boxed_sample<'p, I: Input<'p>, E: Endian>(
     reader: &mut Reader<I, E>,

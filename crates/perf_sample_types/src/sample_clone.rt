@@ -1,4 +1,4 @@
-//! Copies of what a sample says.
+//! Copies of samples and their fields.
 #![tactic(auto, using(crate::proofs::Forms::parts_of_a_form))]
 
 ghost use Rattle.std.specs.Prelude.{◌≡◌, List, Bool, option_map};
@@ -24,13 +24,13 @@ use std::alloc::Global;
 
 // A field that may own memory.
 trait CloneField: Sized {
-    // what it says
+    // its value
     ghost value: { Self → sample.FieldValue };
 
     // which of its lists are borrowed
     ghost form: { Self → List Bool };
 
-    // The same field. It takes no memory where no list of it is owned.
+    // The same field. Allocates nothing if it owns no list.
     fn clone_field(&self, alloc: Global) -> ParseResult<Self>
         ensures { IsClone Self.value Self.form self.now result };
 }
@@ -118,7 +118,7 @@ impl CloneField for AuxBytes<'_> {
     }
 }
 
-// A field where it is there.
+// A field, if present.
 fn clone_field_if<T: CloneField>(field: &Option<T>, alloc: Global) -> ParseResult<Option<T>>
     ensures { IsClone (option_map T.value) (form_if T.form) field.now result }
 {
@@ -128,7 +128,7 @@ fn clone_field_if<T: CloneField>(field: &Option<T>, alloc: Global) -> ParseResul
     }
 }
 
-// A list where it is there.
+// A list, if present.
 pub(crate) fn clone_list<'a, T: Copy>(
     list: &Option<CowSlice<'a, T>>,
     alloc: Global,
@@ -141,7 +141,7 @@ pub(crate) fn clone_list<'a, T: Copy>(
     }
 }
 
-// A read of counters where it is there.
+// A read of counters, if present.
 pub(crate) fn clone_group<'a>(
     group: &Option<ReadGroup<'a>>,
     alloc: Global,
@@ -154,7 +154,7 @@ pub(crate) fn clone_group<'a>(
     }
 }
 
-// Registers where they are there.
+// Registers, if present.
 pub(crate) fn clone_registers<'a>(
     registers: &Option<Registers<'a>>,
     alloc: Global,
@@ -187,7 +187,7 @@ impl Moment {
 }
 
 impl<'a> Counts<'a> {
-    // The same counts. They take no memory where no list of them is owned.
+    // The same counts. Allocates nothing if they own no list.
     pub(crate) fn clone(&self, alloc: Global) -> ParseResult<Counts<'a>>
         ensures { IsClone groups.counts_value forms.counts_form self.now result }
     {
@@ -198,7 +198,7 @@ impl<'a> Counts<'a> {
 }
 
 impl<'a> State<'a> {
-    // The same state. It takes no memory where no list of it is owned.
+    // The same state. Allocates nothing if it owns no list.
     pub(crate) fn clone(&self, alloc: Global) -> ParseResult<State<'a>>
         ensures { IsClone groups.state_value forms.state_form self.now result }
     {
@@ -216,7 +216,7 @@ impl<'a> State<'a> {
 }
 
 impl<'a> Costs<'a> {
-    // The same costs. They take no memory where no list of them is owned.
+    // The same costs. Allocates nothing if they own no list.
     pub(crate) fn clone(&self, alloc: Global) -> ParseResult<Costs<'a>>
         ensures { IsClone groups.costs_value forms.costs_form self.now result }
     {
@@ -231,7 +231,7 @@ impl<'a> Costs<'a> {
 }
 
 impl<'a> Memory<'a> {
-    // The same memory. It takes none of its own where no list of it is owned.
+    // The same memory fields. Allocates nothing if they own no list.
     pub(crate) fn clone(&self, alloc: Global) -> ParseResult<Memory<'a>>
         ensures { IsClone groups.memory_value forms.memory_form self.now result }
     {

@@ -1,4 +1,4 @@
-//! Fields of a sample, each there or absent.
+//! Fields of a sample, each present or absent.
 
 ghost use Rattle.std.specs.Prelude.{◌≡◌, ◌==◌, ⊤, IfSome, None, option_map};
 ghost use Rattle.perf_sample_types.specs.SampleEmpty.{filled};
@@ -16,19 +16,19 @@ use perf_buffers::input::Input;
 use perf_reader::reader::Reader;
 use perf_words::SampleFlags;
 
-// What a field of a sample says. One type stands for each kind of field.
+// The value of a field of a sample. There is one type for each kind of field.
 pub(crate) trait SampleField: Sized {
-    // the bytes that it takes
+    // the parts that it consists of
     ghost parts: { Configuration → Parts sample.FieldValue };
 
-    // what it says
+    // its value
     ghost value: { Self → sample.FieldValue };
 
     // that no byte of it was copied
     ghost borrowed: { Self → Type 0 };
 }
 
-// A field that is read out of an input.
+// A field that is read from an input.
 pub(crate) trait ReadField<'p, I: Input<'p>>: SampleField {
     fn read_field<E: Endian>(reader: &mut Reader<I, E>) -> ReadResult<Self>
         ensures call { Call I.source E.order
@@ -36,8 +36,8 @@ pub(crate) trait ReadField<'p, I: Input<'p>>: SampleField {
             reader.old (kinds result) reader.new };
 }
 
-// Puts a field where it is there into its place, which holds none yet. One that is absent costs the
-// test of its flag.
+// Puts a field, if present, into its place, which is empty. An absent field costs only the test of
+// its flag.
 #[inline(always)]
 #[tactic(auto, using(perf_reader::proofs::TableRuns::optional_fields))]
 pub(crate) fn fill_field_if<'p, I: Input<'p>, E: Endian, T: ReadField<'p, I> + Drop>(
@@ -63,7 +63,7 @@ pub(crate) fn fill_field_if<'p, I: Input<'p>, E: Endian, T: ReadField<'p, I> + D
     }
 }
 
-// Puts a field into its place where the sample type has its flag. It is inlined, so that it costs no
+// Puts a field into its place if the sample type has its flag. It is inlined, so that it costs no
 // more than that test.
 #[inline(always)]
 pub(crate) fn fill_flagged<'p, I: Input<'p>, E: Endian, T: ReadField<'p, I> + Drop>(

@@ -1,4 +1,4 @@
-//! The fields of a sample by their names.
+//! The fields of a sample by name.
 
 ghost use Rattle.std.specs.Prelude.{◌≡◌};
 ghost use Rattle.perf_base.specs.Copies.{IsClone};
@@ -15,11 +15,11 @@ use perf_types::read_group::ReadGroup;
 use perf_words::{BranchEntry, DataSource, Txn};
 use std::alloc::Global;
 
-/// What a sample says, field by field, for a sample that is made and not read
+/// The values of a sample, field by field, for a sample that is made rather than read
 /// ([`Sample::from_fields`](crate::sample::Sample::from_fields)).
 #[derive(Debug, Drop)]
 pub struct SampleFields<'a> {
-    /// Where the code was: the address of an instruction.
+    /// The instruction pointer: the address of an instruction.
     pub ip: Option<u64>,
     /// The process.
     pub pid: Option<u32>,
@@ -27,7 +27,7 @@ pub struct SampleFields<'a> {
     pub tid: Option<u32>,
     /// When it happened, in nanoseconds of the event's clock.
     pub time: Option<u64>,
-    /// An address that belongs to the event, such as the one that a fault wanted.
+    /// An address that belongs to the event, such as that of a page fault.
     pub addr: Option<u64>,
     /// The kernel's own number of the event, or of its group's leader.
     pub id: Option<u64>,
@@ -39,18 +39,19 @@ pub struct SampleFields<'a> {
     pub period: Option<u64>,
     /// What was read of the event's counters: those of its group, or its own as a group of one.
     pub values: Option<ReadGroup<'a>>,
-    /// Addresses of calls, the innermost first. Numbers from `PERF_CONTEXT_MAX` on, -4095 as a u64,
-    /// are no addresses but say whose those behind them are.
+    /// The addresses of a call chain, the innermost first. Numbers from `PERF_CONTEXT_MAX` (-4095
+    /// as a u64) on are not addresses: they state the context of the addresses after them.
     pub callchain: Option<CowSlice<'a, u64>>,
     /// Bytes that the event wrote, such as the fields of a tracepoint.
     pub raw: Option<CowSlice<'a, u8>>,
-    /// Where the hardware's own list of branches had its newest one.
+    /// The position of the newest branch in the hardware's own list.
     pub lbr_hw_index: Option<u64>,
     /// Branches, the newest first.
     pub lbr: Option<CowSlice<'a, BranchEntry>>,
-    /// The registers of the task's own code.
+    /// The registers of the task's user-space code.
     pub regs_user: Option<Registers<'a>>,
-    /// What the kernel copied of the task's stack, from its top on: as many bytes as it used.
+    /// What the kernel copied of the task's user stack, from its top on: as many bytes as were
+    /// used.
     pub stack_user: Option<CowSlice<'a, u8>>,
     /// How costly the event was, such as a latency in cycles.
     pub weight: Option<u64>,
@@ -60,15 +61,15 @@ pub struct SampleFields<'a> {
     pub transaction: Option<Txn>,
     /// The registers that the processor had at the interrupt.
     pub regs_intr: Option<Registers<'a>>,
-    /// The physical address that belongs to `addr`.
+    /// The physical address of `addr`.
     pub phys_addr: Option<u64>,
     /// Bytes of the AUX area.
     pub aux: Option<CowSlice<'a, u8>>,
-    /// The number of the task's control group.
+    /// The id of the task's control group.
     pub cgroup: Option<u64>,
-    /// How many bytes the page of `addr` has.
+    /// The size in bytes of the page of `addr`.
     pub data_page_size: Option<u64>,
-    /// How many bytes the page of `ip` has.
+    /// The size in bytes of the page of `ip`.
     pub code_page_size: Option<u64>,
 }
 
@@ -123,7 +124,7 @@ impl<'a> SampleFields<'a> {
         })
     }
 
-    /// The same fields. They take no memory where no list of them is owned.
+    /// The same fields. Allocates nothing if they own no list.
     pub fn clone(&self, alloc: Global) -> ParseResult<SampleFields<'a>>
         ensures { IsClone fields_getters fields_form self.now result }
     {
@@ -159,7 +160,7 @@ impl<'a> SampleFields<'a> {
     }
 }
 
-/// No field is there.
+/// All fields are absent.
 impl Default for SampleFields<'_> {
     ghost is_default = { λ fields. fields_getters fields ≡ no_getters };
 

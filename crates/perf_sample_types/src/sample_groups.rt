@@ -25,15 +25,15 @@ use perf_reader::reader::Reader;
 use perf_types::read_group::ReadGroup;
 use perf_words::{DataSource, SampleFlags, Txn};
 
-// The flags of the fields of each group that few samples have. Where none of them is set, one test
-// passes over the group.
+// The flags of those groups of fields that few samples have. If none of a group's flags is set, one
+// test skips the group.
 const STATE: u64 = 0b1111 << 10;
 
 const COSTS: u64 = 1 << 14 | 1 << 15 | 1 << 17 | 1 << 18 | 1 << 24;
 
 const MEMORY: u64 = 0b11111 << 19;
 
-// Whether none of these bits is a flag of the set.
+// Whether the set has none of these bits as a flag.
 #[inline(always)]
 fn lacks_all(flags: SampleFlags, bits: u64) -> bool
     ensures { result ≡ (bit_and (sample_flags_bits flags) bits == 0) }
@@ -41,7 +41,7 @@ fn lacks_all(flags: SampleFlags, bits: u64) -> bool
     flags.bits() & bits == 0
 }
 
-// Lets go of what a place contains. An empty place costs a test.
+// Drops what a place contains. An empty place costs one test.
 #[inline(always)]
 fn clear_place<T: Drop>(place: &mut Option<T>)
     ensures { place.new ≡ None }
@@ -51,7 +51,7 @@ fn clear_place<T: Drop>(place: &mut Option<T>)
     }
 }
 
-// What happened when and where, and of which event it was.
+// When and where it happened, and which event it was.
 #[derive(Debug, Drop)]
 pub(crate) struct Moment {
     pub(crate) identifier: Option<u64>,
@@ -83,8 +83,8 @@ impl Moment {
         }
     }
 
-    // Fills its places, which are empty: at once if the input shows all of their bytes, and otherwise
-    // field by field.
+    // Fills its places, which are empty: at once if the input shows all of their bytes, and
+    // otherwise field by field.
     #[inline(always)]
     pub(crate) fn fill<'p, I: Input<'p>, E: Endian>(
         &mut self,
@@ -103,7 +103,7 @@ impl Moment {
         }
     }
 
-    // Fills its places out of the bytes that the input shows, and takes those. If they are too few,
+    // Fills its places from the bytes that the input shows, and takes those. If they are too few,
     // nothing is read.
     #[inline(always)]
     fn fill_shown<'p, I: Input<'p>, E: Endian>(
@@ -134,7 +134,7 @@ impl Moment {
         }
     }
 
-    // Takes the fields of its places, which are empty. It is `None` if too few bytes are at hand.
+    // Takes the fields of its places, which are empty. `None` if there are too few bytes.
     #[inline(always)]
     fn take_fields<E: Endian>(
         &mut self,
@@ -198,7 +198,7 @@ impl Moment {
     }
 }
 
-// What was counted, and how the code got there.
+// The counters that were read, and the call chain.
 #[derive(Debug, Drop)]
 pub(crate) struct Counts<'a> {
     pub(crate) values: Option<ReadGroup<'a>>,
@@ -225,7 +225,7 @@ impl<'p> Counts<'p> {
         clear_place(&mut self.call_chain);
     }
 
-    // Fills its places, which hold nothing yet.
+    // Fills its places, which are empty.
     #[inline(always)]
     pub(crate) fn fill<I: Input<'p>, E: Endian>(
         &mut self,
@@ -244,7 +244,7 @@ impl<'p> Counts<'p> {
     }
 }
 
-// What the event, the processor and the task held.
+// The state of event, processor and task.
 #[derive(Debug, Drop)]
 pub(crate) struct State<'a> {
     pub(crate) raw: Option<RawData<'a>>,
@@ -277,7 +277,7 @@ impl<'p> State<'p> {
         clear_place(&mut self.stack_user);
     }
 
-    // Fills its places, which hold nothing yet.
+    // Fills its places, which are empty.
     #[inline(always)]
     pub(crate) fn fill<I: Input<'p>, E: Endian>(
         &mut self,
@@ -310,7 +310,7 @@ pub(crate) struct Costs<'a> {
     pub(crate) regs_intr: Option<InterruptRegisters<'a>>,
 }
 
-// The weight is there by one of two flags.
+// The weight is present under either of two flags.
 #[inline]
 fn is_weighed(flags: SampleFlags) -> bool
     ensures { result ≡ sample.has_one (sample_flags_bits flags) (14 ∷ 24 ∷ []) }
@@ -342,7 +342,7 @@ impl<'p> Costs<'p> {
         clear_place(&mut self.regs_intr);
     }
 
-    // Fills its places, which hold nothing yet.
+    // Fills its places, which are empty.
     #[inline(always)]
     pub(crate) fn fill<I: Input<'p>, E: Endian>(
         &mut self,
@@ -407,7 +407,7 @@ impl<'p> Memory<'p> {
         clear_place(&mut self.aux);
     }
 
-    // Fills its places, which hold nothing yet.
+    // Fills its places, which are empty.
     #[inline(always)]
     pub(crate) fn fill<I: Input<'p>, E: Endian>(
         &mut self,

@@ -1,4 +1,4 @@
-//! The sample id, which stands at the end of records.
+//! The sample id at the end of records.
 #![tactic(auto, using(perf_reader::proofs::Paying::chain))]
 
 ghost use Rattle.std.specs.Prelude.{◌≡◌, ◌*◌, if◌then◌else◌};
@@ -19,9 +19,9 @@ use perf_reader::reader::Reader;
 use perf_words::SampleFlags;
 use std::marker::Model;
 
-/// Which task and which event a record belongs to (`struct sample_id`): what `sample_id_all` has
-/// the kernel write at the end of each of its records, whose types are below 64, but SAMPLE. A
-/// field is there where the sample type has its flag.
+/// Which task and event a record belongs to (`struct sample_id`). With `sample_id_all` the kernel
+/// writes it at the end of each of its own records, whose types are below 64, except SAMPLE. A
+/// field is present if the sample type has its flag.
 #[derive(Copy, Clone, Debug)]
 pub struct SampleId {
     pid: Option<u32>,
@@ -54,7 +54,7 @@ impl Model for SampleId {
     } };
 }
 
-/// No field is there.
+/// All fields are absent.
 impl Default for SampleId {
     ghost is_default = { λ s. s ≡ ids.no_sample_id };
 
@@ -94,7 +94,7 @@ fn eight_if(flag: bool) -> usize
 }
 
 impl SampleId {
-    /// The sample id of these fields.
+    /// The sample id with these fields.
     #[inline]
     pub fn from_parts(
         pid: Option<u32>,
@@ -123,7 +123,7 @@ impl SampleId {
         }
     }
 
-    /// The sample id that says the same as a sample. It takes no memory.
+    /// The sample id with the values of a sample. It allocates nothing.
     pub fn from_sample(sample: &Sample<'_>) -> SampleId
         ensures { result ≡ shown.sample_id_of (shown.sample_value sample.now) }
     {
@@ -137,8 +137,8 @@ impl SampleId {
         }
     }
 
-    /// How many bytes the sample id of a record has under a configuration: eight for each flag of
-    /// the sample type that it has, and none without `sample_id_all`.
+    /// How many bytes the sample id of a record has under a configuration: eight for each of its
+    /// flags that the sample type has, and none without `sample_id_all`.
     #[inline]
     #[tactic(auto, using(crate::proofs::Flags::sample_flags))]
     pub fn estimate_len<E>(config: &ParseConfig<E>) -> usize
@@ -156,7 +156,7 @@ impl SampleId {
             + eight_if(flags.contains(SampleFlags::IDENTIFIER))
     }
 
-    /// The process in which it happened, where the sample type has `PERF_SAMPLE_TID`.
+    /// The process in which it happened, if the sample type has `PERF_SAMPLE_TID`.
     #[inline]
     pub fn pid(&self) -> Option<u32>
         ensures { result ≡ self.now.pid }
@@ -164,7 +164,7 @@ impl SampleId {
         self.pid
     }
 
-    /// The thread in which it happened, where the sample type has `PERF_SAMPLE_TID`.
+    /// The thread in which it happened, if the sample type has `PERF_SAMPLE_TID`.
     #[inline]
     pub fn tid(&self) -> Option<u32>
         ensures { result ≡ self.now.tid }
@@ -172,7 +172,7 @@ impl SampleId {
         self.tid
     }
 
-    /// When it happened, in nanoseconds of the event's clock, where the sample type has
+    /// When it happened, in nanoseconds of the event's clock, if the sample type has
     /// `PERF_SAMPLE_TIME`.
     #[inline]
     pub fn time(&self) -> Option<u64>
@@ -181,7 +181,7 @@ impl SampleId {
         self.time
     }
 
-    /// The kernel's own number of the event, or of its group's leader, where the sample type has
+    /// The kernel's own number of the event, or of its group's leader, if the sample type has
     /// `PERF_SAMPLE_ID` or `PERF_SAMPLE_IDENTIFIER`.
     #[inline]
     pub fn id(&self) -> Option<u64>
@@ -190,8 +190,7 @@ impl SampleId {
         self.id
     }
 
-    /// The kernel's own number of the event itself, where the sample type has
-    /// `PERF_SAMPLE_STREAM_ID`.
+    /// The kernel's own number of the event itself, if the sample type has `PERF_SAMPLE_STREAM_ID`.
     #[inline]
     pub fn stream_id(&self) -> Option<u64>
         ensures { result ≡ self.now.stream_id }
@@ -199,7 +198,7 @@ impl SampleId {
         self.stream_id
     }
 
-    /// The processor on which it happened, where the sample type has `PERF_SAMPLE_CPU`.
+    /// The processor on which it happened, if the sample type has `PERF_SAMPLE_CPU`.
     #[inline]
     pub fn cpu(&self) -> Option<u32>
         ensures { result ≡ self.now.cpu }
@@ -271,7 +270,7 @@ fn read_origin<'p, I: Input<'p>, E: Endian>(
     })
 }
 
-// What stands behind them.
+// The fields after these.
 #[inline]
 fn read_behind<'p, I: Input<'p>, E: Endian>(
     reader: &mut Reader<I, E>,
@@ -309,8 +308,8 @@ impl Meant for SampleId {
         × TakesOrLacks (ids.sample_id_length old.settings) old seen new };
 }
 
-/// The sample id of a record, where its bytes begin. It is there wherever
-/// [`SampleId::estimate_len`] bytes are left, and takes exactly these. Without `sample_id_all` it
+/// The sample id of a record, from where its bytes begin. It is read whenever
+/// [`SampleId::estimate_len`] bytes are left, and takes exactly those. Without `sample_id_all` it
 /// is empty and takes none.
 impl<'p, I: Input<'p>> ReadFrom<'p, I> for SampleId {
     #[inline]

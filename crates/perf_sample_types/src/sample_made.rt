@@ -1,4 +1,4 @@
-//! Fields of a sample that is made and not read.
+//! Fields of a sample that is made rather than read.
 
 ghost use Rattle.std.specs.Prelude.{◌≡◌, option_map, IfSome, IsTrue};
 ghost use Rattle.perf_sample_types.specs.SampleForms as forms;
@@ -13,7 +13,7 @@ use crate::sample_parts::{
 use perf_base::cow::CowSlice;
 use perf_words::BranchEntry;
 
-// A process and its thread, where one of them is there.
+// A process and its thread, if either is present.
 pub(crate) fn task_of(pid: Option<u32>, tid: Option<u32>) -> Option<Task>
     ensures pid { seen.pid_in (option_map parts.task_value result) ≡ pid }
     ensures tid { seen.tid_in (option_map parts.task_value result) ≡ tid }
@@ -24,7 +24,7 @@ pub(crate) fn task_of(pid: Option<u32>, tid: Option<u32>) -> Option<Task>
     }
 }
 
-// Branches and their index, where one of them is there.
+// Branches and their index, if either is present.
 pub(crate) fn branches_of<'a>(
     hw_index: Option<u64>,
     entries: Option<CowSlice<'a, BranchEntry>>,
@@ -109,7 +109,7 @@ pub(crate) fn aux_of<'a>(bytes: Option<CowSlice<'a, u8>>) -> Option<AuxBytes<'a>
     }
 }
 
-// Registers of the task's own code.
+// Registers of the task's user-space code.
 pub(crate) fn user_registers_of<'a>(registers: Option<Registers<'a>>) -> Option<UserRegisters<'a>>
     ensures is { seen.registers_in (option_map parts.user_value result) ≡
         option_map registers_value registers.entry }

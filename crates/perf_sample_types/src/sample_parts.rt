@@ -75,7 +75,7 @@ impl<'p, I: Input<'p>> ReadField<'p, I> for Txn {
     }
 }
 
-// A process and its thread. A sample that was read has both or none.
+// A process and its thread. A sample that was read has both or neither.
 #[derive(Copy, Clone, Debug)]
 pub(crate) struct Task {
     pub(crate) pid: Option<u32>,
@@ -144,7 +144,7 @@ impl<'p, I: Input<'p>> ReadField<'p, I> for CallChain<'p> {
     }
 }
 
-// How many bytes fill up raw bytes, with the four of their length, to a multiple of eight.
+// How many bytes pad raw bytes, with the four of their length, to a multiple of eight.
 #[inline]
 fn raw_padding(len: usize) -> usize
     ensures { result ≡ sample.raw_padding len }
@@ -174,7 +174,7 @@ impl<'p, I: Input<'p>> ReadField<'p, I> for RawData<'p> {
     }
 }
 
-// Branches, and where the hardware's own list of them had its newest. A sample that was read has
+// Branches, and the position of the newest in the hardware's own list. A sample that was read has
 // no index without a list.
 #[derive(Debug, Drop)]
 pub(crate) struct Branches<'a> {
@@ -205,7 +205,7 @@ impl<'p, I: Input<'p>> ReadField<'p, I> for Branches<'p> {
     }
 }
 
-// What the kernel copied of a task's stack.
+// What the kernel copied of a task's user stack.
 #[derive(Debug, Drop)]
 pub(crate) struct Stack<'a>(pub(crate) CowSlice<'a, u8>);
 
@@ -252,7 +252,7 @@ impl<'p, I: Input<'p>> ReadField<'p, I> for AuxBytes<'p> {
     }
 }
 
-// Registers that the task had in its own code.
+// The registers of the task's user-space code.
 #[derive(Debug, Drop)]
 pub(crate) struct UserRegisters<'a>(pub(crate) Registers<'a>);
 

@@ -1,4 +1,4 @@
-//! Fields of eight bytes, which are taken out of bytes at hand.
+//! Fields of eight bytes, taken from bytes in memory.
 
 ghost use Rattle.std.specs.Prelude.{◌≡◌, ◌==◌, ◌≤◌, ◌+◌, ◌-◌, ◌∷◌, [], List, ℕ, None, OnSome, length, take};
 ghost use Rattle.std.specs.Prelude.{drop, option_map};
@@ -17,7 +17,7 @@ use perf_base::endian::Endian;
 use perf_base::reads::ReadCounter;
 use perf_words::SampleFlags;
 
-// Bytes at hand, of which fields are taken one after another, and how many elementary reads that took.
+// Bytes from which fields are taken one after another, and how many elementary reads were made.
 #[derive(Drop)]
 pub(crate) struct Row<'c> {
     left: &'c [u8],
@@ -25,7 +25,7 @@ pub(crate) struct Row<'c> {
 }
 
 impl<'c> Row<'c> {
-    // A row of which nothing was taken.
+    // A row from which nothing was taken.
     #[inline(always)]
     pub(crate) fn new(bytes: &'c [u8]) -> Row<'c>
         ensures left { result.left.now ≡ bytes.now }
@@ -53,14 +53,14 @@ pub(crate) trait WordField: SampleField {
     // how many elementary reads those are
     ghost reads: { ℕ };
 
-    // The field whose bytes these are.
+    // The field in these bytes.
     fn of_word<E: Endian>(order: &E, word: [u8; 8]) -> Self
         ensures runs { (c : Configuration) → (bytes : List ℕ) → (n : ℕ) → 8 ≤ length bytes →
             take 8 bytes ≡ word →
             take_parts (E.order order.now) (Self.parts c) bytes n
             ≡ took (Self.value result) (drop 8 bytes) (n + reads) };
 
-    // That many reads.
+    // The same number of reads.
     fn reads() -> ReadCounter
         ensures count { result ≡ reads }
         ensures few { result ≤ 8 };
@@ -129,8 +129,8 @@ fn second_half<E: Endian>(order: &E, word: [u8; 8]) -> u32
     order.convert_u32([b4, b5, b6, b7])
 }
 
-// Puts a field into its place, which is empty, if the sample type has its flag. It is `None` if too few
-// bytes are at hand.
+// Puts a field into its place, which is empty, if the sample type has its flag. `None` if there are
+// too few bytes.
 #[inline(always)]
 pub(crate) fn take_flagged<E: Endian, T: WordField + Drop>(
     place: &mut Option<T>,

@@ -8,8 +8,8 @@ use Rattle.perf_records.specs.declared.record_type.RecordType.{RecordType}
 use Rattle.perf_records.proofs.Visiting.{visits_type}
 use Rattle.perf_records.proofs.body.visit_body.Goals as goal
 
--- Each type goes to its call, as its number is that of the metadata. Where `assumption` stands, no call is named, so that a body
--- that makes another one is refused for what that says.
+-- Each type goes to its call, as its number is that of the metadata. With `assumption` no call is
+-- named, so that a body that makes another one is refused for what that call ensures.
 pub returns-in-Mmap : goal.returns-in-Mmap
 returns-in-Mmap g c =
     record { call = visits_type g.V.Visitor.gives c.args.metadata (ap type_of (sym c.ty.ensures) ∙ sym c.of.ensures ∙ c.in-Some.is ∙ ap (λ (k : RecordType). Some k) c.in-Mmap.is) (c.visit_mmap.ensures.call) }

@@ -22,7 +22,7 @@ use Rattle.perf_records.proofs.Keeping.{moved_keeps, stays_refused, within_none,
 use Rattle.perf_records.proofs.Splitting.{unsplit_small, unsplit_cut, unsplit_room, split_made}
 use Rattle.perf_records.proofs.parts.split.Goals as goal
 
--- what is no record is not refused for want of memory
+-- what is no record did not run out of memory
 invalid_no_memory : (e : ErrorKind) → e ≡ InvalidRecord → e ≡ OutOfMemory → ⊥
 invalid_no_memory e is memory = cc
 
@@ -48,7 +48,7 @@ returns-in-Err-clause-call g c =
       keeps = λ start p. keeps_more start old new (Some kind) p kept;
     }
 
--- the frame fell apart
+-- the frame was split
 pub returns-clause-call : goal.returns-clause-call
 returns-clause-call g c =
     let old : Meaning = meaning g.I.Input.source g.E.Endian.order c.args.reader.now in
@@ -86,7 +86,7 @@ returns-clause-call g c =
       keeps = λ start p. keeps_more start old new None p kept;
     }
 
--- there is no room for its sample id
+-- it is too short for its sample id
 pub returns-in-Err-id_in-clause-call : goal.returns-in-Err-id_in-clause-call
 returns-in-Err-id_in-clause-call g c =
     let old : Meaning = meaning g.I.Input.source g.E.Endian.order c.args.reader.now in
@@ -114,7 +114,7 @@ returns-in-Err-id_in-clause-call g c =
       keeps = λ start p. keeps_more start old new (Some InvalidRecord) p kept;
     })
 
--- ---- what else is said where the cut was refused
+-- ---- the other clauses if the cut was refused
 pub returns-in-Err-clause-within : goal.returns-in-Err-clause-within
 returns-in-Err-clause-within g c = λ told.
     within_kept (g.I.Input.source c.args.reader.now.input) (g.I.Input.source c.cut.new.self.input) (body_length c.args.header) (refusal_kind c.in-Err.refusal) (c.in-Err.ensures.err told)
@@ -150,7 +150,7 @@ returns-in-Err-clause-beforehand g c = λ told made. c.in-Err.ensures.beforehand
 pub returns-in-Err-clause-paid : goal.returns-in-Err-clause-paid
 returns-in-Err-clause-paid g c = λ told. tt
 
--- ---- and where the frame fell apart
+-- ---- and if the frame was split
 pub returns-clause-within : goal.returns-clause-within
 returns-clause-within g c = λ told.
     subst (λ (s : Source). MovesWithin (g.I.Input.source c.args.reader.now.input) (body_length c.args.header) s) (sym (ap g.I.Input.source c.count.ensures.input))
@@ -202,7 +202,7 @@ returns-clause-paid g c = λ told.
     let same : length new.left ≡ length mid.left = ap (λ i. length (g.I.Input.source i).left) c.count.ensures.input in
     omega (arith, c.count.ensures.reads, e.reads, t.bound, t.parts.0, t.len, all, c.len-2.ensures, body, left, same, e.count, took.0)
 
--- ---- and where it has no room for its sample id
+-- ---- and if it is too short for its sample id
 pub returns-in-Err-id_in-clause-within : goal.returns-in-Err-id_in-clause-within
 returns-in-Err-id_in-clause-within g c = λ told.
     within_taken (g.I.Input.source c.args.reader.now.input) (g.I.Input.source c.cut.new.self.input) (body_length c.args.header) (c.in-Ok.ensures.ok told).0
@@ -237,7 +237,7 @@ returns-in-Err-id_in-clause-beforehand g c = λ told made memory. absurd (invali
 pub returns-in-Err-id_in-clause-paid : goal.returns-in-Err-id_in-clause-paid
 returns-in-Err-id_in-clause-paid g c = λ told. tt
 
--- ---- and where the size does not count the header
+-- ---- and if the size does not count the header
 pub returns-then-header-lt8-clause-within : goal.returns-then-header-lt8-clause-within
 returns-then-header-lt8-clause-within g c = λ told.
     within_none (g.I.Input.source c.args.reader.now.input) (g.I.Input.source c.args.reader.now.input) (body_length c.args.header) refl

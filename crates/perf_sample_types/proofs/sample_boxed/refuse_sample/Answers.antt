@@ -49,7 +49,7 @@ returns-in-Err-pass_memory g c = record {
       group_stops _ _ _ _ (λ left m. refl) c.in-Err-pass_memory.ensures.1)))));
 }
 
--- what was kept is kept where memory is refused
+-- what was kept is also kept if memory runs out
 kept_unmade : (start m : Meaning) → Keeps start None m → Keeps start (Some OutOfMemory) m
 kept_unmade start m h = record { buffer = (h.buffer.0, h.buffer.1, h.buffer.2, h.buffer.3); fault = λ x. cc; cost = λ t. let k = h.cost t in (k.0, omega (arith, k.1)); place = h.place }
 

@@ -8,7 +8,7 @@ use Rattle.perf_sample_types.proofs.FlaggedFields.{flags_behind, flags_stop, fla
 use Rattle.perf_sample_types.specs.Sample.{has_one}
 use Rattle.perf_sample_types.proofs.sample_groups.Costs.fill.Goals as goal
 
--- no field is there
+-- no field is present
 pub returns-then-lacks_all : goal.returns-then-lacks_all
 returns-then-lacks_all g c =
     let asked : sample_flags_bits c.sample_type-flags.result ≡ (configuration_of c.args.reader.now.config).sample_type = c.sample_type-flags.ensures ∙ ap (λ k. (configuration_of k).sample_type) c.config.ensures in rw c.requires (

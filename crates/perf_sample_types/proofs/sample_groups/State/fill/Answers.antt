@@ -8,7 +8,7 @@ use Rattle.perf_sample_types.proofs.AbsentGroups.{absent_state}
 use Rattle.perf_sample_types.proofs.FlaggedFields.{flag_behind, flag_stops}
 use Rattle.perf_sample_types.proofs.sample_groups.State.fill.Goals as goal
 
--- no field is there
+-- no field is present
 pub returns-then-lacks_all : goal.returns-then-lacks_all
 returns-then-lacks_all g c =
     let asked : sample_flags_bits c.sample_type-flags.result ≡ (configuration_of c.args.reader.now.config).sample_type = c.sample_type-flags.ensures ∙ ap (λ k. (configuration_of k).sample_type) c.config.ensures in rw c.requires (
