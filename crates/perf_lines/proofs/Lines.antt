@@ -1,4 +1,4 @@
--- Lines one behind another.
+-- Lines one after another.
 use Rattle.std.proofs.Common.{◌≡◌, ℕ, ◌+◌, ◌<◌, List, [], ◌∷◌, ◌++◌, length, take, sym, ap, ◌∙◌, add-zero, append-nil, append_assoc, arith, get_or}
 use Rattle.std.specs.Prelude.{Result}
 use Rattle.std.proofs.lemmas.List.{map_more, length-map, length-take-le}

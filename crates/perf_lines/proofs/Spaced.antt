@@ -1,4 +1,4 @@
--- Words one behind another.
+-- Words one after another.
 use Rattle.std.proofs.Common.{◌≡◌, ℕ, List, [], ◌∷◌, ◌++◌, Option, Some, None, Result, Ok, Err, OnOk, ◌≤◌, length, take, refl, sym, ap, ◌∙◌, append-nil, append_assoc, codes, decimal}
 use Rattle.std.proofs.lemmas.Result.{on_ok_weaker}
 use Rattle.std.proofs.lemmas.Grind.{flat_map-append}
@@ -45,7 +45,7 @@ pub spaced-registers : (abi regs : List ℕ) (r : Option RegistersValue) → pre
 spaced-registers abi regs None = refl
 spaced-registers abi regs (Some r) = simp (append_assoc, append-nil)
 
--- a list that an iterator gives: its first item is written, and then each other behind a comma, until none is left
+-- a list from an iterator: its first item is written, and then each other after a comma, to the end
 pub listed_to_end : {X : Type 0} (item : X → List ℕ) (old before pushed first_text text : List ℕ) (x : X) (left rest items : List X) → pushed ≡ old ++ before → first_text ≡ pushed ++ item x → text ++ flat_map (λ other. codes "," ++ item other) left ≡ first_text ++ flat_map (λ other. codes "," ++ item other) rest → left ≡ [] → items ≡ x ∷ rest → text ≡ old ++ (before ++ listed item items)
 listed_to_end {X} item old before pushed first_text text x left rest items named first others none all =
     sym (append-nil text)
@@ -53,7 +53,7 @@ listed_to_end {X} item old before pushed first_text text x left rest items named
     ∙ others
     ∙ rw (first, named, all) (simp append_assoc)
 
--- the same of a list that a loop goes over by its places
+-- the same of a list that a loop goes over by index
 pub listed_taken : {X : Type 0} (item : X → List ℕ) (old before pushed first_text text : List ℕ) (x : X) (i : ℕ) (rest items : List X) → pushed ≡ old ++ before → first_text ≡ pushed ++ item x → text ≡ first_text ++ flat_map (λ other. codes "," ++ item other) (take i rest) → length rest ≤ i → items ≡ x ∷ rest → text ≡ old ++ (before ++ listed item items)
 listed_taken {X} item old before pushed first_text text x i rest items named first others all is =
     others

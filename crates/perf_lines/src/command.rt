@@ -3,11 +3,11 @@
 /// The name of a byte order.
 #[derive(Copy, Clone, Debug, PartialEq, Eq)]
 pub enum OrderName {
-    /// The lowest byte first.
+    /// The least significant byte first.
     Little,
-    /// The highest byte first.
+    /// The most significant byte first.
     Big,
-    /// The machine's own.
+    /// The machine's own order.
     Native,
 }
 
@@ -16,7 +16,7 @@ pub enum OrderName {
 pub struct Command {
     /// The byte order of the input.
     pub order: OrderName,
-    /// How many frames are printed at most.
+    /// The maximum number of frames to print.
     pub limit: usize,
     /// Whether the input begins with an attribute.
     pub with_attr: bool,

@@ -15,7 +15,7 @@ all_digits : (bs : List ℕ) → all_ascii_digits bs ≡ list_all is_ascii_digit
 all_digits [] = refl
 all_digits (c ∷ cs) = ap (λ b. is_ascii_digit c && b) (all_digits cs)
 
--- digits whose value fits are a limit, and others are none
+-- digits whose value fits are a limit, and other digits are not
 limit_of : {E : Type 0} (bs : List ℕ) (r : Result ℕ E) → list_all is_ascii_digit bs ≡ true → OkIff r ((0 < length bs) × (digits_value 10 bs < 2 ^ 64)) (digits_value 10 bs) → result_ok r ≡ limit_named bs
 limit_of bs (Ok x) digits h = grind (arith, nat_tests)
 limit_of bs (Err e) digits h = grind (arith, nat_tests)
