@@ -1,4 +1,4 @@
-//! A number of all that was read: of every header, field, list, refusal and text.
+//! A digest of all that was read: of every header, field, list, error and text.
 //!
 //! These are left out:
 //!
@@ -28,7 +28,7 @@ const MIXED: usize = 32;
 // Represents an absent number. A number with this value is not distinguished from an absent one.
 const ABSENT: u64 = 0x9E37_79B9_7F4A_7C15;
 
-/// A number of all that was read, in order.
+/// A digest of all that was read, in order.
 #[derive(Copy, Clone)]
 pub struct Digest {
     /// The number of frames.
@@ -40,7 +40,7 @@ pub struct Digest {
 }
 
 impl Digest {
-    /// Nothing was read yet.
+    /// The digest of nothing.
     pub fn new() -> Digest {
         Digest {
             frames: 0,
@@ -60,14 +60,14 @@ impl Digest {
         self.sum = (self.sum ^ (self.sum >> 29)).wrapping_mul(0xBF58_476D_1CE4_E5B9);
     }
 
-    // Numbers, as many as their kind has.
+    // Numbers, without their count.
     fn numbers(&mut self, numbers: &[u64]) {
         for number in numbers {
             self.number(*number);
         }
     }
 
-    // A list of numbers, and how many there are.
+    // A list of numbers, and its length.
     fn list(&mut self, numbers: &[u64]) {
         self.number(numbers.len() as u64);
         for part in numbers.chunks(MIXED) {

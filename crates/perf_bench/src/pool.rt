@@ -19,7 +19,7 @@ const LETTERS: &[u8; 16] = b"abcdefghilmnorst";
 pub enum Kind {
     /// Call chains of 10 to 60 entries, each after its count.
     Chains,
-    /// Names of files, filled with zeros to a multiple of eight bytes.
+    /// Names of files, padded with zeros to a multiple of eight bytes.
     Files,
     /// Names of tasks, likewise.
     Tasks,

@@ -89,7 +89,7 @@ pub enum Recording {
     Groups,
     /// Samples without a list, under an attribute that claims one.
     Refused,
-    /// Samples whose chain claims to be longer than all memory.
+    /// Samples with a chain whose length exceeds all memory.
     Lies,
     /// Frames of 60 kB of unknown type.
     Unknown,

@@ -149,7 +149,7 @@ pub enum Workload {
     Pipe,
     /// Profiles and tasks in the pages of a ring buffer.
     Ring,
-    /// Stacks, branches, memory, tracepoints, groups, and other orders.
+    /// Stacks, branches, memory, tracepoints, groups, and other byte orders.
     Fields,
     /// Recordings as text.
     Text,

@@ -77,7 +77,7 @@ batch_more c o bytes start n made refused before left at pairs are shown same no
     subst (λ b. Listed c o bytes start (n + length pairs) now (refused || b)) (sym (is ∙ ap (λ xs. list_any (λ pair. is_err pair.1) xs) alike))
     (listed_more c o bytes start n made refused before left at pairs are now (grown ∙ ap (λ xs. made ++ lines_from n (seen_answers xs)) same))
 
--- a batch that lists all that is left makes all answers of the stream
+-- with a batch that lists the rest, all answers of the stream are listed
 pub all_listed : (c : Configuration) (o : Order) (bytes : List ℕ) (n k : ℕ) (left : List ℕ) → n ≤ length (answers c o bytes) → left ≡ behind_frames o n bytes → k ≡ length (frames o left) → n + k ≡ length (answers c o bytes)
 all_listed c o bytes n k left within at all =
     let there : n ≤ length (frames o bytes) = omega (arith, count_answers c o bytes) in

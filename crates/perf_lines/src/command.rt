@@ -1,4 +1,4 @@
-//! What the program is asked to do.
+//! The arguments of the program.
 
 /// The name of a byte order.
 #[derive(Copy, Clone, Debug, PartialEq, Eq)]
@@ -11,7 +11,7 @@ pub enum OrderName {
     Native,
 }
 
-/// What the program is asked to do.
+/// What the arguments of the program ask for.
 #[derive(Copy, Clone, Debug, PartialEq, Eq)]
 pub struct Command {
     /// The byte order of the input.

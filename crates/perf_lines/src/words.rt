@@ -1,4 +1,4 @@
-//! The words of the command line.
+//! Parses the command line.
 
 ghost use Rattle.std.specs.Prelude.{◌≡◌, map, string_bytes};
 ghost use Rattle.std.specs.Char.{is_ascii_digit};

@@ -78,11 +78,11 @@ sight_short h bytes lasting sized short =
     let b : nat_lt (length bytes) (body_length h) ≡ true = lt-ltb (length bytes) (body_length h) short in
     rw (a, b) refl
 
--- the pair that is counted of what is seen
+-- the header and the result that are counted for what is seen
 abbrev seen_pair : Configuration → Order → Sight → perf_event_header × Result RecordValue ErrorKind
 seen_pair c o seen = (sight_header seen, sight_answer c o seen)
 
--- the pair of a frame
+-- the header and the result of a frame
 abbrev pub pair_of : Configuration → Order → List ℕ → perf_event_header × Result RecordValue ErrorKind
 pair_of c o frame = (header_of o frame, answer_of_frame c o frame)
 
@@ -178,7 +178,7 @@ module _ (c : Configuration) (o : Order) (all : Bool) where
   regroup : (xs : List Answered) (frame : List ℕ) (more : List (List ℕ)) → (xs ++ pair_of c o frame ∷ []) ++ map (pair_of c o) more ≡ xs ++ map (pair_of c o) (frame ∷ more)
   regroup xs frame more = append_assoc xs (pair_of c o frame ∷ []) (map (pair_of c o) more)
 
-  -- it went on after each of them
+  -- the run went on after each of them
   all_counted : (xs : List Answered) (fs : List (List ℕ)) (was now : FrameCounter) → Headed fs → was.counts ≡ counted xs → Handed gets o all was fs true now →
       now.counts ≡ counted (xs ++ map (pair_of c o) fs)
   all_counted xs [] was now headed so_far p = ap (λ (k : FrameCounter). k.counts) p.0 ∙ so_far ∙ ap counted (sym (append-nil xs))
@@ -187,7 +187,7 @@ module _ (c : Configuration) (o : Order) (all : Bool) where
     | inr last ↦ let never : true ≡ false = last.2 in absurd (cc)
   ]
 
-  -- it ended the run at the last of them, which it did not count
+  -- the counter ended the run at the last of them, and did not count that one
   but_last_counted : (xs : List Answered) (fs : List (List ℕ)) (was now : FrameCounter) → Headed fs → was.counts ≡ counted xs → Handed gets o all was fs false now →
       (k : ℕ) × (suc k ≡ length fs) × (now.counts ≡ counted (xs ++ map (pair_of c o) (take k fs))) × IsFault now.refusal
   but_last_counted xs [] was now headed so_far p = let never : false ≡ true = p.1 in absurd (cc)

@@ -105,7 +105,7 @@ module _ {W E : Type 0} (out : W → Option (List ℕ)) (err : E → Option (Lis
     clean = clean ∙ sym (and-true was.clean);
   }
 
-  -- its line was not
+  -- its line could not be added
   pub stops_line : (was now : FramePrinter W E) (h : perf_event_header) (v : RecordValue) (why : Stopped) → now.errors ≡ was.errors → GrowsWithin (out was.output) (out now.output) (waiting was ++ printed was.report v) →
       (IsTrue (is_memory why) → Appends (out was.output) (out now.output) (waiting was)) → StopsAt out err was (h, Ok v) why now
   stops_line was now h v why errors w refused = record {
@@ -132,14 +132,14 @@ module _ {W E : Type 0} (out : W → Option (List ℕ)) (err : E → Option (Lis
     refused = refused;
   }
 
-  -- all of it was, and then the errors failed
+  -- all of it was written, and then the output of errors failed
   pub stops_told : (was now : FramePrinter W E) (x : Answered) (why : Stopped) → Appends (out was.output) (out now.output) (waiting was) → is_memory why ≡ false → StopsAt out err was x why now
   stops_told was now x why written failed = record {
     part = longer (out was.output) (out now.output) (waiting was) (printed_answers was.report (x ∷ [])) (whole_within (out was.output) (out now.output) (waiting was) written);
     refused = λ memory. let never : true ≡ false = sym memory ∙ failed in absurd (cc);
   }
 
-  -- the same, or they failed before that
+  -- the same, or an output failed before that
   pub stops_failed : (was now : FramePrinter W E) (x : Answered) (why : Stopped) → (n : ℕ) × Appends (out was.output) (out now.output) (take n (waiting was)) → is_memory why ≡ false → StopsAt out err was x why now
   stops_failed was now x why part failed = stops_early was now x why part (λ memory. let never : true ≡ false = sym memory ∙ failed in absurd (cc))
 
@@ -147,7 +147,7 @@ module _ {W E : Type 0} (out : W → Option (List ℕ)) (err : E → Option (Lis
   pub prints_same : (was now : FramePrinter W E) (h : perf_event_header) (a b : Result RecordValue ErrorKind) (r : Result (Unit {0}) Stopped) → a ≡ b → PrintsAnswer out err was (h, b) r now → PrintsAnswer out err was (h, a) r now
   prints_same was now h a b r e p = subst (λ (x : Result RecordValue ErrorKind). PrintsAnswer out err was (h, x) r now) (sym e) p
 
-  -- a line was added, or not
+  -- a line was added, or printing stopped
   pub adds_line : (was now : FramePrinter W E) (h : perf_event_header) (a : Result RecordValue ErrorKind) (v : RecordValue) (r : Result (Unit {0}) Stopped) → a ≡ Ok v → now.report ≡ was.report → now.errors ≡ was.errors → now.clean ≡ was.clean →
       OnOk r (Grows (out was.output) (out now.output) (waiting was) (waiting now) (printed was.report v)) → GrowsWithin (out was.output) (out now.output) (waiting was ++ printed was.report v) →
       IfErr r (λ stopped. IsTrue (is_memory stopped) → Appends (out was.output) (out now.output) (waiting was)) → PrintsAnswer out err was (h, a) r now
@@ -242,7 +242,7 @@ module _ {W E : Type 0} (out : W → Option (List ℕ)) (err : E → Option (Lis
     subst (λ (e : E). TellsErrors (err was.errors) (err e) (take k ans)) (sym errors) p.told,
   )
 
-  -- the same, or sending failed
+  -- the same, or writing failed
   pub run_part : (was mid now : FramePrinter W E) (ans : List Answered) (k limit : ℕ) → k ≤ limit → Prints out err was (take k ans) mid → (n : ℕ) × Appends (out mid.output) (out now.output) (take n (waiting out err mid)) →
       GrowsWithin (out was.output) (out now.output) (waiting out err was ++ printed_answers was.report (take limit ans))
   run_part was mid now ans k limit le p part =

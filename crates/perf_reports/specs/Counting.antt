@@ -36,7 +36,7 @@ wrapped n = n % 2 ^ 64
 
 -- ---- what a record adds to the checksum
 
--- a mapping: its numbers, and how long its path is
+-- a mapping: its numbers, and the length of its path
 abbrev pub mmap_sum : MmapValue → ℕ
 mmap_sum r = sum (r.pid ∷ r.tid ∷ r.addr ∷ r.len ∷ r.pgoff ∷ length r.filename ∷ [])
 

@@ -26,7 +26,7 @@ fn tell_frames(text: &mut String, frames: &[Frame<'_>]) -> Result<(), AllocError
     Ok(())
 }
 
-// The same record, or the same refusal.
+// The same record, or the same error.
 fn copy_of<'a>(alloc: Global, answer: &ParseResult<Record<'a>>) -> ParseResult<Record<'a>> {
     match answer {
         Ok(record) => record.clone(alloc),

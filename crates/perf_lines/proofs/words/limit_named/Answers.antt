@@ -10,7 +10,7 @@ use Rattle.std.proofs.lemmas.Str.Parse.{numerals_by_value, tells_all_ascii_digit
 use Rattle.perf_lines.specs.Words.{limit_named}
 use Rattle.perf_lines.proofs.words.limit_named.Goals as goal
 
--- two spellings of one test
+-- two forms of one test
 all_digits : (bs : List ℕ) → all_ascii_digits bs ≡ list_all is_ascii_digit bs
 all_digits [] = refl
 all_digits (c ∷ cs) = ap (λ b. is_ascii_digit c && b) (all_digits cs)
