@@ -29,7 +29,7 @@ abbrev pub digit_of : Bool → ℕ
 digit_of true = 1
 digit_of false = 0
 
--- a branch: its source and target addresses, and the fields of its word of flags
+-- a branch: its source and target addresses, and its bit fields
 abbrev pub branch_item : Branch → List ℕ
 branch_item b =
     decimal b.from
