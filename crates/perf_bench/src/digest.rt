@@ -1,4 +1,4 @@
-//! A number of all that was read: of every header, field, list, refusal and text.
+//! A digest of all that was read: of every header, field, list, error and text.
 //!
 //! These are left out:
 //!
@@ -7,11 +7,11 @@
 //! - the attribute and the configuration, which matter only through what is read under them;
 //! - bits of a branch's word that no getter returns;
 //! - getters that return parts of a field, such as the text of a name;
-//! - of a frame that a visitor does not handle, all but the metadata;
+//! - all of a frame that a visitor does not handle, except the metadata;
 //! - the position of a parser after each frame.
 //!
-//! Not all that it covers occurs in the workloads: no recording has, for example, a build id, a count
-//! of lost events, READ, NAMESPACES or a record of `rare`.
+//! Not everything that it covers occurs in the workloads: no recording has, for example, a build
+//! id, a count of lost events, READ, NAMESPACES or a record of `rare`.
 
 use bitflags::Flags;
 use perf_event_data::parse::{ErrorKind, ParseError, ParseResult};
@@ -22,25 +22,25 @@ use perf_event_data::{
 };
 
 // A list is mixed after this many numbers: the sum is rotated by seven bits at each number, so two
-// numbers that are 64 apart could otherwise change places unnoticed.
+// numbers that are 64 apart could otherwise be swapped unnoticed.
 const MIXED: usize = 32;
 
-// Stands for an absent number. A number with this value is not told from an absent one.
+// Represents an absent number. A number with this value is not distinguished from an absent one.
 const ABSENT: u64 = 0x9E37_79B9_7F4A_7C15;
 
-/// A number of all that was read, in order.
+/// A digest of all that was read, in order.
 #[derive(Copy, Clone)]
 pub struct Digest {
-    /// How many frames there were.
+    /// The number of frames.
     pub frames: u64,
-    /// How many of them were refused.
+    /// The number of refused frames.
     pub refused: u64,
-    /// What they said.
+    /// The digest of their contents.
     pub sum: u64,
 }
 
 impl Digest {
-    /// Nothing was read yet.
+    /// The digest of nothing.
     pub fn new() -> Digest {
         Digest {
             frames: 0,
@@ -55,19 +55,19 @@ impl Digest {
         self.sum = self.sum.rotate_left(7).wrapping_add(number);
     }
 
-    // What was read until now is mixed.
+    // Mixes what was read so far.
     fn mix(&mut self) {
         self.sum = (self.sum ^ (self.sum >> 29)).wrapping_mul(0xBF58_476D_1CE4_E5B9);
     }
 
-    // Numbers, as many as their kind has.
+    // Numbers, without their count.
     fn numbers(&mut self, numbers: &[u64]) {
         for number in numbers {
             self.number(*number);
         }
     }
 
-    // A list of numbers, and how many there are.
+    // A list of numbers, and its length.
     fn list(&mut self, numbers: &[u64]) {
         self.number(numbers.len() as u64);
         for part in numbers.chunks(MIXED) {
@@ -212,7 +212,7 @@ impl Digest {
         }
     }
 
-    // What is neither a sample, a mapping nor a task's.
+    // The records that are neither samples, mappings nor those of a task.
     fn side(&mut self, record: &Record) {
         match record {
             Record::Lost(lost) => self.numbers(&[7, lost.id, lost.lost]),
@@ -241,7 +241,7 @@ impl Digest {
         }
     }
 
-    // What the workloads do not have.
+    // The records that the workloads do not have.
     fn rare(&mut self, record: &Record) {
         match record {
             Record::Aux(aux) => {
@@ -259,7 +259,7 @@ impl Digest {
             Record::TextPoke(poke) => self.text_poke(poke),
             Record::AuxOutputHwId(id) => self.numbers(&[21, id.hw_id]),
             Record::Mmap(mapped) => self.mmap(mapped),
-            // A switch alone is left, which has no field.
+            // Only a switch is left, which has no field.
             _ => self.number(23),
         }
     }
@@ -434,7 +434,7 @@ impl Digest {
     }
 }
 
-// What a branch has beside its addresses.
+// The bits of a branch besides its addresses.
 fn branch_bits(branch: &BranchEntry) -> u64 {
     let marks = u64::from(branch.mispred())
         | u64::from(branch.predicted()) << 1

@@ -1,10 +1,10 @@
-//! Measures nothing itself: it does what readers of performance events wait for, on recordings that
-//! it makes, so that its time can be taken.
+//! Measures nothing itself: it does what readers of performance events spend time on, with
+//! recordings that it makes, so that it can be timed.
 //!
 //! `perf_bench WORKLOAD ROUNDS SEED` makes the recordings of a workload from a seed, reads each of
-//! them by the public calls, and prints how many frames it read, how many of them were refused, and
-//! a number of all that was read. The workloads are `profile`, `pipe`, `ring`, `fields`, `text`
-//! and `awkward`; `all` is each of them, a line each. No recording is read twice.
+//! them by the public calls, and prints the number of frames, the number of refused ones, and a
+//! digest of all that was read. The workloads are `profile`, `pipe`, `ring`, `fields`, `text` and
+//! `awkward`; `all` is each of them, one line each. No recording is read twice.
 #![tactic(auto)]
 
 mod digest;

@@ -1,41 +1,41 @@
-//! Lists that many frames have in common, as call chains and file names are in a recording.
+//! Lists that many frames share, as frames of a recording share call chains and file names.
 
 use crate::random::Random;
 use crate::stream::ByteOrder;
 use std::alloc::{AllocError, Global};
 
-// How many there are of each kind.
+// The number of items of each kind.
 const EACH: usize = 256;
 
 const CONTEXT_KERNEL: u64 = u64::MAX - 127;
 
 const CONTEXT_USER: u64 = u64::MAX - 511;
 
-// What names are made of.
+// The letters of names.
 const LETTERS: &[u8; 16] = b"abcdefghilmnorst";
 
-/// What a pool has.
+/// What a pool contains.
 #[derive(Copy, Clone)]
 pub enum Kind {
-    /// Call chains of 10 to 60 entries, with their count in front.
+    /// Call chains of 10 to 60 entries, each after its count.
     Chains,
-    /// Names of files, filled with zeros to a multiple of eight bytes.
+    /// Names of files, padded with zeros to a multiple of eight bytes.
     Files,
     /// Names of tasks, likewise.
     Tasks,
-    /// Stacks of 32 branches, with their count in front.
+    /// Stacks of 32 branches, each after its count.
     Branches,
-    /// Raw bytes of tracepoints, with their length in front, filled up.
+    /// Raw bytes of tracepoints, each after its length, padded.
     Raw,
     /// Twenty registers and 8 kB of stack.
     Stacks,
     /// Groups of 2 to 20 counters.
     Groups,
-    /// Bodies of 60 kB that nobody reads.
+    /// Bodies of 60 kB of unknown type.
     Unknown,
 }
 
-/// Bytes to choose among.
+/// Bytes to choose from.
 #[derive(Drop)]
 pub struct Pool {
     items: Vec<Vec<u8>>,
@@ -95,7 +95,7 @@ fn push_word(bytes: &mut Vec<u8>, order: ByteOrder, word: u64) -> Result<(), All
     bytes.extend_from_slice(&order.bytes(word))
 }
 
-// So many numbers of so many bits.
+// Appends `count` random numbers of `bits` bits.
 fn push_numbers(
     bytes: &mut Vec<u8>,
     order: ByteOrder,
@@ -129,7 +129,7 @@ fn push_chain(
     Ok(())
 }
 
-// A name, with the zeros that fill it up.
+// A name, padded with zeros.
 fn push_name(
     bytes: &mut Vec<u8>,
     front: &[u8],
@@ -163,7 +163,7 @@ fn push_branches(
     Ok(())
 }
 
-// A length of four bytes, and so many, which together are a multiple of eight.
+// A length of four bytes and as many bytes, which together are a multiple of eight.
 fn push_raw(bytes: &mut Vec<u8>, order: ByteOrder, random: &mut Random) -> Result<(), AllocError> {
     let words = random.within(3, 12);
     let len = u32::try_from(words.wrapping_mul(8).wrapping_add(4)).unwrap_or(0);
@@ -175,7 +175,7 @@ fn push_raw(bytes: &mut Vec<u8>, order: ByteOrder, random: &mut Random) -> Resul
     push_numbers(bytes, order, random, words, 40)
 }
 
-// The kind of registers, twenty of them, the size of the stack, its bytes, and how many are used.
+// The ABI of registers, twenty of them, the size of the stack, its bytes, and how many are used.
 fn push_stack(
     bytes: &mut Vec<u8>,
     order: ByteOrder,
@@ -188,7 +188,7 @@ fn push_stack(
     push_word(bytes, order, random.within(1_000, 8_192))
 }
 
-// How many there are, the times, and each with its id.
+// The number of counters, the times, and each counter with its id.
 fn push_group(
     bytes: &mut Vec<u8>,
     order: ByteOrder,

@@ -23,7 +23,7 @@ impl Random {
         mixed ^ (mixed >> 31)
     }
 
-    /// The next number of so many bits, of which there are at most 63.
+    /// The next number of `count` bits, at most 63.
     #[inline]
     pub fn bits(&mut self, count: u32) -> u64
         requires { count < 64 }
@@ -31,7 +31,7 @@ impl Random {
         self.number() % (1 << count)
     }
 
-    /// The next number of so many bits as one of four bytes, or 0 where it has more.
+    /// The next number of `count` bits as a 32-bit number, or 0 if it has more.
     #[inline]
     pub fn short(&mut self, count: u32) -> u32
         requires { count < 64 }
@@ -39,7 +39,7 @@ impl Random {
         u32::try_from(self.bits(count)).unwrap_or(0)
     }
 
-    /// The next number of a range, of which both ends belong to it.
+    /// The next number of a range that includes both ends.
     #[inline]
     pub fn within(&mut self, least: u64, most: u64) -> u64 {
         let span = most.saturating_sub(least).saturating_add(1);

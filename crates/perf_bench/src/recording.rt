@@ -1,4 +1,4 @@
-//! Recordings that are made: frames of one kind of recording, behind their attribute.
+//! Generated recordings: an attribute, and frames of one kind of recording after it.
 
 use crate::pool::{Kind, Pool};
 use crate::random::Random;
@@ -71,32 +71,32 @@ const GROUP_FORMAT: u64 = 1 << 3 | 1 << 2 | 1 << 1 | 1 << 0;
 /// Kinds of recordings.
 #[derive(Copy, Clone, PartialEq, Eq)]
 pub enum Recording {
-    /// Samples without a list, and what the kernel tells of tasks.
+    /// Samples without a list, and records about tasks.
     Flat,
-    /// Samples with call chains, and what the kernel tells of tasks.
+    /// Samples with call chains, and records about tasks.
     Chains,
-    /// What the kernel tells of tasks alone.
+    /// Records about tasks alone.
     Tasks,
     /// Samples with registers and a copy of the stack.
     Stacks,
     /// Samples with branches.
     Branches,
-    /// Samples of memory, with 16 fields.
+    /// Memory samples, with 16 fields.
     Memory,
     /// Samples of tracepoints.
     Raw,
     /// Samples with groups of counters.
     Groups,
-    /// Samples without a list, where the attribute claims one.
+    /// Samples without a list, under an attribute that claims one.
     Refused,
-    /// Samples whose chain claims to be longer than all memory.
+    /// Samples with a chain whose length exceeds all memory.
     Lies,
-    /// Frames of 60 kB of no known type.
+    /// Frames of 60 kB of unknown type.
     Unknown,
 }
 
 impl Recording {
-    // What its attribute says.
+    // The attribute of a recording of this kind.
     fn event(self) -> Event {
         let sample_type = match self {
             Recording::Flat | Recording::Tasks | Recording::Unknown => FLAT,
@@ -115,7 +115,7 @@ impl Recording {
         }
     }
 
-    // What its frames choose among.
+    // The kind of the pool that its frames take from.
     fn kind(self) -> Kind {
         match self {
             Recording::Stacks => Kind::Stacks,
@@ -133,7 +133,7 @@ impl Recording {
     }
 }
 
-/// What makes recordings of one kind.
+/// Generates recordings of one kind.
 #[derive(Drop)]
 pub struct Maker {
     recording: Recording,
@@ -144,7 +144,7 @@ pub struct Maker {
 }
 
 impl Maker {
-    /// A maker of recordings.
+    /// A generator of recordings of one kind.
     pub fn new(
         alloc: Global,
         recording: Recording,
@@ -160,7 +160,7 @@ impl Maker {
         })
     }
 
-    /// Makes a recording of about so many bytes.
+    /// Makes a recording of about `size` bytes.
     pub fn make(&self, stream: &mut Stream, size: usize) -> Result<(), AllocError> {
         stream.begin(self.order, self.recording.event())?;
         for _ in 0..size {
@@ -198,7 +198,7 @@ impl Maker {
         }
     }
 
-    // Appends a sample that ends with a list, where it has one.
+    // Appends a sample that ends with a list, if it has one.
     fn push_sample(&self, stream: &mut Stream) -> Result<(), AllocError> {
         let ip = 0x5500_0000_0000 | stream.random.bits(24);
         let task = stream.order.pair(4_321, stream.random.short(12));
@@ -224,7 +224,7 @@ impl Maker {
         stream.push_frame(9, [task, time], group, &[])
     }
 
-    // Appends what the kernel tells of a task.
+    // Appends a record about a task.
     fn push_task(&self, stream: &mut Stream) -> Result<(), AllocError> {
         let order = stream.order;
         let task = order.pair(4_321, stream.random.short(12));
@@ -265,7 +265,7 @@ impl Maker {
     }
 }
 
-// Appends a sample of memory, with all fields of one number.
+// Appends a memory sample, with all fields that are one number.
 fn push_memory(stream: &mut Stream) -> Result<(), AllocError> {
     let task = stream.order.pair(4_321, stream.random.short(12));
     let time = stream.tick();

@@ -1,4 +1,5 @@
-//! Small batches out of a ring buffer, whose bytes come in pieces that do not last.
+//! Small batches from a ring buffer, whose bytes come in pieces that do not live as long as the
+//! input.
 
 ghost use Rattle.std.specs.Prelude.{⊤, ◌<◌};
 
@@ -12,14 +13,14 @@ use perf_event_data::{
 };
 use std::alloc::Global;
 
-/// A number of the samples, mappings and names that are visited.
+/// A digest of the samples, mappings and names that are visited.
 #[derive(Copy, Clone)]
 struct Numbers;
 
 impl PartialVisitor for Numbers {
     type Output = u64;
 
-    // Nothing is said of it.
+    // Nothing is specified.
     ghost gives = { λ seen output. ⊤ };
 
     ghost left_out = { λ metadata output. ⊤ };
@@ -55,10 +56,10 @@ impl PartialVisitor for Numbers {
     }
 }
 
-/// How the frames of a ring are taken.
+/// How the frames of a ring are read.
 #[derive(Copy, Clone)]
 pub enum Taken {
-    /// Each by its metadata, and its record out of the bytes that are left.
+    /// Each by its metadata, and its record from the rest of the bytes.
     ByMetadata,
     /// Each by a visitor.
     ByVisitor,

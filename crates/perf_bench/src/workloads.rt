@@ -1,4 +1,4 @@
-//! What is measured: recordings are made, a batch at a time, and read.
+//! The workloads: recordings are made, a batch at a time, and read.
 
 use crate::digest::Digest;
 use crate::recording::{Maker, Recording};
@@ -14,13 +14,13 @@ use perf_reports::printing::{Report, print_recording};
 use std::alloc::Global;
 use std::io::BufReader;
 
-// How many answers are held at a time.
+// How many results are kept at a time.
 const BATCH: usize = 256;
 
 // How many bytes are read at a time.
 const PIECE: usize = 8_192;
 
-// How many bytes a recording has.
+// The size of a large recording.
 const LARGE: usize = 1 << 20;
 
 const MIDDLE: usize = 1 << 18;
@@ -30,24 +30,24 @@ const SMALL: usize = 1 << 12;
 /// How a recording is read.
 #[derive(Copy, Clone)]
 enum Way {
-    // As a slice, in the byte order of the machine.
+    // As a slice, in the native byte order.
     Slice,
-    // As a slice, in an order that is chosen as it runs.
+    // As a slice, in a byte order that is chosen at run time.
     Chosen,
     // Through a buffered reader.
     Reader,
-    // In pieces of so many bytes.
+    // In pieces of this many bytes.
     Pieces(usize),
     // As a ring buffer of pages of 4096 bytes.
     Ring(Taken),
-    // As text, a line a frame.
+    // As text, a line for each frame.
     Lines,
     // As text of samples or of tasks.
     Report(Report),
 }
 
-// A kind of recordings, their order, how large each is, how it is read, and how many of them there
-// are in each round.
+// A kind of recording, its byte order, its size, how it is read, and how many of them there are in
+// each round.
 #[derive(Copy, Clone)]
 struct Part(Recording, ByteOrder, usize, Way, usize);
 
@@ -143,17 +143,17 @@ const AWKWARD: &[Part] = &[
 /// What is measured.
 #[derive(Copy, Clone)]
 pub enum Workload {
-    /// Profiles as files that are mapped.
+    /// Profiles as mapped files.
     Profile,
     /// Profiles through a pipe.
     Pipe,
     /// Profiles and tasks in the pages of a ring buffer.
     Ring,
-    /// Stacks, branches, memory, tracepoints, groups, and other orders.
+    /// Stacks, branches, memory, tracepoints, groups, and other byte orders.
     Fields,
     /// Recordings as text.
     Text,
-    /// Refused frames, lies, large frames that nobody reads, and single bytes.
+    /// Refused frames, false lengths, large frames of unknown type, and single bytes.
     Awkward,
 }
 
@@ -169,7 +169,7 @@ impl Workload {
         }
     }
 
-    /// So many rounds of a seed.
+    /// Runs this many rounds from a seed.
     pub fn measure(self, alloc: Global, rounds: u64, seed: u64) -> Result<Digest> {
         let mut digest = Digest::new();
         let mut stream = Stream::new(alloc, seed);
@@ -227,7 +227,7 @@ impl Way {
     }
 }
 
-// An order by the type that is one for all.
+// A byte order as the type that covers all of them.
 fn chosen(order: ByteOrder) -> Dynamic {
     match order {
         ByteOrder::Little => Dynamic::Little,

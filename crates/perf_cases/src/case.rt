@@ -15,17 +15,17 @@ pub struct Case<'a> {
     name: &'a str,
     alloc: Global,
     attr: perf_event_attr,
-    // The bytes, with the lowest byte of each number first, and with the highest.
+    // The bytes, in little endian and in big endian.
     little: Vec<u8>,
     big: Vec<u8>,
-    // Whether the next bytes begin anew.
+    // Whether the next bytes replace those so far.
     is_told: bool,
-    // Which byte of a number comes first where a parser is asked.
+    // The byte order of the parser.
     order: Dynamic,
-    // How it is asked, and what.
+    // How it is asked, and for what.
     how: &'a str,
     asked: &'a str,
-    // The lines of a longer answer so far.
+    // The lines of a longer result so far.
     lines: String,
 }
 
@@ -54,7 +54,7 @@ impl<'a> Case<'a> {
         self.name
     }
 
-    /// Sets what a line says.
+    /// Sets what a line specifies.
     pub fn set(&mut self, word: &'a str, rest: &'a str) -> Result<()> {
         match word {
             "under" => self.attr = attribute(rest)?,
@@ -70,7 +70,7 @@ impl<'a> Case<'a> {
         Ok(())
     }
 
-    /// What is wanted: the lines that there were, and the rest.
+    /// The expected result: the lines before, and the rest.
     pub fn wanted(&mut self, rest: &str) -> Result<String, AllocError> {
         let want = format!(in self.alloc; "{}{rest}", self.lines)?;
         self.lines.clear();
@@ -93,7 +93,7 @@ impl<'a> Case<'a> {
         Ok(())
     }
 
-    // Bytes that are written as pairs of digits.
+    // Appends bytes that are written as pairs of digits.
     fn append_digits(&mut self, digits: &str) -> Result<()> {
         for pair in digits.as_bytes().chunks(2) {
             let byte = u8::from_str_radix(str::from_utf8(pair)?, 16)?;
@@ -114,7 +114,7 @@ impl<'a> Case<'a> {
         put_parts(&mut self.big, true, &[part])
     }
 
-    /// What is answered.
+    /// The actual result.
     pub fn told(&mut self) -> Result<String> {
         self.is_told = true;
         match self.how {
@@ -154,7 +154,7 @@ impl<'a> Case<'a> {
         )?)
     }
 
-    // What is said in one order, and where the other one says something else, that too.
+    // The result in one order, and that in the other one if it differs.
     fn told_sample(&self) -> Result<String> {
         let frame = frames(self.alloc, false, &self.little)?;
         let mut text = self.told_body(Dynamic::Little, &self.little, &frame)?;
@@ -166,9 +166,9 @@ impl<'a> Case<'a> {
         Ok(text)
     }
 
-    // What a body says: the sample, or the kind of its refusal, how many bytes are left behind a
-    // sample, where these are not as many as they should be, or where buffers say that differently,
-    // and what is said of its frame and the next one, where that is not what the body itself says.
+    // The result of a body: the sample, or the kind of its error; how many bytes are left after a
+    // sample, if not as many as there should be, or if buffers differ in that; and the result of
+    // its frame and the next one, if that differs from the body's.
     fn told_body(&self, order: Dynamic, body: &[u8], frame: &[u8]) -> Result<String> {
         let asked = tell_asked(self.alloc, body, order, &self.attr, "Sample left")?;
         let (sample, left) = asked.as_str().split_once("; ").context("one answer")?;
@@ -198,7 +198,7 @@ fn part(word: &str, number: u64) -> Result<Part<'static>> {
     }
 }
 
-// A number, in hexadecimal digits behind 0x.
+// A number, in hexadecimal digits after 0x.
 fn number(word: &str) -> Result<u64> {
     match word.strip_prefix("0x") {
         Some(digits) => Ok(u64::from_str_radix(digits, 16)?),

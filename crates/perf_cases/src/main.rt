@@ -1,28 +1,28 @@
-//! Checks cases that are written by hand, and what the original answered for others.
+//! Checks cases that are written by hand, and what the original returned for others.
 //!
-//! `perf_cases` reads a list from standard input: of each case the bytes, what is asked of a parser
-//! over them, and what it answers. It asks over a slice, buffered readers and pieces, prints each
-//! answer that is another one, and then how many cases and answers there are and how many differ.
-//! The exit status is 0 where none does. A line is a word and what follows it:
+//! `perf_cases` reads a list from standard input: for each case the bytes, what a parser over them
+//! is asked for, and what it returns. It asks over a slice, buffered readers and pieces, prints
+//! each result that differs, and then the numbers of cases, of results and of those that differ.
+//! The exit status is 0 if none differs. A line is a word and what follows it:
 //!
 //! - `case NAME` begins a case, in which nothing is set yet.
 //! - `under FIELD=NUMBER ..` is the attribute: `sample_type`, `read_format`, `flags`,
-//!   `branch_sample_type`, `sample_regs_user` and `sample_regs_intr`, 0 where they are not named.
-//! - `bytes DIGITS ..`, `zeros COUNT`, and `u16`, `u32` and `u64 NUMBER ..` are the bytes, one behind
-//!   another. The first such line behind an answer begins anew.
-//! - `ask WORD ..` asks a parser ([`perf_testing::asks`]); behind the line `big` with the highest byte
-//!   of each number first, and behind `little` with the lowest again.
-//! - `run LIMIT ..` reads the records of a stream, each time so many at most, and `behind LIMIT ..`
-//!   those behind the attribute with which the bytes begin. Each frame is its line of `perfrec`, and
-//!   behind that what it leaves out ([`perf_testing::told`]).
-//! - `shown` is what `{:?}` shows of the records of a slice: bytes that are its own are `Borrowed`.
-//! - `sample LEFT` reads a sample, alone and as a frame, behind which so many bytes are left, also
-//!   with the highest byte of each number first.
-//! - `perfrec WORD ..` is what that program writes, its lines one behind another, and its status.
-//! - `= ANSWER` is what that answers. What is set stays, so that one thing may be said of many.
-//! - `> LINE` or `~ LINE` is a line of a longer answer, of which `=` has the rest, the status of
-//!   `perfrec` say. `make.py` writes the cases that have such lines, and its README says which
-//!   (`tools/answers`).
+//!   `branch_sample_type`, `sample_regs_user` and `sample_regs_intr`, 0 if they are not named.
+//! - `bytes DIGITS ..`, `zeros COUNT`, and `u16`, `u32` and `u64 NUMBER ..` are the bytes, one
+//!   after another. The first such line after an answer replaces the bytes before.
+//! - `ask WORD ..` asks a parser ([`perf_testing::asks`]); after the line `big` in big endian, and
+//!   after `little` in little endian again.
+//! - `run LIMIT ..` reads the records of a stream, each time at most that many, and
+//!   `behind LIMIT ..` those after the attribute at the start of the bytes. Each frame is its line
+//!   of `perfrec`, and after that what it leaves out ([`perf_testing::told`]).
+//! - `shown` is the `{:?}` of the records of a slice: bytes that are its own are `Borrowed`.
+//! - `sample LEFT` reads a sample, alone and as a frame, after which that many bytes are left, in
+//!   little and in big endian.
+//! - `perfrec WORD ..` is what that program writes, its lines one after another, and its status.
+//! - `= ANSWER` is the result. What is set stays, so that several results may follow one input.
+//! - `> LINE` or `~ LINE` is a line of a longer result, of which `=` has the rest, such as the
+//!   status of `perfrec`. `make.py` writes the cases that have such lines, and its README explains
+//!   which (`tools/answers`).
 //! - `#` begins a remark.
 #![tactic(auto)]
 
@@ -34,7 +34,7 @@ use anyhow::Result;
 use std::io;
 use std::process::ExitCode;
 
-// How many cases and answers there were, and how many answers are others.
+// The numbers of cases, of results, and of results that differ.
 #[derive(Drop)]
 struct Counts {
     cases: u64,
@@ -66,7 +66,7 @@ fn main(rt: HostRuntime) -> Result<ExitCode> {
     }
 }
 
-// Does what a line says.
+// Does what a line specifies.
 fn replay<'a>(
     rt: &HostRuntime,
     counts: &mut Counts,
@@ -90,7 +90,7 @@ fn replay<'a>(
     Ok(())
 }
 
-// Prints an answer that is another one, and answers how many these are.
+// Prints a result that differs, and returns the number of differences.
 fn compare(rt: &HostRuntime, case: &mut Case, rest: &str) -> Result<u64> {
     let want = case.wanted(rest)?;
     let told = case.told()?;

@@ -1,4 +1,4 @@
-//! What `perfrec` says of a stream.
+//! What `perfrec` writes for a stream.
 
 ghost use Rattle.std.specs.Prelude.{◌<◌};
 
@@ -9,7 +9,7 @@ use perf_lines::run::run;
 use perf_lines::words::command;
 use std::alloc::{AllocError, Global};
 
-// The lines that are written, one behind another, and the status.
+// The lines that are written, one after another, and the status.
 fn lines<E: Endian>(
     alloc: Global,
     order: E,
@@ -52,8 +52,8 @@ fn words(alloc: Global, line: &str) -> Result<Vec<String>, AllocError> {
     Ok(words)
 }
 
-/// What it says behind these words, where the stream is read in pieces of 1, 7 and 8192 bytes: one
-/// text where all are one, and else the others behind it.
+/// What it writes for these words, if the stream is read in pieces of 1, 7 and 8192 bytes: one text
+/// if all are the same, and otherwise the others after it.
 pub fn told(alloc: Global, line: &str, stream: &[u8]) -> Result<String> {
     let asked = command(&words(alloc, line)?).context("no words of perfrec")?;
     let mut text = told_in_pieces(alloc, asked, stream, 1)?;

@@ -1,4 +1,4 @@
--- A stream in batches: what the frames behind the first n of a stream are, and how it ends.
+-- A stream in batches: the frames after the first n of a stream, and how it ends.
 use Rattle.std.proofs.Common.{◌≡◌, ℕ, zero, suc, ◌+◌, ◌-◌, ◌<◌, ◌≤◌, Bool, true, false, List, [], ◌∷◌, length, take, drop, map, refl, sym, ap, ◌∙◌, arith, length-drop, zero-add, inl, inr}
 use Rattle.std.specs.Prelude.{Result, nat_lt, ◌⊎◌}
 use Rattle.std.proofs.lemmas.Bool.Decides.{nat_tests}
@@ -18,7 +18,7 @@ below_or_not : (n m : ℕ) (b : Bool) → nat_lt n m ≡ b → (n < m) ⊎ (m �
 below_or_not n m true h = inl (grind (arith, nat_tests))
 below_or_not n m false h = inr (grind (arith, nat_tests))
 
--- where eight bytes are left there is a frame, and else there is none
+-- if eight bytes are left there is a frame, and otherwise none
 first_frames-some : (o : Order) (n : ℕ) (bytes : List ℕ) → 8 ≤ length bytes → first_frames o (suc n) bytes ≡ take (frame_length o bytes) bytes ∷ first_frames o n (drop (frame_length o bytes) bytes)
 first_frames-some o n bytes h = grind (arith, nat_tests)
 
@@ -26,11 +26,11 @@ first_frames-none : (o : Order) (n : ℕ) (bytes : List ℕ) → length bytes < 
 first_frames-none o zero bytes h = refl
 first_frames-none o (suc n) bytes h = grind (arith, nat_tests)
 
--- what is left behind a frame is shorter
+-- what is left after a frame is shorter
 behind_one : (o : Order) (n : ℕ) (bytes : List ℕ) → length bytes ≤ suc n → length (drop (frame_length o bytes) bytes) ≤ n
 behind_one o n bytes h = omega (arith, length-drop (frame_length o bytes) bytes)
 
--- as many frames are looked for as there are bytes, and more make no difference
+-- looking for as many frames as there are bytes is enough, and more make no difference
 same_frames : (o : Order) (n m : ℕ) (bytes : List ℕ) → length bytes ≤ n → length bytes ≤ m → first_frames o n bytes ≡ first_frames o m bytes
 same_frames o zero m bytes p q = sym (first_frames-none o m bytes (omega arith))
 same_frames o (suc n) zero bytes p q = first_frames-none o (suc n) bytes (omega arith)
@@ -43,7 +43,7 @@ same_frames o (suc n) (suc m) bytes p q = elim (below_or_not (length bytes) 8 (n
       ∙ sym (first_frames-some o m bytes h)
 ]
 
--- the first frame, and those behind it
+-- the first frame, and those after it
 frames-some : (o : Order) (bytes : List ℕ) → 8 ≤ length bytes → frames o bytes ≡ take (frame_length o bytes) bytes ∷ frames o (drop (frame_length o bytes) bytes)
 frames-some o bytes h =
     let rest : List ℕ = drop (frame_length o bytes) bytes in
@@ -57,7 +57,7 @@ has_eight o n bytes h = elim (below_or_not (length bytes) 8 (nat_lt (length byte
   | inr long ↦ long
 ]
 
--- the frames behind the first n
+-- the frames after the first n
 pub frames_behind : (o : Order) (n : ℕ) (bytes : List ℕ) → n ≤ length (frames o bytes) → frames o (behind_frames o n bytes) ≡ drop n (frames o bytes)
 frames_behind o zero bytes h = refl
 frames_behind o (suc n) bytes h =
@@ -67,7 +67,7 @@ frames_behind o (suc n) bytes h =
     let count : length (frames o bytes) ≡ suc (length (frames o rest)) = ap length parts in
     frames_behind o n rest (omega arith) ∙ sym (ap (λ xs. drop (suc n) xs) parts)
 
--- the bytes behind k frames more
+-- the bytes after k more frames
 pub behind_more : (o : Order) (n k : ℕ) (bytes : List ℕ) → behind_frames o k (behind_frames o n bytes) ≡ behind_frames o (n + k) bytes
 behind_more o zero k bytes = ap (λ j. behind_frames o j bytes) (sym (zero-add k))
 behind_more o (suc n) k bytes =
@@ -76,13 +76,13 @@ behind_more o (suc n) k bytes =
 
 -- ---- answers
 
--- the answers behind the first n frames
+-- the answers after the first n frames
 pub answers_behind : (c : Configuration) (o : Order) (n : ℕ) (bytes : List ℕ) → n ≤ length (frames o bytes) → answers c o (behind_frames o n bytes) ≡ drop n (answers c o bytes)
 answers_behind c o n bytes h =
     let answered : List ℕ → perf_event_header × Result RecordValue ErrorKind = λ frame. (header_of o frame, answer_of_frame c o frame) in
     ap (λ xs. map answered xs) (frames_behind o n bytes h) ∙ sym (drop-map answered n (frames o bytes))
 
--- a stream ends as what is left of it behind some frames does
+-- a stream ends as the rest of it after some frames does
 pub end_behind : (o : Order) (n : ℕ) (bytes : List ℕ) → n ≤ length (frames o bytes) → stream_end o (behind_frames o n bytes) ≡ stream_end o bytes
 end_behind o n bytes h =
     let left : ℕ = length (frames o (behind_frames o n bytes)) in

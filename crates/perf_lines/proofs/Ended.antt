@@ -1,4 +1,4 @@
--- What a run has made that ended before its limit.
+-- What a run that ended before its limit has written.
 use Rattle.std.proofs.Common.{◌≡◌, ℕ, ◌+◌, ◌<◌, ◌≤◌, Bool, true, List, ◌++◌, length, arith, refl, sym, subst}
 use Rattle.std.specs.Prelude.{IsTrue}
 use Rattle.perf_base.specs.Order.{Order}

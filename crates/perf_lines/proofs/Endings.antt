@@ -1,4 +1,4 @@
--- How a run ends, and what it has then made.
+-- How a run ends, and what it has written by then.
 use Rattle.std.proofs.Common.{◌≡◌, ℕ, ◌<◌, ◌≤◌, Bool, true, false, List, [], ◌++◌, length, take, drop, refl, sym, ap, ◌∙◌, arith, subst, append_assoc, inl, inr}
 use Rattle.std.specs.Prelude.{Option, Some, None, IfSome, Result, Ok, Err, IfOk, is_err, ◌||◌, ◌&&◌, not, IsTrue, codes, if◌then◌else◌, ◌⊎◌}
 use Rattle.std.specs.List.{list_any}
@@ -23,7 +23,7 @@ use Rattle.perf_lines.specs.Text.{lines_from, end_line, printed, is_at_limit, te
 use Rattle.perf_lines.specs.Outcomes.{is_cut, prints_refusal, ends_cut, EndsEarly, IsFaultText, IsText, IsWritten}
 use Rattle.perf_lines.proofs.Progress.{Listed}
 
--- behind start stands what a run with this outcome makes
+-- after start comes what a run with this outcome writes
 abbrev pub Made : Bool → Configuration → Order → ℕ → List ℕ → List ℕ → Outcome → List ℕ → Type 0
 Made f c o limit bytes start outcome now = (written : List ℕ) × (now ≡ start ++ written) × IsWritten f o limit (framed c bytes) outcome written
 
@@ -53,7 +53,7 @@ says_as : (f : Bool) (c : Configuration) (o : Order) (limit : ℕ) (bytes : List
 says_as f c o limit bytes true e = (refl, ap (λ b. if b then Refused else Clean) e)
 says_as f c o limit bytes false e = (refl, ap (λ b. if b then Refused else Clean) e)
 
--- the whole text is made, where n answers are all that is printed
+-- the whole text is written, if n answers are all that is printed
 whole : (f : Bool) (c : Configuration) (o : Order) (limit : ℕ) (bytes start : List ℕ) (n : ℕ) (made : List ℕ) (refused : Bool) → Listed c o bytes start n made refused → take n (answers c o bytes) ≡ printed c o limit bytes → (how : List ℕ) → (if is_at_limit c o limit bytes then codes "limit" else end_name (stream_end o bytes)) ≡ how → (cut : Bool) → ends_cut c o limit bytes ≡ cut → (now : List ℕ) → now ≡ made ++ end_line how → (outcome : Outcome) → outcome ≡ (if refused || cut then Refused else Clean) → Made f c o limit bytes start outcome now
 whole f c o limit bytes start n made refused before all how ends cut cuts now grown outcome is =
     let lines : List ℕ = lines_from 0 (printed c o limit bytes) in
@@ -98,7 +98,7 @@ made_to_cut f c o limit bytes start n made refused before count below ends now g
 
 -- ---- with a fault
 
--- a kind that is none of the layout's is a fault's, where there can be one, or want of memory
+-- a kind that is none of the layout's is that of a fault, if one is possible, or out of memory
 pub ends_early : (f : Bool) (kind : ErrorKind) → (IsTrue (of_layout kind) → ⊥) → (kind ≡ External → IsTrue f) → EndsEarly f kind
 ends_early f Eof h fault = absurd (h refl)
 ends_early f InvalidRecord h fault = absurd (h refl)
@@ -107,7 +107,7 @@ ends_early f UnsupportedData h fault = absurd (h refl)
 ends_early f External h fault = inl (refl, fault refl)
 ends_early f OutOfMemory h fault = inr refl
 
--- a fault is that of a buffer which can fault no more than another
+-- the kind `External` is that of a fault of the buffer
 pub is_external_fault : (kind : ErrorKind) → kind ≡ External → is_external (Some kind) ≡ true
 is_external_fault kind e = ap (λ k. is_external (Some k)) e
 
@@ -128,7 +128,7 @@ made_to_fault f c o limit bytes start n made refused before below kind early now
 starts_with_taken : (xs : List ℕ) (n : ℕ) → StartsWith xs (take n xs)
 starts_with_taken xs n = ap (λ k. take k xs) (length-take n xs) ∙ take_min n xs
 
--- a beginning of what an outcome says is what a run says that was stopped
+-- a prefix of what an outcome specifies is what a stopped run writes
 pub says_beginning : (f : Bool) (o : Order) (limit : ℕ) (stream : Stream) (outcome : Outcome) (written : List ℕ) (n : ℕ) → IsWritten f o limit stream outcome written → IsWritten f o limit stream Stopped (take n written)
 says_beginning f o limit stream Clean written n h = (written, inl h.0, starts_with_taken written n)
 says_beginning f o limit stream Refused written n h = (written, inl h.0, starts_with_taken written n)
@@ -138,7 +138,7 @@ says_beginning f o limit stream Stopped written n h =
     let short : length (take n written) ≤ length written = omega (arith, length-take n written) in
     (h.0, h.1, sym (take-take (length (take n written)) (length written) h.0 short) ∙ ap (λ xs. take (length (take n written)) xs) h.2 ∙ starts_with_taken written n)
 
--- nothing at all is a beginning
+-- the empty text is a prefix
 pub says_nothing : (f : Bool) (o : Order) (limit : ℕ) (stream : Stream) → IsWritten f o limit stream Stopped []
 says_nothing f o limit stream = (stream_text o limit stream, inl refl, refl)
 
@@ -157,18 +157,18 @@ unfolding behind_attribute
 by_answer o bytes (Ok a) e = rw (e, behind_attribute) refl
 by_answer o bytes (Err kind) e = rw (e, behind_attribute) refl
 
--- where the attribute is read, the frames behind it are the stream
+-- if the attribute is read, the frames after it are the stream
 pub read_attribute : (o : Order) (bytes left : List ℕ) (a : perf_event_attr) → by_places o attribute bytes ≡ ran a left → left ≡ drop a.size bytes → behind_attribute o bytes ≡ framed (configured_by a) left
 read_attribute o bytes left a read is = by_answer o bytes (Ok a) (sym (places_layout o attribute bytes) ∙ ap answer read) ∙ ap (λ xs. framed (configured_by a) xs) (sym is)
 
 pub refused_attribute : (o : Order) (bytes left : List ℕ) (kind : ErrorKind) → by_places o attribute bytes ≡ stopped kind left → behind_attribute o bytes ≡ without_frames kind
 refused_attribute o bytes left kind read = by_answer o bytes (Err kind) (sym (places_layout o attribute bytes) ∙ ap answer read)
 
--- behind start stands what a run over this stream makes
+-- after start comes what a run over this stream writes
 abbrev pub MadeOf : Bool → Order → ℕ → Stream → List ℕ → Outcome → List ℕ → Type 0
 MadeOf f o limit stream start outcome now = (written : List ℕ) × (now ≡ start ++ written) × IsWritten f o limit stream outcome written
 
--- what is made where the attribute could not be read
+-- what is written if the attribute could not be read
 abbrev MadeRefused : List ℕ → ErrorKind → Outcome → List ℕ → Type 0
 MadeRefused start kind outcome now = (now ≡ start ++ attr_line kind) × (outcome ≡ BadAttr)
 
@@ -210,7 +210,7 @@ no_fault kind e h = grind (arith, e, h)
 pub framed_as : (c d : Configuration) → c ≡ d → (xs ys : List ℕ) → xs ≡ ys → framed c xs ≡ framed d ys
 framed_as c d e xs ys h = ap (λ x. framed x xs) e ∙ ap (λ zs. framed d zs) h
 
--- a fault of a buffer that can fault no more than another is one of that
+-- a fault of a buffer that can fault only if another can is a fault of that other
 early_within : (f g : Bool) → (IsTrue g → IsTrue f) → (kind : ErrorKind) → EndsEarly g kind → EndsEarly f kind
 early_within f g within kind early = elim early [ inl e ↦ inl (e.0, within e.1) | inr e ↦ inr e ]
 
@@ -227,7 +227,7 @@ says_within f g within o limit stream BadAttr written h = h
 says_within f g within o limit stream Faulted written h = fault_text_within f g within o limit stream written h
 says_within f g within o limit stream Stopped written h = (h.0, text_within f g within o limit stream h.0 h.1, h.2)
 
--- the attribute was read, and then the frames behind it
+-- the attribute was read, and then the frames after it
 pub made_behind : {E : Type 0} (f g : Bool) → (IsTrue g → IsTrue f) → (o o2 : Order) (limit : ℕ) (stream : Stream) (rest start : List ℕ) (c : Configuration) → o2 ≡ o → stream ≡ framed c rest → (r : Result Outcome E) (now : List ℕ) → IfOk r (λ outcome. MadeOf g o2 limit (framed c rest) start outcome now) → IfOk r (λ outcome. MadeOf f o limit stream start outcome now)
 made_behind f g within o o2 limit stream rest start c orders read r now made =
     if_ok_map r (λ outcome. MadeOf g o limit stream start outcome now) (λ outcome. MadeOf f o limit stream start outcome now)

@@ -1,4 +1,4 @@
--- What a writer has got, where it tells its bytes.
+-- What was appended to a writer, if its bytes are known.
 use Rattle.std.proofs.Common.{ℕ, List, [], ◌++◌, Option, Some, None, sym, ap, ◌∙◌, append-nil, append_assoc}
 use Rattle.std.specs.Io.KnownBytes.{Appends, Keeps}
 

@@ -1,4 +1,4 @@
--- Lines one behind another.
+-- Lines one after another.
 use Rattle.std.proofs.Common.{◌≡◌, ℕ, ◌+◌, ◌<◌, List, [], ◌∷◌, ◌++◌, length, take, sym, ap, ◌∙◌, add-zero, append-nil, append_assoc, arith, get_or}
 use Rattle.std.specs.Prelude.{Result}
 use Rattle.std.proofs.lemmas.List.{map_more, length-map, length-take-le}
@@ -19,7 +19,7 @@ lines_append first (x ∷ xs) ys =
     ap (λ rest. here ++ rest) (lines_append (first + 1) xs ys ∙ ap (λ n. lines_from (first + 1) xs ++ lines_from n ys) n)
     ∙ sym (append_assoc here (lines_from (first + 1) xs) (lines_from (first + length (x ∷ xs)) ys))
 
--- one line more
+-- one more line
 pub lines_more : (first i : ℕ) (frames : List (perf_event_header × Result Record ParseError)) (here : perf_event_header × Result Record ParseError) → i < length frames → here ≡ get_or frames i here → lines_from first (seen_answers (take (i + 1) frames)) ≡ lines_from first (seen_answers (take i frames)) ++ ended (line (first + i) here.0 (seen_answer here.1))
 lines_more first i frames here below is =
     let before = seen_answers (take i frames) in

@@ -1,4 +1,4 @@
--- How far a run has come: the lines of the first n answers are made.
+-- How far a run has come: the lines of the first n answers are written.
 use Rattle.std.proofs.Common.{◌≡◌, ℕ, ◌+◌, ◌-◌, ◌≤◌, min, Bool, false, List, [], ◌∷◌, ◌++◌, length, take, drop, refl, sym, ap, ◌∙◌, arith, subst, append-nil, append_assoc, zero-add, length-drop}
 use Rattle.std.specs.Prelude.{Result, Ok, Err, is_err, ◌||◌}
 use Rattle.std.specs.List.{list_any}
@@ -27,7 +27,8 @@ Pair = perf_event_header × Result RecordValue ErrorKind
 abbrev is_refused : Pair → Bool
 is_refused pair = is_err pair.1
 
--- the lines of the first n answers stand behind start, and refused says whether one of them is a refusal
+-- the lines of the first n answers come after start, and refused is whether one of them is a
+-- refusal
 pub record Listed (c : Configuration) (o : Order) (bytes start : List ℕ) (n : ℕ) (made : List ℕ) (refused : Bool) : Type 0 where
   pub within : n ≤ length (answers c o bytes)
   pub made_is : made ≡ start ++ lines_from 0 (take n (answers c o bytes))
@@ -40,13 +41,13 @@ listed_none c o bytes start = record { within = omega arith; made_is = sym (appe
 count_answers : (c : Configuration) (o : Order) (bytes : List ℕ) → length (answers c o bytes) ≡ length (frames o bytes)
 count_answers c o bytes = length-map (frames o bytes) (λ frame. (header_of o frame, answer_of_frame c o frame))
 
--- a refusal is one in the words of the definition too
+-- a refusal is one in terms of the definition too
 refused_said : (pairs : List (perf_event_header × Result Record ParseError)) → list_any (λ pair. is_err pair.1) pairs ≡ list_any is_refused (seen_answers pairs)
 refused_said [] = refl
 refused_said ((h, Ok r) ∷ pairs) = refused_said pairs
 refused_said ((h, Err e) ∷ pairs) = refl
 
--- a batch more
+-- one more batch
 pub listed_more : (c : Configuration) (o : Order) (bytes start : List ℕ) (n : ℕ) (made : List ℕ) (refused : Bool) → Listed c o bytes start n made refused → (left : List ℕ) → left ≡ behind_frames o n bytes → (pairs : List (perf_event_header × Result Record ParseError)) → seen_answers pairs ≡ take (length pairs) (answers c o left) → (now : List ℕ) → now ≡ made ++ lines_from n (seen_answers pairs) → Listed c o bytes start (n + length pairs) now (refused || list_any (λ pair. is_err pair.1) pairs)
 listed_more c o bytes start n made refused before left at pairs are now grown =
     let all : List Pair = answers c o bytes in
@@ -70,13 +71,13 @@ listed_more c o bytes start n made refused before left at pairs are now grown =
           ∙ ap (λ xs. list_any is_refused xs) (sym together);
     }
 
--- the same, as the code says it
+-- the same, as the code has it
 pub batch_more : (c : Configuration) (o : Order) (bytes start : List ℕ) (n : ℕ) (made : List ℕ) (refused : Bool) → Listed c o bytes start n made refused → (left : List ℕ) → left ≡ behind_frames o n bytes → (pairs : List (perf_event_header × Result Record ParseError)) → seen_answers pairs ≡ take (length pairs) (answers c o left) → (shown : List (perf_event_header × Result Record ParseError)) → shown ≡ pairs → (now : List ℕ) → now ≡ made ++ lines_from n (seen_answers shown) → (seen : List (perf_event_header × Result Record ParseError)) → seen ≡ pairs → (any : Bool) → any ≡ list_any (λ pair. is_err pair.1) seen → Listed c o bytes start (n + length pairs) now (refused || any)
 batch_more c o bytes start n made refused before left at pairs are shown same now grown seen alike any is =
     subst (λ b. Listed c o bytes start (n + length pairs) now (refused || b)) (sym (is ∙ ap (λ xs. list_any (λ pair. is_err pair.1) xs) alike))
     (listed_more c o bytes start n made refused before left at pairs are now (grown ∙ ap (λ xs. made ++ lines_from n (seen_answers xs)) same))
 
--- a batch that lists all that is left makes all answers of the stream
+-- with a batch that lists the rest, all answers of the stream are listed
 pub all_listed : (c : Configuration) (o : Order) (bytes : List ℕ) (n k : ℕ) (left : List ℕ) → n ≤ length (answers c o bytes) → left ≡ behind_frames o n bytes → k ≡ length (frames o left) → n + k ≡ length (answers c o bytes)
 all_listed c o bytes n k left within at all =
     let there : n ≤ length (frames o bytes) = omega (arith, count_answers c o bytes) in

@@ -1,4 +1,4 @@
--- Words one behind another.
+-- Words one after another.
 use Rattle.std.proofs.Common.{◌≡◌, ℕ, List, [], ◌∷◌, ◌++◌, Option, Some, None, Result, Ok, Err, OnOk, ◌≤◌, length, take, refl, sym, ap, ◌∙◌, append-nil, append_assoc, codes, decimal}
 use Rattle.std.proofs.lemmas.Result.{on_ok_weaker}
 use Rattle.std.proofs.lemmas.Grind.{flat_map-append}
@@ -9,12 +9,12 @@ use Rattle.perf_sample_types.specs.Registers.{RegistersValue}
 use Rattle.perf_lines.specs.Fields.{spaced, present, word_as, words_of, listed}
 use Rattle.perf_lines.specs.SampleText.{register_words}
 
--- a text that was pushed to, at an `Ok`
+-- a text after a push that returned `Ok`
 pub pushed : {T E : Type 0} (result : Result T E) (new old more : List ℕ) → new ≡ (if is_ok result then old ++ more else old) → OnOk result (new ≡ old ++ more)
 pushed (Ok x) new old more h = h
 pushed (Err e) new old more h = tt
 
--- a text that grew by words, and then by words once more
+-- a text that grew by words, and then by more words
 pub words_more : (words others : List (List ℕ)) (old middle new : List ℕ) → middle ≡ old ++ spaced words → new ≡ middle ++ spaced others → new ≡ old ++ spaced (words ++ others)
 words_more words others old middle new first second =
     second
@@ -22,7 +22,7 @@ words_more words others old middle new first second =
     ∙ append_assoc old (spaced words) (spaced others)
     ∙ ap (λ rest. old ++ rest) (sym (flat_map-append (λ word. codes " " ++ word) words others))
 
--- and then by one word, at an `Ok`
+-- and then by one word, by a push that returned `Ok`
 pub last_word : {T E : Type 0} (result : Result T E) (words : List (List ℕ)) (word : List ℕ) (old middle new : List ℕ) → middle ≡ old ++ spaced words → OnOk result (new ≡ middle ++ (codes " " ++ word)) → OnOk result (new ≡ old ++ spaced (words ++ (word ∷ [])))
 last_word result words word old middle new first grown =
     on_ok_weaker result
@@ -35,7 +35,7 @@ spaced-words_of [] = refl
 spaced-words_of ((name, None) ∷ fields) = spaced-words_of fields
 spaced-words_of ((name, Some n) ∷ fields) = ap (λ rest. (codes " " ++ (name ++ (codes "=" ++ decimal n))) ++ rest) (spaced-words_of fields)
 
--- and so is what else may be absent
+-- and so are other values that may be absent
 pub spaced-word_as : {X : Type 0} (name : List ℕ) (written : X → List ℕ) (x : Option X) → present (λ there. codes " " ++ (name ++ (codes "=" ++ written there))) x ≡ spaced (word_as name written x)
 spaced-word_as name written None = refl
 spaced-word_as name written (Some there) = sym (append-nil (codes " " ++ (name ++ (codes "=" ++ written there))))
@@ -45,7 +45,7 @@ pub spaced-registers : (abi regs : List ℕ) (r : Option RegistersValue) → pre
 spaced-registers abi regs None = refl
 spaced-registers abi regs (Some r) = simp (append_assoc, append-nil)
 
--- a list that an iterator gives: its first item is written, and then each other behind a comma, until none is left
+-- a list from an iterator: its first item is written, and then each other after a comma, to the end
 pub listed_to_end : {X : Type 0} (item : X → List ℕ) (old before pushed first_text text : List ℕ) (x : X) (left rest items : List X) → pushed ≡ old ++ before → first_text ≡ pushed ++ item x → text ++ flat_map (λ other. codes "," ++ item other) left ≡ first_text ++ flat_map (λ other. codes "," ++ item other) rest → left ≡ [] → items ≡ x ∷ rest → text ≡ old ++ (before ++ listed item items)
 listed_to_end {X} item old before pushed first_text text x left rest items named first others none all =
     sym (append-nil text)
@@ -53,7 +53,7 @@ listed_to_end {X} item old before pushed first_text text x left rest items named
     ∙ others
     ∙ rw (first, named, all) (simp append_assoc)
 
--- the same of a list that a loop goes over by its places
+-- the same of a list that a loop goes over by index
 pub listed_taken : {X : Type 0} (item : X → List ℕ) (old before pushed first_text text : List ℕ) (x : X) (i : ℕ) (rest items : List X) → pushed ≡ old ++ before → first_text ≡ pushed ++ item x → text ≡ first_text ++ flat_map (λ other. codes "," ++ item other) (take i rest) → length rest ≤ i → items ≡ x ∷ rest → text ≡ old ++ (before ++ listed item items)
 listed_taken {X} item old before pushed first_text text x i rest items named first others all is =
     others

@@ -1,51 +1,51 @@
--- The words that lines are made of: names and what they have.
+-- The words that lines are made of: names and their values.
 use Rattle.std.specs.Prelude.{ℕ, ◌+◌, ◌-◌, ◌/◌, ◌%◌, List, [], ◌∷◌, ◌++◌, nat_lt, codes, decimal}
 use Rattle.std.specs.Prelude.{Option, Some, None, if◌then◌else◌}
 use Rattle.std.specs.List.{flat_map}
 
--- the digit of a number below sixteen: 48 is `0`, and 97 is `a`
+-- the hexadecimal digit of a number below sixteen: 48 is `0`, and 97 is `a`
 abbrev pub hex_digit : ℕ → ℕ
 hex_digit n = if nat_lt n 10 then 48 + n else 97 + (n - 10)
 
--- the two digits of a byte
+-- the two hexadecimal digits of a byte
 abbrev pub hex_byte : ℕ → List ℕ
 hex_byte b = hex_digit (b / 16) ∷ hex_digit (b % 16) ∷ []
 
--- a byte string
+-- a byte string in hexadecimal
 abbrev pub hex : List ℕ → List ℕ
 hex bytes = flat_map hex_byte bytes
 
--- a name, `=` and what it has
+-- a name, `=` and a value
 abbrev pub field : List ℕ → List ℕ → List ℕ
 field name has = name ++ (codes "=" ++ has)
 
--- the same of a number
+-- a name, `=` and a number
 abbrev pub number : List ℕ → ℕ → List ℕ
 number name n = field name (decimal n)
 
--- what may be absent, as it is written, or nothing
+-- a value as it is written, or nothing if it is absent
 abbrev pub present : {X : Type 0} → (X → List ℕ) → Option X → List ℕ
 present written (Some x) = written x
 present written None = []
 
--- the same as a word of its own
+-- a field that may be absent, as a list of at most one word
 abbrev pub word_as : {X : Type 0} → List ℕ → (X → List ℕ) → Option X → List (List ℕ)
 word_as name written (Some x) = field name (written x) ∷ []
 word_as name written None = []
 
--- a number that may be absent as a word of its own
+-- a number that may be absent, as a list of at most one word
 abbrev pub word_of : List ℕ → Option ℕ → List (List ℕ)
 word_of name n = word_as name decimal n
 
--- those of a list of names and numbers
+-- the words of a list of names and numbers
 abbrev pub words_of : List (List ℕ × Option ℕ) → List (List ℕ)
 words_of numbers = flat_map (λ number. word_of number.0 number.1) numbers
 
--- items with commas in between
+-- items separated by commas
 abbrev pub listed : {X : Type 0} → (X → List ℕ) → List X → List ℕ
 listed item [] = []
 listed item (x ∷ xs) = item x ++ flat_map (λ other. codes "," ++ item other) xs
 
--- each word with a space in front
+-- each word with a space before it
 abbrev pub spaced : List (List ℕ) → List ℕ
 spaced words = flat_map (λ word. codes " " ++ word) words

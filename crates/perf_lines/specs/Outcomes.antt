@@ -1,4 +1,4 @@
--- How a run of the program ends, and what it has then written.
+-- How a run of the program ends, and what it has written by then.
 use Rattle.std.specs.Prelude.{◌≡◌, ℕ, ◌<◌, Bool, true, false, ◌||◌, ◌&&◌, not, List, ◌++◌, take}
 use Rattle.std.specs.Prelude.{codes, is_err, if◌then◌else◌, ◌⊎◌, Option, IsTrue}
 use Rattle.std.specs.List.{list_any}
@@ -33,7 +33,7 @@ abbrev pub is_cut : StreamEnd → Bool
 is_cut done = false
 is_cut cut_header = true
 
--- a printed answer is a refusal
+-- a printed result is a refusal
 abbrev pub prints_refusal : Configuration → Order → ℕ → List ℕ → Bool
 prints_refusal c o limit bytes = list_any (λ pair. is_err pair.1) (printed c o limit bytes)
 
@@ -41,7 +41,7 @@ prints_refusal c o limit bytes = list_any (λ pair. is_err pair.1) (printed c o 
 abbrev pub ends_cut : Configuration → Order → ℕ → List ℕ → Bool
 ends_cut c o limit bytes = not (is_at_limit c o limit bytes) && is_cut (stream_end o bytes)
 
--- what the text of a stream amounts to
+-- the outcome of a run over a stream, without a fault
 abbrev pub outcome_of : Configuration → Order → ℕ → List ℕ → Outcome
 outcome_of c o limit bytes =
     if prints_refusal c o limit bytes || ends_cut c o limit bytes then Refused else Clean
@@ -53,12 +53,12 @@ stream_outcome o limit (without_frames kind) = BadAttr
 
 -- ---- a text with a fault
 
--- a kind that ends a run early: want of memory, and a fault only of a buffer that can fault
+-- a kind that ends a run early: out of memory, or a fault, if the buffer can fault
 abbrev pub EndsEarly : (can_fault : Bool) → ErrorKind → Type 0
 EndsEarly can_fault kind = ((kind ≡ External) × IsTrue can_fault) ⊎ (kind ≡ OutOfMemory)
 
--- The text of a run that a fault ended: the lines of the first k answers, fewer than the limit or
--- none, and the fault.
+-- The text of a run that ended with a fault: the lines of the first k results, fewer than the limit
+-- or none, and the line of the fault.
 abbrev pub IsFaultText : (can_fault : Bool) → Order → ℕ → Stream → List ℕ → Type 0
 IsFaultText can_fault o limit stream written =
     (k : ℕ) × (kind : ErrorKind) × ((k < limit) ⊎ (k ≡ 0)) × EndsEarly can_fault kind
@@ -68,28 +68,28 @@ IsFaultText can_fault o limit stream written =
 
 -- ---- the end of a run
 
--- the line that says how a run ended
+-- the line that states how a run ended
 abbrev pub ending_line : RunEnd → List ℕ
 ending_line end.Limit = end_line (codes "limit")
 ending_line end.Done = end_line (codes "done")
 ending_line end.CutHeader = end_line (codes "cut")
 ending_line (end.Fault e) = end_line (codes "fault " ++ kind_name (kind_of e))
 
--- what it amounts to, where a record was refused or none was
+-- the outcome of a run that ended so, by whether a record was refused
 abbrev pub ending_outcome : RunEnd → (refused : Bool) → Outcome
 ending_outcome end.Limit refused = if refused then Refused else Clean
 ending_outcome end.Done refused = if refused then Refused else Clean
 ending_outcome end.CutHeader refused = Refused
 ending_outcome (end.Fault e) refused = Faulted
 
--- ---- what an outcome says
+-- ---- what an outcome specifies
 
 -- a whole text, with a fault or without
 abbrev pub IsText : (can_fault : Bool) → Order → ℕ → Stream → List ℕ → Type 0
 IsText can_fault o limit stream written =
     (written ≡ stream_text o limit stream) ⊎ IsFaultText can_fault o limit stream written
 
--- the text without a fault, which amounts to this outcome
+-- the text without a fault, if this is its outcome
 abbrev pub IsTextOf : Order → ℕ → Stream → Outcome → List ℕ → Type 0
 IsTextOf o limit stream outcome written =
     (written ≡ stream_text o limit stream) × (stream_outcome o limit stream ≡ outcome)
@@ -103,7 +103,7 @@ IsWritten can_fault o limit stream Faulted written = IsFaultText can_fault o lim
 IsWritten can_fault o limit stream Stopped written =
     (whole : List ℕ) × IsText can_fault o limit stream whole × StartsWith whole written
 
--- The writer, where it tells its bytes, has got what such a run writes. A reader can fault.
+-- What such a run writes was appended to the writer, if its bytes are known. A reader can fault.
 abbrev pub Writes : Order → ℕ → Stream → Outcome → (old new : Option (List ℕ)) → Type 0
 Writes o limit stream outcome old new =
     (written : List ℕ) × Appends old new written × IsWritten true o limit stream outcome written

@@ -1,5 +1,4 @@
--- The words of a sample: its fields under their names, in the order of its calls. A field that is
--- absent has none.
+-- The words of a sample: its fields by name, in the order of its calls. An absent field has none.
 use Rattle.std.specs.Prelude.{ℕ, Bool, true, false, List, [], ◌∷◌, ◌++◌, codes, decimal}
 use Rattle.std.specs.Prelude.{Option, Some, None}
 use Rattle.std.specs.List.{flat_map}
@@ -13,11 +12,11 @@ use Rattle.perf_lines.specs.Fields.{number, field, present, word_as, word_of, wo
 
 -- ---- items of lists
 
--- numbers with a colon in front of each
+-- numbers, each with a colon before it
 abbrev pub behind_colons : List ℕ → List ℕ
 behind_colons numbers = flat_map (λ n. codes ":" ++ decimal n) numbers
 
--- a number that may be absent, with a colon in front
+-- a number that may be absent, with a colon before it
 abbrev pub behind_colon : Option ℕ → List ℕ
 behind_colon n = present (λ there. codes ":" ++ decimal there) n
 
@@ -30,7 +29,7 @@ abbrev pub digit_of : Bool → ℕ
 digit_of true = 1
 digit_of false = 0
 
--- a branch: where it came from and where it went, and the fields of its word
+-- a branch: its source and target addresses, and its bit fields
 abbrev pub branch_item : Branch → List ℕ
 branch_item b =
     decimal b.from
@@ -40,14 +39,14 @@ branch_item b =
 
 -- ---- fields of more than one number
 
--- a read of counters: the times that it has, and a list of its counters
+-- a read of counters: its times, if present, and a list of its counters
 abbrev pub group_words : Option GroupRead → List (List ℕ)
 group_words (Some g) =
     words_of ((codes "time_enabled", g.time_enabled) ∷ (codes "time_running", g.time_running) ∷ [])
     ++ (field (codes "values") (listed counter_item g.entries) ∷ [])
 group_words None = []
 
--- registers: the kind of task under a first name, and what they held under a second
+-- registers: the ABI under a first name, and the values under a second
 abbrev pub register_words : (abi regs : List ℕ) → Option RegistersValue → List (List ℕ)
 register_words abi regs (Some r) =
     number abi r.abi ∷ field regs (listed decimal r.regs) ∷ []
@@ -55,20 +54,20 @@ register_words abi regs None = []
 
 -- ---- groups of fields
 
--- what happened when and where
+-- the instruction pointer, the task, the time, the address and the id
 abbrev pub moment_words : Getters → List (List ℕ)
 moment_words g =
     words_of ((codes "ip", g.ip) ∷ (codes "pid", g.pid) ∷ (codes "tid", g.tid)
     ∷ (codes "time", g.time) ∷ (codes "addr", g.addr) ∷ (codes "id", g.id) ∷ [])
 
--- of which event it was, and how the code got there
+-- the stream id, the CPU, the period, the counters and the call chain
 abbrev pub count_words : Getters → List (List ℕ)
 count_words g =
     words_of ((codes "stream_id", g.stream_id) ∷ (codes "cpu", g.cpu)
     ∷ (codes "period", g.period) ∷ [])
     ++ (group_words g.values ++ word_as (codes "callchain") (listed decimal) g.callchain)
 
--- what the event, the processor and the task held
+-- the raw bytes, the branches, and the registers and the stack of user space
 abbrev pub state_words : Getters → List (List ℕ)
 state_words g =
     word_as (codes "raw") hex g.raw
@@ -77,14 +76,14 @@ state_words g =
     ++ (register_words (codes "regs_user_abi") (codes "regs_user") g.regs_user
     ++ word_as (codes "stack_user") hex g.stack_user)))
 
--- what it cost
+-- the weight, the data source, the transaction, and the registers at the interrupt
 abbrev pub cost_words : Getters → List (List ℕ)
 cost_words g =
     words_of ((codes "weight", g.weight) ∷ (codes "data_src", g.data_src)
     ∷ (codes "transaction", g.transaction) ∷ [])
     ++ register_words (codes "regs_intr_abi") (codes "regs_intr") g.regs_intr
 
--- in which memory
+-- the physical address, the AUX bytes, the control group and the page sizes
 abbrev pub memory_words : Getters → List (List ℕ)
 memory_words g =
     word_of (codes "phys_addr") g.phys_addr

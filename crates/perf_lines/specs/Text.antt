@@ -1,4 +1,4 @@
--- The text that the program writes: a line for each frame, and a last one that says how reading
+-- The text that the program writes: a line for each frame, and a last one that states how reading
 -- ended.
 use Rattle.std.specs.Prelude.{ℕ, Bool, true, false, List, [], ◌∷◌, ◌++◌, length, take, drop}
 use Rattle.std.specs.Prelude.{nat_le, codes, decimal, Result, Ok, Err, if◌then◌else◌}
@@ -47,15 +47,14 @@ use Rattle.perf_lines.specs.SampleText.{sample_words}
 
 -- ---- records
 
--- a mapping: the task, where it lies in its memory, how long it is, where it begins in the file,
--- and the file
+-- a mapping: the task, its address, its length, its offset in the file, and the name of the file
 abbrev pub mmap_words : MmapValue → List (List ℕ)
 mmap_words r =
     codes "Mmap" ∷ number (codes "pid") r.pid ∷ number (codes "tid") r.tid
     ∷ number (codes "addr") r.addr ∷ number (codes "len") r.len ∷ number (codes "pgoff") r.pgoff
     ∷ field (codes "filename") (hex r.filename) ∷ []
 
--- how many records an event lost
+-- how many records of an event were lost
 abbrev pub lost_words : Lost → List (List ℕ)
 lost_words r = codes "Lost" ∷ number (codes "id") r.id ∷ number (codes "lost") r.lost ∷ []
 
@@ -77,7 +76,7 @@ throttle_fields r =
     number (codes "time") r.time ∷ number (codes "id") r.id
     ∷ number (codes "stream_id") r.stream_id ∷ []
 
--- a counter of a task, with those of its numbers that are there
+-- a counter of a task, with those of its numbers that are present
 abbrev pub read_words : TaskRead → List (List ℕ)
 read_words r =
     codes "Read" ∷ number (codes "pid") r.pid ∷ number (codes "tid") r.tid
@@ -86,14 +85,14 @@ read_words r =
     ++ (word_of (codes "time_running") r.values.time_running
     ++ (word_of (codes "id") r.values.id ++ word_of (codes "lost") r.values.lost)))
 
--- which file an MMAP2 has: the numbers of its inode, or its build id
+-- the file of an MMAP2: the numbers of its inode, or its build id
 abbrev pub detail_words : DetailValue → List (List ℕ)
 detail_words (inode_is maj min ino ino_generation) =
     number (codes "maj") maj ∷ number (codes "min") min
     ∷ number (codes "ino") ino ∷ number (codes "ino_generation") ino_generation ∷ []
 detail_words (build_id_is id) = field (codes "build_id") (hex id) ∷ []
 
--- a mapping, which file it has and how the memory may be used
+-- a mapping, its file and how the memory may be used
 abbrev pub mmap2_words : Mmap2Value → List (List ℕ)
 mmap2_words r =
     codes "Mmap2" ∷ number (codes "pid") r.pid ∷ number (codes "tid") r.tid
@@ -102,13 +101,13 @@ mmap2_words r =
     ++ (number (codes "prot") r.prot ∷ number (codes "flags") r.flags
     ∷ field (codes "filename") (hex r.filename) ∷ []))
 
--- new data in the AUX area: where it begins, how long it is, and its flags
+-- new data in the AUX area: its offset, its length and its flags
 abbrev pub aux_words : AuxValue → List (List ℕ)
 aux_words r =
     codes "Aux" ∷ number (codes "aux_offset") r.aux_offset ∷ number (codes "aux_size") r.aux_size
     ∷ number (codes "flags") r.flags ∷ []
 
--- a trace of instructions begins, of that task
+-- the start of a trace of instructions of a task
 abbrev pub itrace_start_words : ITraceStart → List (List ℕ)
 itrace_start_words r =
     codes "ITraceStart" ∷ number (codes "pid") r.pid ∷ number (codes "tid") r.tid ∷ []
@@ -117,12 +116,12 @@ itrace_start_words r =
 abbrev pub lost_samples_words : LostSamples → List (List ℕ)
 lost_samples_words r = codes "LostSamples" ∷ number (codes "lost") r.lost ∷ []
 
--- which way a switch went: 1 for away from the task
+-- the direction of a switch: 1 for away from the task
 abbrev pub out_of : SwitchCpuWide → ℕ
 out_of (switch.In pid tid) = 0
 out_of (switch.Out pid tid) = 1
 
--- the other task of a switch, and which way it went
+-- the other task of a switch, and its direction
 abbrev pub switch_cpu_wide_words : SwitchCpuWide → List (List ℕ)
 switch_cpu_wide_words r =
     codes "SwitchCpuWide" ∷ number (codes "pid") (other_pid r) ∷ number (codes "tid") (other_tid r)
@@ -138,14 +137,14 @@ namespaces_words r =
     codes "Namespaces" ∷ number (codes "pid") r.pid ∷ number (codes "tid") r.tid
     ∷ field (codes "namespaces") (listed namespace_item r.namespaces) ∷ []
 
--- a symbol of the kernel: where it lies, how long it is, its type, flags and name
+-- a symbol of the kernel: its address, its length, its type, flags and name
 abbrev pub ksymbol_words : KSymbolValue → List (List ℕ)
 ksymbol_words r =
     codes "KSymbol" ∷ number (codes "addr") r.addr ∷ number (codes "len") r.len
     ∷ number (codes "ksym_type") r.ksym_type ∷ number (codes "flags") r.flags
     ∷ field (codes "name") (hex r.name) ∷ []
 
--- a BPF program: what happened to it, flags, its id and its tag
+-- a BPF program: what happened to it, its flags, its id and its tag
 abbrev pub bpf_event_words : BpfEventValue → List (List ℕ)
 bpf_event_words r =
     codes "BpfEvent" ∷ number (codes "ty") r.ty ∷ number (codes "flags") r.flags
@@ -156,18 +155,18 @@ abbrev pub cgroup_words : CGroupValue → List (List ℕ)
 cgroup_words r =
     codes "CGroup" ∷ number (codes "id") r.id ∷ field (codes "path") (hex r.path) ∷ []
 
--- a change of the kernel's code: where it begins, the bytes before and those after it
+-- a change of the kernel's code: its address, the bytes before it and those after it
 abbrev pub text_poke_words : TextPokeValue → List (List ℕ)
 text_poke_words r =
     codes "TextPoke" ∷ number (codes "addr") r.addr ∷ field (codes "old_bytes") (hex r.old_bytes)
     ∷ field (codes "new_bytes") (hex r.new_bytes) ∷ []
 
--- the id that hardware gave an event
+-- the id that the hardware gave an event
 abbrev pub aux_output_hw_id_words : AuxOutputHwId → List (List ℕ)
 aux_output_hw_id_words r =
     codes "AuxOutputHwId" ∷ number (codes "hw_id") r.hw_id ∷ []
 
--- a record that is not read further
+-- a record of unknown type, as bytes
 abbrev pub unknown_words : List ℕ → List (List ℕ)
 unknown_words bytes = codes "Unknown" ∷ field (codes "data") (hex bytes) ∷ []
 
@@ -198,7 +197,7 @@ record_words (unknown_is ty bytes) = unknown_words bytes
 
 -- ---- lines
 
--- the name of a kind of refusal, as `ErrorKind` has it
+-- the name of a kind of error, as in `ErrorKind`
 abbrev pub kind_name : ErrorKind → List ℕ
 kind_name Eof = codes "Eof"
 kind_name InvalidRecord = codes "InvalidRecord"
@@ -207,12 +206,12 @@ kind_name UnsupportedData = codes "UnsupportedData"
 kind_name External = codes "External"
 kind_name OutOfMemory = codes "OutOfMemory"
 
--- a record, or why there is none
+-- a record, or why it was refused
 abbrev pub answer_words : Result RecordValue ErrorKind → List (List ℕ)
 answer_words (Ok r) = record_words r
 answer_words (Err e) = codes "refused" ∷ kind_name e ∷ []
 
--- the number of a frame, what its header says, and its answer
+-- the line of a frame: its number, its header and its result
 abbrev pub line : ℕ → perf_event_header → Result RecordValue ErrorKind → List ℕ
 line index h answer =
     decimal index
@@ -223,33 +222,33 @@ line index h answer =
 abbrev pub ended : List ℕ → List ℕ
 ended text = text ++ codes "\n"
 
--- the lines of answers, numbered from a first number on
+-- the lines of results, numbered from a first number
 abbrev pub lines_from : ℕ → List (perf_event_header × Result RecordValue ErrorKind) → List ℕ
 lines_from first pairs =
     flat_map (λ numbered. ended (line numbered.0 numbered.1.0 numbered.1.1))
     (enumerate_from first pairs)
 
--- the line that says how reading ended
+-- the line that states how reading ended
 abbrev pub end_line : List ℕ → List ℕ
 end_line how = ended (codes "end " ++ how)
 
 -- ---- the text
 
--- the answers that are printed: the first ones, at most limit of them
+-- the results that are printed: the first ones, at most limit of them
 abbrev pub printed : Configuration → Order → ℕ → List ℕ →
     List (perf_event_header × Result RecordValue ErrorKind)
 printed c o limit bytes = take limit (answers c o bytes)
 
--- whether the limit is what ends the text
+-- whether the text ends because of the limit
 abbrev pub is_at_limit : Configuration → Order → ℕ → List ℕ → Bool
 is_at_limit c o limit bytes = nat_le limit (length (answers c o bytes))
 
--- how the frames of a stream end: behind one, or inside a header
+-- how the frames of a stream end: after one, or inside a header
 abbrev pub end_name : StreamEnd → List ℕ
 end_name done = codes "done"
 end_name cut_header = codes "cut"
 
--- The text of a stream for a limit: a line for each answer that is printed, and then the end.
+-- The text of a stream for a limit: a line for each printed result, and then the end.
 abbrev pub text : Configuration → Order → ℕ → List ℕ → List ℕ
 text c o limit bytes =
     lines_from 0 (printed c o limit bytes)
@@ -258,13 +257,13 @@ text c o limit bytes =
 
 -- ---- a stream that may begin with an attribute
 
--- What a stream is read as: frames under a configuration, or none, as its attribute is refused.
+-- What a stream is read as: frames under a configuration, or none, if its attribute is refused.
 pub data Stream : Type 0 where
   framed : Configuration → List ℕ → Stream
   without_frames : ErrorKind → Stream
 
--- A stream whose attribute comes first: where that is not refused, its configuration holds for the
--- bytes behind it, which begin where its size says. It is opened only where a proof asks for it.
+-- A stream with an attribute at its start: if that is accepted, its configuration applies to the
+-- bytes after it, which begin where its size specifies. It is unfolded only if a proof asks for it.
 unfoldable pub behind_attribute : Order → List ℕ → Stream
 behind_attribute o bytes =
     elim (layout o attribute bytes) [
@@ -272,7 +271,7 @@ behind_attribute o bytes =
       | Err kind ↦ without_frames kind
     ]
 
--- Without an attribute the plain configuration holds for all bytes.
+-- Without an attribute the plain configuration applies to all bytes.
 abbrev pub stream_of : (with_attr : Bool) → Order → List ℕ → Stream
 stream_of false o bytes = framed plain bytes
 stream_of true o bytes = behind_attribute o bytes
@@ -281,12 +280,12 @@ stream_of true o bytes = behind_attribute o bytes
 abbrev pub attr_line : ErrorKind → List ℕ
 attr_line kind = ended (codes "attr refused " ++ kind_name kind)
 
--- the answers to the frames of a stream
+-- the results of the frames of a stream
 abbrev pub stream_answers : Order → Stream → List (perf_event_header × Result RecordValue ErrorKind)
 stream_answers o (framed c bytes) = answers c o bytes
 stream_answers o (without_frames kind) = []
 
--- The text of a stream: that of its frames, or the line that says why its attribute is refused.
+-- The text of a stream: that of its frames, or the line that states why its attribute is refused.
 abbrev pub stream_text : Order → ℕ → Stream → List ℕ
 stream_text o limit (framed c bytes) = text c o limit bytes
 stream_text o limit (without_frames kind) = attr_line kind

@@ -1,4 +1,4 @@
--- What the words of a command line ask for.
+-- What the arguments of the program ask for.
 use Rattle.std.specs.Prelude.{ℕ, ◌^◌, Bool, true, false, List, [], ◌∷◌, length, codes, ◌&&◌, nat_lt}
 use Rattle.std.specs.Prelude.{Option, Some, None, if◌then◌else◌, option_and_then, option_map}
 use Rattle.std.specs.Char.{is_ascii_digit}
@@ -9,7 +9,7 @@ use Rattle.perf_lines.specs.declared.command.Command.{Command}
 use Rattle.perf_lines.specs.declared.command.OrderName.{OrderName}
 use Rattle.perf_lines.specs.declared.command.OrderName.TheVariants.{Little, Big, Native}
 
--- the order that a word names
+-- the byte order of that name
 abbrev pub order_named : List ℕ → Option OrderName
 order_named word =
     if bytes_eq word (codes "little") then Some Little
@@ -23,14 +23,14 @@ limit_named word =
     && nat_lt (digits_value 10 word) (2 ^ 64) then Some (digits_value 10 word)
     else None
 
--- what an order's name and a limit ask for
+-- what the name of an order and a limit ask for
 abbrev pub asked : Bool → List ℕ → List ℕ → Option Command
 asked with_attr order limit =
     option_and_then
     (λ name. option_map (λ most. record { order = name; limit = most; with_attr = with_attr })
     (limit_named limit)) (order_named order)
 
--- what the words behind the program's name ask for, if they ask for anything
+-- what the arguments of the program ask for, if anything
 abbrev pub command_of : List (List ℕ) → Option Command
 command_of [] = None
 command_of (order ∷ []) = None

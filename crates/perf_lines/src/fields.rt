@@ -1,4 +1,4 @@
-//! Fields of a line.
+//! ! The fields of a line.
 
 ghost use Rattle.std.specs.Prelude.{◌≡◌, ◌*◌, ◌<◌, ◌≤◌, ◌++◌, length, take, decimal, string_bytes};
 ghost use Rattle.std.specs.Prelude.{OnOk, option_map, codes, IsTrue, nat_le};
@@ -8,22 +8,22 @@ ghost use Rattle.perf_lines.specs.Fields.{hex_digit, hex, listed, present};
 use crate::strip::{MOST_DIGITS, ROOM, Strip};
 use std::alloc::AllocError;
 
-// How many numbers with a comma in front of each a strip has room for.
+// How many numbers fit a strip, each with a comma before it.
 const ITEMS: usize = ROOM / (MOST_DIGITS + 1);
 
-// How long a name is at most, and what stands in front of a number.
+// The maximum length of a name, and of the text before a number.
 const WORD: usize = 16;
 
-// How many numbers with a word in front of each a strip has room for, besides a name.
+// How many numbers fit a strip, each with a word before it, after a name.
 const FIELDS: usize = (ROOM - WORD) / (MOST_DIGITS + WORD);
 
-// How many bytes become digits at a time.
+// How many bytes are turned into digits at a time.
 const PIECE: usize = 64;
 
-// How many digits those have.
+// How many digits those bytes have.
 const PIECE_DIGITS: usize = 2 * PIECE;
 
-// Appends a name, and numbers behind what stands in front of each.
+// Appends a name, and numbers, each after its own text.
 pub(crate) fn push_fields(
     text: &mut String,
     name: &str,
@@ -48,7 +48,7 @@ pub(crate) fn push_fields(
     text.push_str(strip.text())
 }
 
-// Appends a number behind what stands in front of it.
+// Appends `before` and a number.
 pub(crate) fn push_number(text: &mut String, before: &str, number: u64) -> Result<(), AllocError>
     ensures { OnOk result (string_bytes text.new
         ≡ string_bytes text.old ++ (before.now ++ decimal number)) }
@@ -58,7 +58,7 @@ pub(crate) fn push_number(text: &mut String, before: &str, number: u64) -> Resul
     text.push_str(buffer.format(number))
 }
 
-// Appends a number that is there behind what stands in front of it.
+// Appends `before` and a number, or nothing for `None`.
 pub(crate) fn push_present(
     text: &mut String,
     before: &str,
@@ -73,7 +73,7 @@ pub(crate) fn push_present(
     }
 }
 
-// Appends those numbers that are there, each behind what stands in front of it.
+// Appends those numbers that are present, each after its own text.
 pub(crate) fn push_numbers(
     text: &mut String,
     numbers: &[(&str, Option<u64>)],
@@ -103,7 +103,7 @@ pub(crate) fn push_numbers(
     text.push_str(strip.text())
 }
 
-// Appends a list that is there, with commas between its numbers, behind what stands in front of it.
+// Appends `before` and a comma-separated list, or nothing for `None`.
 pub(crate) fn push_list(
     text: &mut String,
     before: &str,
@@ -120,7 +120,7 @@ pub(crate) fn push_list(
     }
 }
 
-// Appends numbers, with commas in between, behind what stands in front of them.
+// Appends `before` and comma-separated numbers.
 pub(crate) fn push_items(text: &mut String, before: &str, numbers: &[u64]) -> Result<(), AllocError>
     ensures { OnOk result (string_bytes text.new
         ≡ string_bytes text.old ++ (before.now ++ listed decimal numbers.now)) }
@@ -136,7 +136,7 @@ pub(crate) fn push_items(text: &mut String, before: &str, numbers: &[u64]) -> Re
     Ok(())
 }
 
-// Appends at most as many numbers as a strip has room for, with a comma in front of each.
+// Appends numbers, each after a comma; at most as many as fit a strip.
 fn push_others(text: &mut String, numbers: &[u64]) -> Result<(), AllocError>
     requires { length numbers.now ≤ ITEMS }
     ensures { OnOk result (string_bytes text.new
@@ -147,7 +147,7 @@ fn push_others(text: &mut String, numbers: &[u64]) -> Result<(), AllocError>
     text.push_str(strip.text())
 }
 
-// Appends the digits of bytes that are there behind what stands in front of them.
+// Appends `before` and the hexadecimal digits of bytes, or nothing for `None`.
 pub(crate) fn push_bytes(
     text: &mut String,
     before: &str,
@@ -164,7 +164,7 @@ pub(crate) fn push_bytes(
     }
 }
 
-// Appends the digits of bytes behind what stands in front of them.
+// Appends `before` and the hexadecimal digits of bytes.
 pub(crate) fn push_hex(text: &mut String, before: &str, bytes: &[u8]) -> Result<(), AllocError>
     ensures { OnOk result (string_bytes text.new
         ≡ string_bytes text.old ++ (before.now ++ hex bytes.now)) }
@@ -176,7 +176,7 @@ pub(crate) fn push_hex(text: &mut String, before: &str, bytes: &[u8]) -> Result<
     Ok(())
 }
 
-// Appends the digits of at most as many bytes as a piece has.
+// Appends the digits of at most `PIECE` bytes.
 fn push_digits(text: &mut String, bytes: &[u8]) -> Result<(), AllocError>
     requires { length bytes.now ≤ PIECE }
     ensures { OnOk result (string_bytes text.new ≡ string_bytes text.old ++ hex bytes.now) }

@@ -1,5 +1,5 @@
-//! Records as lines of text, and the run of a reader's records into a writer, which is the program
-//! `perfrec`.
+//! Records as lines of text, and the engine of the program `perfrec`, which writes the records of a
+//! reader to a writer.
 #![tactic(auto)]
 
 pub mod command;

@@ -1,4 +1,4 @@
-//! Lines of the text.
+//! The lines of the text.
 
 ghost use Rattle.std.specs.Prelude.{◌≡◌, ◌+◌, ◌<◌, ◌^◌, ◌++◌, codes, length, string_bytes, OnOk};
 ghost use Rattle.std.specs.Prelude.{IfOk, IfErr};
@@ -14,8 +14,7 @@ use perf_event_data::parse::{ErrorKind, ParseResult};
 use perf_event_data::sys::perf_event_header;
 use std::alloc::{AllocError, Global};
 
-/// The line of one frame, without the line feed that ends it: its number, what its header says, and
-/// its answer.
+/// The line of one frame, without its line feed: its number, its header, and its record or error.
 pub fn line_of(
     alloc: Global,
     index: usize,
@@ -31,7 +30,7 @@ pub fn line_of(
     Ok(text)
 }
 
-/// Appends the lines of frames, of which the first has the number `first`.
+/// Appends the lines of frames, numbered from `first`.
 pub fn push_lines(
     text: &mut String,
     first: usize,
@@ -50,7 +49,7 @@ pub fn push_lines(
     Ok(())
 }
 
-/// Appends the line that says how reading ended.
+/// Appends the line that states how reading ended.
 pub fn push_end(text: &mut String, how: &str) -> Result<(), AllocError>
     ensures { OnOk result (string_bytes text.new
         ≡ string_bytes text.old ++ shown.end_line how.now) }
@@ -60,7 +59,7 @@ pub fn push_end(text: &mut String, how: &str) -> Result<(), AllocError>
     text.push_str("\n")
 }
 
-/// Appends the line of a run that a fault ended.
+/// Appends the last line of a run that ended with a fault.
 pub fn push_fault(text: &mut String, kind: ErrorKind) -> Result<(), AllocError>
     ensures { OnOk result (string_bytes text.new
         ≡ string_bytes text.old ++ shown.end_line (codes "fault " ++ shown.kind_name kind)) }
@@ -68,14 +67,14 @@ pub fn push_fault(text: &mut String, kind: ErrorKind) -> Result<(), AllocError>
     push_kind(text, "end fault ", kind)
 }
 
-/// Appends the line of a refused attribute.
+/// Appends the line for a refused attribute.
 pub fn push_attr_refused(text: &mut String, kind: ErrorKind) -> Result<(), AllocError>
     ensures { OnOk result (string_bytes text.new ≡ string_bytes text.old ++ shown.attr_line kind) }
 {
     push_kind(text, "attr refused ", kind)
 }
 
-// Appends a line that a kind ends.
+// Appends a line that ends with the name of a kind of error.
 fn push_kind(text: &mut String, before: &str, kind: ErrorKind) -> Result<(), AllocError>
     ensures { OnOk result (string_bytes text.new
         ≡ string_bytes text.old ++ shown.ended (before.now ++ shown.kind_name kind)) }

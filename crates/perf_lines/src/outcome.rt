@@ -6,21 +6,20 @@ ghost use Rattle.perf_lines.specs.Outcomes.{status_of};
 /// How a run of the program ended.
 #[derive(Copy, Clone, Debug, PartialEq, Eq)]
 pub enum Outcome {
-    /// No record was refused, and the input ended behind a record or the limit was reached.
+    /// No record was refused, and the input ended after a record or the limit was reached.
     Clean,
     /// A record was refused, or the input ended inside a header.
     Refused,
-    /// The attribute at the front of the input was refused, and the only line says so.
+    /// The attribute at the start of the input was refused, and the only line states that.
     BadAttr,
-    /// The reader failed or memory was refused, and the last line says so.
+    /// The reader failed or memory ran out, and the last line states that.
     Faulted,
-    /// Writing failed, or there was no memory for a line. What was written is a beginning of the
-    /// text.
+    /// Writing failed, or there was no memory for a line. What was written is a prefix of the text.
     Stopped,
 }
 
 impl Outcome {
-    /// The exit status that says it.
+    /// The exit status for this outcome.
     pub fn status(self) -> u8
         ensures { result ≡ status_of self }
     {

@@ -1,12 +1,12 @@
-//! Writing.
+//! Writing to the output.
 
 ghost use Rattle.std.specs.Prelude.{ℕ, IsTrue, take, length, ◌≤◌};
 ghost use Rattle.std.specs.Io.KnownBytes.{Appends};
 
 use std::io::Write;
 
-/// Writes bytes, and says whether all of them were written and flushed. A write that fails or takes
-/// nothing is the last one.
+/// Writes bytes, and returns whether all of them were written and flushed. Stops at the first write
+/// that fails or takes no bytes.
 pub fn write_whole<W: Write>(writer: &mut W, bytes: &[u8]) -> bool
     ensures whole { IsTrue result →
         Appends (W.contents writer.old) (W.contents writer.new) bytes.now }

@@ -1,4 +1,4 @@
-//! Records of each type, as a name and fields.
+//! Records of each type, each as a name and fields.
 
 ghost use Rattle.std.specs.Prelude.{◌≡◌, ◌≤◌, ◌++◌, length, string_bytes, OnOk};
 ghost use Rattle.perf_records.specs.Records as value;
@@ -80,7 +80,7 @@ fn push_comm(text: &mut String, comm: &Comm) -> Result<(), AllocError>
     push_hex(text, " comm=", comm.comm.as_slice())
 }
 
-// The name has a space in front, as an exit and a fork have the same fields.
+// The name begins with a space. Exits and forks have the same fields.
 fn push_exit(text: &mut String, name: &str, exit: &Exit) -> Result<(), AllocError>
     requires { length name.now ≤ 16 }
     ensures { OnOk result (string_bytes text.new
@@ -96,7 +96,7 @@ fn push_exit(text: &mut String, name: &str, exit: &Exit) -> Result<(), AllocErro
     push_fields(text, name, &fields)
 }
 
-// The name has a space in front, as both ends of a throttle have the same fields.
+// The name begins with a space. Both ends of a throttle have the same fields.
 fn push_throttle(text: &mut String, name: &str, throttle: &Throttle) -> Result<(), AllocError>
     requires { length name.now ≤ 16 }
     ensures { OnOk result (string_bytes text.new
@@ -233,7 +233,7 @@ fn push_namespaces(text: &mut String, found: &Namespaces) -> Result<(), AllocErr
     push_entries(text, " namespaces=", found.namespaces.as_slice())
 }
 
-// Appends the entries, with commas in between, behind what stands in front of them.
+// Appends `before` and the entries, separated by commas.
 fn push_entries(
     text: &mut String,
     before: &str,
@@ -253,7 +253,7 @@ fn push_entries(
     Ok(())
 }
 
-// Appends one entry behind what stands in front of it.
+// Appends `before` and one entry.
 fn push_entry(text: &mut String, before: &str, entry: &NamespaceEntry) -> Result<(), AllocError>
     requires { length before.now ≤ 1 }
     ensures { OnOk result (string_bytes text.new

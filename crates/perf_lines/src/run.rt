@@ -1,4 +1,4 @@
-//! The engine: what a reader gives in, its text out.
+//! The engine: reads records from a reader and writes their text.
 
 ghost use Rattle.std.specs.Prelude.{◌≡◌, ◌<◌, ◌++◌, List, ℕ, IsTrue, IfOk, IfErr, IfSome, is_err};
 ghost use Rattle.std.specs.Prelude.{codes, string_bytes, if◌then◌else◌, true};
@@ -17,15 +17,15 @@ use perf_event_data::{Record, RunEnd, read_records};
 use std::alloc::{AllocError, Global};
 use std::io::{BufReader, Read, Write};
 
-// How many answers are held at a time.
+// How many results are kept at a time.
 const BATCH: usize = 256;
 
-/// Reads records in pieces of at most `piece` bytes, at most `limit` of them, and writes a line for
-/// each and a last one that says how reading ended. Nothing is written before all is read, and only
-/// the text is held meanwhile.
+/// Reads at most `limit` records, in pieces of at most `piece` bytes, and writes a line for each
+/// and a last one that states how reading ended. Nothing is written before everything is read, and
+/// only the text is kept until then.
 ///
-/// With `with_attr` an attribute comes first. Its configuration holds for the records behind it;
-/// where it is refused, the only line says so, and the outcome is `BadAttr`.
+/// With `with_attr` the input begins with an attribute, whose configuration applies to the records
+/// after it. If it is refused, the only line states that, and the outcome is `BadAttr`.
 pub fn run<R: Read + Drop, W: Write, E: Endian>(
     alloc: Global,
     reader: R,
@@ -37,7 +37,8 @@ pub fn run<R: Read + Drop, W: Write, E: Endian>(
 ) -> Outcome
     requires { 0 < piece }
 
-    // Where the reader tells its bytes, what is written is their text, as far as the outcome says.
+    // If the bytes of the reader are known, what is written is their text, as the outcome
+    // specifies.
     ensures { IfSome (R.remaining reader) (λ bytes.
         Writes (E.order order) limit (shown.stream_of with_attr (E.order order) bytes) result
         (W.contents writer.old) (W.contents writer.new)) }
@@ -52,7 +53,7 @@ pub fn run<R: Read + Drop, W: Write, E: Endian>(
     }
 }
 
-// The text of a run, and its outcome if that can be written.
+// The text of a run, and its outcome if that text can be written.
 fn text_of<R: Read + Drop, E: Endian>(
     alloc: Global,
     reader: R,
@@ -99,7 +100,7 @@ fn push_stream<'p, B: ParseBuf<'p> + Drop, E: Endian>(
     }
 }
 
-// Appends the text of what a parser reads, the attribute first.
+// Appends the text of what a parser reads, with the attribute first.
 fn push_run_with_attr<'p, B: ParseBuf<'p> + Drop, E: Endian>(
     text: &mut String,
     parser: Parser<B, E>,
@@ -117,7 +118,7 @@ fn push_run_with_attr<'p, B: ParseBuf<'p> + Drop, E: Endian>(
     }
 }
 
-// Reads the attribute: the parser of what comes behind it, under its configuration and the same
+// Reads the attribute, and returns a parser of the rest under its configuration and the same byte
 // order.
 fn parse_attr<'p, B: ParseBuf<'p> + Drop, E: Endian>(
     mut parser: Parser<B, E>,
@@ -207,7 +208,7 @@ fn push_run<'p, B: ParseBuf<'p>, E: Endian>(
     push_last(text, "limit", refused)
 }
 
-// Appends the line that says how a run ended.
+// Appends the line that states how a run ended.
 fn push_ending(text: &mut String, end: RunEnd, refused: bool) -> Result<Outcome, AllocError>
     ensures { IfOk result (λ outcome.
         (string_bytes text.new ≡ string_bytes text.old ++ ending_line end)

@@ -98,14 +98,14 @@ fn push_memory(text: &mut String, sample: &Sample) -> Result<(), AllocError>
     push_numbers(text, &fields)
 }
 
-// The same number, in eight bytes.
+// The same number as 64 bits.
 fn wide(number: Option<u32>) -> Option<u64>
     ensures { result ≡ number }
 {
     number.map(u64::from)
 }
 
-// The whole word of a data source.
+// All bits of a data source.
 fn source_bits(source: Option<DataSource>) -> Option<u64>
     ensures { result ≡ source }
 {
@@ -115,7 +115,7 @@ fn source_bits(source: Option<DataSource>) -> Option<u64>
     }
 }
 
-// The whole word of what a memory transaction did.
+// All bits of a memory transaction.
 fn transaction_bits(transaction: Option<Txn>) -> Option<u64>
     ensures { result ≡ option_map txn_bits transaction }
 {
@@ -125,7 +125,7 @@ fn transaction_bits(transaction: Option<Txn>) -> Option<u64>
     }
 }
 
-// Appends a read of counters that is there: its times, and its counters.
+// Appends the times and the counters of a read of counters, or nothing for `None`.
 fn push_group(text: &mut String, group: Option<&ReadGroup>) -> Result<(), AllocError>
     ensures { OnOk result (string_bytes text.new
         ≡ string_bytes text.old
@@ -142,7 +142,7 @@ fn push_group(text: &mut String, group: Option<&ReadGroup>) -> Result<(), AllocE
     push_counters(text, " values=", group)
 }
 
-// Appends the counters of a group, with commas in between, behind what stands in front of them.
+// Appends `before` and the counters of a group, separated by commas.
 fn push_counters(text: &mut String, before: &str, group: &ReadGroup) -> Result<(), AllocError>
     ensures { OnOk result (string_bytes text.new
         ≡ string_bytes text.old
@@ -160,7 +160,7 @@ fn push_counters(text: &mut String, before: &str, group: &ReadGroup) -> Result<(
     Ok(())
 }
 
-// Appends one counter behind what stands in front of it.
+// Appends `before` and one counter.
 fn push_counter(text: &mut String, before: &str, entry: &GroupEntry) -> Result<(), AllocError>
     requires { length before.now ≤ 1 }
     ensures { OnOk result (string_bytes text.new
@@ -174,7 +174,7 @@ fn push_counter(text: &mut String, before: &str, entry: &GroupEntry) -> Result<(
     text.push_str(strip.text())
 }
 
-// Appends branches that are there, with commas in between, behind their name.
+// Appends the name of the list and the branches, separated by commas, or nothing for `None`.
 fn push_branches(text: &mut String, branches: Option<&[BranchEntry]>) -> Result<(), AllocError>
     ensures { OnOk result (string_bytes text.new
         ≡ string_bytes text.old
@@ -195,7 +195,7 @@ fn push_branches(text: &mut String, branches: Option<&[BranchEntry]>) -> Result<
     Ok(())
 }
 
-// Appends one branch behind what stands in front of it.
+// Appends `before` and one branch.
 fn push_branch(text: &mut String, before: &str, branch: &BranchEntry) -> Result<(), AllocError>
     requires { length before.now ≤ 1 }
     ensures { OnOk result (string_bytes text.new
@@ -217,8 +217,7 @@ fn push_branch(text: &mut String, before: &str, branch: &BranchEntry) -> Result<
     text.push_str(strip.text())
 }
 
-// Appends registers that are there: the kind of task and what they held, each behind what stands
-// in front of it.
+// Appends the ABI and the values of registers, each after its own text, or nothing for `None`.
 fn push_registers(
     text: &mut String,
     abi: &str,

@@ -1,17 +1,17 @@
-//! A short text that grows at its front, as digits are made from the last to the first.
+//! A short text that grows at its front, because digits are computed from the last to the first.
 
 ghost use Rattle.std.specs.Prelude.{◌≡◌, ◌+◌, ◌*◌, ◌≤◌, ◌++◌, [], drop, length, decimal};
 ghost use Rattle.std.specs.List.{flat_map};
 ghost use Rattle.std.specs.Str.{IsUtf8};
 ghost use Rattle.perf_lines.specs.Fields.{present};
 
-// How many bytes a strip has room for.
+// The capacity of a strip, in bytes.
 pub(crate) const ROOM: usize = 256;
 
-// How many digits the longest number has.
+// The number of digits of the longest number.
 pub(crate) const MOST_DIGITS: usize = 20;
 
-// A text of at most so many bytes, which are the last ones.
+// A text at the end of an array.
 #[derive(Drop)]
 pub(crate) struct Strip {
     bytes: [u8; ROOM],
@@ -32,7 +32,7 @@ impl Strip {
         }
     }
 
-    // Writes a number in front of the text.
+    // Writes a number before the text.
     #[inline(always)]
     pub(crate) fn put_number(&mut self, number: u64)
         requires { MOST_DIGITS ≤ self.old.start }
@@ -43,7 +43,7 @@ impl Strip {
         self.start = itoa::write_digits(number, &mut self.bytes, self.start);
     }
 
-    // Writes a word in front of the text.
+    // Writes a word before the text.
     #[inline(always)]
     pub(crate) fn put(&mut self, word: &str)
         requires { length word.now ≤ self.old.start }
@@ -56,7 +56,7 @@ impl Strip {
         self.start = start;
     }
 
-    // Writes a number that is there in front of the text, behind a word.
+    // Writes a word and a number before the text, or nothing for `None`.
     #[inline(always)]
     pub(crate) fn put_present(&mut self, word: &str, number: Option<u64>)
         requires { length word.now + MOST_DIGITS ≤ self.old.start }
@@ -70,7 +70,7 @@ impl Strip {
         }
     }
 
-    // Writes numbers in front of the text, each behind a mark.
+    // Writes numbers before the text, each after a mark.
     #[inline(always)]
     pub(crate) fn put_each(&mut self, mark: &str, numbers: &[u64])
         requires mark { length mark.now ≤ 1 }

@@ -1,4 +1,4 @@
-//! The words of the command line.
+//! Parses the command line.
 
 ghost use Rattle.std.specs.Prelude.{◌≡◌, map, string_bytes};
 ghost use Rattle.std.specs.Char.{is_ascii_digit};
@@ -7,8 +7,8 @@ ghost use Rattle.perf_lines.specs.Words.{order_named, limit_named, asked, comman
 
 use crate::command::{Command, OrderName};
 
-/// What the words behind the program's name ask for: an order's name, a limit in digits alone, and
-/// then `attr`, where the input begins with an attribute. Other words ask for nothing.
+/// What the arguments of the program ask for: the name of a byte order, a limit in decimal digits
+/// alone, and then `attr` if the input begins with an attribute. `None` for any other arguments.
 pub fn command(words: &[String]) -> Option<Command>
     ensures { result ≡ command_of (map string_bytes words.now) }
 {
@@ -42,7 +42,7 @@ fn order_named(word: &str) -> Option<OrderName>
     }
 }
 
-// `parse` alone would take a sign too.
+// `parse` alone would also accept a sign.
 fn limit_named(word: &str) -> Option<usize>
     ensures { result ≡ limit_named word.now }
 {

@@ -1,5 +1,6 @@
-//! Tests of what refused memory changes, which `tools/memory/refused.sh` runs with each request for
-//! memory refused in turn. With none refused they hold too. Without its tests this crate is empty.
+//! Tests of what a failed allocation changes. `tools/memory/refused.sh` runs them with each request
+//! for memory refused in turn; they also hold with none refused. Without its tests this crate is
+//! empty.
 #![tactic(auto)]
 
 #[cfg(test)]

@@ -28,8 +28,7 @@ fn are_granted(alloc: Global) -> [bool; 2] {
     ]
 }
 
-// The line of a frame, tried again where memory is refused: one request is refused, and no further
-// one.
+// The line of a frame, tried again if memory runs out: one request is refused, and no further one.
 fn line_at_last(
     alloc: Global,
     index: usize,
@@ -42,7 +41,7 @@ fn line_at_last(
     }
 }
 
-// Asserts that what is listed is a beginning of these lines.
+// Asserts that what is listed is a prefix of these lines.
 fn check_lines(rt: &(impl AllocGlobal + Abort), run: &Run<'_>, lines: &[&str]) {
     assert!(rt;
         run.frames.len() <= lines.len(),
@@ -68,9 +67,9 @@ fn ending(end: &RunEnd) -> &'static str {
     }
 }
 
-// Asserts that a run over a reader of these bytes lists frames with these lines and ends so, or, where
-// memory is refused, that it lists the first of them. Prints which it is, and whether the next
-// two requests are granted, which shows how many requests the run made.
+// Asserts that a run over a reader of these bytes lists frames with these lines and ends so, or, if
+// memory runs out, that it lists the first of them. Prints which it is, and whether the next two
+// requests are granted, which shows how many requests the run made.
 fn check_run(
     rt: &(impl AllocGlobal + Print + Abort),
     name: &str,
@@ -130,8 +129,8 @@ fn a_call_chain(rt: HostRuntime) {
     check_run(&rt, "a call chain", of_chains, 10, (&lines, "done"));
 }
 
-// A call chain that claims four numbers and contains one. The sample is refused for that, even where
-// its box is refused.
+// A call chain that claims four numbers and contains one. The sample is refused for that, even if
+// the allocation of its box fails.
 #[test]
 fn a_call_chain_that_is_too_short(rt: HostRuntime) {
     let bytes = b"\x09\0\0\0\0\0\x18\0\x04\0\0\0\0\0\0\0\x01\0\0\0\0\0\0\0";
@@ -140,8 +139,9 @@ fn a_call_chain_that_is_too_short(rt: HostRuntime) {
     check_run(&rt, "a short chain", of_chains, 10, (&lines, "done"));
 }
 
-// A call chain without the raw bytes that should follow. The sample is refused for that, even where
-// its box is refused, but out of memory comes first where the list of the chain is refused.
+// A call chain without the raw bytes that should follow. The sample is refused for that, even if
+// the allocation of its box fails, but if that of the chain's list fails, out of memory comes
+// first.
 #[test]
 fn a_call_chain_without_raw_bytes(rt: HostRuntime) {
     let bytes = b"\x09\0\0\0\0\0\x18\0\x01\0\0\0\0\0\0\0\x07\0\0\0\0\0\0\0";

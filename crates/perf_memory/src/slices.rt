@@ -31,14 +31,14 @@ fn record_of<'a>(alloc: Global, bytes: &'a [u8], attr: perf_event_attr) -> Parse
     Record::parse(&mut parser)
 }
 
-// Its line, with its header and the number 0.
+// Its line, with the header and the number 0.
 fn line(alloc: Global, bytes: &[u8], answer: &ParseResult<Record<'_>>) -> ParseResult<String> {
     let mut parser = Parser::new(alloc, bytes, ParseConfig::<Little>::default());
     let header = perf_event_header::parse(&mut parser)?;
     line_of(alloc, 0, &header, answer)
 }
 
-// The same, tried again where memory is refused: one request is refused, and no further one.
+// The same, tried again if memory runs out: one request is refused, and no further one.
 fn line_at_last(
     alloc: Global,
     bytes: &[u8],
@@ -55,8 +55,8 @@ fn is_granted(alloc: Global) -> bool {
     Vec::from_slice(alloc, &[0u8]).is_ok()
 }
 
-// Asserts the line of a frame. Its record is parsed first: where that asks for no memory, a first
-// request that is refused is the one behind it.
+// Asserts the line of a frame. Its record is parsed first: if that asks for no memory, a first
+// request that is refused is the one after it.
 fn check_line(rt: &(impl AllocGlobal + Abort), bytes: &[u8], attr: perf_event_attr, want: &str) {
     let answer = record_of(rt.alloc(), bytes, attr);
     is_granted(rt.alloc());
@@ -216,7 +216,7 @@ fn with_stacks() -> perf_event_attr {
     }
 }
 
-// A sample that is refused is refused for what its bytes are, also where its box is refused.
+// A refused sample is refused for its bytes, even if the allocation of its box fails.
 #[test]
 fn a_stack_of_which_too_much_was_used(rt: HostRuntime) {
     let bytes = b"\x09\0\0\0\0\0\x20\0\x08\0\0\0\0\0\0\0abcdefgh\x09\0\0\0\0\0\0\0";
@@ -240,7 +240,7 @@ fn with_raw_bytes() -> perf_event_attr {
     }
 }
 
-// Whether one request is refused at most: that of the sample's box, or one behind it.
+// Whether at most one request is refused: that of the sample's box, or one after it.
 fn is_lawful(line: &str, granted: [bool; 2]) -> bool {
     match line {
         "0 9 0 16 refused OutOfMemory" => granted == [true, true],
@@ -249,7 +249,7 @@ fn is_lawful(line: &str, granted: [bool; 2]) -> bool {
     }
 }
 
-// Prints the sample's line, and whether two requests behind it are granted, so that this can be
+// Prints the sample's line, and whether two requests after it are granted, so that this can be
 // compared with which request was refused.
 #[test]
 fn a_sample_of_raw_bytes(rt: HostRuntime) {

@@ -1,4 +1,4 @@
--- No line that tells of a task has a control character.
+-- No line about a task has a control character.
 use Rattle.std.proofs.Common.{ℕ, false, List, [], ◌∷◌, ◌++◌, ◌==◌, refl, codes, decimal, unwrap_or, bit_and}
 use Rattle.std.specs.Fmt.{digits}
 use Rattle.std.specs.List.{flat_map, join_by}

@@ -1,4 +1,4 @@
--- What a counter has counted of the frames that it was handed.
+-- What a counter has counted of the frames that were handed to it.
 use Rattle.std.proofs.Common.{◌≡◌, ℕ, zero, suc, ◌+◌, ◌-◌, ◌*◌, ◌%◌, ◌^◌, ◌<◌, ◌≤◌, Bool, true, false, List, [], ◌∷◌, ◌++◌, length, take, drop, map, arith, refl, sym, ◌∙◌, ap, subst, nat_lt, inl, inr, Ok, Err, None, Some, length-drop}
 use Rattle.std.specs.Prelude.{IsTrue, IfOk, Option, Result, is_err, sum_by, count_by, count_ones, nat_le}
 use Rattle.std.proofs.lemmas.Bool.{cases_lt, lt-ltb, le-ltb, le-leb}
@@ -50,7 +50,7 @@ use Rattle.perf_reports.specs.Counting.{wrapped, frame_sum, counted, plus, sight
 use Rattle.perf_reports.specs.declared.counting.FrameCounter.{FrameCounter}
 use Rattle.perf_reports.specs.declared.counts.Counts.{Counts}
 
--- ---- what a frame says where it is seen
+-- ---- the result of a frame by what is seen of it
 
 split_small : (c : Configuration) (o : Order) (h : perf_event_header) (bytes : List ℕ) → h.size < 8 → split_behind c o h bytes ≡ Err InvalidRecord
 split_small c o h bytes small = let a : nat_lt h.size 8 ≡ true = lt-ltb h.size 8 small in rw a refl
@@ -78,11 +78,11 @@ sight_short h bytes lasting sized short =
     let b : nat_lt (length bytes) (body_length h) ≡ true = lt-ltb (length bytes) (body_length h) short in
     rw (a, b) refl
 
--- the pair that is counted of what is seen
+-- the header and the result that are counted for what is seen
 abbrev seen_pair : Configuration → Order → Sight → perf_event_header × Result RecordValue ErrorKind
 seen_pair c o seen = (sight_header seen, sight_answer c o seen)
 
--- the pair of a frame
+-- the header and the result of a frame
 abbrev pub pair_of : Configuration → Order → List ℕ → perf_event_header × Result RecordValue ErrorKind
 pair_of c o frame = (header_of o frame, answer_of_frame c o frame)
 
@@ -119,12 +119,12 @@ counted_more xs ys =
 
 -- ---- samples that are too short for their fields
 
--- whatever the refusal is, one refused frame is counted
+-- one refused frame is counted, whatever the refusal is
 pub refused_counts : (h : perf_event_header) (says : Result RecordValue ErrorKind) → IsRefused says → counted ((h, says) ∷ []) ≡ counted ((h, Err Eof) ∷ [])
 refused_counts h (Ok value) refused = absurd refused
 refused_counts h (Err e) refused = refl
 
--- no record is in them
+-- they contain no record
 short_answer : (c : Configuration) (o : Order) (h : perf_event_header) (bytes : List ℕ) (v : RecordValue) → 8 ≤ h.size → length bytes ≡ body_length h → h.type_ ≡ 9 →
     length bytes < 8 * count_ones (c.sample_type % 2 ^ 24) → answer_behind c o h bytes ≡ Ok v → ⊥
 short_answer c o h bytes v sized all_there is short answer =
@@ -151,7 +151,7 @@ short_refused c o h bytes sized all_there is short = go (answer_behind c o h byt
 
 -- ---- frames that were handed out
 
--- each frame has a header
+-- each frame has at least the length of a header
 abbrev pub Headed : List (List ℕ) → Type 0
 Headed [] = Unit {0}
 Headed (frame ∷ more) = (8 ≤ length frame) × Headed more
@@ -178,7 +178,7 @@ module _ (c : Configuration) (o : Order) (all : Bool) where
   regroup : (xs : List Answered) (frame : List ℕ) (more : List (List ℕ)) → (xs ++ pair_of c o frame ∷ []) ++ map (pair_of c o) more ≡ xs ++ map (pair_of c o) (frame ∷ more)
   regroup xs frame more = append_assoc xs (pair_of c o frame ∷ []) (map (pair_of c o) more)
 
-  -- it went on after each of them
+  -- the run went on after each of them
   all_counted : (xs : List Answered) (fs : List (List ℕ)) (was now : FrameCounter) → Headed fs → was.counts ≡ counted xs → Handed gets o all was fs true now →
       now.counts ≡ counted (xs ++ map (pair_of c o) fs)
   all_counted xs [] was now headed so_far p = ap (λ (k : FrameCounter). k.counts) p.0 ∙ so_far ∙ ap counted (sym (append-nil xs))
@@ -187,7 +187,7 @@ module _ (c : Configuration) (o : Order) (all : Bool) where
     | inr last ↦ let never : true ≡ false = last.2 in absurd (cc)
   ]
 
-  -- it ended the run at the last of them, which it did not count
+  -- the counter ended the run at the last of them, and did not count that one
   but_last_counted : (xs : List Answered) (fs : List (List ℕ)) (was now : FrameCounter) → Headed fs → was.counts ≡ counted xs → Handed gets o all was fs false now →
       (k : ℕ) × (suc k ≡ length fs) × (now.counts ≡ counted (xs ++ map (pair_of c o) (take k fs))) × IsFault now.refusal
   but_last_counted xs [] was now headed so_far p = let never : false ≡ true = p.1 in absurd (cc)
@@ -221,7 +221,7 @@ fewer_answers c o k n bytes le there =
 
 -- ---- how a run ends that its handler ended
 
--- the bytes behind one more frame are an end of those behind the others
+-- the bytes after one more frame are a suffix of those after the others
 taken_within : (o : Order) (bytes left : List ℕ) → left ≡ drop (frame_length o bytes) bytes → LeavesWithin o bytes left
 taken_within o bytes left p =
     let old : Source = record { left = bytes; told = true; whole = false; can_fault = false; faults = None } in
@@ -240,7 +240,7 @@ ended_by o limit k bytes left (Some r) e below fault by behind =
     subst (λ (x : RunEnd). EndsWith o limit bytes k x left) (sym by.1)
     (below, not_of_layout by.2.kind_is fault, taken_within o (behind_frames o k bytes) left (behind ∙ behind_on o k bytes))
 
--- the end of a run over frames that a counter was handed
+-- the end of a run over frames that were handed to a counter
 abbrev pub IsRunEnd : Option RunEnd → FrameCounter → RunEnd → Type 0
 IsRunEnd (Some x) now e = e ≡ x
 IsRunEnd None now e = EndsBy now.refusal e
@@ -274,12 +274,12 @@ pub visited_sum : (h : perf_event_header) (c : Configuration) (o : Order) (bytes
 visited_sum h c o bytes lasting (Ok sum) k v = (v.0.0, v.0.6.0, v.0.3)
 visited_sum h c o bytes lasting (Err e) k v = λ layout. (v.0 layout).0
 
--- bytes of which it is not said that they last
+-- the same without the claim that the bytes are borrowed from the input
 pub less_lasting : (m : MetadataValue) (o : Order) (p : Parts RecordValue) (bytes : List ℕ) (lasting : Bool) (r : Result ℕ ErrorKind) (k : ℕ) → VisitsAll Adds m o p bytes true r k → VisitsAll Adds m o p bytes lasting r k
 less_lasting m o p bytes lasting (Ok sum) k v = (v.0, v.1, v.2, v.3, v.4, (λ is. v.5 refl), v.6)
 less_lasting m o p bytes lasting (Err e) k v = (v.0, (λ is. v.1 refl))
 
--- a type that the kernel does not have: all of its body is there, whatever it is
+-- a type that the kernel does not have: its body is all bytes, whatever they are
 unread_says : (o : Order) (ty : ℕ) (bytes : List ℕ) → layout o (unread ty) bytes ≡ Ok (value o bytes 0 (unread ty))
 unread_says o ty bytes =
     let fits : nat_le (0 + (length bytes - 0)) (length bytes) ≡ true = le-leb (0 + (length bytes - 0)) (length bytes) (omega arith) in

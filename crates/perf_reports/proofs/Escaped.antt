@@ -1,4 +1,4 @@
--- Names of which some bytes are escaped.
+-- Names with some bytes escaped.
 use Rattle.std.proofs.Common.{◌≡◌, ℕ, zero, suc, ◌+◌, ◌-◌, ◌≤◌, ◌<◌, Bool, true, false, ◌&&◌, cond, ◌==◌, nat_lt, Option, Some, None, unwrap_or, slice_index, List, [], ◌∷◌, ◌++◌, ◌∙◌, length, take, drop, refl, sym, ap, arith, append_assoc, append-nil, length-append, inl, inr, codes}
 use Rattle.std.specs.List.{flat_map, list_all}
 use Rattle.std.specs.Str.{IsUtf8, IsAscii, chars, is_utf8}
@@ -21,12 +21,12 @@ line_feed : escaped (codes "sh\nexit 1") ≡ codes "sh\\x0aexit 1"
 unfolding utf8_valid_len utf8_error_len is_utf8 chars encode_utf8 digits
 line_feed = refl
 
--- what clears a terminal
+-- the sequence that clears a terminal
 escape : escaped (0x1B ∷ codes "[2J") ≡ codes "\\x1b[2J"
 unfolding utf8_valid_len utf8_error_len is_utf8 chars encode_utf8 digits
 escape = refl
 
--- a byte that is no UTF-8
+-- a byte that is not UTF-8
 invalid : escaped (0x61 ∷ 0xFF ∷ 0x62 ∷ []) ≡ codes "a\\xffb"
 unfolding utf8_valid_len utf8_error_len is_utf8 chars encode_utf8 digits
 invalid = refl
@@ -45,7 +45,7 @@ next_line : escaped (0xC2 ∷ 0x85 ∷ []) ≡ codes "\\xc2\\x85"
 unfolding utf8_valid_len utf8_error_len is_utf8 chars encode_utf8 digits
 next_line = refl
 
--- ---- text in which all stays
+-- ---- text that stays as it is
 
 pub both : (a b : Bool) → (a && b) ≡ true → (a ≡ true) × (b ≡ true)
 both true true h = (refl, refl)
@@ -68,12 +68,12 @@ unfolding utf8_valid_len utf8_error_len chars
 within_nil zero = refl
 within_nil (suc most) = within_nil most
 
--- what holds of two holds of the one that a test picks
+-- what holds of two values holds of the one that a test picks
 pub picked : {A : Type 0} (P : A → Type 0) (b : Bool) (x y : A) → P x → P y → P (cond b x y)
 picked P true x y p q = p
 picked P false x y p q = q
 
--- an invalid sequence has a byte, where there is one
+-- an invalid sequence has at least one byte, if there are any bytes
 invalid_some : (bytes : List ℕ) → 0 < length bytes → 0 < utf8_invalid_len bytes
 unfolding utf8_error_len
 invalid_some bytes some =
@@ -121,7 +121,7 @@ escaped_step bytes some =
     within_enough (length bytes) (suc (length bytes)) bytes (omega arith) (omega arith)
     ∙ ap (λ t. escaped_text (text_in_front bytes) ++ (flat_map escaped_byte (invalid_after bytes) ++ t)) (within_enough (length bytes) (length (after_first_chunk bytes)) (after_first_chunk bytes) (omega arith) (omega arith))
 
--- the same of bytes that are cut into a text, the invalid bytes behind it and the rest
+-- the same of bytes that are cut into a text, the invalid bytes after it and the rest
 pub escaped_chunk : (bytes valid invalid rest : List ℕ) → 0 < length bytes → bytes ≡ valid ++ (invalid ++ rest) → length valid ≡ utf8_valid_len bytes
     → length invalid ≡ utf8_invalid_len (drop (utf8_valid_len bytes) bytes) → escaped bytes ≡ escaped_text valid ++ (flat_map escaped_byte invalid ++ escaped rest)
 escaped_chunk bytes valid invalid rest some parts valid_len invalid_len =

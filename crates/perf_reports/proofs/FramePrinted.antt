@@ -1,4 +1,4 @@
--- What a printer has printed of the frames that it was handed.
+-- What a printer has printed of the frames that were handed to it.
 use Rattle.perf_base.specs.declared.refusal.Refusal.{Refusal}
 use Rattle.perf_records.specs.Records.{record_value, sample_is, sample_value}
 use Rattle.perf_records.specs.Answers.{answer_behind}
@@ -105,7 +105,7 @@ module _ {W E : Type 0} (out : W → Option (List ℕ)) (err : E → Option (Lis
     clean = clean ∙ sym (and-true was.clean);
   }
 
-  -- its line was not
+  -- its line could not be added
   pub stops_line : (was now : FramePrinter W E) (h : perf_event_header) (v : RecordValue) (why : Stopped) → now.errors ≡ was.errors → GrowsWithin (out was.output) (out now.output) (waiting was ++ printed was.report v) →
       (IsTrue (is_memory why) → Appends (out was.output) (out now.output) (waiting was)) → StopsAt out err was (h, Ok v) why now
   stops_line was now h v why errors w refused = record {
@@ -124,7 +124,7 @@ module _ {W E : Type 0} (out : W → Option (List ℕ)) (err : E → Option (Lis
     clean = clean ∙ sym (and_false was.clean);
   }
 
-  -- only a beginning of what was gathered was written
+  -- only a prefix of what was gathered was written
   pub stops_early : (was now : FramePrinter W E) (x : Answered) (why : Stopped) → (n : ℕ) × Appends (out was.output) (out now.output) (take n (waiting was)) →
       (IsTrue (is_memory why) → Appends (out was.output) (out now.output) (waiting was) × (err now.errors ≡ err was.errors)) → StopsAt out err was x why now
   stops_early was now x why part refused = record {
@@ -132,29 +132,29 @@ module _ {W E : Type 0} (out : W → Option (List ℕ)) (err : E → Option (Lis
     refused = refused;
   }
 
-  -- all of it was, and then the errors failed
+  -- all of it was written, and then the output of errors failed
   pub stops_told : (was now : FramePrinter W E) (x : Answered) (why : Stopped) → Appends (out was.output) (out now.output) (waiting was) → is_memory why ≡ false → StopsAt out err was x why now
   stops_told was now x why written failed = record {
     part = longer (out was.output) (out now.output) (waiting was) (printed_answers was.report (x ∷ [])) (whole_within (out was.output) (out now.output) (waiting was) written);
     refused = λ memory. let never : true ≡ false = sym memory ∙ failed in absurd (cc);
   }
 
-  -- the same, or they failed before that
+  -- the same, or an output failed before that
   pub stops_failed : (was now : FramePrinter W E) (x : Answered) (why : Stopped) → (n : ℕ) × Appends (out was.output) (out now.output) (take n (waiting was)) → is_memory why ≡ false → StopsAt out err was x why now
   stops_failed was now x why part failed = stops_early was now x why part (λ memory. let never : true ≡ false = sym memory ∙ failed in absurd (cc))
 
-  -- the same answer by another word
+  -- the same result under another name
   pub prints_same : (was now : FramePrinter W E) (h : perf_event_header) (a b : Result RecordValue ErrorKind) (r : Result (Unit {0}) Stopped) → a ≡ b → PrintsAnswer out err was (h, b) r now → PrintsAnswer out err was (h, a) r now
   prints_same was now h a b r e p = subst (λ (x : Result RecordValue ErrorKind). PrintsAnswer out err was (h, x) r now) (sym e) p
 
-  -- a line was added, or not
+  -- a line was added, or printing stopped
   pub adds_line : (was now : FramePrinter W E) (h : perf_event_header) (a : Result RecordValue ErrorKind) (v : RecordValue) (r : Result (Unit {0}) Stopped) → a ≡ Ok v → now.report ≡ was.report → now.errors ≡ was.errors → now.clean ≡ was.clean →
       OnOk r (Grows (out was.output) (out now.output) (waiting was) (waiting now) (printed was.report v)) → GrowsWithin (out was.output) (out now.output) (waiting was ++ printed was.report v) →
       IfErr r (λ stopped. IsTrue (is_memory stopped) → Appends (out was.output) (out now.output) (waiting was)) → PrintsAnswer out err was (h, a) r now
   adds_line was now h a v (Ok x) e report errors clean g w refused = prints_same was now h a (Ok v) (Ok x) e (prints_line was now h v report errors clean g w)
   adds_line was now h a v (Err why) e report errors clean g w refused = prints_same was now h a (Ok v) (Err why) e (stops_line was now h v why errors w refused)
 
-  -- what is kept of why it stopped changes nothing of what it printed
+  -- keeping why it stopped changes nothing of what it printed
   pub stops_kept : (was now kept : FramePrinter W E) (x : Answered) (why : Stopped) → kept.output ≡ now.output → kept.errors ≡ now.errors → StopsAt out err was x why now → StopsAt out err was x why kept
   stops_kept was now kept x why output errors p = record {
     part = subst (λ (o : W). GrowsWithin (out was.output) (out o) (waiting was ++ printed_answers was.report (x ∷ []))) (sym output) p.part;
@@ -242,7 +242,7 @@ module _ {W E : Type 0} (out : W → Option (List ℕ)) (err : E → Option (Lis
     subst (λ (e : E). TellsErrors (err was.errors) (err e) (take k ans)) (sym errors) p.told,
   )
 
-  -- the same, or sending failed
+  -- the same, or writing failed
   pub run_part : (was mid now : FramePrinter W E) (ans : List Answered) (k limit : ℕ) → k ≤ limit → Prints out err was (take k ans) mid → (n : ℕ) × Appends (out mid.output) (out now.output) (take n (waiting out err mid)) →
       GrowsWithin (out was.output) (out now.output) (waiting out err was ++ printed_answers was.report (take limit ans))
   run_part was mid now ans k limit le p part =
@@ -302,7 +302,7 @@ module _ {W E : Type 0} (out : W → Option (List ℕ)) (err : E → Option (Lis
       subst (λ (xs : List Answered). StopsAfter out err was xs now) (first_answers c o count old.source.left handed.0)
       (stops_after out err c o old.source.whole fs was now (frames_headed o count old.source.left) all)
 
-  -- all the answers are there
+  -- all the answers are present
   pub there : (old : Meaning) (count : ℕ) (ended : Option RunEnd) (was now : FramePrinter W E) →
       HandsFirst (λ s x. PrintsSight out err s old.settings old.order x) old count ended was now → length (take count (answers_of old)) ≡ count
   there old count ended was now handed =
@@ -317,7 +317,7 @@ record_said h c o bytes lasting r k x visits is =
     let said = (subst (λ (q : Result Record Refusal). VisitsBytes IsRecordOf h c o bytes lasting q k) is visits).0 in
     said.6.0 ∙ ap Ok (sym said.3.0)
 
--- its sample, in the place of another
+-- its sample, read into the place of another
 pub sample_said : (h : perf_event_header) (c : Configuration) (o : Order) (bytes : List ℕ) (lasting : Bool) (r : Result (Unit {0}) Refusal) (k : ℕ) (now : Sample) →
     VisitsBytes (λ seen output. IsSampleIn seen now) h c o bytes lasting r k → r ≡ Ok tt → answer_behind c o h bytes ≡ Ok (sample_is (sample_value now))
 sample_said h c o bytes lasting r k now visits is =

@@ -29,7 +29,7 @@ below (suc n) b t h =
 pub PAIRS_at : (b : ℕ) → b < 256 → (get_or PAIRS (2 * b) 0 ≡ digit_glyph false (b / 16)) × (get_or PAIRS (2 * b + 1) 0 ≡ digit_glyph false (b % 16))
 PAIRS_at b h = below 256 b tt h
 
--- the digits of n in front of xs, k of them at most
+-- the digits of n before xs, at most k of them
 abbrev spell : ℕ → ℕ → List ℕ → List ℕ
 spell k n xs = digits_onto k 16 false n xs
 
@@ -42,7 +42,7 @@ spell_last k n xs h = ap (λ t. cond t (last_digit n ∷ xs) (spell k (n / 16) (
 spell_next : (k n : ℕ) (xs : List ℕ) → 16 ≤ n → spell (suc k) n xs ≡ spell k (n / 16) (last_digit n ∷ xs)
 spell_next k n xs h = ap (λ t. cond t (last_digit n ∷ xs) (spell k (n / 16) (last_digit n ∷ xs))) (ne_eqb (n / 16) 0 (λ e. omega arith))
 
--- digits come in front of what is there
+-- the digits come before what is already written
 spell_front : (k n : ℕ) (xs : List ℕ) → spell k n xs ≡ spell k n [] ++ xs
 spell_front zero n xs = refl
 spell_front (suc k) n xs =
@@ -52,7 +52,7 @@ spell_front (suc k) n xs =
           ∙ ap (λ ys. ys ++ xs) (sym (spell_next k n [] many ∙ spell_front k (n / 16) (last_digit n ∷ [])))
     ]
 
--- room for more digits than there are changes nothing
+-- a bound above the number of digits changes nothing
 spell_enough : (k n : ℕ) (xs : List ℕ) → n < 16 ^ suc k → spell (suc (suc k)) n xs ≡ spell (suc k) n xs
 spell_enough zero n xs fits = spell_last 1 n xs (omega arith) ∙ sym (spell_last 0 n xs (omega arith))
 spell_enough (suc k) n xs fits =
@@ -92,7 +92,7 @@ length_two n large small = ap length (digits_two n large small)
 pub length_pair : (n : ℕ) → 256 ≤ n → n < 2 ^ 64 → length (digits 16 false n) ≡ length (digits 16 false (n / 256)) + 2
 length_pair n large small = ap length (digits_pair n large small) ∙ length-append _ _
 
--- as many digits as sixteen has to be taken to the power of
+-- a number below 16 ^ n has at most n digits
 within : (k n : ℕ) → n < 16 ^ suc k → n < 2 ^ 64 → length (digits 16 false n) ≤ suc k
 within zero n fits small = omega (arith, length_one n (omega arith))
 within (suc k) n fits small =
@@ -124,7 +124,7 @@ IsAscii-digits n = rw (as_spelled n) (spelled_in_ascii 64 n [] IsAscii-nil)
 pub IsUtf8-digits : (n : ℕ) → IsUtf8 (digits 16 false n)
 IsUtf8-digits n = IsUtf8-from_ascii _ (IsAscii-digits n)
 
--- digits in front of text are text
+-- digits before text are text
 pub IsUtf8-behind_digits : (n : ℕ) (xs ys : List ℕ) → xs ≡ digits 16 false n ++ ys → IsUtf8 ys → IsUtf8 xs
 IsUtf8-behind_digits n xs ys e behind = rw e (IsUtf8-append (digits 16 false n) ys (IsUtf8-digits n) behind)
 

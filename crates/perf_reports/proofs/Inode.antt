@@ -1,4 +1,4 @@
--- What the four numbers of an inode are printed as is what the detail is printed as.
+-- The four numbers of an inode are printed as the detail that they are.
 use Rattle.std.proofs.Common.{ℕ, ◌≡◌, Some}
 use Rattle.perf_types.specs.MmapDetail.{DetailValue, inode_is, build_id_is, maj_of, min_of, ino_of, ino_generation_of}
 use Rattle.perf_reports.specs.TaskLines.{inode, file}

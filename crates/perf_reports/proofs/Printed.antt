@@ -1,4 +1,4 @@
--- What goes out in steps.
+-- What is written in steps.
 use Rattle.std.proofs.Common.{◌≡◌, ℕ, List, [], ◌++◌, ◌∙◌, Option, Some, None, length, take, drop, refl, sym, ap, append_assoc, append-nil}
 use Rattle.std.specs.Io.KnownBytes.{Appends, Keeps}
 use Rattle.std.proofs.lemmas.List.{take-append-drop}
@@ -12,18 +12,18 @@ grown (Some xs) (Some ys) None waited between waits first second p q = absurd q
 grown (Some xs) (Some ys) (Some zs) waited between waits first second p q =
     q ∙ sym (append_assoc ys between second) ∙ ap (λ s. s ++ second) p ∙ append_assoc xs (waited ++ first) second ∙ ap (λ s. xs ++ s) (append_assoc waited first second)
 
--- all that waited goes out
+-- all that waited is written
 pub sent : (a b : Option (List ℕ)) (waited waits : List ℕ) → Appends a b waited → waits ≡ [] → Grows a b waited waits []
 sent None b waited waits p q = tt
 sent (Some xs) None waited waits p q = absurd p
 sent (Some xs) (Some ys) waited waits p q = rw (q, append-nil ys, append-nil waited) p
 
--- nothing went out yet
+-- nothing was written yet
 pub none_sent : (a : Option (List ℕ)) (waited : List ℕ) → Grows a a waited waited []
 none_sent None waited = tt
 none_sent (Some xs) waited = ap (λ s. xs ++ s) (sym (append-nil waited))
 
--- what waits goes out after the rest
+-- what waits is written after the rest
 pub flushed : (a b c : Option (List ℕ)) (waited waits text : List ℕ) → Grows a b waited waits text → Appends b c waits → Appends a c (waited ++ text)
 flushed None b c waited waits text p q = tt
 flushed (Some xs) None c waited waits text p q = absurd p
@@ -48,7 +48,7 @@ pub appends_none : (a : Option (List ℕ)) → Appends a a []
 appends_none None = tt
 appends_none (Some xs) = sym (append-nil xs)
 
--- ---- a part of what was to go out
+-- ---- a part of what was to be written
 
 cancel : (xs ys zs : List ℕ) → xs ++ ys ≡ xs ++ zs → ys ≡ zs
 cancel xs ys zs e = sym (drop_at xs ys (length xs) refl) ∙ ap (drop (length xs)) e ∙ drop_at xs zs (length xs) refl
@@ -62,7 +62,7 @@ within a b text more (n, p) = (take n text, drop n text ++ more, sym (append_ass
 pub longer : (a b : Option (List ℕ)) (text more : List ℕ) → GrowsWithin a b text → GrowsWithin a b (text ++ more)
 longer a b text more (written, left, e, p) = (written, left ++ more, sym (append_assoc written left more) ∙ ap (λ s. s ++ more) e, p)
 
--- a part of the second text goes out after a part of the first, of which the rest waited
+-- a part of the second text is written after a part of the first, of which the rest waited
 pub within_more : (a b c : Option (List ℕ)) (waited between first second : List ℕ) → GrowsWithin a b (waited ++ first) → Grows a b waited between first → GrowsWithin b c (between ++ second) → GrowsWithin a c (waited ++ (first ++ second))
 within_more None b c waited between first second p q r = ([], waited ++ (first ++ second), refl, tt)
 within_more (Some xs) None c waited between first second p q r = absurd q
@@ -75,7 +75,7 @@ within_more (Some xs) (Some ys) (Some zs) waited between first second (v, k, d, 
       appends_more (Some xs) (Some ys) (Some zs) v w p r,
     )
 
--- nothing of it went out
+-- nothing of it was written
 pub none_within : (a : Option (List ℕ)) (text : List ℕ) → GrowsWithin a a text
 none_within a text = ([], text, refl, appends_none a)
 
@@ -92,18 +92,18 @@ second_within a b c first second p (n, q) =
 pub both_within : (a b c : Option (List ℕ)) (first second : List ℕ) → Appends a b first → Appends b c second → GrowsWithin a c (first ++ second)
 both_within a b c first second p q = (first ++ second, [], append-nil (first ++ second), appends_more a b c first second p q)
 
--- a text waits behind what waited
+-- a text waits after what waited
 pub waits_more : (a : Option (List ℕ)) (waited text : List ℕ) → Grows a a waited (waited ++ text) text
 waits_more None waited text = tt
 waits_more (Some xs) waited text = refl
 
--- what waited went out, and a text waits
+-- what waited was written, and a text waits
 pub waits_alone : (a b : Option (List ℕ)) (waited text : List ℕ) → Appends a b waited → Grows a b waited text text
 waits_alone None b waited text p = tt
 waits_alone (Some xs) None waited text p = absurd p
 waits_alone (Some xs) (Some ys) waited text p = ap (λ s. s ++ text) p ∙ append_assoc xs waited text
 
--- what waited went out, and a text after it
+-- what waited was written, and a text after it
 pub none_waits : (a b c : Option (List ℕ)) (waited text : List ℕ) → Appends a b waited → Appends b c text → Grows a c waited [] text
 none_waits None b c waited text p q = tt
 none_waits (Some xs) None c waited text p q = absurd p

@@ -1,4 +1,4 @@
--- What is counted of the answers to frames.
+-- What is counted of the results of frames.
 use Rattle.std.specs.Prelude.{ℕ, ◌+◌, ◌%◌, ◌^◌, List, [], ◌∷◌, length, sum, sum_by, count_by, unwrap_or}
 use Rattle.std.specs.Prelude.{Result, Ok, Err, is_err, IfOk, Option, Some, None, Bool, true, false, IsTrue}
 use Rattle.std.specs.Prelude.{◌≡◌, take, drop}
@@ -30,13 +30,13 @@ use Rattle.perf_sample_types.specs.SampleGetters.{Getters, getters_of}
 use Rattle.perf_reports.specs.declared.counting.FrameCounter.{FrameCounter}
 use Rattle.perf_reports.specs.declared.counts.Counts.{Counts}
 
--- a number as 64 bits hold it
+-- a number modulo 2^64
 abbrev pub wrapped : ℕ → ℕ
 wrapped n = n % 2 ^ 64
 
 -- ---- what a record adds to the checksum
 
--- a mapping: its numbers, and how long its path is
+-- a mapping: its numbers, and the length of its path
 abbrev pub mmap_sum : MmapValue → ℕ
 mmap_sum r = sum (r.pid ∷ r.tid ∷ r.addr ∷ r.len ∷ r.pgoff ∷ length r.filename ∷ [])
 
@@ -44,20 +44,20 @@ mmap_sum r = sum (r.pid ∷ r.tid ∷ r.addr ∷ r.len ∷ r.pgoff ∷ length r.
 abbrev pub mmap2_sum : Mmap2Value → ℕ
 mmap2_sum r = sum (r.pid ∷ r.tid ∷ r.addr ∷ r.len ∷ r.pgoff ∷ length r.filename ∷ [])
 
--- a name that a task got: whose it is, and how long it is
+-- the new name of a task: the task, and the length of the name
 abbrev pub comm_sum : CommValue → ℕ
 comm_sum r = sum (r.pid ∷ r.tid ∷ length r.comm ∷ [])
 
--- a task that was made or that ended
+-- the start or the end of a task
 abbrev pub task_sum : Exit → ℕ
 task_sum r = sum (r.pid ∷ r.ppid ∷ r.tid ∷ r.ptid ∷ r.time ∷ [])
 
--- records that were lost: of which event, and how many
+-- lost records: of which event, and how many
 abbrev pub lost_sum : Lost → ℕ
 lost_sum r = sum (r.id ∷ r.lost ∷ [])
 
--- a sample: when and where it was, how many events it stands for, the numbers of its call chain, and
--- how many raw bytes it has; what is absent adds nothing
+-- a sample: the instruction pointer, the task, the time, the period, the numbers of the call chain,
+-- and the number of raw bytes; what is absent adds nothing
 abbrev pub sample_sum : Getters → ℕ
 sample_sum g = sum (
     unwrap_or g.ip 0 ∷
@@ -82,7 +82,7 @@ record_sum (lost_samples_is r) = r.lost
 record_sum (sample_is r) = sample_sum (getters_of r)
 record_sum _ = 0
 
--- a number is what the record of an event adds
+-- the number is what the record of an event adds
 abbrev pub Adds : Event → ℕ → Type 0
 Adds seen sum = sum ≡ wrapped (record_sum seen.value)
 
@@ -94,7 +94,7 @@ abbrev pub frame_sum : perf_event_header × Result RecordValue ErrorKind → ℕ
 frame_sum (h, Ok r) = record_sum r + h.type_ + h.size
 frame_sum (h, Err e) = 0
 
--- how many frames there are, how many of them were refused, and the checksum of the others
+-- the number of frames, the number of refused ones, and the checksum of the others
 abbrev pub counted : List (perf_event_header × Result RecordValue ErrorKind) → Counts
 counted pairs = record {
   records = wrapped (length pairs);
@@ -102,7 +102,7 @@ counted pairs = record {
   checksum = wrapped (sum_by frame_sum pairs);
 }
 
--- what is counted of frames and of others
+-- the counts of two lists of frames together
 abbrev pub plus : Counts → Counts → Counts
 plus a b = record {
   records = wrapped (a.records + b.records);
@@ -112,12 +112,12 @@ plus a b = record {
 
 -- ---- what a counter is handed
 
--- the header of what stands where a frame begins
+-- the header of what is at the start of a frame
 abbrev pub sight_header : Sight → perf_event_header
 sight_header (whole h bytes lasting) = h
 sight_header (bad h e) = h
 
--- what a whole frame says, or why none follows the header
+-- the result of a whole frame, or why none follows the header
 abbrev pub sight_answer : Configuration → Order → Sight → Result RecordValue ErrorKind
 sight_answer c o (whole h bytes lasting) = answer_behind c o h bytes
 sight_answer c o (bad h e) = Err e
@@ -126,7 +126,7 @@ sight_answer c o (bad h e) = Err e
 abbrev pub IsRefused : Result RecordValue ErrorKind → Type 0
 IsRefused says = IfOk says (λ value. ⊥)
 
--- what is counted of it
+-- the counts of one frame
 abbrev pub counted_sight : Configuration → Order → Sight → Counts
 counted_sight c o seen = counted ((sight_header seen, sight_answer c o seen) ∷ [])
 
@@ -135,13 +135,13 @@ abbrev pub IsFault : Option Refusal → Type 0
 IsFault None = ⊥
 IsFault (Some e) = IsTrue (of_layout (refusal_kind e)) → ⊥
 
--- how a run ends that a refusal ended: by the error that it becomes
+-- how a run ends that a refusal ended: with the error that it becomes
 abbrev pub EndsBy : Option Refusal → RunEnd → Type 0
 EndsBy None e = Unit {0}
 EndsBy (Some refusal) e = (x : ParseError) × (e ≡ Fault x) × IsAnswerOf x refusal
 
--- A counter was handed a frame, and returned whether the run goes on. If it does, the frame was counted,
--- once; if not, a fault or want of memory ended the run, and the frame was not counted.
+-- A counter was handed a frame, and returned whether the run goes on. If so, the frame was counted,
+-- once; if not, a fault or a failed allocation ended the run, and the frame was not counted.
 abbrev pub CountsSight : FrameCounter → Configuration → Order → Sight → Bool → FrameCounter → Type 0
 CountsSight was c o seen true now = now.counts ≡ plus was.counts (counted_sight c o seen)
 CountsSight was c o seen false now = (now.counts ≡ was.counts) × IsFault now.refusal
@@ -152,27 +152,27 @@ RefusesSight refusal was true now = IsTrue (of_layout (refusal_kind refusal))
     × ((h : perf_event_header) → now.counts ≡ plus was.counts (counted ((h, Err (refusal_kind refusal)) ∷ [])))
 RefusesSight refusal was false now = (now.counts ≡ was.counts) × IsFault now.refusal
 
--- What a record adds was summed, where that is the answer; or it was refused with the answer's kind,
--- or for a fault or want of memory.
+-- What a record adds was summed, if the result is a record; otherwise it was refused with the kind
+-- of the result, or for a fault or a failed allocation.
 abbrev pub SumsAnswer : Result RecordValue ErrorKind → Result ℕ Refusal → Type 0
 SumsAnswer says (Ok sum) = (value : RecordValue) × (says ≡ Ok value) × (sum ≡ wrapped (record_sum value))
 SumsAnswer says (Err e) = IsTrue (of_layout (refusal_kind e)) → says ≡ Err (refusal_kind e)
 
 -- ---- what is counted of a stream
 
--- Counted were the first answers of the bytes, and the run ended after those as a run ends that lists
--- as many: after all of them where nothing is left or a header is cut.
+-- The first results of the bytes were counted, and the run ended after them as one that lists as
+-- many: after all of them if nothing is left or a header is cut.
 abbrev pub CountsRun : Configuration → Order → (limit : ℕ) → List ℕ → Counts → RunEnd → List ℕ → Type 0
 CountsRun c o limit bytes counts e left =
     (k : ℕ) × (counts ≡ counted (take k (answers c o bytes))) × EndsWith o limit bytes k e left
 
--- The attribute with which bytes begin, or why there is none. It is opened only where a proof asks for
--- it.
+-- The attribute at the start of the bytes, or why there is none. It is unfolded only if a proof
+-- asks for it.
 unfoldable pub attribute_in : Order → List ℕ → Result perf_event_attr ErrorKind
 attribute_in o bytes = layout o attribute bytes
 
--- The same of a stream: all its bytes under the plain configuration, or those after the attribute with
--- which it begins, under the configuration of that.
+-- The same of a stream: all its bytes under the plain configuration, or those after the attribute
+-- at its start, under the configuration of that.
 abbrev pub CountsStream : (with_attr : Bool) → Order → (limit : ℕ) → List ℕ → Counts → RunEnd → Type 0
 CountsStream false o limit bytes counts e =
     (left : List ℕ) × CountsRun plain o limit bytes counts e left

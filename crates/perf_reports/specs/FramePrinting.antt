@@ -1,4 +1,4 @@
--- What a printer prints of the frames that it is handed.
+-- What a printer prints of the frames that are handed to it.
 use Rattle.std.specs.Prelude.{◌≡◌, ◌&&◌, ℕ, Bool, true, false, List, [], ◌∷◌, ◌++◌, map, take, Option, Some}
 use Rattle.std.specs.Prelude.{IsTrue, Result, Ok, Err, is_ok, string_bytes}
 use Rattle.std.specs.List.{list_all}
@@ -22,67 +22,67 @@ use Rattle.perf_reports.specs.Printing.{printed_answers, error_lines, Grows, Gro
 use Rattle.perf_reports.specs.declared.frame_printer.FramePrinter.{FramePrinter}
 use Rattle.perf_reports.specs.declared.printing.Stopped.{Stopped}
 
--- the header of a frame, and what the frame says
+-- the header of a frame, and its result
 abbrev pub Answered : Type 0
 Answered = perf_event_header × Result RecordValue ErrorKind
 
--- answers whose refusals are seen by their kinds
+-- results with the kinds of their errors
 abbrev pub by_kinds : List (perf_event_header × Result RecordValue ParseError) → List Answered
 by_kinds told = map (λ pair. (pair.0, error_kinds pair.1)) told
 
--- for each refused answer the text of an error of its kind and a line feed were appended, in order
+-- for each refused frame the text of an error of its kind and a line feed were appended, in order
 abbrev pub TellsErrors : (old new : Option (List ℕ)) → List Answered → Type 0
 TellsErrors old new answers =
     (told : List (perf_event_header × Result RecordValue ParseError)) × (by_kinds told ≡ answers)
     × Appends old new (error_lines told)
 
--- whether none of the answers is refused
+-- whether no frame is refused
 abbrev pub all_clean : List Answered → Bool
 all_clean answers = list_all (λ pair. is_ok pair.1) answers
 
--- what a printer has done with answers after which it goes on, where its outputs contain these bytes
+-- what a printer has done after results that did not stop it, if its outputs contain these bytes
 pub record Prints {W E : Type 0} (out : W → Option (List ℕ)) (err : E → Option (List ℕ))
     (was : FramePrinter W E) (answers : List Answered) (now : FramePrinter W E) : Type 0 where
   -- it prints the same report
   pub report : now.report ≡ was.report
-  -- the lines of the answers were written, or are gathered
+  -- the lines of the results were written, or are gathered
   pub grown : Grows (out was.output) (out now.output) (string_bytes was.lines.gathered)
       (string_bytes now.lines.gathered) (printed_answers was.report answers)
-  -- only a beginning of the lines was written
+  -- only a prefix of the lines was written
   pub part : GrowsWithin (out was.output) (out now.output)
       (string_bytes was.lines.gathered ++ printed_answers was.report answers)
   -- the errors were written
   pub told : TellsErrors (err was.errors) (err now.errors) answers
-  -- it is known whether one was refused
+  -- whether one was refused is known
   pub clean : now.clean ≡ (was.clean && all_clean answers)
 
--- the answer of a whole frame
+-- the result of a whole frame
 abbrev pub frame_answer : Configuration → Order → Frame → Answered
 frame_answer c o frame = (frame.header, answer_behind c o frame.header (chunk_bytes frame.rest))
 
--- what a printer has done when it stops at an answer
+-- what a printer has done when it stops at a frame
 pub record StopsAt {W E : Type 0} (out : W → Option (List ℕ)) (err : E → Option (List ℕ))
     (was : FramePrinter W E) (answer : Answered) (why : Stopped) (now : FramePrinter W E)
     : Type 0 where
-  -- only a beginning of the lines was written
+  -- only a prefix of the lines was written
   pub part : GrowsWithin (out was.output) (out now.output)
       (string_bytes was.lines.gathered ++ printed_answers was.report (answer ∷ []))
-  -- if memory was refused, all lines before that were written, and no error
+  -- after a failed allocation all lines before it were written, and no error
   pub refused : IsTrue (is_memory why) → Appends (out was.output) (out now.output)
       (string_bytes was.lines.gathered) × (err now.errors ≡ err was.errors)
 
--- a printer printed an answer, or stopped at it
+-- a printer printed the result of a frame, or stopped at it
 abbrev pub PrintsAnswer : {W E : Type 0} → (W → Option (List ℕ)) → (E → Option (List ℕ)) →
     FramePrinter W E → Answered → Result (Unit {0}) Stopped → FramePrinter W E → Type 0
 PrintsAnswer out err was answer (Ok x) now = Prints out err was (answer ∷ []) now
 PrintsAnswer out err was answer (Err why) now = StopsAt out err was answer why now
 
--- the answer of what a printer is handed
+-- the result of what a printer is handed
 abbrev pub sight_pair : Configuration → Order → Sight → Answered
 sight_pair c o seen = (sight_header seen, sight_answer c o seen)
 
--- A printer was handed a frame, and returned whether the run goes on. If it does, the frame was
--- printed, once; if not, it is kept why the printer stopped there.
+-- A printer was handed a frame, and returned whether the run goes on. If so, the frame was printed,
+-- once; if not, the printer keeps why it stopped there.
 abbrev pub PrintsSight : {W E : Type 0} → (W → Option (List ℕ)) → (E → Option (List ℕ)) →
     FramePrinter W E → Configuration → Order → Sight → Bool → FramePrinter W E → Type 0
 PrintsSight out err was c o seen true now =
@@ -91,11 +91,11 @@ PrintsSight out err was c o seen false now =
     (why : Stopped) × (now.stopped ≡ Some why)
     × StopsAt out err was (sight_pair c o seen) why now
 
--- what the frames say that a parser has not read yet
+-- the results of the frames that a parser has not read yet
 abbrev pub answers_of : Meaning → List Answered
 answers_of m = answers m.settings m.order m.source.left
 
--- Of the first k answers all lines and all errors were written, after the lines that were gathered.
+-- All lines and errors of the first k results were written, after the lines that were gathered.
 abbrev pub PrintsFirst : {W E : Type 0} → (W → Option (List ℕ)) → (E → Option (List ℕ)) →
     FramePrinter W E → List Answered → (k : ℕ) → FramePrinter W E → Type 0
 PrintsFirst out err was answers k now =
@@ -103,8 +103,8 @@ PrintsFirst out err was answers k now =
     (string_bytes was.lines.gathered ++ printed_answers was.report (take k answers))
     × TellsErrors (err was.errors) (err now.errors) (take k answers)
 
--- A run printed the first answers of what a parser has not read yet, and all their lines were written:
--- how it ended, and what it left.
+-- A run printed the first results of what a parser has not read yet, and all their lines were
+-- written: how it ended, and what it left.
 abbrev pub PrintsRun : {W E : Type 0} → (W → Option (List ℕ)) → (E → Option (List ℕ)) →
     FramePrinter W E → Meaning → (limit : ℕ) → RunEnd → (left : List ℕ) → FramePrinter W E → Type 0
 PrintsRun out err was old limit e left now =

@@ -1,4 +1,4 @@
--- What is printed of a record, and what has gone out of it.
+-- What is printed of a record, and how much of that was written.
 use Rattle.std.specs.Prelude.{◌≡◌, ℕ, Bool, true, false, List, [], ◌++◌, Option, Some, None, ⊤, codes}
 use Rattle.std.specs.Prelude.{Result, Ok, Err}
 use Rattle.std.specs.List.{flat_map}
@@ -27,7 +27,7 @@ abbrev pub line_in : Report → RecordValue → Option (List ℕ)
 line_in Tasks r = tasks.line_of r
 line_in Samples r = samples.line_of r
 
--- a line with the line feed behind it, or nothing
+-- a line with a line feed after it, or nothing
 abbrev pub with_feed : Option (List ℕ) → List ℕ
 with_feed (Some line) = line ++ codes "\n"
 with_feed None = []
@@ -36,38 +36,38 @@ with_feed None = []
 abbrev pub printed : Report → RecordValue → List ℕ
 printed report r = with_feed (line_in report r)
 
--- what is printed of the answer to a frame: of a refused one nothing
+-- what is printed of the result of a frame: nothing if it was refused
 abbrev pub printed_answer : Report → perf_event_header × Result RecordValue ErrorKind → List ℕ
 printed_answer report (header, Ok r) = printed report r
 printed_answer report (header, Err e) = []
 
--- what is printed of answers, in order
+-- what is printed of results, in order
 abbrev pub printed_answers : Report → List (perf_event_header × Result RecordValue ErrorKind) → List ℕ
 printed_answers report answers = flat_map (printed_answer report) answers
 
--- known bytes that went out, and those that wait behind them, grew by a text
+-- known bytes that were written, and those that wait to be written after them, grew by a text
 abbrev pub Grows : (old new : Option (List ℕ)) (waited waits text : List ℕ) → Type 0
 Grows None new waited waits text = ⊤
 Grows (Some xs) None waited waits text = ⊥
 Grows (Some xs) (Some ys) waited waits text = ys ++ waits ≡ xs ++ (waited ++ text)
 
--- known bytes grew by a beginning of a text, and the rest of that text is left
+-- known bytes grew by a prefix of a text, and the rest of that text is left
 abbrev pub GrowsWithin : (old new : Option (List ℕ)) (text : List ℕ) → Type 0
 GrowsWithin old new text =
     (written : List ℕ) × (left : List ℕ) × (written ++ left ≡ text) × Appends old new written
 
 -- ---- errors
 
--- what is printed to the errors of the answer to a frame: of a refused one its text and a line feed
+-- the error that is printed for the result of a frame: if it was refused its text and a line feed
 abbrev pub error_line : perf_event_header × Result RecordValue ParseError → List ℕ
 error_line (header, Ok r) = []
 error_line (header, Err e) = error_text e ++ codes "\n"
 
--- the same of answers, in order
+-- the same of results, in order
 abbrev pub error_lines : List (perf_event_header × Result RecordValue ParseError) → List ℕ
 error_lines answers = flat_map error_line answers
 
--- whether printing stopped because memory was refused
+-- whether printing stopped because memory ran out
 abbrev pub is_memory : Stopped → Bool
 is_memory (Memory e) = true
 is_memory (Frame e) = true

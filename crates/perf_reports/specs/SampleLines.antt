@@ -1,4 +1,4 @@
--- The lines that the program prints, without the line feeds behind them.
+-- The lines that the program prints, without line feeds.
 use Rattle.std.specs.Prelude.{ℕ, false, List, ◌++◌, ◌==◌, if◌then◌else◌, Option, Some, None}
 use Rattle.std.specs.Prelude.{codes, decimal}
 use Rattle.std.specs.Fmt.{digits}
@@ -24,34 +24,34 @@ hex_word None = codes "-"
 
 -- ---- a call chain
 
--- -128, in front of addresses of the kernel
+-- -128, before addresses of the kernel
 abbrev pub context_kernel : ℕ
 context_kernel = 18446744073709551488
 
--- -512, in front of addresses of the program
+-- -512, before addresses of the program
 abbrev pub context_user : ℕ
 context_user = 18446744073709551104
 
--- an address, or whose addresses follow, with a space in front
+-- an address, or whose addresses follow, with a space before it
 abbrev pub entry : ℕ → List ℕ
 entry n =
     if n == context_kernel then codes " kernel"
     else (if n == context_user then codes " user" else codes " " ++ hex n)
 
--- what stands in a call chain, if there is one
+-- the entries of a call chain, if there is one
 abbrev pub chain : Option (List ℕ) → List ℕ
 chain (Some entries) = flat_map entry entries
 chain None = codes " -"
 
 -- ---- lines
 
--- when it was, on which processor, and in which process and thread
+-- the time, the CPU, the process and the thread
 abbrev pub moment : Getters → List ℕ
 moment g =
     decimal_word g.time ++ (codes " " ++ (decimal_word g.cpu
     ++ (codes " " ++ (decimal_word g.pid ++ (codes "/" ++ decimal_word g.tid)))))
 
--- how many events it stands for, which address was wanted, and where the code was
+-- how many events it stands for, the address that was accessed, and that of the code
 abbrev pub event : Getters → List ℕ
 event g =
     decimal_word g.period ++ (codes " " ++ (hex_word g.addr

@@ -1,4 +1,4 @@
--- The lines that the program prints, without the line feeds behind them.
+-- The lines that the program prints, without line feeds.
 use Rattle.std.specs.Prelude.{◌≡◌, ◌≤◌, ℕ, zero, suc, false, Bool, not, ◌&&◌, List, [], ◌∷◌, ◌++◌, ◌/◌, ◌%◌, ◌==◌}
 use Rattle.std.specs.Prelude.{nat_le, if◌then◌else◌, length, take, drop, Option, Some, None, codes, decimal}
 use Rattle.std.specs.Prelude.{bit_and, encode_utf8}
@@ -27,13 +27,13 @@ spaced words = join_with_byte 32 words
 abbrev pub hex : ℕ → List ℕ
 hex n = codes "0x" ++ digits 16 false n
 
--- a letter where a bit is set in a word, and where it is not
+-- one letter if a bit is set in a word, and another if it is not
 abbrev pub letter : (word bit : ℕ) (set unset : List ℕ) → List ℕ
 letter word bit set unset = if bit_and word bit == 0 then unset else set
 
 -- ---- parts of a mapping
 
--- where it lies in memory, its length, and where it begins in the file
+-- its address, its length, and its offset in the file
 abbrev pub place : (addr len pgoff : ℕ) → List ℕ
 place addr len pgoff = spaced (hex addr ∷ hex len ∷ hex pgoff ∷ [])
 
@@ -52,7 +52,7 @@ abbrev pub inode : (maj min ino generation : ℕ) → List ℕ
 inode maj min ino generation =
     spaced ((hex maj ++ (codes ":" ++ hex min)) ∷ decimal ino ∷ decimal generation ∷ [])
 
--- which file was mapped: its inode, or the digits of its build id
+-- the file of a mapping: its inode, or the digits of its build id
 abbrev pub file : DetailValue → List ℕ
 file (inode_is maj min ino generation) = inode maj min ino generation
 file (build_id_is id) = flat_map hex_byte id
@@ -80,7 +80,7 @@ escaped_char c = if stays c then encode_utf8 c else flat_map escaped_byte (encod
 abbrev pub escaped_text : List ℕ → List ℕ
 escaped_text text = flat_map escaped_char (chars text)
 
--- the longest part at the front of some bytes that is UTF-8
+-- the longest valid UTF-8 at the start of some bytes
 abbrev pub text_in_front : List ℕ → List ℕ
 text_in_front bytes = take (utf8_valid_len bytes) bytes
 
@@ -89,7 +89,7 @@ abbrev pub invalid_after : List ℕ → List ℕ
 invalid_after bytes =
     let left = drop (utf8_valid_len bytes) bytes in take (utf8_invalid_len left) left
 
--- `escaped`, of at most so many parts with the invalid bytes after each
+-- `escaped`, of at most n parts with the invalid bytes after each
 abbrev pub escaped_within : ℕ → List ℕ → List ℕ
 escaped_within zero bytes = []
 escaped_within (suc most) bytes =
@@ -107,37 +107,37 @@ HasNoControl line = All (λ byte. (32 ≤ byte) × ¬ (byte ≡ 127)) line
 
 -- ---- lines
 
--- what it tells of, which task, and what it says
+-- the kind of the line, the task, and the rest of the line
 abbrev pub line : (what : List ℕ) (pid tid : ℕ) (says : List ℕ) → List ℕ
 line what pid tid says = spaced (what ∷ decimal pid ∷ decimal tid ∷ says ∷ [])
 
--- a task got a name
+-- the new name of a task
 abbrev pub comm_line : CommValue → List ℕ
 comm_line r = line (codes "comm") r.pid r.tid (escaped r.comm)
 
--- something was mapped: where it lies, and its name
+-- a mapping: its address, and its name
 abbrev pub mmap_line : MmapValue → List ℕ
 mmap_line r =
     line (codes "mmap") r.pid r.tid
     (spaced (place r.addr r.len r.pgoff ∷ escaped r.filename ∷ []))
 
--- the same, with which file it is and how its memory may be used
+-- the same, with its file and how its memory may be used
 abbrev pub mmap2_line : Mmap2Value → List ℕ
 mmap2_line r =
     line (codes "mmap2") r.pid r.tid
     (spaced (place r.addr r.len r.pgoff ∷ file r.detail ∷ protection r.prot r.flags
     ∷ escaped r.filename ∷ []))
 
--- a task that was made or that ended, and the one that made it or its parent
+-- the start or the end of a task, and the task that made it or its parent
 abbrev pub task_line : List ℕ → Exit → List ℕ
 task_line what r = line what r.pid r.tid (spaced (decimal r.ppid ∷ decimal r.ptid ∷ []))
 
--- the namespaces of a task, with a comma between each two
+-- the namespaces of a task, separated by commas
 abbrev pub namespaces_line : NamespacesValue → List ℕ
 namespaces_line r =
     line (codes "namespaces") r.pid r.tid (join_by namespace (codes ",") r.namespaces)
 
--- the line of a record that tells of a task
+-- the line of a record about a task
 abbrev pub line_of : RecordValue → Option (List ℕ)
 line_of (comm_is r) = Some (comm_line r)
 line_of (mmap_is r) = Some (mmap_line r)

@@ -1,4 +1,4 @@
-//! Words of a line, written backward: each in front of the one behind it, in an array.
+//! Words of a line, written backward into an array: each before the one after it.
 
 ghost use Rattle.std.specs.Prelude.{◌≡◌, ◌+◌, ◌-◌, ◌/◌, ◌%◌, ◌*◌, ◌<◌, ◌≤◌, ◌∷◌, ◌++◌, length, drop, false};
 ghost use Rattle.std.specs.Prelude.{decimal, string_bytes, OnOk, IsUtf8};
@@ -7,14 +7,14 @@ ghost use Rattle.perf_reports.specs.SampleLines.{hex, decimal_word, hex_word};
 
 use std::alloc::AllocError;
 
-// How many bytes the array has.
+// The length of the array.
 pub(crate) const ROOM: usize = 320;
 
 // The two digits of each byte.
 static PAIRS: [u8; 512] =
     *b"000102030405060708090a0b0c0d0e0f101112131415161718191a1b1c1d1e1f202122232425262728292a2b2c2d2e2f303132333435363738393a3b3c3d3e3f404142434445464748494a4b4c4d4e4f505152535455565758595a5b5c5d5e5f606162636465666768696a6b6c6d6e6f707172737475767778797a7b7c7d7e7f808182838485868788898a8b8c8d8e8f909192939495969798999a9b9c9d9e9fa0a1a2a3a4a5a6a7a8a9aaabacadaeafb0b1b2b3b4b5b6b7b8b9babbbcbdbebfc0c1c2c3c4c5c6c7c8c9cacbcccdcecfd0d1d2d3d4d5d6d7d8d9dadbdcdddedfe0e1e2e3e4e5e6e7e8e9eaebecedeeeff0f1f2f3f4f5f6f7f8f9fafbfcfdfeff";
 
-// Writes a word in front of what begins at `end`, and answers where it begins.
+// Writes a word before `end`, and returns where it begins.
 #[inline(always)]
 pub(crate) fn put_str(buffer: &mut [u8; ROOM], end: usize, word: &str) -> usize
     requires { (length word.now ≤ end) × (end ≤ ROOM) }
@@ -38,7 +38,7 @@ pub(crate) fn put_decimal(buffer: &mut [u8; ROOM], end: usize, number: u64) -> u
     itoa::write_digits(number, buffer, end)
 }
 
-// A number in hexadecimal, with `0x` in front of its digits.
+// A number in hexadecimal, with `0x` before its digits.
 #[inline]
 pub(crate) fn put_hex(buffer: &mut [u8; ROOM], end: usize, number: u64) -> usize
     requires { (18 ≤ end) × (end ≤ ROOM) }

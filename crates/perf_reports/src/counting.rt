@@ -20,8 +20,8 @@ use perf_event_data::{BadFrame, Frame, FrameHandler, RunEnd};
 use perf_sample_types::sample::{Sample, empty_sample, least_len};
 use std::alloc::Global;
 
-/// Counts the frames that it is handed. If memory is refused for one, it ends the run and does not
-/// count that frame.
+/// Counts the frames that a run hands to it. If memory runs out for one, it ends the run and does
+/// not count that frame.
 #[derive(Drop)]
 pub(crate) struct FrameCounter<'p> {
     alloc: Global,
@@ -29,12 +29,12 @@ pub(crate) struct FrameCounter<'p> {
     counts: Counts,
     // Why it ended the run, if it did.
     refusal: Option<Refusal>,
-    // Where samples are read.
+    // The place that samples are read into.
     sample: Sample<'p>,
 }
 
 impl<'p> FrameCounter<'p> {
-    /// It has counted nothing.
+    /// A counter that has counted nothing.
     pub(crate) fn new(alloc: Global) -> FrameCounter<'p>
         ensures { result.counts ≡ counted [] }
     {
@@ -46,14 +46,14 @@ impl<'p> FrameCounter<'p> {
         }
     }
 
-    /// What was counted.
+    /// The counts so far.
     pub(crate) fn counts(&self) -> Counts
         ensures { result ≡ self.now.counts }
     {
         self.counts
     }
 
-    /// How the run ended, if it was ended here.
+    /// How the run ended, if the counter ended it.
     pub(crate) fn end(&self) -> RunEnd
         ensures { EndsBy self.now.refusal result }
     {
@@ -63,7 +63,7 @@ impl<'p> FrameCounter<'p> {
         }
     }
 
-    // Counts a frame that was refused. A fault and want of memory end the run instead.
+    // Counts a frame that was refused. A fault or a failed allocation ends the run instead.
     #[inline]
     fn refuse(&mut self, refusal: Refusal) -> bool
         ensures { RefusesSight refusal self.old result self.new }
@@ -84,7 +84,8 @@ impl<'p> FrameCounter<'p> {
     }
 }
 
-// Whether a frame is a sample that has fewer bytes than its fields take at least, so that it is refused.
+// Whether a frame is a sample with fewer bytes than its fields take at least, so that it is
+// refused.
 #[inline]
 fn is_short_sample<E: Endian>(config: &ParseConfig<E>, frame: &Frame<'_, '_>) -> bool
     ensures { result ≡ true → IsRefused (answer_behind (configuration_of config.now)
@@ -93,8 +94,8 @@ fn is_short_sample<E: Endian>(config: &ParseConfig<E>, frame: &Frame<'_, '_>) ->
     frame.header().type_ == PERF_RECORD_SAMPLE && frame.rest().len() < least_len(config)
 }
 
-// What the record of a frame adds to the checksum. A record of a type that the kernel does not have adds
-// nothing, and is not read.
+// What the record of a frame adds to the checksum. A record of a type that the kernel does not have
+// adds nothing, and is not read.
 #[inline]
 fn frame_sum<'p, E: Endian>(
     alloc: Global,
@@ -111,7 +112,7 @@ fn frame_sum<'p, E: Endian>(
     frame.read(alloc, config, Sum, place).0
 }
 
-// The same of a record of such a type.
+// What the record of a frame adds, if its type is one of the kernel's.
 #[inline]
 fn unknown_sum<E: Endian>(
     alloc: Global,

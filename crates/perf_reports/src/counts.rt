@@ -1,4 +1,4 @@
-//! What is counted of frames.
+//! Counts of frames.
 
 ghost use Rattle.std.specs.Prelude.{◌≡◌, [], ◌∷◌, Ok, Err};
 ghost use Rattle.perf_base.specs.declared.error.ErrorKind.{ErrorKind};
@@ -7,26 +7,26 @@ ghost use Rattle.perf_reports.specs.Counting.{plus, counted, wrapped, record_sum
 
 use perf_event_data::sys::perf_event_header;
 
-/// What is counted of frames, each number modulo 2^64.
+/// Counts of frames, each modulo 2^64.
 #[derive(Copy, Clone, Debug, PartialEq, Eq)]
 pub struct Counts {
-    /// How many frames there are.
+    /// The number of frames.
     pub records: u64,
-    /// How many of them were refused.
+    /// The number of refused frames.
     pub refused: u64,
-    /// The sum of what the others add.
+    /// The sum of what the frames that were not refused add.
     pub checksum: u64,
 }
 
 impl Counts {
-    /// What is counted of no frame.
+    /// The counts of no frames.
     pub const NONE: Counts = Counts {
         records: 0,
         refused: 0,
         checksum: 0,
     };
 
-    // Counts one more frame, whose record adds that to the checksum.
+    // Counts one more frame, whose record adds `sum` to the checksum.
     #[inline]
     pub(crate) fn add_record(&mut self, header: perf_event_header, sum: u64)
         ensures { (value : RecordValue) → sum ≡ wrapped (record_sum value) →

@@ -25,8 +25,8 @@ use perf_sample_types::sample::empty_sample;
 use std::alloc::Global;
 use std::io::Write;
 
-/// Prints what a report tells of the frames that it is handed, and to another output why frames were
-/// refused. It ends the run if an output fails or memory is refused.
+/// Prints the lines of a report for the frames that a run hands to it, and the errors of refused
+/// frames to another output. It ends the run if an output fails or memory runs out.
 #[derive(Drop)]
 pub(crate) struct FramePrinter<W, E> {
     alloc: Global,
@@ -42,7 +42,7 @@ pub(crate) struct FramePrinter<W, E> {
 }
 
 impl<W: Write, E: Write> FramePrinter<W, E> {
-    /// It has printed nothing.
+    /// A printer that has printed nothing.
     pub(crate) fn new(alloc: Global, output: W, errors: E, report: Report) -> FramePrinter<W, E>
         ensures lines { string_bytes result.lines.gathered ≡ [] }
         ensures outputs { (result.output ≡ output) × (result.errors ≡ errors) }
@@ -81,7 +81,7 @@ impl<W: Write, E: Write> FramePrinter<W, E> {
         self.lines.send(&mut self.output)
     }
 
-    /// How the run ended, if it was ended here: by what stopped it.
+    /// How the run ended, if the printer ended it: what stopped it.
     pub(crate) fn end(&mut self) -> Result<RunEnd, Stopped>
         ensures stopped { (why : Stopped) → self.old.stopped ≡ Some why → (result ≡ Err why)
             × (self.new.output ≡ self.old.output) × (self.new.errors ≡ self.old.errors) }
@@ -110,8 +110,8 @@ impl<W: Write, E: Write> FramePrinter<W, E> {
         }
     }
 
-    // Prints why the record of a frame was refused. If memory was, printing stops after the lines before
-    // it.
+    // Prints why the record of a frame was refused. After a fault or a failed allocation printing
+    // stops, and the lines before it are written.
     #[cold]
     #[inline(never)]
     fn refuse(&mut self, refusal: Refusal) -> Result<(), Stopped>
@@ -131,8 +131,8 @@ impl<W: Write, E: Write> FramePrinter<W, E> {
         }
     }
 
-    // Prints what is told of a sample, without a box for it. It is not inlined, so that only a sample
-    // pays for its place, which is large.
+    // Prints the line of a sample without a box for it. It is not inlined, so that only samples pay
+    // for the space of one, which is large.
     #[inline(never)]
     fn print_sample<O: Endian>(
         &mut self,
@@ -155,7 +155,7 @@ impl<W: Write, E: Write> FramePrinter<W, E> {
         }
     }
 
-    // Prints what is told of a frame that is no sample.
+    // Prints the line of a frame that is not a sample.
     #[inline(never)]
     fn print_record<O: Endian>(
         &mut self,
@@ -176,7 +176,7 @@ impl<W: Write, E: Write> FramePrinter<W, E> {
         }
     }
 
-    // Prints what is told of a whole frame.
+    // Prints the line of a whole frame.
     #[inline]
     fn print_frame<O: Endian>(
         &mut self,
@@ -194,7 +194,7 @@ impl<W: Write, E: Write> FramePrinter<W, E> {
         }
     }
 
-    // Prints what is told of a frame, or why it is none.
+    // Prints the line of a frame, or why it was refused.
     #[inline]
     fn print<O: Endian>(
         &mut self,

@@ -1,6 +1,6 @@
-//! What the small programs beside `perfrec` say of records: a line of each that tells of a task
-//! (`tasks`), a line of each sample (`samples`), either of a whole recording (`printing`), and counts
-//! of frames (`counts`, `streams`).
+//! What the small programs beside `perfrec` print of records: a line for each record about a task
+//! (`tasks`), a line for each sample (`samples`), either of them for a whole recording
+//! (`printing`), and counts of frames (`counts`, `streams`).
 #![tactic(auto)]
 
 mod backward;

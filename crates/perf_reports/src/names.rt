@@ -1,4 +1,4 @@
-//! The name in a line that tells of a task.
+//! The name in a line about a task.
 
 ghost use Rattle.std.specs.Prelude.{◌≡◌, ◌++◌, ◌&&◌, string_bytes, OnOk};
 ghost use Rattle.std.specs.Char.{is_ascii};
@@ -9,8 +9,8 @@ use crate::backward::{ROOM, push_written, put_str};
 use crate::tasks::put_hex_byte;
 use std::alloc::AllocError;
 
-// Appends the bytes of a name as text. Each byte of a control character or a backslash, and each byte
-// that is not part of UTF-8, is escaped.
+// Appends the bytes of a name as text. Each byte of a control character or a backslash, and each
+// byte that is not part of UTF-8, is escaped.
 pub(crate) fn push_name(text: &mut String, bytes: &[u8]) -> Result<(), AllocError>
     ensures { OnOk result (string_bytes text.new
         ≡ string_bytes text.old ++ printed.escaped bytes.now) }

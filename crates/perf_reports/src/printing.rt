@@ -1,4 +1,4 @@
-//! Lines of a recording: one for each record that a report tells of.
+//! Lines of a recording: one for each record that a report covers.
 
 ghost use Rattle.std.specs.Prelude.{◌≡◌, ◌≤◌, ◌⊎◌, ◌++◌, ℕ, false, IsTrue, [], take, length, string_bytes};
 ghost use Rattle.std.specs.Prelude.{OnOk, IfOk, IfErr, if◌then◌else◌};
@@ -21,25 +21,25 @@ use std::error::Error;
 use std::io::{BufReader, Read, Write};
 use std::{fmt, io};
 
-// How many frames are read before all lines go out.
+// How many frames are read before all lines are written.
 const BATCH: usize = 256;
 
-// How many bytes of lines go out together, at most. Only a line that is longer goes out alone. A pipe
-// keeps a write of so many bytes in one piece (`PIPE_BUF`).
+// The maximum number of bytes of lines that are written together. Only a longer line is written
+// alone. A pipe keeps a write of this size in one piece (`PIPE_BUF`).
 const GATHERED: usize = 4096;
 
-/// What is told of a recording.
+/// What is printed of a recording.
 #[derive(Copy, Clone, Debug)]
 pub enum Report {
-    /// A line of each record that tells of a task ([`tasks::line_of`]).
+    /// A line for each record about a task ([`tasks::line_of`]).
     Tasks,
-    /// A line of each sample ([`samples::line_of`]).
+    /// A line for each sample ([`samples::line_of`]).
     Samples,
 }
 
 impl Report {
-    // Appends the line of what was found and a line feed after it. Of what it does not tell of it
-    // appends nothing.
+    // Appends the line of what was found and a line feed. Appends nothing if it has no line in this
+    // report.
     fn push_line(self, text: &mut String, found: Found<'_, '_>) -> Result<(), AllocError>
         ensures { OnOk result (string_bytes text.new
             ≡ string_bytes text.old ++ printed self (found_value found.entry)) }
@@ -65,16 +65,16 @@ impl Report {
 pub(crate) enum Found<'a, 'p> {
     // Its record.
     Record(&'a Record<'p>),
-    // Its sample, which is in no record.
+    // Its sample, which is not in a record.
     Sample(&'a Sample<'p>),
 }
 
-// Why no more could be printed.
+// Why printing stopped.
 #[derive(Debug, Drop)]
 pub(crate) enum Stopped {
-    // Memory was refused for a line.
+    // There was no memory for a line.
     Memory(AllocError),
-    // Memory was refused for the record of a frame. It is kept without its error, which is large.
+    // There was no memory for the record of a frame. Kept without its error, which is large.
     Frame(Refusal),
     // An output failed.
     Output(io::Error),
@@ -103,14 +103,14 @@ impl From<io::Error> for Stopped {
 // Lines on their way to the output.
 #[derive(Drop)]
 pub(crate) struct Lines {
-    // Lines that have not gone out yet.
+    // Lines that have not been written yet.
     gathered: String,
-    // Where the next line is made.
+    // The buffer that the next line is made in.
     next: String,
 }
 
 impl Lines {
-    // No line.
+    // No lines.
     pub(crate) fn new(alloc: Global) -> Lines
         ensures { string_bytes result.gathered ≡ [] }
     {
@@ -120,8 +120,8 @@ impl Lines {
         }
     }
 
-    // Makes the line of what was found, if it has one, and gathers it. The lines before it go out first
-    // if memory is refused, or if they would be too many with it.
+    // Makes the line of what was found, if it has one, and gathers it. The lines before it are
+    // written first if memory runs out, or if they would be too many with it.
     pub(crate) fn add<W: Write>(
         &mut self,
         output: &mut W,
@@ -146,8 +146,8 @@ impl Lines {
         }
     }
 
-    // Gathers the next line. The lines before it go out first if they would be too many with it, or if
-    // memory is refused; then it goes out by itself.
+    // Gathers the next line. The lines before it are written first if they would be too many with
+    // it, or if memory runs out; in the latter case it is written by itself.
     fn gather<W: Write>(&mut self, output: &mut W) -> Result<(), Stopped>
         ensures grown { OnOk result (Grows (W.contents output.old) (W.contents output.new)
             (string_bytes self.old.gathered) (string_bytes self.new.gathered)
@@ -168,8 +168,8 @@ impl Lines {
         Ok(())
     }
 
-    // Gathers the next line if that makes the lines neither too many nor needs memory that is refused,
-    // and returns whether it did.
+    // Gathers the next line unless the lines become too many or memory runs out, and returns
+    // whether it did.
     fn takes_next(&mut self) -> bool
         ensures taken { IsTrue result →
             string_bytes self.new.gathered ≡ string_bytes self.old.gathered ++ string_bytes self.old.next }
@@ -184,8 +184,8 @@ impl Lines {
         self.gathered.push_str(self.next.as_str()).is_ok()
     }
 
-    // Sends the lines that were gathered, and returns why printing stops: as it is passed, or because
-    // sending failed.
+    // Writes the lines that were gathered, and returns why printing stops: `why`, or the error of
+    // that write.
     pub(crate) fn stop<W: Write>(&mut self, output: &mut W, why: Stopped) -> Stopped
         ensures part { (n : ℕ) × Appends (W.contents output.old) (W.contents output.new)
             (take n (string_bytes self.old.gathered)) }
@@ -198,7 +198,7 @@ impl Lines {
         }
     }
 
-    // Sends the lines that were gathered.
+    // Writes the lines that were gathered.
     pub(crate) fn send<W: Write>(&mut self, output: &mut W) -> Result<(), Stopped>
         ensures sent { OnOk result (Appends (W.contents output.old) (W.contents output.new)
             (string_bytes self.old.gathered)) }
@@ -214,14 +214,14 @@ impl Lines {
     }
 }
 
-/// Prints what a report tells of a recording, and to `errors` why records were refused. A recording
-/// is an attribute and the records behind it, in little endian. The answer is whether no record was
-/// refused. It is an error where the attribute is refused, the input cannot be read or ends inside a
-/// header, an output fails, or memory is refused; what was printed until then stays printed.
+/// Prints the lines of a recording that a report covers, and to `errors` why records were refused.
+/// A recording is an attribute and the records after it, in little endian. Returns whether no
+/// record was refused. It is an error if the attribute is refused, the input cannot be read or ends
+/// inside a header, an output fails, or memory runs out; what was printed before stays printed.
 ///
-/// Lines go to the output together, up to 4,096 bytes of whole lines in a write, and a longer line by
-/// itself. After each 256 frames, before the next one is read, before an error is printed and before
-/// this returns, unless the output fails, all lines are out.
+/// Lines are written together, up to 4,096 bytes of whole lines at a time, and a longer line by
+/// itself. All lines are written after each 256 frames, before the next frame is read, before an
+/// error is printed, and before this returns, unless the output fails.
 pub fn print_recording<R: Read + Drop, W: Write, E: Write>(
     alloc: Global,
     input: R,
@@ -237,7 +237,7 @@ pub fn print_recording<R: Read + Drop, W: Write, E: Write>(
     print_records(&mut parser, &mut printer)
 }
 
-// Prints the records that a parser reads to the end of its buffer, and returns whether none was
+// Prints the records that a parser reads up to the end of its buffer, and returns whether none was
 // refused.
 fn print_records<'p, B: ParseBuf<'p>, O: Endian, W: Write, E: Write>(
     parser: &mut Parser<B, O>,
@@ -256,8 +256,8 @@ fn print_records<'p, B: ParseBuf<'p>, O: Endian, W: Write, E: Write>(
     Ok(printer.is_clean())
 }
 
-// Prints the next frames, at most `BATCH`, and returns how the run ended. Then all their lines are
-// written.
+// Prints the next frames, at most `BATCH`, and returns how the run ended. All their lines are
+// written then.
 fn print_frames<'p, B: ParseBuf<'p>, O: Endian, W: Write, E: Write>(
     parser: &mut Parser<B, O>,
     printer: &mut FramePrinter<W, E>,
@@ -285,8 +285,8 @@ fn print_frames<'p, B: ParseBuf<'p>, O: Endian, W: Write, E: Write>(
     }
 }
 
-// Whether frames may follow the last one that a run read. It is an error if the run could not go on, or
-// if the input ends inside a header.
+// Whether frames may follow the last one that a run read. It is an error if the run could not go
+// on, or if the input ends inside a header.
 fn goes_on(end: RunEnd) -> Result<bool>
     ensures { IfOk result (λ more. end ≡ (if more then RunEnd.Limit else RunEnd.Done)) }
 {
@@ -298,7 +298,7 @@ fn goes_on(end: RunEnd) -> Result<bool>
     }
 }
 
-// Writes bytes to their end. If that fails, a beginning of them was written.
+// Writes all bytes. If that fails, a prefix of them was written.
 fn write_whole<W: Write>(output: &mut W, bytes: &[u8]) -> io::Result<()>
     ensures whole { OnOk result (Appends (W.contents output.old) (W.contents output.new)
         bytes.now) }

@@ -1,4 +1,4 @@
-//! What a record adds to the checksum, out of its body.
+//! What a record adds to the checksum, from its body.
 
 ghost use Rattle.std.specs.Prelude.{◌≡◌, ◌≤◌, ◌+◌, ⊤, true, false, length};
 ghost use Rattle.perf_records.specs.Words.{Call, VisitsAll, VisitsType, MetadataValue, kinds, body};
@@ -23,9 +23,9 @@ use perf_records::body_reader::{BodyReader, ByVisitor, IntoSample, OfBody};
 use perf_sample_types::sample::{empty_sample, fill_sample};
 use std::alloc::Global;
 
-/// What a record adds to the checksum. A sample whose bytes last is read into a place that is kept for
-/// the next, so that none is made for each; of all others nothing is kept, so that no byte string is
-/// copied.
+/// What a record adds to the checksum. A sample that borrows from the input is read into a place
+/// that is kept for the next, so that none is made for each. Nothing is kept of any other record,
+/// so that no byte string is copied.
 #[derive(Drop)]
 pub(crate) struct Sum;
 
@@ -61,7 +61,7 @@ impl<'p> BodyReader<'p, Sample<'p>> for Sum {
     }
 }
 
-// What a sample adds that is read into the place of another, and how many elementary reads that took.
+// What a sample adds that is read into the place of another, and the number of elementary reads.
 #[inline]
 fn read_kept<'p, E: Endian>(
     alloc: Global,
@@ -89,7 +89,7 @@ fn read_kept<'p, E: Endian>(
     }
 }
 
-// The same of a sample whose bytes do not last.
+// The same of a sample whose bytes are not borrowed from the input.
 #[inline]
 fn read_sample<E: Endian>(
     alloc: Global,
@@ -108,7 +108,7 @@ fn read_sample<E: Endian>(
     (sum, reader.into_reads())
 }
 
-// What the sample adds that is read next. It is large, and so it stays where it is read.
+// What the next sample adds. A sample is large, and so it stays where it is read.
 #[inline]
 fn next_sample<'p, I: Input<'p>, E: Endian>(reader: &mut Reader<I, E>) -> ReadResult<u64>
     ensures { (m : MetadataValue) → Call I.source E.order (VisitsType Adds m RecordType.Sample)
@@ -121,7 +121,7 @@ fn next_sample<'p, I: Input<'p>, E: Endian>(reader: &mut Reader<I, E>) -> ReadRe
     }
 }
 
-// Makes of a record what it adds to the checksum.
+// Turns a record into what it adds to the checksum.
 #[derive(Copy, Clone)]
 struct SumVisitor;
 

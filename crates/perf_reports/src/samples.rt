@@ -11,21 +11,21 @@ use crate::backward::{ROOM, push_written, put_decimal_word, put_hex, put_hex_wor
 use perf_event_data::{Record, Sample};
 use std::alloc::{AllocError, Global};
 
-// In a call chain, in front of addresses of the kernel: -128 (`PERF_CONTEXT_KERNEL`).
+// In a call chain, before addresses of the kernel: -128 (`PERF_CONTEXT_KERNEL`).
 const CONTEXT_KERNEL: u64 = u64::MAX - 127;
 
-// In front of addresses of the program: -512 (`PERF_CONTEXT_USER`). All numbers from -4095 on
-// (`PERF_CONTEXT_MAX`) say whose addresses follow, and are none.
+// Before addresses of the program: -512 (`PERF_CONTEXT_USER`). All numbers from -4095 on
+// (`PERF_CONTEXT_MAX`) specify whose addresses follow, and are no addresses.
 const CONTEXT_USER: u64 = u64::MAX - 511;
 
-// How many bytes an entry of it takes at most.
+// The maximum length of an entry of a call chain.
 const ENTRY: usize = 19;
 
 // How many entries are written at a time.
 const ENTRIES: usize = 16;
 
-/// The line of a record that is a sample, without the line feed behind it. Other records have none,
-/// and take no memory.
+/// The line of a record that is a sample, without a line feed. Other records have no line, and need
+/// no memory.
 pub fn line_of(alloc: Global, found: &Record) -> Result<Option<String>, AllocError>
     ensures line { IfOk result (λ line.
         option_map string_bytes line ≡ printed.line_of (values.record_value found.now)) }
@@ -37,7 +37,7 @@ pub fn line_of(alloc: Global, found: &Record) -> Result<Option<String>, AllocErr
     }
 }
 
-// Appends the line of a record that is a sample, and says whether it is one.
+// Appends the line of a record that is a sample, and returns whether it is one.
 pub(crate) fn push_line(text: &mut String, found: &Record) -> Result<bool, AllocError>
     ensures line { OnOk result (string_bytes text.new
         ≡ string_bytes text.old ++ unwrap_or (printed.line_of (values.record_value found.now)) []) }
@@ -75,7 +75,7 @@ pub(crate) fn push_sample(text: &mut String, sample: &Sample) -> Result<(), Allo
     push_chain(text, &mut buffer, sample.callchain())
 }
 
-// When it was, on which processor, and in which process and thread.
+// When the sample was taken, on which CPU, and in which process and thread.
 fn put_moment(buffer: &mut [u8; ROOM], end: usize, sample: &Sample) -> usize
     requires { (83 ≤ end) × (end ≤ ROOM) }
     ensures start { (result ≤ end) × (end ≤ result + 83) }
@@ -92,7 +92,7 @@ fn put_moment(buffer: &mut [u8; ROOM], end: usize, sample: &Sample) -> usize
     put_decimal_word(buffer, behind_time, sample.time())
 }
 
-// How many events it stands for, which address was wanted, and where the code was.
+// How many events the sample stands for, the address that was accessed, and that of the code.
 fn put_event(buffer: &mut [u8; ROOM], end: usize, sample: &Sample) -> usize
     requires { (59 ≤ end) × (end ≤ ROOM) }
     ensures start { (result ≤ end) × (end ≤ result + 59) }
@@ -108,7 +108,7 @@ fn put_event(buffer: &mut [u8; ROOM], end: usize, sample: &Sample) -> usize
     put_decimal_word(buffer, behind_period, sample.period())
 }
 
-// The same number in more bits.
+// The same number as 64 bits.
 fn wide(number: Option<u32>) -> Option<u64>
     ensures { result ≡ number }
 {
@@ -118,7 +118,7 @@ fn wide(number: Option<u32>) -> Option<u64>
     }
 }
 
-// Appends what stands in a call chain, if there is one.
+// Appends the entries of a call chain, if there is one.
 fn push_chain(
     text: &mut String,
     buffer: &mut [u8; ROOM],
@@ -148,7 +148,7 @@ fn push_entries(
     Ok(())
 }
 
-// Writes entries at the end of the array, and answers where they begin.
+// Writes entries at the end of the array, and returns where they begin.
 fn put_entries(buffer: &mut [u8; ROOM], entries: &[u64]) -> usize
     requires { length entries.now ≤ ENTRIES }
     ensures start { result ≤ ROOM }

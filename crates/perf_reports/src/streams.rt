@@ -15,11 +15,12 @@ use perf_event_data::sys::perf_event_attr;
 use perf_event_data::{RunEnd, each_frame};
 use std::alloc::Global;
 
-/// How many frames are counted, at most: more than any input has.
+/// The limit of a run that counts all frames: more than any input has.
 pub const MOST_FRAMES: usize = usize::MAX;
 
-/// Counts the frames of a stream, and says how it ended. With `with_attr` an attribute comes first,
-/// and its configuration holds for the records after it; if it is refused, nothing is counted.
+/// Counts the frames of a stream, and returns how it ended. With `with_attr` an attribute comes
+/// first, whose configuration applies to the records after it; if it is refused, nothing is
+/// counted.
 pub fn count_stream<'p, B: ParseBuf<'p> + Drop, E: Endian>(
     alloc: Global,
     input: B,
@@ -44,7 +45,7 @@ pub fn count_stream<'p, B: ParseBuf<'p> + Drop, E: Endian>(
     }
 }
 
-// Reads an attribute: the parser of what comes after it, under its configuration and the same order.
+// Reads an attribute, and returns a parser of the rest under its configuration and the same order.
 fn read_attr<'p, B: ParseBuf<'p> + Drop, E: Endian>(
     mut parser: Parser<B, E>,
 ) -> ParseResult<Parser<B, E>>
@@ -75,10 +76,10 @@ fn read_attr<'p, B: ParseBuf<'p> + Drop, E: Endian>(
     Ok(parser.reconfigure(config))
 }
 
-/// Counts the frames that a parser reads until its buffer ends, and says how it ended.
+/// Counts the frames that a parser reads until its buffer ends, and returns how it ended.
 ///
-/// A refused frame is counted, and the next one begins at its end. Only a fault of the buffer and refused
-/// memory end a run early; the frame at which that happens is not counted.
+/// A refused frame is counted, and the next one begins at its end. Only a fault of the buffer or a
+/// failed allocation ends a run early; the frame at which that happens is not counted.
 pub fn count_records<'p, B: ParseBuf<'p>, E: Endian>(
     alloc: Global,
     parser: &mut Parser<B, E>,

@@ -45,7 +45,7 @@ pub(crate) fn comm_sum(comm: &Comm) -> u64
     ])
 }
 
-// A task that was made or that ended.
+// The start or the end of a task.
 pub(crate) fn task_sum(task: &Exit) -> u64
     ensures { result ≡ wrapped (task_sum task.now) }
 {

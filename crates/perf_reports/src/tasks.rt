@@ -1,4 +1,4 @@
-//! The line of a record that tells of a task.
+//! The line of a record about a task.
 
 ghost use Rattle.std.specs.Prelude.{◌≡◌, ◌+◌, ◌-◌, ◌*◌, ◌≤◌, ◌++◌, length, drop, option_map, unwrap_or, is_some};
 ghost use Rattle.std.specs.Prelude.{string_bytes, Some, None, codes, decimal, IfOk, IfSome, IsOk, OnOk, IsUtf8, []};
@@ -23,14 +23,14 @@ const EXECUTE: u32 = 4;
 // `MAP_SHARED`
 const SHARED: u32 = 1;
 
-// How many bytes become digits at a time.
+// How many bytes are turned into digits at a time.
 const BYTES: usize = 128;
 
-/// The line of a record that tells of a task, without the line feed behind it. Other records have
-/// none, and take no memory.
+/// The line of a record about a task, without a line feed. Other records have no line, and need no
+/// memory.
 ///
-/// No name can add a line of its own, or reach a terminal as a command: in a name each byte that is a
-/// control character, a backslash or not part of UTF-8 becomes `\x` and two hexadecimal digits.
+/// No name can add a line of its own, or reach a terminal as a command: in a name each byte that is
+/// a control character, a backslash or not part of UTF-8 becomes `\x` and two hexadecimal digits.
 pub fn line_of(alloc: Global, found: &Record) -> Result<Option<String>, AllocError>
     ensures line { IfOk result (λ line.
         option_map string_bytes line ≡ printed.line_of (values.record_value found.now)) }
@@ -46,7 +46,7 @@ pub fn line_of(alloc: Global, found: &Record) -> Result<Option<String>, AllocErr
     }
 }
 
-// Appends the line of a record that tells of a task, and says whether it does.
+// Appends the line of a record about a task, and returns whether it is one.
 pub(crate) fn push_line(text: &mut String, found: &Record) -> Result<bool, AllocError>
     ensures line { OnOk result (string_bytes text.new
         ≡ string_bytes text.old ++ unwrap_or (printed.line_of (values.record_value found.now)) []) }
@@ -102,7 +102,7 @@ fn push_mmap2(text: &mut String, map: &Mmap2) -> Result<(), AllocError>
     push_name(text, map.filename.as_slice())
 }
 
-// A task that was made or that ended, and the one that made it or its parent.
+// The start or the end of a task, and the task that made it or its parent.
 fn push_task(text: &mut String, what: &str, task: &Exit) -> Result<(), AllocError>
     requires { length what.now ≤ 16 }
     ensures { OnOk result (string_bytes text.new
@@ -133,7 +133,7 @@ fn push_namespaces(text: &mut String, namespaces: &Namespaces) -> Result<(), All
     push_listed(text, &mut buffer, namespaces.namespaces.as_slice())
 }
 
-// Writes what a line tells of, and which task, in front of what it says.
+// Writes the kind of the line and the task before the rest of the line.
 fn put_head(buffer: &mut [u8; ROOM], end: usize, what: &str, pid: u32, tid: u32) -> usize
     requires { (length what.now ≤ 16) × ((59 ≤ end) × (end ≤ ROOM)) }
     ensures start { (result ≤ end) × (end ≤ result + 59) }
@@ -148,7 +148,7 @@ fn put_head(buffer: &mut [u8; ROOM], end: usize, what: &str, pid: u32, tid: u32)
     put_str(buffer, behind_what, what)
 }
 
-// Where a mapping lies in memory, its length, and where it begins in the file.
+// The address of a mapping, its length, and its offset in the file.
 fn put_place(buffer: &mut [u8; ROOM], end: usize, addr: u64, len: u64, pgoff: u64) -> usize
     requires { (56 ≤ end) × (end ≤ ROOM) }
     ensures start { (result ≤ end) × (end ≤ result + 56) }
@@ -163,7 +163,7 @@ fn put_place(buffer: &mut [u8; ROOM], end: usize, addr: u64, len: u64, pgoff: u6
     put_hex(buffer, behind_addr, addr)
 }
 
-// Appends which file was mapped: its inode, or the digits of its build id.
+// Appends the file of a mapping: its inode, or the digits of its build id.
 fn push_file(text: &mut String, buffer: &mut [u8; ROOM], map: &Mmap2) -> Result<(), AllocError>
     ensures { OnOk result (string_bytes text.new
         ≡ string_bytes text.old ++ printed.file (values.mmap2_value map.now).detail) }
@@ -216,7 +216,7 @@ fn push_digits(text: &mut String, buffer: &mut [u8; ROOM], bytes: &[u8]) -> Resu
     Ok(())
 }
 
-// Writes the digits of bytes at the end of the array, and answers where they begin.
+// Writes the digits of bytes at the end of the array, and returns where they begin.
 fn put_bytes(buffer: &mut [u8; ROOM], bytes: &[u8]) -> usize
     requires { length bytes.now ≤ BYTES }
     ensures start { result ≤ ROOM }
@@ -274,7 +274,7 @@ fn put_protection(buffer: &mut [u8; ROOM], end: usize, prot: u32, flags: u32) ->
     put_letter(buffer, write, prot, READ, "r", "-")
 }
 
-// A letter where a bit is set in a word, and where it is not.
+// One letter if a bit is set in a word, and another if it is not.
 fn put_letter(
     buffer: &mut [u8; ROOM],
     end: usize,
@@ -293,7 +293,7 @@ fn put_letter(
     put_str(buffer, end, letter)
 }
 
-// Appends namespaces with a comma between each two.
+// Appends namespaces, separated by commas.
 fn push_listed(
     text: &mut String,
     buffer: &mut [u8; ROOM],
@@ -309,7 +309,7 @@ fn push_listed(
     Ok(())
 }
 
-// Appends the namespaces behind the first.
+// Appends the namespaces after the first.
 fn push_others(
     text: &mut String,
     buffer: &mut [u8; ROOM],

@@ -1,4 +1,4 @@
-//! What a parser is asked for, one thing behind another, and its answers as text.
+//! What a parser is asked for, one thing after another, and the results as text.
 
 use crate::everywhere::{Says, parser_of, say_everywhere};
 use crate::told::{
@@ -17,7 +17,7 @@ use perf_event_data::{
 use std::alloc::{AllocError, Global};
 use std::fmt::Debug;
 
-// A value, or what its refusal says.
+// A value, or its error.
 fn tell_debug<T: Debug + Drop>(
     text: &mut String,
     answer: ParseResult<T>,
@@ -28,8 +28,8 @@ fn tell_debug<T: Debug + Drop>(
     }
 }
 
-// Numbers of a type: one, one under a condition, which holds where the count is not zero, or a list of
-// so many.
+// Numbers of a type: one; one under a condition, which is true if the count is not zero; or a list
+// of `count`.
 fn tell_numbers<'p, B: ParseBuf<'p>, E: Endian, P: Parse<'p, B> + Debug + Drop>(
     text: &mut String,
     parser: &mut Parser<B, E>,
@@ -45,14 +45,14 @@ fn tell_numbers<'p, B: ParseBuf<'p>, E: Endian, P: Parse<'p, B> + Debug + Drop>(
     }
 }
 
-// Bytes, whoever has them.
+// Bytes, borrowed or owned.
 impl Tell for CowSlice<'_, u8> {
     fn tell(&self, text: &mut String) -> Result<(), AllocError> {
         write!(text, "{:?}", self.as_slice())
     }
 }
 
-// How many bytes they are.
+// The number of bytes.
 fn tell_left(text: &mut String, answer: ParseResult<CowSlice<'_, u8>>) -> Result<(), AllocError> {
     match answer {
         Ok(bytes) => write!(text, "{}", bytes.len()),
@@ -60,7 +60,7 @@ fn tell_left(text: &mut String, answer: ParseResult<CowSlice<'_, u8>>) -> Result
     }
 }
 
-// Bytes, and of none whether they are owned.
+// Bytes, without whether they are owned if there are none.
 fn tell_bytes(text: &mut String, answer: ParseResult<CowSlice<'_, u8>>) -> Result<(), AllocError> {
     match answer {
         Ok(CowSlice::Owned(bytes)) if bytes.is_empty() => text.push_str("owned []"),
@@ -68,7 +68,7 @@ fn tell_bytes(text: &mut String, answer: ParseResult<CowSlice<'_, u8>>) -> Resul
     }
 }
 
-// Numbers and a list of them by calls of their own, and as types.
+// Numbers and a list of them, by calls of their own and as types.
 fn tell_simple<'p, B: ParseBuf<'p>, E: Endian>(
     text: &mut String,
     parser: &mut Parser<B, E>,
@@ -101,7 +101,7 @@ fn tell_typed<'p, B: ParseBuf<'p>, E: Endian>(
     }
 }
 
-// Strings of so many, the rest without and with its zero bytes, and how long that is.
+// `count` bytes, the rest without and with its zero bytes, and the length of the rest.
 fn tell_list<'p, B: ParseBuf<'p>, E: Endian>(
     text: &mut String,
     parser: &mut Parser<B, E>,
@@ -140,7 +140,7 @@ impl Tell for Comm<'_> {
     }
 }
 
-// A task, where it sees a file, and that file's name as bytes and as text.
+// A task, the address of the mapping, and the file's name as bytes and as text.
 impl Tell for Mmap<'_> {
     fn tell(&self, text: &mut String) -> Result<(), AllocError> {
         let (task, place) = ([self.pid, self.tid], [self.addr, self.len, self.pgoff]);
@@ -155,7 +155,7 @@ fn next_header<'p, B: ParseBuf<'p>, E: Endian>(
     perf_event_header::parse(parser)
 }
 
-// The record behind a header that is parsed before.
+// The record after a header that is parsed first.
 fn tell_behind_header<'p, B: ParseBuf<'p>, E: Endian>(
     text: &mut String,
     parser: &mut Parser<B, E>,
@@ -243,7 +243,8 @@ fn tell_body<'p, B: ParseBuf<'p>, E: Endian>(
     }
 }
 
-// What stands beside records, and records: at once, behind their headers, and with their namespaces.
+// Values that are not records, and records: at once, after their headers, and with their
+// namespaces.
 fn tell_beside<'p, B: ParseBuf<'p>, E: Endian>(
     text: &mut String,
     parser: &mut Parser<B, E>,
@@ -293,14 +294,14 @@ impl Tell for BranchEntry {
     }
 }
 
-// The word of a data source.
+// All bits of a data source.
 impl Tell for DataSource {
     fn tell(&self, text: &mut String) -> Result<(), AllocError> {
         write!(text, "{:#x}", self.bits())
     }
 }
 
-// A word is what is asked, and behind a colon how many there should be.
+// A word is what is asked for, and after a colon the count.
 fn tell_word<'p, B: ParseBuf<'p>, E: Endian>(
     text: &mut String,
     parser: &mut Parser<B, E>,
@@ -313,7 +314,7 @@ fn tell_word<'p, B: ParseBuf<'p>, E: Endian>(
     }
 }
 
-// The answers to what is asked of one parser, behind what the text has.
+// Appends the results of what one parser is asked for.
 fn tell_answers<'p, B: ParseBuf<'p>, E: Endian>(
     text: &mut String,
     parser: &mut Parser<B, E>,
@@ -328,7 +329,7 @@ fn tell_answers<'p, B: ParseBuf<'p>, E: Endian>(
     Ok(())
 }
 
-// What is known of a frame beside its record, and what the parser of its body answers.
+// What is known of a frame besides its record, and the results of the parser of its body.
 fn tell_inside<'p, E: Endian>(
     text: &mut String,
     answer: ParseResult<(Parser<ParseBufCursor<'p>, E>, RecordMetadata)>,
@@ -359,7 +360,7 @@ fn tell_inside_behind_header<'p, B: ParseBuf<'p>, E: Endian>(
     }
 }
 
-// A part is asked of the parser itself, or of that of the body where it begins with a frame.
+// The parser itself is asked for a part, or that of the body if the part begins with a frame.
 fn tell_part<'p, B: ParseBuf<'p>, E: Endian>(
     text: &mut String,
     parser: &mut Parser<B, E>,
@@ -373,7 +374,7 @@ fn tell_part<'p, B: ParseBuf<'p>, E: Endian>(
     }
 }
 
-// The answers of a parser to each part.
+// The results of a parser for each part.
 fn tell_parts<'p, B: ParseBuf<'p>, E: Endian>(
     text: &mut String,
     parser: &mut Parser<B, E>,
@@ -385,7 +386,7 @@ fn tell_parts<'p, B: ParseBuf<'p>, E: Endian>(
     Ok(())
 }
 
-// Answers of one parser.
+// The results of one parser.
 #[derive(Drop)]
 struct Answers<'a, E> {
     endian: E,
@@ -402,9 +403,9 @@ impl<'p, B: ParseBuf<'p> + Drop, E: Endian + Copy> Says<'p, B> for Answers<'_, E
     }
 }
 
-/// What parsers over these bytes answer behind an attribute, through a slice, buffered readers and
-/// pieces. The words name what is asked, one thing behind another: a call, a type or, behind `|`, a
-/// frame and what the parser of its body is asked until the next `|`.
+/// What parsers over these bytes return under an attribute, over a slice, buffered readers and
+/// pieces. The words name what is asked for, one thing after another: a call, a type or, after `|`,
+/// a frame and what the parser of its body is asked for until the next `|`.
 pub fn tell_asked<E: Endian + Copy>(
     alloc: Global,
     bytes: &[u8],

@@ -1,11 +1,11 @@
-//! Attributes that several tests read under.
+//! Attributes that several tests use.
 
 use perf_event_data::sys::perf_event_attr;
 
-// The registers of a user that the attributes of samples ask for.
+// The user registers that the attributes of samples ask for.
 const USER_MASK: u64 = 0x3;
 
-// The same at an interrupt.
+// The registers at an interrupt.
 const INTERRUPT_MASK: u64 = 0x15;
 
 /// The attribute of an event with this sample type and this read format.
@@ -19,7 +19,7 @@ pub fn attribute(sample_type: u64, read_format: u64) -> perf_event_attr {
     }
 }
 
-/// The attribute of an event that has `sample_id_all` and these fields in its samples.
+/// The attribute of an event with `sample_id_all` and this sample type.
 pub fn ids_attribute(sample_type: u64) -> perf_event_attr {
     perf_event_attr {
         sample_type,

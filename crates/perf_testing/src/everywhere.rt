@@ -1,4 +1,4 @@
-//! What is said over each of many buffers.
+//! A text over each of many buffers.
 
 use perf_event_data::PieceBuf;
 use perf_event_data::endian::{Endian, Native};
@@ -7,7 +7,7 @@ use perf_event_data::sys::perf_event_attr;
 use std::alloc::{AllocError, Global};
 use std::io::BufReader;
 
-/// A parser over a buffer behind an attribute.
+/// A parser over a buffer, under an attribute.
 pub fn parser_of<'p, B: ParseBuf<'p>, E: Endian>(
     alloc: Global,
     buf: B,
@@ -18,7 +18,7 @@ pub fn parser_of<'p, B: ParseBuf<'p>, E: Endian>(
     Parser::new(alloc, buf, config.with_endian(endian))
 }
 
-/// What is said over a buffer.
+/// Makes a text from a buffer.
 pub trait Says<'p, B: ParseBuf<'p>> {
     fn say(&self, alloc: Global, buf: B) -> Result<String, AllocError>;
 }
@@ -28,15 +28,15 @@ pub trait Says<'p, B: ParseBuf<'p>> {
 pub enum Buffer {
     /// The slice itself.
     Slice,
-    /// A buffered reader of this capacity, which is 1 at least.
+    /// A buffered reader of this capacity, which is at least 1.
     Reader(usize),
-    /// Pieces of this many bytes at most, which is 1 at least, that last.
+    /// Pieces of at most this many bytes, at least 1, that live as long as the input.
     Lasting(usize),
-    /// Pieces that do not last.
+    /// Pieces that do not live as long as the input.
     Passing(usize),
 }
 
-/// Buffers that show less than all bytes, or for less long.
+/// Buffers that show less than all bytes, or do not show them as long.
 pub const OTHERS: [Buffer; 11] = [
     Buffer::Reader(1),
     Buffer::Reader(7),
@@ -51,7 +51,7 @@ pub const OTHERS: [Buffer; 11] = [
     Buffer::Passing(64),
 ];
 
-// What is said over that buffer.
+// The text over that buffer.
 fn say_of<'p, B: ParseBuf<'p>, S: Says<'p, B>>(
     alloc: Global,
     buf: B,
@@ -60,7 +60,7 @@ fn say_of<'p, B: ParseBuf<'p>, S: Says<'p, B>>(
     says.say(alloc, buf)
 }
 
-/// What is said over a buffer of these bytes.
+/// The text over a buffer of these bytes.
 pub fn say_over<'p, S>(
     alloc: Global,
     bytes: &'p [u8],
@@ -90,7 +90,7 @@ fn say_over_reader<'p, S: Says<'p, BufReader<&'p [u8]>>>(
     }
 }
 
-/// Appends what is said where it is not what was said first.
+/// Appends a text if it differs from the first.
 pub fn add_other(others: &mut String, said: &str, first: &str) -> Result<(), AllocError> {
     if said == first {
         Ok(())
@@ -99,8 +99,8 @@ pub fn add_other(others: &mut String, said: &str, first: &str) -> Result<(), All
     }
 }
 
-/// What is said over these bytes, through a slice, buffered readers and pieces: one text where it is
-/// one over all of them, and else the others behind it.
+/// The text over a slice, buffered readers and pieces of these bytes: one text if it is the same
+/// over all of them, and otherwise the others after it.
 pub fn say_everywhere<'p, S>(alloc: Global, bytes: &'p [u8], says: &S) -> Result<String, AllocError>
 where
     S: Says<'p, &'p [u8]> + Says<'p, BufReader<&'p [u8]>> + Says<'p, PieceBuf<'p>>,

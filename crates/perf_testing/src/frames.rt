@@ -2,14 +2,14 @@
 
 use std::alloc::{AllocError, Global};
 
-/// MMAP2 whose file is named by a build id.
+/// MMAP2 whose file is identified by a build id.
 pub const BY_BUILD_ID: &[u8] = b"\x0A\0\0\0\0\x40\x50\0\x01\0\0\0\x02\0\0\0\
     \0\x10\0\0\0\0\0\0\0\x20\0\0\0\0\0\0\0\0\0\0\0\0\0\0\
     \x14\0\0\0\x01\x02\x03\x04\x05\x06\x07\x08\x09\x0A\x0B\x0C\x0D\x0E\x0F\x10\x11\x12\x13\x14\
     \x05\0\0\0\x02\0\0\0\x61\x62\0\0\0\0\0\0";
 
-// A frame of each type and of one that has no type, of zero bytes behind its header: the type and
-// the size.
+// A frame of each type and one of an unknown type, with a body of zero bytes: the type and the
+// size.
 const FRAMES: [(u8, u8); 22] = [
     (1, 40),
     (2, 24),
@@ -35,8 +35,7 @@ const FRAMES: [(u8, u8); 22] = [
     (22, 8),
 ];
 
-/// A frame of each type, in their order, and one of a type that there is not, all of zero bytes
-/// behind their headers.
+/// A frame of each type, in their order, and one of an unknown type, all with bodies of zero bytes.
 pub fn zero_frames(alloc: Global) -> Result<Vec<u8>, AllocError> {
     let mut bytes = Vec::new(alloc);
     for (ty, size) in FRAMES {

@@ -1,5 +1,5 @@
-//! What tests of several crates share: what values, records and runs say, as text, over every
-//! buffer. It asserts nothing, as a library may not end a process.
+//! What the tests of several crates share: the text of values, records and runs, over every buffer.
+//! It asserts nothing, as a library may not end a process.
 #![tactic(auto)]
 
 pub mod asks;

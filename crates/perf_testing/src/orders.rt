@@ -7,7 +7,7 @@ use perf_event_data::endian::Endian;
 use perf_event_data::parse::ParseResult;
 use std::cell::Cell;
 
-/// The lowest byte first. It counts how many numbers of eight bytes it is asked for.
+/// The least significant byte first. It counts the 64-bit numbers that it converts.
 #[derive(Copy, Clone)]
 pub struct Counting<'a> {
     pub calls: &'a Cell<u64>,

@@ -14,10 +14,10 @@ use perf_event_data::{
 };
 use std::alloc::{AllocError, Global};
 
-// A frame's header and the answer to it.
+// The header of a frame, and its result.
 type Frame<'a> = (perf_event_header, ParseResult<Record<'a>>);
 
-// Writes each frame as its line, with semicolons behind them.
+// Writes the line of each frame, with a semicolon after it.
 fn tell_frames(text: &mut String, frames: &[Frame<'_>]) -> Result<(), AllocError> {
     for (index, (header, answer)) in frames.iter().enumerate() {
         tell_frame(text, index, header, answer)?;
@@ -26,7 +26,7 @@ fn tell_frames(text: &mut String, frames: &[Frame<'_>]) -> Result<(), AllocError
     Ok(())
 }
 
-// The same record, or the same refusal.
+// The same record, or the same error.
 fn copy_of<'a>(alloc: Global, answer: &ParseResult<Record<'a>>) -> ParseResult<Record<'a>> {
     match answer {
         Ok(record) => record.clone(alloc),
@@ -48,8 +48,7 @@ fn tell_clones(text: &mut String, frames: &[Frame<'_>]) -> Result<(), AllocError
     Ok(())
 }
 
-// Each frame of a run, where clones of its records say something else, that too, and how the run
-// ended.
+// Each frame of a run; what clones of its records give, if that differs; and how the run ended.
 impl Tell for Run<'_> {
     fn tell(&self, text: &mut String) -> Result<(), AllocError> {
         let mut told = String::new(*text.allocator());
@@ -86,7 +85,7 @@ pub fn tell<'p, B: ParseBuf<'p> + Drop, E: Endian>(
     tell_under(alloc, buf, endian, &perf_event_attr::default(), limits)
 }
 
-/// The same behind an attribute.
+/// The same under an attribute.
 pub fn tell_under<'p, B: ParseBuf<'p> + Drop, E: Endian>(
     alloc: Global,
     buf: B,
@@ -102,7 +101,7 @@ pub fn tell_under<'p, B: ParseBuf<'p> + Drop, E: Endian>(
     )
 }
 
-// What a run is made by.
+// What makes a run.
 #[derive(Copy, Clone)]
 enum Way {
     // The run that lists records.
@@ -138,7 +137,7 @@ fn tell_parser<'p, B: ParseBuf<'p> + Drop, E: Endian>(
     Ok(text)
 }
 
-// Writes the runs of a parser with these limits, in turn, behind what the text has.
+// Appends the runs of a parser with these limits, in turn.
 fn tell_runs<'p, B: ParseBuf<'p>, E: Endian>(
     text: &mut String,
     parser: &mut Parser<B, E>,
@@ -155,7 +154,7 @@ fn tell_runs<'p, B: ParseBuf<'p>, E: Endian>(
     Ok(())
 }
 
-// What is said behind the attribute with which the bytes begin; or what its refusal says.
+// What comes after the attribute at the start of the bytes; or its error.
 fn told_behind<'p, B: ParseBuf<'p> + Drop>(
     alloc: Global,
     buf: B,
@@ -170,7 +169,7 @@ fn told_behind<'p, B: ParseBuf<'p> + Drop>(
     Ok(text)
 }
 
-// Writes an attribute's size, its configuration and the runs behind it.
+// Writes an attribute's size, its configuration and the runs after it.
 fn tell_under_own<'p, B: ParseBuf<'p> + Drop>(
     text: &mut String,
     parser: Parser<B, Little>,
@@ -190,7 +189,7 @@ fn next_attribute<'p, B: ParseBuf<'p>, E: Endian>(
     parser.parse()
 }
 
-// Runs of one parser behind the attribute that comes first.
+// Runs of one parser after the attribute that comes first.
 #[derive(Drop)]
 struct Behind<'a> {
     limits: &'a [usize],
@@ -202,8 +201,8 @@ impl<'p, B: ParseBuf<'p> + Drop> Says<'p, B> for Behind<'_> {
     }
 }
 
-/// What the attribute says with which these bytes begin, and what the runs are behind it, through a
-/// slice, buffered readers and pieces.
+/// The attribute at the start of these bytes and the runs after it, over a slice, buffered readers
+/// and pieces.
 pub fn tell_behind(alloc: Global, bytes: &[u8], limits: &[usize]) -> Result<String, AllocError> {
     say_everywhere(alloc, bytes, &Behind { limits })
 }
@@ -224,7 +223,7 @@ impl<'p, B: ParseBuf<'p> + Drop, E: Endian + Copy> Says<'p, B> for Runs<'_, E> {
     }
 }
 
-// Lists what a run hands out, each frame with its record.
+// Lists the frames of a run, each with its record.
 #[derive(Drop)]
 struct Listed<'p> {
     alloc: Global,
@@ -264,7 +263,7 @@ impl<'p, E: Endian> FrameHandler<'p, E> for Listed<'p> {
     }
 }
 
-// The run that hands out frames, as the one that lists records.
+// A run that hands out frames, in the form of one that lists records.
 fn run_by_frames<'p, B: ParseBuf<'p>, E: Endian>(
     alloc: Global,
     parser: &mut Parser<B, E>,
@@ -282,7 +281,7 @@ fn run_by_frames<'p, B: ParseBuf<'p>, E: Endian>(
     }
 }
 
-// All frames of a slice, as the run that lists their records.
+// All frames of a slice, in the form of the run that lists their records.
 fn run_of_slice<'p, E: Endian>(
     alloc: Global,
     bytes: &'p [u8],
@@ -310,7 +309,7 @@ fn run_of_slice<'p, E: Endian>(
     }
 }
 
-// What the frames of these bytes say, as the run over all of them.
+// The frames of these bytes, in the form of the run over all of them.
 fn tell_slice<E: Endian + Copy>(
     alloc: Global,
     bytes: &[u8],
@@ -323,8 +322,8 @@ fn tell_slice<E: Endian + Copy>(
     Ok(text)
 }
 
-/// What the runs over these bytes are behind an attribute, through a slice, buffered readers and
-/// pieces; and where runs that hand out frames, or the frames of the slice, say otherwise, that too.
+/// The runs over these bytes under an attribute, over a slice, buffered readers and pieces; and if
+/// runs that hand out frames, or the frames of the slice, differ, those too.
 pub fn tell_everywhere<E: Endian + Copy>(
     alloc: Global,
     bytes: &[u8],
@@ -350,9 +349,9 @@ pub fn tell_everywhere<E: Endian + Copy>(
     Ok(text)
 }
 
-/// Nothing, where a run over these bytes behind an attribute says the same as a run through another
-/// buffer, as runs through either that hand out frames, and as the frames of the slice. Else what the
-/// run says, and behind it what is said otherwise.
+/// Nothing, if a run over these bytes under an attribute has the same text as a run over another
+/// buffer, as runs over either that hand out frames, and as the frames of the slice. Otherwise the
+/// text of the run, and after it the texts that differ.
 pub fn tell_differences<E: Endian + Copy>(
     alloc: Global,
     bytes: &[u8],
@@ -386,7 +385,7 @@ pub fn tell_differences<E: Endian + Copy>(
     Ok(text)
 }
 
-/// Writes what `{:?}` shows of a record, or the kind of its refusal, and returns whether it is none.
+/// Writes the `{:?}` of a record, or the kind of its error, and returns whether it is an error.
 pub fn tell_shown_record(
     text: &mut String,
     answer: ParseResult<Record<'_>>,
@@ -401,8 +400,8 @@ pub fn tell_shown_record(
     Ok(true)
 }
 
-/// What `{:?}` shows of the records of a slice, one behind another, and why there is no further one.
-/// Bytes that are those of the slice are `Borrowed`.
+/// The `{:?}` of the records of a slice, one after another, and why there is no further one. Bytes
+/// that are those of the slice are `Borrowed`.
 pub fn tell_shown(alloc: Global, bytes: &[u8]) -> Result<String, AllocError> {
     let mut parser = Parser::new(alloc, bytes, ParseConfig::<Little>::default());
     let mut text = String::new(alloc);

@@ -5,13 +5,13 @@ use std::alloc::{AllocError, Global};
 /// A part of a body.
 #[derive(Copy, Clone)]
 pub enum Part<'a> {
-    /// A number of two bytes.
+    /// A 16-bit number.
     U16(u16),
-    /// A number of four bytes.
+    /// A 32-bit number.
     U32(u32),
-    /// A number of eight bytes.
+    /// A 64-bit number.
     U64(u64),
-    /// Bytes that stand as they are in both orders.
+    /// Bytes that are the same in both orders.
     Bytes(&'a [u8]),
 }
 
@@ -28,7 +28,7 @@ pub fn put_parts(bytes: &mut Vec<u8>, is_big: bool, parts: &[Part]) -> Result<()
     Ok(())
 }
 
-// Appends the bytes of a number, which come with the lowest first.
+// Appends the bytes of a number, which are passed with the least significant first.
 fn put_number(bytes: &mut Vec<u8>, is_big: bool, number: &mut [u8]) -> Result<(), AllocError> {
     if is_big {
         number.reverse();
@@ -36,7 +36,7 @@ fn put_number(bytes: &mut Vec<u8>, is_big: bool, number: &mut [u8]) -> Result<()
     bytes.extend_from_slice(number)
 }
 
-/// The frame of a body, and one of LOST_SAMPLES behind it.
+/// The frame of a body, and one of LOST_SAMPLES after it.
 pub fn frames(alloc: Global, is_big: bool, body: &[u8]) -> Result<Vec<u8>, AllocError> {
     let mut bytes = Vec::new(alloc);
     let size = match u16::try_from(body.len().saturating_add(8)) {
@@ -51,8 +51,7 @@ pub fn frames(alloc: Global, is_big: bool, body: &[u8]) -> Result<Vec<u8>, Alloc
     Ok(bytes)
 }
 
-/// The bytes of such frames, whose body is one part and the rest of them, the lowest byte of each
-/// number first.
+/// The bytes of such frames, in little endian, whose body is one part and then the rest.
 pub fn frames_of(alloc: Global, first: Part, rest: &[Part]) -> Result<Vec<u8>, AllocError> {
     let mut body = Vec::new(alloc);
     put_parts(&mut body, false, &[first])?;

@@ -7,7 +7,7 @@ use perf_event_data::{GroupIter, Namespaces, ReadGroup, ReadValue, Record, Regis
 use perf_lines::line::line_of;
 use std::alloc::AllocError;
 
-/// What is written of a value.
+/// The text of a value.
 pub trait Tell {
     fn tell(&self, text: &mut String) -> Result<(), AllocError>;
 }
@@ -24,12 +24,12 @@ impl Tell for ParseResult<Record<'_>> {
     }
 }
 
-/// Writes what a value tells, and lets it go.
+/// Writes the text of a value, and drops it.
 pub fn tell_last<T: Tell + Drop>(text: &mut String, value: T) -> Result<(), AllocError> {
     value.tell(text)
 }
 
-/// Writes what an answer tells, or what its refusal says, and lets it go.
+/// Writes the text of a value or of its error, and drops it.
 pub fn tell_answer<T: Tell + Drop>(
     text: &mut String,
     answer: ParseResult<T>,
@@ -40,12 +40,12 @@ pub fn tell_answer<T: Tell + Drop>(
     }
 }
 
-/// Writes the kind of a refusal.
+/// Writes the kind of an error.
 pub fn tell_error(text: &mut String, error: &ParseError) -> Result<(), AllocError> {
     write!(text, "{:?}", error.kind())
 }
 
-/// Writes the line of a frame as `perfrec` has it, and what that leaves out.
+/// Writes the line of a frame in `perfrec`, and what that leaves out.
 pub fn tell_frame(
     text: &mut String,
     index: usize,
@@ -73,7 +73,7 @@ impl Tell for Framed<'_> {
     }
 }
 
-/// Writes the same of a record alone, of whose header nothing is said.
+/// Writes the same of a record alone, without a header.
 pub fn tell_record(text: &mut String, answer: &ParseResult<Record<'_>>) -> Result<(), AllocError> {
     let mut line = String::new(*text.allocator());
     tell_frame(&mut line, 0, &perf_event_header::default(), answer)?;
@@ -81,7 +81,7 @@ pub fn tell_record(text: &mut String, answer: &ParseResult<Record<'_>>) -> Resul
     text.push_str(told.unwrap_or("(no frame of zeros)"))
 }
 
-// Writes what a line does not say: the type of an unknown record, and some things of a sample.
+// Writes what a line leaves out: the type of an unknown record, and some fields of a sample.
 fn tell_left_out(text: &mut String, answer: &ParseResult<Record<'_>>) -> Result<(), AllocError> {
     match answer {
         Ok(Record::Unknown { ty, .. }) => write!(text, " ty={ty}"),
@@ -90,7 +90,7 @@ fn tell_left_out(text: &mut String, answer: &ParseResult<Record<'_>>) -> Result<
     }
 }
 
-// Writes how many counters a sample's group has, and which registers it has.
+// Writes the number of counters in a sample's group, and which registers it has.
 fn tell_counted(text: &mut String, sample: &Sample<'_>) -> Result<(), AllocError> {
     if let Some(group) = sample.values() {
         write!(text, " counters={}", group.len())?;
@@ -110,8 +110,8 @@ fn tell_mask(
     }
 }
 
-/// Writes a configuration: the sample type and the read format, whether there are sample ids and the
-/// hardware's index, the registers of a user and those at an interrupt, and the misc.
+/// Writes a configuration: the sample type and the read format, whether there are sample ids and
+/// the hardware's index, the masks of user registers and of those at an interrupt, and the misc.
 pub fn tell_config<E>(text: &mut String, config: &ParseConfig<E>) -> Result<(), AllocError> {
     let sets = [config.sample_type().bits(), config.read_format().bits()];
     let are_there = [config.sample_id_all(), config.branch_hw_index()];
@@ -119,7 +119,7 @@ pub fn tell_config<E>(text: &mut String, config: &ParseConfig<E>) -> Result<(), 
     write!(text, "{:?}", (sets, are_there, masks, config.misc()))
 }
 
-/// Writes what stands between one answer and the next.
+/// Writes a semicolon between two results.
 pub fn tell_semicolon(text: &mut String) -> Result<(), AllocError> {
     if text.is_empty() {
         Ok(())
@@ -128,8 +128,8 @@ pub fn tell_semicolon(text: &mut String) -> Result<(), AllocError> {
     }
 }
 
-/// A record, or what its refusal says, and, if that is asked, of its namespaces those that have a
-/// name: network, uts, ipc, pid, user and cgroup.
+/// A record, or its error, and, if asked for, those of its namespaces that have a name: network,
+/// uts, ipc, pid, user and cgroup.
 #[derive(Drop)]
 pub struct Found<'a> {
     pub answer: ParseResult<Record<'a>>,
@@ -170,8 +170,8 @@ fn tell_named(text: &mut String, spaces: &Namespaces<'_>) -> Result<(), AllocErr
     write!(text, " {named:?}")
 }
 
-// A group of counters: how many and whether none, its times, the first three entries as they come
-// and by their places, those of the ids 1, 2, 3, 0xBD and 0xBE, and whether it is that of one counter.
+// A group of counters: how many and whether none, its times, the first three entries in order and
+// by index, those of the ids 1, 2, 3, 0xBD and 0xBE, and whether it is that of one counter.
 impl Tell for ReadGroup<'_> {
     fn tell(&self, text: &mut String) -> Result<(), AllocError> {
         tell_entries(text, self)?;
@@ -182,7 +182,7 @@ impl Tell for ReadGroup<'_> {
     }
 }
 
-/// A sample of which the group is told.
+/// A sample with the text of its group.
 #[derive(Drop)]
 pub struct OfGroup<'a>(pub Sample<'a>);
 
@@ -220,8 +220,8 @@ fn tell_found_entries(text: &mut String, group: &ReadGroup<'_>) -> Result<(), Al
     write!(text, " {by_places:?} {by_ids:?}")
 }
 
-/// A group of counters whose entries are taken from both ends: how many there are and its times, the
-/// second entry, the last of what is left and the last but one of that, how many are left then, and
+/// A group of counters whose entries are taken from both ends: how many there are and its times,
+/// the second entry, the last of the rest and the last but one of that, how many are left then, and
 /// the next one.
 #[derive(Drop)]
 pub struct FromBothEnds<'a>(pub ReadGroup<'a>);

@@ -1,4 +1,4 @@
-//! What is asked of a parser over every buffer, and what that answers as text.
+//! What a parser over every buffer is asked for, and its results as text.
 
 use crate::bodies::{Body, told_frame};
 use crate::checks::check_answer;
@@ -12,20 +12,20 @@ use std::alloc::Global;
 use std::io::BufReader;
 use std::process::Abort;
 
-/// What is asked.
+/// What a parser is asked for.
 #[derive(Copy, Clone)]
 pub enum Asked {
     /// Types of a user's own.
     Own(Own),
     /// What the parser of a frame's body parses.
     Body(Body),
-    /// What is read in an order of a user's own.
+    /// What is read in a byte order of a user's own.
     InOrder(Asking),
     /// What a visitor makes of each frame.
     Visited(Visits),
 }
 
-/// What is asked of these bytes, and the answer.
+/// What is asked for over these bytes, and the result.
 #[derive(Copy, Clone)]
 pub struct Case<'a> {
     pub name: &'a str,
@@ -34,8 +34,7 @@ pub struct Case<'a> {
     pub want: &'a str,
 }
 
-// What a parser over a buffer answers, the lowest byte of a number first where the order is no
-// other.
+// The result of a parser over a buffer, in little endian if the case has no order of its own.
 fn told<'p, B: ParseBuf<'p> + Drop>(alloc: Global, buf: B, asked: Asked) -> ParseResult<String> {
     match asked {
         Asked::Own(own) => told_own(alloc, &mut little(alloc, buf), own),
@@ -57,7 +56,7 @@ fn check_over<'p, B: ParseBuf<'p> + Drop>(
     check_answer(rt, case.name, told(rt.alloc(), buf, case.asked), case.want);
 }
 
-/// Asserts what is answered through a slice, buffered readers and pieces.
+/// Asserts the result over a slice, buffered readers and pieces.
 pub fn check_case(rt: &(impl AllocGlobal + Abort), case: &Case<'_>) {
     check_over(rt, case.bytes, case);
     for capacity in [1, 7, 8192] {
@@ -73,14 +72,14 @@ pub fn check_case(rt: &(impl AllocGlobal + Abort), case: &Case<'_>) {
     }
 }
 
-/// Asserts the answers of each case.
+/// Asserts the result of each case.
 pub fn check_cases(rt: &(impl AllocGlobal + Abort), cases: &[Case<'_>]) {
     for case in cases {
         check_case(rt, case);
     }
 }
 
-/// The kind of a refusal.
+/// The kind of an error.
 pub fn kind_of<T: Drop>(answer: ParseResult<T>) -> Option<ErrorKind> {
     match answer {
         Ok(_) => None,

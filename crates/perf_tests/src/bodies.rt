@@ -1,4 +1,4 @@
-//! What is parsed of a frame's body.
+//! What is parsed from a frame's body.
 
 use crate::closures::tell_closures;
 use crate::own_types::tell_sample;
@@ -7,12 +7,12 @@ use perf_event_data::endian::Endian;
 use perf_event_data::parse::{ParseBuf, ParseBufCursor, ParseResult, Parser};
 use std::alloc::{AllocError, Global};
 
-/// What is asked of the parser of a frame's body.
+/// What the parser of a frame's body is asked for.
 #[derive(Copy, Clone)]
 pub enum Body {
     /// A sample of a user's own.
     Sample,
-    /// The same by a closure.
+    /// The same with a closure.
     SampleByClosure,
     /// What closures parse.
     Closures,
@@ -30,7 +30,7 @@ fn tell_metadata(text: &mut String, metadata: &RecordMetadata) -> Result<(), All
     )
 }
 
-// Writes what the parser of a body answers, behind what the text has.
+// Appends the results of the parser of a body.
 fn told_behind<'p, E: Endian>(
     mut text: String,
     mut inner: Parser<ParseBufCursor<'p>, E>,
@@ -44,7 +44,7 @@ fn told_behind<'p, E: Endian>(
     Ok(text)
 }
 
-/// What is known of a frame beside its body, and what the parser of that answers.
+/// What is known of a frame besides its body, and the results of the parser of its body.
 pub fn told_frame<'p, B: ParseBuf<'p>, E: Endian>(
     alloc: Global,
     parser: &mut Parser<B, E>,

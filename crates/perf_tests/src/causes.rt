@@ -98,7 +98,7 @@ const FRAMES: [&[u8]; 2] = [
     b"\x03\0\0\0\0\0\x18\0\x01\0\0\0\x02\0\0\0ab\0\0\0\0\0\0",
 ];
 
-// How many bytes there are of them: none, one, half a header, a header, half a body, and all.
+// How many bytes of them are given: none, one, half a header, a header, half a body, and all.
 const COUNTS: [usize; 6] = [0, 1, 4, 8, 16, 24];
 
 #[test]
@@ -115,8 +115,8 @@ fn a_run_ends_by_the_error_of_its_reader(rt: HostRuntime) -> Result<(), Fail> {
     Ok(())
 }
 
-// Asserts the text of the fault, whether there is no hint, one that is too large, or one that is too
-// small for a body.
+// Asserts the text of the fault without a hint, with one that is too large, and with one that is
+// too small for a body.
 fn check_broken(rt: &(impl AllocGlobal + Abort), bytes: &[u8], has_message: bool, want: &str) {
     for hint in [None, Some(1000), Some(3)] {
         let buf = Breaking {
@@ -141,7 +141,7 @@ fn a_run_ends_by_the_error_of_its_buffer(rt: HostRuntime) {
 
 // ---- refused frames
 
-// The text of the refusal of a run's first frame.
+// The text of the error of a run's first frame.
 #[derive(Drop)]
 struct FirstRefusal<'a> {
     attr: &'a perf_event_attr,
@@ -157,7 +157,7 @@ impl<'p, B: ParseBuf<'p> + Drop> Says<'p, B> for FirstRefusal<'_> {
     }
 }
 
-// A frame, the sample type, the read format and the flags under which it is refused, and the refusal:
+// A frame, the sample type, the read format and the flags under which it is refused, and the error:
 // the name and the text of its kind, and its message.
 struct Refused<'a> {
     bytes: &'a [u8],
@@ -191,7 +191,7 @@ const ID: u64 = 1 << 2;
 
 const NO_FORMAT: u64 = 1 << 5;
 
-// Each refusal of a frame with a message.
+// Each error of a frame with a message.
 const REFUSED: [Refused<'static>; 9] = [
     Refused {
         bytes: b"\x03\0\0\0\0\0\x07\0",
@@ -251,7 +251,7 @@ const REFUSED: [Refused<'static>; 9] = [
     },
 ];
 
-// The text of such a refusal, and what it should be.
+// The text of such an error, and the expected one.
 fn told_refused(alloc: Global, refused: &Refused) -> Result<(String, String), AllocError> {
     let (sample_type, read_format, flags) = refused.under;
     let mut attr = attribute(sample_type, read_format);

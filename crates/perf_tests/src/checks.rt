@@ -1,5 +1,5 @@
-//! What tests assert. Each assertion stands here once: written out, every one of them is proved
-//! anew, which takes a second.
+//! The assertions of the tests. Each is in a function of its own, because an assertion that is
+//! written out is proved anew, which takes a second.
 
 use perf_event_data::endian::Endian;
 use perf_event_data::parse::ParseResult;
@@ -9,17 +9,17 @@ use std::alloc::AllocError;
 use std::fmt::Debug;
 use std::process::Abort;
 
-/// Asserts that a value is what it should be.
+/// Asserts that a value is the expected one.
 pub fn check_same<T: PartialEq + Debug + Drop>(rt: &impl Abort, what: &str, value: T, want: T) {
     assert_eq!(rt; value, want, "{what}");
 }
 
-/// Asserts what is said.
+/// Asserts that a statement is true.
 pub fn check_that(rt: &impl Abort, what: &str, is_so: bool) {
     assert!(rt; is_so, "{what}");
 }
 
-/// Asserts what a text is.
+/// Asserts that a text is the expected one.
 pub fn check_text(rt: &impl Abort, answer: Result<String, AllocError>, want: &str) {
     match answer {
         Ok(text) => check_same(rt, "the text", text.as_str(), want),
@@ -27,7 +27,7 @@ pub fn check_text(rt: &impl Abort, answer: Result<String, AllocError>, want: &st
     }
 }
 
-/// Asserts what a case answers.
+/// Asserts the result of a case.
 pub fn check_answer(rt: &impl Abort, what: &str, answer: ParseResult<String>, want: &str) {
     match answer {
         Ok(text) => check_same(rt, what, text.as_str(), want),
@@ -35,12 +35,12 @@ pub fn check_answer(rt: &impl Abort, what: &str, answer: ParseResult<String>, wa
     }
 }
 
-/// Asserts what is told.
+/// Asserts a text.
 pub fn check_told(rt: &impl Abort, told: ParseResult<String>, want: &str) {
     check_answer(rt, "the text", told, want);
 }
 
-/// Asserts what is told of a value: all of its fields, and of each list whether it is borrowed.
+/// Asserts the `{:?}` of a value: all of its fields, and of each list whether it is borrowed.
 pub fn check_debug<T: Debug>(rt: &(impl AllocGlobal + Abort), value: &T, want: &str) {
     check_text(rt, format!(in rt.alloc(); "{value:?}"), want);
 }
@@ -50,12 +50,12 @@ pub fn check_numbers(rt: &impl Abort, told: &[u64], want: &[u64]) {
     check_same(rt, "the numbers", told, want);
 }
 
-/// Asserts numbers, each of which may be lacking.
+/// Asserts numbers, each of which may be absent.
 pub fn check_answers(rt: &impl Abort, told: &[Option<u64>], want: &[Option<u64>]) {
     check_same(rt, "the answers", told, want);
 }
 
-/// Asserts that two values are equal, or that one is true, and says of which text it is not so.
+/// Asserts that two values are equal, or that one is true, and names the text if not.
 #[macro_export]
 macro_rules! check {
     ($rt:expr; $value:expr, $want:expr) => {
@@ -66,7 +66,7 @@ macro_rules! check {
     };
 }
 
-/// Asserts what the runs over these bytes are, through a slice, buffered readers and pieces.
+/// Asserts the runs over these bytes, over a slice, buffered readers and pieces.
 pub fn check_everywhere<E: Endian + Copy>(
     rt: &(impl AllocGlobal + Abort),
     bytes: &[u8],

@@ -5,7 +5,7 @@ use crate::bodies::Body;
 use perf_event_data::endian::Endian;
 use perf_event_data::parse::{ParseBufCursor, ParseResult, Parser};
 
-// Two bytes where a condition holds.
+// Two bytes if a condition is true.
 fn two_if<'p, E: Endian>(
     parser: &mut Parser<ParseBufCursor<'p>, E>,
     condition: bool,
@@ -13,7 +13,7 @@ fn two_if<'p, E: Endian>(
     parser.parse_if_with(condition, |parser| parser.parse_u16())
 }
 
-// One byte where a condition holds.
+// One byte if a condition is true.
 fn one_if<'p, E: Endian>(
     parser: &mut Parser<ParseBufCursor<'p>, E>,
     condition: bool,
@@ -21,7 +21,7 @@ fn one_if<'p, E: Endian>(
     parser.parse_if_with(condition, |parser| parser.parse_u8())
 }
 
-// The two bytes that are left are parsed where a condition holds.
+// The last two bytes are parsed if a condition is true.
 fn tell_conditions<'p, E: Endian>(
     text: &mut String,
     inner: &mut Parser<ParseBufCursor<'p>, E>,
@@ -33,8 +33,8 @@ fn tell_conditions<'p, E: Endian>(
     Ok(write!(text, " {before:?} {found:?} {refused:?} {behind:?}")?)
 }
 
-/// Writes what a closure parses of a frame's body: always, where a condition holds, and where it
-/// does not.
+/// Writes what a closure parses from a frame's body: always, if a condition is true, and if it is
+/// false.
 pub fn tell_closures<'p, E: Endian>(
     text: &mut String,
     inner: &mut Parser<ParseBufCursor<'p>, E>,

@@ -1,4 +1,4 @@
-//! What a configuration keeps where one thing in it changes.
+//! What a configuration keeps if one part of it changes.
 
 use crate::check;
 use crate::checks::check_text;
@@ -23,7 +23,7 @@ fn full() -> ParseConfig<Little> {
     })
 }
 
-// What that says: the sample type and the read format, two bits, two masks and `misc`.
+// Its text: the sample type and the read format, two bits, two masks and `misc`.
 const FULL: &str = "([65543, 13], [true, true], [17, 34], 0)";
 
 const NOTHING: &str = "([0, 0], [false, false], [0, 0], 0)";
@@ -70,7 +70,7 @@ fn another_misc_keeps_the_rest(rt: HostRuntime) {
     }
 }
 
-// Sample types, and what is said of them: 40 bits are kept.
+// Sample types, and their texts: 40 bits are kept.
 const SAMPLE_TYPES: [(u64, &str); 3] = [
     (0x2, "([2, 13], [true, true], [17, 34], 7)"),
     (
@@ -89,7 +89,7 @@ fn another_sample_type_keeps_the_rest(rt: HostRuntime) {
     }
 }
 
-// Read formats, and what is said of them: five bits are kept, and the next is set for all others.
+// Read formats, and their texts: five bits are kept, and the next is set for all others.
 const READ_FORMATS: [(u64, &str); 4] = [
     (0x2, "([65543, 2], [true, true], [17, 34], 7)"),
     (0x1F, "([65543, 31], [true, true], [17, 34], 7)"),

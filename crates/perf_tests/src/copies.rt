@@ -1,5 +1,5 @@
-//! Copies of records and of groups of counters, and what their calls answer. What is told of a
-//! value is all of its fields, and of each list whether it is borrowed.
+//! Copies of records and of groups of counters, and the results of their calls. The text of a value
+//! is all of its fields, and of each list whether it is borrowed.
 
 use crate::checks::check_told;
 use crate::groups::{of_none, single_with_id, with_ids, without_ids};
@@ -25,14 +25,14 @@ use std::fmt::Debug;
 trait Cloned: Debug + Sized + Drop {
     fn cloned(&self, alloc: Global) -> ParseResult<Self>;
 
-    // Writes what its calls answer, if it has any.
+    // Writes the results of its calls, if it has any.
     fn tell_calls(&self, text: &mut String) -> Result<(), AllocError> {
         let _ = text;
         Ok(())
     }
 }
 
-// A value of which owned copies are made.
+// A value with owned copies.
 trait Owning: Cloned {
     fn owned(self, alloc: Global) -> ParseResult<Self>;
 }
@@ -151,7 +151,7 @@ impl Cloned for ReadGroup<'_> {
         self.clone(alloc)
     }
 
-    // The last of its answers is the entry of id 6.
+    // The last of its results is the entry of id 6.
     fn tell_calls(&self, text: &mut String) -> Result<(), AllocError> {
         let numbers = (
             self.len(),
@@ -190,7 +190,7 @@ impl Cloned for Namespaces<'_> {
     }
 }
 
-// Writes a value and what its calls answer on a line.
+// Writes a value and the results of its calls on a line.
 fn tell<T: Cloned>(text: &mut String, value: &T) -> Result<(), AllocError> {
     write!(text, "{value:?}")?;
     value.tell_calls(text)?;
@@ -204,7 +204,7 @@ fn tell_with_clone<T: Cloned>(text: &mut String, alloc: Global, value: &T) -> Pa
     Ok(tell(text, &copy)?)
 }
 
-// What is told of a value, of its clone, of its owned copy, and of the clone and the owned copy of
+// The text of a value, of its clone, of its owned copy, and of the clone and the owned copy of
 // that.
 fn told_with_copies<T: Owning>(alloc: Global, value: ParseResult<T>) -> ParseResult<String> {
     let mut text = String::new(alloc);
@@ -217,7 +217,7 @@ fn told_with_copies<T: Owning>(alloc: Global, value: ParseResult<T>) -> ParseRes
     Ok(text)
 }
 
-// What is told of a value and of its clone.
+// The text of a value and of its clone.
 fn told_with_clone<T: Cloned>(alloc: Global, value: ParseResult<T>) -> ParseResult<String> {
     let mut text = String::new(alloc);
     tell_with_clone(&mut text, alloc, &value?)?;
@@ -231,7 +231,7 @@ macro_rules! clones {
     };
 }
 
-// The lines of a value that borrows its lists, and of its copies.
+// The lines of a value with borrowed lists, and of its copies.
 macro_rules! copies {
     ($first:literal $(, $part:literal)+) => {
         concat!(
@@ -242,7 +242,7 @@ macro_rules! copies {
     };
 }
 
-// The lines of a value that owns its lists, and of its copies.
+// The lines of a value with owned lists, and of its copies.
 macro_rules! owned_copies {
     ($first:literal $(, $part:literal)+) => {
         concat!(
@@ -253,7 +253,7 @@ macro_rules! owned_copies {
     };
 }
 
-// Records that own their bytes are made of these, which are gone when they are answered.
+// Owned records are made from a local copy of these bytes, which is gone when they are returned.
 const ANONYMOUS: [u8; 6] = *b"//anon";
 
 #[test]
@@ -279,7 +279,7 @@ fn owned_comm(alloc: Global) -> ParseResult<Comm<'static>> {
     comm(0x1010, 0x500, &bytes).into_owned(alloc)
 }
 
-// Names of tasks, and what is told of them.
+// Names of tasks, and their texts.
 const NAMES: [(u32, u32, &[u8], &str); 3] = [
     (
         1,
@@ -465,7 +465,7 @@ fn mappings_by_an_inode(rt: HostRuntime) {
     check_told(&rt, told_with_copies(rt.alloc(), Ok(mapping)), want);
 }
 
-// A mapping of a program by its build id, behind which stands another byte.
+// A mapping of a program by its build id, followed by another byte.
 fn by_build_id() -> Mmap2<'static> {
     let detail = MmapDetail::BuildId {
         build_id: [
@@ -480,7 +480,7 @@ const TWENTY: [u8; 20] = [
     1, 2, 3, 4, 5, 6, 7, 8, 9, 10, 11, 12, 13, 14, 15, 16, 17, 18, 19, 20,
 ];
 
-// One by a build id of all twenty bytes, which owns its path.
+// One with a build id of all twenty bytes, which owns its path.
 fn by_whole_build_id(alloc: Global) -> ParseResult<Mmap2<'static>> {
     let detail = MmapDetail::BuildId {
         build_id: TWENTY,
@@ -490,7 +490,7 @@ fn by_whole_build_id(alloc: Global) -> ParseResult<Mmap2<'static>> {
     Ok(Mmap2::from_parts(1, 2, 4096, 8192, 0, 5, 2, filename, detail))
 }
 
-// One by a build id of two bytes, of a clone of its detail.
+// One with a build id of two bytes, from a clone of its detail.
 fn by_short_build_id() -> ParseResult<Mmap2<'static>> {
     let detail = MmapDetail::BuildId {
         build_id: TWENTY,

@@ -8,8 +8,8 @@ use perf_reports::counts::Counts;
 use perf_reports::streams::count_stream;
 use std::process::Abort;
 
-// A stream, its order, whether an attribute stands in front, and what is counted. Each ends behind a
-// frame.
+// A stream, its byte order, whether it begins with an attribute, and what is counted. Each ends
+// after a frame.
 #[derive(Copy, Clone)]
 struct Counted<'a> {
     name: &'a str,
@@ -20,8 +20,8 @@ struct Counted<'a> {
 }
 
 const COUNTED: [Counted; 4] = [
-    // The largest number and 3 make 2, modulo 2^64; the type is 2 and the size 24. So the checksum
-    // is 2 + 2 + 24.
+    // The sum of the largest number and 3 is 2, modulo 2^64; the type is 2 and the size 24. So the
+    // checksum is 2 + 2 + 24.
     Counted {
         name: "a checksum begins again at zero",
         is_big: false,
@@ -35,7 +35,7 @@ const COUNTED: [Counted; 4] = [
             checksum: 28,
         },
     },
-    // A LOST of 8 bytes has no room for its fields and is refused. A COMM (3 and 24) of process 5,
+    // A LOST of 8 bytes has no space for its fields and is refused. A COMM (3 and 24) of process 5,
     // thread 6 and the name `sh` adds 3 + 24 + 5 + 6 + 2 = 40, an EXIT (4 and 32) of 1, 2, 3, 4 at
     // 100 adds 4 + 32 + 10 + 100 = 146, and four bytes of the unknown type 71 add 71 + 12 = 83.
     // Together they are 269.
@@ -93,7 +93,7 @@ const COUNTED: [Counted; 4] = [
     },
 ];
 
-// What is counted of a stream that ends behind a frame.
+// The counts of a stream that ends after a frame.
 fn whole(counted: ParseResult<(Counts, RunEnd)>) -> Option<Counts> {
     match counted {
         Ok((counts, RunEnd::Done)) => Some(counts),

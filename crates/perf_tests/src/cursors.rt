@@ -1,4 +1,4 @@
-//! The bytes of one frame, and the buffers that they are cut off.
+//! The bytes of one frame, and the buffers that they are cut from.
 
 use crate::asked::kind_of;
 use crate::check;
@@ -11,13 +11,13 @@ use std::test::Fail;
 
 const BYTES: &[u8] = b"abcde";
 
-// Writes the bytes that a buffer shows, with how long they last, and how many it says that it has.
+// Writes the bytes that a buffer shows, how long they live, and how many it reports.
 fn tell_shown<'p, B: ParseBuf<'p>>(text: &mut String, buf: &mut B) -> ParseResult<()> {
     let left = buf.remaining_hint();
     Ok(write!(text, "{:?} {left:?}; ", buf.chunk()?)?)
 }
 
-// Goes on by two bytes, where as many are shown.
+// Advances by two bytes, if as many are shown.
 fn skip_two<'p, B: ParseBuf<'p>>(buf: &mut B) -> ParseResult<()> {
     let shown = buf.chunk()?.as_bytes().len();
     if shown >= 2 {
@@ -26,15 +26,15 @@ fn skip_two<'p, B: ParseBuf<'p>>(buf: &mut B) -> ParseResult<()> {
     Ok(())
 }
 
-// Writes what a buffer shows, and what it shows two bytes on.
+// Writes what a buffer shows, and what it shows two bytes later.
 fn tell_both<'p, B: ParseBuf<'p>>(text: &mut String, buf: &mut B) -> ParseResult<()> {
     tell_shown(text, buf)?;
     skip_two(buf)?;
     tell_shown(text, buf)
 }
 
-// Writes how many bytes a buffer says that it has, which it shows first, why there is no cursor over
-// three of them, whether it shows any behind that, and what a cursor over none lends.
+// Writes how many bytes a buffer reports, which it shows first, why there is no cursor over three
+// of them, whether it shows any after that, and what a cursor over none gives.
 fn tell_behind<'p, B: ParseBuf<'p>>(
     text: &mut String,
     alloc: Global,
@@ -48,8 +48,8 @@ fn tell_behind<'p, B: ParseBuf<'p>>(
     Ok(write!(text, "{refused:?} {shows} {:?}", empty.as_slice())?)
 }
 
-// What a cursor over the first three bytes of a buffer lends and shows, and what the buffer does
-// behind it.
+// What a cursor over the first three bytes of a buffer gives and shows, and what the buffer does
+// after it.
 fn told<'p, B: ParseBuf<'p> + Drop>(alloc: Global, buf: B) -> ParseResult<String> {
     let (mut buf, mut text) = (buf, String::new(alloc));
     let mut cursor = ParseBufCursor::new(alloc, &mut buf, 3)?;
@@ -96,7 +96,7 @@ fn a_cursor_lends_what_one_lasting_piece_has(rt: HostRuntime) {
     }
 }
 
-// What a buffer shows, twice, and two bytes on.
+// What a buffer shows, twice, and two bytes later.
 fn told_alone<'p, B: ParseBuf<'p> + Drop>(alloc: Global, buf: B) -> ParseResult<String> {
     let (mut buf, mut text) = (buf, String::new(alloc));
     tell_shown(&mut text, &mut buf)?;

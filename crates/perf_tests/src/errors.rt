@@ -1,4 +1,4 @@
-//! What an error says, and lists that may be borrowed.
+//! The texts of errors, and lists that may be borrowed.
 
 use crate::check;
 use crate::checks::check_text;
@@ -14,7 +14,7 @@ use std::io::{self, BufReader, Read};
 use std::process::Abort;
 use std::test::Fail;
 
-/// Writes the kind of an error, its message, its cause if it has one, and what the error says.
+/// Writes the kind of an error, its message, its cause if it has one, and its text.
 pub fn told(alloc: Global, error: &ParseError) -> Result<String, AllocError> {
     let mut text = String::new(alloc);
     write!(text, "{:?}, {:?}, ", error.kind(), error.message())?;

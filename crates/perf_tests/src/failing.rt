@@ -1,4 +1,4 @@
-//! Readers, writers and orders that fail.
+//! Readers, writers and byte orders that fail.
 
 ghost use Rattle.std.specs.Prelude.{◌<◌, true};
 ghost use Rattle.std.specs.Int.{w16, w32, w64, from_le_bytes};
@@ -21,7 +21,7 @@ use std::process::Abort;
 
 // ---- readers
 
-// Gives some bytes, at most `most` a read, and then it ends, or fails with each read.
+// Gives some bytes, at most `most` at a time, and then ends, or fails with each read.
 #[derive(Copy, Clone)]
 struct Failing<'a> {
     bytes: &'a [u8],
@@ -42,7 +42,7 @@ impl Read for Failing<'_> {
     }
 }
 
-// Asserts what is written of a reader that gives one byte a read, seven or all that there are.
+// Asserts what is written for a reader that gives one byte at a time, seven or all that it has.
 fn check_reads(
     rt: &(impl AllocGlobal + Abort),
     with_attr: bool,
@@ -82,7 +82,7 @@ fn a_fault_ends_the_text_behind_whole_frames(rt: HostRuntime) {
     }
 }
 
-// Bytes, how the reader fails behind them, and what is written.
+// Bytes, how the reader fails after them, and what is written.
 const FAULTS: [(&[u8], io::ErrorKind, &str); 3] = [
     (
         &[1, 0, 0, 0, 0, 0, 48, 0, 0x16, 0x4c, 1, 0],
@@ -100,8 +100,8 @@ fn a_fault_of_the_reader_ends_the_text(rt: HostRuntime) {
     }
 }
 
-// How many bytes there are of an attribute of 72 bytes and five lost samples, how the reader fails
-// behind them, and what is written.
+// How many bytes of an attribute of 72 bytes and five lost samples are given, how the reader fails
+// after them, and what is written.
 const INSIDE: [(usize, io::ErrorKind, &str); 9] = [
     (0, io::ErrorKind::UnexpectedEof, NOTHING),
     (7, io::ErrorKind::UnexpectedEof, NOTHING),
@@ -143,8 +143,9 @@ fn a_reader_may_give_one_byte_a_read(rt: HostRuntime) -> Result<(), AllocError> 
 
 // ---- writers
 
-// How a writer fails: it takes at most `most` bytes a write, and `room` of them. Then a write fails
-// or takes nothing, and so do all behind it, and each flush, or those behind it take more.
+// How a writer fails: it takes at most `most` bytes at a time, and `room` of them in all. Then a
+// write fails or takes nothing. If `lasts`, so do all writes after it, and each flush fails;
+// otherwise later writes succeed.
 #[derive(Copy, Clone)]
 struct Limits {
     most: usize,
@@ -203,7 +204,7 @@ fn check_writer(
     check_same(rt, "what is kept", told, (kept, outcome));
 }
 
-// Asserts what a writer has kept of a text, of which it could not take all.
+// Asserts what a writer has kept of a text that it could not take as a whole.
 fn check_part(rt: &(impl AllocGlobal + Abort), limits: Limits, text: &[u8], kept: &[u8]) {
     let mut writer = Limited {
         kept: Vec::new(rt.alloc()),
@@ -248,7 +249,7 @@ fn a_writer_may_take_one_byte_a_write(rt: HostRuntime) {
     }
 }
 
-// How much room a writer has that takes four bytes a write, and what it keeps.
+// The capacity of a writer that takes four bytes at a time, and what it keeps.
 const ROOMS: [(usize, &[u8]); 3] = [
     (0, b""),
     (8, b"0 13 0 1"),
@@ -272,8 +273,8 @@ fn a_writer_that_fails_stops_the_run(rt: HostRuntime) {
 
 // ---- reading and then writing
 
-// How many reads a reader was asked for, and how many of them before the first write of a writer
-// that shares this.
+// How often a reader was read from, and how often before the first write of a writer that shares
+// this.
 #[derive(Drop)]
 struct Log {
     reads: Cell<usize>,
@@ -311,8 +312,8 @@ impl Write for LoggedWriter<'_> {
     }
 }
 
-// Asserts how many reads there are of the two frames, each of one byte, all of them before the first
-// write.
+// Asserts the number of reads of the two frames, each of one byte, and that all of them come before
+// the first write.
 fn check_order_of_calls(
     rt: &(impl AllocGlobal + Abort),
     fault: Option<io::ErrorKind>,
@@ -338,8 +339,8 @@ fn check_order_of_calls(
     check_same(rt, "how many reads", told, (reads, Some(reads)));
 }
 
-// A limit, how long pieces are, and how many reads there are: the read behind the last byte gives
-// the end or a fault; a limit needs none.
+// A limit, the length of pieces, and the number of reads: the read after the last byte gives the
+// end or a fault; a limit needs none.
 const READS: [(usize, usize, usize); 5] = [
     (10, 1, 33),
     (10, 8192, 33),
@@ -357,9 +358,9 @@ fn all_reading_comes_before_all_writing(rt: HostRuntime) {
     }
 }
 
-// ---- orders
+// ---- byte orders
 
-// The lowest byte first. There is never memory for a second one.
+// Little endian. There is never memory for a second one.
 #[derive(Copy, Clone)]
 struct Single;
 
@@ -391,8 +392,8 @@ impl Endian for Single {
 
 const WITHOUT_MEMORY: &str = "end fault OutOfMemory\n";
 
-// Attributes of 64 bytes alone and with five lost samples behind it, and one that is refused, with
-// the limit and what is written. The configuration behind the attribute has an order of its own.
+// Attributes of 64 bytes, alone and before five lost samples, and one that is refused, with the
+// limit and what is written. The configuration after the attribute has a byte order of its own.
 #[test]
 fn a_refused_order_ends_the_text_for_want_of_memory(rt: HostRuntime) -> Result<(), AllocError> {
     let input = joined(rt.alloc(), &PLAIN_64, &FIVE_LOST)?;

@@ -19,7 +19,7 @@ use std::test::Fail;
 // Two frames of 16 bytes, which lost 5 and 6.
 const TWO: &[u8] = b"\x0D\0\0\0\0\0\x10\0\x05\0\0\0\0\0\0\0\x0D\0\0\0\0\0\x10\0\x06\0\0\0\0\0\0\0";
 
-// Gives one byte a read, and fails once `before` of them are given: from then on, or once.
+// Gives one byte at a time, and fails after `before` of them: from then on, or once.
 #[derive(Drop)]
 struct Faulty<'a> {
     bytes: &'a [u8],
@@ -60,7 +60,7 @@ const ONCE: &str =
 const TWICE: &str =
     "0 13 0 16 LostSamples lost=5; fault External | fault External | 0 13 0 16 LostSamples lost=6; done";
 
-// What a run says that a fault ends behind so many bytes.
+// The text of a run that a fault ends after `before` bytes.
 fn ended_behind(before: usize) -> &'static str {
     match before {
         0..=15 => "fault External",
@@ -69,7 +69,7 @@ fn ended_behind(before: usize) -> &'static str {
     }
 }
 
-// Asserts what the runs with these limits say over a reader that fails behind so many bytes,
+// Asserts the text of the runs with these limits over a reader that fails after `before` bytes,
 // whatever its error is, and however many bytes are read ahead.
 fn check_reader(
     rt: &(impl AllocGlobal + Abort),
@@ -130,8 +130,8 @@ fn a_fault_of_a_reader_has_it_as_its_cause(rt: HostRuntime) -> Result<(), Fail> 
     Ok(())
 }
 
-// Counts its faults: after `before` bytes come so many, and then all the rest. Its count cannot go
-// past its greatest value, so there it fails no more.
+// Counts its faults: after `before` bytes it fails `to_come` times, and then gives the rest. The
+// count cannot exceed its greatest value, so there it fails no more.
 #[derive(Drop)]
 struct Counting<'p> {
     bytes: &'p [u8],
@@ -179,8 +179,8 @@ impl<'p> ParseBuf<'p> for Counting<'p> {
     }
 }
 
-// Asserts what the runs with these limits say over a buffer that has so many faults to come behind
-// so many bytes, and has had so many.
+// Asserts the text of the runs with these limits over a buffer that fails `to_come` times after
+// `before` bytes, and has already failed `faults` times.
 fn check_counted(
     rt: &(impl AllocGlobal + Abort),
     before: usize,
@@ -199,7 +199,7 @@ fn check_counted(
     Ok(())
 }
 
-// How many faults come and how many there were, the limits of the runs, and what they say.
+// How many faults are to come and how many there were, the limits of the runs, and their text.
 const FAULTS: [((u64, u64), &[usize], &str); 5] = [
     ((0, 0), &[10], NEVER),
     ((1, 0), &[10, 10], ONCE),

@@ -1,4 +1,5 @@
-//! Streams that are generated, each from its own seed: every way through the frames of one says the same.
+//! Generated streams, each from its own seed: every way through the frames of one has the same
+//! result.
 
 use crate::visits::Names;
 use perf_event_data::endian::{Dynamic, Native};
@@ -14,7 +15,7 @@ use std::process::Abort;
 // How many streams there are of each byte order, with sample ids and without.
 const STREAMS: u64 = 2_500;
 
-// How many of each kind these have at least.
+// How many of each kind there are at least.
 const LEAST: u32 = 50;
 
 // Bit 18 of an attribute's flags: every record but SAMPLE has a sample id.
@@ -25,8 +26,8 @@ const SHIFTS: [u32; 16] = [
     0, 40, 56, 60, 61, 62, 62, 62, 62, 63, 63, 63, 63, 63, 63, 63,
 ];
 
-// Types of frames, and how many numbers of eight bytes a record of that type needs. Samples come more
-// often than others; 0, 22, 64 and the last one are not the kernel's.
+// Types of frames, and how many 64-bit numbers a record of that type needs. Samples are more
+// frequent than others; 0, 22, 64 and the last one are not the kernel's.
 const FRAMES: [(u32, u16); 32] = [
     (0, 0),
     (1, 4),
@@ -78,7 +79,7 @@ impl Random {
         mixed ^ (mixed >> 31)
     }
 
-    // A number of two bytes.
+    // A 16-bit number.
     fn short(&mut self) -> u16 {
         let [first, second, ..] = self.number().to_le_bytes();
         u16::from_le_bytes([first, second])
@@ -100,7 +101,7 @@ impl Random {
         FRAMES[usize::from(self.short()) % 32]
     }
 
-    // An attribute with these flags. Each field of a sample is there in one of four.
+    // An attribute with these flags. Each field of a sample is present in one of four.
     fn attribute(&mut self, flags: u64) -> perf_event_attr {
         perf_event_attr {
             sample_type: (self.number() & self.number()) % (1 << 25),
@@ -120,7 +121,7 @@ struct Stream {
     random: Random,
     attr: perf_event_attr,
     order: Dynamic,
-    // Whether each frame is as long as its header says, and as its record needs.
+    // Whether each frame is as long as its header specifies, and as its record needs.
     is_whole: bool,
     bytes: Vec<u8>,
 }
@@ -141,8 +142,8 @@ impl Stream {
         Ok(stream)
     }
 
-    // Makes at most six frames. Every second stream keeps its bytes as they are made, and every second
-    // one its end.
+    // Makes at most six frames. About half of the streams keep their bytes as they are made, and
+    // about half are not cut at the end.
     fn fill(&mut self) -> Result<(), AllocError> {
         for _ in 0..self.random.below(7) {
             self.put_frame()?;
@@ -174,7 +175,7 @@ impl Stream {
         Ok(())
     }
 
-    // How many numbers a frame has behind its header. A sample id has six at most.
+    // How many numbers a frame has after its header. A sample id has at most six.
     fn words(&mut self, needed: u16) -> u16 {
         if self.is_whole {
             needed.saturating_add(6)
@@ -183,7 +184,7 @@ impl Stream {
         }
     }
 
-    // What the header says of a frame that is so long.
+    // The size in the header of a frame of `len` bytes.
     fn size(&mut self, len: u16) -> u16 {
         match self.random.below(6) {
             0 if !self.is_whole => self.random.below(8),
@@ -203,7 +204,7 @@ impl Stream {
 
 // ---- what is read of them
 
-// How many frames are read, of each type and at last of the types from 22 on, how many are refused
+// How many frames are read, of each type and finally of the types from 22 on, how many are refused
 // or have a size below 8, and how many streams end inside a frame or a header.
 #[derive(Drop)]
 struct Seen {
@@ -271,8 +272,8 @@ fn count(number: &mut u32) {
     *number = number.saturating_add(1);
 }
 
-// Asserts that a run that lists records, one that hands out frames and the frames of the slice say the
-// same of a stream, over a slice and another buffer.
+// Asserts that a run that lists records, one that hands out frames and the frames of the slice have
+// the same result for a stream, over a slice and another buffer.
 fn check_stream(
     rt: &(impl AllocGlobal + Abort),
     seed: u64,

@@ -14,7 +14,8 @@ use perf_words::ReadFormat;
 use std::alloc::{AllocError, Global};
 use std::process::Abort;
 
-// The values of up to six entries. An entry's id is 100 more, and its lost samples are 200 more.
+// The values of up to six entries. The id of an entry is 100 more, and its lost samples are 200
+// more.
 const VALUES: [u64; 6] = [1, 2, 3, 4, 5, 6];
 
 // Read formats, and the numbers of the six entries as the kernel writes them.
@@ -30,7 +31,7 @@ const GROUPS: [(u64, &[u64]); 4] = [
     ),
 ];
 
-// What a call does: its last three fall behind six entries or more.
+// What a call does: the last two go past the end of six entries.
 const CALLS: [EntryCall; 8] = [
     EntryCall::Next,
     EntryCall::NextBack,
@@ -42,7 +43,7 @@ const CALLS: [EntryCall; 8] = [
     EntryCall::NthBack(6),
 ];
 
-// Whether it is the entry of that value in that form.
+// Whether it is the entry with that value in that form.
 fn is_entry(format: ReadFormat, entry: Option<GroupEntry>, value: Option<u64>) -> bool {
     match (entry, value) {
         (None, None) => true,
@@ -59,7 +60,7 @@ fn is_entry(format: ReadFormat, entry: Option<GroupEntry>, value: Option<u64>) -
     }
 }
 
-// Whether four calls, named by their places in `CALLS`, answer what those of a list's iterator do.
+// Whether four calls, by their indices in `CALLS`, return what those of a list's iterator do.
 fn goes_as_a_list(
     entries: GroupIter<'_>,
     format: ReadFormat,
@@ -83,8 +84,8 @@ fn goes_as_a_list(
     true
 }
 
-// Asserts that the entries of these numbers go as a list of their values does, in any mixture of
-// four calls.
+// Asserts that iterating over the entries of these numbers is like iterating over a list of their
+// values, in any mixture of four calls.
 fn check_mixtures(rt: &impl Abort, format: ReadFormat, numbers: CowSlice<'_, u64>, values: &[u64]) {
     assert_eq!(rt; numbers.len() % format.element_len(), 0);
     let group = ReadGroup::from_parts(format, 0, 0, numbers);
@@ -95,7 +96,7 @@ fn check_mixtures(rt: &impl Abort, format: ReadFormat, numbers: CowSlice<'_, u64
     }
 }
 
-// Asserts it where the numbers are borrowed and where they are owned.
+// Asserts it for borrowed and for owned numbers.
 fn check_group(
     rt: &(impl AllocGlobal + Abort),
     format: ReadFormat,
@@ -154,8 +155,8 @@ fn entries_from_both_ends(rt: HostRuntime) {
     );
 }
 
-// What a copy of a group's entries says while these go on: how many are left of both, and what it
-// answers from both ends.
+// A copy of a group's entries while these advance: how many are left of both, and what the copy
+// returns from both ends.
 fn told_of_a_copy(alloc: Global, group: &ReadGroup<'_>) -> ParseResult<String> {
     let mut entries = group.entries();
     let _ = entries.nth(1);
@@ -177,13 +178,13 @@ fn a_copy_of_entries_goes_on_alone(rt: HostRuntime) {
     );
 }
 
-// Entries of values and ids, whose times the read format leaves out.
+// Entries with values and ids, under a read format without times.
 pub fn with_ids() -> ReadGroup<'static> {
     let numbers = CowSlice::Borrowed(&[10u64, 1, 20, 2, 30, 2]);
     ReadGroup::from_parts(ReadFormat::from_bits_retain(0x0c), 7, 8, numbers)
 }
 
-// An entry of a value and its lost samples, with both times.
+// An entry with a value and its lost samples, with both times.
 pub fn without_ids() -> ReadGroup<'static> {
     let numbers = CowSlice::Borrowed(&[10u64, 1]);
     ReadGroup::from_parts(ReadFormat::from_bits_retain(0x1b), 7, 8, numbers)
@@ -221,7 +222,7 @@ fn entries_by_their_ids(rt: HostRuntime) {
     );
 }
 
-// What the calls of a read answer.
+// The results of the calls of a read.
 fn numbers_of_read(read: &ReadValue) -> [Option<u64>; 5] {
     [
         Some(read.value()),
@@ -237,7 +238,7 @@ fn single() -> ReadValue {
     ReadValue::from_parts(ReadFormat::from_bits_retain(0x17), 3, 4, 5, 6, 7)
 }
 
-// One with its id alone.
+// One with only its id.
 pub fn single_with_id() -> ReadValue {
     ReadValue::from_parts(ReadFormat::ID, 3, 4, 5, 6, 7)
 }
@@ -278,13 +279,13 @@ fn reads_are_cloned(rt: HostRuntime) {
     );
 }
 
-// A clone of a read behind a group of one.
+// A clone of a read, converted to a group of one and back.
 fn behind_a_group(alloc: Global) -> ParseResult<Result<ReadValue, TryFromGroupError>> {
     let group = ReadGroup::from_value(alloc, single().clone()?)?;
     Ok(ReadValue::try_from(group))
 }
 
-// A read behind two groups of one.
+// A read, converted to a group of one and back, twice.
 fn behind_two_groups(alloc: Global) -> ParseResult<Result<ReadValue, TryFromGroupError>> {
     match behind_a_group(alloc)? {
         Ok(read) => through_a_group(alloc, read),
@@ -302,7 +303,7 @@ fn a_read_is_the_same_behind_a_group(rt: HostRuntime) {
     check_debug(&rt, &behind_two_groups(alloc), want);
 }
 
-// What a read of a group's times, and of the first entry of a group, answers.
+// The results of a read that is made from the times of one group and the first entry of another.
 fn read_of(group: &ReadGroup<'_>, entries: &ReadGroup<'_>) -> Option<[Option<u64>; 5]> {
     match entries.get(0) {
         Some(entry) => Some(numbers_of_read(&ReadValue::from_group_and_entry(group, &entry))),
@@ -328,7 +329,7 @@ fn entry_of_another_group(rt: HostRuntime) {
     );
 }
 
-// What a group says that is no read of one counter.
+// The error of a group that is no read of one counter.
 fn told_refusal(alloc: Global, group: ReadGroup<'_>) -> ParseResult<String> {
     match ReadValue::try_from(group) {
         Ok(read) => Ok(format!(in alloc; "{read:?}")?),

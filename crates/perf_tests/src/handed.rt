@@ -1,4 +1,4 @@
-//! How long the buffers are that a reader is handed.
+//! The length of the buffers that a reader is handed.
 
 ghost use Rattle.std.specs.Prelude.{◌<◌};
 

@@ -1,5 +1,5 @@
-//! A buffer whose hint of how many bytes are left follows a rule of its own, and that counts the calls
-//! of its `chunk`.
+//! A buffer whose hint of the bytes left follows a rule of its own, and that counts the calls of
+//! its `chunk`.
 
 ghost use Rattle.std.specs.Prelude.{false, None, []};
 
@@ -18,7 +18,7 @@ use std::test::Fail;
 enum Rule {
     // How many bytes are left.
     Left,
-    // How many were not read ahead: the length of a file without what was fetched of it.
+    // How many were not read ahead: the length of a file without what was already fetched.
     Unread,
     // The first until a byte is taken, and the second from then on.
     Around(Option<usize>, Option<usize>),
@@ -59,7 +59,7 @@ impl<'a, 'p> Hinting<'a, 'p> {
         }
     }
 
-    // Reads ahead, where nothing is ready.
+    // Reads ahead, if nothing is ready.
     fn read_ahead(&mut self) {
         let count = self.ahead.min(self.unread.len());
         (self.ready, self.unread) = self.unread.split_at(count);
@@ -134,8 +134,8 @@ const SIZE: u16 = 4096;
 // The length of its body.
 const BODY: usize = 4088;
 
-// A type, the text of a run of one frame of it, and the text where the hint is below the length of the
-// body.
+// A type, the text of a run over one frame of it, and the text if the hint is below the length of
+// the body.
 const TYPES: [(u8, &str, &str); 3] = [
     (
         9,
@@ -154,7 +154,8 @@ const TYPES: [(u8, &str, &str); 3] = [
     ),
 ];
 
-// Asserts the text of a run of one frame over a buffer with this rule, whose bytes last or not.
+// Asserts the text of a run of one frame over a buffer with this rule, with bytes that live as long
+// as the input and with bytes that do not.
 fn check_rule(rt: &(impl AllocGlobal + Abort), bytes: &[u8], ahead: usize, rule: Rule, want: &str) {
     let attr = attribute(IP, 0);
     for lasting in [true, false] {
@@ -212,7 +213,7 @@ fn the_hint_after_the_header_counts(rt: HostRuntime) -> Result<(), Fail> {
 // How often a run calls it for a frame that one chunk contains: for the header, and for the body.
 const CHUNKS_OF_A_FRAME: usize = 2;
 
-// How often it calls it to see for how many answers it makes room, and at the end.
+// How often it calls it besides: to reserve capacity for results, and at the end.
 const CHUNKS_BESIDE: usize = 2;
 
 // A type, and how the text of a run over five frames of 24 bytes ends.

@@ -1,4 +1,4 @@
-//! Lines of tasks and of samples: what the recordings have no record of.
+//! Lines of tasks and of samples that the recordings do not contain.
 
 use crate::checks::check_same;
 use perf_event_data::parse::ParseResult;
@@ -44,7 +44,7 @@ fn build_id_stands_for_the_file(rt: HostRuntime) {
     check_line(&rt, Report::Tasks, Ok(record), want);
 }
 
-// Names, and how they stand in a line.
+// Names, and how they are written in a line.
 const NAMES: [(&[u8], &str); 9] = [
     (b"sh\nexit 1", "comm 1 2 sh\\x0aexit 1"),
     (b"\x1b[2J", "comm 1 2 \\x1b[2J"),
@@ -97,7 +97,7 @@ fn absent_fields_are_dashes(rt: HostRuntime) {
     check_line(&rt, Report::Samples, found, "- - -/- - - -: -");
 }
 
-// Of the hypervisor, which has no word here, of the kernel, and of the program.
+// Addresses of the hypervisor, which has no word here, of the kernel, and of the program.
 const CHAIN: [u64; 6] = [
     u64::MAX - 31,
     u64::MAX - 127,

@@ -1,4 +1,4 @@
-//! Sample ids, and what is known of a frame beside its record.
+//! Sample ids, and what is known of a frame besides its record.
 
 use crate::check;
 use perf_event_data::endian::Little;
@@ -21,7 +21,7 @@ const IDENTIFIER: u64 = 1 << 16;
 
 const ALL_SIX: u64 = TID | TIME | ID | CPU | STREAM_ID | IDENTIFIER;
 
-// Sample types of events that have `sample_id_all`, and how many bytes their sample ids have.
+// Sample types of events that have `sample_id_all`, and the lengths of their sample ids.
 const LENGTHS: [(u64, usize); 14] = [
     (0, 0),
     (ALL_SIX, 48),

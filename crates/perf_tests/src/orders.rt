@@ -17,7 +17,7 @@ use std::cell::Cell;
 use std::process::Abort;
 use std::test::Fail;
 
-/// What is asked in an order of a user's own.
+/// What is asked for in a byte order of a user's own.
 #[derive(Copy, Clone)]
 pub enum Asking {
     /// A run in eights.
@@ -28,12 +28,12 @@ pub enum Asking {
     Single,
     /// A parser of a frame's body in that order.
     Body,
-    /// A run of one frame, and whether at least one number of eight bytes is converted, and no more
-    /// than so many.
+    /// A run of one frame, and whether at least one and at most this many 64-bit numbers are
+    /// converted.
     Count(u64),
 }
 
-// Every number of two bytes is 8. The others have their lowest byte first.
+// Every 16-bit number is 8. The others are in little endian.
 #[derive(Copy, Clone)]
 struct Eights;
 
@@ -63,7 +63,7 @@ impl Endian for Eights {
     }
 }
 
-// Words of two bytes, the highest word first, each with its low byte first.
+// Words of two bytes, the most significant word first, each in little endian.
 #[derive(Copy, Clone)]
 struct Words;
 
@@ -96,7 +96,7 @@ impl Endian for Words {
     }
 }
 
-// The lowest byte first. There is never memory for a second one.
+// Little endian. There is never memory for a second one.
 #[derive(Copy, Clone)]
 struct Single;
 
@@ -126,7 +126,7 @@ impl Endian for Single {
     }
 }
 
-// All that is left is a number.
+// The rest is a number.
 fn told_left<'p, B: ParseBuf<'p>, E: Endian>(
     alloc: Global,
     parser: &mut Parser<B, E>,
@@ -136,7 +136,7 @@ fn told_left<'p, B: ParseBuf<'p>, E: Endian>(
     Ok(format!(in alloc; "{number} {:?}", rest.as_slice())?)
 }
 
-// The frame is taken, for whose body there is no parser, and the next one is read.
+// Takes the frame, for whose body there is no parser, and reads the next one.
 fn told_refusals<'p, B: ParseBuf<'p>, E: Endian>(
     alloc: Global,
     parser: &mut Parser<B, E>,
@@ -160,7 +160,7 @@ fn told_count<'p, B: ParseBuf<'p> + Drop>(alloc: Global, buf: B, most: u64) -> P
     Ok(format!(in alloc; "{text}, {is_within}")?)
 }
 
-/// What is answered in an order of a user's own.
+/// The results in a byte order of a user's own.
 pub fn told_by_order<'p, B: ParseBuf<'p> + Drop>(
     alloc: Global,
     buf: B,
@@ -203,8 +203,8 @@ const CASES: [Case; 9] = [
         want: "Some(OutOfMemory) perf_event_header { type_: 13, misc: 0, size: 16 } \
             Some(OutOfMemory) 7 []",
     },
-    // Frames of NAMESPACES that say they have 2^63 of them, and have so many numbers instead, of
-    // which the count itself is the first.
+    // Frames of NAMESPACES that claim 2^63 of them, and contain only as many numbers as given here,
+    // of which the count itself is the first.
     Case {
         name: "a hostile count in 24 bytes",
         asked: Asked::InOrder(Asking::Count(1)),
@@ -260,7 +260,7 @@ fn a_refused_duplicate_refuses_the_configuration(rt: HostRuntime) {
     );
 }
 
-// What an order makes of the bytes 1 to 8.
+// What a byte order makes of the bytes 1 to 8.
 fn converted<E: Endian>(order: &E) -> (u16, u32, u64) {
     (
         order.convert_u16([1, 2]),
@@ -319,7 +319,7 @@ fn a_configuration_keeps_its_order(rt: HostRuntime) -> Result<(), Fail> {
     Ok(())
 }
 
-// The order of a parser, that of its configuration, and the next header.
+// The byte order of a parser, that of its configuration, and the next header.
 fn told_parser<'p, B: ParseBuf<'p>>(
     alloc: Global,
     parser: &mut Parser<B, Dynamic>,

@@ -11,7 +11,7 @@ use perf_event_data::parse::{
 };
 use std::alloc::{AllocError, Global};
 
-/// What is asked of types of a user's own.
+/// What is asked for: types of a user's own.
 #[derive(Copy, Clone)]
 pub enum Own {
     /// Two lists, and one that is refused.
@@ -26,7 +26,7 @@ struct Task {
     tid: u32,
 }
 
-// It costs two reads, whatever it says.
+// Its cost is two reads, whatever its bytes are.
 impl Layout for Task {
     ghost parses = { λ old seen new. ⊤ };
 
@@ -50,7 +50,7 @@ struct OwnSample {
     cgroup: u64,
 }
 
-// Nothing is said of it.
+// Nothing is specified.
 impl Layout for OwnSample {
     ghost parses = { λ old seen new. ⊤ };
 
@@ -104,13 +104,13 @@ pub fn tell_sample<'p, E: Endian>(
     Ok(write!(text, " {:?}", rest.as_slice())?)
 }
 
-// A number of numbers, and the numbers.
+// A count, and as many numbers.
 #[derive(Drop)]
 struct OwnList {
     numbers: Vec<u64>,
 }
 
-// It counts as what this library parses does.
+// It counts reads as the types of this library do.
 impl Layout for OwnList {
     ghost parses = { λ old seen new. ⊤ };
 }
@@ -124,7 +124,7 @@ impl<'p, B: ParseBuf<'p>> Parse<'p, B> for OwnList {
     }
 }
 
-// The same as a list that is owned.
+// The same as an owned list.
 #[derive(Drop)]
 struct OwnSlice<'a> {
     numbers: CowSlice<'a, u64>,
@@ -185,7 +185,7 @@ fn told_evens<'p, B: ParseBuf<'p>, E: Endian>(
     })
 }
 
-/// What a parser answers that is asked for types of a user's own.
+/// The results of a parser for types of a user's own.
 pub fn told_own<'p, B: ParseBuf<'p>, E: Endian>(
     alloc: Global,
     parser: &mut Parser<B, E>,
@@ -202,8 +202,7 @@ const SAMPLE: &[u8] = b"\x09\0\0\0\0\0\x48\0\x10\x12\x33\x48\x99\x1A\x2B\x3C\x02
     \x04\0\0\0\0\0\0\0\x01\xF0\0\0\0\0\0\0\x02\xF0\0\0\0\0\0\0\x03\xF0\0\0\0\0\0\0\
     \x04\xF0\0\0\0\0\0\0\xC9\x40\x65\0\0\x65\x40\xC9";
 
-// Its type and misc, what its sample id has, its fields, of which the list is 0xF001 to 0xF004, and
-// its rest.
+// Its type and misc, its sample id, its fields, with a list of 0xF001 to 0xF004, and the rest.
 const SAMPLE_TEXT: &str = "9 0 (None, None, None) (None, None, None): \
     0x3c2b1a9948331210 2 3 [61441, 61442, 61443, 61444] 0xc9406500006540c9 []";
 
@@ -220,7 +219,7 @@ const CASES: [Case; 4] = [
         bytes: SAMPLE,
         want: SAMPLE_TEXT,
     },
-    // Behind the lists is one that says it has more numbers than there are.
+    // After the lists comes one that claims more numbers than there are.
     Case {
         name: "a list of one's own counts as all that is parsed",
         asked: Asked::Own(Own::Lists),

@@ -14,14 +14,14 @@ use perf_testing::told::Tell;
 use std::alloc::AllocError;
 use std::cell::Cell;
 
-/// The name of each call, all of which it has itself.
+/// The name of each call; it has all of them itself.
 #[derive(Copy, Clone)]
 pub struct OwnCalls;
 
 impl PartialVisitor for OwnCalls {
     type Output = &'static str;
 
-    // Nothing is said of it.
+    // Nothing is specified.
     ghost gives = { λ seen output. ⊤ };
 
     ghost left_out = { λ metadata output. ⊤ };
@@ -127,13 +127,13 @@ impl PartialVisitor for OwnCalls {
     }
 }
 
-/// It has a call of its own for mappings alone, and each visit is counted.
+/// It has a call of its own for mappings only, and counts visits.
 #[derive(Copy, Clone)]
 pub struct Mappings<'v> {
     pub visits: &'v Cell<u32>,
 }
 
-/// Which call was made, and the time, the CPU and the type of the record, by its metadata alone.
+/// Which call was made, and the time, the CPU and the type of the record, from its metadata.
 #[derive(Copy, Clone)]
 pub struct Moment {
     call: &'static str,
@@ -165,7 +165,7 @@ impl Mappings<'_> {
 impl PartialVisitor for Mappings<'_> {
     type Output = Moment;
 
-    // Nothing is said of it.
+    // Nothing is specified.
     ghost gives = { λ seen output. ⊤ };
 
     ghost left_out = { λ metadata output. ⊤ };
@@ -179,13 +179,13 @@ impl PartialVisitor for Mappings<'_> {
     }
 }
 
-// MMAP2 whose build id has the length 21.
+// MMAP2 with a build id of length 21.
 const BY_LONG_BUILD_ID: &[u8] = b"\x0A\0\0\0\0\x40\x50\0\x01\0\0\0\x02\0\0\0\
     \0\x10\0\0\0\0\0\0\0\x20\0\0\0\0\0\0\0\0\0\0\0\0\0\0\
     \x15\0\0\0\x01\x02\x03\x04\x05\x06\x07\x08\x09\x0A\x0B\x0C\x0D\x0E\x0F\x10\x11\x12\x13\x14\
     \x05\0\0\0\x02\0\0\0\x61\x62\0\0\0\0\0\0";
 
-// What the visitor of mappings makes of frames, and how many visits that takes.
+// What the visitor of mappings makes of frames, and the number of visits.
 const CASES: [Case; 4] = [
     Case {
         name: "MMAP2 goes to its own call for mappings",

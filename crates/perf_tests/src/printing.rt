@@ -1,5 +1,5 @@
-//! What is printed of a recording, also if a record is refused, a header is cut or the input fails, and
-//! when lines go out.
+//! What is printed of a recording, also if a record is refused, a header is cut or the input fails,
+//! and when lines are written.
 
 use crate::checks::{check_same, check_that};
 use crate::runs::{PLAIN_64, PLAIN_100, joined};
@@ -21,7 +21,7 @@ use std::process::Abort;
 // COMM of process 1 and thread 2, whose name is `sh`.
 const COMM: &[u8] = b"\x03\0\0\0\0\0\x18\0\x01\0\0\0\x02\0\0\0sh\0\0\0\0\0\0";
 
-// A record that is refused, as its header says that it has 7 bytes.
+// A record that is refused because its header contains the size 7.
 const SMALL: &[u8] = b"\x02\0\0\0\0\0\x07\0";
 
 // Why it is refused.
@@ -37,9 +37,9 @@ fn note(log: &Cell<u64>, mark: u64, byte: u8) {
     log.set(noted.wrapping_add(u64::from(byte)));
 }
 
-// Gives bytes, at most `most` a read, and then ends, or fails with each read. A batch begins wherever
-// so many bytes are left as one of `batches` says: no read goes on past that, and the log has each read
-// there.
+// Gives bytes, at most `most` at a time, and then ends, or fails with each read. A batch begins
+// wherever the number of bytes left is one of `batches`: no read goes past that, and the log has
+// each read there.
 #[derive(Copy, Clone)]
 struct Input<'a> {
     log: &'a Cell<u64>,
@@ -79,7 +79,7 @@ impl Read for Input<'_> {
     }
 }
 
-// How many bytes are left, after an attribute of 64 bytes, where every 256th frame begins.
+// For each 256th frame, how many bytes are left where it begins, after an attribute of 64 bytes.
 fn batches_of(alloc: Global, bytes: &[u8]) -> Result<Vec<usize>, AllocError> {
     let mut batches = Vec::new(alloc);
     let mut rest = bytes.get(64..).unwrap_or_default();
@@ -96,7 +96,8 @@ fn batches_of(alloc: Global, bytes: &[u8]) -> Result<Vec<usize>, AllocError> {
     Ok(batches)
 }
 
-// Appends a COMM record of process 1 and thread 2, whose name ends in zeros up to eight bytes.
+// Appends a COMM record of process 1 and thread 2, whose name is padded to a multiple of eight
+// bytes.
 fn push_named(bytes: &mut Vec<u8>, name: &[u8]) -> Result<(), AllocError> {
     let padded = (name.len() / 8).saturating_add(1).saturating_mul(8);
     let size = u16::try_from(padded.saturating_add(16)).unwrap_or(u16::MAX);
@@ -109,7 +110,7 @@ fn push_named(bytes: &mut Vec<u8>, name: &[u8]) -> Result<(), AllocError> {
     Ok(())
 }
 
-// An attribute, and COMM records whose names grow, every so many of them behind a refused record.
+// An attribute, and COMM records whose names grow, with a refused record before every `refused`-th.
 fn growing(alloc: Global, count: usize, refused: usize) -> Result<Vec<u8>, AllocError> {
     let mut bytes = Vec::from_slice(alloc, &PLAIN_64)?;
     let name = [b'n'; 512];
@@ -122,7 +123,7 @@ fn growing(alloc: Global, count: usize, refused: usize) -> Result<Vec<u8>, Alloc
     Ok(bytes)
 }
 
-// An attribute, a COMM record, one with a name of so many bytes, and one more.
+// An attribute, a COMM record, one with a name of `len` bytes, and one more.
 fn long_name(alloc: Global, len: usize) -> Result<Vec<u8>, AllocError> {
     let mut bytes = joined(alloc, &PLAIN_64, COMM)?;
     let mut name = Vec::new(alloc);
@@ -132,7 +133,7 @@ fn long_name(alloc: Global, len: usize) -> Result<Vec<u8>, AllocError> {
     Ok(bytes)
 }
 
-// An attribute that asks for call chains, and samples with so many addresses each.
+// An attribute that asks for call chains, and samples with these numbers of addresses.
 fn chained(alloc: Global, counts: &[u16]) -> Result<Vec<u8>, AllocError> {
     let mut bytes = Vec::from_slice(alloc, CHAINS)?;
     for count in counts {
@@ -149,8 +150,8 @@ fn chained(alloc: Global, counts: &[u16]) -> Result<Vec<u8>, AllocError> {
 
 // ---- what is printed
 
-// What is printed of an attribute and of the bytes behind it: the lines, the errors, and how it ended:
-// `clean`, `refused` or the text of an error.
+// What is printed of an attribute and of the bytes after it: the lines, the errors, and how it
+// ended: `clean`, `refused` or the text of an error.
 #[derive(Copy, Clone)]
 struct Printed<'a> {
     name: &'a str,
@@ -326,7 +327,7 @@ fn an_early_refusal_is_not_forgotten(rt: HostRuntime) -> Result<(), AllocError> 
     check_printed(&rt, case)
 }
 
-// ---- what goes out in a write
+// ---- what is written at a time
 
 // Counts writes, and notes whether each is of whole lines, and of at most 4,096 bytes if it is of
 // several.
@@ -352,7 +353,7 @@ impl Write for Whole {
     }
 }
 
-// In how many writes the lines of a recording go out, all of which are of whole lines.
+// The number of writes for the lines of a recording, all of which are of whole lines.
 fn writes_of(rt: &(impl AllocGlobal + Abort), input: &[u8], report: Report) -> usize {
     let mut output = Whole {
         writes: 0,
@@ -391,8 +392,8 @@ fn a_write_is_of_whole_lines(rt: HostRuntime) -> Result<(), AllocError> {
         5,
     );
 
-    // Lines of 12 bytes, of 10 more than the name, and of 12 bytes: the second fits with both others,
-    // with the first, with none.
+    // Lines of 12 bytes, of 10 more than the name, and of 12 bytes: the second fits with both
+    // others, with the first, with none.
     for (len, writes) in [
         (4062, 1),
         (4063, 2),
@@ -426,9 +427,9 @@ fn a_write_is_of_whole_lines(rt: HostRuntime) -> Result<(), AllocError> {
     Ok(())
 }
 
-// ---- what goes out, and when
+// ---- what is written, and when
 
-// One of two outputs of one log, whose bytes it marks. It takes so many bytes, and then it fails.
+// One of two outputs with one log, whose bytes it marks. It takes `room` bytes, and then it fails.
 #[derive(Copy, Clone)]
 struct Output<'a> {
     log: &'a Cell<u64>,
@@ -506,7 +507,7 @@ fn print_by_lines(
     Ok(clean)
 }
 
-// A recording that may fail behind its bytes, and two outputs that have room for so many bytes.
+// A recording that may fail after its bytes, and two outputs with this capacity.
 #[derive(Copy, Clone)]
 struct Case<'a> {
     bytes: &'a [u8],
@@ -516,7 +517,7 @@ struct Case<'a> {
     errors: usize,
 }
 
-// A number of which batches are read and of what goes out, how much room is left then, and how it ended.
+// A digest of which batches are read and of what is written, the capacity left, and how it ended.
 fn told_of(
     alloc: Global,
     case: Case<'_>,
@@ -549,8 +550,9 @@ fn told_of(
     Ok((log.get(), output.room, errors.room, ended(alloc, printed)?))
 }
 
-// Asserts that lines that go out together go out as if each went alone: the same bytes in the same
-// order, on both outputs, before the same batch is read, also if one fails, and with the same error.
+// Asserts that lines that are written together are written as if each were alone: the same bytes in
+// the same order, on both outputs, before the same batch is read, also if one fails, and with the
+// same error.
 fn check_gathered(rt: &(impl AllocGlobal + Abort), case: Case<'_>) -> Result<(), AllocError> {
     let gathered = told_of(rt.alloc(), case, true)?;
     let by_lines = told_of(rt.alloc(), case, false)?;
@@ -562,7 +564,7 @@ fn check_gathered(rt: &(impl AllocGlobal + Abort), case: Case<'_>) -> Result<(),
 
 const ROOMS: [usize; 6] = [usize::MAX, 0, 1_000, 4_096, 33_000, 80_000];
 
-// Asserts it for all rooms, and for an input that fails or is cut.
+// Asserts it for all capacities, and for an input that fails or is cut.
 fn check_orders(
     rt: &(impl AllocGlobal + Abort),
     bytes: &[u8],

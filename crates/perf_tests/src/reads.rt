@@ -24,12 +24,12 @@ fn reading(read_format: u64) -> perf_event_attr {
     attribute(0, read_format)
 }
 
-// The configuration that it gives.
+// The configuration of that attribute.
 fn with_format(read_format: u64) -> ParseConfig<Little> {
     ParseConfig::from(reading(read_format))
 }
 
-// READ of process 1 and thread 2, whose read is the numbers from 3 to 7.
+// READ of process 1 and thread 2, with the numbers from 3 to 7.
 const SEVEN: &[u8] = b"\x08\0\0\0\0\0\x38\0\x01\0\0\0\x02\0\0\0\x03\0\0\0\0\0\0\0\
     \x04\0\0\0\0\0\0\0\x05\0\0\0\0\0\0\0\x06\0\0\0\0\0\0\0\x07\0\0\0\0\0\0\0";
 
@@ -49,7 +49,7 @@ fn a_read_as_a_group_and_back(rt: HostRuntime) -> Result<(), Fail> {
     Ok(())
 }
 
-// The bytes of numbers, the lowest first.
+// The bytes of numbers in little endian.
 fn bytes_of(alloc: Global, numbers: &[u64]) -> Result<Vec<u8>, AllocError> {
     let mut bytes = Vec::new(alloc);
     for number in numbers {

@@ -1,4 +1,4 @@
-//! Records: cut lists, equality, defaults, texts, and what calls of plain ones answer.
+//! Records: cut lists, equality, defaults, texts, and the results of calls of plain ones.
 
 use crate::checks::{check_debug, check_numbers};
 use bitflags::Flags;
@@ -24,7 +24,7 @@ use std::alloc::{AllocError, Global};
 use std::hash::{BuildHasherDefault, FoldHasher};
 use std::process::Abort;
 
-// The parts of a clone of a list that is split at a place: behind its last item, where it is
+// The parts of a clone of a list that is split at an index, or after its last item if it is
 // shorter.
 fn parts_of<'a>(
     alloc: Global,
@@ -36,8 +36,8 @@ fn parts_of<'a>(
     items.split_at(alloc, at)
 }
 
-// Asserts what is left of a list that is cut to four items, and then to five, and its parts where
-// it is split at places.
+// Asserts what is left of a list that is cut to four items, and then to five, and its parts if it
+// is split at some indices.
 fn check_cut(
     rt: &(impl AllocGlobal + Abort),
     items: CowSlice<'_, u8>,
@@ -92,7 +92,7 @@ fn alike(compared: Compared) -> [bool; 2] {
     [compared.equal, compared.first_hash == compared.second_hash]
 }
 
-// How orders and kinds of refusals compare.
+// How byte orders and kinds of errors compare.
 fn orders_and_kinds() -> [[bool; 2]; 4] {
     let hashing = BuildHasherDefault::<FoldHasher>::new();
     let (big, little) = (Dynamic::Big, Dynamic::Little);

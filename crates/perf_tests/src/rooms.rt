@@ -1,4 +1,4 @@
-//! How much room there is in the list of a run's frames.
+//! The capacity of the list of a run's frames.
 
 use crate::checks::{check_same, check_that};
 use crate::runs::{FIVE_LOST, TWO};
@@ -45,8 +45,8 @@ fn a_list_of_nothing_has_no_room(rt: HostRuntime) -> Result<(), Fail> {
     Ok(())
 }
 
-// Room for an answer is made before anything of its frame is taken, and so before it is seen that the
-// header is cut.
+// Capacity for a result is reserved before anything of its frame is taken, and so before it is seen
+// that the header is cut.
 #[test]
 fn a_part_of_a_header_has_room_for_one(rt: HostRuntime) -> Result<(), Fail> {
     let told = rooms(rt.alloc(), &[13, 0, 0], 10)?;
@@ -54,8 +54,8 @@ fn a_part_of_a_header_has_room_for_one(rt: HostRuntime) -> Result<(), Fail> {
     Ok(())
 }
 
-// How many bytes a list of four frames takes, each with its header and its record: the least capacity
-// that a list grows to.
+// The size in bytes of a list of four frames, each with its header and its record: the least
+// capacity that a list grows to.
 const MOST: usize = 1248;
 
 fn check_one(rt: &impl Abort, (count, room): (usize, usize)) {

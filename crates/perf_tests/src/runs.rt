@@ -8,7 +8,7 @@ use std::alloc::{AllocError, Global};
 use std::io::Read;
 use std::process::Abort;
 
-/// Five lost samples twice, the lowest byte first.
+/// Two records of five lost samples, in little endian.
 pub const TWO: [u8; 32] = [
     13, 0, 0, 0, 0, 0, 16, 0, 5, 0, 0, 0, 0, 0, 0, 0, 13, 0, 0, 0, 0, 0, 16, 0, 5, 0, 0, 0, 0, 0,
     0, 0,
@@ -20,7 +20,7 @@ pub const TEXT: &str = "0 13 0 16 LostSamples lost=5\n1 13 0 16 LostSamples lost
 /// One of them.
 pub const FIVE_LOST: [u8; 16] = [13, 0, 0, 0, 0, 0, 16, 0, 5, 0, 0, 0, 0, 0, 0, 0];
 
-/// A frame that is refused and five lost samples.
+/// A frame that is refused, and a record of five lost samples.
 pub const REFUSED: [u8; 24] = [
     2, 0, 0, 0, 0, 0, 7, 0, 13, 0, 0, 0, 0, 0, 16, 0, 5, 0, 0, 0, 0, 0, 0, 0,
 ];
@@ -29,7 +29,7 @@ pub const REFUSED: [u8; 24] = [
 pub const REFUSED_TEXT: &str =
     "0 2 0 7 refused InvalidRecord\n1 13 0 16 LostSamples lost=5\nend done\n";
 
-/// An attribute of 64 bytes that says nothing but its size.
+/// An attribute of 64 bytes that contains only its size.
 pub const PLAIN_64: [u8; 64] = [
     0, 0, 0, 0, 64, 0, 0, 0, 0, 0, 0, 0, 0, 0, 0, 0, 0, 0, 0, 0, 0, 0, 0, 0, 0, 0, 0, 0, 0, 0, 0,
     0, 0, 0, 0, 0, 0, 0, 0, 0, 0, 0, 0, 0, 0, 0, 0, 0, 0, 0, 0, 0, 0, 0, 0, 0, 0, 0, 0, 0, 0, 0, 0,
@@ -51,14 +51,14 @@ pub const PLAIN_100: [u8; 100] = [
     0, 0, 0, 0, 0,
 ];
 
-/// Some bytes and others behind them.
+/// Some bytes and others after them.
 pub fn joined(alloc: Global, first: &[u8], second: &[u8]) -> Result<Vec<u8>, AllocError> {
     let mut bytes = Vec::from_slice(alloc, first)?;
     bytes.extend_from_slice(second)?;
     Ok(bytes)
 }
 
-/// What a run is asked for, what it writes and how it ends.
+/// The arguments of a run, what it writes and how it ends.
 #[derive(Copy, Clone)]
 pub struct Told<'a> {
     pub limit: usize,

@@ -45,7 +45,7 @@ const HOSTILE: [u64; 13] = [
     u64::MAX,
 ];
 
-// How many numbers of eight bytes are made of a run's first frame, which is refused.
+// How many 64-bit numbers are made from a run's first frame, which is refused.
 fn conversions<'p, B: ParseBuf<'p> + Drop>(
     rt: &(impl AllocGlobal + Abort),
     buf: B,
@@ -68,8 +68,8 @@ fn check_conversions(rt: &impl Abort, calls: u64, most: u64) {
     check_that(rt, "at most as many as there are", calls <= most);
 }
 
-// Asserts that of a frame of this body at most so many numbers are made, and one at least where
-// there may be any.
+// Asserts that at most `most` numbers are made from a frame of this body, and at least one if there
+// may be any.
 fn check_most(
     rt: &(impl AllocGlobal + Abort),
     attr: perf_event_attr,
@@ -94,8 +94,8 @@ const THREE_BYTES: &[Part] = &[Bytes(b"\x01\x02\x03")];
 
 const FOUR_NUMBERS: &[Part] = &[U64(1), U64(2), U64(3), U32(4)];
 
-// A sample type, a read format, which branches are asked for, what stands behind a count, and how
-// many numbers of eight bytes there may be with it. Bytes are no numbers.
+// A sample type, a read format, which branches are asked for, what comes after a count, and how
+// many 64-bit numbers there may be with it. Bytes are no numbers.
 const BODIES: [(u64, u64, u64, &[Part], u64); 8] = [
     (CALLCHAIN, 0, 0, &[U64(1)], 2),
     (BRANCH_STACK, 0, 0, &[U64(1)], 2),

@@ -1,4 +1,4 @@
-//! Samples that are made of their fields.
+//! Samples that are made from their fields.
 
 use crate::checks::{check_debug, check_told};
 use bitflags::Flags;
@@ -34,7 +34,7 @@ fn bits_of(transaction: Option<Txn>) -> Option<u64> {
     }
 }
 
-// Which task, when and of which event, as the numbers that the calls answer.
+// The task, the time and the event, as the numbers that the calls return.
 fn origin_of(sample: &Sample<'_>) -> [Option<u64>; 9] {
     [
         sample.ip(),
@@ -63,7 +63,7 @@ fn numbers_of(sample: &Sample<'_>) -> [Option<u64>; 8] {
     ]
 }
 
-// Writes what the calls of a sample answer on a line.
+// Writes the results of a sample's calls on a line.
 fn tell_sample(text: &mut String, sample: &Sample<'_>) -> ParseResult<()> {
     let lists = (
         sample.values(),
@@ -84,7 +84,7 @@ fn sample_of_a_clone<'a>(alloc: Global, fields: &SampleFields<'a>) -> ParseResul
     Ok(Sample::from_fields(fields.clone(alloc)?))
 }
 
-// Writes what a copy of a sample answers.
+// Writes the results of a copy of a sample.
 fn tell_copy(text: &mut String, copy: ParseResult<Sample<'_>>) -> ParseResult<()> {
     match copy {
         Ok(sample) => tell_sample(text, &sample),
@@ -92,18 +92,18 @@ fn tell_copy(text: &mut String, copy: ParseResult<Sample<'_>>) -> ParseResult<()
     }
 }
 
-// Writes what a sample answers, and its clone.
+// Writes the results of a sample, and of its clone.
 fn tell_with_clone(text: &mut String, alloc: Global, sample: &Sample<'_>) -> ParseResult<()> {
     tell_sample(text, sample)?;
     tell_copy(text, sample.clone(alloc))
 }
 
-// Writes what a sample of these fields answers, and its clone.
+// Writes the results of a sample of these fields, and of its clone.
 fn tell_fields(text: &mut String, alloc: Global, fields: SampleFields<'_>) -> ParseResult<()> {
     tell_with_clone(text, alloc, &Sample::from_fields(fields))
 }
 
-// What is told of a sample of a clone of these fields, of one of the fields, and of its clone.
+// The text of a sample of a clone of these fields, of one of the fields, and of its clone.
 fn told_with_copies(alloc: Global, fields: SampleFields<'_>) -> ParseResult<String> {
     let mut text = String::new(alloc);
     let of_a_clone = tell_copy(&mut text, sample_of_a_clone(alloc, &fields));
@@ -113,8 +113,8 @@ fn told_with_copies(alloc: Global, fields: SampleFields<'_>) -> ParseResult<Stri
     Ok(text)
 }
 
-// The three lines of a sample and its copies: which task, when and of which event, the other
-// numbers, and the lists.
+// The three lines of a sample and its copies: the task, the time and the event; the other numbers;
+// and the lists.
 macro_rules! copies {
     ($($part:literal),+) => {
         concat!($($part,)+ "\n", $($part,)+ "\n", $($part,)+ "\n")
@@ -135,7 +135,7 @@ fn branch() -> BranchEntry {
     BranchEntry::from_words(115, 116, 117 << 4)
 }
 
-// Each field says something else, the branches these.
+// Each field has a value of its own; the branches are these.
 fn every_field(branches: &[BranchEntry]) -> SampleFields<'_> {
     let words = CowSlice::Borrowed(&[110]);
     SampleFields {
@@ -167,7 +167,7 @@ fn every_field(branches: &[BranchEntry]) -> SampleFields<'_> {
     }
 }
 
-// What is told of a sample of every field, whose lists are of this form.
+// The text of a sample with every field, whose lists are of this form.
 macro_rules! every_field_told {
     ($form:literal) => {
         copies!(
@@ -196,12 +196,12 @@ fn a_sample_answers_each_of_its_fields(rt: HostRuntime) {
     check_told(&rt, told, want);
 }
 
-// A list in memory of its own.
+// An owned list.
 fn owned<'a, T: Copy>(alloc: Global, items: &'a [T]) -> ParseResult<Option<CowSlice<'a, T>>> {
     Ok(Some(CowSlice::Borrowed(items).into_owned(alloc)?))
 }
 
-// Registers 0 and 2 of a task of 64 bits, with these values in memory of their own.
+// Registers 0 and 2 of a task of 64 bits, with these owned values.
 fn owned_registers(alloc: Global, values: &[u64]) -> ParseResult<Option<Registers<'_>>> {
     Ok(Some(Registers {
         abi: SampleRegsAbi::ABI_64,
@@ -210,7 +210,7 @@ fn owned_registers(alloc: Global, values: &[u64]) -> ParseResult<Option<Register
     }))
 }
 
-// Puts a group and registers of the same values in place, in memory of their own.
+// Replaces a group and registers by owned ones with the same values.
 fn own_groups(alloc: Global, fields: &mut SampleFields<'_>) -> ParseResult<()> {
     let words = CowSlice::Borrowed(&[110]);
     let group = ReadGroup::from_parts(ReadFormat::GROUP, 0, 0, words);
@@ -239,7 +239,7 @@ fn own_bytes(alloc: Global, fields: &mut SampleFields<'_>) -> ParseResult<()> {
     Ok(())
 }
 
-// Puts each list in place, in memory of its own.
+// Replaces each list by an owned one.
 fn own_lists<'a>(
     alloc: Global,
     fields: &mut SampleFields<'a>,
@@ -250,7 +250,7 @@ fn own_lists<'a>(
     own_bytes(alloc, fields)
 }
 
-// What is told of a sample of every field that owns its lists.
+// The text of a sample with every field that owns its lists.
 fn told_owned(alloc: Global, branches: &[BranchEntry]) -> ParseResult<String> {
     let mut fields = every_field(branches);
     match own_lists(alloc, &mut fields, branches) {
@@ -266,7 +266,7 @@ fn a_sample_that_owns_its_lists_is_copied(rt: HostRuntime) {
     check_told(&rt, told_owned(rt.alloc(), &branches), want);
 }
 
-// What is told of a sample of no more than these fields.
+// The text of a sample with only these fields.
 fn told_alone(
     alloc: Global,
     task: (Option<u32>, Option<u32>),
@@ -281,7 +281,7 @@ fn told_alone(
     told_with_copies(alloc, fields)
 }
 
-// A process, a thread and an index that are there alone or not, and what is told of their samples.
+// A process, a thread and an index, each present or not, and the text of their samples.
 const ALONE: [(Option<u32>, Option<u32>, Option<u64>, &str); 4] = [
     (
         None,
@@ -345,7 +345,7 @@ fn branches_need_no_index(rt: HostRuntime) {
     check_told(&rt, told, want);
 }
 
-// Asserts what a sample id says that is made of a sample.
+// Asserts the text of a sample id that is made from a sample.
 fn check_id(rt: &(impl AllocGlobal + Abort), id: SampleId) {
     check_debug(
         rt,

@@ -1,4 +1,4 @@
-//! What values take that are made for each read.
+//! The sizes of values that are made for each read.
 
 use crate::checks::check_debug;
 use perf_base::reads::ReadCounter;

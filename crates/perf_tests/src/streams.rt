@@ -17,7 +17,7 @@ fn every_order_reads_its_own_bytes(rt: HostRuntime) {
     check_everywhere(&rt, big, Dynamic::Big, &[10], want);
 }
 
-// What is said of a frame of type 22 of the greatest size, whose body is all `AB`.
+// The text of a frame of type 22 of the greatest size, whose body is all `AB`.
 fn large_text(alloc: Global) -> Result<String, AllocError> {
     let mut text = String::new(alloc);
     text.push_str("0 22 0 65535 Unknown data=")?;

@@ -1,4 +1,4 @@
-//! What `perfrec` is asked by its words, and what it writes.
+//! The arguments of `perfrec`, and what it writes.
 
 use crate::checks::check_same;
 use crate::runs::{Told, check_run};
@@ -13,7 +13,7 @@ use perf_lines::words::command;
 use std::alloc::{AllocError, Global};
 use std::process::Abort;
 
-// Asserts the text of so many frames of a header alone for a limit.
+// Asserts the text of `count` frames of a header alone for a limit.
 fn check_many(
     rt: &(impl AllocGlobal + Abort),
     count: usize,
@@ -44,7 +44,7 @@ fn writeln(text: &mut String, alloc: Global, index: usize) -> Result<(), AllocEr
     text.push_str(&line)
 }
 
-// How many frames there are, more than are held at a time, the limit, and the last line.
+// The number of frames, more than are kept at a time, the limit, and the last line.
 const MANY: [(usize, usize, &str); 5] = [
     (256, 256, "end limit\n"),
     (256, 257, "end done\n"),
@@ -61,7 +61,7 @@ fn frames_are_numbered_on_from_batch_to_batch(rt: HostRuntime) -> Result<(), All
     Ok(())
 }
 
-// The line of an answer to a frame with this header.
+// The line of a frame with this header and this result.
 fn told_line(
     alloc: Global,
     index: usize,
@@ -89,7 +89,7 @@ fn a_line_has_no_line_feed(rt: HostRuntime) -> ParseResult<()> {
     Ok(())
 }
 
-// The line of a refusal of each kind.
+// The line of an error of each kind.
 const KINDS: [(ErrorKind, &str); 6] = [
     (ErrorKind::Eof, "7 1 2 3 refused Eof"),
     (ErrorKind::InvalidRecord, "7 1 2 3 refused InvalidRecord"),
@@ -120,7 +120,7 @@ fn each_kind_has_its_name(rt: HostRuntime) -> ParseResult<()> {
     Ok(())
 }
 
-// Asserts what words ask for.
+// Asserts what arguments ask for.
 fn check_asked(
     rt: &(impl AllocGlobal + Abort),
     words: &[&str],
@@ -165,8 +165,8 @@ fn an_order_and_a_limit_are_a_command(rt: HostRuntime) -> Result<(), AllocError>
     Ok(())
 }
 
-// Words that are no command: digits that are no limit, names that are no order, third words, too few
-// words, and words in other places.
+// Arguments that are no command: digits that are no limit, names that are no byte order, a wrong
+// third argument, too few arguments, and arguments in other places.
 const NO_COMMANDS: [&[&str]; 28] = [
     &["little", ""],
     &["little", "+1"],

@@ -19,18 +19,18 @@ use std::alloc::{AllocError, Global};
 use std::cell::Cell;
 use std::test::Fail;
 
-/// Which visitor is asked.
+/// Which visitor is used.
 #[derive(Copy, Clone)]
 pub enum Visits {
     /// That of the names of calls.
     Names,
     /// The partial one that has every call itself.
     OwnCalls,
-    /// That of mappings, and how many visits are made.
+    /// That of mappings, and the number of visits.
     Mappings,
-    /// The same, where each record has a sample id.
+    /// The same, if each record has a sample id.
     TimedMappings,
-    /// That of records, where each record has a sample id.
+    /// That of records, if each record has a sample id.
     TimedRecords,
 }
 
@@ -55,7 +55,7 @@ pub struct Names;
 impl<'a> Visitor<'a> for Names {
     type Output = &'static str;
 
-    // Nothing is said of it.
+    // Nothing is specified.
     ghost gives = { λ seen output. ⊤ };
 
     fn visit_unimplemented(self, _metadata: RecordMetadata) -> Self::Output {
@@ -159,7 +159,7 @@ impl<'a> Visitor<'a> for Names {
     }
 }
 
-// Writes what is made of a frame, and answers whether that was not refused.
+// Writes what is made of a frame, and returns whether it was not refused.
 fn tell_made<T: Tell + Drop>(
     text: &mut String,
     answer: ParseResult<T>,
@@ -177,7 +177,7 @@ fn tell_made<T: Tell + Drop>(
     }
 }
 
-// Writes what a visitor makes of the next frame, and answers whether that was not refused.
+// Writes what a visitor makes of the next frame, and returns whether it was not refused.
 fn tell_visit<'p, B: ParseBuf<'p>, E: Endian>(
     alloc: Global,
     text: &mut String,

@@ -1,4 +1,4 @@
-//! Frames one by one: what each says, and runs that hand them out.
+//! Frames one by one: what each contains, and runs that hand them out.
 
 ghost use Rattle.std.specs.Prelude.{⊤, ◌<◌};
 
@@ -18,27 +18,27 @@ use std::alloc::{AllocError, Global};
 // IDENTIFIER, IP, TID, TIME, ID, CPU and PERIOD.
 const FIELDS: u64 = 1 << 16 | 1 | 1 << 1 | 1 << 2 | 1 << 6 | 1 << 7 | 1 << 8;
 
-// A sample of event 77: at 4096, of thread 12 of process 11, at 13 nanoseconds on processor 3, for 5
-// events.
+// A sample of event 77: at address 4096, of thread 12 of process 11, at 13 nanoseconds on CPU 3,
+// for 5 events.
 const SAMPLE: &[u8] =
     b"\x09\0\0\0\x02\0\x40\0\x4D\0\0\0\0\0\0\0\0\x10\0\0\0\0\0\0\x0B\0\0\0\x0C\0\0\0\
     \x0D\0\0\0\0\0\0\0\x4D\0\0\0\0\0\0\0\x03\0\0\0\0\0\0\0\x05\0\0\0\0\0\0\0";
 
-// A sample that ends in its first number.
+// A sample that ends inside its first number.
 const SHORT: &[u8] = b"\x09\0\0\0\x02\0\x09\0\x4D";
 
-// Thread 2 of process 1 is called `sh`; with the sample id of event 78: thread 22 of process 21, at 23
-// nanoseconds on processor 4.
+// Thread 2 of process 1 is called `sh`; with the sample id of event 78: thread 22 of process 21, at
+// 23 nanoseconds on CPU 4.
 const NAMED: &[u8] = b"\x03\0\0\0\0\x20\x40\0\x01\0\0\0\x02\0\0\0sh\0\0\0\0\0\0\x15\0\0\0\x16\0\0\0\
     \x17\0\0\0\0\0\0\0\x4E\0\0\0\0\0\0\0\x04\0\0\0\0\0\0\0\x4E\0\0\0\0\0\0\0";
 
-// The same without room for its sample id.
+// The same without space for its sample id.
 const NO_ROOM: &[u8] = b"\x03\0\0\0\0\x20\x18\0\x01\0\0\0\x02\0\0\0sh\0\0\0\0\0\0";
 
 // A frame of a user's type, with eight bytes.
 const OWN: &[u8] = b"\x40\0\0\0\0\0\x10\0\x01\0\0\0\0\0\0\0";
 
-// A size below that of a header, five lost samples, a frame that is cut off.
+// A frame with a size below that of a header, five lost samples, and a frame that is cut off.
 const MIXED: &[u8] =
     b"\x02\0\0\0\0\0\x07\0\x0D\0\0\0\0\0\x10\0\x05\0\0\0\0\0\0\0\x0D\0\0\0\0\0\x10\0\x06\0";
 
@@ -46,7 +46,7 @@ fn config() -> ParseConfig<Little> {
     ParseConfig::from(ids_attribute(FIELDS))
 }
 
-// What is told of a frame.
+// The text of a frame.
 trait Tells: Drop {
     fn tell(
         &self,
@@ -56,7 +56,7 @@ trait Tells: Drop {
     ) -> Result<(), AllocError>;
 }
 
-// What is told of the first frame of some bytes.
+// The text of the first frame of some bytes.
 fn tell_first<T: Tells>(alloc: Global, bytes: &[u8], tells: T) -> Result<String, AllocError> {
     let mut text = String::new(alloc);
     match frames(bytes, Little).next() {
@@ -88,7 +88,7 @@ impl Tells for Numbers {
     }
 }
 
-// Its metadata, its record, and the record that a visit makes, or the kinds of their refusals.
+// Its metadata, its record, and the record that a visit makes, or the kinds of their errors.
 #[derive(Drop)]
 struct Readings;
 
@@ -108,7 +108,7 @@ impl Tells for Readings {
     }
 }
 
-// Writes the type, the misc, the time and the processor.
+// Writes the type, the misc, the time and the CPU.
 fn tell_metadata(
     text: &mut String,
     alloc: Global,
@@ -134,7 +134,7 @@ fn visited<'p>(alloc: Global, frame: &Frame<'_, 'p>) -> ParseResult<Record<'p>> 
     }
 }
 
-// Its sample, in the place of an older one.
+// Its sample, read into the place of an older one.
 #[derive(Drop)]
 struct Placed;
 
@@ -162,20 +162,20 @@ fn tell_placed<'p>(
     tell_fields(text, &place)
 }
 
-// A sample of the address 1, and of nothing else.
+// A sample with the address 1, and no other field.
 fn older_sample<'p>() -> Sample<'p> {
     let mut fields = SampleFields::default();
     fields.addr = Some(1);
     Sample::from_fields(fields)
 }
 
-// Writes the address, where it happened and the period.
+// Writes the address, the instruction pointer and the period.
 fn tell_fields(text: &mut String, sample: &Sample<'_>) -> Result<(), AllocError> {
     let told = (sample.addr(), sample.ip(), sample.period());
     write!(text, " {told:?}")
 }
 
-// Writes the sizes of frames, and ends the run after so many.
+// Writes the sizes of frames, and ends the run after `most`.
 #[derive(Drop)]
 struct Sizes {
     text: String,
@@ -201,7 +201,7 @@ impl<'p, E: Endian> FrameHandler<'p, E> for Sizes {
     }
 }
 
-// The runs over the mixed bytes, each of which ends after so many frames at the latest.
+// The runs over the mixed bytes, each of which ends after at most `most` frames.
 fn told_in_runs(alloc: Global, most: usize, piece: usize) -> Result<String, AllocError>
     requires { 0 < piece }
 {

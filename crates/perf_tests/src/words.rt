@@ -8,7 +8,7 @@ use perf_words::{
     SampleRegsAbi, Txn,
 };
 
-// What the calls of a data source answer, as numbers.
+// The results of the calls of a data source, as numbers.
 fn numbers_of_source(source: DataSource) -> [u64; 10] {
     [
         source.mem_op().bits(),
@@ -24,7 +24,7 @@ fn numbers_of_source(source: DataSource) -> [u64; 10] {
     ]
 }
 
-// What those of a load answer.
+// The results for a load.
 fn numbers_of_load() -> [u64; 10] {
     [
         MemOp::LOAD.bits(),
@@ -48,7 +48,7 @@ fn data_source_of_a_load(rt: HostRuntime) {
     check_numbers(&rt, &numbers, &[0x40_0010_0000, 0]);
 }
 
-// What the calls of a branch answer, as numbers.
+// The results of the calls of a branch, as numbers.
 fn numbers_of_branch(branch: &BranchEntry) -> [u64; 8] {
     [
         branch.from(),
@@ -127,7 +127,7 @@ fn unnamed_is_kept(rt: HostRuntime) {
     check_numbers(&rt, &numbers, &[1 << 63, 0x8001, 7, 8, u64::MAX]);
 }
 
-// The bits of flags, if there are any of that name.
+// The bits of flags, if any have that name.
 fn bits_named(name: &str) -> Option<u64> {
     match SampleFlags::from_name(name) {
         Some(flags) => Some(flags.bits()),

@@ -9,7 +9,7 @@ use perf_event_data::{Partial, PartialVisitor, RecordMetadata, Sample, frames};
 use std::alloc::{AllocError, Global};
 use std::collections::BTreeMap;
 
-// Numbers of a call chain from this one on are no addresses: they mark whose addresses follow, the
+// Numbers of a call chain from this one on are not addresses: they mark whose addresses follow, the
 // kernel's or the program's (`PERF_CONTEXT_MAX`).
 const CONTEXT_MAX: u64 = u64::MAX - 4094;
 

@@ -1,8 +1,8 @@
 //! Prints what the uses of the library make of a recording, and of a few bytes in this file.
 //!
-//! `docs/CALLING.md` explains the uses. Standard input is `examples/recording.stream`. What must be
-//! printed of it was made by `examples/uses.sh` of what `perf` itself reported of the recording. The
-//! last ten lines are worked out by hand from the bytes below.
+//! `docs/CALLING.md` explains the uses. Standard input is `examples/recording.stream`. The expected
+//! output for it was made by `examples/uses.sh` from what `perf` itself reported of the recording.
+//! The last ten lines are worked out by hand from the bytes below.
 #![tactic(auto)]
 
 mod by_hand;
@@ -53,7 +53,7 @@ fn print_counts(rt: &(impl AllocGlobal + Print), recording: &[u8]) -> Result<()>
     Ok(())
 }
 
-// Prints each call chain, and of how many samples it is.
+// Prints each call chain, and the number of its samples.
 fn print_stacks(
     rt: &(impl AllocGlobal + Print),
     config: &ParseConfig<Little>,
@@ -65,7 +65,7 @@ fn print_stacks(
     Ok(())
 }
 
-// Prints which file a mapping is of.
+// Prints the file of a mapping.
 fn print_mapping(rt: &impl Print, mapping: &Mmap2<'_>) -> Result<()> {
     let file = mapping.filename_os().unwrap_or("?");
     match mapping.build_id() {
@@ -142,8 +142,8 @@ const MARKS: &[u8] = b"\x64\0\0\0\0\0\x20\0\x07\0\0\0\0\x01\0\0\0\0\0\0start\0\0
 // LOST_SAMPLES whose number has its higher half first: 0x10008 samples were lost.
 const SWAPPED: &[u8] = b"\x0D\0\0\0\0\0\x10\0\0\0\0\0\x08\0\x01\0";
 
-// A ring that is read from byte 12 on: 8 samples were lost, and then 9. The second record has its
-// first four bytes at the end of the ring, and the others at its beginning.
+// A ring that is read from byte 12 on: 8 samples were lost, and then 9. The first four bytes of the
+// second record are at the end of the ring, and the others at its start.
 const RING: &[u8] = b"\0\0\x10\0\x09\0\0\0\0\0\0\0\
     \x0D\0\0\0\0\0\x10\0\x08\0\0\0\0\0\0\0\x0D\0\0\0";
 
@@ -174,7 +174,7 @@ fn print_marks(rt: &(impl AllocGlobal + Print), bytes: &[u8]) -> Result<()> {
 // A span of version 2, and one of version 3, which is refused.
 const SPANS: &[u8] = b"\x02\0\x64\0\0\0\0\0\0\0\x07\0\0\0\0\0\0\0\x04\0load\x03\0";
 
-// Prints the spans at the beginning of some bytes.
+// Prints the spans at the start of some bytes.
 fn print_spans(rt: &(impl AllocGlobal + Print), bytes: &[u8]) -> Result<()> {
     let mut parser = Parser::new(rt.alloc(), bytes, ParseConfig::<Little>::default());
     for _ in 0..2 {

@@ -27,7 +27,7 @@ pub struct Mark<'a> {
 }
 
 impl Layout for Mark<'_> {
-    // what its layout gives, of which no byte is copied out of a slice
+    // what its layout gives; no byte is copied from a slice
     ghost parses = { ReadsLent (λ _. mark_parts) mark_value IsBorrowedMark };
 }
 

@@ -1,4 +1,4 @@
-//! A byte order of one's own: little endian, but for the halves of a number of eight bytes.
+//! A byte order of one's own: little endian, except for the halves of a 64-bit number.
 
 ghost use Rattle.std.specs.Prelude.{◌++◌, take, drop, false};
 ghost use Rattle.std.specs.Int.{w16, w32, w64, from_le_bytes};
@@ -6,7 +6,7 @@ ghost use Rattle.std.specs.Int.{w16, w32, w64, from_le_bytes};
 use perf_event_data::endian::Endian;
 use perf_event_data::parse::ParseResult;
 
-/// Little endian, but that of eight bytes the higher four come first.
+/// Little endian, except that the higher four of eight bytes come first.
 #[derive(Copy, Clone, Debug)]
 pub struct HighWordFirst;
 

@@ -19,7 +19,7 @@ pub struct Span<'a> {
 }
 
 impl Layout for Span<'_> {
-    // what its layout gives, of which no byte is copied out of a slice
+    // what its layout gives; no byte is copied from a slice
     ghost parses = { ReadsLent (λ _. span_parts) span_value IsBorrowedSpan };
 }
 

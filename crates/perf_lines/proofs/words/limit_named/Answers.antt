@@ -10,12 +10,12 @@ use Rattle.std.proofs.lemmas.Str.Parse.{numerals_by_value, tells_all_ascii_digit
 use Rattle.perf_lines.specs.Words.{limit_named}
 use Rattle.perf_lines.proofs.words.limit_named.Goals as goal
 
--- two spellings of one test
+-- two forms of one test
 all_digits : (bs : List ℕ) → all_ascii_digits bs ≡ list_all is_ascii_digit bs
 all_digits [] = refl
 all_digits (c ∷ cs) = ap (λ b. is_ascii_digit c && b) (all_digits cs)
 
--- digits whose value fits are a limit, and others are none
+-- digits whose value fits are a limit, and other digits are not
 limit_of : {E : Type 0} (bs : List ℕ) (r : Result ℕ E) → list_all is_ascii_digit bs ≡ true → OkIff r ((0 < length bs) × (digits_value 10 bs < 2 ^ 64)) (digits_value 10 bs) → result_ok r ≡ limit_named bs
 limit_of bs (Ok x) digits h = grind (arith, nat_tests)
 limit_of bs (Err e) digits h = grind (arith, nat_tests)

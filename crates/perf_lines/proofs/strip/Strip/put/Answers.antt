@@ -5,7 +5,7 @@ use Rattle.std.proofs.lemmas.Str.{IsUtf8-append, IsUtf8-had}
 use borrow.Rule.Slice.PartMut.{put_mid}
 use Rattle.perf_lines.proofs.strip.Strip.put.Goals as goal
 
--- what begins at a word that was written up to a start
+-- what begins at a word that ends where the text began
 from_word : (bytes word : List ℕ) (start : ℕ) → length word ≤ start → start ≤ length bytes → drop (start - length word) (put_mid (start - length word) (start - (start - length word)) bytes word) ≡ word ++ drop start bytes
 from_word bytes word start short within =
     let a : ℕ = start - length word in
