@@ -44,7 +44,7 @@ pub trait PartialVisitor: Drop + Sized {
     fn visit_unimplemented(self, metadata: RecordMetadata) -> Self::Output
         ensures { left_out metadata result };
 
-    /// An executable file was mapped (`PERF_RECORD_MMAP`).
+    /// An executable mapping was made (`PERF_RECORD_MMAP`).
     #[inline]
     fn visit_mmap(self, held: Mmap<'_>, metadata: RecordMetadata) -> Self::Output
         ensures { GivesOrLeavesOut gives left_out

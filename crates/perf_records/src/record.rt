@@ -30,7 +30,7 @@ use std::boxed::Box;
 /// A record of any type, as perf_event_open(2) names them.
 #[derive(Debug, Drop)]
 pub enum Record<'a> {
-    /// An executable file was mapped.
+    /// An executable mapping was made.
     Mmap(Mmap<'a>),
     /// Events were lost.
     Lost(Lost),
