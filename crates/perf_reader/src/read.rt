@@ -21,16 +21,6 @@ pub trait ReadFrom<'p, I: Input<'p>>: Meant {
         ensures call { Call I.source E.order Self.says reader.old (kinds result) reader.new };
 }
 
-impl<'p, I: Input<'p>, E: Endian> Reader<I, E> {
-    /// Reads one value of a type.
-    #[inline]
-    pub fn read<T: ReadFrom<'p, I>>(&mut self) -> ReadResult<T>
-        ensures call { Call I.source E.order T.says self.old (kinds result) self.new }
-    {
-        T::read(self)
-    }
-}
-
 impl Meant for u8 {
     ghost says = { ReadsNumber w1 };
 }
