@@ -4,15 +4,11 @@
 //! in pieces.
 #![tactic(auto)]
 
-mod bytes;
 mod frame_runs;
 mod frames;
-mod lists;
-mod numbers;
 pub mod parse;
 mod parser;
 mod runs;
-mod visits;
 
 pub use crate::frame_runs::{FrameRun, each_frame};
 pub use crate::runs::{Run, RunEnd, read_records};

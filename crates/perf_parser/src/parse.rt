@@ -37,17 +37,6 @@ pub trait Parse<'p, B: ParseBuf<'p>>: Layout {
             parser.old (error_kinds result) parser.new };
 }
 
-impl<'p, B: ParseBuf<'p>, E: Endian> Parser<B, E> {
-    /// Parses one value of a type.
-    #[inline]
-    pub fn parse<P: Parse<'p, B>>(&mut self) -> ParseResult<P>
-        ensures call { CallAs B.source E.order P.parses P.counts
-            self.old (error_kinds result) self.new }
-    {
-        P::parse(self)
-    }
-}
-
 /// What this library reads.
 impl<T: Meant> Layout for T {
     ghost parses = { T.says };
