@@ -5,7 +5,6 @@ ghost use Rattle.std.specs.Prelude.{IfSome, ◌*◌, Bool, true, false, ◌+◌,
 ghost use Rattle.std.specs.Prelude.{OnErr, nat_le, option_map, vec_capacity};
 ghost use Rattle.perf_base.specs.Attribute.{zero_tail};
 ghost use Rattle.perf_base.specs.Configured.{configuration_of, endian_of};
-ghost use Rattle.perf_base.specs.Errors.{kind_of};
 ghost use Rattle.perf_base.specs.FieldWords.{name};
 ghost use Rattle.perf_base.specs.Header.{header};
 ghost use Rattle.perf_base.specs.Refusals.{IsAnswerOf};
@@ -126,17 +125,6 @@ impl<B, E: Endian> Reader<Outer<B>, E> {
         ensures reads { reads_of self.new ≡ reads_of self.old }
     {
         self.input.answer(refusal)
-    }
-
-    /// Keeps an error that was not made here, until it is answered.
-    #[inline]
-    pub fn keep(&mut self, error: ParseError) -> Refusal
-        ensures kind { refusal_kind result ≡ kind_of error }
-        ensures buf { buffer_of self.new ≡ buffer_of self.old }
-        ensures config { config_of self.new ≡ config_of self.old }
-        ensures reads { reads_of self.new ≡ reads_of self.old }
-    {
-        self.input.keep(error)
     }
 
     /// A reader of the same buffer under another configuration. What is left stays left.
