@@ -25,7 +25,7 @@ use perf_sample_types::sample::Sample;
 use std::boxed::Box;
 
 // For how many answers room is made at a time, at most.
-const MOST: usize = 256;
+const MOST_RESERVED: usize = 256;
 
 /// The frames that a run met, each with its header and its answer, and how the run ended.
 #[derive(Debug, Drop)]
@@ -237,7 +237,7 @@ fn make_room<'p, B: ParseBuf<'p>, E: Endian>(
     if frames.len() < frames.capacity() {
         return Ok(());
     }
-    let most = limit.saturating_sub(frames.len()).min(MOST);
+    let most = limit.saturating_sub(frames.len()).min(MOST_RESERVED);
     match reader.frames_shown(most, frames.is_empty()) {
         Ok(shown) => grow(frames, shown, most),
         Err(refusal) => {

@@ -6,13 +6,13 @@ ghost use Rattle.perf_base.specs.Layout.{words_of};
 use perf_base::endian::Endian;
 
 /// How many numbers a block has, at most, that is read where the input does not show its numbers.
-pub const BLOCK: usize = 48;
+pub const BLOCK_LEN: usize = 48;
 
 // How many bytes a number has.
-pub(crate) const SIZE: usize = 8;
+pub(crate) const NUMBER_SIZE: usize = 8;
 
 // How many bytes such a block has.
-pub(crate) const BYTES: usize = 384;
+pub(crate) const BLOCK_SIZE: usize = 384;
 
 // Puts the numbers of some bytes into their places.
 #[inline]

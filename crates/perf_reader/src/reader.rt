@@ -22,7 +22,7 @@ ghost use Rattle.perf_reader.specs.Words.{config_of, refused, Refuses, buffer_of
 ghost use Rattle.perf_reader.specs.Words.{meaning, Reads, number, w1, w2, w4, w8, optional};
 ghost use Rattle.perf_reader.specs.Words.{padding, rest, PassesOver};
 
-use crate::blocks::{BLOCK, BYTES, SIZE, convert};
+use crate::blocks::{BLOCK_LEN, BLOCK_SIZE, NUMBER_SIZE, convert};
 use crate::frame_reader::{Configured, ConfiguredFrameReader};
 use crate::header::{Stop, header_from, header_in, stop_at};
 use crate::names::trimmed_len;
@@ -465,7 +465,7 @@ impl<'p, I: Input<'p>, E: Endian> Reader<I, E> {
     /// Whether the input shows so many more numbers of eight bytes.
     #[inline]
     pub fn shows_numbers(&self, count: usize) -> bool {
-        count <= self.input.shown().len() / SIZE
+        count <= self.input.shown().len() / NUMBER_SIZE
     }
 
     /// Fills a list with the next numbers of eight bytes, if the input shows them all; otherwise
@@ -483,10 +483,10 @@ impl<'p, I: Input<'p>, E: Endian> Reader<I, E> {
             self.old (Err (refusal_kind e)) self.new) }
     {
         let shown = self.input.shown();
-        if shown.len() / SIZE < numbers.len() {
+        if shown.len() / NUMBER_SIZE < numbers.len() {
             return Ok(false);
         }
-        let len = SIZE * numbers.len();
+        let len = NUMBER_SIZE * numbers.len();
         convert(self.config.endian(), &shown[..len], numbers);
         self.reads.tick();
         match self.input.skip(len) {
@@ -499,7 +499,7 @@ impl<'p, I: Input<'p>, E: Endian> Reader<I, E> {
 
     /// Fills a block with the next numbers of eight bytes, of which there is at least one. They are
     /// taken at once if the input shows them, or reports that it has them and they are no more than
-    /// [`BLOCK`]; otherwise they are read one by one. Each of them is a read.
+    /// [`BLOCK_LEN`]; otherwise they are read one by one. Each of them is a read.
     #[inline]
     pub fn read_block(&mut self, numbers: &mut [u64]) -> ReadResult<()>
         requires { 0 < length numbers.old }
@@ -524,7 +524,7 @@ impl<'p, I: Input<'p>, E: Endian> Reader<I, E> {
             (ReadsOne (words (length numbers.old)) (λ _. numbers.new))
             self.old (kinds result) self.new }
     {
-        if numbers.len() <= BLOCK && self.has_items(numbers.len(), SIZE) == Some(true) {
+        if numbers.len() <= BLOCK_LEN && self.has_items(numbers.len(), NUMBER_SIZE) == Some(true) {
             return self.take_block(numbers);
         }
         for i in 0..numbers.len() {
@@ -537,7 +537,7 @@ impl<'p, I: Input<'p>, E: Endian> Reader<I, E> {
     }
 
     // Fills a block with the next numbers of eight bytes, which the input has. There is at least one
-    // of them, and there are at most [`BLOCK`]. They are taken at once, and each of them is a read.
+    // of them, and there are at most [`BLOCK_LEN`]. They are taken at once, and each of them is a read.
     #[inline]
     fn take_block(&mut self, numbers: &mut [u64]) -> ReadResult<()>
         requires some { 0 < length numbers.old }
@@ -550,8 +550,8 @@ impl<'p, I: Input<'p>, E: Endian> Reader<I, E> {
             self.old (kinds result) self.new }
     {
         self.reads.tick();
-        let mut bytes = [0u8; BYTES];
-        let len = SIZE * numbers.len();
+        let mut bytes = [0u8; BLOCK_SIZE];
+        let len = NUMBER_SIZE * numbers.len();
         match self.input.fill(&mut bytes[..len]) {
             Ok(()) => (),
             Err(refusal) => return Err(refusal),
