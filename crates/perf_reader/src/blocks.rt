@@ -5,16 +5,16 @@ ghost use Rattle.perf_base.specs.Layout.{words_of};
 
 use perf_base::endian::Endian;
 
-/// How many numbers a block has, at most, that is read where the input does not show its numbers.
+/// The most numbers in a block that is read when the input does not show them.
 pub const BLOCK_LEN: usize = 48;
 
-// How many bytes a number has.
+// The size of a number in bytes.
 pub(crate) const NUMBER_SIZE: usize = 8;
 
-// How many bytes such a block has.
+// The size of such a block in bytes.
 pub(crate) const BLOCK_SIZE: usize = 384;
 
-// Puts the numbers of some bytes into their places.
+// Converts bytes to numbers.
 #[inline]
 pub(crate) fn convert<E: Endian>(order: &E, bytes: &[u8], numbers: &mut [u64])
     requires { length bytes.now ≡ 8 * length numbers.old }

@@ -13,8 +13,8 @@ use perf_buffers::frame_reader::FrameReader;
 use perf_buffers::parsebuf::ParseBufChunk;
 use std::alloc::Global;
 
-/// Makes something of the bytes of a frame, under a configuration, and of a state of the caller's, and
-/// counts its reads.
+/// Makes something of the bytes of a frame, under a configuration and with a state of the caller's,
+/// and counts its reads.
 pub trait ConfiguredFrameReader<'p, E: Endian, S>: Drop {
     /// What is made of them.
     type Output;
@@ -22,8 +22,8 @@ pub trait ConfiguredFrameReader<'p, E: Endian, S>: Drop {
     // how many bytes it reads
     ghost len: { Self → ℕ };
 
-    // which outputs and new states belong to bytes that last as long as the input, or do not, and to
-    // a state, in so many reads
+    // which outputs and new states belong to a configuration, an order, bytes (borrowed from the
+    // input or not), a number of reads and a state
     ghost gives: { Self → Configuration → Order → List ℕ → Bool → ℕ → S → Self.Output → S → Type 0 };
 
     /// What is made of a frame's bytes, and how many elementary reads that took.
@@ -39,7 +39,7 @@ pub trait ConfiguredFrameReader<'p, E: Endian, S>: Drop {
             (chunk_bytes bytes.entry) (lasts bytes.entry) result.1 state.old result.0 state.new };
 }
 
-// A reader of frames, and what it needs beside the bytes.
+// A reader of frames, and what it needs besides the bytes.
 #[derive(Drop)]
 pub(crate) struct Configured<'c, E, F> {
     pub(crate) alloc: Global,

@@ -1,12 +1,13 @@
 //! How the header of a record is read.
 //!
 //! There is one way for each place where its bytes may be. A slice has all eight of them at hand
-//! (`header_in`). In a run, whether a buffer ends before the first byte of a header or inside it
-//! decides how the run ends, so that it is read in two steps (`read_header_in_two`), or in place if
-//! the buffer shows all of it (`read_shown_header`); either way that is two reads. A header that is
-//! parsed alone is three reads, one for each of its numbers: the bytes are taken at once if the input
-//! reports that it has eight (`read_header`), and number by number only if it has fewer or reports
-//! nothing (`read_header_by_number`), where each number that is there counts.
+//! (`header_in`). In a run it matters whether the buffer ends before the first byte of a header or
+//! inside it, so the header is read in two steps (`Reader::read_header_in_two`), or in place if the
+//! buffer shows all of it (`Reader::read_shown_header`); either way that is two reads. A header
+//! that is parsed on its own is three reads, one for each of its numbers: the bytes are taken at
+//! once if the input reports that it has eight (`Reader::read_header`), and number by number only
+//! if it has fewer or reports nothing (`Reader::read_header_by_number`), so that each number that
+//! is present counts.
 #![tactic(auto, using(crate::proofs::Paying::chain))]
 
 ghost use Rattle.std.specs.Prelude.{◌≡◌, ◌++◌};
@@ -29,11 +30,11 @@ pub enum Stop {
     Done,
     /// Fewer bytes are left than a header has.
     CutHeader,
-    /// The buffer could not go on, or memory was refused.
+    /// The buffer failed, or an allocation did.
     Refused(Refusal),
 }
 
-/// The header whose eight bytes are these.
+/// The header that these eight bytes contain.
 #[inline]
 #[tactic(auto)]
 pub fn header_in<E: Endian>(endian: &E, bytes: [u8; 8]) -> perf_event_header
@@ -47,7 +48,7 @@ pub fn header_in<E: Endian>(endian: &E, bytes: [u8; 8]) -> perf_event_header
     }
 }
 
-// The header whose first byte and others these are.
+// The header with this first byte and these other seven.
 #[inline]
 #[tactic(auto)]
 pub(crate) fn header_from<E: Endian>(
@@ -62,7 +63,8 @@ pub(crate) fn header_from<E: Endian>(
     header_in(endian, [b0, b1, b2, b3, b4, b5, b6, b7])
 }
 
-/// Why a run stops that cannot read the first byte of a header, or the others.
+/// Why a run stops when a header, or its first byte, cannot be read: `at_end` if bytes are missing,
+/// and otherwise the refusal.
 #[inline]
 #[tactic(auto)]
 pub fn stop_at(refusal: Refusal, at_end: Stop) -> Stop

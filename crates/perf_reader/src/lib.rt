@@ -1,4 +1,4 @@
-//! Elementary reads out of an input, each of which is counted, and what a type's reading means.
+//! Elementary reads from an input, each of them counted, and what reading a type means.
 #![tactic(auto)]
 
 mod attribute;

@@ -1,9 +1,9 @@
-//! Names: all that is left, without the zero bytes behind them.
+//! Names: all that is left, without the zero bytes at the end.
 
 ghost use Rattle.std.specs.Prelude.{◌≡◌, ◌≤◌, length, take};
 ghost use Rattle.perf_base.specs.Zeros.{trimmed};
 
-// How many bytes there are before the zero bytes at the end.
+// The number of bytes before the zero bytes at the end.
 #[inline]
 pub(crate) fn trimmed_len(bytes: &[u8]) -> usize
     ensures within { result ≤ length bytes.now }

@@ -40,11 +40,11 @@ use perf_buffers::outer::Outer;
 use perf_buffers::parsebuf::ParseBuf;
 use std::alloc::Global;
 
-// How many bytes an input is taken to have where it does not say it.
+// How many bytes an input is assumed to have if it does not report it.
 const UNHINTED_BYTES: usize = 16384;
 
-/// Reads values out of an input, under a configuration. Its calls alone take bytes and count what
-/// they read.
+/// Reads values from an input, under a configuration. Bytes are taken, and reads counted, by its
+/// calls alone.
 #[derive(Drop)]
 pub struct Reader<I, E> {
     pub(crate) input: I,
@@ -53,10 +53,9 @@ pub struct Reader<I, E> {
     pub(crate) alloc: Global,
 }
 
-// How a reader is made, and what it holds.
+// ---- how a reader is made, and its parts
 impl<I, E: Endian> Reader<I, E> {
-    /// A reader of an input of which nothing was read, which takes what memory it needs from
-    /// `alloc`.
+    /// A reader of an input from which nothing was read. It allocates from `alloc`.
     #[inline]
     pub fn new(alloc: Global, input: I, config: ParseConfig<E>) -> Reader<I, E>
         ensures input { input_of result ≡ input }
@@ -97,16 +96,16 @@ impl<I, E: Endian> Reader<I, E> {
         self.config.endian()
     }
 
-    /// Where the memory is taken from that is needed.
+    /// The allocator.
     #[inline]
     pub fn alloc(&self) -> Global {
         self.alloc
     }
 }
 
-// A reader of a caller's buffer, and the errors that its refusals become.
+// ---- a reader of a caller's buffer, and the errors that its refusals become
 impl<B, E: Endian> Reader<Outer<B>, E> {
-    /// A reader of a buffer of which nothing was read.
+    /// A reader of a buffer from which nothing was read.
     #[inline]
     pub fn of_buffer(alloc: Global, buf: B, config: ParseConfig<E>) -> Reader<Outer<B>, E>
         ensures buf { buffer_of result ≡ buf }
@@ -116,7 +115,7 @@ impl<B, E: Endian> Reader<Outer<B>, E> {
         Reader::new(alloc, Outer::new(alloc, buf), config)
     }
 
-    /// The error that a refusal becomes: the buffer's own, where it was the buffer that refused.
+    /// The error that a refusal becomes: the buffer's own error, if the buffer failed.
     #[inline]
     pub fn answer(&mut self, refusal: Refusal) -> ParseError
         ensures error { IsAnswerOf result refusal }
@@ -127,7 +126,7 @@ impl<B, E: Endian> Reader<Outer<B>, E> {
         self.input.answer(refusal)
     }
 
-    /// A reader of the same buffer under another configuration. What is left stays left.
+    /// A reader of the rest of the same buffer under another configuration.
     #[inline]
     pub fn reconfigure<E2: Endian>(self, config: ParseConfig<E2>) -> Reader<Outer<B>, E2>
         ensures buf { buffer_of result ≡ buffer_of self }
@@ -143,10 +142,10 @@ impl<B, E: Endian> Reader<Outer<B>, E> {
     }
 }
 
-// Bytes that are cut off, and the count of reads.
+// ---- bytes that are cut off, and the count of reads
 impl<'p, I: Input<'p>, E: Endian> Reader<I, E> {
-    /// Cuts off the next `len` bytes. That is no elementary read: those are counted that are made
-    /// of the bytes.
+    /// Cuts off the next `len` bytes. This is not an elementary read: only reads of those bytes are
+    /// counted.
     #[inline]
     pub fn cut(&mut self, len: usize) -> ReadResult<ParseBufCursor<'p>>
         ensures config { config_of self.new ≡ config_of self.old }
@@ -181,7 +180,7 @@ impl<'p, I: Input<'p>, E: Endian> Reader<I, E> {
         }
     }
 
-    /// Counts the reads that were made of bytes which were cut off, or shown.
+    /// Counts the reads made of bytes that were cut off, or shown.
     #[inline]
     pub fn count(&mut self, made: ReadCounter)
         ensures input { input_of self.new ≡ input_of self.old }
@@ -193,7 +192,7 @@ impl<'p, I: Input<'p>, E: Endian> Reader<I, E> {
 }
 
 impl<I: Drop, E: Endian> Reader<I, E> {
-    /// How many reads it made.
+    /// How many reads were made.
     #[inline]
     pub fn into_reads(self) -> ReadCounter
         ensures { result ≡ reads_of self }
@@ -202,7 +201,7 @@ impl<I: Drop, E: Endian> Reader<I, E> {
     }
 }
 
-// How many bytes the input reports, and the capacity of lists by that.
+// ---- how many bytes the input reports, and the capacity of lists
 impl<'p, I: Input<'p>, E> Reader<I, E> {
     /// Whether the input has `len` bytes, if it reports how many it has.
     #[inline]
@@ -215,7 +214,7 @@ impl<'p, I: Input<'p>, E> Reader<I, E> {
     }
 
     /// Whether the input has `count` items of `size` bytes each, if it reports how many bytes it
-    /// has. The count may be any.
+    /// has. Any count is allowed.
     #[inline]
     pub fn has_items(&self, count: usize, size: usize) -> Option<bool>
         ensures is { result ≡ option_map (nat_le (count * size)) (I.hint (input_of self.now)) }
@@ -226,8 +225,8 @@ impl<'p, I: Input<'p>, E> Reader<I, E> {
         Some(count.checked_mul(size).is_some_and(|len| len <= left))
     }
 
-    /// For how many of so many claimed items room is made before the first of them is read. An
-    /// item has eight bytes or more.
+    /// The capacity, in items, that a list of `claimed` items gets before the first of them is
+    /// read. An item has eight bytes or more.
     pub fn room_for(&self, claimed: usize) -> usize
         ensures { IsRoom (I.hint (input_of self.now)) claimed result }
     {
@@ -238,7 +237,7 @@ impl<'p, I: Input<'p>, E> Reader<I, E> {
         claimed.min(most / 8)
     }
 
-    /// An empty list for so many claimed items. Its capacity is [`Reader::room_for`] of them, so no
+    /// An empty list for `claimed` items. Its capacity is that of [`Reader::room_for`], so no
     /// claimed count by itself takes more memory than the input's length allows, and a count of 0
     /// takes none. The only refusal is out of memory.
     pub fn list_for<T>(&self, claimed: usize) -> ReadResult<Vec<T>>
@@ -255,7 +254,7 @@ impl<'p, I: Input<'p>, E> Reader<I, E> {
     }
 }
 
-// Values of a type.
+// ---- values of a type
 impl<'p, I: Input<'p>, E: Endian> Reader<I, E> {
     /// Reads one value of a type.
     #[inline]
@@ -266,9 +265,9 @@ impl<'p, I: Input<'p>, E: Endian> Reader<I, E> {
     }
 }
 
-// Numbers.
+// ---- numbers
 impl<'p, I: Input<'p>, E: Endian> Reader<I, E> {
-    /// The next `N` bytes, of which there is at least one.
+    /// The next `N` bytes. `N` is at least 1.
     #[inline]
     #[tactic(auto)]
     pub fn read_array<const N: usize>(&mut self) -> ReadResult<[u8; N]>
@@ -340,9 +339,9 @@ impl<'p, I: Input<'p>, E: Endian> Reader<I, E> {
     }
 }
 
-// Numbers that may be absent, and bytes that are skipped.
+// ---- numbers that may be absent, and bytes that are skipped
 impl<'p, I: Input<'p>, E: Endian> Reader<I, E> {
-    /// A number of two bytes that is there, or not.
+    /// A number of two bytes, if it is present.
     #[inline]
     #[tactic(auto, using(crate::proofs::Steps::optionals))]
     pub fn read_u16_if(&mut self, present: bool) -> ReadResult<Option<u16>>
@@ -359,7 +358,7 @@ impl<'p, I: Input<'p>, E: Endian> Reader<I, E> {
         }
     }
 
-    /// A number of four bytes that is there, or not.
+    /// A number of four bytes, if it is present.
     #[inline]
     #[tactic(auto, using(crate::proofs::Steps::optionals))]
     pub fn read_u32_if(&mut self, present: bool) -> ReadResult<Option<u32>>
@@ -376,7 +375,7 @@ impl<'p, I: Input<'p>, E: Endian> Reader<I, E> {
         }
     }
 
-    /// A number of eight bytes that is there, or not.
+    /// A number of eight bytes, if it is present.
     #[inline]
     #[tactic(auto, using(crate::proofs::Steps::optionals))]
     pub fn read_u64_if(&mut self, present: bool) -> ReadResult<Option<u64>>
@@ -393,7 +392,7 @@ impl<'p, I: Input<'p>, E: Endian> Reader<I, E> {
         }
     }
 
-    /// Takes bytes that say nothing.
+    /// Skips `len` bytes of padding.
     #[inline]
     #[tactic(auto, using(crate::proofs::Steps::padding_none))]
     pub fn skip(&mut self, len: usize) -> ReadResult<()>
@@ -412,10 +411,10 @@ impl<'p, I: Input<'p>, E: Endian> Reader<I, E> {
     }
 }
 
-// Numbers whose bytes are taken at once.
+// ---- numbers whose bytes are taken at once
 impl<'p, I: Input<'p>, E: Endian> Reader<I, E> {
-    /// The bytes of so many numbers, `N` in all, if the input reports that it has them; otherwise
-    /// nothing is read. They are taken at once, and each of the numbers is a read.
+    /// The next `N` bytes, which are those of `numbers` numbers, if the input reports that it has
+    /// them; otherwise nothing is read. They are taken at once, and each number is a read.
     #[inline]
     #[tactic(auto)]
     pub fn read_at_once<const N: usize>(&mut self, numbers: usize) -> ReadResult<Option<[u8; N]>>
@@ -437,8 +436,8 @@ impl<'p, I: Input<'p>, E: Endian> Reader<I, E> {
         }
     }
 
-    // The bytes of so many numbers, `N` in all, which the input has. They are taken at once, and
-    // each of the numbers is a read.
+    // The next `N` bytes, which are those of `numbers` numbers, and which the input has. They are
+    // taken at once, and each number is a read.
     #[inline]
     #[tactic(auto, using(crate::proofs::Paying::chain))]
     fn take_at_once<const N: usize>(&mut self, numbers: usize) -> ReadResult<[u8; N]>
@@ -460,16 +459,16 @@ impl<'p, I: Input<'p>, E: Endian> Reader<I, E> {
     }
 }
 
-// Numbers of eight bytes, several at once.
+// ---- numbers of eight bytes, several at once
 impl<'p, I: Input<'p>, E: Endian> Reader<I, E> {
-    /// Whether the input shows so many more numbers of eight bytes.
+    /// Whether the input shows `count` more numbers of eight bytes.
     #[inline]
     pub fn shows_numbers(&self, count: usize) -> bool {
         count <= self.input.shown().len() / NUMBER_SIZE
     }
 
-    /// Fills a list with the next numbers of eight bytes, if the input shows them all; otherwise
-    /// nothing is read. There is at least one of them, and each of them is a read.
+    /// Fills a list, which is not empty, with the next numbers of eight bytes, if the input shows
+    /// them all; otherwise nothing is read. Each number is a read.
     #[inline]
     pub fn read_shown(&mut self, numbers: &mut [u64]) -> ReadResult<bool>
         requires { 0 < length numbers.old }
@@ -497,9 +496,9 @@ impl<'p, I: Input<'p>, E: Endian> Reader<I, E> {
         Ok(true)
     }
 
-    /// Fills a block with the next numbers of eight bytes, of which there is at least one. They are
-    /// taken at once if the input shows them, or reports that it has them and they are no more than
-    /// [`BLOCK_LEN`]; otherwise they are read one by one. Each of them is a read.
+    /// Fills a block, which is not empty, with the next numbers of eight bytes. They are taken at
+    /// once if the input shows them, or reports that it has them and there are at most
+    /// [`BLOCK_LEN`]; otherwise they are read one by one. Each number is a read.
     #[inline]
     pub fn read_block(&mut self, numbers: &mut [u64]) -> ReadResult<()>
         requires { 0 < length numbers.old }
@@ -515,7 +514,7 @@ impl<'p, I: Input<'p>, E: Endian> Reader<I, E> {
         }
     }
 
-    // The same where the input does not show them all.
+    // The same if the input does not show them all.
     #[inline(never)]
     fn read_unshown(&mut self, numbers: &mut [u64]) -> ReadResult<()>
         requires { 0 < length numbers.old }
@@ -536,8 +535,8 @@ impl<'p, I: Input<'p>, E: Endian> Reader<I, E> {
         Ok(())
     }
 
-    // Fills a block with the next numbers of eight bytes, which the input has. There is at least one
-    // of them, and there are at most [`BLOCK_LEN`]. They are taken at once, and each of them is a read.
+    // Fills a block of 1 to [`BLOCK_LEN`] numbers with the next numbers of eight bytes, which the
+    // input has. They are taken at once, and each number is a read.
     #[inline]
     fn take_block(&mut self, numbers: &mut [u64]) -> ReadResult<()>
         requires some { 0 < length numbers.old }
@@ -562,9 +561,9 @@ impl<'p, I: Input<'p>, E: Endian> Reader<I, E> {
     }
 }
 
-// Bytes that were read where the input shows them.
+// ---- bytes that were read where the input shows them
 impl<'p, I: Input<'p>, E: Endian> Reader<I, E> {
-    /// Takes the next `len` bytes, which were read where the input shows them, in so many reads.
+    /// Takes the next `len` bytes, which were read where the input shows them, in `reads` reads.
     #[inline]
     pub fn pass(&mut self, len: usize, reads: ReadCounter) -> ReadResult<()>
         requires has { IsTrue (I.source (input_of self.old)).told →
@@ -589,10 +588,10 @@ impl<'p, I: Input<'p>, E: Endian> Reader<I, E> {
     }
 }
 
-// Byte strings: of a known length, all that is left, and names.
+// ---- byte strings: of a known length, all that is left, and names
 impl<'p, I: Input<'p>, E: Endian> Reader<I, E> {
-    /// The next `len` bytes, borrowed where one chunk has them all and lasts, and else copied into
-    /// room that is made by the rules of a cut.
+    /// The next `len` bytes: borrowed if one chunk has them all and lives as long as the input, and
+    /// otherwise copied, into memory that is allocated by the rules of a cut.
     #[inline]
     #[tactic(auto, using(crate::proofs::Steps::run_none))]
     pub fn read_bytes(&mut self, len: usize) -> ReadResult<CowSlice<'p, u8>>
@@ -625,8 +624,7 @@ impl<'p, I: Input<'p>, E: Endian> Reader<I, E> {
 }
 
 impl<'p, I: Input<'p>, E: Endian> Reader<I, E> {
-    /// All bytes that are left, borrowed where the input is whole, and where
-    /// there are none.
+    /// All bytes that are left: borrowed if the input is whole, or if there are none.
     #[inline]
     pub fn read_rest(&mut self) -> ReadResult<CowSlice<'p, u8>>
         ensures whole { IsTrue (I.source (input_of self.old)).whole →
@@ -655,8 +653,8 @@ impl<'p, I: Input<'p>, E: Endian> Reader<I, E> {
 }
 
 impl<'p, I: Input<'p>, E: Endian> Reader<I, E> {
-    /// All bytes that are left, without the zero bytes at their end, borrowed where the input is
-    /// whole, and where there are none.
+    /// All bytes that are left, without the zero bytes at their end: borrowed if the input is
+    /// whole, or if none are left.
     #[inline]
     #[tactic(auto, using(crate::proofs::Paying::chain))]
     pub fn read_rest_trim_nul(&mut self) -> ReadResult<CowSlice<'p, u8>>
@@ -681,10 +679,10 @@ impl<'p, I: Input<'p>, E: Endian> Reader<I, E> {
     }
 }
 
-// Bytes that have to be zero.
+// ---- bytes that must be zero
 impl<'p, I: Input<'p>, E: Endian> Reader<I, E> {
-    /// Takes bytes behind the fields of an attribute that are known, all of which have to be zero.
-    /// Where one is not, all of them are taken, and the refusal is [`Refusal::AttributeTail`].
+    /// Takes the `len` bytes after the known fields of an attribute, all of which must be zero. If
+    /// one is not, all of them are taken, and the refusal is [`Refusal::AttributeTail`].
     pub fn read_zero_tail(&mut self, len: usize) -> ReadResult<()>
         ensures memory { TakesNoMemory (kinds result) }
         ensures call { Call I.source E.order (Reads (λ _. zero_tail len) (λ _. tt))
@@ -702,7 +700,7 @@ impl<'p, I: Input<'p>, E: Endian> Reader<I, E> {
     }
 }
 
-// Headers: of a record that is parsed alone, and of the next frame of a run.
+// ---- headers: of a record that is parsed on its own, and of the next frame of a run
 impl<'p, I: Input<'p>, E: Endian> Reader<I, E> {
     // The next header, whose bytes the input has. They are taken at once, and each of its three
     // numbers is a read.
@@ -738,7 +736,7 @@ impl<'p, I: Input<'p>, E: Endian> Reader<I, E> {
         })
     }
 
-    // The header of a run's next frame: its first byte, of which there may be none, and the other
+    // The header of a run's next frame: its first byte, which may be absent, and then the other
     // seven.
     #[cold]
     #[inline(never)]
@@ -762,8 +760,8 @@ impl<'p, I: Input<'p>, E: Endian> Reader<I, E> {
 }
 
 impl<'p, B: ParseBuf<'p>, E: Endian> Reader<Outer<B>, E> {
-    /// The header of a run's next frame, or why the run stops there: at once if the buffer shows all
-    /// of it. A buffer may end inside it.
+    /// The header of a run's next frame, or why the run stops there. It is read at once if the
+    /// buffer shows all of it. The buffer may end inside it.
     #[inline]
     #[tactic(auto)]
     pub fn next_header(&mut self) -> Result<perf_event_header, Stop>
@@ -785,9 +783,9 @@ impl<'p, B: ParseBuf<'p>, E: Endian> Reader<Outer<B>, E> {
         }
     }
 
-    // The header in front of a run's next frame, if the buffer shows all of it; otherwise nothing
-    // is taken. A run counts it as two reads, of its first byte, which may be missing where a
-    // stream ends, and of the other seven.
+    // The header of a run's next frame, if the buffer shows all of it; otherwise nothing is taken.
+    // A run counts it as two reads: of its first byte, which is absent at the end of a stream, and
+    // of the other seven.
     #[inline]
     #[tactic(auto)]
     fn read_shown_header(&mut self) -> ReadResult<Option<perf_event_header>>
@@ -809,11 +807,11 @@ impl<'p, B: ParseBuf<'p>, E: Endian> Reader<Outer<B>, E> {
     }
 }
 
-// What is made of the bytes of one frame.
+// ---- what is made of the bytes of one frame
 impl<'p, B: ParseBuf<'p>, E: Endian> Reader<Outer<B>, E> {
     /// Hands the next `len` bytes to a reader of frames, takes them, and counts the reads that it
-    /// made of them. Where the bytes are read is the rule of [`Outer::with_frame`]. If the frame is
-    /// refused, the state is unchanged.
+    /// made of them. [`Outer::with_frame`] has the rule on where the bytes are read. If the frame
+    /// is refused, the state is unchanged.
     #[inline]
     pub fn with_frame<S, F: ConfiguredFrameReader<'p, E, S>>(
         &mut self,
@@ -863,8 +861,8 @@ impl<'p, B: ParseBuf<'p>, E: Endian> Reader<Outer<B>, E> {
         }
     }
 
-    /// How many frames begin in the bytes that the buffer shows next, at most `most`: they are
-    /// counted, or as many as small frames would be. Nothing is taken, and that is no elementary read.
+    /// How many frames begin in the bytes that the buffer shows next, at most `most`: as counted,
+    /// or as many as small frames would be. Nothing is taken, and this is not an elementary read.
     #[inline]
     pub fn frames_shown(&mut self, most: usize, counted: bool) -> ReadResult<usize>
         ensures config { config_of self.new ≡ config_of self.old }
