@@ -33,15 +33,15 @@ impl<'p, B: ParseBuf<'p>> ParseRecord<'p, B> for Record<'p> {
         ensures whole_memory { IsTrue (B.source (buffer_of parser.old)).whole →
             words.wants_memory header.type_ ≡ false → TakesNoMemory (error_kinds result) }
 
-        // A size that does not count the header is refused before anything else.
+        // A size that does not include the header is refused before anything else.
         ensures small { header.size < 8 → (error_kinds result ≡ Err ErrorKind.InvalidRecord)
             × (B.source (buffer_of parser.new) ≡ B.source (buffer_of parser.old)) }
         ensures small_why { header.size < 8 →
             IfErr result (λ e. words.IsAnswerOf e words.SmallHeader) }
 
-        // Memory is taken by the rules of a cut, and by what the body takes. Where memory for the
-        // frame is refused, nothing is taken if all room was made first; where it is refused for
-        // the body, exactly the frame is.
+        // Memory is taken by the rules of a cut, and as the body needs it. If there is no memory
+        // for the frame, nothing is taken if all of it was to be allocated first; if there is none
+        // for the body, exactly the frame is taken.
         ensures nothing { body_length header ≡ 0 → words.wants_memory header.type_ ≡ false →
             TakesNoMemory (error_kinds result) }
         ensures short { words.falls_short (B.hint (buffer_of parser.old))

@@ -1,4 +1,4 @@
-//! Parsers: readers of a caller's buffer, whose refusals are errors.
+//! Parsers: readers of a caller's buffer that return errors.
 //!
 //! [`parse::Parser`] reads values out of a buffer: a slice, a buffered reader, or bytes that come
 //! in pieces.

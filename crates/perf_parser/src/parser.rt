@@ -30,18 +30,18 @@ use perf_records::parts::split;
 use perf_records::visitor::Visitor;
 use std::alloc::Global;
 
-/// Reads values out of a buffer, under a configuration.
+/// Reads values from a buffer, under a configuration.
 ///
-/// [`Parser::parse`] reads one value. Where bytes are lacking, all that was left is taken; after a
-/// record that is refused exactly its frame is, so that the next record can be read.
+/// [`Parser::parse`] reads one value. If bytes are missing, all that was left is taken; if a record
+/// is refused, exactly its frame is, so that the next record can be read.
 #[derive(Drop)]
 pub struct Parser<B, E> {
     pub(crate) reader: Reader<Outer<B>, E>,
 }
 
-// How a parser is made, and what it holds.
+// ---- how a parser is made, and its parts
 impl<'p, B: ParseBuf<'p>, E: Endian> Parser<B, E> {
-    /// A parser of the bytes in a buffer, which takes what memory it needs from `alloc`.
+    /// A parser of the bytes in a buffer. It allocates from `alloc`.
     #[inline]
     pub fn new(alloc: Global, buf: B, config: ParseConfig<E>) -> Parser<B, E>
         ensures buf { buffer_of result ≡ buf }
@@ -69,8 +69,7 @@ impl<'p, B: ParseBuf<'p>, E: Endian> Parser<B, E> {
         self.reader.endian()
     }
 
-    /// A parser of the same buffer under another configuration. What is left in the buffer stays
-    /// left.
+    /// A parser of the rest of the same buffer under another configuration.
     #[inline]
     pub fn reconfigure<E2: Endian>(self, config: ParseConfig<E2>) -> Parser<B, E2>
         ensures buf { buffer_of result ≡ buffer_of self }
@@ -85,7 +84,7 @@ impl<'p, B: ParseBuf<'p>, E: Endian> Parser<B, E> {
 
 impl<'p, E: Endian> Parser<&'p [u8], E> {
     /// A second parser of the same bytes, under the same configuration. It has made no reads yet.
-    /// It is refused where the order's `duplicate` is.
+    /// It is refused if the order's `duplicate` is.
     pub fn clone(&self) -> ParseResult<Parser<&'p [u8], E>>
         ensures buf { IfOk result (λ p. buffer_of p ≡ buffer_of self.now) }
         ensures same { IfOk result (λ p.
@@ -106,7 +105,7 @@ impl<'p, E: Endian> Parser<&'p [u8], E> {
     }
 }
 
-// Values of a type.
+// ---- values of a type
 impl<'p, B: ParseBuf<'p>, E: Endian> Parser<B, E> {
     /// Parses one value of a type.
     #[inline]
@@ -118,7 +117,7 @@ impl<'p, B: ParseBuf<'p>, E: Endian> Parser<B, E> {
     }
 }
 
-// Numbers.
+// ---- numbers
 impl<'p, B: ParseBuf<'p>, E: Endian> Parser<B, E> {
     /// The next byte.
     #[inline]
@@ -177,13 +176,14 @@ impl<'p, B: ParseBuf<'p>, E: Endian> Parser<B, E> {
     }
 }
 
-// Byte strings: of a known length, all that is left, and names.
+// ---- byte strings: of a known length, all that is left, and names
 impl<'p, B: ParseBuf<'p>, E: Endian> Parser<B, E> {
-    /// The next `len` bytes, borrowed where the buffer is a slice.
+    /// The next `len` bytes, borrowed if the buffer is a slice.
     ///
-    /// Otherwise they are copied, unless one chunk has them all and lasts. Where the buffer says
-    /// that it has them, or does not say and `len` is at most 16,384, all room is made first, so
-    /// that refused memory takes nothing. Too few bytes are `Eof`, and all of them are taken.
+    /// Otherwise they are copied, unless one chunk has them all and lives as long as the input. If
+    /// the buffer reports that it has them, or reports nothing and `len` is at most 16,384, all
+    /// memory is allocated first, so that nothing is taken if that fails. Too few bytes are `Eof`,
+    /// and all of them are taken.
     #[inline]
     pub fn parse_bytes(&mut self, len: usize) -> ParseResult<CowSlice<'p, u8>>
         ensures whole { IsTrue (B.source (buffer_of self.old)).whole →
@@ -209,8 +209,7 @@ impl<'p, B: ParseBuf<'p>, E: Endian> Parser<B, E> {
         }
     }
 
-    /// All bytes that are left, borrowed where the buffer is a slice, and where
-    /// there are none.
+    /// All bytes that are left, borrowed if the buffer is a slice, or if there are none.
     #[inline]
     pub fn parse_rest(&mut self) -> ParseResult<CowSlice<'p, u8>>
         ensures whole { IsTrue (B.source (buffer_of self.old)).whole →
@@ -231,8 +230,8 @@ impl<'p, B: ParseBuf<'p>, E: Endian> Parser<B, E> {
         }
     }
 
-    /// All bytes that are left, without the zero bytes at their end, borrowed where the buffer is a
-    /// slice, and where there are none.
+    /// All bytes that are left, without the zero bytes at their end, borrowed if the buffer is a
+    /// slice, or if none are left.
     #[inline]
     pub fn parse_rest_trim_nul(&mut self) -> ParseResult<CowSlice<'p, u8>>
         ensures whole { IsTrue (B.source (buffer_of self.old)).whole →
@@ -252,7 +251,7 @@ impl<'p, B: ParseBuf<'p>, E: Endian> Parser<B, E> {
     }
 }
 
-// Lists of values, and values that may be absent.
+// ---- lists of values, and values that may be absent
 impl<'p, B: ParseBuf<'p>, E: Endian> Parser<B, E> {
     /// What a closure parses.
     #[inline]
@@ -266,7 +265,7 @@ impl<'p, B: ParseBuf<'p>, E: Endian> Parser<B, E> {
         parse(self)
     }
 
-    /// What a closure parses, where the condition holds. Where it does not, nothing is read.
+    /// What a closure parses, if the condition holds; otherwise nothing is read.
     #[inline]
     pub fn parse_if_with<T, F: FnOnce(&mut Parser<B, E>) -> ParseResult<T> + Drop>(
         &mut self,
@@ -287,7 +286,7 @@ impl<'p, B: ParseBuf<'p>, E: Endian> Parser<B, E> {
         }
     }
 
-    /// A value of a type, where the condition holds. Where it does not, nothing is read.
+    /// A value of a type, if the condition holds; otherwise nothing is read.
     #[inline]
     pub fn parse_if<P: Parse<'p, B>>(&mut self, condition: bool) -> ParseResult<Option<P>>
         ensures call { CallOnly B.source E.order self.old (error_kinds result) self.new }
@@ -304,11 +303,12 @@ impl<'p, B: ParseBuf<'p>, E: Endian> Parser<B, E> {
         }
     }
 
-    /// `len` values of a type, one behind another. The first that is refused is the answer.
+    /// `len` values of a type, one after another. The error is that of the first one that is
+    /// refused.
     ///
-    /// No claimed count makes room: beforehand there is room for at most one item for each byte
-    /// that is left, or for 16,384 where the buffer does not say how many are. No value at all
-    /// takes no memory.
+    /// A claimed count by itself allocates nothing: the capacity that is reserved first is for at
+    /// most one item for each byte that is left, or for 16,384 if the buffer does not report how
+    /// many are. No memory is taken if `len` is 0.
     pub fn parse_repeated<P: Parse<'p, B> + Drop>(&mut self, len: usize) -> ParseResult<Vec<P>>
         ensures nothing { len ≡ 0 → IsOk result }
         ensures call { CallOnly B.source E.order self.old (error_kinds result) self.new }
@@ -356,14 +356,14 @@ impl<'p, B: ParseBuf<'p>, E: Endian> Parser<B, E> {
     }
 }
 
-// Visits of frames.
+// ---- visits of frames
 impl<'p, B: ParseBuf<'p>, E: Endian> Parser<B, E> {
-    /// Hands the record of the next frame, whose header was read before, to a visitor, and answers
+    /// Hands the record of the next frame, whose header was read before, to a visitor, and returns
     /// what that makes of it.
     ///
-    /// The record is read under the header's `misc`. One visit is made of a record that is accepted,
-    /// and none of one that is refused. After a refusal exactly the frame is taken, or all that was
-    /// left where that is less; after a fault, and where memory for the frame was refused, a
+    /// The record is read under the header's `misc`. A record that is accepted is visited once, and
+    /// one that is refused is not visited. After a refusal exactly the frame is taken, or all that
+    /// was left if that is less; after a fault, or if there was no memory for the frame, a
     /// beginning of it.
     #[inline]
     pub fn parse_record_with_header<V: Visitor<'p>>(
@@ -379,15 +379,15 @@ impl<'p, B: ParseBuf<'p>, E: Endian> Parser<B, E> {
         ensures whole_memory { IsTrue (B.source (buffer_of self.old)).whole →
             words.wants_memory header.type_ ≡ false → TakesNoMemory (error_kinds result) }
 
-        // A size that does not count the header is refused before anything else.
+        // A size that does not include the header is refused before anything else.
         ensures small { header.size < 8 → (error_kinds result ≡ Err ErrorKind.InvalidRecord)
             × (B.source (buffer_of self.new) ≡ B.source (buffer_of self.old)) }
         ensures small_why { header.size < 8 →
             IfErr result (λ e. words.IsAnswerOf e words.SmallHeader) }
 
-        // Memory is taken by the rules of a cut, and by what the body takes. Where memory for the
-        // frame is refused, nothing is taken if all room was made first; where it is refused for
-        // the body, exactly the frame is.
+        // Memory is taken by the rules of a cut, and as the body needs it. If there is no memory
+        // for the frame, nothing is taken if all of it was to be allocated first; if there is none
+        // for the body, exactly the frame is taken.
         ensures nothing { body_length header ≡ 0 → words.wants_memory header.type_ ≡ false →
             TakesNoMemory (error_kinds result) }
         ensures short { words.falls_short (B.hint (buffer_of self.old))
@@ -415,8 +415,8 @@ impl<'p, B: ParseBuf<'p>, E: Endian> Parser<B, E> {
     /// The same as [`Parser::parse_record_with_header`], of a record whose header comes next.
     #[inline]
     pub fn parse_record<V: Visitor<'p>>(&mut self, visitor: V) -> ParseResult<V::Output>
-        // A header that is lacking, or whose size does not count it, is refused before memory is
-        // needed for anything.
+        // A header that is missing, or whose size does not include it, is refused before any memory
+        // is needed.
         ensures small { IsTrue (B.source (buffer_of self.old)).told →
             words.RefusesHeader (E.order (words.endian_of (words.config_of self.old)))
             (B.source (buffer_of self.old)).left (error_kinds result) }
@@ -434,15 +434,15 @@ impl<'p, B: ParseBuf<'p>, E: Endian> Parser<B, E> {
     }
 }
 
-// Frames as their metadata and a parser of the bytes before their sample id.
+// ---- the metadata of frames, and parsers of the bytes before their sample id
 impl<'p, B: ParseBuf<'p>, E: Endian> Parser<B, E> {
     /// The metadata of the next record, whose header was read before, and a parser of the bytes
-    /// between that and its sample id.
+    /// between the header and the sample id.
     ///
     /// That parser has the same configuration, in which `misc` stays what it was, and has made no
-    /// reads. A record that has no room for its sample id is `InvalidRecord`, and exactly its frame
-    /// is taken. After a fault, and where memory is refused, for the frame or for the order's
-    /// second, a beginning of it is taken.
+    /// reads. A record that is too short for its sample id is `InvalidRecord`, and exactly its
+    /// frame is taken. After a fault, or out of memory (for the frame, or for the duplicate of the
+    /// order), a beginning of it is taken.
     #[inline]
     pub fn parse_metadata_with_header(
         &mut self,
@@ -461,18 +461,18 @@ impl<'p, B: ParseBuf<'p>, E: Endian> Parser<B, E> {
             E.may_refuse (endian_of (config_of self.old)) ≡ false →
             TakesNoMemory (error_kinds result) }
 
-        // A size that does not count the header is refused before anything else.
+        // A size that does not include the header is refused before anything else.
         ensures small { header.size < 8 → (error_kinds result ≡ Err ErrorKind.InvalidRecord)
             × (B.source (buffer_of self.new) ≡ B.source (buffer_of self.old)) }
         ensures small_why { header.size < 8 →
             IfErr result (λ e. words.IsAnswerOf e words.SmallHeader) }
 
-        // With another size it is no record only where there is no room for its sample id.
+        // With any other size it is an invalid record only if it is too short for its sample id.
         ensures id_why { IsTrue (B.source (buffer_of self.old)).told → 8 ≤ header.size →
             IfErr result (λ e. kind_of e ≡ ErrorKind.InvalidRecord →
             words.IsAnswerOf e words.NoRoomForId) }
 
-        // Memory is taken by the rules of a cut, and for the order's second.
+        // Memory is taken by the rules of a cut, and for the duplicate of the order.
         ensures nothing { body_length header ≡ 0 →
             E.may_refuse (endian_of (config_of self.old)) ≡ false →
             TakesNoMemory (error_kinds result) }
@@ -511,8 +511,8 @@ impl<'p, B: ParseBuf<'p>, E: Endian> Parser<B, E> {
             E.may_refuse (endian_of (config_of self.old)) ≡ false →
             TakesNoMemory (error_kinds result) }
 
-        // A header that is lacking, or whose size does not count it, is refused before memory is
-        // needed for anything.
+        // A header that is missing, or whose size does not include it, is refused before any memory
+        // is needed.
         ensures small { IsTrue (B.source (buffer_of self.old)).told →
             words.RefusesHeader (E.order (endian_of (config_of self.old)))
             (B.source (buffer_of self.old)).left (error_kinds result) }
