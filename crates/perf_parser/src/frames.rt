@@ -1,4 +1,4 @@
-//! Frames: a header, and the bytes that belong to it.
+//! Records that are parsed after their header.
 
 ghost use Rattle.std.specs.Prelude.{◌≡◌, ◌<◌, false, true, drop, Err, IsTrue, IfOk, IfErr};
 ghost use Rattle.perf_parser.specs.Words.{Call, SaysBehind, error_kinds, buffer_of};

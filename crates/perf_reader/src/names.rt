@@ -1,4 +1,4 @@
-//! Names: all that is left, without the zero bytes at the end.
+//! Zero bytes at the end of a name.
 
 ghost use Rattle.std.specs.Prelude.{◌≡◌, ◌≤◌, length, take};
 ghost use Rattle.perf_base.specs.Zeros.{trimmed};
