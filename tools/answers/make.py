@@ -270,7 +270,7 @@ CONFIGS = [
 
 # The types that have no name, and those that the program could read before it read attributes.
 NAMELESS = [0, 22, 63, 64, 68, 2**32 - 1]
-FIRST = [2, 4, 7, 13] + NAMELESS
+KNOWN_AT_FIRST = [2, 4, 7, 13] + NAMELESS
 
 Case = collections.namedtuple("Case", "name order limit config attr stream")
 
@@ -322,7 +322,7 @@ def cases(everything=False):
     for order in ["little", "big"]:
         turns = Turns(0 if order == "little" else 7)
         for at, (name, limit) in enumerate([("done", LIMIT), ("cut", LIMIT), ("unfinished", LIMIT), ("limit", 12)]):
-            _, stream = filled("first_" + name, order, PLAIN, FIRST, turns, 24, at % 3, everything)
+            _, stream = filled("first_" + name, order, PLAIN, KNOWN_AT_FIRST, turns, 24, at % 3, everything)
             found.append(Case("first_%s_%s" % (name, order), order, limit, PLAIN, False, stream))
         turns = Turns(0 if order == "little" else 100)
         for at, (name, config) in enumerate(CONFIGS):

@@ -3,67 +3,54 @@
 use crate::pool::{Kind, Pool};
 use crate::random::Random;
 use crate::stream::{ByteOrder, Event, Stream};
+use bitflags::Flags;
+use perf_event_data::SampleFlags;
 use std::alloc::{AllocError, Global};
 
-// Flags of a sample type.
-const IP: u64 = 1 << 0;
+// What a flat sample has.
+const FLAT: &[SampleFlags] = &[
+    SampleFlags::IP,
+    SampleFlags::TID,
+    SampleFlags::TIME,
+    SampleFlags::CPU,
+    SampleFlags::PERIOD,
+];
 
-const TID: u64 = 1 << 1;
+// What a sample of a memory access has beside that.
+const MEMORY: &[SampleFlags] = &[
+    SampleFlags::ADDR,
+    SampleFlags::ID,
+    SampleFlags::STREAM_ID,
+    SampleFlags::WEIGHT,
+    SampleFlags::DATA_SRC,
+    SampleFlags::IDENTIFIER,
+    SampleFlags::TRANSACTION,
+    SampleFlags::PHYS_ADDR,
+    SampleFlags::CGROUP,
+    SampleFlags::DATA_PAGE_SIZE,
+    SampleFlags::CODE_PAGE_SIZE,
+];
 
-const TIME: u64 = 1 << 2;
+// What a sample of stacks has.
+const STACKS: &[SampleFlags] = &[
+    SampleFlags::IP,
+    SampleFlags::TID,
+    SampleFlags::TIME,
+    SampleFlags::REGS_USER,
+    SampleFlags::STACK_USER,
+];
 
-const ADDR: u64 = 1 << 3;
+// What a sample of branches has.
+const BRANCHES: &[SampleFlags] = &[
+    SampleFlags::IP,
+    SampleFlags::TID,
+    SampleFlags::TIME,
+    SampleFlags::PERIOD,
+    SampleFlags::BRANCH_STACK,
+];
 
-const READ: u64 = 1 << 4;
-
-const CALLCHAIN: u64 = 1 << 5;
-
-const ID: u64 = 1 << 6;
-
-const CPU: u64 = 1 << 7;
-
-const PERIOD: u64 = 1 << 8;
-
-const STREAM_ID: u64 = 1 << 9;
-
-const RAW: u64 = 1 << 10;
-
-const BRANCH_STACK: u64 = 1 << 11;
-
-const REGS_USER: u64 = 1 << 12;
-
-const STACK_USER: u64 = 1 << 13;
-
-const WEIGHT: u64 = 1 << 14;
-
-const DATA_SRC: u64 = 1 << 15;
-
-const IDENTIFIER: u64 = 1 << 16;
-
-const TRANSACTION: u64 = 1 << 17;
-
-const PHYS_ADDR: u64 = 1 << 19;
-
-const CGROUP: u64 = 1 << 21;
-
-const DATA_PAGE_SIZE: u64 = 1 << 22;
-
-const CODE_PAGE_SIZE: u64 = 1 << 23;
-
-const FLAT: u64 = IP | TID | TIME | CPU | PERIOD;
-
-const MEMORY: u64 = FLAT
-    | ADDR
-    | ID
-    | STREAM_ID
-    | WEIGHT
-    | DATA_SRC
-    | IDENTIFIER
-    | TRANSACTION
-    | PHYS_ADDR
-    | CGROUP
-    | DATA_PAGE_SIZE
-    | CODE_PAGE_SIZE;
+// What a sample of a group of counters has.
+const GROUPS: &[SampleFlags] = &[SampleFlags::TID, SampleFlags::TIME, SampleFlags::READ];
 
 // A group, its two times, and an id for each counter.
 const GROUP_FORMAT: u64 = 1 << 3 | 1 << 2 | 1 << 1 | 1 << 0;
@@ -95,17 +82,28 @@ pub enum Recording {
     Unknown,
 }
 
+// The bits of these flags.
+fn bits_of(flags: &[SampleFlags]) -> u64 {
+    let mut bits = 0;
+    for flag in flags {
+        bits |= flag.bits();
+    }
+    bits
+}
+
 impl Recording {
     // The attribute of a recording of this kind.
     fn event(self) -> Event {
         let sample_type = match self {
-            Recording::Flat | Recording::Tasks | Recording::Unknown => FLAT,
-            Recording::Chains | Recording::Refused | Recording::Lies => FLAT | CALLCHAIN,
-            Recording::Stacks => IP | TID | TIME | REGS_USER | STACK_USER,
-            Recording::Branches => IP | TID | TIME | PERIOD | BRANCH_STACK,
-            Recording::Memory => MEMORY,
-            Recording::Raw => FLAT | RAW,
-            Recording::Groups => TID | TIME | READ,
+            Recording::Flat | Recording::Tasks | Recording::Unknown => bits_of(FLAT),
+            Recording::Chains | Recording::Refused | Recording::Lies => {
+                bits_of(FLAT) | SampleFlags::CALLCHAIN.bits()
+            }
+            Recording::Stacks => bits_of(STACKS),
+            Recording::Branches => bits_of(BRANCHES),
+            Recording::Memory => bits_of(FLAT) | bits_of(MEMORY),
+            Recording::Raw => bits_of(FLAT) | SampleFlags::RAW.bits(),
+            Recording::Groups => bits_of(GROUPS),
         };
         Event {
             sample_type,

@@ -2,8 +2,8 @@
 #![tactic(auto)]
 
 pub mod cursor;
-pub mod cut;
-pub mod fill;
+mod cut;
+mod fill;
 mod frame_input;
 pub mod frame_reader;
 pub mod input;
@@ -11,5 +11,5 @@ pub mod loan;
 pub mod outer;
 pub mod parsebuf;
 pub mod pieces;
-pub mod rest;
-pub mod zeros;
+mod rest;
+mod zeros;

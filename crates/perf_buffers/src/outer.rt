@@ -1,7 +1,6 @@
 //! Any kind of buffer as an input.
 
 ghost use Rattle.std.specs.Prelude.{◌≡◌, ◌≤◌, ◌*◌, [], length, true, IsTrue, IsOk, IfOk, IfErr, OnErr};
-ghost use Rattle.perf_base.specs.Errors.{kind_of};
 ghost use Rattle.perf_base.specs.Refusals.{IsAnswerOf, refusal_kind};
 ghost use Rattle.perf_buffers.specs.FrameBytes.{GivesNextBytes, TakesOrLeaves};
 ghost use Rattle.perf_buffers.specs.Words.{kinds, refused, Stays, Refuses, CanFail, TakesNoMemory};
@@ -61,15 +60,6 @@ impl<B> Outer<B> {
         ensures buf { self.new.buf ≡ self.old.buf }
     {
         self.kept.answer(refusal)
-    }
-
-    /// Keeps the error of a caller's own type, or of an order.
-    #[inline]
-    pub fn keep(&mut self, error: ParseError) -> Refusal
-        ensures kind { refusal_kind result ≡ kind_of error }
-        ensures buf { self.new.buf ≡ self.old.buf }
-    {
-        self.kept.keep(error)
     }
 }
 

@@ -1,4 +1,4 @@
--- A stream is its frames, one behind another, and what is left behind them.
+-- A stream is its frames, one after another, and what is left after them.
 use Rattle.std.proofs.Common.{◌≡◌, ℕ, zero, suc, List, [], ◌∷◌, ◌++◌, take, drop, refl, ◌∙◌, ap}
 use Rattle.std.proofs.lemmas.List.{append_assoc, take-append-drop}
 use Rattle.perf_base.specs.Order.{Order}

@@ -31,7 +31,7 @@ use Rattle.perf_parser.specs.declared.runs.RunEnd.{RunEnd}
 use Rattle.perf_reader.specs.declared.header.Stop.{Stop}
 use Rattle.perf_reader.specs.declared.header.Stop.TheVariants as stop
 
--- ---- refused answers are counted
+-- ---- answers that are refusals are counted
 one_more_refused : (pairs : Pairs) (h : perf_event_header) (r : Result Record ParseError) →
     refused_count (pairs ++ (h, r) ∷ []) ≡ refused_count pairs + one_if_refused (refused (error_kinds r))
 one_more_refused [] h (Ok r) = refl
@@ -45,16 +45,16 @@ one_more_refused (pair ∷ pairs) h r = go (one_more_refused pairs h r) (pair.1)
 
 -- ---- how it stops
 
--- where the header was read, and not what stands behind it
+-- if the header was read, and the rest was not
 pub stops_behind : (old mid new : Meaning) (h : perf_event_header) (r : Refusal) → (IsTrue (of_layout (refusal_kind r)) → ⊥) → 8 ≤ length old.source.left → h ≡ header_of old.order old.source.left →
     mid.source.left ≡ drop 8 old.source.left → MovesWithin mid.source (body_length h) new.source → StopsAt old (stop.Refused r) new
 stops_behind old mid new h r none fits e m within =
     let whole : frame_length old.order old.source.left ≡ 8 + body_length h = ap (λ (q : perf_event_header). max 8 q.size) (sym e) ∙ frame_body h in
     (none, leaves old.order old.source new.source (8 + body_length h) (omega arith) (within_more old.source mid.source new.source 8 (body_length h) (fits, m) within))
 
--- ---- where memory was refused
+-- ---- if an allocation failed
 
--- behind the header, exactly the frame was taken
+-- after the header, exactly the frame was taken
 pub stops_spent : (old mid new : Meaning) (h : perf_event_header) (r : Refusal) → h ≡ header_of old.order old.source.left → mid.source.left ≡ drop 8 old.source.left →
     (refusal_kind r ≡ OutOfMemory → new.source.left ≡ drop (body_length h) mid.source.left) → StopsBetween old (stop.Refused r) new
 stops_spent old mid new h r e m spent = λ kind. inr (frame_behind old.order old.source.left mid.source.left new.source.left h e m (spent kind))
@@ -79,7 +79,7 @@ no_fault a b UnsupportedData h p = p
 no_fault a b External h p = absurd (cc)
 no_fault a b OutOfMemory h p = absurd (cc)
 
--- nothing was done, where some were refused before
+-- nothing was done, if some were refused before
 pub run_none : (m : Meaning) (n : ℕ) → KeepsRun m n None m
 run_none m n = record {
   buffer = (refl, (λ c. c), refl, (λ t. t));
@@ -88,7 +88,7 @@ run_none m n = record {
   place = λ t. (omega arith, sym (last_all m.source.left));
 }
 
--- one call behind others
+-- one call after others
 pub run_more : (start old new : Meaning) (n : ℕ) (e : Option ErrorKind) → KeepsRun start n None old → Keeps old e new → KeepsRun start (n + one_if_refused e) e new
 run_more start old new n e p q = record {
   buffer = (
@@ -105,7 +105,7 @@ run_more start old new n e p q = record {
   );
 }
 
--- a run goes on behind a refusal of the layout
+-- a run goes on after a refusal of the layout
 pub run_on : (start new : Meaning) (n : ℕ) (e : ErrorKind) → IsTrue (of_layout e) → KeepsRun start n (Some e) new → KeepsRun start n None new
 run_on start new n e layout p = record {
   buffer = (p.buffer.0, p.buffer.1, no_fault start.source new.source e layout p.buffer.2, p.buffer.3);
@@ -131,7 +131,7 @@ run_lists start old new pairs now h (Err x) e listed p q =
     subst (λ (n : ℕ). KeepsRun start n None new) (sym sum)
     (run_on start new (refused_count pairs + 1) (kind_of x) listed (run_more start old new (refused_count pairs) (Some (kind_of x)) p q))
 
--- ---- what is said of an answer
+-- ---- what is stated of an answer
 
 pub said_frame : (old mid new : Meaning) (h : perf_event_header) (r : Result Record ParseError) → 8 ≤ length old.source.left → h ≡ header_of old.order old.source.left →
     mid.settings ≡ old.settings → mid.order ≡ old.order → mid.source.left ≡ drop 8 old.source.left → mid.reads ≡ old.reads + 2 → IsListed r → SaysBehind h mid (error_kinds r) new →
@@ -156,7 +156,7 @@ said_frame old mid new h r fits e same_settings same_order m count listed p =
 
 -- ---- the public end
 
--- a reader of which nothing that a run speaks of has changed
+-- a reader of which nothing that a run mentions has changed
 pub same_meaning : {B E : Type 0} (source : B → Source) (order : E → Order) (a b : Reader (Outer B) E) → reader.buffer_of a ≡ reader.buffer_of b → reader.config_of a ≡ reader.config_of b →
     reader.reads_of a ≡ reader.reads_of b → reader.meaning (λ (o : Outer B). source o.buf) order a ≡ reader.meaning (λ (o : Outer B). source o.buf) order b
 same_meaning source order a b buffer config reads = rw (buffer, config, reads) refl

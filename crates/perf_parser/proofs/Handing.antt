@@ -41,7 +41,7 @@ module _ {S : Type 0} (gets : S → Sight → Bool → S → Type 0) (o : Order)
     ],
   )
 
--- These first k frames, which are all there, were handed out; this is left after them, and two reads were made for each.
+-- These first k frames, which are all present, were handed out; this is left after them, and two reads were made for each.
 pub record HandedSoFar {S : Type 0} (gets : S → Sight → Bool → S → Type 0) (start : Meaning) (was : S) (k : ℕ) (here : Meaning) (go : Bool) (now : S) : Type 0 where
   pub handed : Handed gets start.order start.source.whole was (first_frames start.order k start.source.left) go now
   pub behind : IsBehind start k here
@@ -73,7 +73,7 @@ one_more_handed {S} gets start here new was mid now k go order same told so_far 
       reads_are = omega (arith, n.3, so_far.reads_are);
     }
 
--- how many reads a run made that stopped so
+-- how many reads a run made that stopped in this way
 pub counts_headers : (start here new : Meaning) (k : ℕ) (s : Stop) (e : RunEnd) → here.reads ≡ start.reads + 2 * k → here.reads ≤ new.reads → StopsAt here s new → IsEndOf s e → CountsHeaders k (Some e) start.reads new.reads
 counts_headers start here new k stop.Done e reads more p is = subst (λ (x : RunEnd). CountsHeaders k (Some x) start.reads new.reads) (sym is) (omega (arith, p.2, reads))
 counts_headers start here new k stop.CutHeader e reads more p is = subst (λ (x : RunEnd). CountsHeaders k (Some x) start.reads new.reads) (sym is) (omega (arith, p.3, reads))

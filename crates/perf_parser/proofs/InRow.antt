@@ -9,7 +9,7 @@ use Rattle.perf_parser.specs.Calls.{KeepsOn}
 use Rattle.perf_parser.specs.Repeats.{ParsesInTurn, StopsShort}
 use Rattle.perf_parser.proofs.Paying.{chain}
 
--- no memory was found for what was read
+-- there was no memory for what was read
 keeps_refused : (start new : Meaning) → Keeps start None new → Keeps start (Some OutOfMemory) new
 keeps_refused start new k = record {
   buffer = k.buffer;
@@ -29,5 +29,5 @@ module _ {T : Type 0} (parses : Says T) where
     | inr q ↦ subst (λ why. Keeps start (Some why) b) (sym q.3) (keeps_refused start b (runs_kept start a b q.0 q.2 k))
   ]
 
--- what calls of this library and lists of its items need, one behind another
+-- what calls of this library and lists of its items need, one after another
 pub ruleset items = (chain, runs_kept, short_kept)

@@ -40,7 +40,7 @@ lifted source order says old new seen c =
       follows = λ start p. follows_more start a b p (keeps_follows a b (refused seen) (c.keeps a (keeps_none a)));
     }
 
--- the same of a call whose refusal was answered
+-- the same of a call whose refusal became an error
 pub answered : {B E X : Type 0} (source : B → Source) (order : E → Order) (says : Says X) (old new : Parser B E) (mid : Reader (Outer B) E) (e k : ErrorKind) →
     reader_calls.Call (λ (o : Outer B). source o.buf) order says (reader_of old) (Err e) mid → k ≡ e →
     buffer_of new ≡ reader.buffer_of mid → config_of new ≡ reader.config_of mid → reads_of new ≡ reader.reads_of mid → Call source order says old (Err k) new

@@ -30,7 +30,7 @@ one_more_borrowed [] h r p q = (q, tt)
 one_more_borrowed (pair ∷ pairs) h r p q = (p.0, one_more_borrowed pairs h r p.1 q)
 
 -- ---- frames in a row
--- the first frame, and those behind it
+-- the first frame, and those after it
 pub frames_next : (o : Order) (n : ℕ) (bytes : List ℕ) → 8 ≤ length bytes → first_frames o (suc n) bytes ≡ take (frame_length o bytes) bytes ∷ first_frames o n (drop (frame_length o bytes) bytes)
 frames_next o n bytes fits = let a : nat_lt (length bytes) 8 ≡ false = le-ltb (length bytes) 8 fits in rw a refl
 
@@ -38,11 +38,11 @@ frames_none : (o : Order) (n : ℕ) (bytes : List ℕ) → length bytes < 8 → 
 frames_none o zero bytes short = refl
 frames_none o (suc n) bytes short = let a : nat_lt (length bytes) 8 ≡ true = lt-ltb (length bytes) 8 short in rw a refl
 
--- the first k frames are all there
+-- the first k frames are all present
 abbrev pub AreThere : Order → ℕ → List ℕ → Type 0
 AreThere o k bytes = length (first_frames o k bytes) ≡ k
 
--- where one more is there, so is the first
+-- if one more is present, so is the first
 pub there_fits : (o : Order) (k : ℕ) (bytes : List ℕ) → AreThere o (suc k) bytes → 8 ≤ length bytes
 there_fits o k bytes h = elim (cases_lt (length bytes) 8) [
   | inr fits ↦ fits
@@ -54,7 +54,7 @@ there_next o k bytes h =
     let e = ap length (frames_next o k bytes (there_fits o k bytes h)) in
     omega (arith, h, e)
 
--- one frame more behind the first k
+-- one frame more after the first k
 pub frames_on : (o : Order) (k : ℕ) (bytes : List ℕ) → AreThere o k bytes → 8 ≤ length (behind_frames o k bytes) →
     first_frames o (k + 1) bytes ≡ first_frames o k bytes ++ take (frame_length o (behind_frames o k bytes)) (behind_frames o k bytes) ∷ []
 frames_on o zero bytes h fits = frames_next o 0 bytes fits
@@ -93,7 +93,7 @@ frames_take o (suc k) (suc n) bytes h le =
     ∙ ap (λ fs. take (frame_length o bytes) bytes ∷ fs) (frames_take o k n (drop (frame_length o bytes) bytes) (there_next o k bytes h) (omega arith))
     ∙ sym (frames_next o k bytes eight)
 
--- no more frames than k, where fewer than eight bytes are left behind them
+-- no more frames than k, if fewer than eight bytes are left after them
 frames_all : (o : Order) (k n : ℕ) (bytes : List ℕ) → AreThere o k bytes → k ≤ n → length (behind_frames o k bytes) < 8 → first_frames o n bytes ≡ first_frames o k bytes
 frames_all o zero n bytes h le short = frames_none o n bytes short
 frames_all o (suc k) zero bytes h le short = absurd (omega arith)
@@ -108,12 +108,12 @@ frames_all o (suc k) (suc n) bytes h le short =
 abbrev pair_of : Configuration → Order → List ℕ → perf_event_header × Result RecordValue ErrorKind
 pair_of c o frame = (header_of o frame, answer_of_frame c o frame)
 
--- The first k frames are all there, and this is left after them.
+-- The first k frames are all present, and this is left after them.
 pub record IsBehind (start : Meaning) (k : ℕ) (here : Meaning) : Type 0 where
   pub there : AreThere start.order k start.source.left
   pub left_is : here.source.left ≡ behind_frames start.order k start.source.left
 
--- These pairs are the answers of the first k frames, which are all there; this is left behind them, and so many reads were made.
+-- These pairs are the answers of the first k frames, which are all present; this is left after them, and this many reads were made.
 pub record IsSoFar (start : Meaning) (pairs : Pairs) (k : ℕ) (here : Meaning) : Type 0 where
   pub said_is : seen_answers pairs ≡ map (pair_of start.settings start.order) (first_frames start.order k start.source.left)
   pub there : AreThere start.order k start.source.left
@@ -130,11 +130,11 @@ map_on : {X Y : Type 0} (f : X → Y) (xs : List X) (x : X) → map f (xs ++ x �
 map_on f [] x = refl
 map_on f (y ∷ ys) x = ap (λ zs. f y ∷ zs) (map_on f ys x)
 
--- a frame by its own bytes, and in front of others
+-- a frame by its own bytes, and before others
 listed_alone : (c : Configuration) (o : Order) (bytes : List ℕ) → listed_reads c o (take (frame_length o bytes) bytes) ≡ listed_reads c o bytes
 listed_alone c o bytes = ap (λ n. 2 + n) (reads_alone c o bytes)
 
--- what is told of the next frame, under a configuration and an order
+-- what is known of the next frame, under a configuration and an order
 abbrev TellsOf : Configuration → Order → Meaning → perf_event_header → Result Record ParseError → Meaning → Type 0
 TellsOf c o here h r new =
     (8 ≤ length here.source.left) × (h ≡ header_of o here.source.left) × (seen_answer r ≡ answer_of_frame c o here.source.left)
@@ -180,7 +180,7 @@ listed_first start here pairs k so_far e =
     ∙ sym (take-map (pair_of c o) k (frames o bytes))
     ∙ ap (λ n. take n (answers c o bytes)) (sym e)
 
--- where fewer than eight bytes are left, all frames are met, and the stream ends with those bytes
+-- if fewer than eight bytes are left, all frames were read, and the stream ends with those bytes
 all_listed : (start here : Meaning) (k : ℕ) → IsBehind start k here → length here.source.left < 8 →
     (k ≡ length (frames start.order start.source.left)) × (stream_end start.order start.source.left ≡ end_with (length here.source.left))
 all_listed start here k so_far short =
@@ -192,7 +192,7 @@ all_listed start here k so_far short =
 
 -- ---- how it ends
 
--- the same kind is none of the layout's either
+-- a kind that is equal is none of the layout's either
 not_of_layout : {a b : ErrorKind} → a ≡ b → (IsTrue (of_layout b) → ⊥) → IsTrue (of_layout a) → ⊥
 not_of_layout same other = λ h. other (subst (λ (k : ErrorKind). IsTrue (of_layout k)) same h)
 
@@ -214,7 +214,7 @@ ends_with start here new limit k (stop.Refused r) e so_far below same p is =
     subst (λ (xs : List ℕ). LeavesWithin start.order xs new.source.left) so_far.left_is (subst (λ (o : Order). LeavesWithin o here.source.left new.source.left) same p.1) in
     subst (λ (x : RunEnd). EndsWith start.order limit start.source.left k x new.source.left) (sym is.1) (below, not_of_layout is.2.kind_is p.0, within)
 
--- where refused memory ended it
+-- if a failed allocation ended it
 pub ends_between : (start here new : Meaning) (k : ℕ) (s : Stop) (e : RunEnd) → IsBehind start k here → here.order ≡ start.order →
     StopsBetween here s new → IsEndOf s e → EndsBetween start.order start.source.left k e new.source.left
 ends_between start here new k s e so_far order p is = λ h. elim (p (end_kind s e is h)) [

@@ -1,4 +1,4 @@
--- Registers of a mask, which is one of the configuration's.
+-- Registers by a mask of the configuration.
 use Rattle.std.proofs.Common.{◌≡◌, ℕ, subst}
 use Rattle.std.specs.Prelude.{Result}
 use Rattle.perf_base.specs.Configuration.{Configuration}

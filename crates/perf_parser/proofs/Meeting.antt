@@ -16,7 +16,7 @@ use Rattle.perf_reader.specs.declared.header.Stop.TheVariants as stop
 use Rattle.perf_parser.proofs.Ending.{run_more}
 
 module _ (old mid new : Meaning) (settings : mid.settings ≡ old.settings) (order : mid.order ≡ old.order) (left : mid.source.left ≡ old.source.left) (reads : mid.reads ≡ old.reads) where
-  -- where it stands, if memory was refused
+  -- where it is, if an allocation failed
   pub looked_between : (s : Stop) → StopsBetween mid s new → StopsBetween old s new
   looked_between s p = λ kind. elim (p kind) [
     | inl same ↦ inl (same ∙ left)
@@ -44,7 +44,7 @@ looked_lists old mid new settings order same whole told was now p = (
       (omega (arith, q.0, long), q.1 ∙ ap (λ (o : Order). header_of o mid.source.left) order ∙ ap (header_of old.order) left, q.2 ∙ answer, q.3 ∙ ap (λ k. drop k mid.source.left) size ∙ ap (drop (frame_length old.order old.source.left)) left, omega (arith, q.4, reads, made))),
 )
 
--- where there was no memory for an answer, and nothing was taken
+-- if there was no memory for an answer, and nothing was taken
 pub room_stops : (old new : Meaning) → new.source.left ≡ old.source.left → StopsAt old (stop.Refused why.OutOfMemory) new
 room_stops old new same =
     let long : length new.source.left ≡ length old.source.left = ap length same in

@@ -1,4 +1,4 @@
--- A frame that fell apart, and a parser of its body.
+-- A frame that was split, and a parser of its body.
 use Rattle.std.proofs.Common.{◌≡◌, Ok, Err, None, Some, arith, sym, ◌∙◌, ap}
 use Rattle.perf_base.specs.declared.error.ErrorKind.TheVariants.{OutOfMemory}
 use Rattle.perf_base.specs.declared.sys.perf_event_header.{perf_event_header}
@@ -18,7 +18,7 @@ pub split_parsed : {E : Type 0} (h : perf_event_header) (old new : Meaning) (bod
 split_parsed h old new body metadata parser same p =
     (p.0 ∙ ap (λ (b : ParseBufCursor). Ok (record { metadata = metadata; body = cursor_left b })) (sym same), p.1, p.2)
 
--- without one, of which nothing is said
+-- without one, of which nothing is stated
 pub split_unparsed : (E : Type 0) (h : perf_event_header) (old new : Meaning) → SplitsParser {E = E} h old (Err OutOfMemory) new
 split_unparsed E h old new = λ layout. cc
 

@@ -15,7 +15,7 @@ follows_none m = record {
   place = λ t. (omega arith, sym (last_all m.source.left));
 }
 
--- one call behind others
+-- one call after others
 pub follows_more : (start old new : Meaning) → Follows start old → Follows old new → Follows start new
 follows_more start old new p q = record {
   whole = q.whole ∙ p.whole;
@@ -27,5 +27,5 @@ follows_more start old new p q = record {
   );
 }
 
--- what calls one behind another need
+-- what calls one after another need
 pub ruleset chain = (places_took, keeps_none, follows_none)

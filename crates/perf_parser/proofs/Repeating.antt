@@ -41,7 +41,7 @@ module _ {T : Type 0} (parses : Says T) (counts : Counts) where
     | inr q ↦ runs_follow a b q.0 q.2
   ]
 
--- calls that follow one another are a call of which only that is said
+-- calls that follow one another are a call of which only this is stated
 pub only : {B E X : Type 0} (source : B → Source) (order : E → Order) (old new : Parser B E) (seen : Result X ErrorKind) →
     config_of new ≡ config_of old → Follows (meaning source order old) (meaning source order new) → CallOnly source order old seen new
 only source order old new seen config f = record {

@@ -10,8 +10,8 @@ use Rattle.perf_parser.specs.Runs.{EndsWith, end_refusal, one_if_ended}
 use Rattle.perf_parser.specs.declared.runs.RunEnd.{RunEnd}
 use Rattle.perf_parser.specs.declared.runs.RunEnd.TheVariants as end
 
--- A handler was handed these frames, one after the other: what stands at each, by its bytes, which last
--- as long as the input where the buffer is whole. It went on after each but perhaps the last, after
+-- A handler was handed these frames, one after the other: what is at each, by its bytes, which live
+-- as long as the input if the buffer is whole. It went on after each except perhaps the last, after
 -- which it returned this.
 abbrev pub Handed : {S : Type 0} → (S → Sight → Bool → S → Type 0) → Order → (whole : Bool) → S →
     List (List ℕ) → Bool → S → Type 0
@@ -27,7 +27,7 @@ abbrev pub went_on : Option RunEnd → Bool
 went_on (Some e) = true
 went_on None = false
 
--- the handler got the first count frames, which are all there
+-- the handler got the first count frames, which are all present
 abbrev pub HandsFirst : {S : Type 0} → (S → Sight → Bool → S → Type 0) → Meaning → (count : ℕ) →
     Option RunEnd → S → S → Type 0
 HandsFirst gets old count e was now =
@@ -35,15 +35,15 @@ HandsFirst gets old count e was now =
     × Handed gets old.order old.source.whole was
     (first_frames old.order count old.source.left) (went_on e) now
 
--- How a run ends that handed over count frames of these bytes, and what it leaves: as a run that lists
--- them, or by its handler after the last of them.
+-- How a run ends that handed over count frames of these bytes, and what it leaves: like a run that
+-- lists them, or by its handler after the last of them.
 abbrev pub EndsFrames : Order → (limit : ℕ) → List ℕ → (count : ℕ) → Option RunEnd → List ℕ → Type 0
 EndsFrames o limit bytes count (Some e) left = EndsWith o limit bytes count e left
 EndsFrames o limit bytes count None left =
     (0 < count) × (count ≤ limit) × (left ≡ behind_frames o count bytes)
 
--- Two reads for each header, and those of its end: one more where nothing is left, two where a header is
--- cut; those of a fault are bounded alone.
+-- Two reads for each header, and those of its end: one more if nothing is left, two if a header is
+-- cut; those of a fault are only bounded.
 abbrev pub CountsHeaders : (count : ℕ) → Option RunEnd → (old new : ℕ) → Type 0
 CountsHeaders count None old new = new ≡ old + 2 * count
 CountsHeaders count (Some end.Limit) old new = new ≡ old + 2 * count
@@ -56,7 +56,7 @@ abbrev pub frames_refusal : Option RunEnd → Option ErrorKind
 frames_refusal None = None
 frames_refusal (Some e) = end_refusal e
 
--- one where it ended before its limit, and not by its handler
+-- one if it ended before its limit, and not by its handler
 abbrev pub one_if_run_ended : Option RunEnd → ℕ
 one_if_run_ended None = 0
 one_if_run_ended (Some e) = one_if_ended e

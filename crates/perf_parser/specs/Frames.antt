@@ -1,4 +1,4 @@
--- How a frame falls apart, into its metadata and a parser of its body.
+-- How a frame is split into its metadata and a parser of its body.
 use Rattle.std.specs.Prelude.{◌≡◌, false}
 use Rattle.perf_base.specs.Refusals.{refused}
 use Rattle.perf_base.specs.declared.sys.perf_event_header.{perf_event_header}
@@ -13,11 +13,11 @@ use Rattle.perf_records.specs.Metadata.{MetadataValue}
 use Rattle.perf_parser.specs.Meaning.{buffer_of}
 use Rattle.perf_parser.specs.declared.parser.Parser.{Parser}
 
--- the parts of a frame that a call answers: a parser of the body, and the metadata
+-- the parts of a frame that a call returns: a parser of the body, and the metadata
 abbrev pub parsed_parts : {E : Type 0} → Parser ParseBufCursor E × MetadataValue → FrameParts
 parsed_parts pair = record { metadata = pair.1; body = cursor_left (buffer_of pair.0) }
 
--- how a frame falls apart behind its header; exactly its body and its sample id are taken
+-- how a frame is split after its header; exactly its body and its sample id are taken
 abbrev pub SplitsParser : {E : Type 0} → perf_event_header →
     Says (Parser ParseBufCursor E × MetadataValue)
 SplitsParser h old seen new =
@@ -25,8 +25,8 @@ SplitsParser h old seen new =
     AnswersExactly parsed_parts (split_behind c o h bytes) (body_length h) (split_reads c o h bytes)
     old seen new
 
--- The same of a frame with its header, which is three elementary reads. Where it is refused
--- otherwise, but by a fault, a beginning of the frame is taken.
+-- The same of a frame with its header, which is three elementary reads. If it is refused, except by
+-- a fault, a beginning of the frame is taken.
 abbrev pub SplitsFrame : {E : Type 0} → Says (Parser ParseBufCursor E × MetadataValue)
 SplitsFrame old seen new =
     let c = old.settings in let o = old.order in let bytes = old.source.left in

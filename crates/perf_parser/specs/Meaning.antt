@@ -1,4 +1,4 @@
--- What a parser means: what its reader means, which reads a caller's buffer.
+-- The state of a parser: that of its reader, which reads a caller's buffer.
 use Rattle.std.specs.Prelude.{ℕ}
 use Rattle.perf_base.specs.Order.{Order}
 use Rattle.perf_base.specs.declared.config.ParseConfig.{ParseConfig}
@@ -25,6 +25,6 @@ config_of p = reader.config_of p.reader
 abbrev pub reads_of : {B E : Type 0} → Parser B E → ℕ
 reads_of p = reader.reads_of p.reader
 
--- the meaning of a parser, by those of its buffer and its order
+-- the state of a parser, by what its buffer contains and its order
 abbrev pub meaning : {B E : Type 0} → (B → Source) → (E → Order) → Parser B E → Meaning
 meaning source order p = reader.meaning (λ o. source o.buf) order p.reader

@@ -8,9 +8,9 @@ use Rattle.perf_reader.specs.Meaning.{Meaning}
 use Rattle.perf_reader.specs.Reading.{Says}
 use Rattle.perf_parser.specs.Calls.{Follows, Counts}
 
--- What a type states of its parse: what it answers, and what it counts.
+-- What a type states of its parse: what it returns, and what it counts.
 module _ {T : Type 0} (parses : Says T) (counts : Counts) where
-  -- One call of its parse, under the configuration and the order that there were.
+  -- One call of its parse, under the configuration and the order of the state before.
   pub record Step (old : Meaning) (seen : Result T ErrorKind) (new : Meaning) : Type 0 where
     pub answer : IsTrue old.source.told → parses old seen new
     pub counted : counts old (refused seen) new
@@ -23,7 +23,7 @@ module _ {T : Type 0} (parses : Says T) (counts : Counts) where
   ParsesInTurn old [] new = new ≡ old
   ParsesInTurn old (x ∷ xs) new = (mid : Meaning) × Step old (Ok x) mid × ParsesInTurn mid xs new
 
-  -- Fewer than n values were parsed, and the next one was refused; or no memory was found for one
+  -- Fewer than n values were parsed, and the next one was refused; or there was no memory for one
   -- of those that were.
   abbrev pub StopsShort : Meaning → ℕ → ErrorKind → Meaning → Type 0
   StopsShort old n e new =
@@ -31,7 +31,7 @@ module _ {T : Type 0} (parses : Says T) (counts : Counts) where
       × Step mid (Err e) new)
       ⊎ ((xs : List T) × (length xs ≤ n) × ParsesInTurn old xs new × (e ≡ OutOfMemory))
 
--- the same answer, under `Some`
+-- the same result, under `Some`
 abbrev pub AsOption : {T R : Type 0} → (Result T R → Type 0) → Result (Option T) R → Type 0
 AsOption P (Ok (Some x)) = P (Ok x)
 AsOption P (Ok None) = ⊥

@@ -57,7 +57,7 @@ listed run = seen_answers run.frames.items
 abbrev pub listed_count : Run → ℕ
 listed_count run = length run.frames.items
 
--- one for each refused answer
+-- one for each answer that is a refusal
 abbrev pub refused_count : Pairs → ℕ
 refused_count [] = 0
 refused_count (pair ∷ pairs) =
@@ -75,7 +75,7 @@ AllBorrowed (pair ∷ pairs) = is_borrowed_answer pair.1 × AllBorrowed pairs
 
 -- ---- how many reads it makes
 
--- the reads of a frame, by its bytes: two for its header, and those of what stands behind that
+-- the reads of a frame, by its bytes: two for its header, and those of the rest
 abbrev pub listed_reads : Configuration → Order → List ℕ → ℕ
 listed_reads c o frame = 2 + reads_behind c o (header_of o frame) (drop 8 frame)
 
@@ -83,8 +83,8 @@ listed_reads c o frame = 2 + reads_behind c o (header_of o frame) (drop 8 frame)
 abbrev pub first_reads : Configuration → Order → ℕ → List ℕ → ℕ
 first_reads c o k bytes = sum_by (listed_reads c o) (first_frames o k bytes)
 
--- The reads of a run that listed k frames: theirs, one more where nothing is left, two where a
--- header is cut; those of a fault are bounded alone.
+-- The reads of a run that listed k frames: theirs, one more if nothing is left, two if a header is
+-- cut; those of a fault are only bounded.
 abbrev pub CountsReads : Configuration → Order → List ℕ → (k : ℕ) → RunEnd → (old new : ℕ) → Type 0
 CountsReads c o bytes k end.Limit old new = new ≡ old + first_reads c o k bytes
 CountsReads c o bytes k end.Done old new = new ≡ old + first_reads c o k bytes + 1
@@ -100,7 +100,7 @@ end_refusal end.Done = None
 end_refusal end.CutHeader = None
 end_refusal (end.Fault e) = Some (kind_of e)
 
--- one where it ended before its limit
+-- one if it ended before its limit
 abbrev pub one_if_ended : RunEnd → ℕ
 one_if_ended end.Limit = 0
 one_if_ended end.Done = 1
@@ -108,9 +108,9 @@ one_if_ended end.CutHeader = 1
 one_if_ended (end.Fault e) = 1
 
 -- How a run over these bytes ends that has listed k frames, and what it leaves: at its limit the
--- bytes behind those frames; with all frames listed nothing, where the stream is done or its last
--- header is cut; and after a fault, which is none of the layout's refusals, the bytes behind those
--- frames but for a beginning of the next one.
+-- bytes after those frames; with all frames listed nothing, if the stream is done or its last
+-- header is cut; and after a fault, which is none of the layout's refusals, the bytes after those
+-- frames except a beginning of the next one.
 abbrev pub EndsWith : Order → (limit : ℕ) → List ℕ → (k : ℕ) → RunEnd → List ℕ → Type 0
 EndsWith o limit bytes k end.Limit left = (k ≡ limit) × (left ≡ behind_frames o k bytes)
 EndsWith o limit bytes k end.Done left =
@@ -121,14 +121,14 @@ EndsWith o limit bytes k (end.Fault e) left =
     (k < limit) × (IsTrue (of_layout (kind_of e)) → ⊥)
     × LeavesWithin o (behind_frames o k bytes) left
 
--- A run that refused memory ended stands between two frames: before the one that it did not list, or
--- behind it.
+-- A run that ended out of memory is between two frames: before the one that it did not list, or
+-- after it.
 abbrev pub EndsBetween : Order → List ℕ → (count : ℕ) → RunEnd → List ℕ → Type 0
 EndsBetween o bytes count e left = end_refusal e ≡ Some OutOfMemory →
     (left ≡ behind_frames o count bytes) ⊎ (left ≡ behind_frames o (count + 1) bytes)
 
--- What lies between two moments of a run that answered so many refusals, the second of them behind
--- the one that ended it, if one did.
+-- What holds between two moments of a run that listed this many refusals, the second of them after
+-- the refusal that ended it, if one did.
 pub record KeepsRun (start : Meaning) (refusals : ℕ) (e : Option ErrorKind) (new : Meaning)
     : Type 0 where
   -- the buffer stays what it is, and its faults are counted
@@ -156,23 +156,24 @@ abbrev pub one_if_stopped : {A : Type 0} → Result A Stop → ℕ
 one_if_stopped (Ok x) = 0
 one_if_stopped (Err s) = 1
 
--- Where memory was refused, nothing was taken, or exactly the next frame.
+-- If an allocation failed, nothing was taken, or exactly the next frame.
 abbrev pub StopsBetween : Meaning → Stop → Meaning → Type 0
 StopsBetween old s new = stop_kind s ≡ OutOfMemory →
     LeavesAllOrBehind old.source (frame_length old.order old.source.left) new.source
 
--- how a run ends that stopped so: by the error that a refusal becomes, with its message
+-- how a run ends that was stopped in this way: by the error that a refusal becomes, with its
+-- message
 abbrev pub IsEndOf : Stop → RunEnd → Type 0
 IsEndOf stop.Done e = e ≡ end.Done
 IsEndOf stop.CutHeader e = e ≡ end.CutHeader
 IsEndOf (stop.Refused r) e = (x : ParseError) × (e ≡ end.Fault x) × IsAnswerOf x r
 
--- an answer that is listed is neither a fault nor want of memory
+-- an answer that is listed is neither a fault nor out of memory
 abbrev pub IsListed : Result Record ParseError → Type 0
 IsListed (Ok r) = Unit {0}
 IsListed (Err e) = IsTrue (of_layout (kind_of e))
 
--- the answer of a frame was listed behind the others, and of its reading this is so
+-- the answer of a frame was listed after the others, and this holds of its reading
 abbrev pub ListsAnswer : perf_event_header → (was now : Pairs) → (whole : Type 0) →
     (Result Record ErrorKind → Type 0) → Type 0
 ListsAnswer h was now whole says =
@@ -201,8 +202,8 @@ abbrev pub ListsNoRecord : (was now : Pairs) → Type 0
 ListsNoRecord was now =
     (h : perf_event_header) × (e : ParseError) × (now ≡ was ++ (h, Err e) ∷ [])
 
--- What is listed of the frame after a header that was read, in room that was made; or a fault or
--- refused memory stops the run.
+-- What is listed of the frame after a header that was read, in capacity that was reserved; or a
+-- fault or a failed allocation stops the run.
 pub record ListsFrame {B E : Type 0} (source : B → Source) (hint : B → Option ℕ) (order : E → Order)
     (h : perf_event_header) (old new : Reader (Outer B) E) (was now : Pairs)
     (result : Result (Unit {0}) Refusal) : Type 0 where
@@ -215,26 +216,26 @@ pub record ListsFrame {B E : Type 0} (source : B → Source) (hint : B → Optio
   -- no record is listed if the buffer reports, after the header, that it has too few bytes
   pub short : falls_short (hint (buffer_of old)) (body_length h) ≡ true →
       OnOk result (ListsNoRecord was now)
-  -- nothing is listed where the run stops
+  -- nothing is listed if the run stops
   pub kept : OnErr result (now ≡ was)
   -- it stops by a refusal that is not of the layout
   pub stops : IfErr result (λ e. (IsTrue (of_layout (refusal_kind e)) → ⊥)
       × Call (λ (o : Outer B). source o.buf) order (SaysBehind h) old (Err (refusal_kind e)) new)
-  -- if memory is refused over a slice, exactly the frame is taken
+  -- if an allocation fails over a slice, exactly the frame is taken
   pub spent : IsTrue (source (buffer_of old)).told → IsTrue (source (buffer_of old)).whole →
       IfErr result (λ e. refusal_kind e ≡ OutOfMemory →
       (source (buffer_of new)).left ≡ drop (body_length h) (source (buffer_of old)).left)
 
--- ---- room for its answer
+-- ---- capacity for its answer
 
--- Room for answers is made for as many as frames of eight bytes or more are shown, at most 256, for
--- as many again as there are, or for one.
+-- Capacity is reserved for as many answers as frames of eight bytes or more are shown, at most 256,
+-- for as many again as there are, or for one.
 abbrev pub MakesRoom : (left count old new : ℕ) → Type 0
 MakesRoom left count old new =
     (shown : ℕ) × (shown ≤ 256) × (8 * shown ≤ left)
     × (new ≤ max old (count + max shown (max count 1)))
 
--- Nothing was taken. Where the buffer shows nothing, that was the read of a first byte.
+-- Nothing was taken. If the buffer shows nothing, that was the read of a first byte.
 abbrev pub TakesNothing : Says (Unit {0})
 TakesNothing old (Ok x) new =
     (new.source.left ≡ old.source.left) × (new.reads ≡ old.reads)

@@ -1,4 +1,4 @@
--- The words that contracts of parsing are written in.
+-- The names that contracts of parsing use.
 pub use Rattle.perf_base.specs.Configured.{endian_of, configuration_of}
 pub use Rattle.perf_base.specs.Cow.{cow_items, is_borrowed}
 pub use Rattle.perf_base.specs.Errors.{kind_of}

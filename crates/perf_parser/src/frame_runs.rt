@@ -26,7 +26,7 @@ pub struct FrameRun {
     pub end: Option<RunEnd>,
 }
 
-// Hands the next frame to the handler and returns whether the run goes on, or says why it stops.
+// Hands the next frame to the handler and returns whether the run goes on, or why it stops.
 #[inline]
 fn hand_next<'p, B: ParseBuf<'p>, E: Endian, H: FrameHandler<'p, E>>(
     reader: &mut Reader<Outer<B>, E>,
@@ -63,10 +63,11 @@ fn hand_next<'p, B: ParseBuf<'p>, E: Endian, H: FrameHandler<'p, E>>(
 /// Hands the next frames to a handler, at most `limit`, until it ends the run.
 ///
 /// A frame that the buffer shows whole is handed out in place, whatever its type; any other is
-/// assembled in memory that the parser keeps for the next. Nothing else is allocated. A header that no
-/// whole frame follows is handed over as that: if its size does not count the header, the next frame
-/// begins after the header. Only a fault of the buffer and refused memory for a frame end a run early.
-/// Each header is two elementary reads; what a handler reads of a frame is not counted here.
+/// assembled in memory that the parser keeps for the next. Nothing else is allocated. A header that
+/// no whole frame follows is handed over as that: if its size does not include the header, the next
+/// frame begins after the header. Only a fault of the buffer and a failed allocation for a frame
+/// end a run early. Each header is two elementary reads; what a handler reads of a frame is not
+/// counted here.
 pub fn each_frame<'p, B: ParseBuf<'p>, E: Endian, H: FrameHandler<'p, E>>(
     parser: &mut Parser<B, E>,
     limit: usize,
@@ -87,12 +88,12 @@ pub fn each_frame<'p, B: ParseBuf<'p>, E: Endian, H: FrameHandler<'p, E>>(
         (B.source (buffer_of parser.old)).left result.count result.end
         (B.source (buffer_of parser.new)).left }
 
-    // Over a slice it takes no memory, so that none can be refused.
+    // Over a slice it takes no memory, so no allocation can fail.
     ensures whole_memory { IsTrue (B.source (buffer_of parser.old)).told →
         IsTrue (B.source (buffer_of parser.old)).whole →
         hands.frames_refusal result.end ≢ Some low.OutOfMemory }
 
-    // How many elementary reads it makes.
+    // The number of elementary reads.
     ensures reads { IsTrue (B.source (buffer_of parser.old)).told → hands.CountsHeaders
         result.count result.end (reads_of parser.old) (reads_of parser.new) }
 

@@ -1,18 +1,14 @@
-//! Parsers: readers of a caller's buffer, whose refusals are errors.
+//! Parsers: readers of a caller's buffer that return errors.
 //!
 //! [`parse::Parser`] reads values out of a buffer: a slice, a buffered reader, or bytes that come
 //! in pieces.
 #![tactic(auto)]
 
-mod bytes;
 mod frame_runs;
 mod frames;
-mod lists;
-mod numbers;
 pub mod parse;
 mod parser;
 mod runs;
-mod visits;
 
 pub use crate::frame_runs::{FrameRun, each_frame};
 pub use crate::runs::{Run, RunEnd, read_records};

@@ -19,33 +19,21 @@ use perf_sample_types::registers::Registers;
 
 /// What the parse of a type means.
 pub trait Layout: Sized {
-    // What a call answers, from what the parser meant before, and what the parser means after it.
+    // What a call returns, from the state of the parser before it, and the state after it.
     ghost parses: { Says Self };
 
-    // What it counts: faults, and elementary reads. What this library parses counts each fault that
-    // it answers and no other, answers one only over a buffer that can fault, and makes at most as
-    // many reads as it takes bytes, and one more where it is refused. Another type may state its
-    // own.
+    // What it counts: faults, and elementary reads. A type of this library counts each fault that
+    // it returns and no other, returns one only over a buffer that can fault, and makes at most as
+    // many reads as it takes bytes, and one more if it is refused. Another type may state its own.
     ghost counts: { Counts } = { KeepsOn };
 }
 
-/// A type that can be parsed out of a buffer.
+/// A type that can be parsed from a buffer.
 pub trait Parse<'p, B: ParseBuf<'p>>: Layout {
     /// Parses one value.
     fn parse<E: Endian>(parser: &mut Parser<B, E>) -> ParseResult<Self>
         ensures call { CallAs B.source E.order Self.parses Self.counts
             parser.old (error_kinds result) parser.new };
-}
-
-impl<'p, B: ParseBuf<'p>, E: Endian> Parser<B, E> {
-    /// Parses one value of a type.
-    #[inline]
-    pub fn parse<P: Parse<'p, B>>(&mut self) -> ParseResult<P>
-        ensures call { CallAs B.source E.order P.parses P.counts
-            self.old (error_kinds result) self.new }
-    {
-        P::parse(self)
-    }
 }
 
 /// What this library reads.
@@ -65,15 +53,14 @@ impl<'p, B: ParseBuf<'p>, T: ReadFrom<'p, Outer<B>> + Meant> Parse<'p, B> for T 
 
 /// What the parse of a frame means, by its header.
 pub trait FrameLayout: Sized {
-    // What a call answers behind a header.
+    // What a call returns after a header.
     ghost says_behind: { perf_event_header → Says Self };
 }
 
-/// A type that is parsed out of a frame whose header was read before.
+/// A type that is parsed from a frame whose header was read before.
 pub trait ParseRecord<'p, B: ParseBuf<'p>>: FrameLayout {
     /// Parses the rest of a frame. After a refusal exactly the frame is taken, or all that was left
-    /// where that is less; after a fault, and where memory for the frame was refused, a beginning
-    /// of it.
+    /// if that is less; after a fault, or if there was no memory for the frame, a beginning of it.
     fn parse_with_header<E: Endian>(
         parser: &mut Parser<B, E>,
         header: perf_event_header,
@@ -85,13 +72,13 @@ pub trait ParseRecord<'p, B: ParseBuf<'p>>: FrameLayout {
             parser.old (error_kinds result) parser.new };
 }
 
-/// What registers are in plain numbers.
+/// The value of registers in plain numbers.
 pub trait RegistersLayout: Sized {
     // their kind of task, their mask, and a number for each
     ghost shown: { Self → RegistersValue };
 }
 
-/// Registers, which are parsed by a mask of the configuration.
+/// Registers that are parsed by a mask of the configuration.
 pub trait ParseRegisters<'p, B: ParseBuf<'p>>: RegistersLayout {
     /// Parses the registers that a task had in its own code, those of the configuration's
     /// `regs_user`.

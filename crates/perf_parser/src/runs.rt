@@ -24,10 +24,10 @@ use perf_records::record::Record;
 use perf_sample_types::sample::Sample;
 use std::boxed::Box;
 
-// For how many answers room is made at a time, at most.
-const MOST: usize = 256;
+// The most answers for which capacity is reserved at a time.
+const MOST_RESERVED: usize = 256;
 
-/// The frames that a run met, each with its header and its answer, and how the run ended.
+/// The frames that a run read, each with its header and its answer, and how the run ended.
 #[derive(Debug, Drop)]
 pub struct Run<'p> {
     /// The header of each frame, and its record or why there is none.
@@ -45,13 +45,13 @@ pub enum RunEnd {
     Done,
     /// Fewer bytes were left than a header has.
     CutHeader,
-    /// The buffer could not go on, or memory was refused. Of the frame that was being read a
-    /// beginning is consumed; over a slice, where only memory can be refused, none or all of it.
+    /// The buffer failed, or an allocation did. A beginning of the frame that was being read is
+    /// consumed; over a slice, where only an allocation can fail, none or all of it.
     Fault(ParseError),
 }
 
-// Lists a frame that has too few bytes, in room that was made. It is not inlined, so that the place for
-// its answer, which is large, is cleared once.
+// Lists a frame that has too few bytes, in capacity that was reserved. It is not inlined, so that
+// the place for its answer, which is large, is cleared once.
 #[inline(never)]
 fn list_short<'p>(
     frames: &mut Vec<(perf_event_header, ParseResult<Record<'p>>)>,
@@ -63,8 +63,9 @@ fn list_short<'p>(
     frames.push_reserved((header, Err(ParseError::eof())));
 }
 
-// Lists the answer of a frame that was refused, in room that was made; or returns the fault or the
-// want of memory that stops the run. Most are refused because they have too few bytes.
+// Lists the answer of a frame that was refused, in capacity that was reserved; or returns the fault
+// or the failed allocation that stops the run. Most frames are refused because they have too few
+// bytes.
 #[inline(never)]
 fn list_refused<'p, B: ParseBuf<'p>, E: Endian>(
     reader: &mut Reader<Outer<B>, E>,
@@ -99,8 +100,8 @@ fn list_refused<'p, B: ParseBuf<'p>, E: Endian>(
     }
 }
 
-// Lists a record in room that was made. It is not inlined, so that the place for its answer, which is
-// large, is cleared once.
+// Lists a record in capacity that was reserved. It is not inlined, so that the place for its
+// answer, which is large, is cleared once.
 #[inline(never)]
 fn list_record<'p>(
     frames: &mut Vec<(perf_event_header, ParseResult<Record<'p>>)>,
@@ -113,9 +114,9 @@ fn list_record<'p>(
     frames.push_reserved((header, Ok(held)));
 }
 
-// Lists the answer of a frame after its header, in room that was made; or answers the fault or the
-// want of memory that stops the run. A record is listed here, without a place for an error, which is
-// large.
+// Lists the answer of a frame after its header, in capacity that was reserved; or returns the fault
+// or the failed allocation that stops the run. A record is listed here, without a place for an
+// error, which is large.
 #[inline]
 fn list_answer<'p, B: ParseBuf<'p>, E: Endian>(
     reader: &mut Reader<Outer<B>, E>,
@@ -138,7 +139,7 @@ fn list_answer<'p, B: ParseBuf<'p>, E: Endian>(
     }
 }
 
-// Lists a sample in room that was made. It is not inlined, for the same reason.
+// Lists a sample in capacity that was reserved. It is not inlined, for the same reason.
 #[inline(never)]
 fn list_boxed<'p>(
     frames: &mut Vec<(perf_event_header, ParseResult<Record<'p>>)>,
@@ -152,7 +153,7 @@ fn list_boxed<'p>(
     frames.push_reserved((header, Ok(Record::Sample(sample))));
 }
 
-// The same as `list_answer`, of a sample, which stays in its box.
+// The same as `list_answer`, for a sample, which stays in its box.
 #[inline]
 fn list_sample<'p, B: ParseBuf<'p>, E: Endian>(
     reader: &mut Reader<Outer<B>, E>,
@@ -176,7 +177,7 @@ fn list_sample<'p, B: ParseBuf<'p>, E: Endian>(
     }
 }
 
-// The same as `list_answer`, of any frame.
+// The same as `list_answer`, for any frame.
 #[inline]
 fn list_frame<'p, B: ParseBuf<'p>, E: Endian>(
     reader: &mut Reader<Outer<B>, E>,
@@ -194,8 +195,8 @@ fn list_frame<'p, B: ParseBuf<'p>, E: Endian>(
     }
 }
 
-// Room for more answers: for as many as frames are shown, for as many again as there are, or for
-// one. Where that much memory is refused, room for one is asked for.
+// Reserves capacity for more answers: for as many as frames are shown, for as many again as there
+// are, or for one. If that allocation fails, capacity for one is tried.
 fn grow<'p>(
     frames: &mut Vec<(perf_event_header, ParseResult<Record<'p>>)>,
     shown: usize,
@@ -214,9 +215,10 @@ fn grow<'p>(
     Err(Stop::Refused(Refusal::OutOfMemory))
 }
 
-// Makes room for the next answer, if there is none, before anything of its frame is taken. Capacity
-// follows what the buffer shows: at first for the frames of its chunk, and then for as many as small
-// frames would be there. Where it shows nothing, the run ends and no memory is asked for.
+// Reserves capacity for the next answer, if there is none, before anything of its frame is taken.
+// It follows what the buffer shows: at first it is for the frames of its chunk, and then for as
+// many as there would be if they were small. If the buffer shows nothing, the run ends and nothing
+// is allocated.
 #[inline]
 fn make_room<'p, B: ParseBuf<'p>, E: Endian>(
     reader: &mut Reader<Outer<B>, E>,
@@ -237,7 +239,7 @@ fn make_room<'p, B: ParseBuf<'p>, E: Endian>(
     if frames.len() < frames.capacity() {
         return Ok(());
     }
-    let most = limit.saturating_sub(frames.len()).min(MOST);
+    let most = limit.saturating_sub(frames.len()).min(MOST_RESERVED);
     match reader.frames_shown(most, frames.is_empty()) {
         Ok(shown) => grow(frames, shown, most),
         Err(refusal) => {
@@ -247,7 +249,7 @@ fn make_room<'p, B: ParseBuf<'p>, E: Endian>(
     }
 }
 
-// Reads one frame and lists it in room that was made, or says why the run stops.
+// Reads one frame and lists it in capacity that was reserved, or returns why the run stops.
 #[inline]
 fn list_next<'p, B: ParseBuf<'p>, E: Endian>(
     reader: &mut Reader<Outer<B>, E>,
@@ -283,7 +285,8 @@ fn list_next<'p, B: ParseBuf<'p>, E: Endian>(
     }
 }
 
-// Reads one frame and lists it, or says why the run stops. Room for the answer is made first.
+// Reads one frame and lists it, or returns why the run stops. Capacity for the answer is reserved
+// first.
 #[inline]
 fn read_next<'p, B: ParseBuf<'p>, E: Endian>(
     reader: &mut Reader<Outer<B>, E>,
@@ -319,7 +322,7 @@ fn read_next<'p, B: ParseBuf<'p>, E: Endian>(
     }
 }
 
-// How a run ends that stopped so.
+// How a run ends that was stopped in this way.
 pub(crate) fn end_of<'p, B: ParseBuf<'p>, E: Endian>(
     reader: &mut Reader<Outer<B>, E>,
     stop: Stop,
@@ -339,14 +342,14 @@ pub(crate) fn end_of<'p, B: ParseBuf<'p>, E: Endian>(
 /// Reads the records of the next frames, at most `limit`.
 ///
 /// A refused frame costs that one answer, and the next frame begins at its end. Only a fault of the
-/// buffer and want of memory end a run early, and they are not listed.
+/// buffer and a failed allocation end a run early, and they are not listed.
 pub fn read_records<'p, B: ParseBuf<'p>, E: Endian>(
     parser: &mut Parser<B, E>,
     limit: usize,
 ) -> Run<'p>
     ensures config { config_of parser.new ≡ config_of parser.old }
 
-    // What is listed are the first answers of the bytes.
+    // The list is the first answers of the bytes.
     ensures answers { IsTrue (B.source (buffer_of parser.old)).told →
         stream.listed result ≡ take (stream.listed_count result)
         (stream.answers (meaning B.source E.order parser.old).settings
@@ -360,22 +363,22 @@ pub fn read_records<'p, B: ParseBuf<'p>, E: Endian>(
         (B.source (buffer_of parser.old)).left (stream.listed_count result) result.end
         (B.source (buffer_of parser.new)).left }
 
-    // Over a slice a run that refused memory ended stands between two frames: it costs at most the
-    // answer of the next one, and the run after it is in step.
+    // Over a slice, a run that a failed allocation ended is between two frames: the failure costs
+    // at most the answer of the next one, and the run after it begins at a frame.
     ensures between { IsTrue (B.source (buffer_of parser.old)).told →
         IsTrue (B.source (buffer_of parser.old)).whole →
         stream.EndsBetween (meaning B.source E.order parser.old).order
         (B.source (buffer_of parser.old)).left (stream.listed_count result) result.end
         (B.source (buffer_of parser.new)).left }
 
-    // How many elementary reads it makes: those of the frames that it lists, and those of its end.
+    // The number of elementary reads: those of the frames that it lists, and those of its end.
     ensures reads { IsTrue (B.source (buffer_of parser.old)).told →
         stream.CountsReads (meaning B.source E.order parser.old).settings
         (meaning B.source E.order parser.old).order (B.source (buffer_of parser.old)).left
         (stream.listed_count result) result.end (reads_of parser.old) (reads_of parser.new) }
 
-    // At most as many of them as bytes taken, and one more for each refused answer and for an end
-    // before the limit.
+    // There are at most as many of them as bytes taken, and one more for each refused answer and
+    // for an end before the limit.
     ensures keeps { stream.KeepsRun (meaning B.source E.order parser.old)
         (stream.refused_count result.frames.items + stream.one_if_ended result.end)
         (stream.end_refusal result.end)

@@ -1,4 +1,4 @@
--- Parts that a configuration asks for, and checks, as calls one behind another find them.
+-- Parts that a configuration asks for, and checks, as calls one after another find them.
 use Rattle.std.proofs.Common.{◌≡◌, ℕ, List, [], ◌∷◌, Bool, true, false, refl, sym, ◌∙◌, ap, subst, arith}
 use Rattle.std.specs.Prelude.{◌≢◌, Result, Ok, Err, Option, Some, None, IsTrue, IfOk}
 use Rattle.perf_base.specs.Configuration.{Configuration}
@@ -28,7 +28,7 @@ refused_at_once UnsupportedData kind start m h = record { buffer = (h.buffer.0, 
 refused_at_once External kind start m h = cc
 refused_at_once OutOfMemory kind start m h = cc
 
--- a kind of the layout is not want of memory
+-- a kind of the layout is not out of memory
 pub not_for_memory : (e : ErrorKind) → IsTrue (of_layout e) → e ≢ OutOfMemory
 not_for_memory Eof kind h = cc
 not_for_memory InvalidRecord kind h = cc
@@ -37,12 +37,12 @@ not_for_memory UnsupportedData kind h = cc
 not_for_memory External kind h = cc
 not_for_memory OutOfMemory kind h = cc
 
--- the fields of a table, where f does what is left to do with their values; it is opened only where a proof asks for it
+-- the fields of a table, if f does what is left to do with their values; it is opened only when a proof asks for it
 unfoldable pub Row : {X A : Type 0} → (Took (List (Option A)) → Took (List (Option A))) → (Configuration → List (Option (Parts A))) → (X → List (Option A)) → Says X
 Row f fields view old seen new = AnswersRun view (f (table_took old.order (fields old.settings) old.source.left old.reads)) seen new
 
 module _ {I E : Type 0} {source : I → Source} {order : E → Order} where
-  -- a check that holds, and the parts behind it
+  -- a check that holds, and the parts after it
   pub check_holds : {Y B : Type 0} {show : Y → B} {a c : Reader I E} {seen : Result Y ErrorKind} (t : Configuration → Bool) (e : ErrorKind) (k : Configuration → Parts B) →
       t (configuration_of a.config) ≡ true → Call source order (Reads k show) a seen c → Call source order (Reads (λ s. check (t s) e (k s)) show) a seen c
   check_holds {Y} {B} {show} {a} {c} {seen} t e k holds next =
@@ -73,7 +73,7 @@ module _ {I E : Type 0} {source : I → Source} {order : E → Order} where
         keeps = λ start. refused_at_once e kind start old;
       }
 
-  -- a number that is there, or not
+  -- a number that is present, or absent
   pub option_behind : {Y B : Type 0} {show : Y → B} {a b c : Reader I E} {x : Option ℕ} {seen : Result Y ErrorKind} (w : Width) (t : Configuration → Bool) (present : Bool) (k : Configuration → Option ℕ → Parts B) →
       t (configuration_of a.config) ≡ present → Call {X = Option ℕ} source order (ReadsOne (optional present w) (λ o. o)) a (Ok x) b → Call source order (Reads (λ s. k s x) show) b seen c →
       Call source order (Reads (λ s. part (optional (t s) w) (k s)) show) a seen c
@@ -107,7 +107,7 @@ module _ {I E : Type 0} {source : I → Source} {order : E → Order} where
         keeps = first.keeps;
       })
 
-  -- so many numbers
+  -- a given count of numbers
   pub words_behind : {X Y B : Type 0} {view : X → List ℕ} {show : Y → B} {a b c : Reader I E} {x : X} {seen : Result Y ErrorKind} (count : Configuration → ℕ) (n : ℕ) (k : Configuration → List ℕ → Parts B) →
       count (configuration_of a.config) ≡ n → Call source order (ReadsOne (words n) view) a (Ok x) b → Call source order (Reads (λ s. k s (view x)) show) b seen c →
       Call source order (Reads (λ s. part (words (count s)) (k s)) show) a seen c
@@ -140,7 +140,7 @@ module _ {I E : Type 0} {source : I → Source} {order : E → Order} where
         keeps = first.keeps;
       })
 
-  -- a value that the configuration tells
+  -- a value that the configuration gives
   pub call_gives : {Y B : Type 0} {show : Y → B} {a : Reader I E} {y : Y} (v : Configuration → B) → v (configuration_of a.config) ≡ show y → Call source order (Reads (λ s. done (v s)) show) a (Ok y) a
   call_gives {Y} {B} {show} {a} {y} v same =
       let old : Meaning = meaning source order a in record {
@@ -165,7 +165,7 @@ module _ {I E : Type 0} {source : I → Source} {order : E → Order} where
 
   -- ---- fields of a table
 
-  -- one that was read, there or absent
+  -- one that was read, present or absent
   pub field_behind : {X Y A : Type 0} {value : X → Option A} {borrowed : X → Type 0} {a b c : Reader I E} {x : X} {seen : Result Y ErrorKind}
       (view : Y → List (Option A)) (f : Took (List (Option A)) → Took (List (Option A))) (t : Configuration → Bool) (present : Bool) (p : Configuration → Parts A) (fields : Configuration → List (Option (Parts A))) →
       t (configuration_of a.config) ≡ present → Call source order (ReadsField (λ s. present_if present (p s)) value borrowed) a (Ok x) b →

@@ -14,7 +14,7 @@ use Rattle.perf_reader.specs.Meaning.{Meaning}
 use Rattle.perf_reader.specs.Reading.{of_layout, Keeps}
 use Rattle.perf_reader.proofs.Paying.{keeps_more, place_after}
 
--- they are there, so that nothing of the layout refuses them
+-- they are present, so the layout does not refuse them
 pub never_short : (k n : ℕ) (o : Order) (old new : Source) (e : ErrorKind) (i j : ℕ) → n ≤ length old.left → FailsToTake old n e new → IsTrue (of_layout e) → one_took o (words k) old.left i ≡ quit e new.left j
 never_short k n o old new Eof i j has p kind = absurd (omega (arith, has, p.0))
 never_short k n o old new InvalidRecord i j has p kind = absurd p

@@ -20,7 +20,7 @@ use Rattle.perf_reader.proofs.Paying.{keeps_more, place_after}
 
 -- ---- the call
 
--- they are there, so that nothing of the layout refuses them
+-- they are present, so the layout does not refuse them
 pub never_lacking : (old new : Source) (n : ℕ) (e : ErrorKind) → n ≤ length old.left → FailsToTake old n e new → IsTrue (of_layout e) → ⊥
 never_lacking old new n Eof has p kind = omega (arith, has, p.0)
 never_lacking old new n InvalidRecord has p kind = absurd p
@@ -50,7 +50,7 @@ part_step {A} o shape k bytes n = go (one_took o shape bytes n)
     go (took v left m) = refl
     go (quit e left m) = refl
 
--- a number of four bytes at a place, which is there
+-- a number of four bytes at a place, which is present
 pub four_at : {A : Type 0} (o : Order) (k : ℕ → Parts A) (bytes : List ℕ) (at m : ℕ) → at + 4 ≤ length bytes →
     take_parts o (part (number w4) k) (drop at bytes) m ≡ take_parts o (k (o.four (take 4 (drop at bytes)))) (drop (at + 4) bytes) (m + 1)
 four_at {A} o k bytes at m fits =
@@ -70,7 +70,7 @@ eight_at {A} o k bytes at m fits =
     ∙ ap (then_take (λ v left m. take_parts o (k v) left m)) one
     ∙ ap (λ xs. take_parts o (k (o.eight (take 8 (drop at bytes)))) xs (m + 1)) (drop-drop 8 at bytes)
 
--- bytes at a place stand in the front that was taken
+-- bytes at a place are in the beginning that was taken
 pub in_front : (at w n : ℕ) (bytes : List ℕ) → at + w ≤ n → take w (drop at (take n bytes)) ≡ take w (drop at bytes)
 in_front at w n bytes fits =
     let whole : at + (n - at) ≡ n = omega (arith, fits) in

@@ -1,4 +1,4 @@
--- The groups of an attribute's fields, one behind another, are its layout.
+-- The groups of an attribute's fields, one after another, are its layout.
 use Rattle.std.proofs.Common.{◌≡◌, ℕ, ◌-◌, List, drop, ◌∙◌, sym, ap, subst, arith}
 use Rattle.std.specs.Prelude.{Result, Ok, Err}
 use Rattle.perf_base.specs.Attribute.{attribute, zero_tail}

@@ -1,4 +1,4 @@
--- Parts one behind another, and calls that read them so.
+-- Parts one after another, and calls that read them in this order.
 use Rattle.std.proofs.Common.{◌≡◌, ℕ, List, true, false, refl, sym, ◌∙◌, ap, subst}
 use Rattle.std.specs.Prelude.{Result, Ok, Err, IsTrue, IfOk, IsErr}
 use Rattle.std.specs.Result.{IsErrAnd}
@@ -16,12 +16,12 @@ use Rattle.perf_reader.specs.Meaning.{Meaning, meaning}
 use Rattle.perf_reader.specs.Reading.{AnswersRun, Reads, ReadsPlain, ReadsLent, ReadsOne}
 use Rattle.perf_reader.specs.declared.reader.Reader.{Reader}
 
--- what follows, where both do the same
+-- what follows, if both do the same
 pub then_same : {A B : Type 0} (f g : A → List ℕ → ℕ → Took B) → ((v : A) (left : List ℕ) (m : ℕ) → f v left m ≡ g v left m) → (r : Took A) → then_take f r ≡ then_take g r
 then_same f g same (took v left m) = same v left m
 then_same f g same (quit e left m) = refl
 
--- parts, and then those that follow from their value, one behind another
+-- parts, and then those that follow from their value, one after another
 pub take_behind : {A B : Type 0} (o : Order) (p : Parts A) (f : A → Parts B) (bytes : List ℕ) (n : ℕ) →
     take_parts o (p >>= f) bytes n ≡ then_take (λ v left m. take_parts o (f v) left m) (take_parts o p bytes n)
 take_behind o (done v) f bytes n = refl
@@ -46,13 +46,13 @@ places_behind o p f bytes n =
 
 -- ---- calls
 
--- an error that a `?` hands on as it is
+-- an error that a `?` passes on as it is
 pub came_up : {X E : Type 0} (r : Result X E) (e : E) → IsErr r × IsErrAnd r (λ x. x ≡ e) → r ≡ Err e
 came_up (Ok x) e h = cc
 came_up (Err x) e h = ap Err h.1
 
 module _ {I E : Type 0} {source : I → Source} {order : E → Order} where
-  -- a call that was answered, and one of the parts that follow from its value
+  -- a call that succeeded, and one of the parts that follow from its value
   pub call_behind : {X Y A B : Type 0} {view : X → A} {show : Y → B} {a b c : Reader I E} {x : X} {seen : Result Y ErrorKind} (p : Configuration → Parts A) (f : Configuration → A → Parts B) →
       Call source order (Reads p view) a (Ok x) b → Call source order (Reads (λ s. f s (view x)) show) b seen c → Call source order (Reads (λ s. p s >>= f s) show) a seen c
   call_behind {X} {Y} {A} {B} {view} {show} {a} {b} {c} {x} {seen} p f first next =
@@ -124,7 +124,7 @@ module _ {I E : Type 0} {source : I → Source} {order : E → Order} where
         keeps = first.keeps;
       })
 
-  -- a call for which no memory is taken, and one of which that is not said
+  -- a call for which no memory is taken, and one of which that is not stated
   pub plain : {Y B : Type 0} {a b : Reader I E} {seen : Result Y ErrorKind} (p : Configuration → Parts B) (show : Y → B) →
       (IsTrue (source a.input).told → TakesNoMemory seen) → Call source order (Reads p show) a seen b → Call source order (ReadsPlain p show) a seen b
   plain {Y} {B} {a} {b} {seen} p show none call = record {
@@ -144,7 +144,7 @@ module _ {I E : Type 0} {source : I → Source} {order : E → Order} where
     keeps = call.keeps;
   }
 
-  -- a call that copies nothing out of a whole buffer
+  -- a call that copies nothing from a whole buffer
   pub lent : {Y B : Type 0} {a b : Reader I E} {seen : Result Y ErrorKind} (p : Configuration → Parts B) (show : Y → B) (borrowed : Y → Type 0) →
       (IsTrue (source a.input).told → IsTrue (source a.input).whole → IfOk seen borrowed × TakesNoMemory seen) → Call source order (Reads p show) a seen b →
       Call source order (ReadsLent p show borrowed) a seen b
@@ -156,6 +156,6 @@ module _ {I E : Type 0} {source : I → Source} {order : E → Order} where
     keeps = call.keeps;
   }
 
-  -- bytes that say nothing, of which there are so many
+  -- padding of a given length
   pub padded : {a b : Reader I E} {seen : Result (Unit {0}) ErrorKind} (n k : ℕ) → n ≡ k → Call {X = Unit {0}} source order (ReadsOne (padding n) (λ _. tt)) a seen b → Call {X = Unit {0}} source order (ReadsOne (padding k) (λ _. tt)) a seen b
   padded {a} {b} {seen} n k same call = subst (λ i. Call {X = Unit {0}} source order (ReadsOne (padding i) (λ _. tt)) a seen b) same call

@@ -36,7 +36,7 @@ after_misc ty misc = u16 >>= λ size. done (record { type_ = ty; misc = misc; si
 abbrev after_size : ℕ → ℕ → ℕ → Parts perf_event_header
 after_size ty misc size = done (record { type_ = ty; misc = misc; size = size })
 
--- three numbers that are there
+-- three numbers that are present
 header_taken : (o : Order) (bytes : List ℕ) (n : ℕ) → 8 ≤ length bytes → took_by_places o header bytes n ≡ took (header_of o bytes) (drop 8 bytes) (n + 3)
 header_taken o bytes n fits =
     let four : one_took o (number w4) bytes n ≡ took (o.four (take 4 bytes)) (drop 4 bytes) (n + 1) = took_yes o (number w4) bytes n (omega (arith, fits)) in
@@ -75,7 +75,7 @@ header_at_once o o2 bytes xs left n m h fits front behind count order is =
     let same : header_of o bytes ≡ h = sym (header_of_front o o2 bytes xs h front order is) in
     header_taken o bytes n fits ∙ rw (same, behind, count) refl
 
--- they are there, so that nothing of the layout refuses them
+-- they are present, so the layout does not refuse them
 pub never_short : (o : Order) (old new : Source) (e : ErrorKind) (n m : ℕ) → 8 ≤ length old.left → FailsToTake old 8 e new → IsTrue (of_layout e) → took_by_places o header old.left n ≡ quit e new.left m
 never_short o old new Eof n m has p kind = absurd (omega (arith, has, p.0))
 never_short o old new InvalidRecord n m has p kind = absurd p

@@ -19,7 +19,7 @@ use Rattle.perf_reader.specs.Meaning.{Meaning}
 use Rattle.perf_reader.specs.Reading.{ReadsOne, Keeps}
 use Rattle.perf_reader.specs.declared.reader.Reader.{Reader}
 
--- what a part that was read tells, and one that was not
+-- what follows from a part that was read, and from one that was not
 record Stood (o : Order) (shape : Shape) (bytes : List ℕ) (n : ℕ) (v : Answer shape) (left : List ℕ) (m : ℕ) : Type 0 where
   fits : size shape (length bytes) ≤ length bytes
   value_is : v ≡ answer_of o shape (take (size shape (length bytes)) bytes)
@@ -49,7 +49,7 @@ fell o bytes n e left m h = elim (cases_lt (length bytes) 8) [
       record { short = short; kind_is = cc; left_is = cc; reads_are = cc }
 ]
 
--- the numbers of so many bytes are those of their beginning, and the last comes last
+-- the numbers of some bytes are those of their beginning, and then the last one
 words_take : (o : Order) (k : ℕ) (bytes : List ℕ) → 8 * k ≤ length bytes → words_of o k (take (8 * k) bytes) ≡ words_of o k bytes
 words_take o zero bytes fits = refl
 words_take o (suc k) bytes fits =
@@ -251,7 +251,7 @@ module _ {I E : Type 0} (source : I → Source) (order : E → Order) where
     place = h.place;
   }
 
-  -- memory was refused for them
+  -- there was no memory for them
   pub row_starves : {X : Type 0} (view : X → List ℕ) (k all : ℕ) (a b : Reader I E) (ys : List ℕ) → InRow k a ys b → Call {X = X} source order (ReadsOne (words all) view) a (Err OutOfMemory) b
   row_starves view k all a b ys p = record {
     config = p.config;

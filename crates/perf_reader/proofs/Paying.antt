@@ -39,7 +39,7 @@ last_moved a b p = p.1
 
 pub ruleset lasts = (last_last, last_all, last_drop, last_none, last_moved)
 
--- what calls one behind another need
+-- what calls one after another need
 pub ruleset chain = (places_took)
 
 -- some bytes were taken
@@ -59,7 +59,7 @@ keeps_none m = record {
   place = λ t. (omega arith, sym (last_all m.source.left));
 }
 
--- one call behind others
+-- one call after others
 pub keeps_more : (start old new : Meaning) (e : Option ErrorKind) → Keeps start None old → Keeps old e new → Keeps start e new
 keeps_more start old new e p q = record {
   buffer = (
@@ -108,7 +108,7 @@ failed_in_rest old new UnsupportedData p = absurd p
 failed_in_rest old new External p = p
 failed_in_rest old new OutOfMemory p = p
 
--- the next n bytes were taken, or weren't
+-- the next n bytes were taken, or were not
 pub array_keeps : (start old new : Meaning) (n : ℕ) (e : Option ErrorKind) → Keeps start None old → 0 < n → new.reads ≡ old.reads + 1 → Stays old.source e new.source → CanFail old.source e →
     (IsTrue old.source.told → TakesOrFails old.source n e new.source) → Keeps start e new
 array_keeps start old new n e p some count stays can took = keeps_more start old new e p (record {

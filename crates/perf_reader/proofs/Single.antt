@@ -60,7 +60,7 @@ module _ {I E : Type 0} {source : I → Source} {order : E → Order} where
     keeps = first.keeps;
   }
 
-  -- a number that is there
+  -- a number that is present
   pub option_read : {a b : Reader I E} {n : ℕ} {present : Bool} (w : Width) → present ≡ true →
       Call {X = ℕ} source order (ReadsOne (number w) (λ n. n)) a (Ok n) b →
       Call {X = Option ℕ} source order (ReadsOne (optional present w) (λ n. n)) a (Ok (Some n)) b
@@ -90,7 +90,7 @@ module _ {I E : Type 0} {source : I → Source} {order : E → Order} where
         keeps = first.keeps;
       }
 
-  -- one that is not there
+  -- one that is absent
   pub option_lacks : {a : Reader I E} {present : Bool} (w : Width) → present ≡ false →
       Call {X = Option ℕ} source order (ReadsOne (optional present w) (λ n. n)) a (Ok None) a
   option_lacks {a} {present} w lacking =

@@ -1,4 +1,4 @@
--- A part read, from what the buffer gave.
+-- A part that is read, from what the buffer returned.
 use Rattle.std.proofs.Common.{◌≡◌, ℕ, zero, suc, ◌+◌, ◌≤◌, ◌<◌, List, [], length, take, drop, refl, sym, ◌∙◌, ap, inl, inr, arith, Bool, true, false}
 use Rattle.std.specs.Prelude.{Some, None, IsTrue}
 use Rattle.std.proofs.lemmas.List.{take_all, drop_all}
@@ -19,7 +19,7 @@ pub any : (n : ℕ) → 0 < n → one_if_any n ≡ 1
 any zero h = omega arith
 any (suc n) h = refl
 
--- bytes that are there, and that are not
+-- bytes that are present, and bytes that are missing
 pub run_there : (o : Order) (k : ℕ) (bytes : List ℕ) (n : ℕ) → 0 < k → k ≤ length bytes → one_took o (byte_string k) bytes n ≡ took (take k bytes) (drop k bytes) (n + 1)
 run_there o k bytes n some h = took_yes o (byte_string k) bytes n h ∙ ap (λ i. took (take k bytes) (drop k bytes) (n + i)) (any k some)
 
@@ -34,7 +34,7 @@ array_short o k old new UnsupportedData n m p q kind = absurd p
 array_short o k old new External n m p q kind = cc
 array_short o k old new OutOfMemory n m p q kind = absurd p
 
--- the same of bytes that are kept, for which memory may be refused
+-- the same of bytes that are kept, for which an allocation may fail
 pub kept_short : (o : Order) (k : ℕ) (old new : Source) (e : ErrorKind) (n m : ℕ) → FailsToKeep old k e new → m ≡ n + 1 → IsTrue (of_layout e) → one_took o (byte_string k) old.left n ≡ quit e new.left m
 kept_short o k old new Eof n m p q kind = rw (p.1, q) (run_short o k old.left n p.0)
 kept_short o k old new InvalidRecord n m p q kind = absurd p
@@ -76,7 +76,7 @@ rest_refused o old new UnsupportedData n m p kind = absurd p
 rest_refused o old new External n m p kind = cc
 rest_refused o old new OutOfMemory n m p kind = cc
 
--- a number that is there, or not
+-- a number that is present, or absent
 pub option_there : (o : Order) (w : Width) (b : Bool) (bytes : List ℕ) (n : ℕ) → b ≡ true → one_took o (optional b w) bytes n ≡ then_take (λ x left m. took (Some x) left m) (one_took o (number w) bytes n)
 option_there o w false bytes n h = cc
 option_there o w true bytes n h = elim (cases_lt (length bytes) (bytes_in w)) [
@@ -93,7 +93,7 @@ option_absent o w false bytes n h = took_yes o (optional false w) bytes n (omega
 
 pub ruleset optionals = (option_there, option_absent)
 
--- bytes that say nothing
+-- padding
 pub padding_run : (o : Order) (k : ℕ) (bytes : List ℕ) (n : ℕ) → one_took o (padding k) bytes n ≡ then_take (λ xs left m. took tt left m) (one_took o (byte_string k) bytes n)
 padding_run o k bytes n = elim (cases_lt (length bytes) k) [
   | inl short ↦ took_no o (padding k) bytes n short ∙ sym (ap (then_take (λ xs left m. took tt left m)) (took_no o (byte_string k) bytes n short))

@@ -1,4 +1,4 @@
--- How the header of a run's next frame is read, and how a run stops where there is none.
+-- How the header of a run's next frame is read, and how a run stops if there is none.
 use Rattle.std.proofs.Common.{◌≡◌, ℕ, ◌+◌, ◌-◌, ◌<◌, ◌≤◌, List, [], ◌∷◌, length, take, drop, arith, refl, sym, ◌∙◌, ap, subst, length-drop, Ok, Err, None, Some, inl, inr}
 use Rattle.std.specs.Prelude.{IsTrue, Result, ◌⊎◌}
 use Rattle.std.proofs.lemmas.Bool.{cases_lt}
@@ -40,7 +40,7 @@ taken o k bytes xs left n m some e = elim (cases_lt (length bytes) k) [
       (fits, sym same, sym behind, sym count)
 ]
 
--- bytes that were lacking
+-- bytes that were missing
 pub lacking : (o : Order) (k : ℕ) (bytes left : List ℕ) (e : ErrorKind) (n m : ℕ) → 0 < k → one_took o (byte_string k) bytes n ≡ quit e left m →
     (length bytes < k) × (e ≡ Eof) × (left ≡ []) × (m ≡ n + 1)
 lacking o k bytes left e n m some h = elim (cases_lt (length bytes) k) [
@@ -81,7 +81,7 @@ layout_or_not OutOfMemory = inr (λ h. cc)
 not_the_end : (e : ErrorKind) → (IsTrue (of_layout e) → ⊥) → e ≡ Eof → ⊥
 not_the_end e other same = other (subst (λ (k : ErrorKind). IsTrue (of_layout k)) (sym same) refl)
 
--- of the layout's kinds a buffer refuses by the end alone
+-- of the layout's kinds a buffer refuses only with the end
 refuses_layout : (a : Source) (e : ErrorKind) → IsTrue (of_layout e) → Refuses a e → e ≡ Eof
 refuses_layout a Eof h p = refl
 refuses_layout a InvalidRecord h p = absurd p
@@ -90,7 +90,7 @@ refuses_layout a UnsupportedData h p = absurd p
 refuses_layout a External h p = cc
 refuses_layout a OutOfMemory h p = cc
 
--- where the first byte of a header was refused
+-- if the first byte of a header was refused
 pub stops_first : (old new : Meaning) (r : Refusal) (s : Stop) → (refusal_kind r ≡ Eof → s ≡ stop.Done) → ((refusal_kind r ≡ Eof → ⊥) → s ≡ stop.Refused r) →
     (IsTrue (of_layout (refusal_kind r)) → one_took old.order (byte_string 1) old.source.left old.reads ≡ quit (refusal_kind r) new.source.left new.reads) →
     MovesWithin old.source 1 new.source → StopsAt old s new
@@ -102,7 +102,7 @@ stops_first old new r s eof other gives within = elim (layout_or_not (refusal_ki
       subst (λ (x : Stop). StopsAt old x new) (sym (other (not_the_end (refusal_kind r) none))) (none, leaves old.order old.source new.source 1 (omega arith) within)
 ]
 
--- where one of the others was
+-- if one of the others was
 pub stops_others : (old mid new : Meaning) (r : Refusal) (s : Stop) (first : List ℕ) → (refusal_kind r ≡ Eof → s ≡ stop.CutHeader) → ((refusal_kind r ≡ Eof → ⊥) → s ≡ stop.Refused r) →
     one_took old.order (byte_string 1) old.source.left old.reads ≡ took first mid.source.left mid.reads →
     (IsTrue (of_layout (refusal_kind r)) → one_took mid.order (byte_string 7) mid.source.left mid.reads ≡ quit (refusal_kind r) new.source.left new.reads) →
@@ -119,7 +119,7 @@ stops_others old mid new r s first eof other one gives within =
           (none, leaves old.order old.source new.source 8 (omega arith) (within_more old.source mid.source new.source 1 7 (a.0, a.2) within))
     ]
 
--- where the buffer showed no first byte of a header
+-- if the buffer showed no first byte of a header
 pub stops_unshown : (old new : Meaning) (r : Refusal) (s : Stop) → (refusal_kind r ≡ Eof → s ≡ stop.Done) → ((refusal_kind r ≡ Eof → ⊥) → s ≡ stop.Refused r) →
     Refuses old.source (refusal_kind r) → IsTrue old.source.told → new.source.left ≡ old.source.left → new.reads ≡ old.reads + 1 → StopsAt old s new
 stops_unshown old new r s eof other why told same count = elim (layout_or_not (refusal_kind r)) [

@@ -1,4 +1,4 @@
--- What a table takes by places is what its fields take one behind another, and its groups.
+-- What a table takes by places is what its fields take one after another, and its groups.
 use Rattle.std.proofs.Common.{◌≡◌, ℕ, Bool, true, false, List, [], ◌∷◌, ◌++◌, Option, Some, None, refl, sym, ◌∙◌, ap}
 use Rattle.perf_base.specs.Layout.{Parts, done, ◌>>=◌}
 use Rattle.perf_base.specs.Order.{Order}

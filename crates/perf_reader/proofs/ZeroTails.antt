@@ -1,4 +1,4 @@
--- A run of bytes that has to be zero, from what the buffer gave.
+-- A run of bytes that must be zero, from what the buffer returned.
 use Rattle.std.proofs.Common.{◌≡◌, ℕ, ◌+◌, ◌<◌, Bool, true, false, List, take, refl, ap, ◌∙◌, arith}
 use Rattle.std.specs.Prelude.{IsTrue, Some, None}
 use Rattle.perf_base.specs.Attribute.{zero_tail}

@@ -1,4 +1,4 @@
--- A call of a reader, in one clause: what it answers, and what every call keeps.
+-- A call of a reader, in one clause: what it returns, and what every call keeps.
 use Rattle.std.specs.Prelude.{Result, ◌≡◌, IsTrue, None}
 use Rattle.perf_base.specs.Order.{Order}
 use Rattle.perf_base.specs.Refusals.{refused}
@@ -9,14 +9,14 @@ use Rattle.perf_reader.specs.Reading.{Says, Keeps}
 use Rattle.perf_reader.specs.declared.reader.Reader.{Reader}
 
 module _ {I E X : Type 0} (source : I → Source) (order : E → Order) (says : Says X) where
-  -- one call: the reader before it, its answer, and the reader behind it
+  -- one call: the reader before it, its result, and the reader after it
   pub record Call (old : Reader I E) (seen : Result X ErrorKind) (new : Reader I E) : Type 0 where
     -- the configuration stays
     pub config : config_of new ≡ config_of old
-    -- a buffer stays whole, and goes on telling its bytes
+    -- a buffer stays whole, and its bytes stay known
     pub whole : (source (input_of new)).whole ≡ (source (input_of old)).whole
     pub told : IsTrue (source (input_of old)).told → IsTrue (source (input_of new)).told
-    -- the answer, where the buffer tells its bytes
+    -- the result, if the bytes of the buffer are known
     pub answer : IsTrue (source (input_of old)).told →
         says (meaning source order old) seen (meaning source order new)
     -- what was kept since any moment before is kept

@@ -13,7 +13,7 @@ GivesNextFrame gives old reads n was output new counted now =
     (made : ℕ) × (counted ≡ reads + made)
     × GivesNextBytes (λ bytes lasting s x t. gives bytes lasting made s x t) old n was output new now
 
--- There are no such bytes, or no memory for them: nothing was read.
+-- The bytes, or the memory for them, are missing: nothing was read.
 abbrev pub FailsToReadFrame : Source → (reads : ℕ) → (n : ℕ) → ErrorKind → Source → (reads : ℕ) →
     Type 0
 FailsToReadFrame old was n e new now = (now ≡ was) × (IsTrue old.told → FailsToKeep old n e new)

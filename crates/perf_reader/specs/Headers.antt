@@ -1,4 +1,4 @@
--- How the header of a run's next frame is read, and how a run stops where there is none.
+-- How the header of a run's next frame is read, and how a run stops if there is none.
 use Rattle.std.specs.Prelude.{◌≡◌, ℕ, ◌+◌, ◌<◌, ◌≤◌, max, min, List, [], length, drop, IsTrue}
 use Rattle.std.specs.Prelude.{Option, Some, None, Result, Ok, Err}
 use Rattle.perf_base.specs.Header.{header_of}
@@ -15,8 +15,8 @@ use Rattle.perf_reader.specs.declared.header.Stop.TheVariants as stop
 
 -- ---- the next frame
 
--- The length of the frame at the front of bytes: the size that its header says, and the header's
--- eight where that is less.
+-- The length of the first frame of some bytes: the size that its header specifies, or the header's
+-- eight if that is less.
 abbrev pub frame_length : Order → List ℕ → ℕ
 frame_length o bytes = max 8 (header_of o bytes).size
 
@@ -24,7 +24,7 @@ frame_length o bytes = max 8 (header_of o bytes).size
 abbrev pub next_length : Order → List ℕ → ℕ
 next_length o bytes = min (frame_length o bytes) (length bytes)
 
--- left is what stood there, but for a beginning of the next frame
+-- what is left is what there was, except a beginning of the next frame
 abbrev pub LeavesWithin : Order → List ℕ → List ℕ → Type 0
 LeavesWithin o bytes left =
     (length left ≤ length bytes) × (length bytes ≤ length left + next_length o bytes)
@@ -39,8 +39,8 @@ ReadsHeader old (Ok h) new =
     × (new.source.left ≡ drop 8 old.source.left) × (new.reads ≡ old.reads + 2)
 ReadsHeader old (Err e) new = Unit {0}
 
--- The header in front of a run's next frame, if the buffer shows all of it: in two reads, of its
--- first byte and of the others. Where the buffer shows nothing, that was the first of them.
+-- The header of a run's next frame, if the buffer shows all of it: in two reads, of its first byte
+-- and of the others. If the buffer shows nothing, that was the first of them.
 abbrev pub ReadsShownHeader : Says (Option perf_event_header)
 ReadsShownHeader old (Ok (Some h)) new =
     (8 ≤ length old.source.left) × (h ≡ header_of old.order old.source.left)
@@ -50,15 +50,15 @@ ReadsShownHeader old (Ok None) new =
 ReadsShownHeader old (Err e) new =
     (new.source.left ≡ old.source.left) × (new.reads ≡ old.reads + 1) × Refuses old.source e
 
--- ---- where there is none
+-- ---- if there is none
 
--- a header by its bytes, or by the kind of what stops a run there: the end, where bytes are lacking
+-- a header by its bytes, or by the kind of what stops a run there: the end, if bytes are missing
 abbrev pub stop_kind : Stop → ErrorKind
 stop_kind stop.Done = Eof
 stop_kind stop.CutHeader = Eof
 stop_kind (stop.Refused r) = refusal_kind r
 
--- the same of an answer
+-- the same of a result
 abbrev pub stop_kinds : {A : Type 0} → Result A Stop → Result A ErrorKind
 stop_kinds (Ok x) = Ok x
 stop_kinds (Err s) = Err (stop_kind s)

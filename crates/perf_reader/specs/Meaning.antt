@@ -1,4 +1,4 @@
--- What a reader means: its configuration and its order, what its input holds, and how many
+-- The state of a reader: its configuration and its order, what its input contains, and how many
 -- elementary reads it made.
 use Rattle.std.specs.Prelude.{ℕ}
 use Rattle.perf_base.specs.Order.{Order}
@@ -9,7 +9,7 @@ use Rattle.perf_base.specs.declared.config.ParseConfig.{ParseConfig}
 use Rattle.perf_buffers.specs.declared.outer.Outer.{Outer}
 use Rattle.perf_reader.specs.declared.reader.Reader.{Reader}
 
--- what a reader stands for
+-- the state of a reader
 pub record Meaning : Type 0 where
   pub settings : Configuration
   pub order : Order
@@ -32,7 +32,7 @@ config_of r = r.config
 abbrev pub reads_of : {I E : Type 0} → Reader I E → ℕ
 reads_of r = r.reads
 
--- the meaning of a reader, by those of its input and its order
+-- the state of a reader, by what its input contains and its order
 abbrev pub meaning : {I E : Type 0} → (I → Source) → (E → Order) → Reader I E → Meaning
 meaning source order r = record {
   settings = configuration_of r.config;

@@ -1,5 +1,5 @@
--- What a call of a reader answers and leaves, and what every call keeps. A refusal is seen by its
--- kind.
+-- What a call of a reader returns and leaves, and what every call keeps. Of a refusal only the kind
+-- is seen.
 use Rattle.std.specs.Prelude.{Option, Result, Ok, Err, Some, None, Bool, true, false, IsTrue, IfOk}
 use Rattle.std.specs.Prelude.{◌≡◌, ℕ, ◌+◌, ◌-◌, ◌≤◌, List, length, drop}
 use Rattle.perf_base.specs.Configuration.{Configuration}
@@ -13,13 +13,13 @@ use Rattle.perf_base.specs.declared.error.ErrorKind.TheVariants.{External, OutOf
 use Rattle.perf_buffers.specs.Buffer.{Stays}
 use Rattle.perf_reader.specs.Meaning.{Meaning}
 
--- ---- what is answered
+-- ---- what is returned
 
--- what a relation says of a call: the meaning before, the answer, and the meaning behind it
+-- a relation on a call: the state before it, the result, and the state after it
 abbrev pub Says : Type 0 → Type 1
 Says X = Meaning → Result X ErrorKind → Meaning → Type 0
 
--- a kind that a layout can have: neither a fault nor want of memory
+-- a kind that a layout can have: neither a fault nor out of memory
 abbrev pub of_layout : ErrorKind → Bool
 of_layout Eof = true
 of_layout InvalidRecord = true
@@ -28,8 +28,8 @@ of_layout UnsupportedData = true
 of_layout External = false
 of_layout OutOfMemory = false
 
--- An answer is what a run made, seen through `view`; what is left and how many reads were made is
--- what the run says. Of a fault and of want of memory this says nothing.
+-- The result is what a run made, seen through `view`; what is left and how many reads were made are
+-- those of the run. On a fault, or out of memory, nothing is stated.
 abbrev pub AnswersRun : {X A : Type 0} → (X → A) → Took A → Result X ErrorKind → Meaning → Type 0
 AnswersRun view r (Ok x) new = r ≡ took (view x) new.source.left new.reads
 AnswersRun view r (Err e) new = IsTrue (of_layout e) → r ≡ quit e new.source.left new.reads
@@ -43,7 +43,7 @@ Reads parts view old seen new =
 abbrev pub ReadsPlain : {X A : Type 0} → (Configuration → Parts A) → (X → A) → Says X
 ReadsPlain parts view old seen new = Reads parts view old seen new × TakesNoMemory seen
 
--- the same, of which no byte is copied out of a whole buffer, so that no memory is taken there
+-- the same, if no byte is copied from a whole buffer, so that no memory is taken there
 abbrev pub ReadsLent : {X A : Type 0} → (Configuration → Parts A) → (X → A) → (X → Type 0) → Says X
 ReadsLent parts view borrowed old seen new =
     Reads parts view old seen new
@@ -60,16 +60,16 @@ ReadsNumber w old seen new = ReadsOne (number w) (λ n. n) old seen new × Takes
 
 -- ---- what is kept
 
--- the last n of a list; it is opened only where a proof asks for it
+-- the last n of a list; it is opened only when a proof asks for it
 unfoldable pub last_of : ℕ → List ℕ → List ℕ
 last_of n xs = drop (length xs - n) xs
 
--- one where it was refused
+-- one if it was refused
 abbrev pub one_if_refused : Option ErrorKind → ℕ
 one_if_refused None = 0
 one_if_refused (Some e) = 1
 
--- it is a buffer's fault
+-- it is a fault of the buffer
 abbrev pub is_external : Option ErrorKind → Bool
 is_external None = false
 is_external (Some Eof) = false
@@ -79,14 +79,14 @@ is_external (Some UnsupportedData) = false
 is_external (Some External) = true
 is_external (Some OutOfMemory) = false
 
--- What lies between two moments of a reader, the second of them behind a call that was refused with
+-- What holds between two moments of a reader, the second of them after a call that was refused with
 -- that kind, if it was.
 pub record Keeps (start : Meaning) (e : Option ErrorKind) (new : Meaning) : Type 0 where
   -- the buffer stays what it is, and its faults are counted
   pub buffer : Stays start.source e new.source
   -- a fault comes only from a buffer that can fault
   pub fault : is_external e ≡ true → IsTrue start.source.can_fault
-  -- at most as many reads as bytes taken, and one more where it was refused
+  -- at most as many reads as bytes taken, and one more if it was refused
   pub cost : IsTrue start.source.told → (start.reads ≤ new.reads)
       × (new.reads + length new.source.left
       ≤ start.reads + length start.source.left + one_if_refused e)

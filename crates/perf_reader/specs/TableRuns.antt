@@ -1,4 +1,4 @@
--- How the fields of a table are read, one behind another, and groups of them. Proofs and private
+-- How the fields of a table are read, one after another, and groups of them. Proofs and private
 -- contracts use this form; `proofs/TableRuns` shows that it is what the table takes by places.
 use Rattle.std.specs.Prelude.{ℕ, List, [], ◌∷◌, ◌++◌, Option, IsTrue, IfOk}
 use Rattle.perf_base.specs.Configuration.{Configuration}
@@ -10,7 +10,7 @@ use Rattle.perf_reader.specs.Reading.{Says, AnswersRun, Reads}
 
 -- ---- the fields of a table
 
--- one field of a table, after n reads; it is opened only where a proof asks for it
+-- one field of a table, after n reads; it is opened only when a proof asks for it
 unfoldable pub field_took : {A : Type 0} → Order → Option (Parts A) → List ℕ → ℕ → Took (Option A)
 field_took o field bytes n = take_parts o (slot field) bytes n
 
@@ -27,7 +27,7 @@ table_took o (field ∷ fields) bytes n =
     elim (field_took o field bytes n)
     [ took v left m ↦ before v (table_took o fields left m) | quit e left m ↦ quit e left m ]
 
--- what a table takes, said by places alone; it is opened only where a proof asks for it
+-- what a table takes, by places alone; it is opened only when a proof asks for it
 unfoldable pub table_by_places : {A : Type 0} → Order → List (Option (Parts A)) → List ℕ → ℕ →
     Took (List (Option A))
 table_by_places o fields body n = took_by_places o (table fields) body n
@@ -52,14 +52,14 @@ groups_took o (fields ∷ groups) bytes n =
     elim (table_by_places o fields bytes n)
     [ took vs left m ↦ ahead vs (groups_took o groups left m) | quit e left m ↦ quit e left m ]
 
--- what the table of all groups takes, said by places alone
+-- what the table of all groups takes, by places alone
 unfoldable pub groups_by_places : {A : Type 0} → Order → List (List (Option (Parts A))) → List ℕ →
     ℕ → Took (List (Option A))
 groups_by_places o groups body n = took_by_places o (table (joined groups)) body n
 
--- ---- what is answered
+-- ---- what is returned
 
--- the layout of parts, of which no byte is copied out of a whole buffer; memory may be taken
+-- the layout of parts, if no byte is copied from a whole buffer; memory may be taken
 abbrev pub ReadsBorrowed : {X A : Type 0} → (Configuration → Parts A) → (X → A) → (X → Type 0) →
     Says X
 ReadsBorrowed parts view borrowed old seen new =

@@ -1,4 +1,4 @@
--- The words that contracts of reading are written in.
+-- The names that contracts of reading use.
 pub use Rattle.perf_base.specs.Cow.{cow_items, is_borrowed}
 pub use Rattle.perf_base.specs.Layout.{Parts, number, optional, byte_string, padding, rest, words, w1, w2}
 pub use Rattle.perf_base.specs.Layout.{w4, w8}

@@ -1,4 +1,4 @@
-//! How the attribute of an event is read. Its fields are read in groups, one behind another.
+//! How the attribute of an event is read. Its fields are read in groups, one after another.
 #![tactic(auto, using(crate::proofs::Paying::chain))]
 
 ghost use Rattle.std.specs.Prelude.{◌≡◌, drop, IfOk, if◌then◌else◌};
@@ -73,7 +73,7 @@ fn is_attribute_size(size: u32) -> bool
     matches!(size, 64 | 72 | 80 | 96 | 104 | 112 | 120 | 128 | 136) || size > KNOWN_SIZE
 }
 
-// The type and the size, which says how much there is to read.
+// The type, and the size of the whole attribute.
 fn read_front<'p, I: Input<'p>, E: Endian>(reader: &mut Reader<I, E>) -> ReadResult<Front>
     ensures memory { TakesNoMemory (kinds result) }
     ensures call { Call I.source E.order (Reads (λ _. front) (λ f. f))
@@ -134,7 +134,7 @@ fn read_registers<'p, I: Input<'p>, E: Endian>(
     })
 }
 
-// How many bytes say nothing, where the size reaches them.
+// How many bytes of padding there are, if the size reaches them.
 fn skipped(reached: bool, len: usize) -> usize
     ensures { result ≡ (if reached then len else 0) }
 {
@@ -210,7 +210,7 @@ fn assemble(
     }
 }
 
-// The groups, and the bytes behind them.
+// The groups, and the bytes after them.
 #[tactic(auto)]
 fn read_groups<'p, I: Input<'p>, E: Endian>(
     reader: &mut Reader<I, E>,
@@ -234,10 +234,11 @@ impl Meant for perf_event_attr {
         × TakesNoMemory seen × IfOk seen (λ a. new.source.left ≡ drop a.size old.source.left) };
 }
 
-/// The nine sizes that the kernel gave its attributes are read, and larger ones whose bytes behind
-/// the known fields are zero. An attribute takes as many bytes as its size says, and no memory.
-/// Another size is [`Refusal::AttributeSize`], with eight bytes taken; other bytes behind the known
-/// fields are [`Refusal::AttributeTail`], with the whole attribute taken.
+/// The nine sizes that the kernel gave its attributes are read, and larger ones whose bytes after
+/// the known fields are zero. An attribute takes as many bytes as its size specifies, and no
+/// memory. Any other size is refused by [`Refusal::AttributeSize`], with eight bytes taken; a byte
+/// after the known fields that is not zero is refused by [`Refusal::AttributeTail`], with the whole
+/// attribute taken.
 impl<'p, I: Input<'p>> ReadFrom<'p, I> for perf_event_attr {
     fn read<E: Endian>(reader: &mut Reader<I, E>) -> ReadResult<Self> {
         match read_groups(reader) {

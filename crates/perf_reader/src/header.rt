@@ -1,21 +1,19 @@
 //! How the header of a record is read.
 //!
 //! There is one way for each place where its bytes may be. A slice has all eight of them at hand
-//! (`header_in`). In a run, whether a buffer ends before the first byte of a header or inside it
-//! decides how the run ends, so that it is read in two steps (`read_header_in_two`), or in place if
-//! the buffer shows all of it (`read_shown_header`); either way that is two reads. A header that is
-//! parsed alone is three reads, one for each of its numbers: the bytes are taken at once if the input
-//! reports that it has eight (`read_header`), and number by number only if it has fewer or reports
-//! nothing (`read_header_by_number`), where each number that is there counts.
+//! (`header_in`). In a run it matters whether the buffer ends before the first byte of a header or
+//! inside it, so the header is read in two steps (`Reader::read_header_in_two`), or in place if the
+//! buffer shows all of it (`Reader::read_shown_header`); either way that is two reads. A header
+//! that is parsed on its own is three reads, one for each of its numbers: the bytes are taken at
+//! once if the input reports that it has eight (`Reader::read_header`), and number by number only
+//! if it has fewer or reports nothing (`Reader::read_header_by_number`), so that each number that
+//! is present counts.
 #![tactic(auto, using(crate::proofs::Paying::chain))]
 
-ghost use Rattle.std.specs.Prelude.{◌≡◌, ◌≤◌, ◌++◌, length, IsTrue, IfErr};
+ghost use Rattle.std.specs.Prelude.{◌≡◌, ◌++◌};
 ghost use Rattle.perf_base.specs.Header.{header, header_of};
-ghost use Rattle.perf_reader.specs.Headers.{ReadsHeader, ReadsShownHeader};
-ghost use Rattle.perf_reader.specs.Headers.{StopsAt, stop_kind, stop_kinds};
-ghost use Rattle.perf_reader.specs.Words.{Call, ReadsPlain, TakesNoMemory, buffer_of, input_of, kinds};
-ghost use Rattle.perf_reader.specs.Words.{meaning, refusal_kind};
-ghost use Rattle.perf_buffers.specs.declared.outer.Outer.{Outer};
+ghost use Rattle.perf_reader.specs.Headers.{stop_kind};
+ghost use Rattle.perf_reader.specs.Words.{ReadsPlain, refusal_kind};
 
 use crate::read::{Meant, ReadFrom};
 use crate::reader::Reader;
@@ -23,9 +21,7 @@ use perf_base::endian::Endian;
 use perf_base::error::ErrorKind;
 use perf_base::refusal::{ReadResult, Refusal};
 use perf_base::sys::perf_event_header;
-use perf_buffers::input::{Input, take_array};
-use perf_buffers::outer::Outer;
-use perf_buffers::parsebuf::ParseBuf;
+use perf_buffers::input::Input;
 
 /// Why a run stops where its next frame would begin.
 #[derive(Copy, Clone)]
@@ -34,11 +30,11 @@ pub enum Stop {
     Done,
     /// Fewer bytes are left than a header has.
     CutHeader,
-    /// The buffer could not go on, or memory was refused.
+    /// The buffer failed, or an allocation did.
     Refused(Refusal),
 }
 
-/// The header whose eight bytes are these.
+/// The header that these eight bytes contain.
 #[inline]
 #[tactic(auto)]
 pub fn header_in<E: Endian>(endian: &E, bytes: [u8; 8]) -> perf_event_header
@@ -52,10 +48,14 @@ pub fn header_in<E: Endian>(endian: &E, bytes: [u8; 8]) -> perf_event_header
     }
 }
 
-// The header whose first byte and others these are.
+// The header with this first byte and these other seven.
 #[inline]
 #[tactic(auto)]
-fn header_from<E: Endian>(endian: &E, first: [u8; 1], others: [u8; 7]) -> perf_event_header
+pub(crate) fn header_from<E: Endian>(
+    endian: &E,
+    first: [u8; 1],
+    others: [u8; 7],
+) -> perf_event_header
     ensures { result ≡ header_of (E.order endian.now) (first ++ others) }
 {
     let [b0] = first;
@@ -63,7 +63,8 @@ fn header_from<E: Endian>(endian: &E, first: [u8; 1], others: [u8; 7]) -> perf_e
     header_in(endian, [b0, b1, b2, b3, b4, b5, b6, b7])
 }
 
-/// Why a run stops that cannot read the first byte of a header, or the others.
+/// Why a run stops when a header, or its first byte, cannot be read: `at_end` if bytes are missing,
+/// and otherwise the refusal.
 #[inline]
 #[tactic(auto)]
 pub fn stop_at(refusal: Refusal, at_end: Stop) -> Stop
@@ -75,110 +76,6 @@ pub fn stop_at(refusal: Refusal, at_end: Stop) -> Stop
         at_end
     } else {
         Stop::Refused(refusal)
-    }
-}
-
-impl<'p, I: Input<'p>, E: Endian> Reader<I, E> {
-    // The next header, whose bytes the input has. They are taken at once, and each of its three
-    // numbers is a read.
-    #[inline]
-    fn read_header(&mut self) -> ReadResult<perf_event_header>
-        requires { IsTrue (I.source (input_of self.old)).told →
-            8 ≤ length (I.source (input_of self.old)).left }
-        ensures call { Call I.source E.order (ReadsPlain (λ _. header) (λ h. h))
-            self.old (kinds result) self.new }
-    {
-        self.reads.tick();
-        let bytes = match take_array::<I, 8>(&mut self.input) {
-            Ok(bytes) => bytes,
-            Err(refusal) => return Err(refusal),
-        };
-        self.reads.tick();
-        self.reads.tick();
-        Ok(header_in(self.config.endian(), bytes))
-    }
-
-    // The next header, a number at a time.
-    #[inline]
-    fn read_header_by_number(&mut self) -> ReadResult<perf_event_header>
-        ensures call { Call I.source E.order (ReadsPlain (λ _. header) (λ h. h))
-            self.old (kinds result) self.new }
-    {
-        Ok(perf_event_header {
-            type_: self.read_u32()?,
-            misc: self.read_u16()?,
-            size: self.read_u16()?,
-        })
-    }
-
-    // The header of a run's next frame: its first byte, of which there may be none, and the other
-    // seven.
-    #[cold]
-    #[inline(never)]
-    #[tactic(auto)]
-    fn read_header_in_two(&mut self) -> Result<perf_event_header, Stop>
-        ensures stop { IsTrue (I.source (input_of self.old)).told → IfErr result (λ s.
-            StopsAt (meaning I.source E.order self.old) s (meaning I.source E.order self.new)) }
-        ensures memory { TakesNoMemory (stop_kinds result) }
-        ensures call { Call I.source E.order ReadsHeader self.old (stop_kinds result) self.new }
-    {
-        let first = match self.read_array::<1>() {
-            Ok(bytes) => bytes,
-            Err(refusal) => return Err(stop_at(refusal, Stop::Done)),
-        };
-        let others = match self.read_array::<7>() {
-            Ok(bytes) => bytes,
-            Err(refusal) => return Err(stop_at(refusal, Stop::CutHeader)),
-        };
-        Ok(header_from(self.config.endian(), first, others))
-    }
-}
-
-impl<'p, B: ParseBuf<'p>, E: Endian> Reader<Outer<B>, E> {
-    /// The header of a run's next frame, or why the run stops there: at once if the buffer shows all
-    /// of it. A buffer may end inside it.
-    #[inline]
-    #[tactic(auto)]
-    pub fn next_header(&mut self) -> Result<perf_event_header, Stop>
-        ensures stop { IsTrue (B.source (buffer_of self.old)).told → IfErr result (λ s.
-            StopsAt (meaning (λ (o : Outer B). B.source o.buf) E.order self.old) s
-            (meaning (λ (o : Outer B). B.source o.buf) E.order self.new)) }
-        ensures memory { IsTrue (B.source (buffer_of self.old)).told →
-            TakesNoMemory (stop_kinds result) }
-        ensures call { Call (λ (o : Outer B). B.source o.buf) E.order ReadsHeader
-            self.old (stop_kinds result) self.new }
-    {
-        match self.read_shown_header() {
-            Ok(Some(header)) => Ok(header),
-            Ok(None) => match self.read_header_in_two() {
-                Ok(header) => Ok(header),
-                Err(stop) => Err(stop),
-            },
-            Err(refusal) => Err(stop_at(refusal, Stop::Done)),
-        }
-    }
-
-    // The header in front of a run's next frame, if the buffer shows all of it; otherwise nothing
-    // is taken. A run counts it as two reads, of its first byte, which may be missing where a
-    // stream ends, and of the other seven.
-    #[inline]
-    #[tactic(auto)]
-    fn read_shown_header(&mut self) -> ReadResult<Option<perf_event_header>>
-        ensures call { Call (λ (o : Outer B). B.source o.buf) E.order ReadsShownHeader
-            self.old (kinds result) self.new }
-    {
-        match self.input.take_shown::<8>() {
-            Ok(Some(bytes)) => {
-                self.reads.tick();
-                self.reads.tick();
-                Ok(Some(header_in(self.config.endian(), bytes)))
-            }
-            Ok(None) => Ok(None),
-            Err(refusal) => {
-                self.reads.tick();
-                Err(refusal)
-            }
-        }
     }
 }
 

@@ -8,27 +8,17 @@ use perf_base::endian::Endian;
 use perf_base::refusal::ReadResult;
 use perf_buffers::input::Input;
 
-/// A type whose reading means something.
+/// A type whose reading has a meaning.
 pub trait Meant: Sized {
-    // what a call answers, from what the reader meant before, and what it means behind it
+    // what a call returns, from the state of the reader before it, and the state after it
     ghost says: { Says Self };
 }
 
-/// A type of this library, which is read out of an input.
+/// A type of this library that is read from an input.
 pub trait ReadFrom<'p, I: Input<'p>>: Meant {
     /// Reads one value.
     fn read<E: Endian>(reader: &mut Reader<I, E>) -> ReadResult<Self>
         ensures call { Call I.source E.order Self.says reader.old (kinds result) reader.new };
-}
-
-impl<'p, I: Input<'p>, E: Endian> Reader<I, E> {
-    /// Reads one value of a type.
-    #[inline]
-    pub fn read<T: ReadFrom<'p, I>>(&mut self) -> ReadResult<T>
-        ensures call { Call I.source E.order T.says self.old (kinds result) self.new }
-    {
-        T::read(self)
-    }
 }
 
 impl Meant for u8 {

@@ -13,13 +13,13 @@ use Rattle.perf_records.specs.Metadata.{carries_sample_id, id_of_type, id_length
 
 -- ---- sample ids: a number, present or absent, at its place
 
-four_if : (flag : Bool) (left : ℕ) → size (optional flag w4) left ≡ 4 * one_if flag
-four_if true left = refl
-four_if false left = refl
+optional_w4_size : (flag : Bool) (left : ℕ) → size (optional flag w4) left ≡ 4 * one_if flag
+optional_w4_size true left = refl
+optional_w4_size false left = refl
 
-eight_if : (flag : Bool) (left : ℕ) → size (optional flag w8) left ≡ 8 * one_if flag
-eight_if true left = refl
-eight_if false left = refl
+optional_w8_size : (flag : Bool) (left : ℕ) → size (optional flag w8) left ≡ 8 * one_if flag
+optional_w8_size true left = refl
+optional_w8_size false left = refl
 
 padding_if : (flag : Bool) → (if flag then 4 else 0) ≡ 4 * one_if flag
 padding_if true = refl
@@ -52,7 +52,7 @@ Long t ids = length ids ≡ 8 * sample_id_flags t
 
 pub id_time : (o : Order) (t : ℕ) (ids : List ℕ) → Long t ids →
     (value o ids 0 (sample_id_fields t)).time ≡ option_map o.eight (if has_time t then eight_at ids (bytes_of t time_field.in_id) else None)
-id_time o t ids long = eight_answer o (has_time t) ids _ (bytes_of t time_field.in_id) _ (simp four_if (omega arith)) (omega arith)
+id_time o t ids long = eight_answer o (has_time t) ids _ (bytes_of t time_field.in_id) _ (simp optional_w4_size (omega arith)) (omega arith)
 
 pub id_pid : (o : Order) (t : ℕ) (ids : List ℕ) → Long t ids →
     (value o ids 0 (sample_id_fields t)).pid ≡ option_map (first_half o) (if has_tid t then eight_at ids (bytes_of t task_field.in_id) else None)
@@ -64,7 +64,7 @@ id_tid o t ids long = four_answer o (has_tid t) ids _ 0 4 _ (λ e. rw e refl) (o
 
 pub id_cpu : (o : Order) (t : ℕ) (ids : List ℕ) → Long t ids →
     (value o ids 0 (sample_id_fields t)).cpu ≡ option_map (first_half o) (if has_cpu t then eight_at ids (bytes_of t cpu_field.in_id) else None)
-id_cpu o t ids long = four_answer o (has_cpu t) ids _ (bytes_of t cpu_field.in_id) 0 _ (λ e. simp (four_if, eight_if) (omega arith)) (omega arith) (omega arith)
+id_cpu o t ids long = four_answer o (has_cpu t) ids _ (bytes_of t cpu_field.in_id) 0 _ (λ e. simp (optional_w4_size, optional_w8_size) (omega arith)) (omega arith) (omega arith)
 
 -- the value of ID, or else of IDENTIFIER
 pub either : (o : Order) (first second : Bool) (ids : List ℕ) (p q : ℕ) → p + 8 * one_if first ≤ length ids →
@@ -86,7 +86,7 @@ pub id_id : (o : Order) (t : ℕ) (ids : List ℕ) → Long t ids →
     ≡ option_map o.eight (if has_id t then eight_at ids (bytes_of t id_field.in_id) else (if has_identifier t then eight_at ids (bytes_of t identifier_field.in_id) else None))
 id_id o t ids long =
     either_answer o (has_id t) (has_identifier t) ids _ (bytes_of t id_field.in_id) _ _ (bytes_of t identifier_field.in_id) _
-    (simp (four_if, eight_if) (omega arith)) (omega arith) (simp (four_if, eight_if, padding_if) (omega arith)) (omega arith)
+    (simp (optional_w4_size, optional_w8_size) (omega arith)) (omega arith) (simp (optional_w4_size, optional_w8_size, padding_if) (omega arith)) (omega arith)
 
 -- ---- and of the sample id of every type, which may be none
 

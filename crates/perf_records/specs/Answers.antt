@@ -1,6 +1,6 @@
 -- How a frame is split, the record in it, and how many elementary reads that takes: by its own
 -- bytes alone.
-use Rattle.std.specs.Prelude.{◌⊎◌, Result, Ok, Err, ◌≡◌, ℕ, ◌+◌, ◌-◌, ◌<◌, ◌≤◌, List, [], map}
+use Rattle.std.specs.Prelude.{◌⊎◌, Result, Ok, Err, ◌≡◌, ℕ, ◌+◌, ◌-◌, ◌<◌, ◌≤◌, List, map}
 use Rattle.std.specs.Prelude.{length}
 use Rattle.std.specs.Prelude.{take, drop, IsTrue, IfOk, false, nat_lt, if◌then◌else◌}
 use Rattle.perf_base.specs.Configuration.{Configuration, under_misc}
@@ -12,11 +12,8 @@ use Rattle.perf_base.specs.Refusals.{refused, TakesNoMemory}
 use Rattle.perf_base.specs.declared.sys.perf_event_header.{perf_event_header}
 use Rattle.perf_base.specs.declared.error.ErrorKind.{ErrorKind}
 use Rattle.perf_base.specs.declared.error.ErrorKind.TheVariants.{Eof, InvalidRecord}
-use Rattle.perf_base.specs.declared.error.ErrorKind.TheVariants.{UnsupportedConfig, UnsupportedData}
-use Rattle.perf_base.specs.declared.error.ErrorKind.TheVariants.{External, OutOfMemory}
 use Rattle.perf_buffers.specs.Buffer.{Source}
 use Rattle.perf_buffers.specs.Cursor.{cursor_left}
-use Rattle.perf_buffers.specs.Taking.{MovesWithin}
 use Rattle.perf_buffers.specs.declared.cursor.ParseBufCursor.{ParseBufCursor}
 use Rattle.perf_reader.specs.Reading.{Says, of_layout, is_external}
 use Rattle.perf_records.specs.Bodies.{body, wants_memory}
@@ -181,15 +178,3 @@ SaysRecord old seen new = SaysFrame old seen new × RefusesHeader old.order old.
 -- nothing was taken, or exactly n bytes were
 abbrev pub LeavesAllOrBehind : Source → ℕ → Source → Type 0
 LeavesAllOrBehind old n new = (new.left ≡ old.left) ⊎ (new.left ≡ drop n old.left)
-
--- ---- how a frame's body is cut off
-
--- What a refused cut leaves: everything if the header's size is too small, nothing if bytes are
--- missing, and otherwise all but a prefix of the body.
-abbrev pub FailsToCut : Source → perf_event_header → ErrorKind → Source → Type 0
-FailsToCut old h Eof new = (8 ≤ h.size) × (length old.left < body_length h) × (new.left ≡ [])
-FailsToCut old h InvalidRecord new = (h.size < 8) × (new.left ≡ old.left)
-FailsToCut old h UnsupportedConfig new = ⊥
-FailsToCut old h UnsupportedData new = ⊥
-FailsToCut old h External new = MovesWithin old (body_length h) new
-FailsToCut old h OutOfMemory new = MovesWithin old (body_length h) new

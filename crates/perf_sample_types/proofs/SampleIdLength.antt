@@ -11,20 +11,20 @@ use Rattle.perf_base.proofs.Standing.{Unchecked, unchecked_run}
 use Rattle.perf_base.proofs.Tables.{run_layout}
 use Rattle.perf_sample_types.specs.SampleId.{SampleIdValue, one_if, sample_id_flags, sample_id_fields, no_sample_id, sample_id, sample_id_length}
 
-four_if : (flag : Bool) (left : ℕ) → size (optional flag w4) left ≡ 4 * one_if flag
-four_if true left = refl
-four_if false left = refl
+optional_w4_size : (flag : Bool) (left : ℕ) → size (optional flag w4) left ≡ 4 * one_if flag
+optional_w4_size true left = refl
+optional_w4_size false left = refl
 
-eight_if : (flag : Bool) (left : ℕ) → size (optional flag w8) left ≡ 8 * one_if flag
-eight_if true left = refl
-eight_if false left = refl
+optional_w8_size : (flag : Bool) (left : ℕ) → size (optional flag w8) left ≡ 8 * one_if flag
+optional_w8_size true left = refl
+optional_w8_size false left = refl
 
 padding_if : (flag : Bool) → (if flag then 4 else 0) ≡ 4 * one_if flag
 padding_if true = refl
 padding_if false = refl
 
 fields-length : (o : Order) (body : List ℕ) (sample_type : ℕ) → ending o body 0 (sample_id_fields sample_type) ≡ 8 * sample_id_flags sample_type
-fields-length o body t = simp (four_if, eight_if, padding_if) (omega arith)
+fields-length o body t = simp (optional_w4_size, optional_w8_size, padding_if) (omega arith)
 
 under : (all : Bool) (o : Order) (body : List ℕ) (t : ℕ) → ending o body 0 (if all then sample_id_fields t else done no_sample_id) ≡ (if all then 8 * sample_id_flags t else 0)
 under true o body t = fields-length o body t

@@ -87,7 +87,7 @@ impl From<&Sample<'_>> for SampleId {
 }
 
 #[inline]
-fn eight_if(flag: bool) -> usize
+fn field_len(flag: bool) -> usize
     ensures { result ≡ 8 * ids.one_if flag }
 {
     if flag { 8 } else { 0 }
@@ -148,12 +148,12 @@ impl SampleId {
             return 0;
         }
         let flags = config.sample_type();
-        eight_if(flags.contains(SampleFlags::TID))
-            + eight_if(flags.contains(SampleFlags::TIME))
-            + eight_if(flags.contains(SampleFlags::ID))
-            + eight_if(flags.contains(SampleFlags::STREAM_ID))
-            + eight_if(flags.contains(SampleFlags::CPU))
-            + eight_if(flags.contains(SampleFlags::IDENTIFIER))
+        field_len(flags.contains(SampleFlags::TID))
+            + field_len(flags.contains(SampleFlags::TIME))
+            + field_len(flags.contains(SampleFlags::ID))
+            + field_len(flags.contains(SampleFlags::STREAM_ID))
+            + field_len(flags.contains(SampleFlags::CPU))
+            + field_len(flags.contains(SampleFlags::IDENTIFIER))
     }
 
     /// The process in which it happened, if the sample type has `PERF_SAMPLE_TID`.
@@ -239,7 +239,7 @@ fn fields_of_type(flags: SampleFlags) -> Present
 }
 
 #[inline]
-fn four_if(flag: bool) -> usize
+fn padding_len(flag: bool) -> usize
     ensures { result ≡ (if flag then 4 else 0) }
 {
     if flag { 4 } else { 0 }
@@ -282,7 +282,7 @@ fn read_behind<'p, I: Input<'p>, E: Endian>(
 {
     let stream_id = reader.read_u64_if(has.stream_id)?;
     let cpu = reader.read_u32_if(has.cpu)?;
-    reader.skip(four_if(has.cpu))?;
+    reader.skip(padding_len(has.cpu))?;
     let identifier = reader.read_u64_if(has.identifier)?;
     let Origin { pid, tid, time, id } = origin;
     Ok(SampleId::from_parts(pid, tid, time, id.or(identifier), stream_id, cpu))

@@ -5,10 +5,11 @@ ghost use Rattle.std.specs.Prelude.{true, false, None, []};
 use crate::checks::check_text;
 use crate::errors::told;
 use anyhow::anyhow;
+use bitflags::Flags;
 use perf_event_data::endian::Little;
 use perf_event_data::parse::{ErrorKind, ParseBuf, ParseBufChunk, ParseError, ParseResult};
 use perf_event_data::sys::perf_event_attr;
-use perf_event_data::{RunEnd, read_records};
+use perf_event_data::{RunEnd, SampleFlags, read_records};
 use perf_testing::attributes::attribute;
 use perf_testing::everywhere::{Says, parser_of, say_everywhere};
 use std::alloc::{AllocError, Global};
@@ -21,7 +22,7 @@ use std::test::Fail;
 
 // The text of the fault that ends a run.
 fn told_fault<'p, B: ParseBuf<'p> + Drop>(alloc: Global, buf: B) -> Result<String, AllocError> {
-    let mut parser = parser_of(alloc, buf, Little, &attribute(IP, 0));
+    let mut parser = parser_of(alloc, buf, Little, &attribute(SampleFlags::IP.bits(), 0));
     match read_records(&mut parser, 10).end {
         RunEnd::Fault(error) => told(alloc, &error),
         _ => String::from_str(alloc, "no fault"),
@@ -88,9 +89,6 @@ impl<'p> ParseBuf<'p> for Breaking<'p> {
 const BY_CAUSE: &str = "External, None, no disk, user-provided error: no disk";
 
 const BY_MESSAGE: &str = "External, Some(\"no disk\"), no cause, user-provided error: no disk";
-
-// IP of a sample type.
-const IP: u64 = 1;
 
 // A sample and a task's name, each of 24 bytes.
 const FRAMES: [&[u8]; 2] = [

@@ -4,6 +4,8 @@
 ghost use Rattle.std.specs.Prelude.{false, None, []};
 
 use crate::checks::{check_same, check_text};
+use bitflags::Flags;
+use perf_event_data::SampleFlags;
 use perf_event_data::endian::Little;
 use perf_event_data::parse::{ParseBuf, ParseBufChunk, ParseError, ParseResult};
 use perf_testing::attributes::attribute;
@@ -123,9 +125,6 @@ fn push_frame(bytes: &mut Vec<u8>, ty: u8, size: u16) -> Result<(), AllocError> 
     bytes.resize(end, 0)
 }
 
-// IP of a sample type.
-const IP: u64 = 1;
-
 // ---- hints that are wrong
 
 // The size of a frame.
@@ -157,7 +156,7 @@ const TYPES: [(u8, &str, &str); 3] = [
 // Asserts the text of a run of one frame over a buffer with this rule, with bytes that live as long
 // as the input and with bytes that do not.
 fn check_rule(rt: &(impl AllocGlobal + Abort), bytes: &[u8], ahead: usize, rule: Rule, want: &str) {
-    let attr = attribute(IP, 0);
+    let attr = attribute(SampleFlags::IP.bits(), 0);
     for lasting in [true, false] {
         let asked = Cell::new(0);
         let buf = Hinting::new(bytes, ahead, lasting, rule, &asked);
@@ -233,7 +232,13 @@ fn calls_of_chunk(
 ) -> Result<(usize, bool), AllocError> {
     let asked = Cell::new(0);
     let buf = Hinting::new(bytes, 8192, lasting, rule, &asked);
-    let text = tell_under(alloc, buf, Little, &attribute(IP, 0), &[10])?;
+    let text = tell_under(
+        alloc,
+        buf,
+        Little,
+        &attribute(SampleFlags::IP.bits(), 0),
+        &[10],
+    )?;
     Ok((asked.get(), text.ends_with(last)))
 }
 

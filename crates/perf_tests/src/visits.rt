@@ -4,13 +4,14 @@ ghost use Rattle.std.specs.Prelude.{⊤};
 
 use crate::asked::{Asked, Case, check_case, check_cases};
 use crate::partial_visits::{Mappings, OwnCalls};
+use bitflags::Flags;
 use perf_event_data::endian::{Endian, Little, Native};
 use perf_event_data::parse::{ParseBuf, ParseConfig, ParseResult, Parser};
 use perf_event_data::sys::perf_event_attr;
 use perf_event_data::{
     Aux, AuxOutputHwId, BpfEvent, CGroup, Comm, CowSlice, Exit, Fork, ITraceStart, KSymbol, Lost,
     LostSamples, Mmap, Mmap2, Namespaces, Partial, Read, RecordMetadata, RecordVisitor, Sample,
-    SwitchCpuWide, TextPoke, Throttle, Visitor,
+    SampleFlags, SwitchCpuWide, TextPoke, Throttle, Visitor,
 };
 use perf_testing::attributes::ids_attribute;
 use perf_testing::frames::zero_frames;
@@ -39,7 +40,9 @@ impl Visits {
     fn attr(self) -> perf_event_attr {
         match self {
             Visits::Names | Visits::OwnCalls | Visits::Mappings => perf_event_attr::default(),
-            Visits::TimedMappings | Visits::TimedRecords => ids_attribute(1 << 2 | 1 << 7),
+            Visits::TimedMappings | Visits::TimedRecords => {
+                ids_attribute(SampleFlags::TIME.bits() | SampleFlags::CPU.bits())
+            },
         }
     }
 

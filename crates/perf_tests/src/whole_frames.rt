@@ -4,19 +4,28 @@ ghost use Rattle.std.specs.Prelude.{⊤, ◌<◌};
 
 use crate::checks::{check_same, check_text};
 use crate::runs::{FIVE_LOST, TWO};
+use bitflags::Flags;
 use perf_event_data::endian::{Endian, Little};
 use perf_event_data::parse::{ParseConfig, ParseResult, Parser};
 use perf_event_data::{
     BadFrame, Frame, FrameHandler, PieceBuf, Record, RecordMetadata, RecordVisitor, Sample,
-    SampleFields, each_frame, frames,
+    SampleFields, SampleFlags, each_frame, frames,
 };
 use perf_testing::attributes::ids_attribute;
 use perf_testing::runs::tell_shown_record;
 use perf_testing::told::tell_error;
 use std::alloc::{AllocError, Global};
 
-// IDENTIFIER, IP, TID, TIME, ID, CPU and PERIOD.
-const FIELDS: u64 = 1 << 16 | 1 | 1 << 1 | 1 << 2 | 1 << 6 | 1 << 7 | 1 << 8;
+// The fields of the samples.
+const FIELDS: [SampleFlags; 7] = [
+    SampleFlags::IDENTIFIER,
+    SampleFlags::IP,
+    SampleFlags::TID,
+    SampleFlags::TIME,
+    SampleFlags::ID,
+    SampleFlags::CPU,
+    SampleFlags::PERIOD,
+];
 
 // A sample of event 77: at address 4096, of thread 12 of process 11, at 13 nanoseconds on CPU 3,
 // for 5 events.
@@ -43,7 +52,11 @@ const MIXED: &[u8] =
     b"\x02\0\0\0\0\0\x07\0\x0D\0\0\0\0\0\x10\0\x05\0\0\0\0\0\0\0\x0D\0\0\0\0\0\x10\0\x06\0";
 
 fn config() -> ParseConfig<Little> {
-    ParseConfig::from(ids_attribute(FIELDS))
+    let mut sample_type = 0;
+    for field in FIELDS {
+        sample_type |= field.bits();
+    }
+    ParseConfig::from(ids_attribute(sample_type))
 }
 
 // The text of a frame.

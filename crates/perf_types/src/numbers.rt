@@ -8,7 +8,7 @@ ghost use Rattle.perf_types.specs.Words.{Call, ReadsOne, TakesNoMemory, kinds, w
 use perf_base::endian::Endian;
 use perf_base::refusal::{ReadResult, Refusal};
 use perf_buffers::input::Input;
-use perf_reader::blocks::BLOCK;
+use perf_reader::blocks::BLOCK_LEN;
 use perf_reader::reader::Reader;
 
 // The size of a number in bytes.
@@ -49,9 +49,9 @@ fn append_numbers<'p, I: Input<'p>, E: Endian>(
     ensures call { Call I.source E.order (ReadsOne (words count) (λ v. v.items))
         reader.old (kinds result) reader.new }
 {
-    let mut block = [0; BLOCK];
+    let mut block = [0; BLOCK_LEN];
     while numbers.len() < count {
-        let more = BLOCK.min(count - numbers.len());
+        let more = BLOCK_LEN.min(count - numbers.len());
         match reader.read_block(&mut block[..more]) {
             Ok(()) => (),
             Err(refusal) => return Err(refusal),

@@ -144,7 +144,7 @@ returns-in-Err-clause-whole_memory g c = λ told whole kind.
     let kept = c.loop-count.invariant.1.buffer in
     c.in-Err.ensures.whole_memory (kept.3 told) (kept.0 ∙ whole) (end_kind c.in-Err.stop c.end_of-end.result c.end_of-end.ensures.end kind)
 
--- it came to its limit
+-- it reached its limit
 pub returns-clause-config : goal.returns-clause-config
 returns-clause-config g c = c.loop-count.invariant.0
 

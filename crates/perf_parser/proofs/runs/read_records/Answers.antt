@@ -22,7 +22,7 @@ loop-init g c =
       (λ told. subst (λ (xs : Pairs). IsSoFar start xs 0 start) (sym none) (none_so_far start)),
     )
 
--- where it stopped
+-- if it stopped
 pub returns-in-Err-clause-config : goal.returns-in-Err-clause-config
 returns-in-Err-clause-config g c = c.end_of-end.ensures.config ∙ c.in-Err.ensures.config ∙ c.loop.invariant.0
 
@@ -91,7 +91,7 @@ returns-in-Err-clause-keeps g c =
     subst (λ (m : Meaning). KeepsRun start (n + one_if_ended c.end_of-end.result) (end_refusal c.end_of-end.result) m) (sym same)
     (run_ends start new n c.in-Err.stop c.end_of-end.result after.end (c.in-Err.ensures.keeps start c.loop.invariant.2))
 
--- where it goes on
+-- if it goes on
 pub loop-preserved : goal.loop-preserved
 loop-preserved g c =
     let start : Meaning = meaning g.B.ParseBuf.source g.E.Endian.order c.args.parser.now in
@@ -111,7 +111,7 @@ loop-preserved g c =
           (one_more_so_far start here new c.loop.frames.items c.loop.counter h r settings order (i.4 told) (next.4 (i.2.buffer.3 told)))),
     )
 
--- where it met its limit
+-- if it reached its limit
 pub returns-clause-answers : goal.returns-clause-answers
 returns-clause-answers g c = λ told.
     let start : Meaning = meaning g.B.ParseBuf.source g.E.Endian.order c.args.parser.now in

@@ -34,7 +34,7 @@ returns-in_err-skip g c =
       call = plain _ _ (λ t. c.in_err-skip.ensures.memory) (
           part_behind _ _ _ c.in_ok-stream_id.ensures.call (
           part_behind _ _ _ c.in_ok-cpu.ensures.call (
-          part_stops _ _ _ (padded _ _ c.four_if.ensures c.in_err-skip.ensures.call))));
+          part_stops _ _ _ (padded _ _ c.padding_len.ensures c.in_err-skip.ensures.call))));
     })
 
 pub returns-in_err-identifier : goal.returns-in_err-identifier
@@ -44,7 +44,7 @@ returns-in_err-identifier g c =
       call = plain _ _ (λ t. c.in_err-identifier.ensures.memory) (
           part_behind _ _ _ c.in_ok-stream_id.ensures.call (
           part_behind _ _ _ c.in_ok-cpu.ensures.call (
-          part_behind _ _ _ (padded _ _ c.four_if.ensures c.in_ok-skip.ensures.call) (
+          part_behind _ _ _ (padded _ _ c.padding_len.ensures c.in_ok-skip.ensures.call) (
           part_stops _ _ _ c.in_err-identifier.ensures.call))));
     })
 
@@ -56,7 +56,7 @@ returns g c =
       call = plain _ _ (λ t. tt) (
           part_behind _ _ _ c.in_ok-stream_id.ensures.call (
           part_behind _ _ _ c.in_ok-cpu.ensures.call (
-          part_behind _ _ _ (padded _ _ c.four_if.ensures c.in_ok-skip.ensures.call) (
+          part_behind _ _ _ (padded _ _ c.padding_len.ensures c.in_ok-skip.ensures.call) (
           part_behind _ _ _ c.in_ok-identifier.ensures.call (
           call_gives {show = λ v. v} (λ _. read (first_of c.args.origin.id c.in_ok-identifier.identifier)) (ap read first ∙ sym c.from_parts.ensures))))));
     }

@@ -2,7 +2,7 @@ use Rattle.std.proofs.Common.{◌∙◌, sym, ap}
 use Rattle.perf_parser.proofs.Lifting.{lifted, answered}
 use Rattle.perf_parser.proofs.parser.Parser.parse_bytes.Goals as goal
 
--- at an `Ok` the reader says each clause
+-- if it is `Ok`, each clause is that of the reader
 
 pub returns-in-Ok-clause-whole : goal.returns-in-Ok-clause-whole
 returns-in-Ok-clause-whole g c = c.in-Ok.ensures.whole
@@ -21,7 +21,7 @@ returns-in-Ok-clause-length g c = c.in-Ok.ensures.length
 pub returns-in-Ok-clause-call : goal.returns-in-Ok-clause-call
 returns-in-Ok-clause-call g c = lifted _ _ _ _ _ _ c.in-Ok.ensures.call
 
--- an answered refusal leaves the buffer as it is, and keeps its kind
+-- a refusal that becomes an error leaves the buffer as it is, and keeps its kind
 
 pub returns-in-Err-clause-whole_memory : goal.returns-in-Err-clause-whole_memory
 returns-in-Err-clause-whole_memory g c = λ whole. rw c.answer.ensures.error.kind_is (c.in-Err.ensures.whole_memory whole)

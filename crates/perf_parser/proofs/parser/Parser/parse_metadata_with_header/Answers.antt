@@ -12,7 +12,7 @@ use Rattle.perf_parser.proofs.Metadata.{split_parsed, split_unparsed, keeps_unpa
 use Rattle.perf_parser.proofs.Paying.{follows_more}
 use Rattle.perf_parser.proofs.parser.Parser.parse_metadata_with_header.Goals as goal
 
--- the frame does not fall apart
+-- the frame cannot be split
 pub returns-in-Err-clause-call : goal.returns-in-Err-clause-call
 returns-in-Err-clause-call g c =
     let same = c.answer.ensures in
@@ -26,7 +26,7 @@ returns-in-Err-clause-call g c =
       keeps = read.keeps;
     }) same.error.kind_is same.buf same.config same.reads
 
--- it falls apart, and there is a second order
+-- it is split, and the order has a duplicate
 pub returns-in-Ok-duplicate-clause-call : goal.returns-in-Ok-duplicate-clause-call
 returns-in-Ok-duplicate-clause-call g c =
     let read = c.in-Ok.ensures.call in
@@ -40,7 +40,7 @@ returns-in-Ok-duplicate-clause-call g c =
       follows = λ start p. follows_more start old new p (keeps_follows old new None (read.keeps old (keeps_none old)));
     }
 
--- it falls apart, and there is none
+-- it is split, and the order has none
 pub returns-clause-call : goal.returns-clause-call
 returns-clause-call g c =
     let read = c.in-Ok.ensures.call in
@@ -56,7 +56,7 @@ returns-clause-call g c =
       follows = λ start p. follows_more start old new p (keeps_follows old new None (read.keeps old (keeps_none old)));
     })
 
--- how far it goes
+-- how much it takes
 
 pub returns-in-Err-clause-within : goal.returns-in-Err-clause-within
 returns-in-Err-clause-within g c = λ told. rw c.answer.ensures.buf (c.in-Err.ensures.within told)

@@ -3,7 +3,7 @@ use Rattle.perf_base.specs.Refusals.{IsAnswerOf}
 use Rattle.perf_parser.proofs.Lifting.{lifted, answered}
 use Rattle.perf_parser.proofs.parser.Parser.parse_record_with_header.Goals as goal
 
--- at an `Ok` the reader says each clause
+-- if it is `Ok`, each clause is that of the reader
 
 pub returns-in-Ok-clause-within : goal.returns-in-Ok-clause-within
 returns-in-Ok-clause-within g c = c.in-Ok.ensures.within
@@ -35,7 +35,7 @@ returns-in-Ok-clause-spent g c = c.in-Ok.ensures.spent
 pub returns-in-Ok-clause-call : goal.returns-in-Ok-clause-call
 returns-in-Ok-clause-call g c = lifted _ _ _ _ _ _ c.in-Ok.ensures.call
 
--- an answered refusal leaves the buffer as it is, and keeps its kind
+-- a refusal that becomes an error leaves the buffer as it is, and keeps its kind
 
 pub returns-in-Err-clause-within : goal.returns-in-Err-clause-within
 returns-in-Err-clause-within g c = λ told. rw c.answer.ensures.buf (c.in-Err.ensures.within told)

@@ -1,5 +1,5 @@
 use Rattle.std.proofs.Common.{refl}
-use Rattle.perf_reader.proofs.outer.Reader+Outer+B+E.reconfigure.Goals as goal
+use Rattle.perf_reader.proofs.reader.Reader+Outer+B+E.reconfigure.Goals as goal
 
 pub returns-clause-buf : goal.returns-clause-buf
 returns-clause-buf g c = refl

@@ -4,7 +4,7 @@ use Rattle.perf_buffers.specs.Taking.{Takes}
 use Rattle.perf_buffers.proofs.Options.{some_matches}
 use Rattle.perf_reader.specs.Meaning.{Meaning}
 use Rattle.perf_reader.proofs.HeaderAtOnce.{header_of_front, header_keeps}
-use Rattle.perf_reader.proofs.header.Reader+Outer+B+E.read_shown_header.Goals as goal
+use Rattle.perf_reader.proofs.reader.Reader+Outer+B+E.read_shown_header.Goals as goal
 
 pub returns-in-Ok-Some : goal.returns-in-Ok-Some
 returns-in-Ok-Some g c =

@@ -6,7 +6,7 @@ use Rattle.perf_reader.specs.Calls.{Call}
 use Rattle.perf_reader.specs.Headers.{ReadsShownHeader, stop_kind}
 use Rattle.perf_reader.specs.Meaning.{Meaning, meaning}
 use Rattle.perf_reader.proofs.Stopping.{stops_unshown, header_shown, header_cut, header_stops}
-use Rattle.perf_reader.proofs.header.Reader+Outer+B+E.next_header.Goals as goal
+use Rattle.perf_reader.proofs.reader.Reader+Outer+B+E.next_header.Goals as goal
 
 pub returns-in-Ok-Some-clause-call : goal.returns-in-Ok-Some-clause-call
 returns-in-Ok-Some-clause-call g c =
