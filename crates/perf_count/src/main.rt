@@ -14,9 +14,9 @@
 //! `lost`; of SAMPLE, as far as they are there, `ip`, `pid`, `tid`, `time`, `period`, the numbers of
 //! the call chain and the length of the raw bytes. Other records add nothing of their own.
 //!
-//! The exit status is 0 where no frame was refused and the input ended behind one, 2 for other words,
-//! and else 1. Why the attribute was refused, or what kept the input from being read to its end, goes
-//! to standard error. `--help` alone prints the usage, with the status 0.
+//! The exit status is 0 if no frame was refused and the input ended after one, 2 for other words, and
+//! else 1. Why the attribute was refused, or what kept the input from being read to its end, goes to
+//! standard error. `--help` alone prints the usage, with the status 0.
 #![tactic(auto)]
 
 mod command;

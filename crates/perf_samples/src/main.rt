@@ -4,8 +4,8 @@
 //! endian, and prints a line for each SAMPLE record: `TIME CPU PID/TID PERIOD ADDR IP: CHAIN`. ADDR,
 //! IP and the addresses of CHAIN are hexadecimal, with `kernel` and `user` in front of whose they
 //! are. A field that is absent is `-`. Lines keep the order of the input, which need not be that of
-//! time. Why a record was refused goes to standard error, and then the exit status is 1, as where the
-//! attribute is refused, the input cannot be read, or it ends inside a header. The only word is
+//! time. Why a record was refused goes to standard error, and then the exit status is 1, as where
+//! the attribute is refused, the input cannot be read, or it ends inside a header. The only word is
 //! `--help`, which prints the usage; other words have the status 2.
 #![tactic(auto)]
 

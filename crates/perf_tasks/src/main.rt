@@ -5,8 +5,8 @@
 //! and prints a line for each COMM, MMAP, MMAP2, FORK, EXIT and NAMESPACES record. Why a record was
 //! refused goes to standard error, and then the exit status is 1, as where the attribute is
 //! refused, the input cannot be read, or it ends inside a header. Lines keep the order of the input,
-//! which need not be that of time. The only word is `--help`, which prints the usage; other words have
-//! the status 2.
+//! which need not be that of time. The only word is `--help`, which prints the usage; other words
+//! have the status 2.
 #![tactic(auto)]
 
 use anyhow::Result;

@@ -2,11 +2,12 @@
 //!
 //! `perfrec little|big|native [LIMIT] [attr]` reads records from standard input, in the byte order
 //! that is named, and writes at most LIMIT lines to standard output, and a last one that says how
-//! reading ended. Without LIMIT all records have a line. With `attr` the input begins with an attribute, which says how the records behind
-//! it are read. The exit status is 0 where every record could be read, 1 where one was refused or
-//! the input ends inside a header, 2 where the attribute was refused and for other words, and 3
-//! where reading or writing failed or memory was refused. Why there are fewer lines than records goes
-//! to standard error if the status is 2 or 3, and what to try if records are refused without `attr`.
+//! reading ended. Without LIMIT all records have a line. With `attr` the input begins with an
+//! attribute, which says how the records after it are read.
+//!
+//! The exit status is 0 if every record could be read, 1 if one was refused or the input ends inside
+//! a header, 2 if the attribute was refused and for other words, and 3 if reading, writing or memory
+//! failed. With 2 and 3 standard error has the reason, and with 1 what to try if there is no `attr`.
 //! `--help` alone prints the usage, with the status 0.
 #![tactic(auto)]
 
@@ -49,8 +50,7 @@ fn main(rt: HostRuntime) -> ExitCode {
     ExitCode::from(outcome.status())
 }
 
-// Why there may be fewer lines than records. Records that are refused without an attribute may be no
-// records at all.
+// Why there may be fewer lines than records. What is refused without an attribute may be no records.
 fn reason(outcome: Outcome, with_attr: bool) -> Option<&'static str> {
     match outcome {
         Outcome::Refused if !with_attr => Some(
