@@ -11,8 +11,10 @@
 # A file has an attribute for each event that was recorded. The first is taken. The others must agree with it in all
 # that the reading of records rests on: size, sample_type, read_format, sample_id_all, branch_sample_type,
 # sample_regs_user and sample_regs_intr. One event makes one attribute: `perf record -e cpu-clock`. With `-a` perf may
-# add an event of its own (`dummy`), which has no frequency, so that its samples have no period: there a fixed period
-# makes both agree, as in `perf record -a -e cpu-clock -c 1000000`.
+# add an event of its own (`dummy`), which has no frequency by default, so that its samples have no period: a frequency
+# or a period that is named makes both agree, as in `perf record -a -e cpu-clock -F 99` or with `-c 1000000`. If there are
+# several attributes that agree, standard error gets a line for each: the name of its event, and the ids that its
+# samples have.
 #
 # Refused, with a message and the status 1, and with nothing written: a name that is none of a file, a file that can't
 # be read, a folder, standard input (`-`: the file is read in several places, and a file of that name is `./-`), what
@@ -31,7 +33,11 @@
 #     at 24  u64 u64  the section of the attributes: where, and how long
 #     at 40  u64 u64  the data section
 #     at 56  u64 u64  unused
-#     at 72  32 bytes a bit for each feature section: 18 AUXTRACE, 24 DIR_FORMAT, 27 COMPRESSED
+#     at 72  32 bytes a bit for each feature section: 12 EVENT_DESC, 18 AUXTRACE, 24 DIR_FORMAT, 27 COMPRESSED
+#
+# After the data section comes, for each bit that is set, where that section is and how long (u64 u64). EVENT_DESC has a
+# count and the length of an attribute (u32 u32), and for each event the attribute, how many ids it has (u32), its name
+# with the length before it (u32), and the ids.
 
 set -eu
 LC_ALL=C
@@ -74,15 +80,29 @@ section() {
     fi
 }
 
-# differs NAME ONE OTHER: refuses the attribute at `at`, whose field NAME has another value than the first's. Where
-# the samples of one event alone have a period (0x100 of sample_type), that event alone has a frequency.
+# is_dummy AT: whether the attribute there is of perf's own event, which counts nothing: type 1, config 9.
+is_dummy() {
+    number "$1" 4
+    [ "$number" -eq 1 ] || return 1
+    number $(($1 + 8)) 8
+    [ "$number" -eq 9 ]
+}
+
+# differs NAME ONE OTHER: refuses the attribute at `at`, whose field NAME has another value than the first's. If the
+# samples of one event alone have a period (0x100 of sample_type), that event alone has a frequency.
 differs() {
-    advice="record one event only, with -e EVENT"
-    if [ "$1" = sample_type ] && [ $(($2 ^ $3)) -eq 256 ]; then
-        advice="record with a fixed period, as with -c 1000000"
-    fi
     event=$(((at - first) / entry + 1))
-    refuse "$(printf 'its attributes 1 and %d differ in %s, 0x%x and 0x%x: %s' "$event" "$1" "$2" "$3" "$advice")"
+    advice="record one event only, with -e EVENT"
+    added=
+    if is_dummy "$at"; then
+        advice="record without -a"
+        added=" (attribute $event is dummy: perf added it, as with -a)"
+    fi
+    if [ "$1" = sample_type ] && [ $(($2 ^ $3)) -eq 256 ]; then
+        advice="record with -F 99 or with -c 1000000, which holds for all events"
+    fi
+    refuse "$(printf 'its attributes 1 and %d differ in %s, 0x%x and 0x%x%s: %s' \
+        "$event" "$1" "$2" "$3" "$added" "$advice")"
 }
 
 # same NAME AT LEN: sees that the attribute at `at` has the first one's value of the field NAME, whose bytes they are.
@@ -105,6 +125,54 @@ agrees() {
     if [ "$size" -ge 80 ]; then same branch_sample_type 72 8; fi
     if [ "$size" -ge 96 ]; then same sample_regs_user 80 8; fi
     if [ "$size" -ge 104 ]; then same sample_regs_intr 96 8; fi
+}
+
+# find_names: sets `names` to where the feature section of the events' descriptions has the first one, and `described`
+# to the length of an attribute there. Without that section `names` is 0.
+find_names() {
+    names=0
+    number 72 8
+    features=$number
+    [ $((features >> 12 & 1)) -eq 1 ] || return 0
+    place=0
+    for feature in 0 1 2 3 4 5 6 7 8 9 10 11; do
+        place=$((place + (features >> feature & 1)))
+    done
+    section $((records + records_len + 16 * place))
+    number $((at + 4)) 4
+    described=$number
+    names=$((at + 8))
+}
+
+# next_name: sets `name` to that of the event at `names`, and `names` to where the next one begins.
+next_name() {
+    number $((names + described)) 4
+    ids=$number
+    number $((names + described + 4)) 4
+    name_at=$((names + described + 8))
+    [ $((name_at + number)) -le "$total" ] || refuse "cut: a name of an event goes beyond its end"
+    name=$(head -c $((name_at + number)) < "$file" | tail -c "$number" | tr -cd '[:print:]')
+    names=$((name_at + number + 8 * ids))
+}
+
+# tell_events: writes of each event its name and its ids to standard error.
+tell_events() {
+    find_names
+    event_at=$first
+    while [ "$event_at" -lt "$end" ]; do
+        name="of an unknown name"
+        if [ "$names" -gt 0 ]; then next_name; fi
+        section $((event_at + entry - 16))
+        line="event $(((event_at - first) / entry + 1)) is $name, with the ids"
+        id_at=$at
+        while [ "$id_at" -lt $((at + len)) ]; do
+            number "$id_at" 8
+            line="$line $number"
+            id_at=$((id_at + 8))
+        done
+        echo "perf-data-to-stream.sh: $file: $line" >&2
+        event_at=$((event_at + entry))
+    done
 }
 
 [ "$file" != - ] || refuse "standard input can't be read in several places: write it to a file first"
@@ -147,5 +215,9 @@ done
 section 40
 [ "$len" -gt 0 ] || refuse "has no records: perf did not close it, or recorded nothing"
 
+records=$at
+records_len=$len
+
+if [ $((end - first)) -gt "$entry" ]; then tell_events; fi
 head -c $((first + size)) < "$file" | tail -c "$size"
-head -c $((at + len)) < "$file" | tail -c "$len"
+head -c $((records + records_len)) < "$file" | tail -c "$records_len"

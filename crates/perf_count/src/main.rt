@@ -14,9 +14,9 @@
 //! `lost`; of SAMPLE, as far as they are there, `ip`, `pid`, `tid`, `time`, `period`, the numbers of
 //! the call chain and the length of the raw bytes. Other records add nothing of their own.
 //!
-//! The exit status is 0 where no frame was refused and the input ended behind one, and else 1. Why
-//! the attribute was refused, or what kept the input from being read to its end, goes to standard
-//! error.
+//! The exit status is 0 if no frame was refused and the input ended after one, 2 for other words, and
+//! else 1. Why the attribute was refused, or what kept the input from being read to its end, goes to
+//! standard error. `--help` alone prints the usage, with the status 0.
 #![tactic(auto)]
 
 mod command;
@@ -29,13 +29,17 @@ use perf_event_data::endian::{Big, Little, Native};
 use perf_event_data::parse::{ErrorKind, ParseError, ParseResult};
 use perf_reports::counts::Counts;
 use perf_reports::streams::count_stream;
+use perf_reports::usage::print_usage;
 use std::alloc::Global;
 use std::env;
 use std::io::{BufReader, Read};
 use std::process::ExitCode;
 
-// What is said where the words ask for nothing.
-const USAGE: &str = "usage: perf_count little|big|native [attr]";
+// What is printed for `--help` and for words that ask for nothing.
+const USAGE: &str = "usage: perf_count little|big|native [attr] < STREAM
+Prints how many frames there are, how many of them were refused, and a checksum of the others.
+With attr the stream begins with an attribute, as examples/perf-data-to-stream.sh writes it.
+Status: 0 if no frame was refused, 1 if one was or on an error, 2 for other words.";
 
 // How many bytes are read at a time. A frame has fewer than 65,536, so that few frames lie across two
 // reads and have to be assembled.
@@ -44,7 +48,7 @@ const INPUT_ROOM: usize = 1 << 20;
 fn main(rt: HostRuntime) -> Result<ExitCode> {
     let words: Vec<String> = env::args(&rt)?.skip(1).collect(rt.alloc())?;
     let Some(command) = words::command(&words) else {
-        bail!("{USAGE}");
+        return Ok(ExitCode::from(print_usage(&rt, &words, USAGE)?));
     };
     let input = BufReader::with_capacity(rt.alloc(), INPUT_ROOM, rt.stdin())?;
     let (counts, end) = match count_command(rt.alloc(), input, command) {

@@ -1,6 +1,6 @@
 -- What the arguments of the program ask for.
 use Rattle.std.specs.Prelude.{ℕ, ◌^◌, Bool, true, false, List, [], ◌∷◌, length, codes, ◌&&◌, nat_lt}
-use Rattle.std.specs.Prelude.{Option, Some, None, if◌then◌else◌, option_and_then, option_map}
+use Rattle.std.specs.Prelude.{◌-◌, Option, Some, None, if◌then◌else◌, option_and_then, option_map}
 use Rattle.std.specs.Char.{is_ascii_digit}
 use Rattle.std.specs.List.{list_all}
 use Rattle.std.specs.Str.{bytes_eq}
@@ -38,3 +38,17 @@ command_of (order ∷ limit ∷ []) = asked false order limit
 command_of (order ∷ limit ∷ third ∷ []) =
     if bytes_eq third (codes "attr") then asked true order limit else None
 command_of (order ∷ limit ∷ third ∷ fourth ∷ more) = None
+
+-- what an order's name alone asks for: no limit but the greatest number of 64 bits
+abbrev pub unlimited : Bool → List ℕ → Option Command
+unlimited with_attr order =
+    option_map (λ name. record { order = name; limit = 2 ^ 64 - 1; with_attr = with_attr })
+    (order_named order)
+
+-- what the words after the program's name ask for if they name no limit
+abbrev pub unlimited_command_of : List (List ℕ) → Option Command
+unlimited_command_of [] = None
+unlimited_command_of (order ∷ []) = unlimited false order
+unlimited_command_of (order ∷ second ∷ []) =
+    if bytes_eq second (codes "attr") then unlimited true order else None
+unlimited_command_of (order ∷ second ∷ third ∷ more) = None

@@ -4,6 +4,7 @@ ghost use Rattle.std.specs.Prelude.{◌≡◌, map, string_bytes};
 ghost use Rattle.std.specs.Char.{is_ascii_digit};
 ghost use Rattle.std.specs.List.{list_all};
 ghost use Rattle.perf_lines.specs.Words.{order_named, limit_named, asked, command_of};
+ghost use Rattle.perf_lines.specs.Words.{unlimited, unlimited_command_of};
 
 use crate::command::{Command, OrderName};
 
@@ -21,12 +22,35 @@ pub fn command(words: &[String]) -> Option<Command>
     }
 }
 
+/// What the words after the program's name ask for if they name no limit, so that all frames are
+/// printed: an order's name, and then `attr` if the input begins with an attribute. Other words ask
+/// for nothing.
+pub fn unlimited_command(words: &[String]) -> Option<Command>
+    ensures { result ≡ unlimited_command_of (map string_bytes words.now) }
+{
+    match words {
+        [order] => unlimited(order.as_str(), false),
+        [order, second] if second.as_str() == "attr" => unlimited(order.as_str(), true),
+        _ => None,
+    }
+}
+
 fn asked(order: &str, limit: &str, with_attr: bool) -> Option<Command>
     ensures { result ≡ asked with_attr order.now limit.now }
 {
     Some(Command {
         order: order_named(order)?,
         limit: limit_named(limit)?,
+        with_attr,
+    })
+}
+
+fn unlimited(order: &str, with_attr: bool) -> Option<Command>
+    ensures { result ≡ unlimited with_attr order.now }
+{
+    Some(Command {
+        order: order_named(order)?,
+        limit: usize::MAX,
         with_attr,
     })
 }

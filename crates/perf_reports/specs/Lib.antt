@@ -3,3 +3,4 @@ pub mod FramePrinting
 pub mod Printing
 pub mod SampleLines
 pub mod TaskLines
+pub mod Usage

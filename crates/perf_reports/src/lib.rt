@@ -14,3 +14,4 @@ pub mod samples;
 pub mod streams;
 mod sums;
 pub mod tasks;
+pub mod usage;

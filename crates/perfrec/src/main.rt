@@ -1,24 +1,31 @@
 //! Prints the records that Linux wrote for performance events, a line each.
 //!
-//! `perfrec little|big|native LIMIT [attr]` reads records from standard input, in the byte order
+//! `perfrec little|big|native [LIMIT] [attr]` reads records from standard input, in the byte order
 //! that is named, and writes at most LIMIT lines to standard output, and a last one that says how
-//! reading ended. With `attr` the input begins with an attribute, which says how the records behind
-//! it are read. The exit status is 0 where every record could be read, 1 where one was refused or
-//! the input ends inside a header, 2 where the attribute was refused and for other words, and 3
-//! where reading or writing failed or memory was refused. Why there are fewer lines than records goes
-//! to standard error if the status is 2 or 3.
+//! reading ended. Without LIMIT all records have a line. With `attr` the input begins with an
+//! attribute, which says how the records after it are read.
+//!
+//! The exit status is 0 if every record could be read, 1 if one was refused or the input ends inside
+//! a header, 2 if the attribute was refused and for other words, and 3 if reading, writing or memory
+//! failed. With 2 and 3 standard error has the reason, and with 1 what to try if there is no `attr`.
+//! `--help` alone prints the usage, with the status 0.
 #![tactic(auto)]
 
 use perf_event_data::endian::{Big, Endian, Little, Native};
 use perf_lines::command::{Command, OrderName};
 use perf_lines::outcome::Outcome;
 use perf_lines::run::run;
-use perf_lines::words::command;
+use perf_lines::words::{command, unlimited_command};
+use perf_reports::usage::print_usage;
 use std::process::ExitCode;
 use std::{env, io};
 
-// What is printed where the words ask for nothing.
-const USAGE: &str = "usage: perfrec little|big|native LIMIT [attr]";
+// What is printed for `--help` and for words that ask for nothing.
+const USAGE: &str = "usage: perfrec little|big|native [LIMIT] [attr] < STREAM
+Prints a line for each record, at most LIMIT lines if there is one, and then how reading ended.
+With attr the stream begins with an attribute, as examples/perf-data-to-stream.sh writes it.
+Status: 0 if no record was refused, 1 if one was or the last header is cut, 2 if the attribute was
+refused or for other words, 3 if reading, writing or memory failed.";
 
 // How many bytes are read at a time.
 const PIECE: usize = 8192;
@@ -27,27 +34,34 @@ fn main(rt: HostRuntime) -> ExitCode {
     let Ok(words) = words_of(&rt) else {
         return ExitCode::from(Outcome::Faulted.status());
     };
-    let Some(command) = command(&words) else {
-        // Where standard error fails, the status alone says it.
-        let _ = rt.eprintln(USAGE);
-        return ExitCode::from(Outcome::BadAttr.status());
+    let Some(command) = command(&words).or_else(|| unlimited_command(&words)) else {
+        let status = print_usage(&rt, &words, USAGE).unwrap_or(Outcome::Stopped.status());
+        return ExitCode::from(status);
     };
     let outcome = match command.order {
         OrderName::Little => run_command(&rt, Little, command),
         OrderName::Big => run_command(&rt, Big, command),
         OrderName::Native => run_command(&rt, Native, command),
     };
-    if let Some(why) = reason(outcome) {
+    if let Some(why) = reason(outcome, command.with_attr) {
+        // If standard error fails, the status alone says it.
         let _ = rt.eprintln(why);
     }
     ExitCode::from(outcome.status())
 }
 
-// Why there are fewer lines than records, if there are.
-fn reason(outcome: Outcome) -> Option<&'static str> {
+// Why there may be fewer lines than records. What is refused without an attribute may be no records.
+fn reason(outcome: Outcome, with_attr: bool) -> Option<&'static str> {
     match outcome {
+        Outcome::Refused if !with_attr => Some(
+            "perfrec: if the input begins with an attribute, add the word attr; if it is a file of \
+             `perf record`, convert it first: see examples/README.md",
+        ),
         Outcome::Clean | Outcome::Refused => None,
-        Outcome::BadAttr => Some("perfrec: the input does not begin with an attribute"),
+        Outcome::BadAttr => Some(
+            "perfrec: the input does not begin with an attribute; if it is a file of `perf record`, \
+             convert it first: see examples/README.md",
+        ),
         Outcome::Faulted => Some(
             "perfrec: the input cannot be read to its end, as the last line says",
         ),
