@@ -1,8 +1,8 @@
 //! Prints what a recording says of samples: when, where, and by which calls.
 //!
-//! `perf_samples` reads an attribute and the records behind it from standard input, in little
+//! `perf_samples` reads an attribute and the records after it from standard input, in little
 //! endian, and prints a line for each SAMPLE record: `TIME CPU PID/TID PERIOD ADDR IP: CHAIN`. ADDR,
-//! IP and the addresses of CHAIN are hexadecimal, with `kernel` and `user` in front of whose they
+//! IP and the addresses of CHAIN are hexadecimal, with `kernel` or `user` before them for whose they
 //! are. A field that is absent is `-`. Lines keep the order of the input, which need not be that of
 //! time. Why a record was refused goes to standard error, and then the exit status is 1, as where
 //! the attribute is refused, the input cannot be read, or it ends inside a header. The only word is

@@ -1,9 +1,9 @@
 //! Prints what a recording says of tasks: their names, what they mapped, when they began and ended,
 //! their namespaces.
 //!
-//! `perf_tasks` reads an attribute and the records behind it from standard input, in little endian,
+//! `perf_tasks` reads an attribute and the records after it from standard input, in little endian,
 //! and prints a line for each COMM, MMAP, MMAP2, FORK, EXIT and NAMESPACES record. Why a record was
-//! refused goes to standard error, and then the exit status is 1, as where the attribute is
+//! refused goes to standard error, and then the exit status is 1, as if the attribute is
 //! refused, the input cannot be read, or it ends inside a header. Lines keep the order of the input,
 //! which need not be that of time. The only word is `--help`, which prints the usage; other words
 //! have the status 2.

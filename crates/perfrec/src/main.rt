@@ -69,7 +69,7 @@ fn reason(outcome: Outcome, with_attr: bool) -> Option<&'static str> {
     }
 }
 
-// The words behind the program's name.
+// The words after the program's name.
 fn words_of(rt: &HostRuntime) -> io::Result<Vec<String>> {
     let words = env::args(rt)?.skip(1).collect(rt.alloc())?;
     Ok(words)
