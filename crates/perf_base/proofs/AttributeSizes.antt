@@ -71,8 +71,8 @@ third len (x ∷ []) h = tt
 third len (x ∷ y ∷ []) h = tt
 third len (x ∷ y ∷ takes s n shape ∷ xs) h = tt
 third len (x ∷ y ∷ holds s t e ∷ xs) h =
-    let behind = first (stands len x) (first_refusal len (y ∷ holds s t e ∷ xs)) (spot_kind x) h in
-    let next = first (stands len y) (first_refusal len (holds s t e ∷ xs)) (spot_kind y) behind.1 in
+    let after = first (stands len x) (first_refusal len (y ∷ holds s t e ∷ xs)) (spot_kind x) h in
+    let next = first (stands len y) (first_refusal len (holds s t e ∷ xs)) (spot_kind y) after.1 in
     (first t (first_refusal len xs) e next.1).0
 
 -- An attribute that was read ends where its size says.

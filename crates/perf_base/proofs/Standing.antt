@@ -17,7 +17,7 @@ onwards : {A : Type 0} (o : Order) (body : List ℕ) (s : ℕ) (p : Parts A) →
 onwards o body s (done v) = omega arith
 onwards o body s (part shape k) =
     let n : ℕ = size shape (length body - s) in
-    let behind : s + n ≤ ending o body (s + n) (k (answer_of o shape (slice body s n))) = onwards o body (s + n) (k (answer_of o shape (slice body s n))) in
+    let after : s + n ≤ ending o body (s + n) (k (answer_of o shape (slice body s n))) = onwards o body (s + n) (k (answer_of o shape (slice body s n))) in
     omega arith
 onwards o body s (check t e p) = onwards o body s p
 

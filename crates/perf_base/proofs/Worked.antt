@@ -23,9 +23,9 @@ sixty_four_bytes = refl
 sixty_four_end : ending little (sized 64 ++ zeros 100) 0 attribute ≡ 64
 sixty_four_end = refl
 
-config2_is_behind_the_first_sixty_four :
+config2_is_after_the_first_sixty_four :
     layout little (mapped (λ a. a.config2 ∷ a.branch_sample_type ∷ []) attribute) (sized 72 ++ zeros 56 ++ 7 ∷ zeros 7) ≡ Ok (7 ∷ 0 ∷ [])
-config2_is_behind_the_first_sixty_four = refl
+config2_is_after_the_first_sixty_four = refl
 
 one_byte_short : layout little attribute (sized 72 ++ zeros 63) ≡ Err Eof
 one_byte_short = refl
@@ -34,15 +34,15 @@ no_such_size : layout little attribute (sized 100 ++ zeros 100) ≡ Err InvalidR
 no_such_size = refl
 
 -- the fields between 80 and 136, each set by one byte
-abbrev behind_eighty : List ℕ
-behind_eighty =
+abbrev after_eighty : List ℕ
+after_eighty =
     (1 ∷ zeros 7) ++ (2 ∷ zeros 7) ++ (3 ∷ zeros 3) ++ (255 ∷ 255 ∷ 255 ∷ 255 ∷ []) ++ (4 ∷ zeros 7)
     ++ (5 ∷ zeros 3) ++ (6 ∷ 0 ∷ []) ++ (9 ∷ 9 ∷ []) ++ (7 ∷ zeros 3) ++ (9 ∷ 9 ∷ 9 ∷ 9 ∷ []) ++ (8 ∷ zeros 7) ++ (10 ∷ zeros 7)
 
-all_fields_behind_eighty :
+all_fields_after_eighty :
     layout little (mapped (λ a. a.branch_sample_type ∷ a.sample_regs_user ∷ a.sample_stack_user ∷ a.sample_regs_intr ∷ a.aux_watermark ∷ a.sample_max_stack ∷ a.aux_sample_size ∷ a.sig_data ∷ a.config3 ∷ []) attribute)
-    (sized 136 ++ zeros 64 ++ behind_eighty) ≡ Ok (1 ∷ 2 ∷ 3 ∷ 4 ∷ 5 ∷ 6 ∷ 7 ∷ 8 ∷ 10 ∷ [])
-all_fields_behind_eighty = refl
+    (sized 136 ++ zeros 64 ++ after_eighty) ≡ Ok (1 ∷ 2 ∷ 3 ∷ 4 ∷ 5 ∷ 6 ∷ 7 ∷ 8 ∷ 10 ∷ [])
+all_fields_after_eighty = refl
 
 a_newer_kernels_zero : layout little (mapped (λ a. a.size) attribute) (sized 137 ++ zeros 129) ≡ Ok 137
 a_newer_kernels_zero = refl

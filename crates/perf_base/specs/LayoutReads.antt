@@ -43,9 +43,9 @@ consumed len at (takes s n shape ∷ xs) =
 consumed len at (holds s t e ∷ xs) = elim t [ true ↦ consumed len s xs | false ↦ s ]
 
 -- one if there was a refusal
-abbrev pub one_if_refusal : Option ErrorKind → ℕ
-one_if_refusal None = 0
-one_if_refusal (Some e) = 1
+abbrev pub one_if_refused : Option ErrorKind → ℕ
+one_if_refused None = 0
+one_if_refused (Some e) = 1
 
 -- how many reads a layout takes
 abbrev pub layout_reads : {A : Type 0} → Order → Parts A → List ℕ → ℕ

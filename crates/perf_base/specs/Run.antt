@@ -40,15 +40,15 @@ run_parts o (check t e p) bytes = elim t [ true ↦ run_parts o p bytes | false 
 -- ---- by offsets
 
 -- what remains after a part that fails: nothing, or for a check the bytes at its offset
-abbrev pub behind : List ℕ → Spot → List ℕ
-behind body (takes s n shape) = []
-behind body (holds s t e) = drop s body
+abbrev pub after : List ℕ → Spot → List ℕ
+after body (takes s n shape) = []
+after body (holds s t e) = drop s body
 
 -- what remains after the first that fails
 abbrev pub left_at : List ℕ → List Spot → List ℕ
 left_at body [] = []
 left_at body (x ∷ xs) =
-    elim (stands (length body) x) [ true ↦ left_at body xs | false ↦ behind body x ]
+    elim (stands (length body) x) [ true ↦ left_at body xs | false ↦ after body x ]
 
 -- the layout from offset s on, and what it leaves
 abbrev pub judged : {A : Type 0} → Order → List ℕ → ℕ → Parts A → Ran A

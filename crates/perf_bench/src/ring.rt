@@ -31,27 +31,27 @@ impl PartialVisitor for Numbers {
         digest.sum
     }
 
-    fn visit_sample(self, held: Sample<'_>, metadata: RecordMetadata) -> Self::Output {
+    fn visit_sample(self, content: Sample<'_>, metadata: RecordMetadata) -> Self::Output {
         let mut digest = Digest::new();
-        digest.sample(&held);
+        digest.sample(&content);
         digest.metadata(&metadata);
-        drop(held);
+        drop(content);
         digest.sum
     }
 
-    fn visit_mmap2(self, held: Mmap2<'_>, metadata: RecordMetadata) -> Self::Output {
+    fn visit_mmap2(self, content: Mmap2<'_>, metadata: RecordMetadata) -> Self::Output {
         let mut digest = Digest::new();
-        digest.mmap2(&held);
+        digest.mmap2(&content);
         digest.metadata(&metadata);
-        drop(held);
+        drop(content);
         digest.sum
     }
 
-    fn visit_comm(self, held: Comm<'_>, metadata: RecordMetadata) -> Self::Output {
+    fn visit_comm(self, content: Comm<'_>, metadata: RecordMetadata) -> Self::Output {
         let mut digest = Digest::new();
-        digest.comm(&held);
+        digest.comm(&content);
         digest.metadata(&metadata);
-        drop(held);
+        drop(content);
         digest.sum
     }
 }

@@ -2,4 +2,4 @@ pub mod Taking
 pub mod Options
 pub mod Hints
 pub mod Chunks
-pub mod Behind
+pub mod After

@@ -48,8 +48,8 @@ takes_moves a b n p =
 
 -- some bytes, and then others
 pub zero_on : (a n : ℕ) (left rest : List ℕ) (was more now : Bool) → rest ≡ drop a left → was ≡ all_zero (take a left) → more ≡ all_zero (take n rest) → now ≡ (was && more) → now ≡ all_zero (take (a + n) left)
-zero_on a n left rest was more now behind p q r =
-    r ∙ rw (p, q, behind) refl ∙ sym (list_all-append (λ byte. byte == 0) (take a left) (take n (drop a left))) ∙ ap all_zero (sym (take-add a n left))
+zero_on a n left rest was more now after p q r =
+    r ∙ rw (p, q, after) refl ∙ sym (list_all-append (λ byte. byte == 0) (take a left) (take n (drop a left))) ∙ ap all_zero (sym (take-add a n left))
 
 -- all that was left was taken
 pub took_everything : (a b : Source) (first : List ℕ) → Takes a (length first) b → first ≡ a.left → b.left ≡ []

@@ -33,15 +33,15 @@ chunk_bytes (chunk.Temporary bytes) = bytes.now
 chunk_bytes (chunk.External bytes) = bytes.now
 
 -- it lives as long as the input
-abbrev pub lasts : ParseBufChunk → Bool
-lasts (chunk.Temporary bytes) = false
-lasts (chunk.External bytes) = true
+abbrev pub chunk_is_borrowed : ParseBufChunk → Bool
+chunk_is_borrowed (chunk.Temporary bytes) = false
+chunk_is_borrowed (chunk.External bytes) = true
 
 -- A chunk is a non-empty prefix of what is left; of a whole buffer it is borrowed, and all of it.
 abbrev pub Shows : Source → ParseBufChunk → Type 0
 Shows old c =
     (0 < length (chunk_bytes c)) × (IsTrue old.told → StartsWith old.left (chunk_bytes c))
-    × (IsTrue old.whole → (chunk_bytes c ≡ old.left) × IsTrue (lasts c) × IsTrue old.told)
+    × (IsTrue old.whole → (chunk_bytes c ≡ old.left) × IsTrue (chunk_is_borrowed c) × IsTrue old.told)
 
 -- Bytes that are ready are shown again, until `advance` takes them.
 abbrev pub ShowsReady : List ℕ → Result ParseBufChunk ParseError → Type 0

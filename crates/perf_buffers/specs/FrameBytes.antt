@@ -10,9 +10,9 @@ use Rattle.perf_buffers.specs.declared.frame_reader.Found.TheVariants as found
 abbrev pub GivesNextBytes : {S O : Type 0} → (List ℕ → Bool → S → O → S → Type 0) → Source → ℕ →
     S → O → Source → S → Type 0
 GivesNextBytes gives old n was output new now =
-    (bytes : List ℕ) × (lasting : Bool) × gives bytes lasting was output now × (length bytes ≡ n)
+    (bytes : List ℕ) × (borrowed : Bool) × gives bytes borrowed was output now × (length bytes ≡ n)
     × (IsTrue old.told → Takes old n new × (bytes ≡ take n old.left))
-    × (IsTrue old.whole → IsTrue lasting)
+    × (IsTrue old.whole → IsTrue borrowed)
 
 -- the next n bytes were taken, or nothing was
 abbrev pub TakesOrLeaves : Source → ℕ → Option (List ℕ) → Source → Type 0

@@ -4,4 +4,4 @@ pub mod Cursor
 pub mod Room
 pub mod Pieces
 pub mod FrameBytes
-pub mod Words
+pub mod Prelude

@@ -12,8 +12,8 @@ abbrev pub piece_most : PieceBuf → ℕ
 piece_most b = b.most
 
 -- whether its pieces live as long as the input
-abbrev pub piece_lasting : PieceBuf → Bool
-piece_lasting b = b.lasting
+abbrev pub piece_borrowed : PieceBuf → Bool
+piece_borrowed b = b.borrowed
 
 -- its state as a buffer: known bytes, which come in pieces and without faults
 abbrev pub piece_source : PieceBuf → Source

@@ -68,10 +68,10 @@ TakesAtOnce old n false out new = new.left ≡ old.left
 
 -- What a refused copy of n bytes from a place on took: all, if there are too few; nothing, if out
 -- of memory.
-abbrev pub FailsBehind : ErrorKind → ℕ → List ℕ → (old new : ℕ) → Type 0
-FailsBehind Eof n bytes old new = (length (drop old bytes) < n) × (drop new bytes ≡ [])
-FailsBehind External n bytes old new = ⊥
-FailsBehind InvalidRecord n bytes old new = ⊥
-FailsBehind UnsupportedConfig n bytes old new = ⊥
-FailsBehind UnsupportedData n bytes old new = ⊥
-FailsBehind OutOfMemory n bytes old new = new ≡ old
+abbrev pub FailsAfter : ErrorKind → ℕ → List ℕ → (old new : ℕ) → Type 0
+FailsAfter Eof n bytes old new = (length (drop old bytes) < n) × (drop new bytes ≡ [])
+FailsAfter External n bytes old new = ⊥
+FailsAfter InvalidRecord n bytes old new = ⊥
+FailsAfter UnsupportedConfig n bytes old new = ⊥
+FailsAfter UnsupportedData n bytes old new = ⊥
+FailsAfter OutOfMemory n bytes old new = new ≡ old

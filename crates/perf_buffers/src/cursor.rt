@@ -2,12 +2,12 @@
 
 ghost use Rattle.std.specs.Prelude.{◌≡◌, ◌-◌, ◌≤◌, ◌↔◌, true, false, None, Some, [], length};
 ghost use Rattle.std.specs.Prelude.{take, drop, IsTrue, IsOk, IfOk, IfErr, MatchOption};
-ghost use Rattle.perf_buffers.specs.Words.{cow_items, is_borrowed, kind_of, refusal, Stays};
-ghost use Rattle.perf_buffers.specs.Words.{CanFail, Takes, FailsToKeep, NeedsNoMemory};
-ghost use Rattle.perf_buffers.specs.Words as words;
+ghost use Rattle.perf_buffers.specs.Prelude.{cow_items, is_borrowed, kind_of, refusal, Stays};
+ghost use Rattle.perf_buffers.specs.Prelude.{CanFail, Takes, FailsToKeep, NeedsNoMemory};
+ghost use Rattle.perf_buffers.specs.Prelude as words;
 
 use crate::cut::cut;
-use crate::frame_input::behind;
+use crate::frame_input::after;
 use crate::parsebuf::{ParseBuf, ParseBufChunk};
 use perf_base::cow::CowSlice;
 use perf_base::error::{ErrorKind, ParseError, ParseResult};
@@ -15,8 +15,8 @@ use perf_base::refusal::Kept;
 use std::alloc::Global;
 
 #[derive(Debug, Drop)]
-pub(crate) enum Held<'p> {
-    Lent(&'p [u8]),
+pub(crate) enum Content<'p> {
+    Borrowed(&'p [u8]),
     // The bytes, and how many of them were taken.
     Own(Vec<u8>, usize),
 }
@@ -24,7 +24,7 @@ pub(crate) enum Held<'p> {
 /// The bytes of one frame: borrowed from the input, or owned.
 #[derive(Debug, Drop)]
 pub struct ParseBufCursor<'p> {
-    pub(crate) held: Held<'p>,
+    pub(crate) content: Content<'p>,
 }
 
 impl<'p> ParseBufCursor<'p> {
@@ -32,28 +32,28 @@ impl<'p> ParseBufCursor<'p> {
     #[inline]
     pub(crate) fn lent(bytes: &'p [u8]) -> ParseBufCursor<'p>
         ensures left { words.cursor_left result ≡ bytes.now }
-        ensures form { words.cursor_lent result ≡ true }
+        ensures form { words.cursor_is_borrowed result ≡ true }
         ensures start { words.IsAtStart result }
     {
         ParseBufCursor {
-            held: Held::Lent(bytes),
+            content: Content::Borrowed(bytes),
         }
     }
 
     #[inline]
     pub(crate) fn rest(&self) -> &[u8]
-        ensures { result.now ≡ words.held_left self.now.held }
+        ensures { result.now ≡ words.content_left self.now.content }
     {
-        match &self.held {
-            Held::Lent(bytes) => bytes,
-            Held::Own(bytes, place) => behind(bytes, *place),
+        match &self.content {
+            Content::Borrowed(bytes) => bytes,
+            Content::Own(bytes, place) => after(bytes, *place),
         }
     }
 
     /// The number of bytes left.
     #[inline]
     pub fn len(&self) -> usize
-        ensures { result ≡ length (words.held_left self.now.held) }
+        ensures { result ≡ length (words.content_left self.now.content) }
     {
         self.rest().len()
     }
@@ -61,7 +61,7 @@ impl<'p> ParseBufCursor<'p> {
     /// Whether no bytes are left.
     #[inline]
     pub fn is_empty(&self) -> bool
-        ensures { IsTrue result ↔ (words.held_left self.now.held ≡ []) }
+        ensures { IsTrue result ↔ (words.content_left self.now.content ≡ []) }
     {
         self.rest().is_empty()
     }
@@ -69,9 +69,9 @@ impl<'p> ParseBufCursor<'p> {
     /// The last `count` bytes that are left.
     #[inline]
     pub fn last(&self, count: usize) -> &[u8]
-        requires { count ≤ length (words.held_left self.now.held) }
+        requires { count ≤ length (words.content_left self.now.content) }
         ensures { result.now ≡
-            drop (length (words.held_left self.now.held) - count) (words.held_left self.now.held) }
+            drop (length (words.content_left self.now.content) - count) (words.content_left self.now.content) }
     {
         let bytes = self.rest();
         &bytes[bytes.len() - count..]
@@ -80,55 +80,55 @@ impl<'p> ParseBufCursor<'p> {
     /// Drops the last `count` bytes that are left.
     #[inline]
     pub fn drop_last(&mut self, count: usize)
-        requires { count ≤ length (words.held_left self.old.held) }
-        ensures left { words.held_left self.new.held ≡
-            take (length (words.held_left self.old.held) - count) (words.held_left self.old.held) }
-        ensures form { words.is_lent self.new.held ≡ words.is_lent self.old.held }
+        requires { count ≤ length (words.content_left self.old.content) }
+        ensures left { words.content_left self.new.content ≡
+            take (length (words.content_left self.old.content) - count) (words.content_left self.old.content) }
+        ensures form { words.content_is_borrowed self.new.content ≡ words.content_is_borrowed self.old.content }
     {
-        match &mut self.held {
-            Held::Lent(bytes) => *bytes = &bytes[..bytes.len() - count],
-            Held::Own(bytes, _) => bytes.truncate(bytes.len() - count),
+        match &mut self.content {
+            Content::Borrowed(bytes) => *bytes = &bytes[..bytes.len() - count],
+            Content::Own(bytes, _) => bytes.truncate(bytes.len() - count),
         }
     }
 
     /// The bytes. None of them has been taken yet.
     #[inline]
     pub fn into_bytes(self) -> CowSlice<'p, u8>
-        requires { words.is_at_start self.held }
-        ensures items { cow_items result ≡ words.held_left self.entry.held }
-        ensures form { is_borrowed result ≡ words.is_lent self.entry.held }
+        requires { words.ContentIsAtStart self.content }
+        ensures items { cow_items result ≡ words.content_left self.entry.content }
+        ensures form { is_borrowed result ≡ words.content_is_borrowed self.entry.content }
     {
-        match self.held {
-            Held::Lent(bytes) => CowSlice::Borrowed(bytes),
-            Held::Own(bytes, _) => CowSlice::Owned(bytes),
+        match self.content {
+            Content::Borrowed(bytes) => CowSlice::Borrowed(bytes),
+            Content::Own(bytes, _) => CowSlice::Owned(bytes),
         }
     }
 
     /// The bytes that are left, if they are borrowed.
     #[inline]
     pub fn as_slice(&self) -> Option<&'p [u8]>
-        ensures { MatchOption result (words.cursor_lent self.now ≡ false)
-            (λ s. IsTrue (words.cursor_lent self.now) × (s.now ≡ words.cursor_left self.now)) }
+        ensures { MatchOption result (words.cursor_is_borrowed self.now ≡ false)
+            (λ s. IsTrue (words.cursor_is_borrowed self.now) × (s.now ≡ words.cursor_left self.now)) }
     {
-        match &self.held {
-            Held::Lent(bytes) => Some(*bytes),
-            Held::Own(_, _) => None,
+        match &self.content {
+            Content::Borrowed(bytes) => Some(*bytes),
+            Content::Own(_, _) => None,
         }
     }
 }
 
 impl<'p> ParseBuf<'p> for ParseBufCursor<'p> {
     ghost source = { λ c. record {
-      left = words.held_left c.held;
+      left = words.content_left c.content;
       told = true;
-      whole = words.is_lent c.held;
+      whole = words.content_is_borrowed c.content;
       can_fault = false;
       faults = None;
     } };
 
-    ghost ready = { λ c. words.held_left c.held };
+    ghost ready = { λ c. words.content_left c.content };
 
-    ghost hint = { λ c. Some (length (words.held_left c.held)) };
+    ghost hint = { λ c. Some (length (words.content_left c.content)) };
 
     #[inline]
     fn chunk(&mut self) -> ParseResult<ParseBufChunk<'_, 'p>> {
@@ -143,9 +143,9 @@ impl<'p> ParseBuf<'p> for ParseBufCursor<'p> {
 
     #[inline]
     fn advance(&mut self, count: usize) {
-        match &mut self.held {
-            Held::Lent(bytes) => *bytes = &bytes[count..],
-            Held::Own(_, place) => *place += count,
+        match &mut self.content {
+            Content::Borrowed(bytes) => *bytes = &bytes[count..],
+            Content::Own(_, place) => *place += count,
         }
     }
 
@@ -174,9 +174,9 @@ impl<'p> ParseBufCursor<'p> {
 
         // Bytes of a whole buffer are borrowed, and zero bytes never fail: neither needs memory.
         ensures whole { IsTrue (B.source buf.old).whole →
-            IfOk result (λ c. IsTrue (words.cursor_lent c)) }
+            IfOk result (λ c. IsTrue (words.cursor_is_borrowed c)) }
         ensures whole_memory { IsTrue (B.source buf.old).whole → NeedsNoMemory result }
-        ensures nothing { len ≡ 0 → IfOk result (λ c. IsTrue (words.cursor_lent c)) × IsOk result
+        ensures nothing { len ≡ 0 → IfOk result (λ c. IsTrue (words.cursor_is_borrowed c)) × IsOk result
             × (B.source buf.new ≡ B.source buf.old) }
 
         // Nothing is allocated if the buffer reports that it has too few bytes. Otherwise all

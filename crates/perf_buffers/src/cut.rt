@@ -2,11 +2,11 @@
 
 ghost use Rattle.std.specs.Prelude.{◌≡◌, ◌≢◌, ◌<◌, ◌≤◌, true, Some, length, take};
 ghost use Rattle.std.specs.Prelude.{IsTrue, IsOk, OnOk, IfOk, IfErr, IfSome, MatchOption};
-ghost use Rattle.perf_buffers.specs.Words.{kind_of, refusal_kind, refused, kinds, refusal, Stays};
-ghost use Rattle.perf_buffers.specs.Words.{CanFail, Takes, FailsToTake, FailsToKeep};
-ghost use Rattle.perf_buffers.specs.Words as words;
+ghost use Rattle.perf_buffers.specs.Prelude.{kind_of, refusal_kind, refused, kinds, refusal, Stays};
+ghost use Rattle.perf_buffers.specs.Prelude.{CanFail, Takes, FailsToTake, FailsToKeep};
+ghost use Rattle.perf_buffers.specs.Prelude as words;
 
-use crate::cursor::{Held, ParseBufCursor};
+use crate::cursor::{Content, ParseBufCursor};
 use crate::fill::append;
 use crate::parsebuf::{ParseBuf, ParseBufChunk};
 use perf_base::error::{ErrorKind, ParseError, ParseResult};
@@ -24,23 +24,23 @@ fn cut_at_once<'p, B: ParseBuf<'p>>(
     buf: &mut B,
     kept: &mut Kept,
     len: usize,
-) -> ReadResult<Option<Held<'p>>>
+) -> ReadResult<Option<Content<'p>>>
     requires { 0 < len }
     ensures stays { Stays (B.source buf.old) (refused (kinds result)) (B.source buf.new) }
     ensures can_fail { CanFail (B.source buf.old) (refused (kinds result)) }
     ensures whole { IsTrue (B.source buf.old).whole → IfOk result (λ o. MatchOption o
         (IsTrue (B.source buf.old).told × (length (B.source buf.old).left < len))
-        (λ held. IsTrue (words.is_lent held))) }
+        (λ content. IsTrue (words.content_is_borrowed content))) }
     ensures whole_memory { IsTrue (B.source buf.old).whole → words.TakesNoMemory (kinds result) }
     ensures beforehand { IsTrue (B.source buf.old).told → IfErr result (λ e.
         refusal_kind e ≡ ErrorKind.OutOfMemory →
         (B.source buf.new).left ≡ (B.source buf.old).left) }
-    ensures count { IfOk result (λ o. IfSome o (λ held. length (words.held_left held) ≡ len)) }
-    ensures start { IfOk result (λ o. IfSome o (λ held. words.is_at_start held)) }
+    ensures count { IfOk result (λ o. IfSome o (λ content. length (words.content_left content) ≡ len)) }
+    ensures start { IfOk result (λ o. IfSome o (λ content. words.ContentIsAtStart content)) }
     ensures ok { IsTrue (B.source buf.old).told → IfOk result (λ o. MatchOption o
         ((B.source buf.new).left ≡ (B.source buf.old).left)
-        (λ held. Takes (B.source buf.old) len (B.source buf.new)
-        × (words.held_left held ≡ take len (B.source buf.old).left))) }
+        (λ content. Takes (B.source buf.old) len (B.source buf.new)
+        × (words.content_left content ≡ take len (B.source buf.old).left))) }
     ensures err { IsTrue (B.source buf.old).told → IfErr result (λ e.
         FailsToKeep (B.source buf.old) len (refusal_kind e) (B.source buf.new)) }
 {
@@ -51,15 +51,15 @@ fn cut_at_once<'p, B: ParseBuf<'p>>(
     if chunk.as_bytes().len() < len {
         return Ok(None);
     }
-    let held = match chunk {
-        ParseBufChunk::External(bytes) => Held::Lent(&bytes[..len]),
+    let content = match chunk {
+        ParseBufChunk::External(bytes) => Content::Borrowed(&bytes[..len]),
         ParseBufChunk::Temporary(bytes) => match Vec::from_slice(alloc, &bytes[..len]) {
-            Ok(bytes) => Held::Own(bytes, 0),
+            Ok(bytes) => Content::Own(bytes, 0),
             Err(_) => return Err(Refusal::OutOfMemory),
         },
     };
     buf.advance(len);
-    Ok(Some(held))
+    Ok(Some(content))
 }
 
 // Takes what one chunk has, at most `len` bytes, and keeps none of them.
@@ -204,17 +204,17 @@ fn cut_slowly<'p, B: ParseBuf<'p>>(
     ensures beforehand { IsTrue (B.source buf.old).told → words.makes_all_room hinted len ≡ true →
         IfErr result (λ e. refusal_kind e ≡ ErrorKind.OutOfMemory →
         (B.source buf.new).left ≡ (B.source buf.old).left) }
-    ensures count { IfOk result (λ c. length (words.held_left c.held) ≡ len) }
-    ensures start { IfOk result (λ c. words.is_at_start c.held) }
+    ensures count { IfOk result (λ c. length (words.content_left c.content) ≡ len) }
+    ensures start { IfOk result (λ c. words.ContentIsAtStart c.content) }
     ensures ok { IsTrue (B.source buf.old).told → IfOk result (λ c.
         Takes (B.source buf.old) len (B.source buf.new)
-        × (words.held_left c.held ≡ take len (B.source buf.old).left)) }
+        × (words.content_left c.content ≡ take len (B.source buf.old).left)) }
     ensures err { IsTrue (B.source buf.old).told → IfErr result (λ e.
         FailsToKeep (B.source buf.old) len (refusal_kind e) (B.source buf.new)) }
 {
     match copy(alloc, buf, len, hinted) {
         Ok(bytes) => Ok(ParseBufCursor {
-            held: Held::Own(bytes, 0),
+            content: Content::Own(bytes, 0),
         }),
         Err(error) => Err(kept.keep(error)),
     }
@@ -231,9 +231,9 @@ pub(crate) fn cut<'p, B: ParseBuf<'p>>(
     ensures stays { Stays (B.source buf.old) (refused (kinds result)) (B.source buf.new) }
     ensures can_fail { CanFail (B.source buf.old) (refused (kinds result)) }
     ensures whole { IsTrue (B.source buf.old).whole →
-        IfOk result (λ c. IsTrue (words.is_lent c.held)) }
+        IfOk result (λ c. IsTrue (words.content_is_borrowed c.content)) }
     ensures whole_memory { IsTrue (B.source buf.old).whole → words.TakesNoMemory (kinds result) }
-    ensures nothing { len ≡ 0 → IfOk result (λ c. IsTrue (words.is_lent c.held)) × IsOk result
+    ensures nothing { len ≡ 0 → IfOk result (λ c. IsTrue (words.content_is_borrowed c.content)) × IsOk result
         × (B.source buf.new ≡ B.source buf.old) }
     ensures short { words.falls_short (B.hint buf.old) len ≡ true →
         words.TakesNoMemory (kinds result) × IfOk result (λ c. ⊥) }
@@ -243,15 +243,15 @@ pub(crate) fn cut<'p, B: ParseBuf<'p>>(
         (B.source buf.new).left ≡ (B.source buf.old).left) }
     ensures ok { IsTrue (B.source buf.old).told → IfOk result (λ c.
         Takes (B.source buf.old) len (B.source buf.new)
-        × (words.held_left c.held ≡ take len (B.source buf.old).left)) }
-    ensures start { IfOk result (λ c. words.is_at_start c.held) }
-    ensures count { IfOk result (λ c. length (words.held_left c.held) ≡ len) }
+        × (words.content_left c.content ≡ take len (B.source buf.old).left)) }
+    ensures start { IfOk result (λ c. words.ContentIsAtStart c.content) }
+    ensures count { IfOk result (λ c. length (words.content_left c.content) ≡ len) }
     ensures err { IsTrue (B.source buf.old).told → IfErr result (λ e.
         FailsToKeep (B.source buf.old) len (refusal_kind e) (B.source buf.new)) }
 {
     if len == 0 {
         return Ok(ParseBufCursor {
-            held: Held::Lent(&[]),
+            content: Content::Borrowed(&[]),
         });
     }
     let hint = buf.remaining_hint();
@@ -259,7 +259,7 @@ pub(crate) fn cut<'p, B: ParseBuf<'p>>(
         return Err(shortage(buf, kept, len));
     }
     match cut_at_once(alloc, buf, kept, len) {
-        Ok(Some(held)) => Ok(ParseBufCursor { held }),
+        Ok(Some(content)) => Ok(ParseBufCursor { content }),
         Ok(None) => cut_slowly(alloc, buf, kept, len, hint.is_some()),
         Err(refusal) => Err(refusal),
     }

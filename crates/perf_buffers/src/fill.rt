@@ -3,9 +3,9 @@
 
 ghost use Rattle.std.specs.Prelude.{◌≡◌, ◌+◌, ◌<◌, ◌≤◌, [], ◌++◌, length, take, OnOk, IfOk, IfErr};
 ghost use Rattle.std.specs.Prelude.{IsTrue, vec_len, vec_capacity};
-ghost use Rattle.perf_buffers.specs.Words.{kind_of, refusal_kind, kinds, refused, refusal, Stays};
-ghost use Rattle.perf_buffers.specs.Words.{CanFail, Takes, TakesAtOnce, FailsToTake, FailsToKeep};
-ghost use Rattle.perf_buffers.specs.Words.{NeedsNoMemory, TakesNoMemory};
+ghost use Rattle.perf_buffers.specs.Prelude.{kind_of, refusal_kind, kinds, refused, refusal, Stays};
+ghost use Rattle.perf_buffers.specs.Prelude.{CanFail, Takes, TakesAtOnce, FailsToTake, FailsToKeep};
+ghost use Rattle.perf_buffers.specs.Prelude.{NeedsNoMemory, TakesNoMemory};
 
 use crate::parsebuf::ParseBuf;
 use perf_base::error::{ErrorKind, ParseError, ParseResult};

@@ -2,10 +2,10 @@
 
 ghost use Rattle.std.specs.Prelude.{◌≡◌, ◌<◌, ◌≤◌, [], length, take, drop, true, false, Some, None};
 ghost use Rattle.std.specs.Prelude.{IfOk, IfErr};
-ghost use Rattle.perf_buffers.specs.Words.{refusal_kind, kinds, TakesNoMemory, Eof, OutOfMemory};
-ghost use Rattle.perf_buffers.specs.Words.{held_left, is_lent, FailsBehind};
+ghost use Rattle.perf_buffers.specs.Prelude.{refusal_kind, kinds, TakesNoMemory, Eof, OutOfMemory};
+ghost use Rattle.perf_buffers.specs.Prelude.{content_left, content_is_borrowed, FailsAfter};
 
-use crate::cursor::{Held, ParseBufCursor};
+use crate::cursor::{Content, ParseBufCursor};
 use crate::input::Input;
 use crate::zeros::is_zero;
 use perf_base::cow::CowSlice;
@@ -15,7 +15,7 @@ use std::mem;
 
 // The bytes from a place on.
 #[inline]
-pub(crate) fn behind(bytes: &[u8], place: usize) -> &[u8]
+pub(crate) fn after(bytes: &[u8], place: usize) -> &[u8]
     ensures { result.now ≡ drop place bytes.now }
 {
     if place < bytes.len() {
@@ -27,14 +27,14 @@ pub(crate) fn behind(bytes: &[u8], place: usize) -> &[u8]
 
 // The next `len` bytes from a place on. If there are fewer, all of them are taken.
 #[inline]
-fn take_behind<'a>(bytes: &'a [u8], place: &mut usize, len: usize) -> ReadResult<&'a [u8]>
+fn take_after<'a>(bytes: &'a [u8], place: &mut usize, len: usize) -> ReadResult<&'a [u8]>
     ensures ok { IfOk result (λ next. (len ≤ length (drop place.old bytes.now))
         × (next.now ≡ take len (drop place.old bytes.now))
         × (drop place.new bytes.now ≡ drop len (drop place.old bytes.now))) }
     ensures err { IfErr result (λ e. (refusal_kind e ≡ Eof)
         × (length (drop place.old bytes.now) < len) × (drop place.new bytes.now ≡ [])) }
 {
-    let left = behind(bytes, *place);
+    let left = after(bytes, *place);
     if left.len() < len {
         *place = bytes.len();
         return Err(Refusal::Eof);
@@ -44,16 +44,16 @@ fn take_behind<'a>(bytes: &'a [u8], place: &mut usize, len: usize) -> ReadResult
 }
 
 // The same, copied. If out of memory, nothing is taken.
-fn copy_behind(alloc: Global, bytes: &[u8], place: &mut usize, len: usize) -> ReadResult<Vec<u8>>
+fn copy_after(alloc: Global, bytes: &[u8], place: &mut usize, len: usize) -> ReadResult<Vec<u8>>
     ensures short { length (drop place.old bytes.now) < len → TakesNoMemory (kinds result) }
     ensures ok { IfOk result (λ next. (len ≤ length (drop place.old bytes.now))
         × (next.items ≡ take len (drop place.old bytes.now))
         × (drop place.new bytes.now ≡ drop len (drop place.old bytes.now))) }
     ensures err { IfErr
-        result (λ e. FailsBehind (refusal_kind e) len bytes.now place.old place.new) }
+        result (λ e. FailsAfter (refusal_kind e) len bytes.now place.old place.new) }
 {
     let from = *place;
-    let next = take_behind(bytes, place, len)?;
+    let next = take_after(bytes, place, len)?;
     match next.to_vec(alloc) {
         Ok(copy) => Ok(copy),
         Err(_) => {
@@ -73,7 +73,7 @@ fn take_all(alloc: Global, bytes: &mut Vec<u8>, place: &mut usize) -> ReadResult
     if *place == 0 {
         return Ok(mem::replace(bytes, Vec::new(alloc)));
     }
-    match behind(bytes, *place).to_vec(alloc) {
+    match after(bytes, *place).to_vec(alloc) {
         Ok(rest) => {
             *place = bytes.len();
             Ok(rest)
@@ -84,21 +84,21 @@ fn take_all(alloc: Global, bytes: &mut Vec<u8>, place: &mut usize) -> ReadResult
 
 impl<'p> Input<'p> for ParseBufCursor<'p> {
     ghost source = { λ c. record {
-      left = held_left c.held;
+      left = content_left c.content;
       told = true;
-      whole = is_lent c.held;
+      whole = content_is_borrowed c.content;
       can_fault = false;
       faults = None;
     } };
 
-    ghost hint = { λ c. Some (length (held_left c.held)) };
+    ghost hint = { λ c. Some (length (content_left c.content)) };
 
     #[inline]
     fn fill(&mut self, out: &mut [u8]) -> ReadResult<()> {
-        match &mut self.held {
-            Held::Lent(bytes) => bytes.fill(out),
-            Held::Own(bytes, place) => {
-                let next = take_behind(bytes, place, out.len())?;
+        match &mut self.content {
+            Content::Borrowed(bytes) => bytes.fill(out),
+            Content::Own(bytes, place) => {
+                let next = take_after(bytes, place, out.len())?;
                 out.copy_from_slice(next);
                 Ok(())
             }
@@ -107,10 +107,10 @@ impl<'p> Input<'p> for ParseBufCursor<'p> {
 
     #[inline]
     fn skip(&mut self, len: usize) -> ReadResult<()> {
-        match &mut self.held {
-            Held::Lent(bytes) => bytes.skip(len),
-            Held::Own(bytes, place) => {
-                take_behind(bytes, place, len)?;
+        match &mut self.content {
+            Content::Borrowed(bytes) => bytes.skip(len),
+            Content::Own(bytes, place) => {
+                take_after(bytes, place, len)?;
                 Ok(())
             }
         }
@@ -118,10 +118,10 @@ impl<'p> Input<'p> for ParseBufCursor<'p> {
 
     #[inline]
     fn take_zeros(&mut self, len: usize) -> ReadResult<bool> {
-        match &mut self.held {
-            Held::Lent(bytes) => bytes.take_zeros(len),
-            Held::Own(bytes, place) => {
-                let next = take_behind(bytes, place, len)?;
+        match &mut self.content {
+            Content::Borrowed(bytes) => bytes.take_zeros(len),
+            Content::Own(bytes, place) => {
+                let next = take_after(bytes, place, len)?;
                 Ok(is_zero(next))
             }
         }
@@ -132,9 +132,9 @@ impl<'p> Input<'p> for ParseBufCursor<'p> {
         if self.is_empty() {
             return Ok(CowSlice::Borrowed(&[]));
         }
-        match &mut self.held {
-            Held::Lent(bytes) => bytes.take_rest(alloc),
-            Held::Own(bytes, place) => match take_all(alloc, bytes, place) {
+        match &mut self.content {
+            Content::Borrowed(bytes) => bytes.take_rest(alloc),
+            Content::Own(bytes, place) => match take_all(alloc, bytes, place) {
                 Ok(rest) => Ok(CowSlice::Owned(rest)),
                 Err(refusal) => Err(refusal),
             },
@@ -146,11 +146,11 @@ impl<'p> Input<'p> for ParseBufCursor<'p> {
         if len == 0 {
             return Ok(ParseBufCursor::lent(&[]));
         }
-        match &mut self.held {
-            Held::Lent(bytes) => bytes.cut(alloc, len),
-            Held::Own(bytes, place) => match copy_behind(alloc, bytes, place, len) {
+        match &mut self.content {
+            Content::Borrowed(bytes) => bytes.cut(alloc, len),
+            Content::Own(bytes, place) => match copy_after(alloc, bytes, place, len) {
                 Ok(copy) => Ok(ParseBufCursor {
-                    held: Held::Own(copy, 0),
+                    content: Content::Own(copy, 0),
                 }),
                 Err(refusal) => Err(refusal),
             },

@@ -3,8 +3,8 @@
 ghost use Rattle.std.specs.Prelude.{◌≡◌, ◌<◌, ◌≤◌, ◌*◌, ℕ, Bool, List, length, true, IsTrue};
 ghost use Rattle.std.specs.Prelude.{IfOk, IfErr, OnErr};
 ghost use Rattle.perf_buffers.specs.FrameBytes.{GivesNextBytes, FindsFrame};
-ghost use Rattle.perf_buffers.specs.Words.{chunk_bytes, lasts, kinds, refused, refusal_kind, Stays};
-ghost use Rattle.perf_buffers.specs.Words.{CanFail, TakesNoMemory, FailsToKeep, makes_all_room};
+ghost use Rattle.perf_buffers.specs.Prelude.{chunk_bytes, chunk_is_borrowed, kinds, refused, refusal_kind, Stays};
+ghost use Rattle.perf_buffers.specs.Prelude.{CanFail, TakesNoMemory, FailsToKeep, makes_all_room};
 
 use crate::cut::assemble;
 use crate::parsebuf::{ParseBuf, ParseBufChunk};
@@ -27,7 +27,7 @@ pub trait FrameReader<'p, S>: Drop {
     /// What is made of a frame's bytes.
     fn read(self, state: &mut S, bytes: ParseBufChunk<'_, 'p>) -> Self::Output
         requires { length (chunk_bytes bytes) ≡ len self }
-        ensures { gives self (chunk_bytes bytes.entry) (lasts bytes.entry)
+        ensures { gives self (chunk_bytes bytes.entry) (chunk_is_borrowed bytes.entry)
             state.old result state.new };
 }
 

@@ -6,9 +6,9 @@
 
 ghost use Rattle.std.specs.Prelude.{◌≡◌, ℕ, ◌<◌, ◌≤◌, [], length, take, drop, true, false, Some};
 ghost use Rattle.std.specs.Prelude.{None, Option, IsTrue, IsOk, OnOk, IfOk, IfErr, IfSome};
-ghost use Rattle.perf_buffers.specs.Words.{refusal_kind, kinds, refused, Eof, OutOfMemory, Stays};
-ghost use Rattle.perf_buffers.specs.Words.{CanFail, Takes, FailsToTake, FailsToKeep, TakesNoMemory};
-ghost use Rattle.perf_buffers.specs.Words as words;
+ghost use Rattle.perf_buffers.specs.Prelude.{refusal_kind, kinds, refused, Eof, OutOfMemory, Stays};
+ghost use Rattle.perf_buffers.specs.Prelude.{CanFail, Takes, FailsToTake, FailsToKeep, TakesNoMemory};
+ghost use Rattle.perf_buffers.specs.Prelude as words;
 
 use crate::cursor::ParseBufCursor;
 use crate::zeros::is_zero;
@@ -79,9 +79,9 @@ pub trait Input<'p> {
         ensures stays { Stays (source self.old) (refused (kinds result)) (source self.new) }
         ensures can_fail { CanFail (source self.old) (refused (kinds result)) }
         ensures whole { IsTrue (source self.old).whole →
-            IfOk result (λ c. IsTrue (words.cursor_lent c)) }
+            IfOk result (λ c. IsTrue (words.cursor_is_borrowed c)) }
         ensures whole_memory { IsTrue (source self.old).whole → TakesNoMemory (kinds result) }
-        ensures nothing { len ≡ 0 → IfOk result (λ c. IsTrue (words.cursor_lent c)) × IsOk result
+        ensures nothing { len ≡ 0 → IfOk result (λ c. IsTrue (words.cursor_is_borrowed c)) × IsOk result
             × (source self.new ≡ source self.old) }
         ensures short { words.falls_short (hint self.old) len ≡ true →
             TakesNoMemory (kinds result) × IfOk result (λ c. ⊥) }

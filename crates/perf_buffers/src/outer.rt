@@ -3,8 +3,8 @@
 ghost use Rattle.std.specs.Prelude.{◌≡◌, ◌≤◌, ◌*◌, [], length, true, IsTrue, IsOk, IfOk, IfErr, OnErr};
 ghost use Rattle.perf_base.specs.Refusals.{IsAnswerOf, refusal_kind};
 ghost use Rattle.perf_buffers.specs.FrameBytes.{GivesNextBytes, TakesOrLeaves};
-ghost use Rattle.perf_buffers.specs.Words.{kinds, refused, Stays, Refuses, CanFail, TakesNoMemory};
-ghost use Rattle.perf_buffers.specs.Words.{FailsToKeep, falls_short, is_made_beforehand};
+ghost use Rattle.perf_buffers.specs.Prelude.{kinds, refused, Stays, Refuses, CanFail, TakesNoMemory};
+ghost use Rattle.perf_buffers.specs.Prelude.{FailsToKeep, falls_short, is_made_beforehand};
 
 use crate::cursor::ParseBufCursor;
 use crate::cut::{cut, says_too_few, shortage, skip};

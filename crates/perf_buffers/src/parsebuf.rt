@@ -2,10 +2,10 @@
 
 ghost use Rattle.std.specs.Prelude.{◌≡◌, ℕ, ◌≤◌, true, false, None, Some, IsTrue, List, length, Ok};
 ghost use Rattle.std.specs.Prelude.{Option, IfOk, IfErr, IfSome, ◌<◌, OnOk, IsOk, IsSome, take};
-ghost use Rattle.perf_buffers.specs.Words.{sem, Rests, kind_of, Source, Shows, ShowsReady, Refuses};
-ghost use Rattle.perf_buffers.specs.Words.{KeepsChunk, Advances, chunk_bytes, lasts, known};
-ghost use Rattle.perf_buffers.specs.Words.{is_known};
-ghost use Rattle.perf_buffers.specs.Words.{RefusesReader, reader_remaining, reader_buffer};
+ghost use Rattle.perf_buffers.specs.Prelude.{sem, Rests, kind_of, Source, Shows, ShowsReady, Refuses};
+ghost use Rattle.perf_buffers.specs.Prelude.{KeepsChunk, Advances, chunk_bytes, chunk_is_borrowed, known};
+ghost use Rattle.perf_buffers.specs.Prelude.{is_known};
+ghost use Rattle.perf_buffers.specs.Prelude.{RefusesReader, reader_remaining, reader_buffer};
 
 use perf_base::error::{ErrorKind, ParseError, ParseResult};
 use std::io::{self, BufRead, BufReader, Read};
@@ -36,7 +36,7 @@ impl<'tmp, 'p> ParseBufChunk<'tmp, 'p> {
     pub fn first(self, len: usize) -> ParseBufChunk<'tmp, 'p>
         requires { len ≤ length (chunk_bytes self) }
         ensures bytes { chunk_bytes result ≡ take len (chunk_bytes self.entry) }
-        ensures lasting { lasts result ≡ lasts self.entry }
+        ensures borrowed { chunk_is_borrowed result ≡ chunk_is_borrowed self.entry }
     {
         match self {
             ParseBufChunk::Temporary(bytes) => ParseBufChunk::Temporary(&bytes[..len]),

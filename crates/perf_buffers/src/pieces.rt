@@ -10,26 +10,26 @@ use perf_base::error::{ParseError, ParseResult};
 pub struct PieceBuf<'p> {
     bytes: &'p [u8],
     most: usize,
-    lasting: bool,
+    borrowed: bool,
     ghost positive: { 0 < most },
 }
 
 impl<'p> PieceBuf<'p> {
-    ghost use Rattle.perf_buffers.specs.Buffer.{chunk_bytes, lasts};
-    ghost use Rattle.perf_buffers.specs.Pieces.{piece_bytes, piece_most, piece_lasting};
+    ghost use Rattle.perf_buffers.specs.Buffer.{chunk_bytes, chunk_is_borrowed};
+    ghost use Rattle.perf_buffers.specs.Pieces.{piece_bytes, piece_most, piece_borrowed};
 
-    /// Pieces of at most `most` bytes of the slice. They live as long as the slice if `lasting`,
+    /// Pieces of at most `most` bytes of the slice. They live as long as the slice if `borrowed`,
     /// and otherwise until the buffer advances.
-    pub fn new(bytes: &'p [u8], most: usize, lasting: bool) -> PieceBuf<'p>
+    pub fn new(bytes: &'p [u8], most: usize, borrowed: bool) -> PieceBuf<'p>
         requires { 0 < most }
         ensures bytes { piece_bytes result ≡ bytes.now }
         ensures most { piece_most result ≡ most }
-        ensures lasting { piece_lasting result ≡ lasting }
+        ensures borrowed { piece_borrowed result ≡ borrowed }
     {
         PieceBuf {
             bytes,
             most,
-            lasting,
+            borrowed,
         }
     }
 
@@ -37,11 +37,11 @@ impl<'p> PieceBuf<'p> {
     #[inline]
     fn piece(&self) -> ParseBufChunk<'_, 'p>
         ensures bytes { chunk_bytes result ≡ take (piece_most self.now) (piece_bytes self.now) }
-        ensures lasting { lasts result ≡ piece_lasting self.now }
+        ensures borrowed { chunk_is_borrowed result ≡ piece_borrowed self.now }
     {
         let bytes = self.bytes;
         let piece = &bytes[..self.most.min(bytes.len())];
-        if self.lasting {
+        if self.borrowed {
             ParseBufChunk::External(piece)
         } else {
             ParseBufChunk::Temporary(piece)
@@ -50,9 +50,9 @@ impl<'p> PieceBuf<'p> {
 }
 
 impl<'p> ParseBuf<'p> for PieceBuf<'p> {
-    ghost use Rattle.perf_buffers.specs.Words.{sem, Rests, kind_of, Shows, ShowsReady, Refuses};
-    ghost use Rattle.perf_buffers.specs.Words.{KeepsChunk, lasts};
-    ghost use Rattle.perf_buffers.specs.Pieces.{piece_lasting, piece_source, piece_ready};
+    ghost use Rattle.perf_buffers.specs.Prelude.{sem, Rests, kind_of, Shows, ShowsReady, Refuses};
+    ghost use Rattle.perf_buffers.specs.Prelude.{KeepsChunk, chunk_is_borrowed};
+    ghost use Rattle.perf_buffers.specs.Pieces.{piece_borrowed, piece_source, piece_ready};
     ghost use Rattle.perf_buffers.specs.contracts.pieces.PieceBuf.{the_row};
     ghost use mir.Syntax.{named};
 
@@ -69,7 +69,7 @@ impl<'p> ParseBuf<'p> for PieceBuf<'p> {
         ensures shows { IfOk result (λ c. Shows (piece_source self.old) c) }
         ensures same { ShowsReady (piece_ready self.old) result }
         ensures refuses { IfErr result (λ e. Refuses (piece_source self.old) (kind_of e)) }
-        ensures lasting { IfOk result (λ c. lasts c ≡ piece_lasting self.old) }
+        ensures borrowed { IfOk result (λ c. chunk_is_borrowed c ≡ piece_borrowed self.old) }
         ensures* after_borrow { sem 𝓛 (Rests (the_row (record { mir = named 1; lft = [] }))
             self.entry (λ new.
             KeepsChunk (piece_source self.old) result (piece_source new) (piece_ready new))) }

@@ -2,8 +2,8 @@
 
 ghost use Rattle.std.specs.Prelude.{◌≡◌, ◌<◌, ◌↔◌, length, take, [], ◌++◌, IsTrue};
 ghost use Rattle.std.specs.Prelude.{IfOk, IfErr, IfSome, OnOk, MatchOption};
-ghost use Rattle.perf_buffers.specs.Words.{cow_items, is_borrowed, kind_of, NeedsNoMemory};
-ghost use Rattle.perf_buffers.specs.Words.{refusal, Stays, Takes, FailsInRest, CanFail};
+ghost use Rattle.perf_buffers.specs.Prelude.{cow_items, is_borrowed, kind_of, NeedsNoMemory};
+ghost use Rattle.perf_buffers.specs.Prelude.{refusal, Stays, Takes, FailsInRest, CanFail};
 
 use crate::fill::append;
 use crate::parsebuf::{ParseBuf, ParseBufChunk};

@@ -5,7 +5,7 @@ use anyhow::{Context, Result, bail};
 use perf_event_data::endian::Dynamic;
 use perf_event_data::sys::perf_event_attr;
 use perf_testing::asks::tell_asked;
-use perf_testing::runs::{tell_behind, tell_everywhere, tell_shown};
+use perf_testing::runs::{tell_after, tell_everywhere, tell_shown};
 use perf_testing::sample_bytes::{Part, frames, put_parts};
 use std::alloc::{AllocError, Global};
 
@@ -120,7 +120,7 @@ impl<'a> Case<'a> {
         match self.how {
             "ask" => self.told_answers(),
             "run" => self.told_runs(),
-            "behind" => Ok(tell_behind(self.alloc, &self.little, &self.limits()?)?),
+            "behind" => Ok(tell_after(self.alloc, &self.little, &self.limits()?)?),
             "shown" => Ok(tell_shown(self.alloc, &self.little)?),
             "sample" => self.told_sample(),
             "perfrec" => perfrec::told(self.alloc, self.asked, &self.little),

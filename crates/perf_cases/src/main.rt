@@ -13,7 +13,7 @@
 //! - `ask WORD ..` asks a parser ([`perf_testing::asks`]); after the line `big` in big endian, and
 //!   after `little` in little endian again.
 //! - `run LIMIT ..` reads the records of a stream, each time at most that many, and
-//!   `behind LIMIT ..` those after the attribute at the start of the bytes. Each frame is its line
+//!   `after LIMIT ..` those after the attribute at the start of the bytes. Each frame is its line
 //!   of `perfrec`, and after that what it leaves out ([`perf_testing::told`]).
 //! - `shown` is the `{:?}` of the records of a slice: bytes that are its own are `Borrowed`.
 //! - `sample LEFT` reads a sample, alone and as a frame, after which that many bytes are left, in

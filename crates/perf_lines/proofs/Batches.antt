@@ -9,7 +9,7 @@ use Rattle.perf_base.specs.Configuration.{Configuration}
 use Rattle.perf_base.specs.declared.sys.perf_event_header.{perf_event_header}
 use Rattle.perf_base.specs.declared.error.ErrorKind.{ErrorKind}
 use Rattle.perf_records.specs.Records.{RecordValue}
-use Rattle.perf_records.specs.Frames.{frame_length, first_frames, frames, behind_frames, stream_end, end_with}
+use Rattle.perf_records.specs.Frames.{frame_length, first_frames, frames, drop_frames, stream_end, end_with}
 use Rattle.perf_records.specs.Answers.{answers, answer_of_frame}
 
 -- ---- frames
@@ -27,8 +27,8 @@ first_frames-none o zero bytes h = refl
 first_frames-none o (suc n) bytes h = grind (arith, nat_tests)
 
 -- what is left after a frame is shorter
-behind_one : (o : Order) (n : ℕ) (bytes : List ℕ) → length bytes ≤ suc n → length (drop (frame_length o bytes) bytes) ≤ n
-behind_one o n bytes h = omega (arith, length-drop (frame_length o bytes) bytes)
+after_one : (o : Order) (n : ℕ) (bytes : List ℕ) → length bytes ≤ suc n → length (drop (frame_length o bytes) bytes) ≤ n
+after_one o n bytes h = omega (arith, length-drop (frame_length o bytes) bytes)
 
 -- looking for as many frames as there are bytes is enough, and more make no difference
 same_frames : (o : Order) (n m : ℕ) (bytes : List ℕ) → length bytes ≤ n → length bytes ≤ m → first_frames o n bytes ≡ first_frames o m bytes
@@ -39,7 +39,7 @@ same_frames o (suc n) (suc m) bytes p q = elim (below_or_not (length bytes) 8 (n
   | inr h ↦
       let rest : List ℕ = drop (frame_length o bytes) bytes in
       first_frames-some o n bytes h
-      ∙ ap (λ others. take (frame_length o bytes) bytes ∷ others) (same_frames o n m rest (behind_one o n bytes p) (behind_one o m bytes q))
+      ∙ ap (λ others. take (frame_length o bytes) bytes ∷ others) (same_frames o n m rest (after_one o n bytes p) (after_one o m bytes q))
       ∙ sym (first_frames-some o m bytes h)
 ]
 
@@ -49,7 +49,7 @@ frames-some o bytes h =
     let rest : List ℕ = drop (frame_length o bytes) bytes in
     same_frames o (length bytes) (suc (length bytes)) bytes (omega arith) (omega arith)
     ∙ first_frames-some o (length bytes) bytes h
-    ∙ ap (λ others. take (frame_length o bytes) bytes ∷ others) (same_frames o (length bytes) (length rest) rest (behind_one o (length bytes) bytes (omega arith)) (omega arith))
+    ∙ ap (λ others. take (frame_length o bytes) bytes ∷ others) (same_frames o (length bytes) (length rest) rest (after_one o (length bytes) bytes (omega arith)) (omega arith))
 
 has_eight : (o : Order) (n : ℕ) (bytes : List ℕ) → suc n ≤ length (frames o bytes) → 8 ≤ length bytes
 has_eight o n bytes h = elim (below_or_not (length bytes) 8 (nat_lt (length bytes) 8) refl) [
@@ -58,34 +58,34 @@ has_eight o n bytes h = elim (below_or_not (length bytes) 8 (nat_lt (length byte
 ]
 
 -- the frames after the first n
-pub frames_behind : (o : Order) (n : ℕ) (bytes : List ℕ) → n ≤ length (frames o bytes) → frames o (behind_frames o n bytes) ≡ drop n (frames o bytes)
-frames_behind o zero bytes h = refl
-frames_behind o (suc n) bytes h =
+pub frames_after : (o : Order) (n : ℕ) (bytes : List ℕ) → n ≤ length (frames o bytes) → frames o (drop_frames o n bytes) ≡ drop n (frames o bytes)
+frames_after o zero bytes h = refl
+frames_after o (suc n) bytes h =
     let first : List ℕ = take (frame_length o bytes) bytes in
     let rest : List ℕ = drop (frame_length o bytes) bytes in
     let parts : frames o bytes ≡ first ∷ frames o rest = frames-some o bytes (has_eight o n bytes h) in
     let count : length (frames o bytes) ≡ suc (length (frames o rest)) = ap length parts in
-    frames_behind o n rest (omega arith) ∙ sym (ap (λ xs. drop (suc n) xs) parts)
+    frames_after o n rest (omega arith) ∙ sym (ap (λ xs. drop (suc n) xs) parts)
 
 -- the bytes after k more frames
-pub behind_more : (o : Order) (n k : ℕ) (bytes : List ℕ) → behind_frames o k (behind_frames o n bytes) ≡ behind_frames o (n + k) bytes
-behind_more o zero k bytes = ap (λ j. behind_frames o j bytes) (sym (zero-add k))
-behind_more o (suc n) k bytes =
+pub after_more : (o : Order) (n k : ℕ) (bytes : List ℕ) → drop_frames o k (drop_frames o n bytes) ≡ drop_frames o (n + k) bytes
+after_more o zero k bytes = ap (λ j. drop_frames o j bytes) (sym (zero-add k))
+after_more o (suc n) k bytes =
     let next : suc (n + k) ≡ suc n + k = omega arith in
-    behind_more o n k (drop (frame_length o bytes) bytes) ∙ ap (λ j. behind_frames o j bytes) next
+    after_more o n k (drop (frame_length o bytes) bytes) ∙ ap (λ j. drop_frames o j bytes) next
 
 -- ---- answers
 
 -- the answers after the first n frames
-pub answers_behind : (c : Configuration) (o : Order) (n : ℕ) (bytes : List ℕ) → n ≤ length (frames o bytes) → answers c o (behind_frames o n bytes) ≡ drop n (answers c o bytes)
-answers_behind c o n bytes h =
+pub answers_after : (c : Configuration) (o : Order) (n : ℕ) (bytes : List ℕ) → n ≤ length (frames o bytes) → answers c o (drop_frames o n bytes) ≡ drop n (answers c o bytes)
+answers_after c o n bytes h =
     let answered : List ℕ → perf_event_header × Result RecordValue ErrorKind = λ frame. (header_of o frame, answer_of_frame c o frame) in
-    ap (λ xs. map answered xs) (frames_behind o n bytes h) ∙ sym (drop-map answered n (frames o bytes))
+    ap (λ xs. map answered xs) (frames_after o n bytes h) ∙ sym (drop-map answered n (frames o bytes))
 
 -- a stream ends as the rest of it after some frames does
-pub end_behind : (o : Order) (n : ℕ) (bytes : List ℕ) → n ≤ length (frames o bytes) → stream_end o (behind_frames o n bytes) ≡ stream_end o bytes
-end_behind o n bytes h =
-    let left : ℕ = length (frames o (behind_frames o n bytes)) in
-    let count : left ≡ length (frames o bytes) - n = ap length (frames_behind o n bytes h) ∙ length-drop n (frames o bytes) in
+pub end_after : (o : Order) (n : ℕ) (bytes : List ℕ) → n ≤ length (frames o bytes) → stream_end o (drop_frames o n bytes) ≡ stream_end o bytes
+end_after o n bytes h =
+    let left : ℕ = length (frames o (drop_frames o n bytes)) in
+    let count : left ≡ length (frames o bytes) - n = ap length (frames_after o n bytes h) ∙ length-drop n (frames o bytes) in
     let all : n + left ≡ length (frames o bytes) = omega arith in
-    ap (λ rest. end_with (length rest)) (behind_more o n left bytes ∙ ap (λ j. behind_frames o j bytes) all)
+    ap (λ rest. end_with (length rest)) (after_more o n left bytes ∙ ap (λ j. drop_frames o j bytes) all)

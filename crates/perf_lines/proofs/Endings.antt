@@ -19,7 +19,7 @@ use Rattle.perf_records.specs.Answers.{answers}
 use Rattle.perf_reader.specs.Reading.{of_layout, is_external}
 use Rattle.perf_lines.specs.declared.outcome.Outcome.{Outcome}
 use Rattle.perf_lines.specs.declared.outcome.Outcome.TheVariants.{Clean, Refused, BadAttr, Faulted, Stopped}
-use Rattle.perf_lines.specs.Text.{lines_from, end_line, printed, is_at_limit, text, end_name, kind_name, Stream, framed, without_frames, behind_attribute, stream_text, attr_line}
+use Rattle.perf_lines.specs.Text.{lines_from, end_line, printed, is_at_limit, text, end_name, kind_name, Stream, framed, without_frames, stream_after_attribute, stream_text, attr_line}
 use Rattle.perf_lines.specs.Outcomes.{is_cut, prints_refusal, ends_cut, EndsEarly, IsFaultText, IsText, IsWritten}
 use Rattle.perf_lines.proofs.Progress.{Listed}
 
@@ -152,16 +152,16 @@ abbrev stream_by : Result perf_event_attr ErrorKind → List ℕ → Stream
 stream_by (Ok a) bytes = framed (configured_by a) (drop a.size bytes)
 stream_by (Err kind) bytes = without_frames kind
 
-by_answer : (o : Order) (bytes : List ℕ) (r : Result perf_event_attr ErrorKind) → layout o attribute bytes ≡ r → behind_attribute o bytes ≡ stream_by r bytes
-unfolding behind_attribute
-by_answer o bytes (Ok a) e = rw (e, behind_attribute) refl
-by_answer o bytes (Err kind) e = rw (e, behind_attribute) refl
+by_answer : (o : Order) (bytes : List ℕ) (r : Result perf_event_attr ErrorKind) → layout o attribute bytes ≡ r → stream_after_attribute o bytes ≡ stream_by r bytes
+unfolding stream_after_attribute
+by_answer o bytes (Ok a) e = rw (e, stream_after_attribute) refl
+by_answer o bytes (Err kind) e = rw (e, stream_after_attribute) refl
 
 -- if the attribute is read, the frames after it are the stream
-pub read_attribute : (o : Order) (bytes left : List ℕ) (a : perf_event_attr) → by_places o attribute bytes ≡ ran a left → left ≡ drop a.size bytes → behind_attribute o bytes ≡ framed (configured_by a) left
+pub read_attribute : (o : Order) (bytes left : List ℕ) (a : perf_event_attr) → by_places o attribute bytes ≡ ran a left → left ≡ drop a.size bytes → stream_after_attribute o bytes ≡ framed (configured_by a) left
 read_attribute o bytes left a read is = by_answer o bytes (Ok a) (sym (places_layout o attribute bytes) ∙ ap answer read) ∙ ap (λ xs. framed (configured_by a) xs) (sym is)
 
-pub refused_attribute : (o : Order) (bytes left : List ℕ) (kind : ErrorKind) → by_places o attribute bytes ≡ stopped kind left → behind_attribute o bytes ≡ without_frames kind
+pub refused_attribute : (o : Order) (bytes left : List ℕ) (kind : ErrorKind) → by_places o attribute bytes ≡ stopped kind left → stream_after_attribute o bytes ≡ without_frames kind
 refused_attribute o bytes left kind read = by_answer o bytes (Err kind) (sym (places_layout o attribute bytes) ∙ ap answer read)
 
 -- after start comes what a run over this stream writes
@@ -228,8 +228,8 @@ says_within f g within o limit stream Faulted written h = fault_text_within f g 
 says_within f g within o limit stream Stopped written h = (h.0, text_within f g within o limit stream h.0 h.1, h.2)
 
 -- the attribute was read, and then the frames after it
-pub made_behind : {E : Type 0} (f g : Bool) → (IsTrue g → IsTrue f) → (o o2 : Order) (limit : ℕ) (stream : Stream) (rest start : List ℕ) (c : Configuration) → o2 ≡ o → stream ≡ framed c rest → (r : Result Outcome E) (now : List ℕ) → IfOk r (λ outcome. MadeOf g o2 limit (framed c rest) start outcome now) → IfOk r (λ outcome. MadeOf f o limit stream start outcome now)
-made_behind f g within o o2 limit stream rest start c orders read r now made =
+pub made_after : {E : Type 0} (f g : Bool) → (IsTrue g → IsTrue f) → (o o2 : Order) (limit : ℕ) (stream : Stream) (rest start : List ℕ) (c : Configuration) → o2 ≡ o → stream ≡ framed c rest → (r : Result Outcome E) (now : List ℕ) → IfOk r (λ outcome. MadeOf g o2 limit (framed c rest) start outcome now) → IfOk r (λ outcome. MadeOf f o limit stream start outcome now)
+made_after f g within o o2 limit stream rest start c orders read r now made =
     if_ok_map r (λ outcome. MadeOf g o limit stream start outcome now) (λ outcome. MadeOf f o limit stream start outcome now)
     (λ outcome h. (h.0, h.1, says_within f g within o limit stream outcome h.0 h.2))
     (subst (λ s. IfOk r (λ outcome. MadeOf g o limit s start outcome now)) (sym read)

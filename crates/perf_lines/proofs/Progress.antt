@@ -12,14 +12,14 @@ use Rattle.perf_base.specs.declared.error.ErrorKind.{ErrorKind}
 use Rattle.perf_base.specs.declared.error.ParseError.{ParseError}
 use Rattle.perf_records.specs.Records.{RecordValue}
 use Rattle.perf_records.specs.declared.record.Record.{Record}
-use Rattle.perf_records.specs.Frames.{StreamEnd, frames, behind_frames, stream_end}
+use Rattle.perf_records.specs.Frames.{StreamEnd, frames, drop_frames, stream_end}
 use Rattle.perf_records.specs.Answers.{answers, answer_of_frame}
 use Rattle.perf_parser.specs.Runs.{seen_answer}
 use Rattle.perf_parser.specs.Runs.{seen_answers}
 use Rattle.perf_base.specs.Header.{header_of}
 use Rattle.perf_lines.specs.Text.{lines_from}
 use Rattle.perf_lines.proofs.Lines.{lines_append}
-use Rattle.perf_lines.proofs.Batches.{frames_behind, answers_behind, end_behind}
+use Rattle.perf_lines.proofs.Batches.{frames_after, answers_after, end_after}
 
 abbrev Pair : Type 0
 Pair = perf_event_header × Result RecordValue ErrorKind
@@ -48,14 +48,14 @@ refused_said ((h, Ok r) ∷ pairs) = refused_said pairs
 refused_said ((h, Err e) ∷ pairs) = refl
 
 -- one more batch
-pub listed_more : (c : Configuration) (o : Order) (bytes start : List ℕ) (n : ℕ) (made : List ℕ) (refused : Bool) → Listed c o bytes start n made refused → (left : List ℕ) → left ≡ behind_frames o n bytes → (pairs : List (perf_event_header × Result Record ParseError)) → seen_answers pairs ≡ take (length pairs) (answers c o left) → (now : List ℕ) → now ≡ made ++ lines_from n (seen_answers pairs) → Listed c o bytes start (n + length pairs) now (refused || list_any (λ pair. is_err pair.1) pairs)
+pub listed_more : (c : Configuration) (o : Order) (bytes start : List ℕ) (n : ℕ) (made : List ℕ) (refused : Bool) → Listed c o bytes start n made refused → (left : List ℕ) → left ≡ drop_frames o n bytes → (pairs : List (perf_event_header × Result Record ParseError)) → seen_answers pairs ≡ take (length pairs) (answers c o left) → (now : List ℕ) → now ≡ made ++ lines_from n (seen_answers pairs) → Listed c o bytes start (n + length pairs) now (refused || list_any (λ pair. is_err pair.1) pairs)
 listed_more c o bytes start n made refused before left at pairs are now grown =
     let all : List Pair = answers c o bytes in
     let k : ℕ = length pairs in
     let more : List Pair = seen_answers pairs in
     let as_many : length more ≡ k = length-map pairs (λ pair. (pair.0, seen_answer pair.1)) in
     let there : n ≤ length (frames o bytes) = omega (arith, before.within, count_answers c o bytes) in
-    let next : more ≡ take k (drop n all) = are ∙ ap (λ xs. take k xs) (ap (λ xs. answers c o xs) at ∙ answers_behind c o n bytes there) in
+    let next : more ≡ take k (drop n all) = are ∙ ap (λ xs. take k xs) (ap (λ xs. answers c o xs) at ∙ answers_after c o n bytes there) in
     let together : take (n + k) all ≡ take n all ++ more = take-add n k all ∙ ap (λ xs. take n all ++ xs) (sym next) in
     let front : length (take n all) ≡ n = length-take-le n all before.within in
     let fits : length more ≡ min k (length all - n) = ap length next ∙ length-take k (drop n all) ∙ ap (λ j. min k j) (length-drop n all) in
@@ -72,19 +72,19 @@ listed_more c o bytes start n made refused before left at pairs are now grown =
     }
 
 -- the same, as the code has it
-pub batch_more : (c : Configuration) (o : Order) (bytes start : List ℕ) (n : ℕ) (made : List ℕ) (refused : Bool) → Listed c o bytes start n made refused → (left : List ℕ) → left ≡ behind_frames o n bytes → (pairs : List (perf_event_header × Result Record ParseError)) → seen_answers pairs ≡ take (length pairs) (answers c o left) → (shown : List (perf_event_header × Result Record ParseError)) → shown ≡ pairs → (now : List ℕ) → now ≡ made ++ lines_from n (seen_answers shown) → (seen : List (perf_event_header × Result Record ParseError)) → seen ≡ pairs → (any : Bool) → any ≡ list_any (λ pair. is_err pair.1) seen → Listed c o bytes start (n + length pairs) now (refused || any)
+pub batch_more : (c : Configuration) (o : Order) (bytes start : List ℕ) (n : ℕ) (made : List ℕ) (refused : Bool) → Listed c o bytes start n made refused → (left : List ℕ) → left ≡ drop_frames o n bytes → (pairs : List (perf_event_header × Result Record ParseError)) → seen_answers pairs ≡ take (length pairs) (answers c o left) → (shown : List (perf_event_header × Result Record ParseError)) → shown ≡ pairs → (now : List ℕ) → now ≡ made ++ lines_from n (seen_answers shown) → (seen : List (perf_event_header × Result Record ParseError)) → seen ≡ pairs → (any : Bool) → any ≡ list_any (λ pair. is_err pair.1) seen → Listed c o bytes start (n + length pairs) now (refused || any)
 batch_more c o bytes start n made refused before left at pairs are shown same now grown seen alike any is =
     subst (λ b. Listed c o bytes start (n + length pairs) now (refused || b)) (sym (is ∙ ap (λ xs. list_any (λ pair. is_err pair.1) xs) alike))
     (listed_more c o bytes start n made refused before left at pairs are now (grown ∙ ap (λ xs. made ++ lines_from n (seen_answers xs)) same))
 
 -- with a batch that lists the rest, all answers of the stream are listed
-pub all_listed : (c : Configuration) (o : Order) (bytes : List ℕ) (n k : ℕ) (left : List ℕ) → n ≤ length (answers c o bytes) → left ≡ behind_frames o n bytes → k ≡ length (frames o left) → n + k ≡ length (answers c o bytes)
+pub all_listed : (c : Configuration) (o : Order) (bytes : List ℕ) (n k : ℕ) (left : List ℕ) → n ≤ length (answers c o bytes) → left ≡ drop_frames o n bytes → k ≡ length (frames o left) → n + k ≡ length (answers c o bytes)
 all_listed c o bytes n k left within at all =
     let there : n ≤ length (frames o bytes) = omega (arith, count_answers c o bytes) in
-    let count : k ≡ length (frames o bytes) - n = all ∙ ap (λ xs. length (frames o xs)) at ∙ ap length (frames_behind o n bytes there) ∙ length-drop n (frames o bytes) in
+    let count : k ≡ length (frames o bytes) - n = all ∙ ap (λ xs. length (frames o xs)) at ∙ ap length (frames_after o n bytes there) ∙ length-drop n (frames o bytes) in
     omega (arith, count_answers c o bytes)
 
-pub ends_alike : (c : Configuration) (o : Order) (bytes : List ℕ) (n : ℕ) (left : List ℕ) (end : StreamEnd) → n ≤ length (answers c o bytes) → left ≡ behind_frames o n bytes → stream_end o left ≡ end → stream_end o bytes ≡ end
+pub ends_alike : (c : Configuration) (o : Order) (bytes : List ℕ) (n : ℕ) (left : List ℕ) (end : StreamEnd) → n ≤ length (answers c o bytes) → left ≡ drop_frames o n bytes → stream_end o left ≡ end → stream_end o bytes ≡ end
 ends_alike c o bytes n left end within at ends =
     let there : n ≤ length (frames o bytes) = omega (arith, count_answers c o bytes) in
-    sym (end_behind o n bytes there) ∙ ap (λ xs. stream_end o xs) (sym at) ∙ ends
+    sym (end_after o n bytes there) ∙ ap (λ xs. stream_end o xs) (sym at) ∙ ends

@@ -13,16 +13,16 @@ use Rattle.perf_lines.specs.Fields.{number, field, present, word_as, word_of, wo
 -- ---- items of lists
 
 -- numbers, each with a colon before it
-abbrev pub behind_colons : List ℕ → List ℕ
-behind_colons numbers = flat_map (λ n. codes ":" ++ decimal n) numbers
+abbrev pub after_colons : List ℕ → List ℕ
+after_colons numbers = flat_map (λ n. codes ":" ++ decimal n) numbers
 
 -- a number that may be absent, with a colon before it
-abbrev pub behind_colon : Option ℕ → List ℕ
-behind_colon n = present (λ there. codes ":" ++ decimal there) n
+abbrev pub after_colon : Option ℕ → List ℕ
+after_colon n = present (λ there. codes ":" ++ decimal there) n
 
 -- a counter of a group: its value, its id and its lost samples
 abbrev pub counter_item : GroupEntry → List ℕ
-counter_item e = decimal e.value ++ (behind_colon e.id ++ behind_colon e.lost)
+counter_item e = decimal e.value ++ (after_colon e.id ++ after_colon e.lost)
 
 -- 1 for yes and 0 for no
 abbrev pub digit_of : Bool → ℕ
@@ -33,7 +33,7 @@ digit_of false = 0
 abbrev pub branch_item : Branch → List ℕ
 branch_item b =
     decimal b.from
-    ++ behind_colons (b.to ∷ digit_of (mispred_of b.word) ∷ digit_of (predicted_of b.word)
+    ++ after_colons (b.to ∷ digit_of (mispred_of b.word) ∷ digit_of (predicted_of b.word)
     ∷ digit_of (in_tx_of b.word) ∷ digit_of (abort_of b.word)
     ∷ cycles_of b.word ∷ type_of b.word ∷ [])
 

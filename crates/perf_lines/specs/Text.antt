@@ -264,8 +264,8 @@ pub data Stream : Type 0 where
 
 -- A stream with an attribute at its start: if that is accepted, its configuration applies to the
 -- bytes after it, which begin where its size specifies. It is unfolded only if a proof asks for it.
-unfoldable pub behind_attribute : Order → List ℕ → Stream
-behind_attribute o bytes =
+unfoldable pub stream_after_attribute : Order → List ℕ → Stream
+stream_after_attribute o bytes =
     elim (layout o attribute bytes) [
       | Ok a ↦ framed (configured_by a) (drop a.size bytes)
       | Err kind ↦ without_frames kind
@@ -274,7 +274,7 @@ behind_attribute o bytes =
 -- Without an attribute the plain configuration applies to all bytes.
 abbrev pub stream_of : (with_attr : Bool) → Order → List ℕ → Stream
 stream_of false o bytes = framed plain bytes
-stream_of true o bytes = behind_attribute o bytes
+stream_of true o bytes = stream_after_attribute o bytes
 
 -- the line of a refused attribute
 abbrev pub attr_line : ErrorKind → List ℕ

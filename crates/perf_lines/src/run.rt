@@ -109,11 +109,11 @@ fn push_run_with_attr<'p, B: ParseBuf<'p> + Drop, E: Endian>(
     ensures { IsTrue (B.source (buffer_of parser)).told → IfOk result (λ outcome. (written : List ℕ)
         × (string_bytes text.new ≡ string_bytes text.old ++ written)
         × IsWritten (B.source (buffer_of parser)).can_fault (E.order (endian_of (config_of parser)))
-        limit (shown.behind_attribute (E.order (endian_of (config_of parser)))
+        limit (shown.stream_after_attribute (E.order (endian_of (config_of parser)))
         (B.source (buffer_of parser)).left) outcome written) }
 {
     match parse_attr(parser) {
-        Ok(mut behind) => push_run(text, &mut behind, limit),
+        Ok(mut after) => push_run(text, &mut after, limit),
         Err(error) => push_refusal(text, error.kind()),
     }
 }
@@ -123,21 +123,21 @@ fn push_run_with_attr<'p, B: ParseBuf<'p> + Drop, E: Endian>(
 fn parse_attr<'p, B: ParseBuf<'p> + Drop, E: Endian>(
     mut parser: Parser<B, E>,
 ) -> ParseResult<Parser<B, E>>
-    ensures told { IsTrue (B.source (buffer_of parser)).told → IfOk result (λ behind.
-        IsTrue (B.source (buffer_of behind)).told) }
-    ensures can_fault { IfOk result (λ behind. IsTrue (B.source (buffer_of behind)).can_fault →
+    ensures told { IsTrue (B.source (buffer_of parser)).told → IfOk result (λ after.
+        IsTrue (B.source (buffer_of after)).told) }
+    ensures can_fault { IfOk result (λ after. IsTrue (B.source (buffer_of after)).can_fault →
         IsTrue (B.source (buffer_of parser)).can_fault) }
     ensures fault { IfErr result (λ e. kind_of e ≡ ErrorKind.External →
         IsTrue (B.source (buffer_of parser)).can_fault) }
-    ensures order { IfOk result (λ behind.
-        E.order (endian_of (config_of behind)) ≡ E.order (endian_of (config_of parser))) }
-    ensures read { IsTrue (B.source (buffer_of parser)).told → IfOk result (λ behind.
-        shown.behind_attribute (E.order (endian_of (config_of parser)))
+    ensures order { IfOk result (λ after.
+        E.order (endian_of (config_of after)) ≡ E.order (endian_of (config_of parser))) }
+    ensures read { IsTrue (B.source (buffer_of parser)).told → IfOk result (λ after.
+        shown.stream_after_attribute (E.order (endian_of (config_of parser)))
         (B.source (buffer_of parser)).left
-        ≡ shown.framed (configuration_of (config_of behind)) (B.source (buffer_of behind)).left) }
+        ≡ shown.framed (configuration_of (config_of after)) (B.source (buffer_of after)).left) }
     ensures refused { IsTrue (B.source (buffer_of parser)).told → IfErr result (λ e.
         IsTrue (of_layout (kind_of e)) →
-        shown.behind_attribute (E.order (endian_of (config_of parser)))
+        shown.stream_after_attribute (E.order (endian_of (config_of parser)))
         (B.source (buffer_of parser)).left
         ≡ shown.without_frames (kind_of e)) }
 {

@@ -12,19 +12,19 @@ use Rattle.perf_buffers.specs.Room.{falls_short}
 use Rattle.perf_buffers.specs.Taking.{MovesWithin}
 use Rattle.perf_buffers.specs.declared.outer.Outer.{Outer}
 use Rattle.perf_reader.specs.Calls.{Call}
-use Rattle.perf_reader.specs.Meaning.{buffer_of, config_of, reads_of}
+use Rattle.perf_reader.specs.ReaderState.{buffer_of, config_of, reads_of}
 use Rattle.perf_reader.specs.Reading.{of_layout}
 use Rattle.perf_reader.specs.declared.reader.Reader.{Reader}
 use Rattle.perf_records.specs.Records.{IsBorrowed}
 use Rattle.perf_records.specs.declared.record.Record.{Record}
-use Rattle.perf_parser.specs.Runs.{Pairs, ListsFrame, ListsRefused, SaysBehind, body_length}
+use Rattle.perf_parser.specs.Runs.{Pairs, ListsFrame, ListsRefused, ReadsFrameAfter, body_length}
 use Rattle.perf_parser.proofs.Ending.{same_call}
 
 module _ {B E : Type 0} (source : B → Source) (hint : B → Option ℕ) (order : E → Order) (h : perf_event_header) (old mid : Reader (Outer B) E) (was now : Pairs)
     (within : IsTrue (source (buffer_of old)).told → MovesWithin (source (buffer_of old)) (body_length h) (source (buffer_of mid))) where
   -- a record
   pub lists_record : (x : Record) → (falls_short (hint (buffer_of old)) (body_length h) ≡ true → ⊥) → now ≡ was ++ (h, Ok x) ∷ [] → (IsTrue (source (buffer_of old)).whole → IsBorrowed x) →
-      Call (λ (o : Outer B). source o.buf) order (SaysBehind h) old (Ok x) mid → ListsFrame source hint order h old mid was now (Ok tt)
+      Call (λ (o : Outer B). source o.buf) order (ReadsFrameAfter h) old (Ok x) mid → ListsFrame source hint order h old mid was now (Ok tt)
   lists_record x enough pushed borrowed call = record {
     within = within;
     listed = (Ok x, pushed, borrowed, tt, call);
@@ -35,18 +35,18 @@ module _ {B E : Type 0} (source : B → Source) (hint : B → Option ℕ) (order
   }
 
   -- a frame that was refused, since when nothing but what the buffer keeps has changed
-  module _ (new : Reader (Outer B) E) (r : Refusal) (call : Call (λ (o : Outer B). source o.buf) order (SaysBehind h) old (Err (refusal_kind r)) mid)
+  module _ (new : Reader (Outer B) E) (r : Refusal) (call : Call (λ (o : Outer B). source o.buf) order (ReadsFrameAfter h) old (Err (refusal_kind r)) mid)
       (buf : buffer_of new ≡ buffer_of mid) (config : config_of new ≡ config_of mid) (reads : reads_of new ≡ reads_of mid) where
     still : IsTrue (source (buffer_of old)).told → MovesWithin (source (buffer_of old)) (body_length h) (source (buffer_of new))
     still = λ told. subst (λ b. MovesWithin (source (buffer_of old)) (body_length h) (source b)) (sym buf) (within told)
 
-    called : Call (λ (o : Outer B). source o.buf) order (SaysBehind h) old (Err (refusal_kind r)) new
-    called = same_call source order (SaysBehind h) old mid new (Err (refusal_kind r)) buf config reads call
+    called : Call (λ (o : Outer B). source o.buf) order (ReadsFrameAfter h) old (Err (refusal_kind r)) new
+    called = same_call source order (ReadsFrameAfter h) old mid new (Err (refusal_kind r)) buf config reads call
 
     -- by the layout
     pub lists_refused : ListsRefused h r was now → ListsFrame source hint order h old new was now (Ok tt)
     lists_refused listed =
-        let P : ErrorKind → Type 0 = λ k. Call (λ (o : Outer B). source o.buf) order (SaysBehind h) old (Err k) new in record {
+        let P : ErrorKind → Type 0 = λ k. Call (λ (o : Outer B). source o.buf) order (ReadsFrameAfter h) old (Err k) new in record {
           within = still;
           listed = (Err listed.0, listed.1, (λ whole. tt), subst (λ k. IsTrue (of_layout k)) (sym listed.2.kind_is) listed.3, subst P (sym listed.2.kind_is) called);
           short = λ lacks. (h, listed.0, listed.1);

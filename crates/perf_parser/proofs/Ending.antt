@@ -14,17 +14,17 @@ use Rattle.perf_base.specs.declared.sys.perf_event_header.{perf_event_header}
 use Rattle.perf_buffers.specs.Buffer.{Source, faults_after}
 use Rattle.perf_buffers.specs.Taking.{MovesWithin}
 use Rattle.perf_buffers.specs.declared.outer.Outer.{Outer}
-use Rattle.perf_reader.specs.Meaning as reader
-use Rattle.perf_reader.specs.Meaning.{Meaning}
+use Rattle.perf_reader.specs.ReaderState as reader
+use Rattle.perf_reader.specs.ReaderState.{ReaderState}
 use Rattle.perf_reader.specs.declared.reader.Reader.{Reader}
 use Rattle.perf_reader.specs.Calls.{Call}
-use Rattle.perf_reader.specs.Reading.{Says, Keeps, of_layout, one_if_refused, last_of}
+use Rattle.perf_reader.specs.Reading.{Transition, Keeps, of_layout, one_if_refused, last_of}
 use Rattle.perf_reader.proofs.Paying.{last_all, last_last}
 use Rattle.perf_reader.proofs.Stopping.{leaves, within_more}
-use Rattle.perf_records.specs.Answers.{SaysBehind, body_length, answer_behind, answer_of_frame, reads_behind}
+use Rattle.perf_records.specs.Answers.{ReadsFrameAfter, body_length, answer_after, answer_of_frame, reads_after}
 use Rattle.perf_records.specs.Frames.{frame_length}
 use Rattle.perf_records.specs.declared.record.Record.{Record}
-use Rattle.perf_records.proofs.Headers.{frame_body, frame_behind, answer_whole}
+use Rattle.perf_records.proofs.Headers.{frame_body, after_frame, answer_whole}
 use Rattle.perf_parser.specs.Runs.{Pairs, seen_answer, refused_count, listed_reads, StopsAt, KeepsRun, IsListed}
 use Rattle.perf_parser.specs.Runs.{stop_kind, stopped_by, StopsBetween, IsEndOf, one_if_ended, end_refusal}
 use Rattle.perf_parser.specs.declared.runs.RunEnd.{RunEnd}
@@ -46,18 +46,18 @@ one_more_refused (pair ∷ pairs) h r = go (one_more_refused pairs h r) (pair.1)
 -- ---- how it stops
 
 -- if the header was read, and the rest was not
-pub stops_behind : (old mid new : Meaning) (h : perf_event_header) (r : Refusal) → (IsTrue (of_layout (refusal_kind r)) → ⊥) → 8 ≤ length old.source.left → h ≡ header_of old.order old.source.left →
+pub stops_after : (old mid new : ReaderState) (h : perf_event_header) (r : Refusal) → (IsTrue (of_layout (refusal_kind r)) → ⊥) → 8 ≤ length old.source.left → h ≡ header_of old.order old.source.left →
     mid.source.left ≡ drop 8 old.source.left → MovesWithin mid.source (body_length h) new.source → StopsAt old (stop.Refused r) new
-stops_behind old mid new h r none fits e m within =
+stops_after old mid new h r none fits e m within =
     let whole : frame_length old.order old.source.left ≡ 8 + body_length h = ap (λ (q : perf_event_header). max 8 q.size) (sym e) ∙ frame_body h in
     (none, leaves old.order old.source new.source (8 + body_length h) (omega arith) (within_more old.source mid.source new.source 8 (body_length h) (fits, m) within))
 
 -- ---- if an allocation failed
 
 -- after the header, exactly the frame was taken
-pub stops_spent : (old mid new : Meaning) (h : perf_event_header) (r : Refusal) → h ≡ header_of old.order old.source.left → mid.source.left ≡ drop 8 old.source.left →
+pub stops_spent : (old mid new : ReaderState) (h : perf_event_header) (r : Refusal) → h ≡ header_of old.order old.source.left → mid.source.left ≡ drop 8 old.source.left →
     (refusal_kind r ≡ OutOfMemory → new.source.left ≡ drop (body_length h) mid.source.left) → StopsBetween old (stop.Refused r) new
-stops_spent old mid new h r e m spent = λ kind. inr (frame_behind old.order old.source.left mid.source.left new.source.left h e m (spent kind))
+stops_spent old mid new h r e m spent = λ kind. inr (after_frame old.order old.source.left mid.source.left new.source.left h e m (spent kind))
 
 -- the kind of the end of a run is that of what stopped it
 pub end_kind : (s : Stop) (e : RunEnd) → IsEndOf s e → end_refusal e ≡ Some OutOfMemory → stop_kind s ≡ OutOfMemory
@@ -80,7 +80,7 @@ no_fault a b External h p = absurd (cc)
 no_fault a b OutOfMemory h p = absurd (cc)
 
 -- nothing was done, if some were refused before
-pub run_none : (m : Meaning) (n : ℕ) → KeepsRun m n None m
+pub run_none : (m : ReaderState) (n : ℕ) → KeepsRun m n None m
 run_none m n = record {
   buffer = (refl, (λ c. c), refl, (λ t. t));
   fault = λ x. cc;
@@ -89,7 +89,7 @@ run_none m n = record {
 }
 
 -- one call after others
-pub run_more : (start old new : Meaning) (n : ℕ) (e : Option ErrorKind) → KeepsRun start n None old → Keeps old e new → KeepsRun start (n + one_if_refused e) e new
+pub run_more : (start old new : ReaderState) (n : ℕ) (e : Option ErrorKind) → KeepsRun start n None old → Keeps old e new → KeepsRun start (n + one_if_refused e) e new
 run_more start old new n e p q = record {
   buffer = (
     q.buffer.0 ∙ p.buffer.0,
@@ -106,7 +106,7 @@ run_more start old new n e p q = record {
 }
 
 -- a run goes on after a refusal of the layout
-pub run_on : (start new : Meaning) (n : ℕ) (e : ErrorKind) → IsTrue (of_layout e) → KeepsRun start n (Some e) new → KeepsRun start n None new
+pub run_on : (start new : ReaderState) (n : ℕ) (e : ErrorKind) → IsTrue (of_layout e) → KeepsRun start n (Some e) new → KeepsRun start n None new
 run_on start new n e layout p = record {
   buffer = (p.buffer.0, p.buffer.1, no_fault start.source new.source e layout p.buffer.2, p.buffer.3);
   fault = λ x. cc;
@@ -115,13 +115,13 @@ run_on start new n e layout p = record {
 }
 
 -- a header that stopped it
-pub run_stops : (start old new : Meaning) (n : ℕ) (s : Stop) → KeepsRun start n None old → Keeps old (Some (stop_kind s)) new → KeepsRun start (n + 1) (stopped_by {A = perf_event_header} (Err s)) new
+pub run_stops : (start old new : ReaderState) (n : ℕ) (s : Stop) → KeepsRun start n None old → Keeps old (Some (stop_kind s)) new → KeepsRun start (n + 1) (stopped_by {A = perf_event_header} (Err s)) new
 run_stops start old new n stop.Done p q = run_on start new (n + 1) Eof refl (run_more start old new n (Some Eof) p q)
 run_stops start old new n stop.CutHeader p q = run_on start new (n + 1) Eof refl (run_more start old new n (Some Eof) p q)
 run_stops start old new n (stop.Refused r) p q = run_more start old new n (Some (refusal_kind r)) p q
 
 -- an answer that was listed
-pub run_lists : (start old new : Meaning) (pairs now : Pairs) (h : perf_event_header) (r : Result Record ParseError) → now ≡ pairs ++ (h, r) ∷ [] → IsListed r →
+pub run_lists : (start old new : ReaderState) (pairs now : Pairs) (h : perf_event_header) (r : Result Record ParseError) → now ≡ pairs ++ (h, r) ∷ [] → IsListed r →
     KeepsRun start (refused_count pairs) None old → Keeps old (refused (error_kinds r)) new → KeepsRun start (refused_count now + 0) None new
 run_lists start old new pairs now h (Ok r) e listed p q =
     let sum : refused_count now + 0 ≡ refused_count pairs + 0 = omega (arith, ap refused_count e ∙ one_more_refused pairs h (Ok r)) in
@@ -133,55 +133,55 @@ run_lists start old new pairs now h (Err x) e listed p q =
 
 -- ---- what is stated of an answer
 
-pub said_frame : (old mid new : Meaning) (h : perf_event_header) (r : Result Record ParseError) → 8 ≤ length old.source.left → h ≡ header_of old.order old.source.left →
-    mid.settings ≡ old.settings → mid.order ≡ old.order → mid.source.left ≡ drop 8 old.source.left → mid.reads ≡ old.reads + 2 → IsListed r → SaysBehind h mid (error_kinds r) new →
+pub said_frame : (old mid new : ReaderState) (h : perf_event_header) (r : Result Record ParseError) → 8 ≤ length old.source.left → h ≡ header_of old.order old.source.left →
+    mid.settings ≡ old.settings → mid.order ≡ old.order → mid.source.left ≡ drop 8 old.source.left → mid.reads ≡ old.reads + 2 → IsListed r → ReadsFrameAfter h mid (error_kinds r) new →
     (seen_answer r ≡ answer_of_frame old.settings old.order old.source.left) × (new.source.left ≡ drop (frame_length old.order old.source.left) old.source.left)
     × (new.reads ≡ old.reads + listed_reads old.settings old.order old.source.left)
 said_frame old mid new h r fits e same_settings same_order m count listed p =
-    let says = told_listed h mid new r listed p in
+    let transition = told_listed h mid new r listed p in
     let bytes : List ℕ = old.source.left in let c : Configuration = old.settings in let o : Order = old.order in
-    let answer : answer_behind mid.settings mid.order h mid.source.left ≡ answer_of_frame c o bytes =
-    ap (λ k. answer_behind k mid.order h mid.source.left) same_settings ∙ ap (λ k. answer_behind c k h mid.source.left) same_order
-    ∙ ap (answer_behind c o h) m ∙ ap (λ k. answer_behind c o k (drop 8 bytes)) e ∙ sym (answer_whole c o bytes fits) in
-    let reads : reads_behind mid.settings mid.order h mid.source.left ≡ reads_behind c o (header_of o bytes) (drop 8 bytes) =
-    ap (λ k. reads_behind k mid.order h mid.source.left) same_settings ∙ ap (λ k. reads_behind c k h mid.source.left) same_order
-    ∙ ap (reads_behind c o h) m ∙ ap (λ k. reads_behind c o k (drop 8 bytes)) e in
-    (sym says.0 ∙ answer, frame_behind o bytes mid.source.left new.source.left h e m says.1, omega (arith, says.2, count, reads))
+    let answer : answer_after mid.settings mid.order h mid.source.left ≡ answer_of_frame c o bytes =
+    ap (λ k. answer_after k mid.order h mid.source.left) same_settings ∙ ap (λ k. answer_after c k h mid.source.left) same_order
+    ∙ ap (answer_after c o h) m ∙ ap (λ k. answer_after c o k (drop 8 bytes)) e ∙ sym (answer_whole c o bytes fits) in
+    let reads : reads_after mid.settings mid.order h mid.source.left ≡ reads_after c o (header_of o bytes) (drop 8 bytes) =
+    ap (λ k. reads_after k mid.order h mid.source.left) same_settings ∙ ap (λ k. reads_after c k h mid.source.left) same_order
+    ∙ ap (reads_after c o h) m ∙ ap (λ k. reads_after c o k (drop 8 bytes)) e in
+    (sym transition.0 ∙ answer, after_frame o bytes mid.source.left new.source.left h e m transition.1, omega (arith, transition.2, count, reads))
   where
-    told_listed : (h : perf_event_header) (mid new : Meaning) (r : Result Record ParseError) → IsListed r → SaysBehind h mid (error_kinds r) new →
-        (answer_behind mid.settings mid.order h mid.source.left ≡ seen_answer r) × (new.source.left ≡ drop (body_length h) mid.source.left)
-        × (new.reads ≡ mid.reads + reads_behind mid.settings mid.order h mid.source.left)
+    told_listed : (h : perf_event_header) (mid new : ReaderState) (r : Result Record ParseError) → IsListed r → ReadsFrameAfter h mid (error_kinds r) new →
+        (answer_after mid.settings mid.order h mid.source.left ≡ seen_answer r) × (new.source.left ≡ drop (body_length h) mid.source.left)
+        × (new.reads ≡ mid.reads + reads_after mid.settings mid.order h mid.source.left)
     told_listed h mid new (Ok r) listed p = p
     told_listed h mid new (Err x) listed p = p listed
 
 -- ---- the public end
 
 -- a reader of which nothing that a run mentions has changed
-pub same_meaning : {B E : Type 0} (source : B → Source) (order : E → Order) (a b : Reader (Outer B) E) → reader.buffer_of a ≡ reader.buffer_of b → reader.config_of a ≡ reader.config_of b →
-    reader.reads_of a ≡ reader.reads_of b → reader.meaning (λ (o : Outer B). source o.buf) order a ≡ reader.meaning (λ (o : Outer B). source o.buf) order b
-same_meaning source order a b buffer config reads = rw (buffer, config, reads) refl
+pub same_state : {B E : Type 0} (source : B → Source) (order : E → Order) (a b : Reader (Outer B) E) → reader.buffer_of a ≡ reader.buffer_of b → reader.config_of a ≡ reader.config_of b →
+    reader.reads_of a ≡ reader.reads_of b → reader.state_of (λ (o : Outer B). source o.buf) order a ≡ reader.state_of (λ (o : Outer B). source o.buf) order b
+same_state source order a b buffer config reads = rw (buffer, config, reads) refl
 
 -- a call of a reader of which only what its buffer keeps for later has changed since
-pub same_call : {B E X : Type 0} (source : B → Source) (order : E → Order) (says : Says X) (old mid new : Reader (Outer B) E) (seen : Result X ErrorKind) →
+pub same_call : {B E X : Type 0} (source : B → Source) (order : E → Order) (transition : Transition X) (old mid new : Reader (Outer B) E) (outcome : Result X ErrorKind) →
     reader.buffer_of new ≡ reader.buffer_of mid → reader.config_of new ≡ reader.config_of mid → reader.reads_of new ≡ reader.reads_of mid →
-    Call (λ (o : Outer B). source o.buf) order says old seen mid → Call (λ (o : Outer B). source o.buf) order says old seen new
-same_call source order says old mid new seen buffer config reads call =
-    let same = same_meaning source order new mid buffer config reads in record {
+    Call (λ (o : Outer B). source o.buf) order transition old outcome mid → Call (λ (o : Outer B). source o.buf) order transition old outcome new
+same_call source order transition old mid new outcome buffer config reads call =
+    let same = same_state source order new mid buffer config reads in record {
       config = config ∙ call.config;
       whole = ap (λ b. (source b).whole) buffer ∙ call.whole;
       told = λ told. subst (λ b. IsTrue (source b).told) (sym buffer) (call.told told);
-      answer = λ told. subst (λ m. says (reader.meaning (λ o. source o.buf) order old) seen m) (sym same) (call.answer told);
-      keeps = λ start kept. subst (λ m. Keeps start (refused seen) m) (sym same) (call.keeps start kept);
+      answer = λ told. subst (λ m. transition (reader.state_of (λ o. source o.buf) order old) outcome m) (sym same) (call.answer told);
+      keeps = λ start kept. subst (λ m. Keeps start (refused outcome) m) (sym same) (call.keeps start kept);
     }
 
-pub run_ends : (start new : Meaning) (n : ℕ) (s : Stop) (e : RunEnd) → IsEndOf s e → KeepsRun start (n + 1) (stopped_by {A = Unit {0}} (Err s)) new → KeepsRun start (n + one_if_ended e) (end_refusal e) new
+pub run_ends : (start new : ReaderState) (n : ℕ) (s : Stop) (e : RunEnd) → IsEndOf s e → KeepsRun start (n + 1) (stopped_by {A = Unit {0}} (Err s)) new → KeepsRun start (n + one_if_ended e) (end_refusal e) new
 run_ends start new n stop.Done e is k = subst (λ (x : RunEnd). KeepsRun start (n + one_if_ended x) (end_refusal x) new) (sym is) k
 run_ends start new n stop.CutHeader e is k = subst (λ (x : RunEnd). KeepsRun start (n + one_if_ended x) (end_refusal x) new) (sym is) k
 run_ends start new n (stop.Refused r) e is k =
     subst (λ (x : RunEnd). KeepsRun start (n + one_if_ended x) (end_refusal x) new) (sym is.1) (subst (λ (kind : ErrorKind). KeepsRun start (n + 1) (Some kind) new) (sym is.2.kind_is) k)
 
-pub run_limit : (start new : Meaning) (n : ℕ) → KeepsRun start n None new → KeepsRun start (n + 0) None new
+pub run_limit : (start new : ReaderState) (n : ℕ) → KeepsRun start n None new → KeepsRun start (n + 0) None new
 run_limit start new n k = let same : n + 0 ≡ n = omega arith in subst (λ (m : ℕ). KeepsRun start m None new) (sym same) k
 
-pub run_limit_back : (start new : Meaning) (n : ℕ) → KeepsRun start (n + 0) None new → KeepsRun start n None new
+pub run_limit_back : (start new : ReaderState) (n : ℕ) → KeepsRun start (n + 0) None new → KeepsRun start n None new
 run_limit_back start new n k = let same : n + 0 ≡ n = omega arith in subst (λ (m : ℕ). KeepsRun start m None new) same k

@@ -4,7 +4,7 @@ use Rattle.std.specs.Prelude.{IsTrue, IfErr, Result}
 use Rattle.perf_base.specs.Configuration.{Configuration}
 use Rattle.perf_base.specs.Header.{header_of}
 use Rattle.perf_base.specs.Order.{Order}
-use Rattle.perf_reader.specs.Meaning.{Meaning}
+use Rattle.perf_reader.specs.ReaderState.{ReaderState}
 use Rattle.perf_reader.specs.Reading.{Keeps, last_of}
 use Rattle.perf_base.specs.declared.refusal.Refusal.TheVariants as why
 use Rattle.perf_reader.proofs.Paying.{last_all}
@@ -15,7 +15,7 @@ use Rattle.perf_reader.specs.declared.header.Stop.{Stop}
 use Rattle.perf_reader.specs.declared.header.Stop.TheVariants as stop
 use Rattle.perf_parser.proofs.Ending.{run_more}
 
-module _ (old mid new : Meaning) (settings : mid.settings ≡ old.settings) (order : mid.order ≡ old.order) (left : mid.source.left ≡ old.source.left) (reads : mid.reads ≡ old.reads) where
+module _ (old mid new : ReaderState) (settings : mid.settings ≡ old.settings) (order : mid.order ≡ old.order) (left : mid.source.left ≡ old.source.left) (reads : mid.reads ≡ old.reads) where
   -- where it is, if an allocation failed
   pub looked_between : (s : Stop) → StopsBetween mid s new → StopsBetween old s new
   looked_between s p = λ kind. elim (p kind) [
@@ -24,7 +24,7 @@ module _ (old mid new : Meaning) (settings : mid.settings ≡ old.settings) (ord
   ]
 
 -- what it lists
-pub looked_lists : (old mid new : Meaning) → mid.settings ≡ old.settings → mid.order ≡ old.order → (IsTrue old.source.told → (mid.source.left ≡ old.source.left) × (mid.reads ≡ old.reads)) → mid.source.whole ≡ old.source.whole →
+pub looked_lists : (old mid new : ReaderState) → mid.settings ≡ old.settings → mid.order ≡ old.order → (IsTrue old.source.told → (mid.source.left ≡ old.source.left) × (mid.reads ≡ old.reads)) → mid.source.whole ≡ old.source.whole →
     (IsTrue old.source.told → IsTrue mid.source.told) → (was now : Pairs) → ListsNext mid was now new → ListsNext old was now new
 looked_lists old mid new settings order same whole told was now p = (
   p.0,
@@ -45,7 +45,7 @@ looked_lists old mid new settings order same whole told was now p = (
 )
 
 -- if there was no memory for an answer, and nothing was taken
-pub room_stops : (old new : Meaning) → new.source.left ≡ old.source.left → StopsAt old (stop.Refused why.OutOfMemory) new
+pub room_stops : (old new : ReaderState) → new.source.left ≡ old.source.left → StopsAt old (stop.Refused why.OutOfMemory) new
 room_stops old new same =
     let long : length new.source.left ≡ length old.source.left = ap length same in
     ((λ h. cc), (omega (arith, long), omega (arith, long), same ∙ sym (last_all old.source.left) ∙ ap (λ k. last_of k old.source.left) (sym long)))
@@ -56,7 +56,7 @@ err_then P Q (Ok x) f p = tt
 err_then P Q (Err e) f p = f e p
 
 -- what was kept before it is kept
-pub looked_keeps : (start old mid : Meaning) (n : ℕ) → KeepsRun start n None old → Keeps old None mid → KeepsRun start n None mid
+pub looked_keeps : (start old mid : ReaderState) (n : ℕ) → KeepsRun start n None old → Keeps old None mid → KeepsRun start n None mid
 looked_keeps start old mid n k moved =
     let same : n + 0 ≡ n = omega arith in
     subst (λ (m : ℕ). KeepsRun start m None mid) same (run_more start old mid n None k moved)

@@ -4,25 +4,25 @@ use Rattle.perf_base.specs.declared.error.ErrorKind.TheVariants.{OutOfMemory}
 use Rattle.perf_base.specs.declared.sys.perf_event_header.{perf_event_header}
 use Rattle.perf_buffers.specs.Cursor.{cursor_left}
 use Rattle.perf_buffers.specs.declared.cursor.ParseBufCursor.{ParseBufCursor}
-use Rattle.perf_reader.specs.Meaning.{Meaning}
+use Rattle.perf_reader.specs.ReaderState.{ReaderState}
 use Rattle.perf_reader.specs.Reading.{Keeps}
-use Rattle.perf_records.specs.Answers.{SplitsBehind}
+use Rattle.perf_records.specs.Answers.{SplitsAfter}
 use Rattle.perf_records.specs.Metadata.{MetadataValue}
 use Rattle.perf_parser.specs.Frames.{SplitsParser}
-use Rattle.perf_parser.specs.Meaning.{buffer_of}
+use Rattle.perf_parser.specs.ReaderState.{buffer_of}
 use Rattle.perf_parser.specs.declared.parser.Parser.{Parser}
 
 -- with a parser of it
-pub split_parsed : {E : Type 0} (h : perf_event_header) (old new : Meaning) (body : ParseBufCursor) (metadata : MetadataValue) (parser : Parser ParseBufCursor E) →
-    buffer_of parser ≡ body → SplitsBehind h old (Ok (body, metadata)) new → SplitsParser h old (Ok (parser, metadata)) new
+pub split_parsed : {E : Type 0} (h : perf_event_header) (old new : ReaderState) (body : ParseBufCursor) (metadata : MetadataValue) (parser : Parser ParseBufCursor E) →
+    buffer_of parser ≡ body → SplitsAfter h old (Ok (body, metadata)) new → SplitsParser h old (Ok (parser, metadata)) new
 split_parsed h old new body metadata parser same p =
     (p.0 ∙ ap (λ (b : ParseBufCursor). Ok (record { metadata = metadata; body = cursor_left b })) (sym same), p.1, p.2)
 
 -- without one, of which nothing is stated
-pub split_unparsed : (E : Type 0) (h : perf_event_header) (old new : Meaning) → SplitsParser {E = E} h old (Err OutOfMemory) new
+pub split_unparsed : (E : Type 0) (h : perf_event_header) (old new : ReaderState) → SplitsParser {E = E} h old (Err OutOfMemory) new
 split_unparsed E h old new = λ layout. cc
 
-pub keeps_unparsed : (start new : Meaning) → Keeps start None new → Keeps start (Some OutOfMemory) new
+pub keeps_unparsed : (start new : ReaderState) → Keeps start None new → Keeps start (Some OutOfMemory) new
 keeps_unparsed start new k = record {
   buffer = k.buffer;
   fault = λ x. cc;

@@ -6,49 +6,49 @@ use Rattle.perf_base.specs.Order.{Order}
 use Rattle.perf_base.specs.declared.config.ParseConfig.{ParseConfig}
 use Rattle.perf_base.specs.declared.error.ErrorKind.{ErrorKind}
 use Rattle.perf_buffers.specs.Buffer.{Source}
-use Rattle.perf_reader.specs.Meaning.{Meaning}
-use Rattle.perf_reader.specs.Reading.{Says}
-use Rattle.perf_parser.specs.Meaning.{config_of, meaning}
+use Rattle.perf_reader.specs.ReaderState.{ReaderState}
+use Rattle.perf_reader.specs.Reading.{Transition}
+use Rattle.perf_parser.specs.ReaderState.{config_of, state_of}
 use Rattle.perf_parser.specs.Calls.{Follows, Counts, CallAs, CallOnly}
 use Rattle.perf_parser.specs.Repeats.{Step, ParsesInTurn, StopsShort}
 use Rattle.perf_parser.specs.declared.parser.Parser.{Parser}
 use Rattle.perf_parser.proofs.Paying.{follows_none, follows_more}
 
 -- a call is a step
-pub step_of : {B E X : Type 0} (source : B → Source) (order : E → Order) (says : Says X) (counts : Counts) (old new : Parser B E) (seen : Result X ErrorKind) →
-    CallAs source order says counts old seen new → Step says counts (meaning source order old) seen (meaning source order new)
-step_of {E = E} source order says counts old new seen c = record {
+pub step_of : {B E X : Type 0} (source : B → Source) (order : E → Order) (transition : Transition X) (counts : Counts) (old new : Parser B E) (outcome : Result X ErrorKind) →
+    CallAs source order transition counts old outcome new → Step transition counts (state_of source order old) outcome (state_of source order new)
+step_of {E = E} source order transition counts old new outcome c = record {
   answer = c.answer;
   counted = c.counted;
-  follows = c.follows (meaning source order old) (follows_none (meaning source order old));
+  follows = c.follows (state_of source order old) (follows_none (state_of source order old));
   settings = ap (λ (k : ParseConfig E). configuration_of k) c.config;
   order = ap (λ (k : ParseConfig E). order (endian_of k)) c.config;
 }
 
-module _ {T : Type 0} (parses : Says T) (counts : Counts) where
-  pub runs_on : (a b c : Meaning) (xs : List T) (x : T) → ParsesInTurn parses counts a xs b → Step parses counts b (Ok x) c → ParsesInTurn parses counts a (xs ++ x ∷ []) c
+module _ {T : Type 0} (parses : Transition T) (counts : Counts) where
+  pub runs_on : (a b c : ReaderState) (xs : List T) (x : T) → ParsesInTurn parses counts a xs b → Step parses counts b (Ok x) c → ParsesInTurn parses counts a (xs ++ x ∷ []) c
   runs_on a b c [] x p q = (c, subst (λ m. Step parses counts m (Ok x) c) p q, refl)
   runs_on a b c (y ∷ ys) x p q = (p.0, p.1, runs_on p.0 b c ys x p.2 q)
 
   -- what several calls keep
-  pub runs_follow : (a b : Meaning) (xs : List T) → ParsesInTurn parses counts a xs b → Follows a b
+  pub runs_follow : (a b : ReaderState) (xs : List T) → ParsesInTurn parses counts a xs b → Follows a b
   runs_follow a b [] p = subst (λ m. Follows a m) (sym p) (follows_none a)
   runs_follow a b (x ∷ xs) p = follows_more a p.0 b p.1.follows (runs_follow p.0 b xs p.2)
 
-  pub short_follows : (a b : Meaning) (n : ℕ) (e : ErrorKind) → StopsShort parses counts a n e b → Follows a b
+  pub short_follows : (a b : ReaderState) (n : ℕ) (e : ErrorKind) → StopsShort parses counts a n e b → Follows a b
   short_follows a b n e p = elim p [
     | inl q ↦ follows_more a q.1 b (runs_follow a q.1 q.0 q.3) q.4.follows
     | inr q ↦ runs_follow a b q.0 q.2
   ]
 
 -- calls that follow one another are a call of which only this is stated
-pub only : {B E X : Type 0} (source : B → Source) (order : E → Order) (old new : Parser B E) (seen : Result X ErrorKind) →
-    config_of new ≡ config_of old → Follows (meaning source order old) (meaning source order new) → CallOnly source order old seen new
-only source order old new seen config f = record {
+pub only : {B E X : Type 0} (source : B → Source) (order : E → Order) (old new : Parser B E) (outcome : Result X ErrorKind) →
+    config_of new ≡ config_of old → Follows (state_of source order old) (state_of source order new) → CallOnly source order old outcome new
+only source order old new outcome config f = record {
   config = config;
   whole = f.whole;
   told = f.told;
   answer = λ t. tt;
   counted = tt;
-  follows = λ start p. follows_more start (meaning source order old) (meaning source order new) p f;
+  follows = λ start p. follows_more start (state_of source order old) (state_of source order new) p f;
 }

@@ -3,8 +3,8 @@ use Rattle.std.specs.Prelude.{Option, Some, None, true, false, Bool, IsTrue, ◌
 use Rattle.std.specs.Prelude.{List, [], ◌∷◌, length, drop}
 use Rattle.perf_base.specs.Order.{Order}
 use Rattle.perf_base.specs.declared.error.ErrorKind.{ErrorKind}
-use Rattle.perf_reader.specs.Meaning.{Meaning}
-use Rattle.perf_records.specs.Frames.{frame_length, first_frames, behind_frames}
+use Rattle.perf_reader.specs.ReaderState.{ReaderState}
+use Rattle.perf_records.specs.Frames.{frame_length, first_frames, drop_frames}
 use Rattle.perf_records.specs.Sights.{Sight, sight_in}
 use Rattle.perf_parser.specs.Runs.{EndsWith, end_refusal, one_if_ended}
 use Rattle.perf_parser.specs.declared.runs.RunEnd.{RunEnd}
@@ -17,10 +17,10 @@ abbrev pub Handed : {S : Type 0} → (S → Sight → Bool → S → Type 0) →
     List (List ℕ) → Bool → S → Type 0
 Handed gets o whole was [] go now = (now ≡ was) × (go ≡ true)
 Handed {S} gets o whole was (frame ∷ frames) go now =
-    (lasting : Bool) × (IsTrue whole → IsTrue lasting)
-    × (((mid : S) × gets was (sight_in o frame lasting) true mid
+    (borrowed : Bool) × (IsTrue whole → IsTrue borrowed)
+    × (((mid : S) × gets was (sight_in o frame borrowed) true mid
     × Handed gets o whole mid frames go now)
-    ⊎ (gets was (sight_in o frame lasting) false now × (frames ≡ []) × (go ≡ false)))
+    ⊎ (gets was (sight_in o frame borrowed) false now × (frames ≡ []) × (go ≡ false)))
 
 -- the handler went on
 abbrev pub went_on : Option RunEnd → Bool
@@ -28,7 +28,7 @@ went_on (Some e) = true
 went_on None = false
 
 -- the handler got the first count frames, which are all present
-abbrev pub HandsFirst : {S : Type 0} → (S → Sight → Bool → S → Type 0) → Meaning → (count : ℕ) →
+abbrev pub HandsFirst : {S : Type 0} → (S → Sight → Bool → S → Type 0) → ReaderState → (count : ℕ) →
     Option RunEnd → S → S → Type 0
 HandsFirst gets old count e was now =
     (length (first_frames old.order count old.source.left) ≡ count)
@@ -40,7 +40,7 @@ HandsFirst gets old count e was now =
 abbrev pub EndsFrames : Order → (limit : ℕ) → List ℕ → (count : ℕ) → Option RunEnd → List ℕ → Type 0
 EndsFrames o limit bytes count (Some e) left = EndsWith o limit bytes count e left
 EndsFrames o limit bytes count None left =
-    (0 < count) × (count ≤ limit) × (left ≡ behind_frames o count bytes)
+    (0 < count) × (count ≤ limit) × (left ≡ drop_frames o count bytes)
 
 -- Two reads for each header, and those of its end: one more if nothing is left, two if a header is
 -- cut; those of a fault are only bounded.
@@ -64,11 +64,11 @@ one_if_run_ended (Some e) = one_if_ended e
 -- ---- one frame of it
 
 -- The next frame was handed over, and taken.
-abbrev pub HandsNext : {S : Type 0} → (S → Sight → Bool → S → Type 0) → Meaning → S → Bool → Meaning →
+abbrev pub HandsNext : {S : Type 0} → (S → Sight → Bool → S → Type 0) → ReaderState → S → Bool → ReaderState →
     S → Type 0
 HandsNext gets old was go new now = IsTrue old.source.told →
     (8 ≤ length old.source.left)
-    × ((lasting : Bool) × (IsTrue old.source.whole → IsTrue lasting)
-    × gets was (sight_in old.order old.source.left lasting) go now)
+    × ((borrowed : Bool) × (IsTrue old.source.whole → IsTrue borrowed)
+    × gets was (sight_in old.order old.source.left borrowed) go now)
     × (new.source.left ≡ drop (frame_length old.order old.source.left) old.source.left)
     × (new.reads ≡ old.reads + 2)

@@ -5,12 +5,12 @@ use Rattle.perf_base.specs.declared.sys.perf_event_header.{perf_event_header}
 use Rattle.perf_buffers.specs.Cursor.{cursor_left}
 use Rattle.perf_buffers.specs.declared.cursor.ParseBufCursor.{ParseBufCursor}
 use Rattle.perf_buffers.specs.Taking.{MovesWithin}
-use Rattle.perf_reader.specs.Reading.{Says, is_external}
-use Rattle.perf_records.specs.Answers.{FrameParts, AnswersExactly, split_behind, split_of_frame}
+use Rattle.perf_reader.specs.Reading.{Transition, is_external}
+use Rattle.perf_records.specs.Answers.{FrameParts, AnswersExactly, split_after, split_of_frame}
 use Rattle.perf_records.specs.Answers.{split_reads, frame_reads, body_length}
 use Rattle.perf_records.specs.Frames.{frame_length}
 use Rattle.perf_records.specs.Metadata.{MetadataValue}
-use Rattle.perf_parser.specs.Meaning.{buffer_of}
+use Rattle.perf_parser.specs.ReaderState.{buffer_of}
 use Rattle.perf_parser.specs.declared.parser.Parser.{Parser}
 
 -- the parts of a frame that a call returns: a parser of the body, and the metadata
@@ -19,18 +19,18 @@ parsed_parts pair = record { metadata = pair.1; body = cursor_left (buffer_of pa
 
 -- how a frame is split after its header; exactly its body and its sample id are taken
 abbrev pub SplitsParser : {E : Type 0} → perf_event_header →
-    Says (Parser ParseBufCursor E × MetadataValue)
-SplitsParser h old seen new =
+    Transition (Parser ParseBufCursor E × MetadataValue)
+SplitsParser h old outcome new =
     let c = old.settings in let o = old.order in let bytes = old.source.left in
-    AnswersExactly parsed_parts (split_behind c o h bytes) (body_length h) (split_reads c o h bytes)
-    old seen new
+    AnswersExactly parsed_parts (split_after c o h bytes) (body_length h) (split_reads c o h bytes)
+    old outcome new
 
 -- The same of a frame with its header, which is three elementary reads. If it is refused, except by
 -- a fault, a beginning of the frame is taken.
-abbrev pub SplitsFrame : {E : Type 0} → Says (Parser ParseBufCursor E × MetadataValue)
-SplitsFrame old seen new =
+abbrev pub SplitsFrame : {E : Type 0} → Transition (Parser ParseBufCursor E × MetadataValue)
+SplitsFrame old outcome new =
     let c = old.settings in let o = old.order in let bytes = old.source.left in
     AnswersExactly parsed_parts (split_of_frame c o bytes) (frame_length o bytes)
-    (frame_reads (split_reads c o) o bytes) old seen new
-    × (is_external (refused seen) ≡ false →
+    (frame_reads (split_reads c o) o bytes) old outcome new
+    × (is_external (refused outcome) ≡ false →
     MovesWithin old.source (frame_length o bytes) new.source)

@@ -1,7 +1,7 @@
-pub mod Meaning
+pub mod ReaderState
 pub mod Calls
 pub mod Repeats
-pub mod Words
+pub mod Prelude
 pub mod Frames
 pub mod Runs
 pub mod FrameRuns

@@ -4,30 +4,30 @@ use Rattle.std.specs.Prelude.{ℕ, ◌<◌, ◌≤◌, List, [], ◌∷◌, leng
 use Rattle.perf_base.specs.Refusals.{refused}
 use Rattle.perf_base.specs.declared.error.ErrorKind.{ErrorKind}
 use Rattle.perf_base.specs.declared.error.ErrorKind.TheVariants.{OutOfMemory}
-use Rattle.perf_reader.specs.Meaning.{Meaning}
-use Rattle.perf_reader.specs.Reading.{Says}
+use Rattle.perf_reader.specs.ReaderState.{ReaderState}
+use Rattle.perf_reader.specs.Reading.{Transition}
 use Rattle.perf_parser.specs.Calls.{Follows, Counts}
 
 -- What a type states of its parse: what it returns, and what it counts.
-module _ {T : Type 0} (parses : Says T) (counts : Counts) where
+module _ {T : Type 0} (parses : Transition T) (counts : Counts) where
   -- One call of its parse, under the configuration and the order of the state before.
-  pub record Step (old : Meaning) (seen : Result T ErrorKind) (new : Meaning) : Type 0 where
-    pub answer : IsTrue old.source.told → parses old seen new
-    pub counted : counts old (refused seen) new
+  pub record Step (old : ReaderState) (outcome : Result T ErrorKind) (new : ReaderState) : Type 0 where
+    pub answer : IsTrue old.source.told → parses old outcome new
+    pub counted : counts old (refused outcome) new
     pub follows : Follows old new
     pub settings : new.settings ≡ old.settings
     pub order : new.order ≡ old.order
 
   -- the values were parsed one after another
-  abbrev pub ParsesInTurn : Meaning → List T → Meaning → Type 0
+  abbrev pub ParsesInTurn : ReaderState → List T → ReaderState → Type 0
   ParsesInTurn old [] new = new ≡ old
-  ParsesInTurn old (x ∷ xs) new = (mid : Meaning) × Step old (Ok x) mid × ParsesInTurn mid xs new
+  ParsesInTurn old (x ∷ xs) new = (mid : ReaderState) × Step old (Ok x) mid × ParsesInTurn mid xs new
 
   -- Fewer than n values were parsed, and the next one was refused; or there was no memory for one
   -- of those that were.
-  abbrev pub StopsShort : Meaning → ℕ → ErrorKind → Meaning → Type 0
+  abbrev pub StopsShort : ReaderState → ℕ → ErrorKind → ReaderState → Type 0
   StopsShort old n e new =
-      ((xs : List T) × (mid : Meaning) × (length xs < n) × ParsesInTurn old xs mid
+      ((xs : List T) × (mid : ReaderState) × (length xs < n) × ParsesInTurn old xs mid
       × Step mid (Err e) new)
       ⊎ ((xs : List T) × (length xs ≤ n) × ParsesInTurn old xs new × (e ≡ OutOfMemory))
 

@@ -19,14 +19,14 @@ use Rattle.perf_buffers.specs.Taking.{MovesWithin}
 use Rattle.perf_buffers.specs.declared.outer.Outer.{Outer}
 use Rattle.perf_reader.specs.Calls.{Call}
 pub use Rattle.perf_reader.specs.Headers.{ReadsHeader, StopsAt, LeavesWithin, stop_kind, stop_kinds}
-use Rattle.perf_reader.specs.Meaning.{Meaning, buffer_of}
-use Rattle.perf_reader.specs.Reading.{Says, of_layout, last_of, is_external}
+use Rattle.perf_reader.specs.ReaderState.{ReaderState, buffer_of}
+use Rattle.perf_reader.specs.Reading.{Transition, of_layout, last_of, is_external}
 use Rattle.perf_reader.specs.declared.header.Stop.{Stop}
 use Rattle.perf_reader.specs.declared.reader.Reader.{Reader}
 use Rattle.perf_reader.specs.declared.header.Stop.TheVariants as stop
-use Rattle.perf_records.specs.Answers.{answer_of_frame, reads_behind, LeavesAllOrBehind}
-pub use Rattle.perf_records.specs.Answers.{SaysBehind, answers, body_length}
-use Rattle.perf_records.specs.Frames.{frame_length, first_frames, frames, behind_frames}
+use Rattle.perf_records.specs.Answers.{answer_of_frame, reads_after, LeavesAllOrRest}
+pub use Rattle.perf_records.specs.Answers.{ReadsFrameAfter, answers, body_length}
+use Rattle.perf_records.specs.Frames.{frame_length, first_frames, frames, drop_frames}
 use Rattle.perf_records.specs.Frames.{stream_end, done, cut_header}
 use Rattle.perf_records.specs.Records.{RecordValue, record_value, IsBorrowed}
 use Rattle.perf_records.specs.declared.record.Record.{Record}
@@ -64,20 +64,20 @@ refused_count (pair ∷ pairs) =
     elim (pair.1) [ Ok r ↦ refused_count pairs | Err e ↦ 1 + refused_count pairs ]
 
 -- no byte string of an answer was copied
-abbrev pub is_borrowed_answer : Result Record ParseError → Type 0
-is_borrowed_answer (Ok r) = IsBorrowed r
-is_borrowed_answer (Err e) = Unit {0}
+abbrev pub IsBorrowedAnswer : Result Record ParseError → Type 0
+IsBorrowedAnswer (Ok r) = IsBorrowed r
+IsBorrowedAnswer (Err e) = Unit {0}
 
 -- no byte string of any was
 abbrev pub AllBorrowed : Pairs → Type 0
 AllBorrowed [] = Unit {0}
-AllBorrowed (pair ∷ pairs) = is_borrowed_answer pair.1 × AllBorrowed pairs
+AllBorrowed (pair ∷ pairs) = IsBorrowedAnswer pair.1 × AllBorrowed pairs
 
 -- ---- how many reads it makes
 
 -- the reads of a frame, by its bytes: two for its header, and those of the rest
 abbrev pub listed_reads : Configuration → Order → List ℕ → ℕ
-listed_reads c o frame = 2 + reads_behind c o (header_of o frame) (drop 8 frame)
+listed_reads c o frame = 2 + reads_after c o (header_of o frame) (drop 8 frame)
 
 -- those of the first k frames
 abbrev pub first_reads : Configuration → Order → ℕ → List ℕ → ℕ
@@ -112,24 +112,24 @@ one_if_ended (end.Fault e) = 1
 -- header is cut; and after a fault, which is none of the layout's refusals, the bytes after those
 -- frames except a beginning of the next one.
 abbrev pub EndsWith : Order → (limit : ℕ) → List ℕ → (k : ℕ) → RunEnd → List ℕ → Type 0
-EndsWith o limit bytes k end.Limit left = (k ≡ limit) × (left ≡ behind_frames o k bytes)
+EndsWith o limit bytes k end.Limit left = (k ≡ limit) × (left ≡ drop_frames o k bytes)
 EndsWith o limit bytes k end.Done left =
     (k < limit) × (k ≡ length (frames o bytes)) × (stream_end o bytes ≡ done) × (left ≡ [])
 EndsWith o limit bytes k end.CutHeader left =
     (k < limit) × (k ≡ length (frames o bytes)) × (stream_end o bytes ≡ cut_header) × (left ≡ [])
 EndsWith o limit bytes k (end.Fault e) left =
     (k < limit) × (IsTrue (of_layout (kind_of e)) → ⊥)
-    × LeavesWithin o (behind_frames o k bytes) left
+    × LeavesWithin o (drop_frames o k bytes) left
 
 -- A run that ended out of memory is between two frames: before the one that it did not list, or
 -- after it.
 abbrev pub EndsBetween : Order → List ℕ → (count : ℕ) → RunEnd → List ℕ → Type 0
 EndsBetween o bytes count e left = end_refusal e ≡ Some OutOfMemory →
-    (left ≡ behind_frames o count bytes) ⊎ (left ≡ behind_frames o (count + 1) bytes)
+    (left ≡ drop_frames o count bytes) ⊎ (left ≡ drop_frames o (count + 1) bytes)
 
 -- What holds between two moments of a run that listed this many refusals, the second of them after
 -- the refusal that ended it, if one did.
-pub record KeepsRun (start : Meaning) (refusals : ℕ) (e : Option ErrorKind) (new : Meaning)
+pub record KeepsRun (start : ReaderState) (refusals : ℕ) (e : Option ErrorKind) (new : ReaderState)
     : Type 0 where
   -- the buffer stays what it is, and its faults are counted
   pub buffer : Stays start.source e new.source
@@ -157,9 +157,9 @@ one_if_stopped (Ok x) = 0
 one_if_stopped (Err s) = 1
 
 -- If an allocation failed, nothing was taken, or exactly the next frame.
-abbrev pub StopsBetween : Meaning → Stop → Meaning → Type 0
+abbrev pub StopsBetween : ReaderState → Stop → ReaderState → Type 0
 StopsBetween old s new = stop_kind s ≡ OutOfMemory →
-    LeavesAllOrBehind old.source (frame_length old.order old.source.left) new.source
+    LeavesAllOrRest old.source (frame_length old.order old.source.left) new.source
 
 -- how a run ends that was stopped in this way: by the error that a refusal becomes, with its
 -- message
@@ -176,9 +176,9 @@ IsListed (Err e) = IsTrue (of_layout (kind_of e))
 -- the answer of a frame was listed after the others, and this holds of its reading
 abbrev pub ListsAnswer : perf_event_header → (was now : Pairs) → (whole : Type 0) →
     (Result Record ErrorKind → Type 0) → Type 0
-ListsAnswer h was now whole says =
+ListsAnswer h was now whole transition =
     (r : Result Record ParseError) × (now ≡ was ++ (h, r) ∷ [])
-    × (whole → is_borrowed_answer r) × IsListed r × says (error_kinds r)
+    × (whole → IsBorrowedAnswer r) × IsListed r × transition (error_kinds r)
 
 -- the same of a refusal of the layout: the error that it becomes, with its message
 abbrev pub ListsRefused : perf_event_header → Refusal → (was now : Pairs) → Type 0
@@ -187,10 +187,10 @@ ListsRefused h r was now =
     × IsTrue (of_layout (refusal_kind r))
 
 -- one more frame was listed: the next one, which was taken whole
-abbrev pub ListsNext : Meaning → (was now : Pairs) → Meaning → Type 0
+abbrev pub ListsNext : ReaderState → (was now : Pairs) → ReaderState → Type 0
 ListsNext old was now new =
     (h : perf_event_header) × (r : Result Record ParseError) × (now ≡ was ++ (h, r) ∷ [])
-    × (IsTrue old.source.whole → is_borrowed_answer r)
+    × (IsTrue old.source.whole → IsBorrowedAnswer r)
     × (IsTrue old.source.told →
     (8 ≤ length old.source.left) × (h ≡ header_of old.order old.source.left)
     × (seen_answer r ≡ answer_of_frame old.settings old.order old.source.left)
@@ -212,7 +212,7 @@ pub record ListsFrame {B E : Type 0} (source : B → Source) (hint : B → Optio
       MovesWithin (source (buffer_of old)) (body_length h) (source (buffer_of new))
   -- its answer is listed after the others
   pub listed : OnOk result (ListsAnswer h was now (IsTrue (source (buffer_of old)).whole)
-      (λ seen. Call (λ (o : Outer B). source o.buf) order (SaysBehind h) old seen new))
+      (λ outcome. Call (λ (o : Outer B). source o.buf) order (ReadsFrameAfter h) old outcome new))
   -- no record is listed if the buffer reports, after the header, that it has too few bytes
   pub short : falls_short (hint (buffer_of old)) (body_length h) ≡ true →
       OnOk result (ListsNoRecord was now)
@@ -220,7 +220,7 @@ pub record ListsFrame {B E : Type 0} (source : B → Source) (hint : B → Optio
   pub kept : OnErr result (now ≡ was)
   -- it stops by a refusal that is not of the layout
   pub stops : IfErr result (λ e. (IsTrue (of_layout (refusal_kind e)) → ⊥)
-      × Call (λ (o : Outer B). source o.buf) order (SaysBehind h) old (Err (refusal_kind e)) new)
+      × Call (λ (o : Outer B). source o.buf) order (ReadsFrameAfter h) old (Err (refusal_kind e)) new)
   -- if an allocation fails over a slice, exactly the frame is taken
   pub spent : IsTrue (source (buffer_of old)).told → IsTrue (source (buffer_of old)).whole →
       IfErr result (λ e. refusal_kind e ≡ OutOfMemory →
@@ -236,7 +236,7 @@ MakesRoom left count old new =
     × (new ≤ max old (count + max shown (max count 1)))
 
 -- Nothing was taken. If the buffer shows nothing, that was the read of a first byte.
-abbrev pub TakesNothing : Says (Unit {0})
+abbrev pub TakesNothing : Transition (Unit {0})
 TakesNothing old (Ok x) new =
     (new.source.left ≡ old.source.left) × (new.reads ≡ old.reads)
 TakesNothing old (Err e) new = new.source.left ≡ old.source.left

@@ -4,8 +4,8 @@ ghost use Rattle.std.specs.Prelude.{◌≡◌, ◌≢◌, ◌+◌, ◌≤◌, �
 ghost use Rattle.perf_base.specs.Configured.{configuration_of, endian_of};
 ghost use Rattle.perf_parser.specs.FrameRuns as hands;
 ghost use Rattle.perf_parser.specs.Runs as stream;
-ghost use Rattle.perf_parser.specs.Words.{buffer_of, config_of, reads_of, meaning};
-ghost use Rattle.perf_reader.specs.Words as low;
+ghost use Rattle.perf_parser.specs.Prelude.{buffer_of, config_of, reads_of, state_of};
+ghost use Rattle.perf_reader.specs.Prelude as low;
 
 use crate::parser::Parser;
 use crate::runs::{RunEnd, end_of};
@@ -36,19 +36,19 @@ fn hand_next<'p, B: ParseBuf<'p>, E: Endian, H: FrameHandler<'p, E>>(
     ensures handed { IfOk result (λ go. hands.HandsNext
         (λ s x. H.gets s (configuration_of (low.config_of reader.old))
         (E.order (endian_of (low.config_of reader.old))) x)
-        (low.meaning (λ (o : Outer B). B.source o.buf) E.order reader.old) handler.old go
-        (low.meaning (λ (o : Outer B). B.source o.buf) E.order reader.new) handler.new) }
+        (low.state_of (λ (o : Outer B). B.source o.buf) E.order reader.old) handler.old go
+        (low.state_of (λ (o : Outer B). B.source o.buf) E.order reader.new) handler.new) }
     ensures same { OnErr result (handler.new ≡ handler.old) }
     ensures stop { IsTrue (B.source (low.buffer_of reader.old)).told → IfErr result (λ s.
-        stream.StopsAt (low.meaning (λ (o : Outer B). B.source o.buf) E.order reader.old) s
-        (low.meaning (λ (o : Outer B). B.source o.buf) E.order reader.new)) }
+        stream.StopsAt (low.state_of (λ (o : Outer B). B.source o.buf) E.order reader.old) s
+        (low.state_of (λ (o : Outer B). B.source o.buf) E.order reader.new)) }
     ensures whole_memory { IsTrue (B.source (low.buffer_of reader.old)).told →
         IsTrue (B.source (low.buffer_of reader.old)).whole →
         low.TakesNoMemory (stream.stop_kinds result) }
-    ensures keeps { (start : low.Meaning) (n : ℕ) → stream.KeepsRun start n None
-        (low.meaning (λ (o : Outer B). B.source o.buf) E.order reader.old) →
+    ensures keeps { (start : low.ReaderState) (n : ℕ) → stream.KeepsRun start n None
+        (low.state_of (λ (o : Outer B). B.source o.buf) E.order reader.old) →
         stream.KeepsRun start (n + stream.one_if_stopped result) (stream.stopped_by result)
-        (low.meaning (λ (o : Outer B). B.source o.buf) E.order reader.new) }
+        (low.state_of (λ (o : Outer B). B.source o.buf) E.order reader.new) }
 {
     let header = match reader.next_header() {
         Ok(header) => header,
@@ -80,11 +80,11 @@ pub fn each_frame<'p, B: ParseBuf<'p>, E: Endian, H: FrameHandler<'p, E>>(
     ensures handed { IsTrue (B.source (buffer_of parser.old)).told → hands.HandsFirst
         (λ s x. H.gets s (configuration_of (config_of parser.old))
         (E.order (endian_of (config_of parser.old))) x)
-        (meaning B.source E.order parser.old) result.count result.end handler.old handler.new }
+        (state_of B.source E.order parser.old) result.count result.end handler.old handler.new }
 
     // How it ends, and what it leaves.
     ensures end { IsTrue (B.source (buffer_of parser.old)).told →
-        hands.EndsFrames (meaning B.source E.order parser.old).order limit
+        hands.EndsFrames (state_of B.source E.order parser.old).order limit
         (B.source (buffer_of parser.old)).left result.count result.end
         (B.source (buffer_of parser.new)).left }
 
@@ -98,9 +98,9 @@ pub fn each_frame<'p, B: ParseBuf<'p>, E: Endian, H: FrameHandler<'p, E>>(
         result.count result.end (reads_of parser.old) (reads_of parser.new) }
 
     // What it keeps, whatever the buffer: faults are counted, and no more is read than is taken.
-    ensures keeps { stream.KeepsRun (meaning B.source E.order parser.old)
+    ensures keeps { stream.KeepsRun (state_of B.source E.order parser.old)
         (hands.one_if_run_ended result.end) (hands.frames_refusal result.end)
-        (meaning B.source E.order parser.new) }
+        (state_of B.source E.order parser.new) }
 {
     for count in 0..limit {
         match hand_next(&mut parser.reader, handler) {

@@ -1,9 +1,9 @@
 //! Records that are parsed after their header.
 
 ghost use Rattle.std.specs.Prelude.{◌≡◌, ◌<◌, false, true, drop, Err, IsTrue, IfOk, IfErr};
-ghost use Rattle.perf_parser.specs.Words.{Call, SaysBehind, error_kinds, buffer_of};
-ghost use Rattle.perf_parser.specs.Words.{TakesNoMemory, body_length, kind_of};
-ghost use Rattle.perf_parser.specs.Words as words;
+ghost use Rattle.perf_parser.specs.Prelude.{Call, ReadsFrameAfter, error_kinds, buffer_of};
+ghost use Rattle.perf_parser.specs.Prelude.{TakesNoMemory, body_length, kind_of};
+ghost use Rattle.perf_parser.specs.Prelude as words;
 
 use crate::parse::{FrameLayout, ParseRecord};
 use crate::parser::Parser;
@@ -16,7 +16,7 @@ use perf_records::frame_after::read_after;
 use perf_records::record::Record;
 
 impl FrameLayout for Record<'_> {
-    ghost says_behind = { SaysBehind };
+    ghost transition_after = { ReadsFrameAfter };
 }
 
 impl<'p, B: ParseBuf<'p>> ParseRecord<'p, B> for Record<'p> {
@@ -50,14 +50,14 @@ impl<'p, B: ParseBuf<'p>> ParseRecord<'p, B> for Record<'p> {
         ensures beforehand { IsTrue (B.source (buffer_of parser.old)).told →
             words.is_made_beforehand (B.hint (buffer_of parser.old)) (body_length header) ≡ true →
             IfErr result (λ e. kind_of e ≡ ErrorKind.OutOfMemory →
-            words.LeavesAllOrBehind (B.source (buffer_of parser.old)) (body_length header)
+            words.LeavesAllOrRest (B.source (buffer_of parser.old)) (body_length header)
             (B.source (buffer_of parser.new))) }
         ensures spent { IsTrue (B.source (buffer_of parser.old)).told →
             IsTrue (B.source (buffer_of parser.old)).whole →
             IfErr result (λ e. kind_of e ≡ ErrorKind.OutOfMemory →
             (B.source (buffer_of parser.new)).left
             ≡ drop (body_length header) (B.source (buffer_of parser.old)).left) }
-        ensures call { Call B.source E.order (SaysBehind header)
+        ensures call { Call B.source E.order (ReadsFrameAfter header)
             parser.old (error_kinds result) parser.new }
     {
         match read_after(&mut parser.reader, header, AsRecord, &mut ()) {

@@ -2,9 +2,9 @@
 
 ghost use Rattle.std.specs.Prelude.{IsTrue};
 ghost use Rattle.perf_base.specs.declared.sys.perf_event_header.{perf_event_header};
-ghost use Rattle.perf_parser.specs.Words.{Says, Counts, KeepsOn, Call, CallAs, buffer_of};
-ghost use Rattle.perf_parser.specs.Words.{error_kinds, body_length, MovesWithin, Reads};
-ghost use Rattle.perf_parser.specs.Words.{RegistersValue, registers_of, registers_value};
+ghost use Rattle.perf_parser.specs.Prelude.{Transition, Counts, KeepsOn, Call, CallAs, buffer_of};
+ghost use Rattle.perf_parser.specs.Prelude.{error_kinds, body_length, MovesWithin, Reads};
+ghost use Rattle.perf_parser.specs.Prelude.{RegistersValue, registers_of, registers_value};
 
 pub use crate::parser::Parser;
 pub use perf_base::config::ParseConfig;
@@ -14,13 +14,13 @@ use perf_base::sys::perf_event_header;
 pub use perf_buffers::cursor::ParseBufCursor;
 use perf_buffers::outer::Outer;
 pub use perf_buffers::parsebuf::{ParseBuf, ParseBufChunk};
-use perf_reader::read::{Meant, ReadFrom};
+use perf_reader::read::{HasTransition, ReadFrom};
 use perf_sample_types::registers::Registers;
 
 /// What the parse of a type means.
 pub trait Layout: Sized {
     // What a call returns, from the state of the parser before it, and the state after it.
-    ghost parses: { Says Self };
+    ghost parses: { Transition Self };
 
     // What it counts: faults, and elementary reads. A type of this library counts each fault that
     // it returns and no other, returns one only over a buffer that can fault, and makes at most as
@@ -37,11 +37,11 @@ pub trait Parse<'p, B: ParseBuf<'p>>: Layout {
 }
 
 /// What this library reads.
-impl<T: Meant> Layout for T {
-    ghost parses = { T.says };
+impl<T: HasTransition> Layout for T {
+    ghost parses = { T.transition };
 }
 
-impl<'p, B: ParseBuf<'p>, T: ReadFrom<'p, Outer<B>> + Meant> Parse<'p, B> for T {
+impl<'p, B: ParseBuf<'p>, T: ReadFrom<'p, Outer<B>> + HasTransition> Parse<'p, B> for T {
     #[inline]
     fn parse<E: Endian>(parser: &mut Parser<B, E>) -> ParseResult<Self> {
         match T::read(&mut parser.reader) {
@@ -54,7 +54,7 @@ impl<'p, B: ParseBuf<'p>, T: ReadFrom<'p, Outer<B>> + Meant> Parse<'p, B> for T 
 /// What the parse of a frame means, by its header.
 pub trait FrameLayout: Sized {
     // What a call returns after a header.
-    ghost says_behind: { perf_event_header → Says Self };
+    ghost transition_after: { perf_event_header → Transition Self };
 }
 
 /// A type that is parsed from a frame whose header was read before.
@@ -68,7 +68,7 @@ pub trait ParseRecord<'p, B: ParseBuf<'p>>: FrameLayout {
         ensures within { IsTrue (B.source (buffer_of parser.old)).told →
             MovesWithin (B.source (buffer_of parser.old)) (body_length header)
             (B.source (buffer_of parser.new)) }
-        ensures call { Call B.source E.order (Self.says_behind header)
+        ensures call { Call B.source E.order (Self.transition_after header)
             parser.old (error_kinds result) parser.new };
 }
 

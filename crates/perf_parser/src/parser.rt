@@ -4,14 +4,14 @@ ghost use Rattle.std.specs.Prelude.{◌≡◌, ◌+◌, length, [], true, IsTrue
 ghost use Rattle.std.specs.Prelude.{◌≤◌, false, drop, Err, Ok, None};
 ghost use Rattle.std.specs.Fn.{FnOnceReturnsAtMut};
 ghost use Rattle.perf_parser.specs.Repeats.{ParsesInTurn, StopsShort, AsOption};
-ghost use Rattle.perf_parser.specs.Words.{name, one_if_any, falls_short, is_made_beforehand};
-ghost use Rattle.perf_parser.specs.Words.{Call, Reads, ReadsOne, TakesNoMemory, buffer_of};
-ghost use Rattle.perf_parser.specs.Words.{reads_of, error_kinds, kind_of, cow_items, is_borrowed};
-ghost use Rattle.perf_parser.specs.Words.{byte_string, rest, SplitsParser, SplitsFrame};
-ghost use Rattle.perf_parser.specs.Words.{config_of, configuration_of, endian_of, body_length};
-ghost use Rattle.perf_parser.specs.Words.{CallAs, CallOnly, meaning, number, w1, w2, w4, w8};
-ghost use Rattle.perf_parser.specs.Words.{VisitsBehind, VisitsFrame, BelongsTo};
-ghost use Rattle.perf_parser.specs.Words as words;
+ghost use Rattle.perf_parser.specs.Prelude.{name, one_if_any, falls_short, is_made_beforehand};
+ghost use Rattle.perf_parser.specs.Prelude.{Call, Reads, ReadsOne, TakesNoMemory, buffer_of};
+ghost use Rattle.perf_parser.specs.Prelude.{reads_of, error_kinds, kind_of, cow_items, is_borrowed};
+ghost use Rattle.perf_parser.specs.Prelude.{byte_string, rest, SplitsParser, SplitsFrame};
+ghost use Rattle.perf_parser.specs.Prelude.{config_of, configuration_of, endian_of, body_length};
+ghost use Rattle.perf_parser.specs.Prelude.{CallAs, CallOnly, state_of, number, w1, w2, w4, w8};
+ghost use Rattle.perf_parser.specs.Prelude.{GivesFrameAfter, GivesFrame, BelongsTo};
+ghost use Rattle.perf_parser.specs.Prelude as words;
 
 use crate::parse::Parse;
 use perf_base::config::ParseConfig;
@@ -291,8 +291,8 @@ impl<'p, B: ParseBuf<'p>, E: Endian> Parser<B, E> {
     pub fn parse_if<P: Parse<'p, B>>(&mut self, condition: bool) -> ParseResult<Option<P>>
         ensures call { CallOnly B.source E.order self.old (error_kinds result) self.new }
         ensures skipped { condition ≡ false → (self.new ≡ self.old) × (result ≡ Ok None) }
-        ensures parsed { condition ≡ true → AsOption (λ seen. CallAs B.source E.order P.parses
-            P.counts self.old seen self.new) (error_kinds result) }
+        ensures parsed { condition ≡ true → AsOption (λ outcome. CallAs B.source E.order P.parses
+            P.counts self.old outcome self.new) (error_kinds result) }
     {
         if !condition {
             return Ok(None);
@@ -313,10 +313,10 @@ impl<'p, B: ParseBuf<'p>, E: Endian> Parser<B, E> {
         ensures nothing { len ≡ 0 → IsOk result }
         ensures call { CallOnly B.source E.order self.old (error_kinds result) self.new }
         ensures ok { IfOk result (λ v. (length v.items ≡ len) × ParsesInTurn P.parses P.counts
-            (meaning B.source E.order self.old) v.items (meaning B.source E.order self.new)) }
+            (state_of B.source E.order self.old) v.items (state_of B.source E.order self.new)) }
         ensures err { IfErr result (λ e. StopsShort P.parses P.counts
-            (meaning B.source E.order self.old) len (kind_of e)
-            (meaning B.source E.order self.new)) }
+            (state_of B.source E.order self.old) len (kind_of e)
+            (state_of B.source E.order self.new)) }
     {
         let mut items = match self.reader.list_for(len) {
             Ok(items) => items,
@@ -343,11 +343,11 @@ impl<'p, B: ParseBuf<'p>, E: Endian> Parser<B, E> {
         ensures call { CallOnly B.source E.order self.old (error_kinds result) self.new }
         ensures owned { IfOk result (λ c. is_borrowed c ≡ false) }
         ensures ok { IfOk result (λ c. (length (cow_items c) ≡ len) × ParsesInTurn P.parses P.counts
-            (meaning B.source E.order self.old) (cow_items c)
-            (meaning B.source E.order self.new)) }
+            (state_of B.source E.order self.old) (cow_items c)
+            (state_of B.source E.order self.new)) }
         ensures err { IfErr result (λ e. StopsShort P.parses P.counts
-            (meaning B.source E.order self.old) len (kind_of e)
-            (meaning B.source E.order self.new)) }
+            (state_of B.source E.order self.old) len (kind_of e)
+            (state_of B.source E.order self.new)) }
     {
         match self.parse_repeated::<P>(len) {
             Ok(items) => Ok(CowSlice::Owned(items)),
@@ -396,14 +396,14 @@ impl<'p, B: ParseBuf<'p>, E: Endian> Parser<B, E> {
         ensures beforehand { IsTrue (B.source (buffer_of self.old)).told →
             words.is_made_beforehand (B.hint (buffer_of self.old)) (body_length header) ≡ true →
             IfErr result (λ e. kind_of e ≡ ErrorKind.OutOfMemory →
-            words.LeavesAllOrBehind (B.source (buffer_of self.old)) (body_length header)
+            words.LeavesAllOrRest (B.source (buffer_of self.old)) (body_length header)
             (B.source (buffer_of self.new))) }
         ensures spent { IsTrue (B.source (buffer_of self.old)).told →
             IsTrue (B.source (buffer_of self.old)).whole →
             IfErr result (λ e. kind_of e ≡ ErrorKind.OutOfMemory →
             (B.source (buffer_of self.new)).left
             ≡ drop (body_length header) (B.source (buffer_of self.old)).left) }
-        ensures call { Call B.source E.order (VisitsBehind V.gives header)
+        ensures call { Call B.source E.order (GivesFrameAfter V.gives header)
             self.old (error_kinds result) self.new }
     {
         match read_after(&mut self.reader, header, ByVisitor { visitor }, &mut ()) {
@@ -420,7 +420,7 @@ impl<'p, B: ParseBuf<'p>, E: Endian> Parser<B, E> {
         ensures small { IsTrue (B.source (buffer_of self.old)).told →
             words.RefusesHeader (E.order (words.endian_of (words.config_of self.old)))
             (B.source (buffer_of self.old)).left (error_kinds result) }
-        ensures call { Call B.source E.order (VisitsFrame V.gives)
+        ensures call { Call B.source E.order (GivesFrame V.gives)
             self.old (error_kinds result) self.new }
     {
         let header = match self.parse::<perf_event_header>() {
@@ -456,7 +456,7 @@ impl<'p, B: ParseBuf<'p>, E: Endian> Parser<B, E> {
             × (E.order (endian_of (config_of r.0)) ≡ E.order (endian_of (config_of self.old)))
             × (reads_of r.0 ≡ 0)) }
         ensures whole { IsTrue (B.source (buffer_of self.old)).whole →
-            IfOk result (λ r. IsTrue (words.cursor_lent (buffer_of r.0))) }
+            IfOk result (λ r. IsTrue (words.cursor_is_borrowed (buffer_of r.0))) }
         ensures whole_memory { IsTrue (B.source (buffer_of self.old)).whole →
             E.may_refuse (endian_of (config_of self.old)) ≡ false →
             TakesNoMemory (error_kinds result) }
@@ -482,7 +482,7 @@ impl<'p, B: ParseBuf<'p>, E: Endian> Parser<B, E> {
         ensures beforehand { IsTrue (B.source (buffer_of self.old)).told →
             words.is_made_beforehand (B.hint (buffer_of self.old)) (body_length header) ≡ true →
             IfErr result (λ e. kind_of e ≡ ErrorKind.OutOfMemory →
-            words.LeavesAllOrBehind (B.source (buffer_of self.old)) (body_length header)
+            words.LeavesAllOrRest (B.source (buffer_of self.old)) (body_length header)
             (B.source (buffer_of self.new))) }
         ensures call { Call B.source E.order (SplitsParser header)
             self.old (error_kinds result) self.new }
@@ -505,7 +505,7 @@ impl<'p, B: ParseBuf<'p>, E: Endian> Parser<B, E> {
             × (E.order (endian_of (config_of r.0)) ≡ E.order (endian_of (config_of self.old)))
             × (reads_of r.0 ≡ 0)) }
         ensures whole { IsTrue (B.source (buffer_of self.old)).whole →
-            IfOk result (λ r. IsTrue (words.cursor_lent (buffer_of r.0))) }
+            IfOk result (λ r. IsTrue (words.cursor_is_borrowed (buffer_of r.0))) }
         ensures whole_memory { IsTrue (B.source (buffer_of self.old)).told →
             IsTrue (B.source (buffer_of self.old)).whole →
             E.may_refuse (endian_of (config_of self.old)) ≡ false →

@@ -4,9 +4,9 @@ ghost use Rattle.std.specs.Prelude.{◌≡◌, ◌+◌, ◌≤◌, ◌<◌, ◌+
 ghost use Rattle.std.specs.Prelude.{max, min, length};
 ghost use Rattle.std.specs.Prelude.{vec_len, vec_capacity};
 ghost use Rattle.std.specs.Prelude.{IsTrue, IfOk, IfErr, OnOk, OnErr};
-ghost use Rattle.perf_parser.specs.Words.{buffer_of, config_of, reads_of, meaning};
+ghost use Rattle.perf_parser.specs.Prelude.{buffer_of, config_of, reads_of, state_of};
 ghost use Rattle.perf_parser.specs.Runs as stream;
-ghost use Rattle.perf_reader.specs.Words as low;
+ghost use Rattle.perf_reader.specs.Prelude as low;
 
 use crate::parser::Parser;
 use perf_base::endian::Endian;
@@ -106,12 +106,12 @@ fn list_refused<'p, B: ParseBuf<'p>, E: Endian>(
 fn list_record<'p>(
     frames: &mut Vec<(perf_event_header, ParseResult<Record<'p>>)>,
     header: perf_event_header,
-    held: Record<'p>,
+    content: Record<'p>,
 )
     requires { vec_len frames.old < vec_capacity frames.old }
-    ensures { frames.new.items ≡ frames.old.items ++ ((header, Ok held.entry) ∷ []) }
+    ensures { frames.new.items ≡ frames.old.items ++ ((header, Ok content.entry) ∷ []) }
 {
-    frames.push_reserved((header, Ok(held)));
+    frames.push_reserved((header, Ok(content)));
 }
 
 // Lists the answer of a frame after its header, in capacity that was reserved; or returns the fault
@@ -231,8 +231,8 @@ fn make_room<'p, B: ParseBuf<'p>, E: Endian>(
         stream.MakesRoom (length (B.source (low.buffer_of reader.old)).left) (vec_len frames.old)
         (vec_capacity frames.old) (vec_capacity frames.new) }
     ensures stop { IsTrue (B.source (low.buffer_of reader.old)).told → IfErr result (λ s.
-        stream.StopsAt (low.meaning (λ (o : Outer B). B.source o.buf) E.order reader.old) s
-        (low.meaning (λ (o : Outer B). B.source o.buf) E.order reader.new)) }
+        stream.StopsAt (low.state_of (λ (o : Outer B). B.source o.buf) E.order reader.old) s
+        (low.state_of (λ (o : Outer B). B.source o.buf) E.order reader.new)) }
     ensures call { low.Call (λ (o : Outer B). B.source o.buf) E.order stream.TakesNothing
         reader.old (stream.stop_kinds result) reader.new }
 {
@@ -258,22 +258,22 @@ fn list_next<'p, B: ParseBuf<'p>, E: Endian>(
     requires room { vec_len frames.old < vec_capacity frames.old }
     ensures config { low.config_of reader.new ≡ low.config_of reader.old }
     ensures listed { OnOk result (stream.ListsNext
-        (low.meaning (λ (o : Outer B). B.source o.buf) E.order reader.old) frames.old.items
-        frames.new.items (low.meaning (λ (o : Outer B). B.source o.buf) E.order reader.new)) }
+        (low.state_of (λ (o : Outer B). B.source o.buf) E.order reader.old) frames.old.items
+        frames.new.items (low.state_of (λ (o : Outer B). B.source o.buf) E.order reader.new)) }
     ensures kept { OnErr result (frames.new.items ≡ frames.old.items) }
     ensures stop { IsTrue (B.source (low.buffer_of reader.old)).told → IfErr result (λ s.
-        stream.StopsAt (low.meaning (λ (o : Outer B). B.source o.buf) E.order reader.old) s
-        (low.meaning (λ (o : Outer B). B.source o.buf) E.order reader.new)) }
+        stream.StopsAt (low.state_of (λ (o : Outer B). B.source o.buf) E.order reader.old) s
+        (low.state_of (λ (o : Outer B). B.source o.buf) E.order reader.new)) }
     ensures between { IsTrue (B.source (low.buffer_of reader.old)).told →
         IsTrue (B.source (low.buffer_of reader.old)).whole → IfErr result (λ s.
-        stream.StopsBetween (low.meaning (λ (o : Outer B). B.source o.buf) E.order reader.old) s
-        (low.meaning (λ (o : Outer B). B.source o.buf) E.order reader.new)) }
-    ensures keeps { (start : low.Meaning) →
+        stream.StopsBetween (low.state_of (λ (o : Outer B). B.source o.buf) E.order reader.old) s
+        (low.state_of (λ (o : Outer B). B.source o.buf) E.order reader.new)) }
+    ensures keeps { (start : low.ReaderState) →
         stream.KeepsRun start (stream.refused_count frames.old.items) None
-        (low.meaning (λ (o : Outer B). B.source o.buf) E.order reader.old) →
+        (low.state_of (λ (o : Outer B). B.source o.buf) E.order reader.old) →
         stream.KeepsRun start (stream.refused_count frames.new.items + stream.one_if_stopped result)
         (stream.stopped_by result)
-        (low.meaning (λ (o : Outer B). B.source o.buf) E.order reader.new) }
+        (low.state_of (λ (o : Outer B). B.source o.buf) E.order reader.new) }
 {
     let header = match reader.next_header() {
         Ok(header) => header,
@@ -295,22 +295,22 @@ fn read_next<'p, B: ParseBuf<'p>, E: Endian>(
 ) -> Result<(), Stop>
     ensures config { low.config_of reader.new ≡ low.config_of reader.old }
     ensures listed { OnOk result (stream.ListsNext
-        (low.meaning (λ (o : Outer B). B.source o.buf) E.order reader.old) frames.old.items
-        frames.new.items (low.meaning (λ (o : Outer B). B.source o.buf) E.order reader.new)) }
+        (low.state_of (λ (o : Outer B). B.source o.buf) E.order reader.old) frames.old.items
+        frames.new.items (low.state_of (λ (o : Outer B). B.source o.buf) E.order reader.new)) }
     ensures kept { OnErr result (frames.new.items ≡ frames.old.items) }
     ensures stop { IsTrue (B.source (low.buffer_of reader.old)).told → IfErr result (λ s.
-        stream.StopsAt (low.meaning (λ (o : Outer B). B.source o.buf) E.order reader.old) s
-        (low.meaning (λ (o : Outer B). B.source o.buf) E.order reader.new)) }
+        stream.StopsAt (low.state_of (λ (o : Outer B). B.source o.buf) E.order reader.old) s
+        (low.state_of (λ (o : Outer B). B.source o.buf) E.order reader.new)) }
     ensures between { IsTrue (B.source (low.buffer_of reader.old)).told →
         IsTrue (B.source (low.buffer_of reader.old)).whole → IfErr result (λ s.
-        stream.StopsBetween (low.meaning (λ (o : Outer B). B.source o.buf) E.order reader.old) s
-        (low.meaning (λ (o : Outer B). B.source o.buf) E.order reader.new)) }
-    ensures keeps { (start : low.Meaning) →
+        stream.StopsBetween (low.state_of (λ (o : Outer B). B.source o.buf) E.order reader.old) s
+        (low.state_of (λ (o : Outer B). B.source o.buf) E.order reader.new)) }
+    ensures keeps { (start : low.ReaderState) →
         stream.KeepsRun start (stream.refused_count frames.old.items) None
-        (low.meaning (λ (o : Outer B). B.source o.buf) E.order reader.old) →
+        (low.state_of (λ (o : Outer B). B.source o.buf) E.order reader.old) →
         stream.KeepsRun start (stream.refused_count frames.new.items + stream.one_if_stopped result)
         (stream.stopped_by result)
-        (low.meaning (λ (o : Outer B). B.source o.buf) E.order reader.new) }
+        (low.state_of (λ (o : Outer B). B.source o.buf) E.order reader.new) }
 {
     match make_room(reader, frames, limit) {
         Ok(()) => {}
@@ -352,14 +352,14 @@ pub fn read_records<'p, B: ParseBuf<'p>, E: Endian>(
     // The list is the first answers of the bytes.
     ensures answers { IsTrue (B.source (buffer_of parser.old)).told →
         stream.listed result ≡ take (stream.listed_count result)
-        (stream.answers (meaning B.source E.order parser.old).settings
-        (meaning B.source E.order parser.old).order (B.source (buffer_of parser.old)).left) }
+        (stream.answers (state_of B.source E.order parser.old).settings
+        (state_of B.source E.order parser.old).order (B.source (buffer_of parser.old)).left) }
 
     ensures count { stream.listed_count result ≤ limit }
 
     // How it ends, and what it leaves.
     ensures end { IsTrue (B.source (buffer_of parser.old)).told →
-        stream.EndsWith (meaning B.source E.order parser.old).order limit
+        stream.EndsWith (state_of B.source E.order parser.old).order limit
         (B.source (buffer_of parser.old)).left (stream.listed_count result) result.end
         (B.source (buffer_of parser.new)).left }
 
@@ -367,22 +367,22 @@ pub fn read_records<'p, B: ParseBuf<'p>, E: Endian>(
     // at most the answer of the next one, and the run after it begins at a frame.
     ensures between { IsTrue (B.source (buffer_of parser.old)).told →
         IsTrue (B.source (buffer_of parser.old)).whole →
-        stream.EndsBetween (meaning B.source E.order parser.old).order
+        stream.EndsBetween (state_of B.source E.order parser.old).order
         (B.source (buffer_of parser.old)).left (stream.listed_count result) result.end
         (B.source (buffer_of parser.new)).left }
 
     // The number of elementary reads: those of the frames that it lists, and those of its end.
     ensures reads { IsTrue (B.source (buffer_of parser.old)).told →
-        stream.CountsReads (meaning B.source E.order parser.old).settings
-        (meaning B.source E.order parser.old).order (B.source (buffer_of parser.old)).left
+        stream.CountsReads (state_of B.source E.order parser.old).settings
+        (state_of B.source E.order parser.old).order (B.source (buffer_of parser.old)).left
         (stream.listed_count result) result.end (reads_of parser.old) (reads_of parser.new) }
 
     // There are at most as many of them as bytes taken, and one more for each refused answer and
     // for an end before the limit.
-    ensures keeps { stream.KeepsRun (meaning B.source E.order parser.old)
+    ensures keeps { stream.KeepsRun (state_of B.source E.order parser.old)
         (stream.refused_count result.frames.items + stream.one_if_ended result.end)
         (stream.end_refusal result.end)
-        (meaning B.source E.order parser.new) }
+        (state_of B.source E.order parser.new) }
 
     // Over a slice no byte string is copied.
     ensures borrowed { IsTrue (B.source (buffer_of parser.old)).whole →

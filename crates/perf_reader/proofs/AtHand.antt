@@ -10,7 +10,7 @@ use Rattle.perf_base.specs.declared.error.ErrorKind.TheVariants.{Eof, InvalidRec
 use Rattle.perf_base.proofs.Took.{took_yes}
 use Rattle.perf_buffers.specs.Buffer.{Source, Stays}
 use Rattle.perf_buffers.specs.Taking.{FailsToTake, Takes}
-use Rattle.perf_reader.specs.Meaning.{Meaning}
+use Rattle.perf_reader.specs.ReaderState.{ReaderState}
 use Rattle.perf_reader.specs.Reading.{of_layout, Keeps}
 use Rattle.perf_reader.proofs.Paying.{keeps_more, place_after}
 
@@ -24,7 +24,7 @@ never_short k n o old new External i j has p kind = cc
 never_short k n o old new OutOfMemory i j has p kind = absurd p
 
 -- they were taken, and counted
-pub block_keeps : (start old new : Meaning) (n k : ℕ) → n ≡ 8 * k → Keeps start None old → new.reads ≡ old.reads + k → Stays old.source None new.source → (IsTrue old.source.told → Takes old.source n new.source) → Keeps start None new
+pub block_keeps : (start old new : ReaderState) (n k : ℕ) → n ≡ 8 * k → Keeps start None old → new.reads ≡ old.reads + k → Stays old.source None new.source → (IsTrue old.source.told → Takes old.source n new.source) → Keeps start None new
 block_keeps start old new n k is p count stays moves = keeps_more start old new None p (record {
   buffer = stays;
   fault = λ x. cc;
@@ -41,8 +41,8 @@ block_there o p old new n k i j out zeros ys same is count t at made =
     let long : length out ≡ 8 * k = ap length bytes ∙ length-take-le (8 * k) old.left fits in
     let value : words_of o k (take (8 * k) old.left) ≡ ys =
     ap (words_of o k) (sym bytes ∙ sym (take_at out zeros (8 * k) long)) ∙ ap (λ q. words_of q k (take (8 * k) (out ++ zeros))) (sym same) ∙ sym made in
-    let behind : drop (8 * k) old.left ≡ new.left = ap (λ m. drop m old.left) (sym is) ∙ sym t.1 in
-    took_yes o (words k) old.left i fits ∙ rw (value, behind, sym count) refl
+    let after : drop (8 * k) old.left ≡ new.left = ap (λ m. drop m old.left) (sym is) ∙ sym t.1 in
+    took_yes o (words k) old.left i fits ∙ rw (value, after, sym count) refl
 
 -- the same of bytes that were shown before
 pub shown_there : (o p : Order) (old new : Source) (k i j : ℕ) (shown ys : List ℕ) → p ≡ o → j ≡ i + k → 8 * k ≤ length shown → shown ≡ take (length shown) old.left → Takes old (8 * k) new → ys ≡ words_of p k (take (8 * k) shown) → one_took o (words k) old.left i ≡ took ys new.left j

@@ -13,7 +13,7 @@ use Rattle.perf_buffers.specs.Buffer.{Source, Stays}
 use Rattle.perf_buffers.specs.Taking.{FailsToTake, Takes}
 use Rattle.perf_reader.specs.AtOnce.{ReadsAtOnce}
 use Rattle.perf_reader.specs.Calls.{Call}
-use Rattle.perf_reader.specs.Meaning.{Meaning, meaning}
+use Rattle.perf_reader.specs.ReaderState.{ReaderState, state_of}
 use Rattle.perf_reader.specs.Reading.{of_layout, Keeps, Reads}
 use Rattle.perf_reader.specs.declared.reader.Reader.{Reader}
 use Rattle.perf_reader.proofs.Paying.{keeps_more, place_after}
@@ -30,7 +30,7 @@ never_lacking old new n External has p kind = cc
 never_lacking old new n OutOfMemory has p kind = absurd p
 
 -- they were taken, and counted
-pub at_once_keeps : (start old new : Meaning) (n k : ℕ) → k ≤ n → Keeps start None old → new.reads ≡ old.reads + k → Stays old.source None new.source → (IsTrue old.source.told → Takes old.source n new.source) → Keeps start None new
+pub at_once_keeps : (start old new : ReaderState) (n k : ℕ) → k ≤ n → Keeps start None old → new.reads ≡ old.reads + k → Stays old.source None new.source → (IsTrue old.source.told → Takes old.source n new.source) → Keeps start None new
 at_once_keeps start old new n k few p count stays moves = keeps_more start old new None p (record {
   buffer = stays;
   fault = λ x. cc;
@@ -78,12 +78,12 @@ in_front at w n bytes fits =
 
 module _ {I E : Type 0} {source : I → Source} {order : E → Order} where
   -- parts that have all their bytes, whose value is made of these bytes
-  pub at_once : {Y B : Type 0} {show : Y → B} {a b : Reader I E} {seen : Option (List ℕ)} {bytes : List ℕ} {y : Y} {e : E} (p : Parts B) (n reads : ℕ) (make : Order → List ℕ → B) →
+  pub at_once : {Y B : Type 0} {show : Y → B} {a b : Reader I E} {outcome : Option (List ℕ)} {bytes : List ℕ} {y : Y} {e : E} (p : Parts B) (n reads : ℕ) (make : Order → List ℕ → B) →
       ((o : Order) (xs : List ℕ) (m : ℕ) → n ≤ length xs → took_by_places o p xs m ≡ took (make o (take n xs)) (drop n xs) (m + reads)) →
-      show y ≡ make (order e) bytes → e ≡ endian_of b.config → seen ≡ Some bytes → IfSome seen (λ bytes. Call source order (ReadsAtOnce n reads) a (Ok bytes) b) → Call source order (Reads (λ _. p) show) a (Ok y) b
-  at_once {Y} {B} {show} {a} {b} {seen} {bytes} {y} {e} p n reads make runs is_made same is taken =
-      let old : Meaning = meaning source order a in
-      let new : Meaning = meaning source order b in
+      show y ≡ make (order e) bytes → e ≡ endian_of b.config → outcome ≡ Some bytes → IfSome outcome (λ bytes. Call source order (ReadsAtOnce n reads) a (Ok bytes) b) → Call source order (Reads (λ _. p) show) a (Ok y) b
+  at_once {Y} {B} {show} {a} {b} {outcome} {bytes} {y} {e} p n reads make runs is_made same is taken =
+      let old : ReaderState = state_of source order a in
+      let new : ReaderState = state_of source order b in
       let call : Call source order (ReadsAtOnce n reads) a (Ok bytes) b = subst (λ (o : Option (List ℕ)). IfSome o (λ bytes. Call source order (ReadsAtOnce n reads) a (Ok bytes) b)) is taken in
       let made : show y ≡ make (order (endian_of a.config)) bytes = is_made ∙ ap (λ e. make (order e) bytes) (same ∙ ap endian_of call.config) in record {
         config = call.config;

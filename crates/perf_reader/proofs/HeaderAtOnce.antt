@@ -13,7 +13,7 @@ use Rattle.perf_base.specs.declared.sys.perf_event_header.{perf_event_header}
 use Rattle.perf_base.proofs.Took.{took_yes, places_took, then_take}
 use Rattle.perf_buffers.specs.Buffer.{Source, Stays}
 use Rattle.perf_buffers.specs.Taking.{FailsToTake, Takes}
-use Rattle.perf_reader.specs.Meaning.{Meaning}
+use Rattle.perf_reader.specs.ReaderState.{ReaderState}
 use Rattle.perf_reader.specs.Reading.{of_layout, Keeps}
 use Rattle.perf_reader.proofs.Paying.{keeps_more, place_after}
 
@@ -71,9 +71,9 @@ pub header_of_front : (o o2 : Order) (bytes xs : List ℕ) (h : perf_event_heade
 header_of_front o o2 bytes xs h front order is = is ∙ ap (λ (p : Order). header_of p xs) order ∙ ap (header_of o) front ∙ sym (header_front o bytes)
 
 pub header_at_once : (o o2 : Order) (bytes xs left : List ℕ) (n m : ℕ) (h : perf_event_header) → 8 ≤ length bytes → xs ≡ take 8 bytes → left ≡ drop 8 bytes → m ≡ n + 3 → o2 ≡ o → h ≡ header_of o2 xs → took_by_places o header bytes n ≡ took h left m
-header_at_once o o2 bytes xs left n m h fits front behind count order is =
+header_at_once o o2 bytes xs left n m h fits front after count order is =
     let same : header_of o bytes ≡ h = sym (header_of_front o o2 bytes xs h front order is) in
-    header_taken o bytes n fits ∙ rw (same, behind, count) refl
+    header_taken o bytes n fits ∙ rw (same, after, count) refl
 
 -- they are present, so the layout does not refuse them
 pub never_short : (o : Order) (old new : Source) (e : ErrorKind) (n m : ℕ) → 8 ≤ length old.left → FailsToTake old 8 e new → IsTrue (of_layout e) → took_by_places o header old.left n ≡ quit e new.left m
@@ -85,7 +85,7 @@ never_short o old new External n m has p kind = cc
 never_short o old new OutOfMemory n m has p kind = absurd p
 
 -- they were taken, and counted
-pub header_keeps : (start old new : Meaning) (k : ℕ) → k ≤ 8 → Keeps start None old → new.reads ≡ old.reads + k → Stays old.source None new.source → (IsTrue old.source.told → Takes old.source 8 new.source) → Keeps start None new
+pub header_keeps : (start old new : ReaderState) (k : ℕ) → k ≤ 8 → Keeps start None old → new.reads ≡ old.reads + k → Stays old.source None new.source → (IsTrue old.source.told → Takes old.source 8 new.source) → Keeps start None new
 header_keeps start old new k few p count stays moves = keeps_more start old new None p (record {
   buffer = stays;
   fault = λ x. cc;

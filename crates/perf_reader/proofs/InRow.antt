@@ -15,7 +15,7 @@ use Rattle.perf_base.specs.declared.error.ErrorKind.TheVariants.{Eof, OutOfMemor
 use Rattle.perf_base.proofs.Took.{took_yes, took_no}
 use Rattle.perf_buffers.specs.Buffer.{Source}
 use Rattle.perf_reader.specs.Calls.{Call}
-use Rattle.perf_reader.specs.Meaning.{Meaning}
+use Rattle.perf_reader.specs.ReaderState.{ReaderState}
 use Rattle.perf_reader.specs.Reading.{ReadsOne, Keeps}
 use Rattle.perf_reader.specs.declared.reader.Reader.{Reader}
 
@@ -66,8 +66,8 @@ words_last : (o : Order) (k : ℕ) (bytes : List ℕ) → words_of o (suc k) byt
 words_last o zero bytes = refl
 words_last o (suc k) bytes =
     let m : 8 + 8 * k ≡ 8 * suc k = omega arith in
-    let behind : drop (8 * k) (drop 8 bytes) ≡ drop (8 * suc k) bytes = drop-drop (8 * k) 8 bytes ∙ ap (λ i. drop i bytes) m in
-    ap (λ (ys : List ℕ). o.eight (take 8 bytes) ∷ ys) (words_last o k (drop 8 bytes) ∙ ap (λ (b : List ℕ). words_of o k (drop 8 bytes) ++ o.eight (take 8 b) ∷ []) behind)
+    let after : drop (8 * k) (drop 8 bytes) ≡ drop (8 * suc k) bytes = drop-drop (8 * k) 8 bytes ∙ ap (λ i. drop i bytes) m in
+    ap (λ (ys : List ℕ). o.eight (take 8 bytes) ∷ ys) (words_last o k (drop 8 bytes) ∙ ap (λ (b : List ℕ). words_of o k (drop 8 bytes) ++ o.eight (take 8 b) ∷ []) after)
 
 words_join : (o : Order) (k j : ℕ) (bytes : List ℕ) → words_of o (k + j) bytes ≡ words_of o k bytes ++ words_of o j (drop (8 * k) bytes)
 words_join o zero j bytes =
@@ -77,8 +77,8 @@ words_join o zero j bytes =
 words_join o (suc k) j bytes =
     let m : 8 + 8 * k ≡ 8 * suc k = omega arith in
     let n : suc k + j ≡ suc (k + j) = omega arith in
-    let behind : drop (8 * k) (drop 8 bytes) ≡ drop (8 * suc k) bytes = drop-drop (8 * k) 8 bytes ∙ ap (λ i. drop i bytes) m in
-    ap (λ i. words_of o i bytes) n ∙ ap (λ (ys : List ℕ). o.eight (take 8 bytes) ∷ ys) (words_join o k j (drop 8 bytes) ∙ ap (λ (b : List ℕ). words_of o k (drop 8 bytes) ++ words_of o j b) behind)
+    let after : drop (8 * k) (drop 8 bytes) ≡ drop (8 * suc k) bytes = drop-drop (8 * k) 8 bytes ∙ ap (λ i. drop i bytes) m in
+    ap (λ i. words_of o i bytes) n ∙ ap (λ (ys : List ℕ). o.eight (take 8 bytes) ∷ ys) (words_join o k j (drop 8 bytes) ∙ ap (λ (b : List ℕ). words_of o k (drop 8 bytes) ++ words_of o j b) after)
 
 words_none : (o : Order) (bytes : List ℕ) (n : ℕ) → one_took o (words 0) bytes n ≡ took [] bytes n
 words_none o bytes n = took_yes o (words 0) bytes n (omega arith) ∙ ap (took [] bytes) (omega arith)
@@ -95,9 +95,9 @@ words_more o k a b c ys x n m i p q =
     ∙ ap (λ (zs : List ℕ). zs ++ o.eight (take 8 (drop (8 * k) a)) ∷ []) (sym (words_take o k a s.fits) ∙ sym s.value_is)
     ∙ ap (λ (w : List ℕ). ys ++ o.eight (take 8 w) ∷ []) (sym s.left_is)
     ∙ ap (λ (w : ℕ). ys ++ w ∷ []) (sym t.value_is) in
-    let behind : drop (8 * suc k) a ≡ c = ap (λ i. drop i a) (sym e) ∙ sym (drop-drop 8 (8 * k) a) ∙ ap (drop 8) (sym s.left_is) ∙ sym t.left_is in
+    let after : drop (8 * suc k) a ≡ c = ap (λ i. drop i a) (sym e) ∙ sym (drop-drop 8 (8 * k) a) ∙ ap (drop 8) (sym s.left_is) ∙ sym t.left_is in
     let count : n + suc k ≡ i = omega (arith, s.reads_are, t.reads_are) in
-    took_yes o (words (suc k)) a n fits ∙ rw (value, behind, count) refl
+    took_yes o (words (suc k)) a n fits ∙ rw (value, after, count) refl
 
 -- the same of several at once
 words_further : (o : Order) (k j : ℕ) (a b c ys zs : List ℕ) (n m i : ℕ) → one_took o (words k) a n ≡ took ys b m → one_took o (words j) b m ≡ took zs c i → one_took o (words (k + j)) a n ≡ took (ys ++ zs) c i
@@ -112,9 +112,9 @@ words_further o k j a b c ys zs n m i p q =
     ∙ ap (λ (us : List ℕ). us ++ words_of o j (drop (8 * k) a)) (sym (words_take o k a s.fits) ∙ sym s.value_is)
     ∙ ap (λ (w : List ℕ). ys ++ words_of o j w) (sym s.left_is)
     ∙ ap (λ (us : List ℕ). ys ++ us) (sym (words_take o j b t.fits) ∙ sym t.value_is) in
-    let behind : drop (8 * (k + j)) a ≡ c = ap (λ i. drop i a) (sym e ∙ omega arith) ∙ sym (drop-drop (8 * j) (8 * k) a) ∙ ap (drop (8 * j)) (sym s.left_is) ∙ sym t.left_is in
+    let after : drop (8 * (k + j)) a ≡ c = ap (λ i. drop i a) (sym e ∙ omega arith) ∙ sym (drop-drop (8 * j) (8 * k) a) ∙ ap (drop (8 * j)) (sym s.left_is) ∙ sym t.left_is in
     let count : n + (k + j) ≡ i = omega (arith, s.reads_are, t.reads_are) in
-    took_yes o (words (k + j)) a n fits ∙ rw (value, behind, count) refl
+    took_yes o (words (k + j)) a n fits ∙ rw (value, after, count) refl
 
 words_stop : (o : Order) (k all : ℕ) (a b c ys : List ℕ) (n m i : ℕ) (e : ErrorKind) → k < all → one_took o (words k) a n ≡ took ys b m → one_took o (number w8) b m ≡ quit e c i → one_took o (words all) a n ≡ quit e c i
 words_stop o k all a b c ys n m i e more p q =
@@ -243,7 +243,7 @@ module _ {I E : Type 0} (source : I → Source) (order : E → Order) where
     keeps = λ start h. q.keeps start (p.keeps start h);
   }
 
-  starved : (start m : Meaning) → Keeps start None m → Keeps start (Some OutOfMemory) m
+  starved : (start m : ReaderState) → Keeps start None m → Keeps start (Some OutOfMemory) m
   starved start m h = record {
     buffer = (h.buffer.0, h.buffer.1, h.buffer.2, h.buffer.3);
     fault = λ x. cc;

@@ -7,7 +7,7 @@ pub mod Paying
 pub mod Steps
 mod Single
 pub mod Trimming
-pub mod Behind
+pub mod After
 pub mod TableRuns
 pub mod ZeroTails
 pub mod Attributes

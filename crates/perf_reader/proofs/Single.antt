@@ -10,7 +10,7 @@ use Rattle.perf_base.specs.declared.error.ErrorKind.{ErrorKind}
 use Rattle.perf_base.proofs.Took.{then_take}
 use Rattle.perf_buffers.specs.Buffer.{Source}
 use Rattle.perf_reader.specs.Calls.{Call}
-use Rattle.perf_reader.specs.Meaning.{Meaning, meaning}
+use Rattle.perf_reader.specs.ReaderState.{ReaderState, state_of}
 use Rattle.perf_reader.specs.Reading.{ReadsOne, ReadsNumber}
 use Rattle.perf_reader.specs.declared.reader.Reader.{Reader}
 use Rattle.perf_reader.proofs.Steps.{number_run, option_there, option_absent}
@@ -21,8 +21,8 @@ module _ {I E : Type 0} {source : I → Source} {order : E → Order} where
       Call {X = List ℕ} source order (ReadsOne (byte_string (bytes_in w)) (λ bytes. bytes)) a (Ok bytes) b →
       e ≡ endian_of b.config → n ≡ number_of (order e) w bytes → Call {X = ℕ} source order (ReadsOne (number w) (λ n. n)) a (Ok n) b
   number_read {a} {b} {bytes} {n} {e} w first same is =
-      let old : Meaning = meaning source order a in
-      let new : Meaning = meaning source order b in
+      let old : ReaderState = state_of source order a in
+      let new : ReaderState = state_of source order b in
       let made : number_of old.order w bytes ≡ n = ap (λ k. number_of (order k) w bytes) (sym (same ∙ ap endian_of first.config)) ∙ sym is in record {
         config = first.config;
         whole = first.whole;
@@ -39,7 +39,7 @@ module _ {I E : Type 0} {source : I → Source} {order : E → Order} where
       Call {X = List ℕ} source order (ReadsOne (byte_string (bytes_in w)) (λ bytes. bytes)) a (Err e) b →
       Call {X = ℕ} source order (ReadsOne (number w) (λ n. n)) a (Err e) b
   number_refused {a} {b} {e} w first =
-      let old : Meaning = meaning source order a in record {
+      let old : ReaderState = state_of source order a in record {
         config = first.config;
         whole = first.whole;
         told = first.told;
@@ -50,9 +50,9 @@ module _ {I E : Type 0} {source : I → Source} {order : E → Order} where
       }
 
   -- a number for which no memory was taken
-  pub number_told : {a b : Reader I E} {seen : Result ℕ ErrorKind} (w : Width) → TakesNoMemory seen →
-      Call {X = ℕ} source order (ReadsOne (number w) (λ n. n)) a seen b → Call source order (ReadsNumber w) a seen b
-  number_told {a} {b} {seen} w none first = record {
+  pub number_told : {a b : Reader I E} {outcome : Result ℕ ErrorKind} (w : Width) → TakesNoMemory outcome →
+      Call {X = ℕ} source order (ReadsOne (number w) (λ n. n)) a outcome b → Call source order (ReadsNumber w) a outcome b
+  number_told {a} {b} {outcome} w none first = record {
     config = first.config;
     whole = first.whole;
     told = first.told;
@@ -65,7 +65,7 @@ module _ {I E : Type 0} {source : I → Source} {order : E → Order} where
       Call {X = ℕ} source order (ReadsOne (number w) (λ n. n)) a (Ok n) b →
       Call {X = Option ℕ} source order (ReadsOne (optional present w) (λ n. n)) a (Ok (Some n)) b
   option_read {a} {b} {n} {present} w there first =
-      let old : Meaning = meaning source order a in record {
+      let old : ReaderState = state_of source order a in record {
         config = first.config;
         whole = first.whole;
         told = first.told;
@@ -80,7 +80,7 @@ module _ {I E : Type 0} {source : I → Source} {order : E → Order} where
       Call {X = ℕ} source order (ReadsOne (number w) (λ n. n)) a (Err e) b →
       Call {X = Option ℕ} source order (ReadsOne (optional present w) (λ n. n)) a (Err e) b
   option_refused {a} {b} {e} {present} w there first =
-      let old : Meaning = meaning source order a in record {
+      let old : ReaderState = state_of source order a in record {
         config = first.config;
         whole = first.whole;
         told = first.told;
@@ -94,7 +94,7 @@ module _ {I E : Type 0} {source : I → Source} {order : E → Order} where
   pub option_lacks : {a : Reader I E} {present : Bool} (w : Width) → present ≡ false →
       Call {X = Option ℕ} source order (ReadsOne (optional present w) (λ n. n)) a (Ok None) a
   option_lacks {a} {present} w lacking =
-      let old : Meaning = meaning source order a in record {
+      let old : ReaderState = state_of source order a in record {
         config = refl;
         whole = refl;
         told = λ t. t;

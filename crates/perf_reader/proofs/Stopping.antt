@@ -17,7 +17,7 @@ use Rattle.perf_buffers.specs.Taking.{MovesWithin, Takes}
 use Rattle.perf_buffers.proofs.Taking.{moves_more}
 use Rattle.perf_reader.specs.Calls.{Call}
 use Rattle.perf_reader.specs.Headers.{frame_length, LeavesWithin, ReadsHeader, ReadsShownHeader, StopsAt}
-use Rattle.perf_reader.specs.Meaning.{Meaning, meaning}
+use Rattle.perf_reader.specs.ReaderState.{ReaderState, state_of}
 use Rattle.perf_reader.specs.Reading.{of_layout, last_of}
 use Rattle.perf_reader.specs.declared.header.Stop.{Stop}
 use Rattle.perf_reader.specs.declared.header.Stop.TheVariants as stop
@@ -35,9 +35,9 @@ taken o k bytes xs left n m some e = elim (cases_lt (length bytes) k) [
   | inr fits ↦
       let both : took (take k bytes) (drop k bytes) (n + 1) ≡ took xs left m = sym (run_there o k bytes n some fits) ∙ e in
       let same : take k bytes ≡ xs = cc in
-      let behind : drop k bytes ≡ left = cc in
+      let after : drop k bytes ≡ left = cc in
       let count : n + 1 ≡ m = cc in
-      (fits, sym same, sym behind, sym count)
+      (fits, sym same, sym after, sym count)
 ]
 
 -- bytes that were missing
@@ -48,9 +48,9 @@ lacking o k bytes left e n m some h = elim (cases_lt (length bytes) k) [
   | inl short ↦
       let both : ◌≡◌ {A = Took (List ℕ)} (quit Eof [] (n + 1)) (quit e left m) = sym (run_short o k bytes n short) ∙ h in
       let kind : Eof ≡ e = cc in
-      let behind : [] ≡ left = cc in
+      let after : [] ≡ left = cc in
       let count : n + 1 ≡ m = cc in
-      (short, sym kind, sym behind, sym count)
+      (short, sym kind, sym after, sym count)
 ]
 
 no_bytes : (xs : List ℕ) → length xs < 1 → xs ≡ []
@@ -91,7 +91,7 @@ refuses_layout a External h p = cc
 refuses_layout a OutOfMemory h p = cc
 
 -- if the first byte of a header was refused
-pub stops_first : (old new : Meaning) (r : Refusal) (s : Stop) → (refusal_kind r ≡ Eof → s ≡ stop.Done) → ((refusal_kind r ≡ Eof → ⊥) → s ≡ stop.Refused r) →
+pub stops_first : (old new : ReaderState) (r : Refusal) (s : Stop) → (refusal_kind r ≡ Eof → s ≡ stop.Done) → ((refusal_kind r ≡ Eof → ⊥) → s ≡ stop.Refused r) →
     (IsTrue (of_layout (refusal_kind r)) → one_took old.order (byte_string 1) old.source.left old.reads ≡ quit (refusal_kind r) new.source.left new.reads) →
     MovesWithin old.source 1 new.source → StopsAt old s new
 stops_first old new r s eof other gives within = elim (layout_or_not (refusal_kind r)) [
@@ -103,7 +103,7 @@ stops_first old new r s eof other gives within = elim (layout_or_not (refusal_ki
 ]
 
 -- if one of the others was
-pub stops_others : (old mid new : Meaning) (r : Refusal) (s : Stop) (first : List ℕ) → (refusal_kind r ≡ Eof → s ≡ stop.CutHeader) → ((refusal_kind r ≡ Eof → ⊥) → s ≡ stop.Refused r) →
+pub stops_others : (old mid new : ReaderState) (r : Refusal) (s : Stop) (first : List ℕ) → (refusal_kind r ≡ Eof → s ≡ stop.CutHeader) → ((refusal_kind r ≡ Eof → ⊥) → s ≡ stop.Refused r) →
     one_took old.order (byte_string 1) old.source.left old.reads ≡ took first mid.source.left mid.reads →
     (IsTrue (of_layout (refusal_kind r)) → one_took mid.order (byte_string 7) mid.source.left mid.reads ≡ quit (refusal_kind r) new.source.left new.reads) →
     MovesWithin mid.source 7 new.source → StopsAt old s new
@@ -120,7 +120,7 @@ stops_others old mid new r s first eof other one gives within =
     ]
 
 -- if the buffer showed no first byte of a header
-pub stops_unshown : (old new : Meaning) (r : Refusal) (s : Stop) → (refusal_kind r ≡ Eof → s ≡ stop.Done) → ((refusal_kind r ≡ Eof → ⊥) → s ≡ stop.Refused r) →
+pub stops_unshown : (old new : ReaderState) (r : Refusal) (s : Stop) → (refusal_kind r ≡ Eof → s ≡ stop.Done) → ((refusal_kind r ≡ Eof → ⊥) → s ≡ stop.Refused r) →
     Refuses old.source (refusal_kind r) → IsTrue old.source.told → new.source.left ≡ old.source.left → new.reads ≡ old.reads + 1 → StopsAt old s new
 stops_unshown old new r s eof other why told same count = elim (layout_or_not (refusal_kind r)) [
   | inl layout ↦
@@ -134,7 +134,7 @@ stops_unshown old new r s eof other why told same count = elim (layout_or_not (r
 
 -- ---- after a look at the buffer
 
-module _ (old mid new : Meaning) (settings : mid.settings ≡ old.settings) (order : mid.order ≡ old.order) (left : mid.source.left ≡ old.source.left) (reads : mid.reads ≡ old.reads) where
+module _ (old mid new : ReaderState) (settings : mid.settings ≡ old.settings) (order : mid.order ≡ old.order) (left : mid.source.left ≡ old.source.left) (reads : mid.reads ≡ old.reads) where
   -- how it stops
   pub looked_stops : (s : Stop) → StopsAt mid s new → StopsAt old s new
   looked_stops stop.Done p = (sym left ∙ p.0, p.1, omega (arith, p.2, reads))
@@ -143,7 +143,7 @@ module _ (old mid new : Meaning) (settings : mid.settings ≡ old.settings) (ord
   looked_stops (stop.Refused r) p = (p.0, subst (λ o. LeavesWithin o old.source.left new.source.left) order (subst (λ xs. LeavesWithin mid.order xs new.source.left) left p.1))
 
   -- which header it reads
-  pub looked_header : (seen : Result perf_event_header ErrorKind) → ReadsHeader mid seen new → ReadsHeader old seen new
+  pub looked_header : (outcome : Result perf_event_header ErrorKind) → ReadsHeader mid outcome new → ReadsHeader old outcome new
   looked_header (Ok h) p =
       let long : length mid.source.left ≡ length old.source.left = ap length left in
       (omega (arith, p.0, long), p.1 ∙ ap (λ (o : Order). header_of o mid.source.left) order ∙ ap (header_of old.order) left, p.2 ∙ ap (drop 8) left, omega (arith, p.3, reads))
@@ -158,18 +158,18 @@ module _ {I E : Type 0} (source : I → Source) (order : E → Order) (old mid :
 
   -- one of which it does not show all
   module _ (new : Reader I E) (a : Call source order ReadsShownHeader old (Ok None) mid) where
-    pub header_cut : (seen : Result perf_event_header ErrorKind) → Call source order ReadsHeader mid seen new → Call source order ReadsHeader old seen new
-    header_cut seen b = record {
+    pub header_cut : (outcome : Result perf_event_header ErrorKind) → Call source order ReadsHeader mid outcome new → Call source order ReadsHeader old outcome new
+    header_cut outcome b = record {
       config = b.config ∙ a.config;
       whole = b.whole ∙ a.whole;
       told = λ told. b.told (a.told told);
       answer = λ told.
           let l = a.answer told in
-          looked_header (meaning source order old) (meaning source order mid) (meaning source order new) (ap configuration_of a.config) (ap (λ k. order (endian_of k)) a.config) l.0 l.1 seen (b.answer (a.told told));
+          looked_header (state_of source order old) (state_of source order mid) (state_of source order new) (ap configuration_of a.config) (ap (λ k. order (endian_of k)) a.config) l.0 l.1 outcome (b.answer (a.told told));
       keeps = λ start p. b.keeps start (a.keeps start p);
     }
 
-    pub header_stops : (s : Stop) → IsTrue (source old.input).told → StopsAt (meaning source order mid) s (meaning source order new) → StopsAt (meaning source order old) s (meaning source order new)
+    pub header_stops : (s : Stop) → IsTrue (source old.input).told → StopsAt (state_of source order mid) s (state_of source order new) → StopsAt (state_of source order old) s (state_of source order new)
     header_stops s told p =
         let l = a.answer told in
-        looked_stops (meaning source order old) (meaning source order mid) (meaning source order new) (ap configuration_of a.config) (ap (λ k. order (endian_of k)) a.config) l.0 l.1 s p
+        looked_stops (state_of source order old) (state_of source order mid) (state_of source order new) (ap configuration_of a.config) (ap (λ k. order (endian_of k)) a.config) l.0 l.1 s p

@@ -5,7 +5,7 @@ use Rattle.perf_base.specs.Order.{Order}
 use Rattle.perf_base.specs.Table.{present_if, slot, table}
 use Rattle.perf_base.specs.Took.{Took, took, quit, take_parts, took_by_places}
 use Rattle.perf_base.proofs.Took.{places_took, then_take}
-use Rattle.perf_reader.proofs.Behind.{take_behind}
+use Rattle.perf_reader.proofs.After.{take_after}
 use Rattle.perf_reader.specs.TableRuns.{field_took, before, table_took, table_by_places, joined, ahead, groups_took, groups_by_places}
 
 -- ---- one field
@@ -14,7 +14,7 @@ pub field_there : {A : Type 0} (o : Order) (b : Bool) (p : Parts A) (bytes : Lis
 unfolding field_took
 field_there o false p bytes n is = cc
 field_there o true p bytes n is =
-    take_behind o p (λ v. done (Some v)) bytes n
+    take_after o p (λ v. done (Some v)) bytes n
     ∙ ap (then_take (λ v left m. took (Some v) left m)) (sym (places_took o p bytes n))
 
 pub field_absent : {A : Type 0} (o : Order) (b : Bool) (p : Parts A) (bytes : List ℕ) (n : ℕ) → b ≡ false → field_took o (present_if b p) bytes n ≡ took None bytes n
@@ -29,7 +29,7 @@ take_table : {A : Type 0} (o : Order) (fields : List (Option (Parts A))) (bytes 
 unfolding field_took
 take_table o [] bytes n = refl
 take_table {A} o (field ∷ fields) bytes n =
-    take_behind o (slot field) (λ v. (table fields >>= λ vs. done (v ∷ vs))) bytes n
+    take_after o (slot field) (λ v. (table fields >>= λ vs. done (v ∷ vs))) bytes n
     ∙ go (λ left m. take_table o fields left m) (take_parts o (slot field) bytes n)
   where
     all : (v : Option A) (r : Took (List (Option A))) → then_take (λ vs l k. took (v ∷ vs) l k) r ≡ before v r
@@ -39,7 +39,7 @@ take_table {A} o (field ∷ fields) bytes n =
     next : (v : Option A) (left : List ℕ) (m : ℕ) → take_parts o (table fields) left m ≡ table_took o fields left m →
         take_parts o (table fields >>= λ vs. done (v ∷ vs)) left m ≡ before v (table_took o fields left m)
     next v left m h =
-        take_behind o (table fields) (λ vs. done (v ∷ vs)) left m
+        take_after o (table fields) (λ vs. done (v ∷ vs)) left m
         ∙ all v (take_parts o (table fields) left m)
         ∙ ap (before v) h
 

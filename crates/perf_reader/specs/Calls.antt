@@ -4,13 +4,13 @@ use Rattle.perf_base.specs.Order.{Order}
 use Rattle.perf_base.specs.Refusals.{refused}
 use Rattle.perf_base.specs.declared.error.ErrorKind.{ErrorKind}
 use Rattle.perf_buffers.specs.Buffer.{Source}
-use Rattle.perf_reader.specs.Meaning.{Meaning, input_of, config_of, meaning}
-use Rattle.perf_reader.specs.Reading.{Says, Keeps}
+use Rattle.perf_reader.specs.ReaderState.{ReaderState, input_of, config_of, state_of}
+use Rattle.perf_reader.specs.Reading.{Transition, Keeps}
 use Rattle.perf_reader.specs.declared.reader.Reader.{Reader}
 
-module _ {I E X : Type 0} (source : I → Source) (order : E → Order) (says : Says X) where
+module _ {I E X : Type 0} (source : I → Source) (order : E → Order) (transition : Transition X) where
   -- one call: the reader before it, its result, and the reader after it
-  pub record Call (old : Reader I E) (seen : Result X ErrorKind) (new : Reader I E) : Type 0 where
+  pub record Call (old : Reader I E) (outcome : Result X ErrorKind) (new : Reader I E) : Type 0 where
     -- the configuration stays
     pub config : config_of new ≡ config_of old
     -- a buffer stays whole, and its bytes stay known
@@ -18,7 +18,7 @@ module _ {I E X : Type 0} (source : I → Source) (order : E → Order) (says : 
     pub told : IsTrue (source (input_of old)).told → IsTrue (source (input_of new)).told
     -- the result, if the bytes of the buffer are known
     pub answer : IsTrue (source (input_of old)).told →
-        says (meaning source order old) seen (meaning source order new)
+        transition (state_of source order old) outcome (state_of source order new)
     -- what was kept since any moment before is kept
-    pub keeps : (start : Meaning) → Keeps start None (meaning source order old) →
-        Keeps start (refused seen) (meaning source order new)
+    pub keeps : (start : ReaderState) → Keeps start None (state_of source order old) →
+        Keeps start (refused outcome) (state_of source order new)

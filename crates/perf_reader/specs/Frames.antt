@@ -11,7 +11,7 @@ abbrev pub GivesNextFrame : {S O : Type 0} → (List ℕ → Bool → ℕ → S 
     (reads : ℕ) → (n : ℕ) → S → O → Source → (reads : ℕ) → S → Type 0
 GivesNextFrame gives old reads n was output new counted now =
     (made : ℕ) × (counted ≡ reads + made)
-    × GivesNextBytes (λ bytes lasting s x t. gives bytes lasting made s x t) old n was output new now
+    × GivesNextBytes (λ bytes borrowed s x t. gives bytes borrowed made s x t) old n was output new now
 
 -- The bytes, or the memory for them, are missing: nothing was read.
 abbrev pub FailsToReadFrame : Source → (reads : ℕ) → (n : ℕ) → ErrorKind → Source → (reads : ℕ) →

@@ -8,8 +8,8 @@ use Rattle.perf_base.specs.declared.error.ErrorKind.{ErrorKind}
 use Rattle.perf_base.specs.declared.error.ErrorKind.TheVariants.{Eof}
 use Rattle.perf_base.specs.declared.sys.perf_event_header.{perf_event_header}
 use Rattle.perf_buffers.specs.Buffer.{Refuses}
-use Rattle.perf_reader.specs.Meaning.{Meaning}
-use Rattle.perf_reader.specs.Reading.{Says, of_layout, last_of}
+use Rattle.perf_reader.specs.ReaderState.{ReaderState}
+use Rattle.perf_reader.specs.Reading.{Transition, of_layout, last_of}
 use Rattle.perf_reader.specs.declared.header.Stop.{Stop}
 use Rattle.perf_reader.specs.declared.header.Stop.TheVariants as stop
 
@@ -33,7 +33,7 @@ LeavesWithin o bytes left =
 -- ---- its header
 
 -- a header was read: the next eight bytes, in two reads
-abbrev pub ReadsHeader : Says perf_event_header
+abbrev pub ReadsHeader : Transition perf_event_header
 ReadsHeader old (Ok h) new =
     (8 ≤ length old.source.left) × (h ≡ header_of old.order old.source.left)
     × (new.source.left ≡ drop 8 old.source.left) × (new.reads ≡ old.reads + 2)
@@ -41,7 +41,7 @@ ReadsHeader old (Err e) new = Unit {0}
 
 -- The header of a run's next frame, if the buffer shows all of it: in two reads, of its first byte
 -- and of the others. If the buffer shows nothing, that was the first of them.
-abbrev pub ReadsShownHeader : Says (Option perf_event_header)
+abbrev pub ReadsShownHeader : Transition (Option perf_event_header)
 ReadsShownHeader old (Ok (Some h)) new =
     (8 ≤ length old.source.left) × (h ≡ header_of old.order old.source.left)
     × (new.source.left ≡ drop 8 old.source.left) × (new.reads ≡ old.reads + 2)
@@ -65,7 +65,7 @@ stop_kinds (Err s) = Err (stop_kind s)
 
 -- How a run stops at a frame: nothing is left, its header is cut, or there is a refusal that is not
 -- of the layout.
-abbrev pub StopsAt : Meaning → Stop → Meaning → Type 0
+abbrev pub StopsAt : ReaderState → Stop → ReaderState → Type 0
 StopsAt old stop.Done new =
     (old.source.left ≡ []) × (new.source.left ≡ []) × (new.reads ≡ old.reads + 1)
 StopsAt old stop.CutHeader new =

@@ -1,4 +1,4 @@
-pub mod Meaning
+pub mod ReaderState
 pub mod Reading
 pub mod TableRuns
 pub mod BranchEntry
@@ -7,5 +7,5 @@ pub mod Calls
 pub mod Frames
 pub mod Headers
 pub mod Room
-pub mod Words
+pub mod Prelude
 pub mod AttributeGroups

@@ -11,13 +11,13 @@ use Rattle.perf_base.specs.declared.error.ErrorKind.TheVariants.{Eof, InvalidRec
 use Rattle.perf_base.specs.declared.error.ErrorKind.TheVariants.{UnsupportedConfig, UnsupportedData}
 use Rattle.perf_base.specs.declared.error.ErrorKind.TheVariants.{External, OutOfMemory}
 use Rattle.perf_buffers.specs.Buffer.{Stays}
-use Rattle.perf_reader.specs.Meaning.{Meaning}
+use Rattle.perf_reader.specs.ReaderState.{ReaderState}
 
 -- ---- what is returned
 
 -- a relation on a call: the state before it, the result, and the state after it
-abbrev pub Says : Type 0 → Type 1
-Says X = Meaning → Result X ErrorKind → Meaning → Type 0
+abbrev pub Transition : Type 0 → Type 1
+Transition X = ReaderState → Result X ErrorKind → ReaderState → Type 0
 
 -- a kind that a layout can have: neither a fault nor out of memory
 abbrev pub of_layout : ErrorKind → Bool
@@ -30,33 +30,33 @@ of_layout OutOfMemory = false
 
 -- The result is what a run made, seen through `view`; what is left and how many reads were made are
 -- those of the run. On a fault, or out of memory, nothing is stated.
-abbrev pub AnswersRun : {X A : Type 0} → (X → A) → Took A → Result X ErrorKind → Meaning → Type 0
+abbrev pub AnswersRun : {X A : Type 0} → (X → A) → Took A → Result X ErrorKind → ReaderState → Type 0
 AnswersRun view r (Ok x) new = r ≡ took (view x) new.source.left new.reads
 AnswersRun view r (Err e) new = IsTrue (of_layout e) → r ≡ quit e new.source.left new.reads
 
 -- The layout of its parts, under the configuration, in the bytes that were left.
-abbrev pub Reads : {X A : Type 0} → (Configuration → Parts A) → (X → A) → Says X
-Reads parts view old seen new =
-    AnswersRun view (took_by_places old.order (parts old.settings) old.source.left old.reads) seen new
+abbrev pub Reads : {X A : Type 0} → (Configuration → Parts A) → (X → A) → Transition X
+Reads parts view old outcome new =
+    AnswersRun view (took_by_places old.order (parts old.settings) old.source.left old.reads) outcome new
 
 -- the same, for which no memory is taken
-abbrev pub ReadsPlain : {X A : Type 0} → (Configuration → Parts A) → (X → A) → Says X
-ReadsPlain parts view old seen new = Reads parts view old seen new × TakesNoMemory seen
+abbrev pub ReadsPlain : {X A : Type 0} → (Configuration → Parts A) → (X → A) → Transition X
+ReadsPlain parts view old outcome new = Reads parts view old outcome new × TakesNoMemory outcome
 
 -- the same, if no byte is copied from a whole buffer, so that no memory is taken there
-abbrev pub ReadsLent : {X A : Type 0} → (Configuration → Parts A) → (X → A) → (X → Type 0) → Says X
-ReadsLent parts view borrowed old seen new =
-    Reads parts view old seen new
-    × (IsTrue old.source.whole → IfOk seen borrowed × TakesNoMemory seen)
+abbrev pub ReadsInPlace : {X A : Type 0} → (Configuration → Parts A) → (X → A) → (X → Type 0) → Transition X
+ReadsInPlace parts view borrowed old outcome new =
+    Reads parts view old outcome new
+    × (IsTrue old.source.whole → IfOk outcome borrowed × TakesNoMemory outcome)
 
 -- the same of a single part
-abbrev pub ReadsOne : {X : Type 0} → (shape : Shape) → (X → Answer shape) → Says X
-ReadsOne shape view old seen new =
-    AnswersRun view (one_took old.order shape old.source.left old.reads) seen new
+abbrev pub ReadsOne : {X : Type 0} → (shape : Shape) → (X → Answer shape) → Transition X
+ReadsOne shape view old outcome new =
+    AnswersRun view (one_took old.order shape old.source.left old.reads) outcome new
 
 -- the same of a number, for which no memory is taken
-abbrev pub ReadsNumber : Width → Says ℕ
-ReadsNumber w old seen new = ReadsOne (number w) (λ n. n) old seen new × TakesNoMemory seen
+abbrev pub ReadsNumber : Width → Transition ℕ
+ReadsNumber w old outcome new = ReadsOne (number w) (λ n. n) old outcome new × TakesNoMemory outcome
 
 -- ---- what is kept
 
@@ -81,7 +81,7 @@ is_external (Some OutOfMemory) = false
 
 -- What holds between two moments of a reader, the second of them after a call that was refused with
 -- that kind, if it was.
-pub record Keeps (start : Meaning) (e : Option ErrorKind) (new : Meaning) : Type 0 where
+pub record Keeps (start : ReaderState) (e : Option ErrorKind) (new : ReaderState) : Type 0 where
   -- the buffer stays what it is, and its faults are counted
   pub buffer : Stays start.source e new.source
   -- a fault comes only from a buffer that can fault

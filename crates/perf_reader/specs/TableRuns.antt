@@ -6,7 +6,7 @@ use Rattle.perf_base.specs.Layout.{Parts}
 use Rattle.perf_base.specs.Order.{Order}
 use Rattle.perf_base.specs.Table.{slot, table}
 use Rattle.perf_base.specs.Took.{Took, took, quit, take_parts, took_by_places}
-use Rattle.perf_reader.specs.Reading.{Says, AnswersRun, Reads}
+use Rattle.perf_reader.specs.Reading.{Transition, AnswersRun, Reads}
 
 -- ---- the fields of a table
 
@@ -61,21 +61,21 @@ groups_by_places o groups body n = took_by_places o (table (joined groups)) body
 
 -- the layout of parts, if no byte is copied from a whole buffer; memory may be taken
 abbrev pub ReadsBorrowed : {X A : Type 0} → (Configuration → Parts A) → (X → A) → (X → Type 0) →
-    Says X
-ReadsBorrowed parts view borrowed old seen new =
-    Reads parts view old seen new × (IsTrue old.source.whole → IfOk seen borrowed)
+    Transition X
+ReadsBorrowed parts view borrowed old outcome new =
+    Reads parts view old outcome new × (IsTrue old.source.whole → IfOk outcome borrowed)
 
 -- the same of one field of a table
 abbrev pub ReadsField : {X A : Type 0} → (Configuration → Option (Parts A)) → (X → Option A) →
-    (X → Type 0) → Says X
-ReadsField field view borrowed old seen new =
-    AnswersRun view (field_took old.order (field old.settings) old.source.left old.reads) seen new
-    × (IsTrue old.source.whole → IfOk seen borrowed)
+    (X → Type 0) → Transition X
+ReadsField field view borrowed old outcome new =
+    AnswersRun view (field_took old.order (field old.settings) old.source.left old.reads) outcome new
+    × (IsTrue old.source.whole → IfOk outcome borrowed)
 
 -- the same of a table
 abbrev pub ReadsTable : {X A : Type 0} → (Configuration → List (Option (Parts A))) →
-    (X → List (Option A)) → (X → Type 0) → Says X
-ReadsTable fields view borrowed old seen new =
+    (X → List (Option A)) → (X → Type 0) → Transition X
+ReadsTable fields view borrowed old outcome new =
     AnswersRun view
-    (table_by_places old.order (fields old.settings) old.source.left old.reads) seen new
-    × (IsTrue old.source.whole → IfOk seen borrowed)
+    (table_by_places old.order (fields old.settings) old.source.left old.reads) outcome new
+    × (IsTrue old.source.whole → IfOk outcome borrowed)

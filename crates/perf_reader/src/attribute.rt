@@ -5,9 +5,9 @@ ghost use Rattle.std.specs.Prelude.{◌≡◌, drop, IfOk, if◌then◌else◌};
 ghost use Rattle.perf_base.specs.Attribute.{attribute, is_attribute_size};
 ghost use Rattle.perf_reader.specs.AttributeGroups.{assembled, aux_fields, event_fields, front};
 ghost use Rattle.perf_reader.specs.AttributeGroups.{last_fields, register_fields, wakeup_fields};
-ghost use Rattle.perf_reader.specs.Words.{Call, Reads, TakesNoMemory, kinds};
+ghost use Rattle.perf_reader.specs.Prelude.{Call, Reads, TakesNoMemory, kinds};
 
-use crate::read::{Meant, ReadFrom};
+use crate::read::{HasTransition, ReadFrom};
 use crate::reader::Reader;
 use perf_base::endian::Endian;
 use perf_base::refusal::{ReadResult, Refusal};
@@ -229,9 +229,9 @@ fn read_groups<'p, I: Input<'p>, E: Endian>(
     Ok(assemble(front, event, wakeup, registers, aux, last))
 }
 
-impl Meant for perf_event_attr {
-    ghost says = { λ old seen new. Reads (λ _. attribute) (λ a. a) old seen new
-        × TakesNoMemory seen × IfOk seen (λ a. new.source.left ≡ drop a.size old.source.left) };
+impl HasTransition for perf_event_attr {
+    ghost transition = { λ old outcome new. Reads (λ _. attribute) (λ a. a) old outcome new
+        × TakesNoMemory outcome × IfOk outcome (λ a. new.source.left ≡ drop a.size old.source.left) };
 }
 
 /// The nine sizes that the kernel gave its attributes are read, and larger ones whose bytes after

@@ -2,11 +2,11 @@
 #![tactic(auto, using(crate::proofs::Paying::chain))]
 
 ghost use Rattle.perf_base.specs.FieldWords.{u16, u64};
-ghost use Rattle.perf_reader.specs.Words.{ReadsPlain};
+ghost use Rattle.perf_reader.specs.Prelude.{ReadsPlain};
 ghost use Rattle.perf_reader.specs.BranchEntry.{branch};
 ghost use Rattle.perf_words.specs.SetBits.{aux_flags_bits, ksymbol_flags_bits, txn_bits};
 
-use crate::read::{Meant, ReadFrom};
+use crate::read::{HasTransition, ReadFrom};
 use crate::reader::Reader;
 use bitflags::Flags;
 use perf_base::endian::Endian;
@@ -16,8 +16,8 @@ use perf_words::{
     AuxFlags, BpfEventType, BranchEntry, DataSource, KSymbolFlags, KSymbolType, SampleRegsAbi, Txn,
 };
 
-impl Meant for AuxFlags {
-    ghost says = { ReadsPlain (λ _. u64) aux_flags_bits };
+impl HasTransition for AuxFlags {
+    ghost transition = { ReadsPlain (λ _. u64) aux_flags_bits };
 }
 
 impl<'p, I: Input<'p>> ReadFrom<'p, I> for AuxFlags {
@@ -27,8 +27,8 @@ impl<'p, I: Input<'p>> ReadFrom<'p, I> for AuxFlags {
     }
 }
 
-impl Meant for BpfEventType {
-    ghost says = { ReadsPlain (λ _. u16) (λ number. number) };
+impl HasTransition for BpfEventType {
+    ghost transition = { ReadsPlain (λ _. u16) (λ number. number) };
 }
 
 impl<'p, I: Input<'p>> ReadFrom<'p, I> for BpfEventType {
@@ -38,8 +38,8 @@ impl<'p, I: Input<'p>> ReadFrom<'p, I> for BpfEventType {
     }
 }
 
-impl Meant for KSymbolType {
-    ghost says = { ReadsPlain (λ _. u16) (λ number. number) };
+impl HasTransition for KSymbolType {
+    ghost transition = { ReadsPlain (λ _. u16) (λ number. number) };
 }
 
 impl<'p, I: Input<'p>> ReadFrom<'p, I> for KSymbolType {
@@ -49,8 +49,8 @@ impl<'p, I: Input<'p>> ReadFrom<'p, I> for KSymbolType {
     }
 }
 
-impl Meant for KSymbolFlags {
-    ghost says = { ReadsPlain (λ _. u16) ksymbol_flags_bits };
+impl HasTransition for KSymbolFlags {
+    ghost transition = { ReadsPlain (λ _. u16) ksymbol_flags_bits };
 }
 
 impl<'p, I: Input<'p>> ReadFrom<'p, I> for KSymbolFlags {
@@ -60,8 +60,8 @@ impl<'p, I: Input<'p>> ReadFrom<'p, I> for KSymbolFlags {
     }
 }
 
-impl Meant for BranchEntry {
-    ghost says = { ReadsPlain (λ _. branch) (λ entry. entry) };
+impl HasTransition for BranchEntry {
+    ghost transition = { ReadsPlain (λ _. branch) (λ entry. entry) };
 }
 
 impl<'p, I: Input<'p>> ReadFrom<'p, I> for BranchEntry {
@@ -74,8 +74,8 @@ impl<'p, I: Input<'p>> ReadFrom<'p, I> for BranchEntry {
     }
 }
 
-impl Meant for DataSource {
-    ghost says = { ReadsPlain (λ _. u64) (λ word. word) };
+impl HasTransition for DataSource {
+    ghost transition = { ReadsPlain (λ _. u64) (λ word. word) };
 }
 
 impl<'p, I: Input<'p>> ReadFrom<'p, I> for DataSource {
@@ -85,8 +85,8 @@ impl<'p, I: Input<'p>> ReadFrom<'p, I> for DataSource {
     }
 }
 
-impl Meant for SampleRegsAbi {
-    ghost says = { ReadsPlain (λ _. u64) (λ number. number) };
+impl HasTransition for SampleRegsAbi {
+    ghost transition = { ReadsPlain (λ _. u64) (λ number. number) };
 }
 
 impl<'p, I: Input<'p>> ReadFrom<'p, I> for SampleRegsAbi {
@@ -96,8 +96,8 @@ impl<'p, I: Input<'p>> ReadFrom<'p, I> for SampleRegsAbi {
     }
 }
 
-impl Meant for Txn {
-    ghost says = { ReadsPlain (λ _. u64) txn_bits };
+impl HasTransition for Txn {
+    ghost transition = { ReadsPlain (λ _. u64) txn_bits };
 }
 
 impl<'p, I: Input<'p>> ReadFrom<'p, I> for Txn {

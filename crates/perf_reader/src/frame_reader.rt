@@ -4,7 +4,7 @@ ghost use Rattle.std.specs.Prelude.{◌≡◌, ℕ, List, Bool, length};
 ghost use Rattle.perf_base.specs.Configuration.{Configuration};
 ghost use Rattle.perf_base.specs.Configured.{configuration_of, endian_of};
 ghost use Rattle.perf_base.specs.Order.{Order};
-ghost use Rattle.perf_buffers.specs.Words.{chunk_bytes, lasts};
+ghost use Rattle.perf_buffers.specs.Prelude.{chunk_bytes, chunk_is_borrowed};
 
 use perf_base::config::ParseConfig;
 use perf_base::endian::Endian;
@@ -36,7 +36,7 @@ pub trait ConfiguredFrameReader<'p, E: Endian, S>: Drop {
     ) -> (Self::Output, ReadCounter)
         requires { length (chunk_bytes bytes) ≡ len self }
         ensures { gives self (configuration_of config.now) (E.order (endian_of config.now))
-            (chunk_bytes bytes.entry) (lasts bytes.entry) result.1 state.old result.0 state.new };
+            (chunk_bytes bytes.entry) (chunk_is_borrowed bytes.entry) result.1 state.old result.0 state.new };
 }
 
 // A reader of frames, and what it needs besides the bytes.
@@ -53,8 +53,8 @@ impl<'c, 'p, S, E: Endian, F: ConfiguredFrameReader<'p, E, S>> FrameReader<'p, S
 
     ghost len = { λ c. F.len c.reader };
 
-    ghost gives = { λ c bytes lasting was output now. F.gives c.reader
-        (configuration_of c.config.now) (E.order (endian_of c.config.now)) bytes lasting output.1
+    ghost gives = { λ c bytes borrowed was output now. F.gives c.reader
+        (configuration_of c.config.now) (E.order (endian_of c.config.now)) bytes borrowed output.1
         was output.0 now };
 
     #[inline]

@@ -13,9 +13,9 @@
 ghost use Rattle.std.specs.Prelude.{◌≡◌, ◌++◌};
 ghost use Rattle.perf_base.specs.Header.{header, header_of};
 ghost use Rattle.perf_reader.specs.Headers.{stop_kind};
-ghost use Rattle.perf_reader.specs.Words.{ReadsPlain, refusal_kind};
+ghost use Rattle.perf_reader.specs.Prelude.{ReadsPlain, refusal_kind};
 
-use crate::read::{Meant, ReadFrom};
+use crate::read::{HasTransition, ReadFrom};
 use crate::reader::Reader;
 use perf_base::endian::Endian;
 use perf_base::error::ErrorKind;
@@ -79,8 +79,8 @@ pub fn stop_at(refusal: Refusal, at_end: Stop) -> Stop
     }
 }
 
-impl Meant for perf_event_header {
-    ghost says = { ReadsPlain (λ _. header) (λ h. h) };
+impl HasTransition for perf_event_header {
+    ghost transition = { ReadsPlain (λ _. header) (λ h. h) };
 }
 
 impl<'p, I: Input<'p>> ReadFrom<'p, I> for perf_event_header {

@@ -1,7 +1,7 @@
 //! What the types of this library mean, and how they are read.
 
-ghost use Rattle.perf_reader.specs.Words.{Call, Says, ReadsNumber, ReadsOne, TakesNoMemory};
-ghost use Rattle.perf_reader.specs.Words.{kinds, byte_string, w1, w2, w4, w8};
+ghost use Rattle.perf_reader.specs.Prelude.{Call, Transition, ReadsNumber, ReadsOne, TakesNoMemory};
+ghost use Rattle.perf_reader.specs.Prelude.{kinds, byte_string, w1, w2, w4, w8};
 
 use crate::reader::Reader;
 use perf_base::endian::Endian;
@@ -9,20 +9,20 @@ use perf_base::refusal::ReadResult;
 use perf_buffers::input::Input;
 
 /// A type whose reading has a meaning.
-pub trait Meant: Sized {
+pub trait HasTransition: Sized {
     // what a call returns, from the state of the reader before it, and the state after it
-    ghost says: { Says Self };
+    ghost transition: { Transition Self };
 }
 
 /// A type of this library that is read from an input.
-pub trait ReadFrom<'p, I: Input<'p>>: Meant {
+pub trait ReadFrom<'p, I: Input<'p>>: HasTransition {
     /// Reads one value.
     fn read<E: Endian>(reader: &mut Reader<I, E>) -> ReadResult<Self>
-        ensures call { Call I.source E.order Self.says reader.old (kinds result) reader.new };
+        ensures call { Call I.source E.order Self.transition reader.old (kinds result) reader.new };
 }
 
-impl Meant for u8 {
-    ghost says = { ReadsNumber w1 };
+impl HasTransition for u8 {
+    ghost transition = { ReadsNumber w1 };
 }
 
 impl<'p, I: Input<'p>> ReadFrom<'p, I> for u8 {
@@ -35,8 +35,8 @@ impl<'p, I: Input<'p>> ReadFrom<'p, I> for u8 {
     }
 }
 
-impl Meant for u16 {
-    ghost says = { ReadsNumber w2 };
+impl HasTransition for u16 {
+    ghost transition = { ReadsNumber w2 };
 }
 
 impl<'p, I: Input<'p>> ReadFrom<'p, I> for u16 {
@@ -49,8 +49,8 @@ impl<'p, I: Input<'p>> ReadFrom<'p, I> for u16 {
     }
 }
 
-impl Meant for u32 {
-    ghost says = { ReadsNumber w4 };
+impl HasTransition for u32 {
+    ghost transition = { ReadsNumber w4 };
 }
 
 impl<'p, I: Input<'p>> ReadFrom<'p, I> for u32 {
@@ -63,8 +63,8 @@ impl<'p, I: Input<'p>> ReadFrom<'p, I> for u32 {
     }
 }
 
-impl Meant for u64 {
-    ghost says = { ReadsNumber w8 };
+impl HasTransition for u64 {
+    ghost transition = { ReadsNumber w8 };
 }
 
 impl<'p, I: Input<'p>> ReadFrom<'p, I> for u64 {
@@ -77,9 +77,9 @@ impl<'p, I: Input<'p>> ReadFrom<'p, I> for u64 {
     }
 }
 
-impl<const N: usize> Meant for [u8; N] {
-    ghost says = { λ old seen new.
-        ReadsOne (byte_string N) (λ bytes. bytes) old seen new × TakesNoMemory seen };
+impl<const N: usize> HasTransition for [u8; N] {
+    ghost transition = { λ old outcome new.
+        ReadsOne (byte_string N) (λ bytes. bytes) old outcome new × TakesNoMemory outcome };
 }
 
 impl<'p, I: Input<'p>, const N: usize> ReadFrom<'p, I> for [u8; N] {

@@ -13,14 +13,14 @@ ghost use Rattle.perf_buffers.specs.declared.outer.Outer.{Outer};
 ghost use Rattle.perf_reader.specs.Frames.{GivesNextFrame, FailsToReadFrame};
 ghost use Rattle.perf_reader.specs.Headers.{ReadsHeader, ReadsShownHeader, StopsAt, stop_kinds};
 ghost use Rattle.perf_reader.specs.Room.{IsRoom};
-ghost use Rattle.perf_reader.specs.Words.{Call, ReadsAtOnce, TakesNoMemory, kinds, input_of};
-ghost use Rattle.perf_reader.specs.Words.{refusal_kind, ReadsOne, words, one_if_any, OutOfMemory};
-ghost use Rattle.perf_reader.specs.Words.{falls_short, is_made_beforehand, reads_of, cow_items};
-ghost use Rattle.perf_reader.specs.Words.{is_borrowed, byte_string, Stays, cursor_left};
-ghost use Rattle.perf_reader.specs.Words.{cursor_lent, IsAtStart, Takes, FailsToKeep, CanFail};
-ghost use Rattle.perf_reader.specs.Words.{config_of, refused, Refuses, buffer_of, ReadsPlain};
-ghost use Rattle.perf_reader.specs.Words.{meaning, Reads, number, w1, w2, w4, w8, optional};
-ghost use Rattle.perf_reader.specs.Words.{padding, rest, PassesOver};
+ghost use Rattle.perf_reader.specs.Prelude.{Call, ReadsAtOnce, TakesNoMemory, kinds, input_of};
+ghost use Rattle.perf_reader.specs.Prelude.{refusal_kind, ReadsOne, words, one_if_any, OutOfMemory};
+ghost use Rattle.perf_reader.specs.Prelude.{falls_short, is_made_beforehand, reads_of, cow_items};
+ghost use Rattle.perf_reader.specs.Prelude.{is_borrowed, byte_string, Stays, cursor_left};
+ghost use Rattle.perf_reader.specs.Prelude.{cursor_is_borrowed, IsAtStart, Takes, FailsToKeep, CanFail};
+ghost use Rattle.perf_reader.specs.Prelude.{config_of, refused, Refuses, buffer_of, ReadsPlain};
+ghost use Rattle.perf_reader.specs.Prelude.{state_of, Reads, number, w1, w2, w4, w8, optional};
+ghost use Rattle.perf_reader.specs.Prelude.{padding, rest, PassesOver};
 
 use crate::blocks::{BLOCK_LEN, BLOCK_SIZE, NUMBER_SIZE, convert};
 use crate::frame_reader::{Configured, ConfiguredFrameReader};
@@ -154,10 +154,10 @@ impl<'p, I: Input<'p>, E: Endian> Reader<I, E> {
             (I.source (input_of self.new)) }
         ensures can_fail { CanFail (I.source (input_of self.old)) (refused (kinds result)) }
         ensures whole { IsTrue (I.source (input_of self.old)).whole →
-            IfOk result (λ c. IsTrue (cursor_lent c)) }
+            IfOk result (λ c. IsTrue (cursor_is_borrowed c)) }
         ensures whole_memory { IsTrue (I.source (input_of self.old)).whole →
             TakesNoMemory (kinds result) }
-        ensures nothing { len ≡ 0 → IfOk result (λ c. IsTrue (cursor_lent c)) × IsOk result
+        ensures nothing { len ≡ 0 → IfOk result (λ c. IsTrue (cursor_is_borrowed c)) × IsOk result
             × (I.source (input_of self.new) ≡ I.source (input_of self.old)) }
         ensures short { falls_short (I.hint (input_of self.old)) len ≡ true →
             TakesNoMemory (kinds result) × IfOk result (λ c. ⊥) }
@@ -259,7 +259,7 @@ impl<'p, I: Input<'p>, E: Endian> Reader<I, E> {
     /// Reads one value of a type.
     #[inline]
     pub fn read<T: ReadFrom<'p, I>>(&mut self) -> ReadResult<T>
-        ensures call { Call I.source E.order T.says self.old (kinds result) self.new }
+        ensures call { Call I.source E.order T.transition self.old (kinds result) self.new }
     {
         T::read(self)
     }
@@ -743,7 +743,7 @@ impl<'p, I: Input<'p>, E: Endian> Reader<I, E> {
     #[tactic(auto)]
     fn read_header_in_two(&mut self) -> Result<perf_event_header, Stop>
         ensures stop { IsTrue (I.source (input_of self.old)).told → IfErr result (λ s.
-            StopsAt (meaning I.source E.order self.old) s (meaning I.source E.order self.new)) }
+            StopsAt (state_of I.source E.order self.old) s (state_of I.source E.order self.new)) }
         ensures memory { TakesNoMemory (stop_kinds result) }
         ensures call { Call I.source E.order ReadsHeader self.old (stop_kinds result) self.new }
     {
@@ -766,8 +766,8 @@ impl<'p, B: ParseBuf<'p>, E: Endian> Reader<Outer<B>, E> {
     #[tactic(auto)]
     pub fn next_header(&mut self) -> Result<perf_event_header, Stop>
         ensures stop { IsTrue (B.source (buffer_of self.old)).told → IfErr result (λ s.
-            StopsAt (meaning (λ (o : Outer B). B.source o.buf) E.order self.old) s
-            (meaning (λ (o : Outer B). B.source o.buf) E.order self.new)) }
+            StopsAt (state_of (λ (o : Outer B). B.source o.buf) E.order self.old) s
+            (state_of (λ (o : Outer B). B.source o.buf) E.order self.new)) }
         ensures memory { IsTrue (B.source (buffer_of self.old)).told →
             TakesNoMemory (stop_kinds result) }
         ensures call { Call (λ (o : Outer B). B.source o.buf) E.order ReadsHeader

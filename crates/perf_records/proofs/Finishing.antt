@@ -10,25 +10,25 @@ use Rattle.perf_base.specs.declared.error.ErrorKind.{ErrorKind}
 use Rattle.perf_base.specs.declared.refusal.Refusal.{Refusal}
 use Rattle.perf_base.specs.declared.sys.perf_event_header.{perf_event_header}
 use Rattle.perf_buffers.specs.Buffer.{Source, Stays}
-use Rattle.perf_reader.specs.Meaning.{Meaning}
+use Rattle.perf_reader.specs.ReaderState.{ReaderState}
 use Rattle.perf_reader.specs.Reading.{Keeps, is_external, one_if_refused, last_of}
-use Rattle.perf_records.specs.Answers.{FrameParts, body_length, split_behind, split_reads, record_in, record_reads, SplitsBehind}
+use Rattle.perf_records.specs.Answers.{FrameParts, body_length, split_after, split_reads, record_in, record_reads, SplitsAfter}
 use Rattle.perf_records.specs.Bodies.{body, wants_memory}
 use Rattle.perf_records.specs.Metadata.{MetadataValue}
 use Rattle.perf_records.specs.Records.{RecordValue}
-use Rattle.perf_records.specs.Visits.{Event, event, VisitsAll, VisitsBehind, BelongsTo}
+use Rattle.perf_records.specs.Gives.{Event, event, GivesWholeBody, GivesFrameAfter, BelongsTo}
 use Rattle.perf_records.proofs.Keeping.{no_fault, stays_refused}
 
 -- what is known of an output, by the visit of the body
 pub belongs : {O : Type 0} (gives : Event → O → Type 0) (h : perf_event_header) (whole from : Bool) (m : MetadataValue) (o : Order) (p : Parts RecordValue) (bytes : List ℕ) (k : ℕ) (result : Result O Refusal) →
-    (m.ty ≡ h.type_) × (m.misc ≡ h.misc) → (IsTrue whole → IsTrue from) → VisitsAll gives m o p bytes from (kinds result) k → IfOk result (λ output. BelongsTo gives h whole output)
+    (m.ty ≡ h.type_) × (m.misc ≡ h.misc) → (IsTrue whole → IsTrue from) → GivesWholeBody gives m o p bytes from (kinds result) k → IfOk result (λ output. BelongsTo gives h whole output)
 belongs gives h whole from m o p bytes k (Ok output) named lends v =
     (event v.0 v.1 m, v.2, named.0, named.1, (λ is. v.5 (lends is)), (λ is. ap wants_memory (sym named.0) ∙ v.6 is))
 belongs gives h whole from m o p bytes k (Err e) named lends v = tt
 
 -- no memory is taken for a body of borrowed bytes whose type needs none
 pub spares : {O : Type 0} (gives : Event → O → Type 0) (h : perf_event_header) (from : Bool) (m : MetadataValue) (o : Order) (p : Parts RecordValue) (bytes : List ℕ) (k : ℕ) (result : Result O Refusal) →
-    m.ty ≡ h.type_ → IsTrue from → wants_memory h.type_ ≡ false → VisitsAll gives m o p bytes from (kinds result) k → TakesNoMemory (kinds result)
+    m.ty ≡ h.type_ → IsTrue from → wants_memory h.type_ ≡ false → GivesWholeBody gives m o p bytes from (kinds result) k → TakesNoMemory (kinds result)
 spares gives h from m o p bytes k (Ok output) named lent none v = tt
 spares gives h from m o p bytes k (Err e) named lent none v = v.1 lent (ap wants_memory named ∙ none)
 
@@ -38,18 +38,18 @@ refused_so (Ok a) X P p = tt
 refused_so (Err e) X P p = λ x. p
 
 -- a frame that could not be split is not visited
-pub unsplit_visits : {O : Type 0} (gives : Event → O → Type 0) (h : perf_event_header) (old new : Meaning) (e : ErrorKind) → SplitsBehind h old (Err e) new → VisitsBehind gives h old (Err e) new
+pub unsplit_visits : {O : Type 0} (gives : Event → O → Type 0) (h : perf_event_header) (old new : ReaderState) (e : ErrorKind) → SplitsAfter h old (Err e) new → GivesFrameAfter gives h old (Err e) new
 unsplit_visits gives h old new e s = λ kind.
     let w = s kind in
-    let none : record_reads old.settings old.order h (split_behind old.settings old.order h old.source.left) ≡ 0 = ap (record_reads old.settings old.order h) w.0 in
+    let none : record_reads old.settings old.order h (split_after old.settings old.order h old.source.left) ≡ 0 = ap (record_reads old.settings old.order h) w.0 in
     (ap (record_in old.settings old.order h) w.0, w.1, omega (arith, w.2, none))
 
 -- the visit of a frame that was split, by that of its body
-pub visits_made : {O : Type 0} (gives : Event → O → Type 0) (h : perf_event_header) (old mid new : Meaning) (parts : FrameParts) (o : Order) (c : Configuration) (from : Bool) (made : ℕ) (seen : Result O ErrorKind) →
+pub visits_made : {O : Type 0} (gives : Event → O → Type 0) (h : perf_event_header) (old mid new : ReaderState) (parts : FrameParts) (o : Order) (c : Configuration) (from : Bool) (made : ℕ) (outcome : Result O ErrorKind) →
     o ≡ old.order → c ≡ under_misc h.misc old.settings → parts.metadata.ty ≡ h.type_ → (IsTrue old.source.whole → IsTrue from) → new.source ≡ mid.source → new.reads ≡ mid.reads + made →
-    (split_behind old.settings old.order h old.source.left ≡ Ok parts) × (mid.source.left ≡ drop (body_length h) old.source.left) × (mid.reads ≡ old.reads + split_reads old.settings old.order h old.source.left) →
-    VisitsAll gives parts.metadata o (body c parts.metadata.ty) parts.body from seen made → VisitsBehind gives h old seen new
-visits_made {O} gives h old mid new parts o c from made seen order config named lends same count s v = go seen v
+    (split_after old.settings old.order h old.source.left ≡ Ok parts) × (mid.source.left ≡ drop (body_length h) old.source.left) × (mid.reads ≡ old.reads + split_reads old.settings old.order h old.source.left) →
+    GivesWholeBody gives parts.metadata o (body c parts.metadata.ty) parts.body from outcome made → GivesFrameAfter gives h old outcome new
+visits_made {O} gives h old mid new parts o c from made outcome order config named lends same count s v = go outcome v
   where
     inside : Parts RecordValue
     inside = body (under_misc h.misc old.settings) h.type_
@@ -63,12 +63,12 @@ visits_made {O} gives h old mid new parts o c from made seen order config named 
     left : new.source.left ≡ drop (body_length h) old.source.left
     left = ap (λ (x : Source). x.left) same ∙ s.1
 
-    reads : made ≡ layout_reads o (body c parts.metadata.ty) parts.body → new.reads ≡ old.reads + (split_reads old.settings old.order h old.source.left + record_reads old.settings old.order h (split_behind old.settings old.order h old.source.left))
+    reads : made ≡ layout_reads o (body c parts.metadata.ty) parts.body → new.reads ≡ old.reads + (split_reads old.settings old.order h old.source.left + record_reads old.settings old.order h (split_after old.settings old.order h old.source.left))
     reads k =
-        let r : record_reads old.settings old.order h (split_behind old.settings old.order h old.source.left) ≡ made = ap (record_reads old.settings old.order h) s.0 ∙ counted ∙ sym k in
+        let r : record_reads old.settings old.order h (split_after old.settings old.order h old.source.left) ≡ made = ap (record_reads old.settings old.order h) s.0 ∙ counted ∙ sym k in
         omega (arith, count, s.2, r)
 
-    go : (seen : Result O ErrorKind) → VisitsAll gives parts.metadata o (body c parts.metadata.ty) parts.body from seen made → VisitsBehind gives h old seen new
+    go : (outcome : Result O ErrorKind) → GivesWholeBody gives parts.metadata o (body c parts.metadata.ty) parts.body from outcome made → GivesFrameAfter gives h old outcome new
     go (Ok output) v = (v.0, v.1, parts, v.2, s.0, (λ is. v.5 (lends is)), (ap (record_in old.settings old.order h) s.0 ∙ laid ∙ v.3, left, reads v.4))
     go (Err e) v = λ kind. let w = v.0 kind in (ap (record_in old.settings old.order h) s.0 ∙ laid ∙ w.0, left, reads w.1)
 
@@ -77,7 +77,7 @@ stays_any a b None inner p = p
 stays_any a b (Some e) inner p = stays_refused a b e inner p
 
 -- what a call keeps that was paid for n reads, and makes no more than these
-pub visits_keep : (start old mid new : Meaning) (made n : ℕ) (e : Option ErrorKind) → Keeps start None old → Keeps start None mid →
+pub visits_keep : (start old mid new : ReaderState) (made n : ℕ) (e : Option ErrorKind) → Keeps start None old → Keeps start None mid →
     (IsTrue old.source.told → mid.reads + n + length mid.source.left ≤ old.reads + length old.source.left) → new.source ≡ mid.source → new.reads ≡ mid.reads + made → made ≤ n + one_if_refused e → is_external e ≡ false → Keeps start e new
 visits_keep start old mid new made n e p q paid same count cost inner = record {
   buffer = subst (λ (s : Source). Stays start.source e s) (sym same) (stays_any start.source mid.source e inner q.buffer);

@@ -17,7 +17,7 @@ use Rattle.perf_sample_types.specs.Sample.{SampleValue, sample}
 use Rattle.perf_sample_types.specs.SampleGetters.{getters_of}
 use Rattle.perf_sample_types.specs.SampleId.{SampleIdValue, one_if, sample_id_flags, sample_id_length}
 use Rattle.perf_words.specs.Bits.{has_bit}
-use Rattle.perf_records.specs.Answers.{FrameParts, body_length, parts_of, split_behind, record_in, answer_behind, id_bytes}
+use Rattle.perf_records.specs.Answers.{FrameParts, body_length, parts_of, split_after, record_in, answer_after, id_bytes}
 use Rattle.perf_records.specs.Bodies.{body}
 use Rattle.perf_records.specs.FrameNumbers.{eight_at, bytes_of, time_field, task_field, id_field, cpu_field, identifier_field, event_field, place_of, bytes_at, field_bytes, first_half, second_half, time_in, pid_in, tid_in, cpu_in, id_in, identifier_bytes, identifier_in, IsRead, IsIdentifierRead}
 use Rattle.perf_records.specs.Metadata.{carries_sample_id, id_of_type, id_length}
@@ -47,7 +47,7 @@ pick_sample present false x y e = absurd (cc)
 not_sample : (ty : ℕ) → (ty ≡ 9 → ⊥) → (ty == 9) ≡ false
 not_sample ty other = grind (arith, nat_tests)
 
-split_all : (c : Configuration) (o : Order) (h : perf_event_header) (bytes : List ℕ) → 8 ≤ h.size → length bytes ≡ body_length h → id_length c h.type_ ≤ length bytes → split_behind c o h bytes ≡ Ok (parts_of c o h bytes)
+split_all : (c : Configuration) (o : Order) (h : perf_event_header) (bytes : List ℕ) → 8 ≤ h.size → length bytes ≡ body_length h → id_length c h.type_ ≤ length bytes → split_after c o h bytes ≡ Ok (parts_of c o h bytes)
 split_all c o h bytes sized whole room =
     let all : take (body_length h) bytes ≡ bytes = take_all (body_length h) bytes (omega arith) in
     split_whole c o h bytes sized (omega arith) (omega arith) ∙ ap (λ b. Ok (parts_of c o h b)) all
@@ -56,17 +56,17 @@ split_all c o h bytes sized whole room =
 other : (of_id : SampleIdValue → Option ℕ) (read : List ℕ → ℕ) (c : Configuration) (o : Order) (place : Place) (h : perf_event_header) (bytes : List ℕ) →
     8 ≤ h.size → length bytes ≡ body_length h → (h.type_ ≡ 9 → ⊥) →
     ((ids : List ℕ) → length ids ≡ id_length c h.type_ → of_id (value o ids 0 (id_of_type c h.type_)) ≡ option_map read (if place.present then eight_at ids place.in_id else None)) →
-    MatchResult (split_behind c o h bytes) (λ parts. option_map read (bytes_at c place h bytes) ≡ of_id parts.metadata.sample_id) (λ e. option_map read (bytes_at c place h bytes) ≡ None)
-other of_id read c o place h bytes sized whole sample says = elim (cases_lt (length bytes) (id_length c h.type_)) [
+    MatchResult (split_after c o h bytes) (λ parts. option_map read (bytes_at c place h bytes) ≡ of_id parts.metadata.sample_id) (λ e. option_map read (bytes_at c place h bytes) ≡ None)
+other of_id read c o place h bytes sized whole sample transition = elim (cases_lt (length bytes) (id_length c h.type_)) [
   | inl short ↦
-      let small : split_behind c o h bytes ≡ Err InvalidRecord = split_no_room c o h bytes sized (omega arith) (omega arith) in
+      let small : split_after c o h bytes ≡ Err InvalidRecord = split_no_room c o h bytes sized (omega arith) (omega arith) in
       subst P (sym small) (ap (option_map read) (pick_none place.present (h.type_ == 9) (nat_le (id_length c h.type_) (length bytes)) _ _ (not_sample h.type_ sample) (lt-leb (id_length c h.type_) (length bytes) short)))
   | inr room ↦
       let ids : List ℕ = id_bytes c h bytes in
       let long : length ids ≡ id_length c h.type_ = length-drop (length bytes - id_length c h.type_) bytes ∙ omega arith in
       subst P (sym (split_all c o h bytes sized whole room))
       (ap (option_map read) (pick place.present (h.type_ == 9) (nat_le (id_length c h.type_) (length bytes)) _ _ (not_sample h.type_ sample) (le-leb (id_length c h.type_) (length bytes) room))
-      ∙ sym (says ids long))
+      ∙ sym (transition ids long))
 ]
   where
     P : Result FrameParts ErrorKind → Type 0
@@ -76,12 +76,12 @@ other of_id read c o place h bytes sized whole sample says = elim (cases_lt (len
 
 -- the sample of a frame is the run of its fields
 sample_run : (c : Configuration) (o : Order) (h : perf_event_header) (bytes : List ℕ) (s : SampleValue) → 8 ≤ h.size → length bytes ≡ body_length h → h.type_ ≡ 9 →
-    answer_behind c o h bytes ≡ Ok (sample_is s) → (left : List ℕ) × (run_parts o (sample (under_misc h.misc c)) bytes ≡ ran s left)
+    answer_after c o h bytes ≡ Ok (sample_is s) → (left : List ℕ) × (run_parts o (sample (under_misc h.misc c)) bytes ≡ ran s left)
 sample_run c o h bytes s sized whole is answer =
     let c' : Configuration = under_misc h.misc c in
     let none : id_length c h.type_ ≡ 0 = ap (id_length c) is in
     let all : take (length bytes - id_length c h.type_) bytes ≡ bytes = take_all (length bytes - id_length c h.type_) bytes (omega arith) in
-    let parts : answer_behind c o h bytes ≡ record_in c o h (Ok (parts_of c o h bytes)) = ap (record_in c o h) (split_all c o h bytes sized whole (omega arith)) in
+    let parts : answer_after c o h bytes ≡ record_in c o h (Ok (parts_of c o h bytes)) = ap (record_in c o h) (split_all c o h bytes sized whole (omega arith)) in
     let made : layout o (body c' 9) bytes ≡ Ok (sample_is s) =
     sym (ap (λ b. layout o (body c' 9) b) all) ∙ sym (ap (λ ty. layout o (body c' ty) (take (length bytes - id_length c h.type_) bytes)) is) ∙ sym parts ∙ answer in
     let first = then_inv o (sample c') (λ v. done (sample_is v)) bytes (sample_is s) _ (layout_run o (mapped sample_is (sample c')) bytes (sample_is s) made) in
@@ -94,10 +94,10 @@ sample_run c o h bytes s sized whole is answer =
 sampled : (of_sample : SampleValue → Option ℕ) (read : List ℕ → ℕ) (c : Configuration) (o : Order) (place : Place) (h : perf_event_header) (bytes : List ℕ) →
     8 ≤ h.size → length bytes ≡ body_length h →
     ((s : SampleValue) → Made o (under_misc h.misc c) bytes s → of_sample s ≡ option_map read (if place.present then eight_at bytes place.in_sample else None)) →
-    h.type_ ≡ 9 → (s : SampleValue) → answer_behind c o h bytes ≡ Ok (sample_is s) → option_map read (bytes_at c place h bytes) ≡ of_sample s
-sampled of_sample read c o place h bytes sized whole says is s answer =
+    h.type_ ≡ 9 → (s : SampleValue) → answer_after c o h bytes ≡ Ok (sample_is s) → option_map read (bytes_at c place h bytes) ≡ of_sample s
+sampled of_sample read c o place h bytes sized whole transition is s answer =
     let nine : (h.type_ == 9) ≡ true = ap (λ ty. ty == 9) is in
-    ap (option_map read) (pick_sample place.present (h.type_ == 9) _ _ nine) ∙ sym (says s (sample_run c o h bytes s sized whole is answer))
+    ap (option_map read) (pick_sample place.present (h.type_ == 9) _ _ nine) ∙ sym (transition s (sample_run c o h bytes s sized whole is answer))
 
 pub time_read : (c : Configuration) (o : Order) (h : perf_event_header) (bytes : List ℕ) → 8 ≤ h.size → length bytes ≡ body_length h →
     IsRead (λ s. (getters_of s).time) (λ id. id.time) c o h bytes (time_in c o h bytes)
@@ -199,16 +199,16 @@ identifier_read o h bytes sized whole = λ c set. (
   (λ carries all. by c set carries all (cases_lt (length bytes) (id_length c h.type_))),
 )
   where
-    Says : Configuration → Result FrameParts ErrorKind → Type 0
-    Says c r = IfOk r (λ parts.
+    Transition : Configuration → Result FrameParts ErrorKind → Type 0
+    Transition c r = IfOk r (λ parts.
         (identifier_in o h bytes ≡ option_map o.eight (field_bytes c identifier_field h bytes))
         × (has_bit c.sample_type 6 ≡ false → identifier_in o h bytes ≡ parts.metadata.sample_id.id))
 
-    by : (c : Configuration) → has_bit c.sample_type 16 ≡ true → carries_sample_id h.type_ ≡ true → c.sample_id_all ≡ true → (length bytes < id_length c h.type_) ⊎ (id_length c h.type_ ≤ length bytes) → Says c (split_behind c o h bytes)
-    by c set carries all (inl short) = subst (Says c) (sym (split_no_room c o h bytes sized (omega arith) (omega arith))) tt
+    by : (c : Configuration) → has_bit c.sample_type 16 ≡ true → carries_sample_id h.type_ ≡ true → c.sample_id_all ≡ true → (length bytes < id_length c h.type_) ⊎ (id_length c h.type_ ≤ length bytes) → Transition c (split_after c o h bytes)
+    by c set carries all (inl short) = subst (Transition c) (sym (split_no_room c o h bytes sized (omega arith) (omega arith))) tt
     by c set carries all (inr room) =
         let placed : identifier_in o h bytes ≡ option_map o.eight (field_bytes c identifier_field h bytes) = ap (option_map o.eight) (identifier_placed c h bytes set carries all room) in
-        let made : split_behind c o h bytes ≡ Ok (parts_of c o h bytes) = split_all c o h bytes sized whole room in
+        let made : split_after c o h bytes ≡ Ok (parts_of c o h bytes) = split_all c o h bytes sized whole room in
         let other_frame : h.type_ ≡ 9 → ⊥ = λ is. let a : (h.type_ == 9) ≡ true = ap (λ ty. ty == 9) is in let b : (h.type_ == 9) ≡ false = other_type (nat_lt h.type_ 64) (h.type_ == 9) carries in absurd (cc) in
         let read = subst (λ (r : Result FrameParts ErrorKind). MatchResult r (λ parts. id_in c o h bytes ≡ parts.metadata.sample_id.id) (λ e. id_in c o h bytes ≡ None)) made ((id_read c o h bytes sized whole).1 other_frame) in
-        subst (Says c) (sym made) (placed, (λ none. placed ∙ identifier_is_id c o h bytes none ∙ read))
+        subst (Transition c) (sym made) (placed, (λ none. placed ∙ identifier_is_id c o h bytes none ∙ read))

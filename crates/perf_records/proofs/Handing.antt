@@ -16,14 +16,14 @@ use Rattle.perf_records.specs.Frames.{frame_length}
 use Rattle.perf_records.proofs.Headers.{frame_body, header_alone}
 use Rattle.perf_records.specs.Sights.{Sight, bad, whole, sight_after, sight_in, HandsAfter}
 
-unfinished : (h : perf_event_header) (bytes : List ℕ) (lasting : Bool) → 8 ≤ h.size → length bytes < body_length h → sight_after h bytes lasting ≡ bad h Eof
-unfinished h bytes lasting sized short =
+unfinished : (h : perf_event_header) (bytes : List ℕ) (borrowed : Bool) → 8 ≤ h.size → length bytes < body_length h → sight_after h bytes borrowed ≡ bad h Eof
+unfinished h bytes borrowed sized short =
     let a : nat_lt h.size 8 ≡ false = le-ltb h.size 8 sized in
     let b : nat_lt (length bytes) (body_length h) ≡ true = lt-ltb (length bytes) (body_length h) short in
     rw (a, b) refl
 
-pub finished : (h : perf_event_header) (bytes : List ℕ) (lasting : Bool) → 8 ≤ h.size → body_length h ≤ length bytes → sight_after h bytes lasting ≡ whole h (take (body_length h) bytes) lasting
-finished h bytes lasting sized fits =
+pub finished : (h : perf_event_header) (bytes : List ℕ) (borrowed : Bool) → 8 ≤ h.size → body_length h ≤ length bytes → sight_after h bytes borrowed ≡ whole h (take (body_length h) bytes) borrowed
+finished h bytes borrowed sized fits =
     let a : nat_lt h.size 8 ≡ false = le-ltb h.size 8 sized in
     let b : nat_lt (length bytes) (body_length h) ≡ false = le-ltb (length bytes) (body_length h) fits in
     rw (a, b) refl
@@ -57,11 +57,11 @@ stops_run old new n External other p kind = absurd (cc)
 stops_run old new n OutOfMemory other p kind = absurd (cc)
 
 -- a frame looks the same whatever comes after it
-pub sight_take : (h : perf_event_header) (bytes : List ℕ) (lasting : Bool) → sight_after h (take (body_length h) bytes) lasting ≡ sight_after h bytes lasting
-sight_take h bytes lasting = elim (cases_lt h.size 8) [
+pub sight_take : (h : perf_event_header) (bytes : List ℕ) (borrowed : Bool) → sight_after h (take (body_length h) bytes) borrowed ≡ sight_after h bytes borrowed
+sight_take h bytes borrowed = elim (cases_lt h.size 8) [
   | inl small ↦ let a : nat_lt h.size 8 ≡ true = lt-ltb h.size 8 small in rw a refl
   | inr sized ↦ elim (cases_lt (length bytes) (body_length h)) [
-    | inl short ↦ ap (λ xs. sight_after h xs lasting) (take_all (body_length h) bytes (omega arith))
+    | inl short ↦ ap (λ xs. sight_after h xs borrowed) (take_all (body_length h) bytes (omega arith))
     | inr fits ↦
         let long : length (take (body_length h) bytes) ≡ body_length h = length-take-le (body_length h) bytes fits in
         let a : nat_lt h.size 8 ≡ false = le-ltb h.size 8 sized in
@@ -72,11 +72,11 @@ sight_take h bytes lasting = elim (cases_lt h.size 8) [
   ]
 ]
 
-pub sight_alone : (o : Order) (bytes : List ℕ) (lasting : Bool) → sight_in o (take (frame_length o bytes) bytes) lasting ≡ sight_in o bytes lasting
-sight_alone o bytes lasting =
+pub sight_alone : (o : Order) (bytes : List ℕ) (borrowed : Bool) → sight_in o (take (frame_length o bytes) bytes) borrowed ≡ sight_in o bytes borrowed
+sight_alone o bytes borrowed =
     let h : perf_event_header = header_of o bytes in
     let frame : List ℕ = take (frame_length o bytes) bytes in
     let rest : drop 8 frame ≡ take (body_length h) (drop 8 bytes) = ap (λ n. drop 8 (take n bytes)) (frame_body h) ∙ drop-take 8 (body_length h) bytes in
-    ap (λ k. sight_after k (drop 8 frame) lasting) (header_alone o bytes)
-    ∙ ap (λ xs. sight_after h xs lasting) rest
-    ∙ sight_take h (drop 8 bytes) lasting
+    ap (λ k. sight_after k (drop 8 frame) borrowed) (header_alone o bytes)
+    ∙ ap (λ xs. sight_after h xs borrowed) rest
+    ∙ sight_take h (drop 8 bytes) borrowed

@@ -17,12 +17,12 @@ use Rattle.perf_base.specs.declared.error.ErrorKind.TheVariants.{Eof, InvalidRec
 use Rattle.perf_buffers.specs.Buffer.{Source}
 use Rattle.perf_buffers.specs.Taking.{MovesWithin}
 use Rattle.perf_buffers.proofs.Taking.{moves_more}
-use Rattle.perf_reader.specs.Meaning.{Meaning}
+use Rattle.perf_reader.specs.ReaderState.{ReaderState}
 use Rattle.perf_reader.specs.Reading.{of_layout, is_external}
 use Rattle.perf_reader.proofs.Paying.{within_taken}
 use Rattle.perf_records.proofs.Keeping.{within_all}
 use Rattle.perf_records.specs.Frames.{frame_length}
-use Rattle.perf_records.specs.Answers.{FrameParts, body_length, split_behind, split_reads, id_reads, record_in, record_reads, answer_behind, reads_behind, of_frame, answer_of_frame, AnswersExactly, frame_reads, RefusesHeader}
+use Rattle.perf_records.specs.Answers.{FrameParts, body_length, split_after, split_reads, id_reads, record_in, record_reads, answer_after, reads_after, of_frame, answer_of_frame, AnswersExactly, frame_reads, RefusesHeader}
 
 -- ---- the header by places
 -- what follows the type, and what follows misc
@@ -91,9 +91,9 @@ header_take o n bytes =
     ap (λ k. take 2 (drop 6 (take k bytes))) (omega arith) ∙ ap (take 2) (drop-take 6 (2 + n) bytes) ∙ take-take 2 (2 + n) (drop 6 bytes) (omega arith) in
     rw (a, b, d) refl
 
-split_take : (c : Configuration) (o : Order) (h : perf_event_header) (bytes : List ℕ) → split_behind c o h (take (body_length h) bytes) ≡ split_behind c o h bytes
+split_take : (c : Configuration) (o : Order) (h : perf_event_header) (bytes : List ℕ) → split_after c o h (take (body_length h) bytes) ≡ split_after c o h bytes
 split_take c o h bytes = elim (cases_lt (length bytes) (body_length h)) [
-  | inl short ↦ ap (split_behind c o h) (take_all (body_length h) bytes (omega arith))
+  | inl short ↦ ap (split_after c o h) (take_all (body_length h) bytes (omega arith))
   | inr fits ↦
       let all : length (take (body_length h) bytes) ≡ body_length h = length-take-le (body_length h) bytes fits in
       let a : nat_lt (length (take (body_length h) bytes)) (body_length h) ≡ false = le-ltb (length (take (body_length h) bytes)) (body_length h) (omega arith) in
@@ -102,27 +102,27 @@ split_take c o h bytes = elim (cases_lt (length bytes) (body_length h)) [
       rw (a, b, t) refl
 ]
 
-behind_take : (c : Configuration) (o : Order) (h : perf_event_header) (bytes : List ℕ) → answer_behind c o h (take (body_length h) bytes) ≡ answer_behind c o h bytes
-behind_take c o h bytes = ap (record_in c o h) (split_take c o h bytes)
+after_take : (c : Configuration) (o : Order) (h : perf_event_header) (bytes : List ℕ) → answer_after c o h (take (body_length h) bytes) ≡ answer_after c o h bytes
+after_take c o h bytes = ap (record_in c o h) (split_take c o h bytes)
 
 -- and takes as many reads
-reads_take : (c : Configuration) (o : Order) (h : perf_event_header) (bytes : List ℕ) → reads_behind c o h (take (body_length h) bytes) ≡ reads_behind c o h bytes
+reads_take : (c : Configuration) (o : Order) (h : perf_event_header) (bytes : List ℕ) → reads_after c o h (take (body_length h) bytes) ≡ reads_after c o h bytes
 reads_take c o h bytes =
     let n : ℕ = body_length h in
-    let same : split_behind c o h (take n bytes) ≡ split_behind c o h bytes = split_take c o h bytes in
+    let same : split_after c o h (take n bytes) ≡ split_after c o h bytes = split_take c o h bytes in
     let once : take n (take n bytes) ≡ take n bytes = take-take n n bytes (omega arith) in
     let split : split_reads c o h (take n bytes) ≡ split_reads c o h bytes =
     ap (λ (r : Result FrameParts ErrorKind). elim r [ Ok parts ↦ id_reads c o h (take n (take n bytes)) | Err e ↦ 0 ]) same
-    ∙ ap (λ (xs : List ℕ). elim (split_behind c o h bytes) [ Ok parts ↦ id_reads c o h xs | Err e ↦ 0 ]) once in
-    ap (λ (k : ℕ). k + record_reads c o h (split_behind c o h (take n bytes))) split
+    ∙ ap (λ (xs : List ℕ). elim (split_after c o h bytes) [ Ok parts ↦ id_reads c o h xs | Err e ↦ 0 ]) once in
+    ap (λ (k : ℕ). k + record_reads c o h (split_after c o h (take n bytes))) split
     ∙ ap (λ (r : Result FrameParts ErrorKind). split_reads c o h bytes + record_reads c o h r) same
 
 -- what comes after a header that is whole
-pub frame_whole : {V : Type 0} (says : perf_event_header → List ℕ → Result V ErrorKind) (o : Order) (bytes : List ℕ) → 8 ≤ length bytes → of_frame says o bytes ≡ says (header_of o bytes) (drop 8 bytes)
-frame_whole says o bytes fits = let a : nat_lt (length bytes) 8 ≡ false = le-ltb (length bytes) 8 fits in rw a refl
+pub frame_whole : {V : Type 0} (transition : perf_event_header → List ℕ → Result V ErrorKind) (o : Order) (bytes : List ℕ) → 8 ≤ length bytes → of_frame transition o bytes ≡ transition (header_of o bytes) (drop 8 bytes)
+frame_whole transition o bytes fits = let a : nat_lt (length bytes) 8 ≡ false = le-ltb (length bytes) 8 fits in rw a refl
 
-pub answer_whole : (c : Configuration) (o : Order) (bytes : List ℕ) → 8 ≤ length bytes → answer_of_frame c o bytes ≡ answer_behind c o (header_of o bytes) (drop 8 bytes)
-answer_whole c o bytes fits = frame_whole (answer_behind c o) o bytes fits
+pub answer_whole : (c : Configuration) (o : Order) (bytes : List ℕ) → 8 ≤ length bytes → answer_of_frame c o bytes ≡ answer_after c o (header_of o bytes) (drop 8 bytes)
+answer_whole c o bytes fits = frame_whole (answer_after c o) o bytes fits
 
 -- the frame's length, in terms of its body
 pub frame_body : (h : perf_event_header) → max 8 h.size ≡ 8 + body_length h
@@ -140,9 +140,9 @@ answer_alone c o bytes fits =
     ] in
     ap (λ n. answer_of_frame c o (take n bytes)) whole
     ∙ answer_whole c o (take (8 + body_length h) bytes) enough
-    ∙ ap (λ k. answer_behind c o k (drop 8 (take (8 + body_length h) bytes))) same
-    ∙ ap (answer_behind c o h) (drop-take 8 (body_length h) bytes)
-    ∙ behind_take c o h (drop 8 bytes)
+    ∙ ap (λ k. answer_after c o k (drop 8 (take (8 + body_length h) bytes))) same
+    ∙ ap (answer_after c o h) (drop-take 8 (body_length h) bytes)
+    ∙ after_take c o h (drop 8 bytes)
     ∙ sym (answer_whole c o bytes fits)
 
 -- the header of a frame's own bytes
@@ -152,30 +152,30 @@ header_alone o bytes = ap (λ n. header_of o (take n bytes)) (frame_body (header
 -- A frame takes the same reads after its header as with other bytes after it.
 pub reads_alone : (c : Configuration) (o : Order) (bytes : List ℕ) →
     let frame : List ℕ = take (frame_length o bytes) bytes in
-    reads_behind c o (header_of o frame) (drop 8 frame) ≡ reads_behind c o (header_of o bytes) (drop 8 bytes)
+    reads_after c o (header_of o frame) (drop 8 frame) ≡ reads_after c o (header_of o bytes) (drop 8 bytes)
 reads_alone c o bytes =
     let h : perf_event_header = header_of o bytes in
     let frame : List ℕ = take (frame_length o bytes) bytes in
-    let behind : drop 8 frame ≡ take (body_length h) (drop 8 bytes) =
+    let after : drop 8 frame ≡ take (body_length h) (drop 8 bytes) =
     ap (λ n. drop 8 (take n bytes)) (frame_body h) ∙ drop-take 8 (body_length h) bytes in
-    ap (λ k. reads_behind c o k (drop 8 frame)) (header_alone o bytes)
-    ∙ ap (reads_behind c o h) behind
+    ap (λ k. reads_after c o k (drop 8 frame)) (header_alone o bytes)
+    ∙ ap (reads_after c o h) after
     ∙ reads_take c o h (drop 8 bytes)
 
 -- ---- a frame, from its header and what comes after it
-pub frame_behind : (o : Order) (bytes mid new : List ℕ) (h : perf_event_header) → h ≡ header_of o bytes → mid ≡ drop 8 bytes → new ≡ drop (body_length h) mid → new ≡ drop (frame_length o bytes) bytes
-frame_behind o bytes mid new h e m n =
+pub after_frame : (o : Order) (bytes mid new : List ℕ) (h : perf_event_header) → h ≡ header_of o bytes → mid ≡ drop 8 bytes → new ≡ drop (body_length h) mid → new ≡ drop (frame_length o bytes) bytes
+after_frame o bytes mid new h e m n =
     n ∙ ap (drop (body_length h)) m ∙ drop-drop (body_length h) 8 bytes ∙ ap (λ k. drop k bytes) (sym (ap (λ (q : perf_event_header). max 8 q.size) (sym e) ∙ frame_body h))
 
 -- the reads of a frame whose header is whole
-reads_whole : (behind : perf_event_header → List ℕ → ℕ) (o : Order) (bytes : List ℕ) → 8 ≤ length bytes →
-    frame_reads behind o bytes ≡ layout_reads o header bytes + behind (header_of o bytes) (drop 8 bytes)
-reads_whole behind o bytes fits = let a : nat_lt (length bytes) 8 ≡ false = le-ltb (length bytes) 8 fits in rw a refl
+reads_whole : (after : perf_event_header → List ℕ → ℕ) (o : Order) (bytes : List ℕ) → 8 ≤ length bytes →
+    frame_reads after o bytes ≡ layout_reads o header bytes + after (header_of o bytes) (drop 8 bytes)
+reads_whole after o bytes fits = let a : nat_lt (length bytes) 8 ≡ false = le-ltb (length bytes) 8 fits in rw a refl
 
-reads_cut : (behind : perf_event_header → List ℕ → ℕ) (o : Order) (bytes : List ℕ) → length bytes < 8 → frame_reads behind o bytes ≡ layout_reads o header bytes + 0
-reads_cut behind o bytes short = let a : nat_lt (length bytes) 8 ≡ true = lt-ltb (length bytes) 8 short in rw a refl
+reads_cut : (after : perf_event_header → List ℕ → ℕ) (o : Order) (bytes : List ℕ) → length bytes < 8 → frame_reads after o bytes ≡ layout_reads o header bytes + 0
+reads_cut after o bytes short = let a : nat_lt (length bytes) 8 ≡ true = lt-ltb (length bytes) 8 short in rw a refl
 
-told_reads : (reads : perf_event_header → List ℕ → ℕ) (old mid : Meaning) (h : perf_event_header) (made : ℕ) → 8 ≤ length old.source.left → h ≡ header_of old.order old.source.left →
+told_reads : (reads : perf_event_header → List ℕ → ℕ) (old mid : ReaderState) (h : perf_event_header) (made : ℕ) → 8 ≤ length old.source.left → h ≡ header_of old.order old.source.left →
     mid.source.left ≡ drop 8 old.source.left → mid.reads ≡ old.reads + layout_reads old.order header old.source.left → made ≡ mid.reads + reads h mid.source.left →
     made ≡ old.reads + frame_reads reads old.order old.source.left
 told_reads reads old mid h made fits e m n p =
@@ -183,27 +183,27 @@ told_reads reads old mid h made fits e m n p =
     omega (arith, p, n, same, reads_whole reads old.order old.source.left fits)
 
 -- what holds after a header holds for the frame
-pub tells_frame : {X V : Type 0} (view : X → V) (says : perf_event_header → List ℕ → Result V ErrorKind) (reads : perf_event_header → List ℕ → ℕ)
-    (old mid new : Meaning) (h : perf_event_header) (r : Result X ErrorKind) →
+pub tells_frame : {X V : Type 0} (view : X → V) (transition : perf_event_header → List ℕ → Result V ErrorKind) (reads : perf_event_header → List ℕ → ℕ)
+    (old mid new : ReaderState) (h : perf_event_header) (r : Result X ErrorKind) →
     8 ≤ length old.source.left → h ≡ header_of old.order old.source.left → mid.source.left ≡ drop 8 old.source.left → mid.reads ≡ old.reads + layout_reads old.order header old.source.left →
-    AnswersExactly view (says h mid.source.left) (body_length h) (reads h mid.source.left) mid r new →
-    AnswersExactly view (of_frame says old.order old.source.left) (frame_length old.order old.source.left) (frame_reads reads old.order old.source.left) old r new
-tells_frame view says reads old mid new h (Ok x) fits e m n p = (
-  frame_whole says old.order old.source.left fits ∙ ap (λ k. says k (drop 8 old.source.left)) (sym e) ∙ ap (says h) (sym m) ∙ p.0,
-  frame_behind old.order old.source.left mid.source.left new.source.left h e m p.1,
+    AnswersExactly view (transition h mid.source.left) (body_length h) (reads h mid.source.left) mid r new →
+    AnswersExactly view (of_frame transition old.order old.source.left) (frame_length old.order old.source.left) (frame_reads reads old.order old.source.left) old r new
+tells_frame view transition reads old mid new h (Ok x) fits e m n p = (
+  frame_whole transition old.order old.source.left fits ∙ ap (λ k. transition k (drop 8 old.source.left)) (sym e) ∙ ap (transition h) (sym m) ∙ p.0,
+  after_frame old.order old.source.left mid.source.left new.source.left h e m p.1,
   told_reads reads old mid h new.reads fits e m n p.2,
 )
-tells_frame view says reads old mid new h (Err x) fits e m n p = λ kind. let q = p kind in (
-  frame_whole says old.order old.source.left fits ∙ ap (λ k. says k (drop 8 old.source.left)) (sym e) ∙ ap (says h) (sym m) ∙ q.0,
-  frame_behind old.order old.source.left mid.source.left new.source.left h e m q.1,
+tells_frame view transition reads old mid new h (Err x) fits e m n p = λ kind. let q = p kind in (
+  frame_whole transition old.order old.source.left fits ∙ ap (λ k. transition k (drop 8 old.source.left)) (sym e) ∙ ap (transition h) (sym m) ∙ q.0,
+  after_frame old.order old.source.left mid.source.left new.source.left h e m q.1,
   told_reads reads old mid h new.reads fits e m n q.2,
 )
 
 -- a header that is missing
-pub tells_no_header : {X V : Type 0} (view : X → V) (says : perf_event_header → List ℕ → Result V ErrorKind) (reads : perf_event_header → List ℕ → ℕ) (old new : Meaning) (e : ErrorKind) →
+pub tells_no_header : {X V : Type 0} (view : X → V) (transition : perf_event_header → List ℕ → Result V ErrorKind) (reads : perf_event_header → List ℕ → ℕ) (old new : ReaderState) (e : ErrorKind) →
     length old.source.left < 8 → e ≡ Eof → new.source.left ≡ [] → new.reads ≡ old.reads + layout_reads old.order header old.source.left →
-    AnswersExactly view (of_frame says old.order old.source.left) (frame_length old.order old.source.left) (frame_reads reads old.order old.source.left) old (Err e) new
-tells_no_header view says reads old new e short eof none n = λ kind.
+    AnswersExactly view (of_frame transition old.order old.source.left) (frame_length old.order old.source.left) (frame_reads reads old.order old.source.left) old (Err e) new
+tells_no_header view transition reads old new e short eof none n = λ kind.
     let bytes : List ℕ = old.source.left in
     let a : nat_lt (length bytes) 8 ≡ true = lt-ltb (length bytes) 8 short in
     let whole : frame_length old.order bytes ≡ 8 + body_length (header_of old.order bytes) = frame_body (header_of old.order bytes) in
@@ -228,9 +228,9 @@ frame_within o old mid new h fits e m p =
 
 -- ---- what its header refuses
 -- a header that was read
-pub refuses_read : {X : Type 0} (o : Order) (bytes : List ℕ) (h : perf_event_header) (seen : Result X ErrorKind) → 8 ≤ length bytes → h ≡ header_of o bytes → (h.size < 8 → seen ≡ Err InvalidRecord) →
-    RefusesHeader o bytes seen
-refuses_read o bytes h seen fits e small = λ inside. ((λ short. absurd (omega arith)), (λ long little. small (subst (λ (k : perf_event_header). k.size < 8) (sym e) little)))
+pub refuses_read : {X : Type 0} (o : Order) (bytes : List ℕ) (h : perf_event_header) (outcome : Result X ErrorKind) → 8 ≤ length bytes → h ≡ header_of o bytes → (h.size < 8 → outcome ≡ Err InvalidRecord) →
+    RefusesHeader o bytes outcome
+refuses_read o bytes h outcome fits e small = λ inside. ((λ short. absurd (omega arith)), (λ long little. small (subst (λ (k : perf_event_header). k.size < 8) (sym e) little)))
 
 -- one that is missing
 lacking : {X : Type 0} (o : Order) (bytes : List ℕ) (e : ErrorKind) → (length bytes < 8) × (e ≡ Eof) → RefusesHeader {X = X} o bytes (Err e)

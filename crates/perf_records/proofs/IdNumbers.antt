@@ -98,10 +98,10 @@ nothing read true ids p none = let t : nat_le (p + 8) (length ids) ≡ false = l
 pub of_type : (of_id : SampleIdValue → Option ℕ) (read : List ℕ → ℕ) (c : Configuration) (o : Order) (ty : ℕ) (present : Bool) (p : ℕ) → of_id no_sample_id ≡ None →
     ((ids : List ℕ) → Long c.sample_type ids → of_id (value o ids 0 (sample_id_fields c.sample_type)) ≡ option_map read (if present then eight_at ids p else None)) →
     (ids : List ℕ) → length ids ≡ id_length c ty → of_id (value o ids 0 (id_of_type c ty)) ≡ option_map read (if present then eight_at ids p else None)
-of_type of_id read c o ty present p none says ids = by (carries_sample_id ty) c.sample_id_all
+of_type of_id read c o ty present p none transition ids = by (carries_sample_id ty) c.sample_id_all
   where
     by : (a b : Bool) → length ids ≡ (if a then (if b then 8 * sample_id_flags c.sample_type else 0) else 0) →
         of_id (value o ids 0 (if a then (if b then sample_id_fields c.sample_type else done no_sample_id) else done no_sample_id)) ≡ option_map read (if present then eight_at ids p else None)
-    by true true long = says ids long
+    by true true long = transition ids long
     by true false long = none ∙ sym (nothing read present ids p long)
     by false b long = none ∙ sym (nothing read present ids p long)

@@ -6,12 +6,12 @@ use Rattle.perf_base.specs.declared.error.ErrorKind.{ErrorKind}
 use Rattle.perf_base.specs.declared.error.ErrorKind.TheVariants.{Eof, InvalidRecord, UnsupportedConfig, UnsupportedData, External, OutOfMemory}
 use Rattle.perf_buffers.specs.Buffer.{Source, Stays}
 use Rattle.perf_buffers.specs.Taking.{consumed, Moves, MovesWithin, Takes, FailsToKeep}
-use Rattle.perf_reader.specs.Meaning.{Meaning}
+use Rattle.perf_reader.specs.ReaderState.{ReaderState}
 use Rattle.perf_reader.specs.Reading.{Keeps, is_external, of_layout, one_if_refused}
 use Rattle.perf_reader.proofs.Paying.{last_moved}
 
 -- k reads, and some bytes that pay for them
-pub moved_keeps : (old new : Meaning) (e : Option ErrorKind) (k : ℕ) → new.reads ≡ old.reads + k → Stays old.source e new.source → (is_external e ≡ true → IsTrue old.source.can_fault) →
+pub moved_keeps : (old new : ReaderState) (e : Option ErrorKind) (k : ℕ) → new.reads ≡ old.reads + k → Stays old.source e new.source → (is_external e ≡ true → IsTrue old.source.can_fault) →
     (IsTrue old.source.told → Moves old.source new.source × (k + length new.source.left ≤ length old.source.left + one_if_refused e)) → Keeps old e new
 moved_keeps old new e k count stays can moves = record {
   buffer = stays;

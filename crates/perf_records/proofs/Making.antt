@@ -10,13 +10,13 @@ use Rattle.perf_reader.specs.Calls.{Call}
 use Rattle.perf_reader.specs.declared.reader.Reader.{Reader}
 use Rattle.perf_base.specs.declared.refusal.Refusal.{Refusal}
 use Rattle.perf_base.specs.declared.sys.perf_event_header.{perf_event_header}
-use Rattle.perf_reader.specs.Meaning.{Meaning, meaning}
+use Rattle.perf_reader.specs.ReaderState.{ReaderState, state_of}
 use Rattle.perf_reader.specs.Reading.{Keeps}
-use Rattle.perf_records.specs.Answers.{SaysBehind}
+use Rattle.perf_records.specs.Answers.{ReadsFrameAfter}
 use Rattle.perf_records.specs.Records.{IsBorrowed, sample_is, sample_value}
 use Rattle.perf_records.specs.Metadata.{MetadataValue}
 use Rattle.perf_records.specs.RecordTypes.{type_of}
-use Rattle.perf_records.specs.Visits.{Event, event, GivesRecord, IsRecordOf, IsSampleOf, IsSampleIn, is_lent_sample, VisitsBody, VisitsType, VisitsBehind, BelongsTo}
+use Rattle.perf_records.specs.Gives.{Event, event, GivesRecord, IsRecordOf, IsSampleOf, IsSampleIn, is_borrowed_sample, GivesBody, GivesType, GivesFrameAfter, BelongsTo}
 use Rattle.perf_records.specs.declared.record.Record.TheVariants as record_of
 use Rattle.perf_records.specs.declared.record_type.RecordType.TheVariants as type
 use Rattle.perf_sample_types.specs.declared.sample.Sample.{Sample}
@@ -24,7 +24,7 @@ use Rattle.perf_sample_types.specs.Sample.{sample}
 use Rattle.perf_sample_types.specs.SampleBoxed.{boxed_value, IsBorrowedBox}
 use Rattle.perf_sample_types.specs.SampleGroups.{IsBorrowedSample}
 use Rattle.perf_reader.specs.TableRuns.{ReadsBorrowed}
-use Rattle.perf_records.proofs.Lending.{sample_lent, lent_sample}
+use Rattle.perf_records.proofs.Lending.{sample_borrowed, borrowed_sample}
 use Rattle.perf_records.proofs.Seeing.{visited, unvisited, of_said}
 use Rattle.perf_records.proofs.Visiting.{visits_type}
 use Rattle.std.specs.Prelude.{Box}
@@ -33,10 +33,10 @@ use Rattle.perf_records.specs.declared.record.Record.{Record}
 
 -- what belongs to an event, where records are made
 abbrev Gives : Event → Result Record Refusal → Type 0
-Gives seen output = GivesRecord seen (kinds output)
+Gives outcome output = GivesRecord outcome (kinds output)
 
 -- what a call keeps that ran out of memory
-pub keeps_unmade : (start new : Meaning) → Keeps start None new → Keeps start (Some OutOfMemory) new
+pub keeps_unmade : (start new : ReaderState) → Keeps start None new → Keeps start (Some OutOfMemory) new
 keeps_unmade start new p = record {
   buffer = p.buffer;
   fault = λ x. absurd (cc);
@@ -48,7 +48,7 @@ keeps_unmade start new p = record {
 
 module _ {I E : Type 0} {source : I → Source} {order : E → Order} (m : MetadataValue) {a b : Reader I E} where
   -- the record that was made is what the body contains
-  pub made_body : (output : Result Record Refusal) (r : Record) → output ≡ Ok r → Call source order (VisitsBody Gives m) a (Ok output) b → Call source order (VisitsBody IsRecordOf m) a (Ok r) b
+  pub made_body : (output : Result Record Refusal) (r : Record) → output ≡ Ok r → Call source order (GivesBody Gives m) a (Ok output) b → Call source order (GivesBody IsRecordOf m) a (Ok r) b
   unfolding GivesRecord
   made_body output r is call = record {
     config = call.config;
@@ -62,48 +62,48 @@ module _ {I E : Type 0} {source : I → Source} {order : E → Order} (m : Metad
   }
 
   -- one that was not made ran out of memory
-  pub unmade_body : (output : Result Record Refusal) (e : Refusal) → output ≡ Err e → IsTrue (source a.input).told → Call source order (VisitsBody Gives m) a (Ok output) b →
-      Call source order (VisitsBody IsRecordOf m) a (Err (refusal_kind e)) b
+  pub unmade_body : (output : Result Record Refusal) (e : Refusal) → output ≡ Err e → IsTrue (source a.input).told → Call source order (GivesBody Gives m) a (Ok output) b →
+      Call source order (GivesBody IsRecordOf m) a (Err (refusal_kind e)) b
   unfolding GivesRecord
   unmade_body output e is told call =
       let v = call.answer told in
       let gave : GivesRecord (event v.0 v.1 m) (Err (refusal_kind e)) = subst (λ (o : Result Record Refusal). GivesRecord (event v.0 v.1 m) (kinds o)) is v.2 in
-      subst (λ (k : ErrorKind). Call source order (VisitsBody IsRecordOf m) a (Err k) b) (sym gave.0) (record {
+      subst (λ (k : ErrorKind). Call source order (GivesBody IsRecordOf m) a (Err k) b) (sym gave.0) (record {
         config = call.config;
         whole = call.whole;
         told = call.told;
         answer = λ t. ((λ kind. absurd (cc)), (λ w none. let never : true ≡ false = sym (v.5 gave.1) ∙ none in absurd (cc)));
-        keeps = λ start p. keeps_unmade start (meaning source order b) (call.keeps start p);
+        keeps = λ start p. keeps_unmade start (state_of source order b) (call.keeps start p);
       })
 
 -- ---- samples
 module _ {I E : Type 0} {source : I → Source} {order : E → Order} (m : MetadataValue) {a b : Reader I E} where
   -- one that was read into a box
-  pub boxed_visit : (held : Box Sample Global) → Call source order (ReadsBorrowed sample boxed_value IsBorrowedBox) a (Ok held) b → Call source order (VisitsType IsSampleOf m type.Sample) a (Ok held) b
-  boxed_visit held call = visited IsSampleOf m sample boxed_value sample_is (is_lent_sample held.value) true (refl, lent_sample held.value) (λ t w. sample_lent held.value ((call.answer t).1 w)) (λ is. refl) (of_said (λ says. says.0) call)
+  pub boxed_visit : (content : Box Sample Global) → Call source order (ReadsBorrowed sample boxed_value IsBorrowedBox) a (Ok content) b → Call source order (GivesType IsSampleOf m type.Sample) a (Ok content) b
+  boxed_visit content call = visited IsSampleOf m sample boxed_value sample_is (is_borrowed_sample content.value) true (refl, borrowed_sample content.value) (λ t w. sample_borrowed content.value ((call.answer t).1 w)) (λ is. refl) (of_said (λ transition. transition.0) call)
 
-  pub unboxed_visit : (e : ErrorKind) → Call source order (ReadsBorrowed sample boxed_value IsBorrowedBox) a (Err e) b → Call source order (VisitsType IsSampleOf m type.Sample) a (Err e) b
-  unboxed_visit e call = unvisited IsSampleOf m sample boxed_value sample_is true (λ t w no. let never : true ≡ false = no in absurd (cc)) (of_said (λ says. says.0) call)
+  pub unboxed_visit : (e : ErrorKind) → Call source order (ReadsBorrowed sample boxed_value IsBorrowedBox) a (Err e) b → Call source order (GivesType IsSampleOf m type.Sample) a (Err e) b
+  unboxed_visit e call = unvisited IsSampleOf m sample boxed_value sample_is true (λ t w no. let never : true ≡ false = no in absurd (cc)) (of_said (λ transition. transition.0) call)
 
   -- one that was read into the place of another
-  pub placed_visit : (s : Sample) → Call source order (ReadsBorrowed sample sample_value IsBorrowedSample) a (Ok s) b → Call source order (VisitsType (λ seen (x : Unit {0}). IsSampleIn seen s) m type.Sample) a (Ok tt) b
-  placed_visit s call = visited (λ seen (x : Unit {0}). IsSampleIn seen s) m sample sample_value sample_is (is_lent_sample s) true (refl, lent_sample s) (λ t w. sample_lent s ((call.answer t).1 w)) (λ is. refl) (of_said (λ says. says.0) call)
+  pub placed_visit : (s : Sample) → Call source order (ReadsBorrowed sample sample_value IsBorrowedSample) a (Ok s) b → Call source order (GivesType (λ outcome (x : Unit {0}). IsSampleIn outcome s) m type.Sample) a (Ok tt) b
+  placed_visit s call = visited (λ outcome (x : Unit {0}). IsSampleIn outcome s) m sample sample_value sample_is (is_borrowed_sample s) true (refl, borrowed_sample s) (λ t w. sample_borrowed s ((call.answer t).1 w)) (λ is. refl) (of_said (λ transition. transition.0) call)
 
-  pub unplaced_visit : (s : Sample) (e : ErrorKind) → Call source order (ReadsBorrowed sample sample_value IsBorrowedSample) a (Err e) b → Call source order (VisitsType (λ seen (x : Unit {0}). IsSampleIn seen s) m type.Sample) a (Err e) b
-  unplaced_visit s e call = unvisited (λ seen (x : Unit {0}). IsSampleIn seen s) m sample sample_value sample_is true (λ t w no. let never : true ≡ false = no in absurd (cc)) (of_said (λ says. says.0) call)
+  pub unplaced_visit : (s : Sample) (e : ErrorKind) → Call source order (ReadsBorrowed sample sample_value IsBorrowedSample) a (Err e) b → Call source order (GivesType (λ outcome (x : Unit {0}). IsSampleIn outcome s) m type.Sample) a (Err e) b
+  unplaced_visit s e call = unvisited (λ outcome (x : Unit {0}). IsSampleIn outcome s) m sample sample_value sample_is true (λ t w no. let never : true ≡ false = no in absurd (cc)) (of_said (λ transition. transition.0) call)
 
 -- a sample in its box is the record of its body
 module _ {I E : Type 0} {source : I → Source} {order : E → Order} (m : MetadataValue) {a b : Reader I E} where
-  pub boxed_body : (held : Box Sample Global) → m.ty ≡ 9 → Call source order (VisitsType IsSampleOf m type.Sample) a (Ok held) b → Call source order (VisitsBody IsRecordOf m) a (Ok (record_of.Sample held)) b
-  boxed_body held is call = visits_type IsRecordOf m (ap type_of is) (record { config = call.config; whole = call.whole; told = call.told; answer = λ t. call.answer t; keeps = call.keeps })
+  pub boxed_body : (content : Box Sample Global) → m.ty ≡ 9 → Call source order (GivesType IsSampleOf m type.Sample) a (Ok content) b → Call source order (GivesBody IsRecordOf m) a (Ok (record_of.Sample content)) b
+  boxed_body content is call = visits_type IsRecordOf m (ap type_of is) (record { config = call.config; whole = call.whole; told = call.told; answer = λ t. call.answer t; keeps = call.keeps })
 
-  pub unboxed_body : (e : ErrorKind) → m.ty ≡ 9 → Call source order (VisitsType IsSampleOf m type.Sample) a (Err e) b → Call source order (VisitsBody IsRecordOf m) a (Err e) b
+  pub unboxed_body : (e : ErrorKind) → m.ty ≡ 9 → Call source order (GivesType IsSampleOf m type.Sample) a (Err e) b → Call source order (GivesBody IsRecordOf m) a (Err e) b
   unboxed_body e is call = visits_type IsRecordOf m (ap type_of is) (record { config = call.config; whole = call.whole; told = call.told; answer = λ t. call.answer t; keeps = call.keeps })
 
 -- the record of a frame's body is what the frame contains
-pub body_says : (h : perf_event_header) (old new : Meaning) (seen : Result Record ErrorKind) → VisitsBehind IsRecordOf h old seen new → SaysBehind h old seen new
-body_says h old new (Ok r) v = (v.6.0 ∙ ap Ok (sym v.3.0), v.6.1, v.6.2)
-body_says h old new (Err e) v = v
+pub body_transition : (h : perf_event_header) (old new : ReaderState) (outcome : Result Record ErrorKind) → GivesFrameAfter IsRecordOf h old outcome new → ReadsFrameAfter h old outcome new
+body_transition h old new (Ok r) v = (v.6.0 ∙ ap Ok (sym v.3.0), v.6.1, v.6.2)
+body_transition h old new (Err e) v = v
 
 -- and nothing of it was copied
 pub body_borrows : (h : perf_event_header) (from : Bool) (r : Record) → BelongsTo IsRecordOf h from r → IsTrue from → IsBorrowed r

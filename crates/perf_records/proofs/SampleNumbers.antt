@@ -36,11 +36,11 @@ eight_plain o = record {
 }
 
 -- two numbers of four bytes, or one and padding
-abbrev behind_pid : ℕ → Parts FieldValue
-behind_pid pid = part (number w4) (λ tid. done (task_is (Some pid) (Some tid)))
+abbrev after_pid : ℕ → Parts FieldValue
+after_pid pid = part (number w4) (λ tid. done (task_is (Some pid) (Some tid)))
 
-abbrev behind_cpu : ℕ → Parts FieldValue
-behind_cpu n = part (padding 4) (λ nothing. done (number_is n))
+abbrev after_cpu : ℕ → Parts FieldValue
+after_cpu n = part (padding 4) (λ nothing. done (number_is n))
 
 eight_task : (o : Order) → IsEight o task (λ bytes. task_is (Some (first_half o bytes)) (Some (second_half o bytes)))
 eight_task o = record {
@@ -49,7 +49,7 @@ eight_task o = record {
       let left : length (drop 4 bytes) ≡ length bytes - 4 = length-drop 4 bytes in
       let front : take 4 (take 8 bytes) ≡ take 4 bytes = in_front 0 4 8 bytes (omega arith) in
       let back : take 4 (drop 4 (take 8 bytes)) ≡ take 4 (drop 4 bytes) = in_front 4 4 8 bytes (omega arith) in
-      run_yes o (number w4) behind_pid bytes 4 refl (omega arith)
+      run_yes o (number w4) after_pid bytes 4 refl (omega arith)
       ∙ run_yes o (number w4) (λ tid. done (task_is (Some pid) (Some tid))) (drop 4 bytes) 4 refl (omega arith)
       ∙ ap (λ z. ran (task_is (Some pid) (Some (o.four (take 4 (drop 4 bytes))))) z) (drop-drop 4 4 bytes)
       ∙ ap (λ a. ran (task_is (Some (o.four a)) (Some (o.four (take 4 (drop 4 bytes))))) (drop 8 bytes)) (sym front)
@@ -57,10 +57,10 @@ eight_task o = record {
   lacks = λ bytes v left short e.
       let pid : ℕ = o.four (take 4 bytes) in
       elim (cases_lt (length bytes) 4) [
-        | inl four ↦ let no = sym e ∙ run_no o (number w4) behind_pid bytes four in absurd (cc)
+        | inl four ↦ let no = sym e ∙ run_no o (number w4) after_pid bytes four in absurd (cc)
         | inr four ↦
             let long : length (drop 4 bytes) ≡ length bytes - 4 = length-drop 4 bytes in
-            let no = sym e ∙ run_yes o (number w4) behind_pid bytes 4 refl four
+            let no = sym e ∙ run_yes o (number w4) after_pid bytes 4 refl four
             ∙ run_no o (number w4) (λ tid. done (task_is (Some pid) (Some tid))) (drop 4 bytes) (omega arith) in
             absurd (cc)
       ];
@@ -72,17 +72,17 @@ eight_cpu o = record {
       let n : ℕ = o.four (take 4 bytes) in
       let left : length (drop 4 bytes) ≡ length bytes - 4 = length-drop 4 bytes in
       let front : take 4 (take 8 bytes) ≡ take 4 bytes = in_front 0 4 8 bytes (omega arith) in
-      run_yes o (number w4) behind_cpu bytes 4 refl (omega arith)
+      run_yes o (number w4) after_cpu bytes 4 refl (omega arith)
       ∙ run_yes o (padding 4) (λ nothing. done (number_is n)) (drop 4 bytes) 4 refl (omega arith)
       ∙ ap (λ z. ran (number_is n) z) (drop-drop 4 4 bytes)
       ∙ ap (λ a. ran (number_is (o.four a)) (drop 8 bytes)) (sym front);
   lacks = λ bytes v left short e.
       let n : ℕ = o.four (take 4 bytes) in
       elim (cases_lt (length bytes) 4) [
-        | inl four ↦ let no = sym e ∙ run_no o (number w4) behind_cpu bytes four in absurd (cc)
+        | inl four ↦ let no = sym e ∙ run_no o (number w4) after_cpu bytes four in absurd (cc)
         | inr four ↦
             let long : length (drop 4 bytes) ≡ length bytes - 4 = length-drop 4 bytes in
-            let no = sym e ∙ run_yes o (number w4) behind_cpu bytes 4 refl four
+            let no = sym e ∙ run_yes o (number w4) after_cpu bytes 4 refl four
             ∙ run_no o (padding 4) (λ nothing. done (number_is n)) (drop 4 bytes) (omega arith) in
             absurd (cc)
       ];
@@ -104,10 +104,10 @@ slot_run o true p f is body s within v z e =
           let first = then_inv o p (λ v. done (Some v)) (drop s body) v z e in
           absurd (is.lacks (drop s body) first.0 first.1 short first.2)
       | inr fits ↦
-          let says : Option FieldValue = Some (f (take 8 (drop s body))) in
-          let both : ran says (drop 8 (drop s body)) ≡ ran v z =
+          let transition : Option FieldValue = Some (f (take 8 (drop s body))) in
+          let both : ran transition (drop 8 (drop s body)) ≡ ran v z =
           sym (then_ok o p (λ v. done (Some v)) (drop s body) (f (take 8 (drop s body))) (drop 8 (drop s body)) (is.fits (drop s body) fits)) ∙ e in
-          let same : says ≡ v = cc in
+          let same : transition ≡ v = cc in
           let left : drop 8 (drop s body) ≡ z = cc in
           (sym same ∙ sym (ap (option_map f) (there body s (omega arith))), sym left ∙ drop-drop 8 s body, omega arith)
     ]
@@ -122,36 +122,36 @@ abbrev front_length : Configuration → List Field → ℕ
 front_length c [] = 0
 front_length c (field ∷ fields) = 8 * one_if (is_present c field) + front_length c fields
 
-walk : (o : Order) (c : Configuration) (front behind : List Field) → AllEight o c front → (body : List ℕ) (s : ℕ) → s ≤ length body → (vs : SampleValue) (left : List ℕ) →
-    run_parts o (table (fields_under c (front ++ behind))) (drop s body) ≡ ran vs left →
+walk : (o : Order) (c : Configuration) (front after : List Field) → AllEight o c front → (body : List ℕ) (s : ℕ) → s ≤ length body → (vs : SampleValue) (left : List ℕ) →
+    run_parts o (table (fields_under c (front ++ after))) (drop s body) ≡ ran vs left →
     (a : SampleValue) × (b : SampleValue) × (vs ≡ a ++ b) × (length a ≡ length front) ×
-    (run_parts o (table (fields_under c behind)) (drop (s + front_length c front) body) ≡ ran b left) × (s + front_length c front ≤ length body)
+    (run_parts o (table (fields_under c after)) (drop (s + front_length c front) body) ≡ ran b left) × (s + front_length c front ≤ length body)
 unfolding AllEight
-walk o c [] behind all body s within vs left e =
+walk o c [] after all body s within vs left e =
     let here : s + 0 ≡ s = omega arith in
-    ([], vs, refl, refl, ap (λ n. run_parts o (table (fields_under c behind)) (drop n body)) here ∙ e, omega arith)
-walk o c (x ∷ xs) behind all body s within vs left e =
-    let first = cons_inv o (present_if (is_present c x) (x.parts (settings_of c))) (fields_under c (xs ++ behind)) (drop s body) left vs e in
+    ([], vs, refl, refl, ap (λ n. run_parts o (table (fields_under c after)) (drop n body)) here ∙ e, omega arith)
+walk o c (x ∷ xs) after all body s within vs left e =
+    let first = cons_inv o (present_if (is_present c x) (x.parts (settings_of c))) (fields_under c (xs ++ after)) (drop s body) left vs e in
     let here = slot_run o (is_present c x) (x.parts (settings_of c)) all.0.0 all.0.1 body s within first.0 first.1 first.3 in
-    let next = walk o c xs behind all.1 body (s + 8 * one_if (is_present c x)) here.2 first.2 left (ap (λ b. run_parts o (table (fields_under c (xs ++ behind))) b) (sym here.1) ∙ first.4) in
+    let next = walk o c xs after all.1 body (s + 8 * one_if (is_present c x)) here.2 first.2 left (ap (λ b. run_parts o (table (fields_under c (xs ++ after))) b) (sym here.1) ∙ first.4) in
     let place : s + (8 * one_if (is_present c x) + front_length c xs) ≡ s + 8 * one_if (is_present c x) + front_length c xs = omega arith in (
       first.0 ∷ next.0,
       next.1,
       first.5 ∙ ap (λ t. first.0 ∷ t) next.2,
       ap suc next.3,
-      ap (λ n. run_parts o (table (fields_under c behind)) (drop n body)) place ∙ next.4,
+      ap (λ n. run_parts o (table (fields_under c after)) (drop n body)) place ∙ next.4,
       omega (arith, next.5),
     )
 
 -- the value of a field after such fields
-field_says : (o : Order) (c : Configuration) (front : List Field) (x : Field) (behind : List Field) (f : List ℕ → FieldValue) → AllEight o c front → IsEight o (x.parts (settings_of c)) f →
-    (body : List ℕ) (vs : SampleValue) (left : List ℕ) → run_parts o (table (fields_under c (front ++ (x ∷ behind)))) body ≡ ran vs left →
+field_transition : (o : Order) (c : Configuration) (front : List Field) (x : Field) (after : List Field) (f : List ℕ → FieldValue) → AllEight o c front → IsEight o (x.parts (settings_of c)) f →
+    (body : List ℕ) (vs : SampleValue) (left : List ℕ) → run_parts o (table (fields_under c (front ++ (x ∷ after)))) body ≡ ran vs left →
     (get_or vs (length front) None ≡ option_map f (if is_present c x then eight_at body (front_length c front) else None))
     × (front_length c front + 8 * one_if (is_present c x) ≤ length body)
-field_says o c front x behind f all is body vs left e =
+field_transition o c front x after f all is body vs left e =
     let n : ℕ = length front in
-    let w = walk o c front (x ∷ behind) all body 0 (omega arith) vs left e in
-    let first = cons_inv o (present_if (is_present c x) (x.parts (settings_of c))) (fields_under c behind) (drop (0 + front_length c front) body) left w.1 w.4 in
+    let w = walk o c front (x ∷ after) all body 0 (omega arith) vs left e in
+    let first = cons_inv o (present_if (is_present c x) (x.parts (settings_of c))) (fields_under c after) (drop (0 + front_length c front) body) left w.1 w.4 in
     let here = slot_run o (is_present c x) (x.parts (settings_of c)) f is body (0 + front_length c front) w.5 first.0 first.1 first.3 in
     let begin : 0 + front_length c front ≡ front_length c front = omega arith in
     let none : n - n ≡ 0 = omega arith in (
@@ -198,7 +198,7 @@ pub sample_time : (o : Order) (c : Configuration) (bytes : List ℕ) (s : Sample
 unfolding sample AllEight
 sample_time o c bytes s made =
     let p = eight_plain o in
-    ap number_in ((field_says o c time_front (at_flag 2 plain) (drop 4 sample_fields) (λ bytes. number_is (o.eight bytes)) ((_, p), ((_, p), ((_, eight_task o), tt))) p bytes s made.0 made.1).0)
+    ap number_in ((field_transition o c time_front (at_flag 2 plain) (drop 4 sample_fields) (λ bytes. number_is (o.eight bytes)) ((_, p), ((_, p), ((_, eight_task o), tt))) p bytes s made.0 made.1).0)
     ∙ number_of o.eight _ ∙ simp only_flag
 
 pub sample_pid_is : (o : Order) (c : Configuration) (bytes : List ℕ) (s : SampleValue) → Made o c bytes s →
@@ -206,7 +206,7 @@ pub sample_pid_is : (o : Order) (c : Configuration) (bytes : List ℕ) (s : Samp
 unfolding sample AllEight
 sample_pid_is o c bytes s made =
     let p = eight_plain o in
-    ap task_pid ((field_says o c task_front (at_flag 1 task) (drop 3 sample_fields) _ ((_, p), ((_, p), tt)) (eight_task o) bytes s made.0 made.1).0)
+    ap task_pid ((field_transition o c task_front (at_flag 1 task) (drop 3 sample_fields) _ ((_, p), ((_, p), tt)) (eight_task o) bytes s made.0 made.1).0)
     ∙ pid_of o _ ∙ simp only_flag
 
 pub sample_tid_is : (o : Order) (c : Configuration) (bytes : List ℕ) (s : SampleValue) → Made o c bytes s →
@@ -214,7 +214,7 @@ pub sample_tid_is : (o : Order) (c : Configuration) (bytes : List ℕ) (s : Samp
 unfolding sample AllEight
 sample_tid_is o c bytes s made =
     let p = eight_plain o in
-    ap task_tid ((field_says o c task_front (at_flag 1 task) (drop 3 sample_fields) _ ((_, p), ((_, p), tt)) (eight_task o) bytes s made.0 made.1).0)
+    ap task_tid ((field_transition o c task_front (at_flag 1 task) (drop 3 sample_fields) _ ((_, p), ((_, p), tt)) (eight_task o) bytes s made.0 made.1).0)
     ∙ tid_of o _ ∙ simp only_flag
 
 pub sample_cpu : (o : Order) (c : Configuration) (bytes : List ℕ) (s : SampleValue) → Made o c bytes s →
@@ -222,7 +222,7 @@ pub sample_cpu : (o : Order) (c : Configuration) (bytes : List ℕ) (s : SampleV
 unfolding sample AllEight
 sample_cpu o c bytes s made =
     let p = eight_plain o in
-    ap number_in ((field_says o c cpu_front (at_flag 7 cpu) (drop 8 sample_fields) _ ((_, p), ((_, p), ((_, eight_task o), ((_, p), ((_, p), ((_, p), ((_, p), tt))))))) (eight_cpu o) bytes s made.0 made.1).0)
+    ap number_in ((field_transition o c cpu_front (at_flag 7 cpu) (drop 8 sample_fields) _ ((_, p), ((_, p), ((_, eight_task o), ((_, p), ((_, p), ((_, p), ((_, p), tt))))))) (eight_cpu o) bytes s made.0 made.1).0)
     ∙ number_of (first_half o) _ ∙ simp only_flag
 
 sample_own_id : (o : Order) (c : Configuration) (bytes : List ℕ) (s : SampleValue) → Made o c bytes s →
@@ -230,7 +230,7 @@ sample_own_id : (o : Order) (c : Configuration) (bytes : List ℕ) (s : SampleVa
 unfolding sample AllEight
 sample_own_id o c bytes s made =
     let p = eight_plain o in
-    ap number_in ((field_says o c id_front (at_flag 6 plain) (drop 6 sample_fields) _ ((_, p), ((_, p), ((_, eight_task o), ((_, p), ((_, p), tt))))) p bytes s made.0 made.1).0)
+    ap number_in ((field_transition o c id_front (at_flag 6 plain) (drop 6 sample_fields) _ ((_, p), ((_, p), ((_, eight_task o), ((_, p), ((_, p), tt))))) p bytes s made.0 made.1).0)
     ∙ number_of o.eight _ ∙ simp only_flag
 
 -- its bytes are present, if it is
@@ -239,13 +239,13 @@ sample_room : (o : Order) (c : Configuration) (bytes : List ℕ) (s : SampleValu
 unfolding sample AllEight
 sample_room o c bytes s made =
     let p = eight_plain o in
-    simp only_flag at ((field_says o c id_front (at_flag 6 plain) (drop 6 sample_fields) (λ bytes. number_is (o.eight bytes)) ((_, p), ((_, p), ((_, eight_task o), ((_, p), ((_, p), tt))))) p bytes s made.0 made.1).1)
+    simp only_flag at ((field_transition o c id_front (at_flag 6 plain) (drop 6 sample_fields) (λ bytes. number_is (o.eight bytes)) ((_, p), ((_, p), ((_, eight_task o), ((_, p), ((_, p), tt))))) p bytes s made.0 made.1).1)
 
 pub sample_identifier : (o : Order) (c : Configuration) (bytes : List ℕ) (s : SampleValue) → Made o c bytes s →
     number_in (field_at s 0) ≡ option_map o.eight (if has_bit c.sample_type 16 then eight_at bytes 0 else None)
 unfolding sample AllEight
 sample_identifier o c bytes s made =
-    ap number_in ((field_says o c [] (at_flag 16 plain) (drop 1 sample_fields) _ tt (eight_plain o) bytes s made.0 made.1).0)
+    ap number_in ((field_transition o c [] (at_flag 16 plain) (drop 1 sample_fields) _ tt (eight_plain o) bytes s made.0 made.1).0)
     ∙ number_of o.eight _ ∙ simp only_flag
 
 -- ---- the event's id, of ID or else of IDENTIFIER

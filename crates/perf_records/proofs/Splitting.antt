@@ -11,20 +11,20 @@ use Rattle.perf_base.specs.declared.sys.perf_event_header.{perf_event_header}
 use Rattle.perf_buffers.specs.Buffer.{Source}
 use Rattle.perf_buffers.specs.Taking.{FailsToKeep}
 use Rattle.perf_reader.specs.Reading.{of_layout}
-use Rattle.perf_records.specs.Answers.{body_length, FrameParts, parts_of, split_behind, split_reads, id_reads}
+use Rattle.perf_records.specs.Answers.{body_length, FrameParts, parts_of, split_after, split_reads, id_reads}
 use Rattle.perf_records.specs.Metadata.{id_length}
 
 -- ---- the four cases
-pub split_small : (c : Configuration) (o : Order) (h : perf_event_header) (bytes : List ℕ) → h.size < 8 → split_behind c o h bytes ≡ Err InvalidRecord
+pub split_small : (c : Configuration) (o : Order) (h : perf_event_header) (bytes : List ℕ) → h.size < 8 → split_after c o h bytes ≡ Err InvalidRecord
 split_small c o h bytes small = let a : nat_lt h.size 8 ≡ true = lt-ltb h.size 8 small in rw a refl
 
-pub split_short : (c : Configuration) (o : Order) (h : perf_event_header) (bytes : List ℕ) → 8 ≤ h.size → length bytes < body_length h → split_behind c o h bytes ≡ Err Eof
+pub split_short : (c : Configuration) (o : Order) (h : perf_event_header) (bytes : List ℕ) → 8 ≤ h.size → length bytes < body_length h → split_after c o h bytes ≡ Err Eof
 split_short c o h bytes sized short =
     let a : nat_lt h.size 8 ≡ false = le-ltb h.size 8 sized in
     let b : nat_lt (length bytes) (body_length h) ≡ true = lt-ltb (length bytes) (body_length h) short in
     rw (a, b) refl
 
-pub split_no_room : (c : Configuration) (o : Order) (h : perf_event_header) (bytes : List ℕ) → 8 ≤ h.size → body_length h ≤ length bytes → body_length h < id_length c h.type_ → split_behind c o h bytes ≡ Err InvalidRecord
+pub split_no_room : (c : Configuration) (o : Order) (h : perf_event_header) (bytes : List ℕ) → 8 ≤ h.size → body_length h ≤ length bytes → body_length h < id_length c h.type_ → split_after c o h bytes ≡ Err InvalidRecord
 split_no_room c o h bytes sized fits small =
     let a : nat_lt h.size 8 ≡ false = le-ltb h.size 8 sized in
     let b : nat_lt (length bytes) (body_length h) ≡ false = le-ltb (length bytes) (body_length h) fits in
@@ -32,7 +32,7 @@ split_no_room c o h bytes sized fits small =
     rw (a, b, d) refl
 
 pub split_whole : (c : Configuration) (o : Order) (h : perf_event_header) (bytes : List ℕ) → 8 ≤ h.size → body_length h ≤ length bytes → id_length c h.type_ ≤ body_length h →
-    split_behind c o h bytes ≡ Ok (parts_of c o h (take (body_length h) bytes))
+    split_after c o h bytes ≡ Ok (parts_of c o h (take (body_length h) bytes))
 split_whole c o h bytes sized fits room =
     let a : nat_lt h.size 8 ≡ false = le-ltb h.size 8 sized in
     let b : nat_lt (length bytes) (body_length h) ≡ false = le-ltb (length bytes) (body_length h) fits in
@@ -43,9 +43,9 @@ split_whole c o h bytes sized fits room =
 
 -- the result of a split that was refused
 abbrev pub Unsplit : Configuration → Order → perf_event_header → List ℕ → ErrorKind → Type 0
-Unsplit c o h bytes e = (split_behind c o h bytes ≡ Err e) × (split_reads c o h bytes ≡ 0)
+Unsplit c o h bytes e = (split_after c o h bytes ≡ Err e) × (split_reads c o h bytes ≡ 0)
 
-unsplit : (c : Configuration) (o : Order) (h : perf_event_header) (bytes : List ℕ) (e : ErrorKind) → split_behind c o h bytes ≡ Err e → Unsplit c o h bytes e
+unsplit : (c : Configuration) (o : Order) (h : perf_event_header) (bytes : List ℕ) (e : ErrorKind) → split_after c o h bytes ≡ Err e → Unsplit c o h bytes e
 unsplit c o h bytes e p = (p, ap (λ (r : Result FrameParts ErrorKind). elim r [ Ok parts ↦ id_reads c o h (take (body_length h) bytes) | Err e ↦ 0 ]) p)
 
 pub unsplit_small : (c : Configuration) (o : Order) (h : perf_event_header) (bytes : List ℕ) → h.size < 8 → Unsplit c o h bytes InvalidRecord × (bytes ≡ drop (body_length h) bytes)
@@ -70,8 +70,8 @@ unsplit_room c o h bytes frame sized fits cut small =
 
 -- ---- frames that are split
 pub split_made : (c : Configuration) (o : Order) (h : perf_event_header) (bytes frame : List ℕ) (parts : FrameParts) → 8 ≤ h.size → body_length h ≤ length bytes → frame ≡ take (body_length h) bytes →
-    id_length c h.type_ ≤ length frame → parts ≡ parts_of c o h frame → (split_behind c o h bytes ≡ Ok parts) × (split_reads c o h bytes ≡ id_reads c o h frame)
+    id_length c h.type_ ≤ length frame → parts ≡ parts_of c o h frame → (split_after c o h bytes ≡ Ok parts) × (split_reads c o h bytes ≡ id_reads c o h frame)
 split_made c o h bytes frame parts sized fits cut room are =
     let long : length frame ≡ body_length h = ap length cut ∙ length-take-le (body_length h) bytes fits in
-    let whole : split_behind c o h bytes ≡ Ok parts = split_whole c o h bytes sized fits (omega arith) ∙ ap Ok (sym (are ∙ ap (parts_of c o h) cut)) in
+    let whole : split_after c o h bytes ≡ Ok parts = split_whole c o h bytes sized fits (omega arith) ∙ ap Ok (sym (are ∙ ap (parts_of c o h) cut)) in
     (whole, ap (λ (r : Result FrameParts ErrorKind). elim r [ Ok parts ↦ id_reads c o h (take (body_length h) bytes) | Err e ↦ 0 ]) whole ∙ sym (ap (id_reads c o h) cut))

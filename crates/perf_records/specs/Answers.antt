@@ -15,7 +15,7 @@ use Rattle.perf_base.specs.declared.error.ErrorKind.TheVariants.{Eof, InvalidRec
 use Rattle.perf_buffers.specs.Buffer.{Source}
 use Rattle.perf_buffers.specs.Cursor.{cursor_left}
 use Rattle.perf_buffers.specs.declared.cursor.ParseBufCursor.{ParseBufCursor}
-use Rattle.perf_reader.specs.Reading.{Says, of_layout, is_external}
+use Rattle.perf_reader.specs.Reading.{Transition, of_layout, is_external}
 use Rattle.perf_records.specs.Bodies.{body, wants_memory}
 use Rattle.perf_records.specs.Frames.{frame_length, frames}
 use Rattle.perf_records.specs.Metadata.{MetadataValue, id_of_type, id_length}
@@ -58,9 +58,9 @@ id_reads c o h bytes = layout_reads o (id_of_type c h.type_) (id_bytes c h bytes
 
 -- How a frame is split, by its header and the bytes after it: a size below the header's own is
 -- refused, and so is a frame that is unfinished, or one that is too short for its sample id.
-abbrev pub split_behind : Configuration → Order → perf_event_header → List ℕ →
+abbrev pub split_after : Configuration → Order → perf_event_header → List ℕ →
     Result FrameParts ErrorKind
-split_behind c o h bytes =
+split_after c o h bytes =
     if nat_lt h.size 8 then Err InvalidRecord
     else (if nat_lt (length bytes) (body_length h) then Err Eof
     else (if nat_lt (body_length h) (id_length c h.type_) then Err InvalidRecord
@@ -68,7 +68,7 @@ split_behind c o h bytes =
 
 -- the number of reads for that: those of the sample id, if there is a whole frame
 abbrev pub split_reads : Configuration → Order → perf_event_header → List ℕ → ℕ
-split_reads c o h bytes = elim (split_behind c o h bytes) [
+split_reads c o h bytes = elim (split_after c o h bytes) [
   | Ok parts ↦ id_reads c o h (take (body_length h) bytes)
   | Err e ↦ 0
 ]
@@ -89,33 +89,33 @@ record_reads c o h (Ok parts) = layout_reads o (body (under_misc h.misc c) h.typ
 record_reads c o h (Err e) = 0
 
 -- the record in a frame, by its header and the bytes after it
-abbrev pub answer_behind : Configuration → Order → perf_event_header → List ℕ →
+abbrev pub answer_after : Configuration → Order → perf_event_header → List ℕ →
     Result RecordValue ErrorKind
-answer_behind c o h bytes = record_in c o h (split_behind c o h bytes)
+answer_after c o h bytes = record_in c o h (split_after c o h bytes)
 
 -- the number of reads after its header: those of the sample id and of the record
-abbrev pub reads_behind : Configuration → Order → perf_event_header → List ℕ → ℕ
-reads_behind c o h bytes = split_reads c o h bytes + record_reads c o h (split_behind c o h bytes)
+abbrev pub reads_after : Configuration → Order → perf_event_header → List ℕ → ℕ
+reads_after c o h bytes = split_reads c o h bytes + record_reads c o h (split_after c o h bytes)
 
 -- the same of a frame's own bytes, beginning with the header
 abbrev pub of_frame : {V : Type 0} → (perf_event_header → List ℕ → Result V ErrorKind) →
     Order → List ℕ → Result V ErrorKind
-of_frame says o frame =
-    if nat_lt (length frame) 8 then Err Eof else says (header_of o frame) (drop 8 frame)
+of_frame transition o frame =
+    if nat_lt (length frame) 8 then Err Eof else transition (header_of o frame) (drop 8 frame)
 
 -- how a frame is split, by its bytes
 abbrev pub split_of_frame : Configuration → Order → List ℕ → Result FrameParts ErrorKind
-split_of_frame c o frame = of_frame (split_behind c o) o frame
+split_of_frame c o frame = of_frame (split_after c o) o frame
 
 -- the record in a frame, by its bytes
 abbrev pub answer_of_frame : Configuration → Order → List ℕ → Result RecordValue ErrorKind
-answer_of_frame c o frame = of_frame (answer_behind c o) o frame
+answer_of_frame c o frame = of_frame (answer_after c o) o frame
 
 -- the number of reads of a frame, of which the header is three, and those after it
 abbrev pub frame_reads : (perf_event_header → List ℕ → ℕ) → Order → List ℕ → ℕ
-frame_reads behind o frame =
+frame_reads after o frame =
     layout_reads o header frame
-    + (if nat_lt (length frame) 8 then 0 else behind (header_of o frame) (drop 8 frame))
+    + (if nat_lt (length frame) 8 then 0 else after (header_of o frame) (drop 8 frame))
 
 -- The results of a stream: the header and the result of each of its frames.
 abbrev pub answers : Configuration → Order → List ℕ →
@@ -126,55 +126,55 @@ answers c o bytes = map (λ frame. (header_of o frame, answer_of_frame c o frame
 
 -- A call returns what a definition gives, seen through `view`, takes n bytes, or all that are left
 -- if there are fewer, and makes k reads. This does not cover a fault or out of memory.
-abbrev pub AnswersExactly : {X V : Type 0} → (X → V) → Result V ErrorKind → (n k : ℕ) → Says X
-AnswersExactly view says n k old (Ok x) new =
-    (says ≡ Ok (view x)) × (new.source.left ≡ drop n old.source.left) × (new.reads ≡ old.reads + k)
-AnswersExactly view says n k old (Err e) new = IsTrue (of_layout e) →
-    (says ≡ Err e) × (new.source.left ≡ drop n old.source.left) × (new.reads ≡ old.reads + k)
+abbrev pub AnswersExactly : {X V : Type 0} → (X → V) → Result V ErrorKind → (n k : ℕ) → Transition X
+AnswersExactly view transition n k old (Ok x) new =
+    (transition ≡ Ok (view x)) × (new.source.left ≡ drop n old.source.left) × (new.reads ≡ old.reads + k)
+AnswersExactly view transition n k old (Err e) new = IsTrue (of_layout e) →
+    (transition ≡ Err e) × (new.source.left ≡ drop n old.source.left) × (new.reads ≡ old.reads + k)
 
 -- the parts of a frame that a call returns: the bytes of the body, and the metadata
 abbrev pub answered_parts : ParseBufCursor × MetadataValue → FrameParts
 answered_parts pair = record { metadata = pair.1; body = cursor_left pair.0 }
 
 -- how a frame is split after its header; exactly its body and its sample id are taken
-abbrev pub SplitsBehind : perf_event_header → Says (ParseBufCursor × MetadataValue)
-SplitsBehind h old seen new =
+abbrev pub SplitsAfter : perf_event_header → Transition (ParseBufCursor × MetadataValue)
+SplitsAfter h old outcome new =
     let c = old.settings in let o = old.order in let bytes = old.source.left in
-    AnswersExactly answered_parts (split_behind c o h bytes) (body_length h) (split_reads c o h bytes)
-    old seen new
+    AnswersExactly answered_parts (split_after c o h bytes) (body_length h) (split_reads c o h bytes)
+    old outcome new
 
 -- the record in a frame after its header; exactly its body and its sample id are taken
-abbrev pub SaysBehind : perf_event_header → Says Record
-SaysBehind h old seen new =
+abbrev pub ReadsFrameAfter : perf_event_header → Transition Record
+ReadsFrameAfter h old outcome new =
     let c = old.settings in let o = old.order in let bytes = old.source.left in
-    AnswersExactly record_value (answer_behind c o h bytes) (body_length h) (reads_behind c o h bytes)
-    old seen new
+    AnswersExactly record_value (answer_after c o h bytes) (body_length h) (reads_after c o h bytes)
+    old outcome new
 
 -- What reading a frame with its header does: it returns what the frame's bytes contain, and takes
 -- exactly them. If it is refused in another way, except by a fault, a prefix of them is taken. No
 -- byte of a whole buffer is copied, and memory is needed only for a list or a box.
-abbrev pub SaysFrame : Says Record
-SaysFrame old seen new =
+abbrev pub ReadsFrame : Transition Record
+ReadsFrame old outcome new =
     let c = old.settings in let o = old.order in let bytes = old.source.left in
     AnswersExactly record_value (answer_of_frame c o bytes) (frame_length o bytes)
-    (frame_reads (reads_behind c o) o bytes) old seen new
-    × (is_external (refused seen) ≡ false →
+    (frame_reads (reads_after c o) o bytes) old outcome new
+    × (is_external (refused outcome) ≡ false →
     MovesWithin old.source (frame_length o bytes) new.source)
     × (IsTrue old.source.whole →
-    IfOk seen IsBorrowed
-    × (wants_memory (header_of o bytes).type_ ≡ false → TakesNoMemory seen))
+    IfOk outcome IsBorrowed
+    × (wants_memory (header_of o bytes).type_ ≡ false → TakesNoMemory outcome))
 
 -- What the header of a frame refuses, before memory is needed: fewer than 8 bytes are `Eof`, and a
 -- size that does not count the header is `InvalidRecord`. Only a fault comes before that.
 abbrev pub RefusesHeader : {X : Type 0} → Order → List ℕ → Result X ErrorKind → Type 0
-RefusesHeader o bytes seen = is_external (refused seen) ≡ false →
-    (length bytes < 8 → seen ≡ Err Eof)
-    × (8 ≤ length bytes → (header_of o bytes).size < 8 → seen ≡ Err InvalidRecord)
+RefusesHeader o bytes outcome = is_external (refused outcome) ≡ false →
+    (length bytes < 8 → outcome ≡ Err Eof)
+    × (8 ≤ length bytes → (header_of o bytes).size < 8 → outcome ≡ Err InvalidRecord)
 
 -- what reading a record does: it returns what its frame contains, or what the header refuses
-abbrev pub SaysRecord : Says Record
-SaysRecord old seen new = SaysFrame old seen new × RefusesHeader old.order old.source.left seen
+abbrev pub ReadsRecord : Transition Record
+ReadsRecord old outcome new = ReadsFrame old outcome new × RefusesHeader old.order old.source.left outcome
 
 -- nothing was taken, or exactly n bytes were
-abbrev pub LeavesAllOrBehind : Source → ℕ → Source → Type 0
-LeavesAllOrBehind old n new = (new.left ≡ old.left) ⊎ (new.left ≡ drop n old.left)
+abbrev pub LeavesAllOrRest : Source → ℕ → Source → Type 0
+LeavesAllOrRest old n new = (new.left ≡ old.left) ⊎ (new.left ≡ drop n old.left)

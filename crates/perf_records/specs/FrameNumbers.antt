@@ -6,7 +6,7 @@ use Rattle.perf_base.specs.Configuration.{Configuration}
 use Rattle.perf_base.specs.Layout.{slice}
 use Rattle.perf_base.specs.Order.{Order}
 use Rattle.perf_base.specs.declared.sys.perf_event_header.{perf_event_header}
-use Rattle.perf_records.specs.Answers.{answer_behind, id_bytes, split_behind}
+use Rattle.perf_records.specs.Answers.{answer_after, id_bytes, split_after}
 use Rattle.perf_records.specs.Metadata.{carries_sample_id, id_length}
 use Rattle.perf_records.specs.Records.{sample_is}
 use Rattle.perf_records.specs.declared.frame_numbers.Place.{Place}
@@ -135,9 +135,9 @@ identifier_in o h bytes = option_map o.eight (identifier_bytes h.type_ bytes)
 abbrev pub IsRead : (of_sample : SampleValue → Option ℕ) → (of_id : SampleIdValue → Option ℕ) →
     Configuration → Order → perf_event_header → List ℕ → Option ℕ → Type 0
 IsRead of_sample of_id c o h bytes n =
-    (h.type_ ≡ 9 → (s : SampleValue) → answer_behind c o h bytes ≡ Ok (sample_is s) →
+    (h.type_ ≡ 9 → (s : SampleValue) → answer_after c o h bytes ≡ Ok (sample_is s) →
     n ≡ of_sample s)
-    × ((h.type_ ≡ 9 → ⊥) → MatchResult (split_behind c o h bytes)
+    × ((h.type_ ≡ 9 → ⊥) → MatchResult (split_after c o h bytes)
     (λ parts. n ≡ of_id parts.metadata.sample_id) (λ e. n ≡ None))
 
 -- It is the value of IDENTIFIER, under every configuration whose sample type has that: of a SAMPLE
@@ -145,9 +145,9 @@ IsRead of_sample of_id c o h bytes n =
 -- the IDENTIFIER in that, which is also its id if the sample type has no ID.
 abbrev pub IsIdentifierRead : Order → perf_event_header → List ℕ → Option ℕ → Type 0
 IsIdentifierRead o h bytes n = (c : Configuration) → has_bit c.sample_type 16 ≡ true →
-    (h.type_ ≡ 9 → (s : SampleValue) → answer_behind c o h bytes ≡ Ok (sample_is s) →
+    (h.type_ ≡ 9 → (s : SampleValue) → answer_after c o h bytes ≡ Ok (sample_is s) →
     n ≡ number_in (field_at s 0))
     × (carries_sample_id h.type_ ≡ true → c.sample_id_all ≡ true →
-    IfOk (split_behind c o h bytes) (λ parts.
+    IfOk (split_after c o h bytes) (λ parts.
     (n ≡ option_map o.eight (field_bytes c identifier_field h bytes))
     × (has_bit c.sample_type 6 ≡ false → n ≡ parts.metadata.sample_id.id)))

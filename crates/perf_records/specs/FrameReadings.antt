@@ -11,11 +11,11 @@ use Rattle.perf_base.specs.declared.error.ParseError.{ParseError}
 use Rattle.perf_base.specs.declared.refusal.Refusal.TheVariants.{NoRoomForId}
 use Rattle.perf_base.specs.declared.sys.perf_event_header.{perf_event_header}
 use Rattle.perf_reader.specs.Reading.{of_layout}
-use Rattle.perf_records.specs.Answers.{FrameParts, body_length, split_behind, answer_behind}
+use Rattle.perf_records.specs.Answers.{FrameParts, body_length, split_after, answer_after}
 use Rattle.perf_records.specs.Bodies.{wants_memory}
 use Rattle.perf_records.specs.Metadata.{MetadataValue, id_length}
 use Rattle.perf_records.specs.Records.{RecordValue}
-use Rattle.perf_records.specs.Visits.{Event, event, IsSampleIn}
+use Rattle.perf_records.specs.Gives.{Event, event, IsSampleIn}
 use Rattle.perf_sample_types.specs.declared.sample.Sample.{Sample}
 
 -- the metadata of a frame, if it can be split
@@ -34,17 +34,17 @@ HasNoRoom h c = body_length h < id_length c h.type_
 -- memory is needed only for a type that takes it.
 abbrev pub FrameGives : {O : Type 0} → (Event → O → Type 0) → perf_event_header → Configuration →
     Order → List ℕ → Bool → Result O ParseError → Type 0
-FrameGives gives h c o bytes lasting (Ok output) =
+FrameGives gives h c o bytes borrowed (Ok output) =
     (value : RecordValue) × (lent : Bool) × (parts : FrameParts)
     × gives (event value lent parts.metadata) output
-    × (split_behind c o h bytes ≡ Ok parts) × (answer_behind c o h bytes ≡ Ok value)
-    × (IsTrue lasting → IsTrue lent)
-FrameGives gives h c o bytes lasting (Err e) =
-    (IsTrue (of_layout (kind_of e)) → answer_behind c o h bytes ≡ Err (kind_of e))
+    × (split_after c o h bytes ≡ Ok parts) × (answer_after c o h bytes ≡ Ok value)
+    × (IsTrue borrowed → IsTrue lent)
+FrameGives gives h c o bytes borrowed (Err e) =
+    (IsTrue (of_layout (kind_of e)) → answer_after c o h bytes ≡ Err (kind_of e))
     × (HasNoRoom h c → IsAnswerOf e NoRoomForId)
     × (kind_of e ≢ External)
-    × (IsTrue lasting → wants_memory h.type_ ≡ false → kind_of e ≢ OutOfMemory)
+    × (IsTrue borrowed → wants_memory h.type_ ≡ false → kind_of e ≢ OutOfMemory)
 
 -- true was returned, and the place contains the event's sample
 abbrev pub PutsSample : Event → Bool → Sample → Type 0
-PutsSample seen put sample = (put ≡ true) × IsSampleIn seen sample
+PutsSample outcome put sample = (put ≡ true) × IsSampleIn outcome sample

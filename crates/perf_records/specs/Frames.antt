@@ -19,9 +19,9 @@ abbrev pub frames : Order → List ℕ → List (List ℕ)
 frames o bytes = first_frames o (length bytes) bytes
 
 -- the bytes after the first n frames
-abbrev pub behind_frames : Order → ℕ → List ℕ → List ℕ
-behind_frames o zero bytes = bytes
-behind_frames o (suc n) bytes = behind_frames o n (drop (frame_length o bytes) bytes)
+abbrev pub drop_frames : Order → ℕ → List ℕ → List ℕ
+drop_frames o zero bytes = bytes
+drop_frames o (suc n) bytes = drop_frames o n (drop (frame_length o bytes) bytes)
 
 -- how a stream ends: at the end of a frame, or inside a header
 pub data StreamEnd : Type 0 where
@@ -34,4 +34,4 @@ end_with (suc n) = cut_header
 
 -- how a stream ends, by what is left after its last frame
 abbrev pub stream_end : Order → List ℕ → StreamEnd
-stream_end o bytes = end_with (length (behind_frames o (length (frames o bytes)) bytes))
+stream_end o bytes = end_with (length (drop_frames o (length (frames o bytes)) bytes))

@@ -7,9 +7,9 @@ pub mod Frames
 pub mod Answers
 pub mod Parts
 pub mod FrameNumbers
-pub mod Visits
+pub mod Gives
 pub mod Shown
 pub mod FrameReadings
 pub mod Sights
 pub mod FrameList
-pub mod Words
+pub mod Prelude

@@ -6,7 +6,7 @@ use Rattle.perf_base.specs.Refusals.{refusal_kind}
 use Rattle.perf_base.specs.declared.error.ErrorKind.{ErrorKind}
 use Rattle.perf_base.specs.declared.error.ErrorKind.TheVariants.{Eof, InvalidRecord}
 use Rattle.perf_base.specs.declared.sys.perf_event_header.{perf_event_header}
-use Rattle.perf_buffers.specs.Buffer.{Source, chunk_bytes, lasts}
+use Rattle.perf_buffers.specs.Buffer.{Source, chunk_bytes, chunk_is_borrowed}
 use Rattle.perf_records.specs.Answers.{body_length}
 use Rattle.perf_records.specs.declared.frame.Frame.{Frame}
 use Rattle.perf_records.specs.declared.frame_handler.BadFrame.{BadFrame}
@@ -19,20 +19,20 @@ pub data Sight : Type 0 where
 
 -- what a handler gets
 abbrev pub sight_of : Result Frame BadFrame → Sight
-sight_of (Ok f) = whole f.header (chunk_bytes f.rest) (lasts f.rest)
+sight_of (Ok f) = whole f.header (chunk_bytes f.rest) (chunk_is_borrowed f.rest)
 sight_of (Err b) = bad b.header (refusal_kind b.refusal)
 
 -- What is found there, by the header and all bytes after it, which live as long as the input or
 -- not: a size below the header's own is refused, and so is a frame that is unfinished.
 abbrev pub sight_after : perf_event_header → List ℕ → Bool → Sight
-sight_after h bytes lasting =
+sight_after h bytes borrowed =
     if nat_lt h.size 8 then bad h InvalidRecord
     else (if nat_lt (length bytes) (body_length h) then bad h Eof
-    else whole h (take (body_length h) bytes) lasting)
+    else whole h (take (body_length h) bytes) borrowed)
 
 -- the same by the bytes of a frame
 abbrev pub sight_in : Order → List ℕ → Bool → Sight
-sight_in o frame lasting = sight_after (header_of o frame) (drop 8 frame) lasting
+sight_in o frame borrowed = sight_after (header_of o frame) (drop 8 frame) borrowed
 
 -- The handler got what comes after a header, and exactly that was taken, or all that was left if
 -- there is less. If the buffer's bytes are not known, it got some bytes. From a whole buffer they
@@ -40,7 +40,7 @@ sight_in o frame lasting = sight_after (header_of o frame) (drop 8 frame) lastin
 abbrev pub HandsAfter : {S : Type 0} → (S → Sight → Bool → S → Type 0) → perf_event_header → Source → S →
     Bool → Source → S → Type 0
 HandsAfter gets h old was go new now =
-    (bytes : List ℕ) × (lasting : Bool) × gets was (sight_after h bytes lasting) go now
+    (bytes : List ℕ) × (borrowed : Bool) × gets was (sight_after h bytes borrowed) go now
     × (IsTrue old.told → (bytes ≡ take (body_length h) old.left)
     × (new.left ≡ drop (body_length h) old.left))
-    × (IsTrue old.whole → IsTrue lasting)
+    × (IsTrue old.whole → IsTrue borrowed)

@@ -4,8 +4,8 @@
 //! needs.
 #![tactic(auto, using(perf_reader::proofs::Paying::chain))]
 
-ghost use Rattle.perf_records.specs.Words.{Call, VisitsBody, VisitsType, VisitsUnread, kinds};
-ghost use Rattle.perf_records.specs.Words as words;
+ghost use Rattle.perf_records.specs.Prelude.{Call, GivesBody, GivesType, GivesUnknown, kinds};
+ghost use Rattle.perf_records.specs.Prelude as words;
 
 use crate::metadata::RecordMetadata;
 use crate::record_type::RecordType;
@@ -37,7 +37,7 @@ use perf_types::throttle::Throttle;
 macro_rules! visited {
     ($reader:ident, $metadata:ident, $visitor:ident, $type:ty => $visit:ident) => {
         match $reader.read::<$type>() {
-            Ok(held) => Ok($visitor.$visit(held, $metadata)),
+            Ok(content) => Ok($visitor.$visit(content, $metadata)),
             Err(refusal) => Err(refusal),
         }
     };
@@ -49,7 +49,7 @@ fn visit_mmap<'p, I: Input<'p>, E: Endian, V: Visitor<'p>>(
     metadata: RecordMetadata,
     visitor: V,
 ) -> ReadResult<V::Output>
-    ensures call { Call I.source E.order (VisitsType V.gives metadata RecordType.Mmap)
+    ensures call { Call I.source E.order (GivesType V.gives metadata RecordType.Mmap)
         reader.old (kinds result) reader.new }
 {
     visited!(reader, metadata, visitor, Mmap<'p> => visit_mmap)
@@ -61,7 +61,7 @@ fn visit_lost<'p, I: Input<'p>, E: Endian, V: Visitor<'p>>(
     metadata: RecordMetadata,
     visitor: V,
 ) -> ReadResult<V::Output>
-    ensures call { Call I.source E.order (VisitsType V.gives metadata RecordType.Lost)
+    ensures call { Call I.source E.order (GivesType V.gives metadata RecordType.Lost)
         reader.old (kinds result) reader.new }
 {
     visited!(reader, metadata, visitor, Lost => visit_lost)
@@ -73,7 +73,7 @@ fn visit_comm<'p, I: Input<'p>, E: Endian, V: Visitor<'p>>(
     metadata: RecordMetadata,
     visitor: V,
 ) -> ReadResult<V::Output>
-    ensures call { Call I.source E.order (VisitsType V.gives metadata RecordType.Comm)
+    ensures call { Call I.source E.order (GivesType V.gives metadata RecordType.Comm)
         reader.old (kinds result) reader.new }
 {
     visited!(reader, metadata, visitor, Comm<'p> => visit_comm)
@@ -85,7 +85,7 @@ fn visit_exit<'p, I: Input<'p>, E: Endian, V: Visitor<'p>>(
     metadata: RecordMetadata,
     visitor: V,
 ) -> ReadResult<V::Output>
-    ensures call { Call I.source E.order (VisitsType V.gives metadata RecordType.Exit)
+    ensures call { Call I.source E.order (GivesType V.gives metadata RecordType.Exit)
         reader.old (kinds result) reader.new }
 {
     visited!(reader, metadata, visitor, Exit => visit_exit)
@@ -97,7 +97,7 @@ fn visit_throttle<'p, I: Input<'p>, E: Endian, V: Visitor<'p>>(
     metadata: RecordMetadata,
     visitor: V,
 ) -> ReadResult<V::Output>
-    ensures call { Call I.source E.order (VisitsType V.gives metadata RecordType.Throttle)
+    ensures call { Call I.source E.order (GivesType V.gives metadata RecordType.Throttle)
         reader.old (kinds result) reader.new }
 {
     visited!(reader, metadata, visitor, Throttle => visit_throttle)
@@ -109,7 +109,7 @@ fn visit_unthrottle<'p, I: Input<'p>, E: Endian, V: Visitor<'p>>(
     metadata: RecordMetadata,
     visitor: V,
 ) -> ReadResult<V::Output>
-    ensures call { Call I.source E.order (VisitsType V.gives metadata RecordType.Unthrottle)
+    ensures call { Call I.source E.order (GivesType V.gives metadata RecordType.Unthrottle)
         reader.old (kinds result) reader.new }
 {
     visited!(reader, metadata, visitor, Throttle => visit_unthrottle)
@@ -121,7 +121,7 @@ fn visit_fork<'p, I: Input<'p>, E: Endian, V: Visitor<'p>>(
     metadata: RecordMetadata,
     visitor: V,
 ) -> ReadResult<V::Output>
-    ensures call { Call I.source E.order (VisitsType V.gives metadata RecordType.Fork)
+    ensures call { Call I.source E.order (GivesType V.gives metadata RecordType.Fork)
         reader.old (kinds result) reader.new }
 {
     visited!(reader, metadata, visitor, Exit => visit_fork)
@@ -133,7 +133,7 @@ fn visit_read<'p, I: Input<'p>, E: Endian, V: Visitor<'p>>(
     metadata: RecordMetadata,
     visitor: V,
 ) -> ReadResult<V::Output>
-    ensures call { Call I.source E.order (VisitsType V.gives metadata RecordType.Read)
+    ensures call { Call I.source E.order (GivesType V.gives metadata RecordType.Read)
         reader.old (kinds result) reader.new }
 {
     visited!(reader, metadata, visitor, Read => visit_read)
@@ -146,14 +146,14 @@ fn visit_sample<'p, I: Input<'p>, E: Endian, V: Visitor<'p>>(
     metadata: RecordMetadata,
     visitor: V,
 ) -> ReadResult<V::Output>
-    ensures call { Call I.source E.order (VisitsType V.gives metadata RecordType.Sample)
+    ensures call { Call I.source E.order (GivesType V.gives metadata RecordType.Sample)
         reader.old (kinds result) reader.new }
 {
-    let mut held = empty_sample();
-    match fill_sample(&mut held, reader) {
-        Ok(()) => Ok(visitor.visit_sample(held, metadata)),
+    let mut content = empty_sample();
+    match fill_sample(&mut content, reader) {
+        Ok(()) => Ok(visitor.visit_sample(content, metadata)),
         Err(refusal) => {
-            drop(held);
+            drop(content);
             Err(refusal)
         }
     }
@@ -165,7 +165,7 @@ fn visit_mmap2<'p, I: Input<'p>, E: Endian, V: Visitor<'p>>(
     metadata: RecordMetadata,
     visitor: V,
 ) -> ReadResult<V::Output>
-    ensures call { Call I.source E.order (VisitsType V.gives metadata RecordType.Mmap2)
+    ensures call { Call I.source E.order (GivesType V.gives metadata RecordType.Mmap2)
         reader.old (kinds result) reader.new }
 {
     visited!(reader, metadata, visitor, Mmap2<'p> => visit_mmap2)
@@ -177,7 +177,7 @@ fn visit_aux<'p, I: Input<'p>, E: Endian, V: Visitor<'p>>(
     metadata: RecordMetadata,
     visitor: V,
 ) -> ReadResult<V::Output>
-    ensures call { Call I.source E.order (VisitsType V.gives metadata RecordType.Aux)
+    ensures call { Call I.source E.order (GivesType V.gives metadata RecordType.Aux)
         reader.old (kinds result) reader.new }
 {
     visited!(reader, metadata, visitor, Aux => visit_aux)
@@ -189,7 +189,7 @@ fn visit_itrace_start<'p, I: Input<'p>, E: Endian, V: Visitor<'p>>(
     metadata: RecordMetadata,
     visitor: V,
 ) -> ReadResult<V::Output>
-    ensures call { Call I.source E.order (VisitsType V.gives metadata RecordType.ITraceStart)
+    ensures call { Call I.source E.order (GivesType V.gives metadata RecordType.ITraceStart)
         reader.old (kinds result) reader.new }
 {
     visited!(reader, metadata, visitor, ITraceStart => visit_itrace_start)
@@ -201,7 +201,7 @@ fn visit_lost_samples<'p, I: Input<'p>, E: Endian, V: Visitor<'p>>(
     metadata: RecordMetadata,
     visitor: V,
 ) -> ReadResult<V::Output>
-    ensures call { Call I.source E.order (VisitsType V.gives metadata RecordType.LostSamples)
+    ensures call { Call I.source E.order (GivesType V.gives metadata RecordType.LostSamples)
         reader.old (kinds result) reader.new }
 {
     visited!(reader, metadata, visitor, LostSamples => visit_lost_samples)
@@ -213,7 +213,7 @@ fn visit_switch_cpu_wide<'p, I: Input<'p>, E: Endian, V: Visitor<'p>>(
     metadata: RecordMetadata,
     visitor: V,
 ) -> ReadResult<V::Output>
-    ensures call { Call I.source E.order (VisitsType V.gives metadata RecordType.SwitchCpuWide)
+    ensures call { Call I.source E.order (GivesType V.gives metadata RecordType.SwitchCpuWide)
         reader.old (kinds result) reader.new }
 {
     visited!(reader, metadata, visitor, SwitchCpuWide => visit_switch_cpu_wide)
@@ -225,7 +225,7 @@ fn visit_namespaces<'p, I: Input<'p>, E: Endian, V: Visitor<'p>>(
     metadata: RecordMetadata,
     visitor: V,
 ) -> ReadResult<V::Output>
-    ensures call { Call I.source E.order (VisitsType V.gives metadata RecordType.Namespaces)
+    ensures call { Call I.source E.order (GivesType V.gives metadata RecordType.Namespaces)
         reader.old (kinds result) reader.new }
 {
     visited!(reader, metadata, visitor, Namespaces<'p> => visit_namespaces)
@@ -237,7 +237,7 @@ fn visit_ksymbol<'p, I: Input<'p>, E: Endian, V: Visitor<'p>>(
     metadata: RecordMetadata,
     visitor: V,
 ) -> ReadResult<V::Output>
-    ensures call { Call I.source E.order (VisitsType V.gives metadata RecordType.KSymbol)
+    ensures call { Call I.source E.order (GivesType V.gives metadata RecordType.KSymbol)
         reader.old (kinds result) reader.new }
 {
     visited!(reader, metadata, visitor, KSymbol<'p> => visit_ksymbol)
@@ -249,7 +249,7 @@ fn visit_bpf_event<'p, I: Input<'p>, E: Endian, V: Visitor<'p>>(
     metadata: RecordMetadata,
     visitor: V,
 ) -> ReadResult<V::Output>
-    ensures call { Call I.source E.order (VisitsType V.gives metadata RecordType.BpfEvent)
+    ensures call { Call I.source E.order (GivesType V.gives metadata RecordType.BpfEvent)
         reader.old (kinds result) reader.new }
 {
     visited!(reader, metadata, visitor, BpfEvent => visit_bpf_event)
@@ -261,7 +261,7 @@ fn visit_cgroup<'p, I: Input<'p>, E: Endian, V: Visitor<'p>>(
     metadata: RecordMetadata,
     visitor: V,
 ) -> ReadResult<V::Output>
-    ensures call { Call I.source E.order (VisitsType V.gives metadata RecordType.CGroup)
+    ensures call { Call I.source E.order (GivesType V.gives metadata RecordType.CGroup)
         reader.old (kinds result) reader.new }
 {
     visited!(reader, metadata, visitor, CGroup<'p> => visit_cgroup)
@@ -273,7 +273,7 @@ fn visit_text_poke<'p, I: Input<'p>, E: Endian, V: Visitor<'p>>(
     metadata: RecordMetadata,
     visitor: V,
 ) -> ReadResult<V::Output>
-    ensures call { Call I.source E.order (VisitsType V.gives metadata RecordType.TextPoke)
+    ensures call { Call I.source E.order (GivesType V.gives metadata RecordType.TextPoke)
         reader.old (kinds result) reader.new }
 {
     visited!(reader, metadata, visitor, TextPoke<'p> => visit_text_poke)
@@ -285,7 +285,7 @@ fn visit_aux_output_hw_id<'p, I: Input<'p>, E: Endian, V: Visitor<'p>>(
     metadata: RecordMetadata,
     visitor: V,
 ) -> ReadResult<V::Output>
-    ensures call { Call I.source E.order (VisitsType V.gives metadata RecordType.AuxOutputHwId)
+    ensures call { Call I.source E.order (GivesType V.gives metadata RecordType.AuxOutputHwId)
         reader.old (kinds result) reader.new }
 {
     visited!(reader, metadata, visitor, AuxOutputHwId => visit_aux_output_hw_id)
@@ -298,7 +298,7 @@ fn visit_unread<'p, I: Input<'p>, E: Endian, V: Visitor<'p>>(
     metadata: RecordMetadata,
     visitor: V,
 ) -> ReadResult<V::Output>
-    ensures call { Call I.source E.order (VisitsUnread V.gives metadata)
+    ensures call { Call I.source E.order (GivesUnknown V.gives metadata)
         reader.old (kinds result) reader.new }
 {
     match reader.read_rest() {
@@ -315,7 +315,7 @@ pub fn visit_body<'p, I: Input<'p>, E: Endian, V: Visitor<'p>>(
     metadata: RecordMetadata,
     visitor: V,
 ) -> ReadResult<V::Output>
-    ensures call { Call I.source E.order (VisitsBody V.gives metadata)
+    ensures call { Call I.source E.order (GivesBody V.gives metadata)
         reader.old (kinds result) reader.new }
 {
     let Some(kind) = RecordType::of(metadata.ty()) else {

@@ -1,11 +1,11 @@
 //! What is made from the body of a frame.
 
 ghost use Rattle.std.specs.Prelude.{◌≡◌, ◌≤◌, ◌+◌, ℕ, ⊤, false, length, IsTrue};
-ghost use Rattle.perf_records.specs.Words.{Call, VisitsBody, VisitsAll, IsRecordOf, IsSampleOf, IsSampleIn};
-ghost use Rattle.perf_records.specs.Words.{Event, kinds, input_of, body};
-ghost use Rattle.perf_records.specs.Words.{configuration_of, endian_of, refused, is_external};
-ghost use Rattle.perf_records.specs.Words.{one_if_refused};
-ghost use Rattle.perf_buffers.specs.Words.{chunk_bytes, lasts};
+ghost use Rattle.perf_records.specs.Prelude.{Call, GivesBody, GivesWholeBody, IsRecordOf, IsSampleOf, IsSampleIn};
+ghost use Rattle.perf_records.specs.Prelude.{Event, kinds, input_of, body};
+ghost use Rattle.perf_records.specs.Prelude.{configuration_of, endian_of, refused, is_external};
+ghost use Rattle.perf_records.specs.Prelude.{one_if_refused};
+ghost use Rattle.perf_buffers.specs.Prelude.{chunk_bytes, chunk_is_borrowed};
 
 use crate::body::visit_body;
 use crate::metadata::RecordMetadata;
@@ -18,8 +18,8 @@ use perf_base::reads::ReadCounter;
 use perf_base::refusal::ReadResult;
 use perf_base::sys::PERF_RECORD_SAMPLE;
 use perf_buffers::input::Input;
-use perf_buffers::loan::Loan;
 use perf_buffers::parsebuf::ParseBufChunk;
+use perf_buffers::transient::TransientBytes;
 use perf_reader::reader::Reader;
 use perf_sample_types::sample::{Sample, refill_sample};
 use perf_sample_types::sample_boxed::read_boxed_sample;
@@ -51,9 +51,9 @@ pub trait BodyReader<'p, S>: OfBody<'p, S> {
         state: &mut S,
     ) -> (ReadResult<Self::Output>, ReadCounter)
         ensures answer { Self.reads metadata.ty →
-            VisitsAll (λ seen output. Self.gives seen state.old output state.new) metadata
+            GivesWholeBody (λ outcome output. Self.gives outcome state.old output state.new) metadata
             (E.order (endian_of config)) (body (configuration_of config) metadata.ty)
-            (chunk_bytes bytes.entry) (lasts bytes.entry) (kinds result.0) result.1 }
+            (chunk_bytes bytes.entry) (chunk_is_borrowed bytes.entry) (kinds result.0) result.1 }
         ensures faults { Self.reads metadata.ty → is_external (refused (kinds result.0)) ≡ false }
         ensures cost { Self.reads metadata.ty → result.1 ≤ length (chunk_bytes bytes.entry)
             + one_if_refused (refused (kinds result.0)) };
@@ -70,7 +70,7 @@ pub trait ReadBody<'p, S, I: Input<'p>>: OfBody<'p, S> {
     ) -> ReadResult<Self::Output>
         requires { IsTrue (I.source (input_of reader.old)).told }
         ensures call { Self.reads metadata.ty → Call I.source E.order
-            (VisitsBody (λ seen output. Self.gives seen state.old output state.new) metadata)
+            (GivesBody (λ outcome output. Self.gives outcome state.old output state.new) metadata)
             reader.old (kinds result) reader.new };
 }
 
@@ -87,7 +87,7 @@ fn read_from<'p, S, I: Input<'p> + Drop, E: Endian, M: ReadBody<'p, S, I>>(
     requires told { IsTrue (I.source bytes).told }
     requires inside { (I.source bytes).can_fault ≡ false }
     ensures answer { M.reads metadata.ty →
-        VisitsAll (λ seen output. M.gives seen state.old output state.new) metadata
+        GivesWholeBody (λ outcome output. M.gives outcome state.old output state.new) metadata
         (E.order (endian_of config)) (body (configuration_of config) metadata.ty)
         (I.source bytes).left (I.source bytes).whole (kinds result.0) result.1 }
     ensures faults { M.reads metadata.ty → is_external (refused (kinds result.0)) ≡ false }
@@ -108,7 +108,7 @@ macro_rules! read_either {
                 read_from($alloc, bytes, $config, $metadata, $made, $state)
             }
             ParseBufChunk::Temporary(bytes) => {
-                read_from($alloc, Loan::new(bytes), $config, $metadata, $made, $state)
+                read_from($alloc, TransientBytes::new(bytes), $config, $metadata, $made, $state)
             }
         }
     };
@@ -126,7 +126,7 @@ impl<'p, V: Visitor<'p>> OfBody<'p, ()> for ByVisitor<V> {
 
     ghost reads = { λ _. ⊤ };
 
-    ghost gives = { λ seen _ output _. V.gives seen output };
+    ghost gives = { λ outcome _ output _. V.gives outcome output };
 }
 
 impl<'p, V: Visitor<'p>> BodyReader<'p, ()> for ByVisitor<V> {
@@ -165,7 +165,7 @@ impl<'p> OfBody<'p, ()> for AsRecord {
 
     ghost reads = { λ _. ⊤ };
 
-    ghost gives = { λ seen _ output _. IsRecordOf seen output };
+    ghost gives = { λ outcome _ output _. IsRecordOf outcome output };
 }
 
 impl<'p> BodyReader<'p, ()> for AsRecord {
@@ -213,7 +213,7 @@ impl<'p> OfBody<'p, ()> for AsSample {
 
     ghost reads = { λ ty. ty ≡ 9 };
 
-    ghost gives = { λ seen _ output _. IsSampleOf seen output };
+    ghost gives = { λ outcome _ output _. IsSampleOf outcome output };
 }
 
 impl<'p> BodyReader<'p, ()> for AsSample {
@@ -254,7 +254,7 @@ impl<'p> OfBody<'p, Sample<'p>> for IntoSample {
 
     ghost reads = { λ ty. ty ≡ 9 };
 
-    ghost gives = { λ seen _ _ now. IsSampleIn seen now };
+    ghost gives = { λ outcome _ _ now. IsSampleIn outcome now };
 }
 
 impl<'p> BodyReader<'p, Sample<'p>> for IntoSample {

@@ -2,9 +2,9 @@
 
 ghost use Rattle.std.specs.Prelude.{◌≡◌, ◌≤◌, length, IfErr};
 ghost use Rattle.perf_records.specs.FrameReadings.{HasNoRoom};
-ghost use Rattle.perf_records.specs.Words.{configuration_of, endian_of, body_length, VisitsBytes};
-ghost use Rattle.perf_records.specs.Words.{NoRoomForId};
-ghost use Rattle.perf_buffers.specs.Words.{chunk_bytes, lasts};
+ghost use Rattle.perf_records.specs.Prelude.{configuration_of, endian_of, body_length, GivesFrameBytes};
+ghost use Rattle.perf_records.specs.Prelude.{NoRoomForId};
+ghost use Rattle.perf_buffers.specs.Prelude.{chunk_bytes, chunk_is_borrowed};
 
 use crate::body_reader::BodyReader;
 use crate::parts::{FrameId, id_of};
@@ -35,7 +35,7 @@ impl<'c, 'p> Frame<'c, 'p> {
         requires whole { length (chunk_bytes rest) ≡ body_length header }
         ensures header { result.header ≡ header }
         ensures rest { chunk_bytes result.rest ≡ chunk_bytes rest.entry }
-        ensures lasts { lasts result.rest ≡ lasts rest.entry }
+        ensures chunk_is_borrowed { chunk_is_borrowed result.rest ≡ chunk_is_borrowed rest.entry }
     {
         Frame { header, rest }
     }
@@ -67,9 +67,9 @@ impl<'c, 'p> Frame<'c, 'p> {
         state: &mut S,
     ) -> (ReadResult<M::Output>, ReadCounter)
         ensures answer { M.reads self.entry.header.type_ →
-            VisitsBytes (λ seen output. M.gives seen state.old output state.new)
+            GivesFrameBytes (λ outcome output. M.gives outcome state.old output state.new)
             self.entry.header (configuration_of config.now) (E.order (endian_of config.now))
-            (chunk_bytes self.entry.rest) (lasts self.entry.rest) result.0 result.1 }
+            (chunk_bytes self.entry.rest) (chunk_is_borrowed self.entry.rest) result.0 result.1 }
         ensures no_room { HasNoRoom self.entry.header (configuration_of config.now) →
             IfErr result.0 (λ e. e ≡ NoRoomForId) }
     {

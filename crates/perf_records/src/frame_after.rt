@@ -3,11 +3,11 @@
 ghost use Rattle.std.specs.Prelude.{◌≡◌, ◌≤◌, ◌<◌, ℕ, false, true, drop, length, Err};
 ghost use Rattle.std.specs.Prelude.{IsTrue, IfOk, IfErr, OnErr};
 ghost use Rattle.perf_buffers.specs.declared.outer.Outer.{Outer};
-ghost use Rattle.perf_reader.specs.Words.{buffer_of, config_of, reads_of, of_layout, Stays, CanFail};
+ghost use Rattle.perf_reader.specs.Prelude.{buffer_of, config_of, reads_of, of_layout, Stays, CanFail};
 ghost use Rattle.perf_records.specs.Sights.{whole, HandsAfter};
-ghost use Rattle.perf_records.specs.Words.{configuration_of, endian_of};
-ghost use Rattle.perf_records.specs.Words.{Call, kinds, refusal_kind, body_length};
-ghost use Rattle.perf_records.specs.Words as words;
+ghost use Rattle.perf_records.specs.Prelude.{configuration_of, endian_of};
+ghost use Rattle.perf_records.specs.Prelude.{Call, kinds, refusal_kind, body_length};
+ghost use Rattle.perf_records.specs.Prelude as words;
 
 use crate::body_reader::{AsRecord, BodyReader};
 use crate::frame::Frame;
@@ -22,7 +22,7 @@ use perf_base::sys::perf_event_header;
 use perf_buffers::outer::Outer;
 use perf_buffers::parsebuf::{ParseBuf, ParseBufChunk};
 use perf_reader::frame_reader::ConfiguredFrameReader;
-use perf_reader::read::{Meant, ReadFrom};
+use perf_reader::read::{HasTransition, ReadFrom};
 use perf_reader::reader::Reader;
 use std::alloc::Global;
 
@@ -39,9 +39,9 @@ impl<'p, S, E: Endian, M: BodyReader<'p, S>> ConfiguredFrameReader<'p, E, S> for
 
     ghost len = { λ frame. body_length frame.header };
 
-    ghost gives = { λ frame settings order bytes lasting made was output now.
-        M.reads frame.header.type_ → words.VisitsBytes (λ seen x. M.gives seen was x now)
-        frame.header settings order bytes lasting output made };
+    ghost gives = { λ frame settings order bytes borrowed made was output now.
+        M.reads frame.header.type_ → words.GivesFrameBytes (λ outcome x. M.gives outcome was x now)
+        frame.header settings order bytes borrowed output made };
 
     #[inline]
     fn read(
@@ -72,7 +72,7 @@ pub fn read_after<'p, S, B: ParseBuf<'p>, E: Endian, M: BodyReader<'p, S>>(
         words.MovesWithin (B.source (buffer_of reader.old)) (body_length header)
         (B.source (buffer_of reader.new)) }
     ensures event { IfOk result (λ output. words.BelongsTo
-        (λ seen x. M.gives seen state.old x state.new) header
+        (λ outcome x. M.gives outcome state.old x state.new) header
         (B.source (buffer_of reader.old)).whole output) }
     ensures whole_memory { IsTrue (B.source (buffer_of reader.old)).whole →
         words.wants_memory header.type_ ≡ false → words.TakesNoMemory (kinds result) }
@@ -92,7 +92,7 @@ pub fn read_after<'p, S, B: ParseBuf<'p>, E: Endian, M: BodyReader<'p, S>>(
     ensures beforehand { IsTrue (B.source (buffer_of reader.old)).told →
         words.is_made_beforehand (B.hint (buffer_of reader.old)) (body_length header) ≡ true →
         IfErr result (λ e. refusal_kind e ≡ words.OutOfMemory →
-        words.LeavesAllOrBehind (B.source (buffer_of reader.old)) (body_length header)
+        words.LeavesAllOrRest (B.source (buffer_of reader.old)) (body_length header)
         (B.source (buffer_of reader.new))) }
     ensures spent { IsTrue (B.source (buffer_of reader.old)).told →
         IsTrue (B.source (buffer_of reader.old)).whole →
@@ -100,7 +100,7 @@ pub fn read_after<'p, S, B: ParseBuf<'p>, E: Endian, M: BodyReader<'p, S>>(
         (B.source (buffer_of reader.new)).left
         ≡ drop (body_length header) (B.source (buffer_of reader.old)).left) }
     ensures call { Call (λ (o : Outer B). B.source o.buf) E.order
-        (words.VisitsBehind (λ seen x. M.gives seen state.old x state.new) header)
+        (words.GivesFrameAfter (λ outcome x. M.gives outcome state.old x state.new) header)
         reader.old (kinds result) reader.new }
 {
     if header.size < 8 {
@@ -125,8 +125,8 @@ impl<'p, E: Endian, H: FrameHandler<'p, E>> ConfiguredFrameReader<'p, E, H> for 
 
     ghost len = { λ frame. body_length frame.header };
 
-    ghost gives = { λ frame settings order bytes lasting made was go now. (made ≡ 0)
-        × H.gets was settings order (whole frame.header bytes lasting) go now };
+    ghost gives = { λ frame settings order bytes borrowed made was go now. (made ≡ 0)
+        × H.gets was settings order (whole frame.header bytes borrowed) go now };
 
     #[inline]
     fn read(
@@ -193,8 +193,8 @@ pub fn hand_after<'p, B: ParseBuf<'p>, E: Endian, H: FrameHandler<'p, E>>(
     }
 }
 
-impl Meant for Record<'_> {
-    ghost says = { words.SaysRecord };
+impl HasTransition for Record<'_> {
+    ghost transition = { words.ReadsRecord };
 }
 
 /// A frame with its header, which is three elementary reads.

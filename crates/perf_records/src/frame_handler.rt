@@ -5,7 +5,7 @@ ghost use Rattle.perf_base.specs.Configuration.{Configuration};
 ghost use Rattle.perf_base.specs.Order.{Order};
 ghost use Rattle.perf_base.specs.Refusals.{IsAnswerOf};
 ghost use Rattle.perf_records.specs.Sights.{Sight, sight_of};
-ghost use Rattle.perf_records.specs.Words.{configuration_of, endian_of, refusal_kind};
+ghost use Rattle.perf_records.specs.Prelude.{configuration_of, endian_of, refusal_kind};
 
 use crate::frame::Frame;
 use perf_base::config::ParseConfig;

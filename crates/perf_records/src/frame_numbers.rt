@@ -1,9 +1,9 @@
 //! Single numbers of a frame, read at their offsets, without reading the rest of the frame.
 
 ghost use Rattle.std.specs.Prelude.{◌≡◌, ◌≤◌, ◌*◌, ◌==◌};
-ghost use Rattle.perf_records.specs.Words.{configuration_of, endian_of};
+ghost use Rattle.perf_records.specs.Prelude.{configuration_of, endian_of};
 ghost use Rattle.perf_records.specs.FrameNumbers as numbers;
-ghost use Rattle.perf_buffers.specs.Words.{chunk_bytes};
+ghost use Rattle.perf_buffers.specs.Prelude.{chunk_bytes};
 ghost use Rattle.perf_words.specs.SetBits.{sample_flags_bits};
 ghost use Rattle.perf_words.specs.Bits.{has_bit};
 ghost use Rattle.perf_sample_types.specs.SampleGetters.{getters_of};

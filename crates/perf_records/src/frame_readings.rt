@@ -2,11 +2,11 @@
 
 ghost use Rattle.std.specs.Prelude.{◌≡◌, false, Ok, IfErr, OnErr};
 ghost use Rattle.perf_base.specs.Refusals.{IsAnswerOf, error_kinds};
-ghost use Rattle.perf_buffers.specs.Words.{chunk_bytes, lasts};
-ghost use Rattle.perf_records.specs.Answers.{split_behind};
+ghost use Rattle.perf_buffers.specs.Prelude.{chunk_bytes, chunk_is_borrowed};
+ghost use Rattle.perf_records.specs.Answers.{split_after};
 ghost use Rattle.perf_records.specs.FrameReadings.{FrameGives, HasNoRoom, PutsSample, metadata_in};
 ghost use Rattle.perf_records.specs.RecordTypes.{type_of};
-ghost use Rattle.perf_records.specs.Words.{configuration_of, endian_of, IsRecordOf, NoRoomForId};
+ghost use Rattle.perf_records.specs.Prelude.{configuration_of, endian_of, IsRecordOf, NoRoomForId};
 ghost use Rattle.perf_sample_types.specs.SampleEmpty.{no_sample};
 
 use crate::body_reader::{AsRecord, BodyReader, ByVisitor, IntoSample};
@@ -44,9 +44,9 @@ impl<'c, 'p> Frame<'c, 'p> {
         state: &mut S,
     ) -> ParseResult<M::Output>
         ensures { M.reads self.now.header.type_ → FrameGives
-            (λ seen output. M.gives seen state.old output state.new) self.now.header
+            (λ outcome output. M.gives outcome state.old output state.new) self.now.header
             (configuration_of config.now) (E.order (endian_of config.now))
-            (chunk_bytes self.now.rest) (lasts self.now.rest) result }
+            (chunk_bytes self.now.rest) (chunk_is_borrowed self.now.rest) result }
     {
         let (answer, _reads) = self.read(alloc, config, made, state);
         match answer {
@@ -76,7 +76,7 @@ impl<'c, 'p> Frame<'c, 'p> {
         alloc: Global,
         config: &ParseConfig<E>,
     ) -> ParseResult<RecordMetadata>
-        ensures parts { error_kinds result ≡ metadata_in (split_behind (configuration_of config.now)
+        ensures parts { error_kinds result ≡ metadata_in (split_after (configuration_of config.now)
             (E.order (endian_of config.now)) self.now.header (chunk_bytes self.now.rest)) }
         ensures no_room { IfErr result (λ e. IsAnswerOf e NoRoomForId) }
         ensures room { OnErr result (HasNoRoom self.now.header (configuration_of config.now)) }
@@ -103,7 +103,7 @@ impl<'c, 'p> Frame<'c, 'p> {
         config: &ParseConfig<E>,
     ) -> ParseResult<Record<'p>>
         ensures { FrameGives IsRecordOf self.now.header (configuration_of config.now)
-            (E.order (endian_of config.now)) (chunk_bytes self.now.rest) (lasts self.now.rest) result }
+            (E.order (endian_of config.now)) (chunk_bytes self.now.rest) (chunk_is_borrowed self.now.rest) result }
     {
         self.read_answer(alloc, config, AsRecord, &mut ())
     }
@@ -118,7 +118,7 @@ impl<'c, 'p> Frame<'c, 'p> {
         visitor: V,
     ) -> ParseResult<V::Output>
         ensures { FrameGives V.gives self.now.header (configuration_of config.now)
-            (E.order (endian_of config.now)) (chunk_bytes self.now.rest) (lasts self.now.rest) result }
+            (E.order (endian_of config.now)) (chunk_bytes self.now.rest) (chunk_is_borrowed self.now.rest) result }
     {
         self.read_answer(alloc, config, ByVisitor { visitor }, &mut ())
     }
@@ -137,8 +137,8 @@ impl<'c, 'p> Frame<'c, 'p> {
         sample: &mut Sample<'p>,
     ) -> ParseResult<bool>
         ensures sample { self.now.header.type_ ≡ 9 → FrameGives
-            (λ seen put. PutsSample seen put sample.new) self.now.header (configuration_of config.now)
-            (E.order (endian_of config.now)) (chunk_bytes self.now.rest) (lasts self.now.rest) result }
+            (λ outcome put. PutsSample outcome put sample.new) self.now.header (configuration_of config.now)
+            (E.order (endian_of config.now)) (chunk_bytes self.now.rest) (chunk_is_borrowed self.now.rest) result }
         ensures other { (self.now.header.type_ ≡ 9 → ⊥) →
             (result ≡ Ok false) × (sample.new ≡ sample.old) }
         ensures empty { OnErr result (sample.new ≡ no_sample) }

@@ -1,8 +1,8 @@
 //! Visitors that handle only some types of records.
 
 ghost use Rattle.std.specs.Prelude.{true};
-ghost use Rattle.perf_records.specs.Words as words;
-ghost use Rattle.perf_records.specs.Words.{Event, event, GivesOrLeavesOut, MetadataValue};
+ghost use Rattle.perf_records.specs.Prelude as words;
+ghost use Rattle.perf_records.specs.Prelude.{Event, event, GivesOrLeavesOut, MetadataValue};
 
 use crate::metadata::RecordMetadata;
 use crate::visitor::Visitor;
@@ -46,94 +46,94 @@ pub trait PartialVisitor: Drop + Sized {
 
     /// An executable mapping was made (`PERF_RECORD_MMAP`).
     #[inline]
-    fn visit_mmap(self, held: Mmap<'_>, metadata: RecordMetadata) -> Self::Output
+    fn visit_mmap(self, content: Mmap<'_>, metadata: RecordMetadata) -> Self::Output
         ensures { GivesOrLeavesOut gives left_out
-            (event (words.mmap_is (words.mmap_value held.entry))
-            (words.is_borrowed held.entry.filename) metadata) result }
+            (event (words.mmap_is (words.mmap_value content.entry))
+            (words.is_borrowed content.entry.filename) metadata) result }
     {
-        drop(held);
+        drop(content);
         self.visit_unimplemented(metadata)
     }
 
     /// Events were lost (`PERF_RECORD_LOST`).
     #[inline]
-    fn visit_lost(self, held: Lost, metadata: RecordMetadata) -> Self::Output
+    fn visit_lost(self, content: Lost, metadata: RecordMetadata) -> Self::Output
         ensures { GivesOrLeavesOut gives left_out
-            (event (words.lost_is held) true metadata) result }
+            (event (words.lost_is content) true metadata) result }
     {
-        let _ = held;
+        let _ = content;
         self.visit_unimplemented(metadata)
     }
 
     /// A task changed its name (`PERF_RECORD_COMM`).
     #[inline]
-    fn visit_comm(self, held: Comm<'_>, metadata: RecordMetadata) -> Self::Output
+    fn visit_comm(self, content: Comm<'_>, metadata: RecordMetadata) -> Self::Output
         ensures { GivesOrLeavesOut gives left_out
-            (event (words.comm_is (words.comm_value held.entry))
-            (words.is_borrowed held.entry.comm) metadata) result }
+            (event (words.comm_is (words.comm_value content.entry))
+            (words.is_borrowed content.entry.comm) metadata) result }
     {
-        drop(held);
+        drop(content);
         self.visit_unimplemented(metadata)
     }
 
     /// A task ended (`PERF_RECORD_EXIT`).
     #[inline]
-    fn visit_exit(self, held: Exit, metadata: RecordMetadata) -> Self::Output
+    fn visit_exit(self, content: Exit, metadata: RecordMetadata) -> Self::Output
         ensures { GivesOrLeavesOut gives left_out
-            (event (words.exit_is held) true metadata) result }
+            (event (words.exit_is content) true metadata) result }
     {
-        drop(held);
+        drop(content);
         self.visit_unimplemented(metadata)
     }
 
     /// The kernel began to throttle samples (`PERF_RECORD_THROTTLE`).
     #[inline]
-    fn visit_throttle(self, held: Throttle, metadata: RecordMetadata) -> Self::Output
+    fn visit_throttle(self, content: Throttle, metadata: RecordMetadata) -> Self::Output
         ensures { GivesOrLeavesOut gives left_out
-            (event (words.throttle_is held) true metadata) result }
+            (event (words.throttle_is content) true metadata) result }
     {
-        drop(held);
+        drop(content);
         self.visit_unimplemented(metadata)
     }
 
     /// The kernel takes samples again (`PERF_RECORD_UNTHROTTLE`).
     #[inline]
-    fn visit_unthrottle(self, held: Throttle, metadata: RecordMetadata) -> Self::Output
+    fn visit_unthrottle(self, content: Throttle, metadata: RecordMetadata) -> Self::Output
         ensures { GivesOrLeavesOut gives left_out
-            (event (words.unthrottle_is held) true metadata) result }
+            (event (words.unthrottle_is content) true metadata) result }
     {
-        drop(held);
+        drop(content);
         self.visit_unimplemented(metadata)
     }
 
     /// A task was created (`PERF_RECORD_FORK`).
     #[inline]
-    fn visit_fork(self, held: Fork, metadata: RecordMetadata) -> Self::Output
+    fn visit_fork(self, content: Fork, metadata: RecordMetadata) -> Self::Output
         ensures { GivesOrLeavesOut gives left_out
-            (event (words.fork_is held) true metadata) result }
+            (event (words.fork_is content) true metadata) result }
     {
-        drop(held);
+        drop(content);
         self.visit_unimplemented(metadata)
     }
 
     /// A counter of a task was read (`PERF_RECORD_READ`).
     #[inline]
-    fn visit_read(self, held: Read, metadata: RecordMetadata) -> Self::Output
+    fn visit_read(self, content: Read, metadata: RecordMetadata) -> Self::Output
         ensures { GivesOrLeavesOut gives left_out
-            (event (words.read_is (words.task_read held)) true metadata) result }
+            (event (words.read_is (words.task_read content)) true metadata) result }
     {
-        drop(held);
+        drop(content);
         self.visit_unimplemented(metadata)
     }
 
     /// An event happened (`PERF_RECORD_SAMPLE`).
     #[inline]
-    fn visit_sample(self, held: Sample<'_>, metadata: RecordMetadata) -> Self::Output
+    fn visit_sample(self, content: Sample<'_>, metadata: RecordMetadata) -> Self::Output
         ensures { GivesOrLeavesOut gives left_out
-            (event (words.sample_is (words.sample_value held.entry))
-            (words.is_lent_sample held.entry) metadata) result }
+            (event (words.sample_is (words.sample_value content.entry))
+            (words.is_borrowed_sample content.entry) metadata) result }
     {
-        drop(held);
+        drop(content);
         self.visit_unimplemented(metadata)
     }
 
@@ -141,41 +141,41 @@ pub trait PartialVisitor: Drop + Sized {
     ///
     /// By default it is handled like [`PartialVisitor::visit_mmap`].
     #[inline]
-    fn visit_mmap2(self, held: Mmap2<'_>, metadata: RecordMetadata) -> Self::Output
+    fn visit_mmap2(self, content: Mmap2<'_>, metadata: RecordMetadata) -> Self::Output
         ensures { GivesOrLeavesOut gives left_out
-            (event (words.mmap2_is (words.mmap2_value held.entry))
-            (words.is_borrowed held.entry.filename) metadata) result }
+            (event (words.mmap2_is (words.mmap2_value content.entry))
+            (words.is_borrowed content.entry.filename) metadata) result }
     {
-        self.visit_mmap(held.into_mmap(), metadata)
+        self.visit_mmap(content.into_mmap(), metadata)
     }
 
     /// There is new data in the AUX buffer (`PERF_RECORD_AUX`).
     #[inline]
-    fn visit_aux(self, held: Aux, metadata: RecordMetadata) -> Self::Output
+    fn visit_aux(self, content: Aux, metadata: RecordMetadata) -> Self::Output
         ensures { GivesOrLeavesOut gives left_out
-            (event (words.aux_is (words.aux_value held)) true metadata) result }
+            (event (words.aux_is (words.aux_value content)) true metadata) result }
     {
-        drop(held);
+        drop(content);
         self.visit_unimplemented(metadata)
     }
 
     /// An instruction trace began (`PERF_RECORD_ITRACE_START`).
     #[inline]
-    fn visit_itrace_start(self, held: ITraceStart, metadata: RecordMetadata) -> Self::Output
+    fn visit_itrace_start(self, content: ITraceStart, metadata: RecordMetadata) -> Self::Output
         ensures { GivesOrLeavesOut gives left_out
-            (event (words.itrace_start_is held) true metadata) result }
+            (event (words.itrace_start_is content) true metadata) result }
     {
-        drop(held);
+        drop(content);
         self.visit_unimplemented(metadata)
     }
 
     /// Samples were lost (`PERF_RECORD_LOST_SAMPLES`).
     #[inline]
-    fn visit_lost_samples(self, held: LostSamples, metadata: RecordMetadata) -> Self::Output
+    fn visit_lost_samples(self, content: LostSamples, metadata: RecordMetadata) -> Self::Output
         ensures { GivesOrLeavesOut gives left_out
-            (event (words.lost_samples_is held) true metadata) result }
+            (event (words.lost_samples_is content) true metadata) result }
     {
-        drop(held);
+        drop(content);
         self.visit_unimplemented(metadata)
     }
 
@@ -190,75 +190,79 @@ pub trait PartialVisitor: Drop + Sized {
 
     /// Which task another one handed its CPU to, or got it from (`PERF_RECORD_SWITCH_CPU_WIDE`).
     #[inline]
-    fn visit_switch_cpu_wide(self, held: SwitchCpuWide, metadata: RecordMetadata) -> Self::Output
+    fn visit_switch_cpu_wide(self, content: SwitchCpuWide, metadata: RecordMetadata) -> Self::Output
         ensures { GivesOrLeavesOut gives left_out
-            (event (words.switch_cpu_wide_is held) true metadata) result }
+            (event (words.switch_cpu_wide_is content) true metadata) result }
     {
-        let _ = held;
+        let _ = content;
         self.visit_unimplemented(metadata)
     }
 
     /// The namespaces of a task (`PERF_RECORD_NAMESPACES`).
     #[inline]
-    fn visit_namespaces(self, held: Namespaces<'_>, metadata: RecordMetadata) -> Self::Output
+    fn visit_namespaces(self, content: Namespaces<'_>, metadata: RecordMetadata) -> Self::Output
         ensures { GivesOrLeavesOut gives left_out
-            (event (words.namespaces_is (words.namespaces_value held.entry)) true metadata) result }
+            (event (words.namespaces_is (words.namespaces_value content.entry)) true metadata) result }
     {
-        drop(held);
+        drop(content);
         self.visit_unimplemented(metadata)
     }
 
     /// A kernel symbol was registered or unregistered (`PERF_RECORD_KSYMBOL`).
     #[inline]
-    fn visit_ksymbol(self, held: KSymbol<'_>, metadata: RecordMetadata) -> Self::Output
+    fn visit_ksymbol(self, content: KSymbol<'_>, metadata: RecordMetadata) -> Self::Output
         ensures { GivesOrLeavesOut gives left_out
-            (event (words.ksymbol_is (words.ksymbol_value held.entry))
-            (words.is_borrowed held.entry.name) metadata) result }
+            (event (words.ksymbol_is (words.ksymbol_value content.entry))
+            (words.is_borrowed content.entry.name) metadata) result }
     {
-        drop(held);
+        drop(content);
         self.visit_unimplemented(metadata)
     }
 
     /// A BPF program was loaded or unloaded (`PERF_RECORD_BPF_EVENT`).
     #[inline]
-    fn visit_bpf_event(self, held: BpfEvent, metadata: RecordMetadata) -> Self::Output
+    fn visit_bpf_event(self, content: BpfEvent, metadata: RecordMetadata) -> Self::Output
         ensures { GivesOrLeavesOut gives left_out
-            (event (words.bpf_event_is (words.bpf_event_value held)) true metadata) result }
+            (event (words.bpf_event_is (words.bpf_event_value content)) true metadata) result }
     {
-        let _ = held;
+        let _ = content;
         self.visit_unimplemented(metadata)
     }
 
     /// A control group: its id and path (`PERF_RECORD_CGROUP`).
     #[inline]
-    fn visit_cgroup(self, held: CGroup<'_>, metadata: RecordMetadata) -> Self::Output
+    fn visit_cgroup(self, content: CGroup<'_>, metadata: RecordMetadata) -> Self::Output
         ensures { GivesOrLeavesOut gives left_out
-            (event (words.cgroup_is (words.cgroup_value held.entry))
-            (words.is_borrowed held.entry.path) metadata) result }
+            (event (words.cgroup_is (words.cgroup_value content.entry))
+            (words.is_borrowed content.entry.path) metadata) result }
     {
-        drop(held);
+        drop(content);
         self.visit_unimplemented(metadata)
     }
 
     /// The kernel changed its own instructions (`PERF_RECORD_TEXT_POKE`).
     #[inline]
-    fn visit_text_poke(self, held: TextPoke<'_>, metadata: RecordMetadata) -> Self::Output
+    fn visit_text_poke(self, content: TextPoke<'_>, metadata: RecordMetadata) -> Self::Output
         ensures { GivesOrLeavesOut gives left_out
-            (event (words.text_poke_is (words.text_poke_value held.entry))
-            (words.is_lent_text_poke held.entry) metadata) result }
+            (event (words.text_poke_is (words.text_poke_value content.entry))
+            (words.is_borrowed_text_poke content.entry) metadata) result }
     {
-        drop(held);
+        drop(content);
         self.visit_unimplemented(metadata)
     }
 
     /// The hardware's id of an event whose data is in the AUX buffer
     /// (`PERF_RECORD_AUX_OUTPUT_HW_ID`).
     #[inline]
-    fn visit_aux_output_hw_id(self, held: AuxOutputHwId, metadata: RecordMetadata) -> Self::Output
+    fn visit_aux_output_hw_id(
+        self,
+        content: AuxOutputHwId,
+        metadata: RecordMetadata,
+    ) -> Self::Output
         ensures { GivesOrLeavesOut gives left_out
-            (event (words.aux_output_hw_id_is held) true metadata) result }
+            (event (words.aux_output_hw_id_is content) true metadata) result }
     {
-        let _ = held;
+        let _ = content;
         self.visit_unimplemented(metadata)
     }
 
@@ -282,7 +286,7 @@ pub struct Partial<V>(pub V);
 impl<'a, V: PartialVisitor> Visitor<'a> for Partial<V> {
     type Output = V::Output;
 
-    ghost gives = { λ seen output. GivesOrLeavesOut V.gives V.left_out seen output };
+    ghost gives = { λ outcome output. GivesOrLeavesOut V.gives V.left_out outcome output };
 
     #[inline]
     fn visit_unimplemented(self, metadata: RecordMetadata) -> Self::Output {
@@ -290,68 +294,68 @@ impl<'a, V: PartialVisitor> Visitor<'a> for Partial<V> {
     }
 
     #[inline]
-    fn visit_mmap(self, held: Mmap<'a>, metadata: RecordMetadata) -> Self::Output {
-        self.0.visit_mmap(held, metadata)
+    fn visit_mmap(self, content: Mmap<'a>, metadata: RecordMetadata) -> Self::Output {
+        self.0.visit_mmap(content, metadata)
     }
 
     #[inline]
-    fn visit_lost(self, held: Lost, metadata: RecordMetadata) -> Self::Output {
-        self.0.visit_lost(held, metadata)
+    fn visit_lost(self, content: Lost, metadata: RecordMetadata) -> Self::Output {
+        self.0.visit_lost(content, metadata)
     }
 
     #[inline]
-    fn visit_comm(self, held: Comm<'a>, metadata: RecordMetadata) -> Self::Output {
-        self.0.visit_comm(held, metadata)
+    fn visit_comm(self, content: Comm<'a>, metadata: RecordMetadata) -> Self::Output {
+        self.0.visit_comm(content, metadata)
     }
 
     #[inline]
-    fn visit_exit(self, held: Exit, metadata: RecordMetadata) -> Self::Output {
-        self.0.visit_exit(held, metadata)
+    fn visit_exit(self, content: Exit, metadata: RecordMetadata) -> Self::Output {
+        self.0.visit_exit(content, metadata)
     }
 
     #[inline]
-    fn visit_throttle(self, held: Throttle, metadata: RecordMetadata) -> Self::Output {
-        self.0.visit_throttle(held, metadata)
+    fn visit_throttle(self, content: Throttle, metadata: RecordMetadata) -> Self::Output {
+        self.0.visit_throttle(content, metadata)
     }
 
     #[inline]
-    fn visit_unthrottle(self, held: Throttle, metadata: RecordMetadata) -> Self::Output {
-        self.0.visit_unthrottle(held, metadata)
+    fn visit_unthrottle(self, content: Throttle, metadata: RecordMetadata) -> Self::Output {
+        self.0.visit_unthrottle(content, metadata)
     }
 
     #[inline]
-    fn visit_fork(self, held: Fork, metadata: RecordMetadata) -> Self::Output {
-        self.0.visit_fork(held, metadata)
+    fn visit_fork(self, content: Fork, metadata: RecordMetadata) -> Self::Output {
+        self.0.visit_fork(content, metadata)
     }
 
     #[inline]
-    fn visit_read(self, held: Read, metadata: RecordMetadata) -> Self::Output {
-        self.0.visit_read(held, metadata)
+    fn visit_read(self, content: Read, metadata: RecordMetadata) -> Self::Output {
+        self.0.visit_read(content, metadata)
     }
 
     #[inline]
-    fn visit_sample(self, held: Sample<'a>, metadata: RecordMetadata) -> Self::Output {
-        self.0.visit_sample(held, metadata)
+    fn visit_sample(self, content: Sample<'a>, metadata: RecordMetadata) -> Self::Output {
+        self.0.visit_sample(content, metadata)
     }
 
     #[inline]
-    fn visit_mmap2(self, held: Mmap2<'a>, metadata: RecordMetadata) -> Self::Output {
-        self.0.visit_mmap2(held, metadata)
+    fn visit_mmap2(self, content: Mmap2<'a>, metadata: RecordMetadata) -> Self::Output {
+        self.0.visit_mmap2(content, metadata)
     }
 
     #[inline]
-    fn visit_aux(self, held: Aux, metadata: RecordMetadata) -> Self::Output {
-        self.0.visit_aux(held, metadata)
+    fn visit_aux(self, content: Aux, metadata: RecordMetadata) -> Self::Output {
+        self.0.visit_aux(content, metadata)
     }
 
     #[inline]
-    fn visit_itrace_start(self, held: ITraceStart, metadata: RecordMetadata) -> Self::Output {
-        self.0.visit_itrace_start(held, metadata)
+    fn visit_itrace_start(self, content: ITraceStart, metadata: RecordMetadata) -> Self::Output {
+        self.0.visit_itrace_start(content, metadata)
     }
 
     #[inline]
-    fn visit_lost_samples(self, held: LostSamples, metadata: RecordMetadata) -> Self::Output {
-        self.0.visit_lost_samples(held, metadata)
+    fn visit_lost_samples(self, content: LostSamples, metadata: RecordMetadata) -> Self::Output {
+        self.0.visit_lost_samples(content, metadata)
     }
 
     #[inline]
@@ -360,38 +364,46 @@ impl<'a, V: PartialVisitor> Visitor<'a> for Partial<V> {
     }
 
     #[inline]
-    fn visit_switch_cpu_wide(self, held: SwitchCpuWide, metadata: RecordMetadata) -> Self::Output {
-        self.0.visit_switch_cpu_wide(held, metadata)
+    fn visit_switch_cpu_wide(
+        self,
+        content: SwitchCpuWide,
+        metadata: RecordMetadata,
+    ) -> Self::Output {
+        self.0.visit_switch_cpu_wide(content, metadata)
     }
 
     #[inline]
-    fn visit_namespaces(self, held: Namespaces<'a>, metadata: RecordMetadata) -> Self::Output {
-        self.0.visit_namespaces(held, metadata)
+    fn visit_namespaces(self, content: Namespaces<'a>, metadata: RecordMetadata) -> Self::Output {
+        self.0.visit_namespaces(content, metadata)
     }
 
     #[inline]
-    fn visit_ksymbol(self, held: KSymbol<'a>, metadata: RecordMetadata) -> Self::Output {
-        self.0.visit_ksymbol(held, metadata)
+    fn visit_ksymbol(self, content: KSymbol<'a>, metadata: RecordMetadata) -> Self::Output {
+        self.0.visit_ksymbol(content, metadata)
     }
 
     #[inline]
-    fn visit_bpf_event(self, held: BpfEvent, metadata: RecordMetadata) -> Self::Output {
-        self.0.visit_bpf_event(held, metadata)
+    fn visit_bpf_event(self, content: BpfEvent, metadata: RecordMetadata) -> Self::Output {
+        self.0.visit_bpf_event(content, metadata)
     }
 
     #[inline]
-    fn visit_cgroup(self, held: CGroup<'a>, metadata: RecordMetadata) -> Self::Output {
-        self.0.visit_cgroup(held, metadata)
+    fn visit_cgroup(self, content: CGroup<'a>, metadata: RecordMetadata) -> Self::Output {
+        self.0.visit_cgroup(content, metadata)
     }
 
     #[inline]
-    fn visit_text_poke(self, held: TextPoke<'a>, metadata: RecordMetadata) -> Self::Output {
-        self.0.visit_text_poke(held, metadata)
+    fn visit_text_poke(self, content: TextPoke<'a>, metadata: RecordMetadata) -> Self::Output {
+        self.0.visit_text_poke(content, metadata)
     }
 
     #[inline]
-    fn visit_aux_output_hw_id(self, held: AuxOutputHwId, metadata: RecordMetadata) -> Self::Output {
-        self.0.visit_aux_output_hw_id(held, metadata)
+    fn visit_aux_output_hw_id(
+        self,
+        content: AuxOutputHwId,
+        metadata: RecordMetadata,
+    ) -> Self::Output {
+        self.0.visit_aux_output_hw_id(content, metadata)
     }
 
     #[inline]

@@ -3,9 +3,9 @@
 ghost use Rattle.std.specs.Prelude.{◌≡◌, ◌≤◌, ◌<◌, ◌+◌, true, length, Err};
 ghost use Rattle.std.specs.Prelude.{IsTrue, IfOk, IfErr};
 ghost use Rattle.perf_records.specs.Parts.{FindsId};
-ghost use Rattle.perf_records.specs.Words.{configuration_of, endian_of, input_of, config_of, Call};
-ghost use Rattle.perf_records.specs.Words.{reads_of, kinds, refusal_kind, cursor_left, body_length};
-ghost use Rattle.perf_records.specs.Words as words;
+ghost use Rattle.perf_records.specs.Prelude.{configuration_of, endian_of, input_of, config_of, Call};
+ghost use Rattle.perf_records.specs.Prelude.{reads_of, kinds, refusal_kind, cursor_left, body_length};
+ghost use Rattle.perf_records.specs.Prelude as words;
 
 use crate::metadata::RecordMetadata;
 use perf_base::config::ParseConfig;
@@ -143,7 +143,7 @@ pub fn split<'p, I: Input<'p>, E: Endian>(
     ensures named { IfOk result (λ parts.
         (parts.1.ty ≡ header.type_) × (parts.1.misc ≡ header.misc)) }
     ensures whole { IsTrue (I.source (input_of reader.old)).whole →
-        IfOk result (λ parts. IsTrue (words.cursor_lent parts.0)) }
+        IfOk result (λ parts. IsTrue (words.cursor_is_borrowed parts.0)) }
     ensures whole_memory { IsTrue (I.source (input_of reader.old)).whole →
         words.TakesNoMemory (kinds result) }
 
@@ -159,7 +159,7 @@ pub fn split<'p, I: Input<'p>, E: Endian>(
     // Memory is allocated by the rules of a cut: none for an empty body, none if the input reports
     // too few bytes, and otherwise the full capacity first, if it is small.
     ensures nothing { body_length header ≡ 0 → words.TakesNoMemory (kinds result)
-        × IfOk result (λ parts. IsTrue (words.cursor_lent parts.0)) }
+        × IfOk result (λ parts. IsTrue (words.cursor_is_borrowed parts.0)) }
     ensures short { words.falls_short (I.hint (input_of reader.old)) (body_length header) ≡ true →
         words.TakesNoMemory (kinds result) × IfOk result (λ parts. ⊥) }
     ensures beforehand { IsTrue (I.source (input_of reader.old)).told →
@@ -172,7 +172,7 @@ pub fn split<'p, I: Input<'p>, E: Endian>(
         reads_of reader.new + length (cursor_left parts.0)
         + length (I.source (input_of reader.new)).left
         ≤ reads_of reader.old + length (I.source (input_of reader.old)).left) }
-    ensures call { Call I.source E.order (words.SplitsBehind header)
+    ensures call { Call I.source E.order (words.SplitsAfter header)
         reader.old (kinds result) reader.new }
 {
     if header.size < 8 {

@@ -85,10 +85,10 @@ impl<'a> From<Mmap<'a>> for Record<'a> {
     ghost use Rattle.std.specs.Prelude.{◌≡◌};
     ghost use Rattle.perf_records.specs.declared.record.Record.TheVariants as record_of;
 
-    ghost from_gives = { λ held r. r ≡ record_of.Mmap held };
+    ghost from_gives = { λ content r. r ≡ record_of.Mmap content };
 
-    fn from(held: Mmap<'a>) -> Self {
-        Record::Mmap(held)
+    fn from(content: Mmap<'a>) -> Self {
+        Record::Mmap(content)
     }
 }
 
@@ -96,10 +96,10 @@ impl From<Lost> for Record<'_> {
     ghost use Rattle.std.specs.Prelude.{◌≡◌};
     ghost use Rattle.perf_records.specs.declared.record.Record.TheVariants as record_of;
 
-    ghost from_gives = { λ held r. r ≡ record_of.Lost held };
+    ghost from_gives = { λ content r. r ≡ record_of.Lost content };
 
-    fn from(held: Lost) -> Self {
-        Record::Lost(held)
+    fn from(content: Lost) -> Self {
+        Record::Lost(content)
     }
 }
 
@@ -107,10 +107,10 @@ impl<'a> From<Comm<'a>> for Record<'a> {
     ghost use Rattle.std.specs.Prelude.{◌≡◌};
     ghost use Rattle.perf_records.specs.declared.record.Record.TheVariants as record_of;
 
-    ghost from_gives = { λ held r. r ≡ record_of.Comm held };
+    ghost from_gives = { λ content r. r ≡ record_of.Comm content };
 
-    fn from(held: Comm<'a>) -> Self {
-        Record::Comm(held)
+    fn from(content: Comm<'a>) -> Self {
+        Record::Comm(content)
     }
 }
 
@@ -118,10 +118,10 @@ impl From<Read> for Record<'_> {
     ghost use Rattle.std.specs.Prelude.{◌≡◌};
     ghost use Rattle.perf_records.specs.declared.record.Record.TheVariants as record_of;
 
-    ghost from_gives = { λ held r. r ≡ record_of.Read held };
+    ghost from_gives = { λ content r. r ≡ record_of.Read content };
 
-    fn from(held: Read) -> Self {
-        Record::Read(held)
+    fn from(content: Read) -> Self {
+        Record::Read(content)
     }
 }
 
@@ -140,10 +140,10 @@ impl<'a> From<Mmap2<'a>> for Record<'a> {
     ghost use Rattle.std.specs.Prelude.{◌≡◌};
     ghost use Rattle.perf_records.specs.declared.record.Record.TheVariants as record_of;
 
-    ghost from_gives = { λ held r. r ≡ record_of.Mmap2 held };
+    ghost from_gives = { λ content r. r ≡ record_of.Mmap2 content };
 
-    fn from(held: Mmap2<'a>) -> Self {
-        Record::Mmap2(held)
+    fn from(content: Mmap2<'a>) -> Self {
+        Record::Mmap2(content)
     }
 }
 
@@ -151,10 +151,10 @@ impl From<Aux> for Record<'_> {
     ghost use Rattle.std.specs.Prelude.{◌≡◌};
     ghost use Rattle.perf_records.specs.declared.record.Record.TheVariants as record_of;
 
-    ghost from_gives = { λ held r. r ≡ record_of.Aux held };
+    ghost from_gives = { λ content r. r ≡ record_of.Aux content };
 
-    fn from(held: Aux) -> Self {
-        Record::Aux(held)
+    fn from(content: Aux) -> Self {
+        Record::Aux(content)
     }
 }
 
@@ -162,10 +162,10 @@ impl From<ITraceStart> for Record<'_> {
     ghost use Rattle.std.specs.Prelude.{◌≡◌};
     ghost use Rattle.perf_records.specs.declared.record.Record.TheVariants as record_of;
 
-    ghost from_gives = { λ held r. r ≡ record_of.ITraceStart held };
+    ghost from_gives = { λ content r. r ≡ record_of.ITraceStart content };
 
-    fn from(held: ITraceStart) -> Self {
-        Record::ITraceStart(held)
+    fn from(content: ITraceStart) -> Self {
+        Record::ITraceStart(content)
     }
 }
 
@@ -173,10 +173,10 @@ impl From<LostSamples> for Record<'_> {
     ghost use Rattle.std.specs.Prelude.{◌≡◌};
     ghost use Rattle.perf_records.specs.declared.record.Record.TheVariants as record_of;
 
-    ghost from_gives = { λ held r. r ≡ record_of.LostSamples held };
+    ghost from_gives = { λ content r. r ≡ record_of.LostSamples content };
 
-    fn from(held: LostSamples) -> Self {
-        Record::LostSamples(held)
+    fn from(content: LostSamples) -> Self {
+        Record::LostSamples(content)
     }
 }
 
@@ -184,10 +184,10 @@ impl From<SwitchCpuWide> for Record<'_> {
     ghost use Rattle.std.specs.Prelude.{◌≡◌};
     ghost use Rattle.perf_records.specs.declared.record.Record.TheVariants as record_of;
 
-    ghost from_gives = { λ held r. r ≡ record_of.SwitchCpuWide held };
+    ghost from_gives = { λ content r. r ≡ record_of.SwitchCpuWide content };
 
-    fn from(held: SwitchCpuWide) -> Self {
-        Record::SwitchCpuWide(held)
+    fn from(content: SwitchCpuWide) -> Self {
+        Record::SwitchCpuWide(content)
     }
 }
 
@@ -195,10 +195,10 @@ impl<'a> From<Namespaces<'a>> for Record<'a> {
     ghost use Rattle.std.specs.Prelude.{◌≡◌};
     ghost use Rattle.perf_records.specs.declared.record.Record.TheVariants as record_of;
 
-    ghost from_gives = { λ held r. r ≡ record_of.Namespaces held };
+    ghost from_gives = { λ content r. r ≡ record_of.Namespaces content };
 
-    fn from(held: Namespaces<'a>) -> Self {
-        Record::Namespaces(held)
+    fn from(content: Namespaces<'a>) -> Self {
+        Record::Namespaces(content)
     }
 }
 
@@ -206,10 +206,10 @@ impl<'a> From<KSymbol<'a>> for Record<'a> {
     ghost use Rattle.std.specs.Prelude.{◌≡◌};
     ghost use Rattle.perf_records.specs.declared.record.Record.TheVariants as record_of;
 
-    ghost from_gives = { λ held r. r ≡ record_of.KSymbol held };
+    ghost from_gives = { λ content r. r ≡ record_of.KSymbol content };
 
-    fn from(held: KSymbol<'a>) -> Self {
-        Record::KSymbol(held)
+    fn from(content: KSymbol<'a>) -> Self {
+        Record::KSymbol(content)
     }
 }
 
@@ -217,10 +217,10 @@ impl From<BpfEvent> for Record<'_> {
     ghost use Rattle.std.specs.Prelude.{◌≡◌};
     ghost use Rattle.perf_records.specs.declared.record.Record.TheVariants as record_of;
 
-    ghost from_gives = { λ held r. r ≡ record_of.BpfEvent held };
+    ghost from_gives = { λ content r. r ≡ record_of.BpfEvent content };
 
-    fn from(held: BpfEvent) -> Self {
-        Record::BpfEvent(held)
+    fn from(content: BpfEvent) -> Self {
+        Record::BpfEvent(content)
     }
 }
 
@@ -228,10 +228,10 @@ impl<'a> From<CGroup<'a>> for Record<'a> {
     ghost use Rattle.std.specs.Prelude.{◌≡◌};
     ghost use Rattle.perf_records.specs.declared.record.Record.TheVariants as record_of;
 
-    ghost from_gives = { λ held r. r ≡ record_of.CGroup held };
+    ghost from_gives = { λ content r. r ≡ record_of.CGroup content };
 
-    fn from(held: CGroup<'a>) -> Self {
-        Record::CGroup(held)
+    fn from(content: CGroup<'a>) -> Self {
+        Record::CGroup(content)
     }
 }
 
@@ -239,10 +239,10 @@ impl<'a> From<TextPoke<'a>> for Record<'a> {
     ghost use Rattle.std.specs.Prelude.{◌≡◌};
     ghost use Rattle.perf_records.specs.declared.record.Record.TheVariants as record_of;
 
-    ghost from_gives = { λ held r. r ≡ record_of.TextPoke held };
+    ghost from_gives = { λ content r. r ≡ record_of.TextPoke content };
 
-    fn from(held: TextPoke<'a>) -> Self {
-        Record::TextPoke(held)
+    fn from(content: TextPoke<'a>) -> Self {
+        Record::TextPoke(content)
     }
 }
 
@@ -250,9 +250,9 @@ impl From<AuxOutputHwId> for Record<'_> {
     ghost use Rattle.std.specs.Prelude.{◌≡◌};
     ghost use Rattle.perf_records.specs.declared.record.Record.TheVariants as record_of;
 
-    ghost from_gives = { λ held r. r ≡ record_of.AuxOutputHwId held };
+    ghost from_gives = { λ content r. r ≡ record_of.AuxOutputHwId content };
 
-    fn from(held: AuxOutputHwId) -> Self {
-        Record::AuxOutputHwId(held)
+    fn from(content: AuxOutputHwId) -> Self {
+        Record::AuxOutputHwId(content)
     }
 }

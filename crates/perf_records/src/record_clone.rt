@@ -18,30 +18,30 @@ impl<'a> Record<'a> {
         ensures { IsClone record_value record_form self.now result }
     {
         match self {
-            Record::Mmap(held) => Ok(Record::Mmap(held.clone(alloc)?)),
-            Record::Lost(held) => Ok(Record::Lost(*held)),
-            Record::Comm(held) => Ok(Record::Comm(held.clone(alloc)?)),
-            Record::Exit(held) => Ok(Record::Exit(held.clone()?)),
-            Record::Throttle(held) => Ok(Record::Throttle(held.clone()?)),
-            Record::Unthrottle(held) => Ok(Record::Unthrottle(held.clone()?)),
-            Record::Fork(held) => Ok(Record::Fork(held.clone()?)),
-            Record::Read(held) => Ok(Record::Read(held.clone()?)),
-            Record::Sample(held) => {
-                let sample = (**held).clone(alloc)?;
+            Record::Mmap(content) => Ok(Record::Mmap(content.clone(alloc)?)),
+            Record::Lost(content) => Ok(Record::Lost(*content)),
+            Record::Comm(content) => Ok(Record::Comm(content.clone(alloc)?)),
+            Record::Exit(content) => Ok(Record::Exit(content.clone()?)),
+            Record::Throttle(content) => Ok(Record::Throttle(content.clone()?)),
+            Record::Unthrottle(content) => Ok(Record::Unthrottle(content.clone()?)),
+            Record::Fork(content) => Ok(Record::Fork(content.clone()?)),
+            Record::Read(content) => Ok(Record::Read(content.clone()?)),
+            Record::Sample(content) => {
+                let sample = (**content).clone(alloc)?;
                 Ok(Record::Sample(Box::new(alloc, sample)?))
             }
-            Record::Mmap2(held) => Ok(Record::Mmap2(held.clone(alloc)?)),
-            Record::Aux(held) => Ok(Record::Aux(held.clone()?)),
-            Record::ITraceStart(held) => Ok(Record::ITraceStart(held.clone()?)),
-            Record::LostSamples(held) => Ok(Record::LostSamples(held.clone()?)),
+            Record::Mmap2(content) => Ok(Record::Mmap2(content.clone(alloc)?)),
+            Record::Aux(content) => Ok(Record::Aux(content.clone()?)),
+            Record::ITraceStart(content) => Ok(Record::ITraceStart(content.clone()?)),
+            Record::LostSamples(content) => Ok(Record::LostSamples(content.clone()?)),
             Record::Switch => Ok(Record::Switch),
-            Record::SwitchCpuWide(held) => Ok(Record::SwitchCpuWide(*held)),
-            Record::Namespaces(held) => Ok(Record::Namespaces(held.clone(alloc)?)),
-            Record::KSymbol(held) => Ok(Record::KSymbol(held.clone(alloc)?)),
-            Record::BpfEvent(held) => Ok(Record::BpfEvent(*held)),
-            Record::CGroup(held) => Ok(Record::CGroup(held.clone(alloc)?)),
-            Record::TextPoke(held) => Ok(Record::TextPoke(held.clone(alloc)?)),
-            Record::AuxOutputHwId(held) => Ok(Record::AuxOutputHwId(*held)),
+            Record::SwitchCpuWide(content) => Ok(Record::SwitchCpuWide(*content)),
+            Record::Namespaces(content) => Ok(Record::Namespaces(content.clone(alloc)?)),
+            Record::KSymbol(content) => Ok(Record::KSymbol(content.clone(alloc)?)),
+            Record::BpfEvent(content) => Ok(Record::BpfEvent(*content)),
+            Record::CGroup(content) => Ok(Record::CGroup(content.clone(alloc)?)),
+            Record::TextPoke(content) => Ok(Record::TextPoke(content.clone(alloc)?)),
+            Record::AuxOutputHwId(content) => Ok(Record::AuxOutputHwId(*content)),
             Record::Unknown { ty, bytes } => clone_unknown(*ty, bytes, alloc),
         }
     }

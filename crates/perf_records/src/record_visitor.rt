@@ -1,7 +1,7 @@
 //! The visitor that returns the record itself.
 
-ghost use Rattle.perf_records.specs.Words as words;
-ghost use Rattle.perf_records.specs.Words.{Event, event, MakesRecord, MakesNoSample};
+ghost use Rattle.perf_records.specs.Prelude as words;
+ghost use Rattle.perf_records.specs.Prelude.{Event, event, MakesRecord, MakesNoSample};
 
 use crate::metadata::RecordMetadata;
 use crate::record::Record;
@@ -39,8 +39,8 @@ pub trait Answer<'a>: Drop {
     ghost gives: { Event → Self.Output → Type 0 };
 
     /// The result for a record.
-    fn record(self, held: Record<'a>) -> Self::Output
-        ensures { MakesRecord gives held.entry result };
+    fn record(self, content: Record<'a>) -> Self::Output
+        ensures { MakesRecord gives content.entry result };
 
     /// The result for a sample when there is no memory for its box.
     fn no_memory(self) -> Self::Output
@@ -54,16 +54,16 @@ pub struct OrError;
 impl<'a> Answer<'a> for OrError {
     type Output = ParseResult<Record<'a>>;
 
-    ghost gives = { λ seen output. words.GivesRecord seen (words.error_kinds output) };
+    ghost gives = { λ outcome output. words.GivesRecord outcome (words.error_kinds output) };
 
     #[inline]
-    #[tactic(auto, unfolding(crate::specs::Visits::GivesRecord))]
-    fn record(self, held: Record<'a>) -> Self::Output {
-        Ok(held)
+    #[tactic(auto, unfolding(crate::specs::Gives::GivesRecord))]
+    fn record(self, content: Record<'a>) -> Self::Output {
+        Ok(content)
     }
 
     #[inline]
-    #[tactic(auto, unfolding(crate::specs::Visits::GivesRecord))]
+    #[tactic(auto, unfolding(crate::specs::Gives::GivesRecord))]
     fn no_memory(self) -> Self::Output {
         Err(ParseError::out_of_memory())
     }
@@ -76,16 +76,16 @@ pub struct OrRefusal;
 impl<'a> Answer<'a> for OrRefusal {
     type Output = ReadResult<Record<'a>>;
 
-    ghost gives = { λ seen output. words.GivesRecord seen (words.kinds output) };
+    ghost gives = { λ outcome output. words.GivesRecord outcome (words.kinds output) };
 
     #[inline]
-    #[tactic(auto, unfolding(crate::specs::Visits::GivesRecord))]
-    fn record(self, held: Record<'a>) -> Self::Output {
-        Ok(held)
+    #[tactic(auto, unfolding(crate::specs::Gives::GivesRecord))]
+    fn record(self, content: Record<'a>) -> Self::Output {
+        Ok(content)
     }
 
     #[inline]
-    #[tactic(auto, unfolding(crate::specs::Visits::GivesRecord))]
+    #[tactic(auto, unfolding(crate::specs::Gives::GivesRecord))]
     fn no_memory(self) -> Self::Output {
         Err(Refusal::OutOfMemory)
     }
@@ -127,7 +127,7 @@ impl Recording<OrRefusal> {
 impl<'a, A: Answer<'a>> Visitor<'a> for Recording<A> {
     type Output = A::Output;
 
-    ghost gives = { λ seen output. A.gives seen output };
+    ghost gives = { λ outcome output. A.gives outcome output };
 
     // never called
     #[inline]
@@ -139,50 +139,50 @@ impl<'a, A: Answer<'a>> Visitor<'a> for Recording<A> {
     }
 
     #[inline]
-    fn visit_mmap(self, held: Mmap<'a>, _metadata: RecordMetadata) -> Self::Output {
-        self.answer.record(Record::Mmap(held))
+    fn visit_mmap(self, content: Mmap<'a>, _metadata: RecordMetadata) -> Self::Output {
+        self.answer.record(Record::Mmap(content))
     }
 
     #[inline]
-    fn visit_lost(self, held: Lost, _metadata: RecordMetadata) -> Self::Output {
-        self.answer.record(Record::Lost(held))
+    fn visit_lost(self, content: Lost, _metadata: RecordMetadata) -> Self::Output {
+        self.answer.record(Record::Lost(content))
     }
 
     #[inline]
-    fn visit_comm(self, held: Comm<'a>, _metadata: RecordMetadata) -> Self::Output {
-        self.answer.record(Record::Comm(held))
+    fn visit_comm(self, content: Comm<'a>, _metadata: RecordMetadata) -> Self::Output {
+        self.answer.record(Record::Comm(content))
     }
 
     #[inline]
-    fn visit_exit(self, held: Exit, _metadata: RecordMetadata) -> Self::Output {
-        self.answer.record(Record::Exit(held))
+    fn visit_exit(self, content: Exit, _metadata: RecordMetadata) -> Self::Output {
+        self.answer.record(Record::Exit(content))
     }
 
     #[inline]
-    fn visit_throttle(self, held: Throttle, _metadata: RecordMetadata) -> Self::Output {
-        self.answer.record(Record::Throttle(held))
+    fn visit_throttle(self, content: Throttle, _metadata: RecordMetadata) -> Self::Output {
+        self.answer.record(Record::Throttle(content))
     }
 
     #[inline]
-    fn visit_unthrottle(self, held: Throttle, _metadata: RecordMetadata) -> Self::Output {
-        self.answer.record(Record::Unthrottle(held))
+    fn visit_unthrottle(self, content: Throttle, _metadata: RecordMetadata) -> Self::Output {
+        self.answer.record(Record::Unthrottle(content))
     }
 
     #[inline]
-    fn visit_fork(self, held: Fork, _metadata: RecordMetadata) -> Self::Output {
-        self.answer.record(Record::Fork(held))
+    fn visit_fork(self, content: Fork, _metadata: RecordMetadata) -> Self::Output {
+        self.answer.record(Record::Fork(content))
     }
 
     #[inline]
-    fn visit_read(self, held: Read, _metadata: RecordMetadata) -> Self::Output {
-        self.answer.record(Record::Read(held))
+    fn visit_read(self, content: Read, _metadata: RecordMetadata) -> Self::Output {
+        self.answer.record(Record::Read(content))
     }
 
     // A sample is large, and should be moved only once, into its box.
     #[inline(always)]
-    fn visit_sample(self, held: Sample<'a>, _metadata: RecordMetadata) -> Self::Output {
-        match Box::new(self.alloc, held) {
-            Ok(held) => self.answer.record(Record::Sample(held)),
+    fn visit_sample(self, content: Sample<'a>, _metadata: RecordMetadata) -> Self::Output {
+        match Box::new(self.alloc, content) {
+            Ok(content) => self.answer.record(Record::Sample(content)),
             Err(failed) => {
                 drop(failed);
                 self.answer.no_memory()
@@ -191,23 +191,23 @@ impl<'a, A: Answer<'a>> Visitor<'a> for Recording<A> {
     }
 
     #[inline]
-    fn visit_mmap2(self, held: Mmap2<'a>, _metadata: RecordMetadata) -> Self::Output {
-        self.answer.record(Record::Mmap2(held))
+    fn visit_mmap2(self, content: Mmap2<'a>, _metadata: RecordMetadata) -> Self::Output {
+        self.answer.record(Record::Mmap2(content))
     }
 
     #[inline]
-    fn visit_aux(self, held: Aux, _metadata: RecordMetadata) -> Self::Output {
-        self.answer.record(Record::Aux(held))
+    fn visit_aux(self, content: Aux, _metadata: RecordMetadata) -> Self::Output {
+        self.answer.record(Record::Aux(content))
     }
 
     #[inline]
-    fn visit_itrace_start(self, held: ITraceStart, _metadata: RecordMetadata) -> Self::Output {
-        self.answer.record(Record::ITraceStart(held))
+    fn visit_itrace_start(self, content: ITraceStart, _metadata: RecordMetadata) -> Self::Output {
+        self.answer.record(Record::ITraceStart(content))
     }
 
     #[inline]
-    fn visit_lost_samples(self, held: LostSamples, _metadata: RecordMetadata) -> Self::Output {
-        self.answer.record(Record::LostSamples(held))
+    fn visit_lost_samples(self, content: LostSamples, _metadata: RecordMetadata) -> Self::Output {
+        self.answer.record(Record::LostSamples(content))
     }
 
     #[inline]
@@ -216,42 +216,46 @@ impl<'a, A: Answer<'a>> Visitor<'a> for Recording<A> {
     }
 
     #[inline]
-    fn visit_switch_cpu_wide(self, held: SwitchCpuWide, _metadata: RecordMetadata) -> Self::Output {
-        self.answer.record(Record::SwitchCpuWide(held))
+    fn visit_switch_cpu_wide(
+        self,
+        content: SwitchCpuWide,
+        _metadata: RecordMetadata,
+    ) -> Self::Output {
+        self.answer.record(Record::SwitchCpuWide(content))
     }
 
     #[inline]
-    fn visit_namespaces(self, held: Namespaces<'a>, _metadata: RecordMetadata) -> Self::Output {
-        self.answer.record(Record::Namespaces(held))
+    fn visit_namespaces(self, content: Namespaces<'a>, _metadata: RecordMetadata) -> Self::Output {
+        self.answer.record(Record::Namespaces(content))
     }
 
     #[inline]
-    fn visit_ksymbol(self, held: KSymbol<'a>, _metadata: RecordMetadata) -> Self::Output {
-        self.answer.record(Record::KSymbol(held))
+    fn visit_ksymbol(self, content: KSymbol<'a>, _metadata: RecordMetadata) -> Self::Output {
+        self.answer.record(Record::KSymbol(content))
     }
 
     #[inline]
-    fn visit_bpf_event(self, held: BpfEvent, _metadata: RecordMetadata) -> Self::Output {
-        self.answer.record(Record::BpfEvent(held))
+    fn visit_bpf_event(self, content: BpfEvent, _metadata: RecordMetadata) -> Self::Output {
+        self.answer.record(Record::BpfEvent(content))
     }
 
     #[inline]
-    fn visit_cgroup(self, held: CGroup<'a>, _metadata: RecordMetadata) -> Self::Output {
-        self.answer.record(Record::CGroup(held))
+    fn visit_cgroup(self, content: CGroup<'a>, _metadata: RecordMetadata) -> Self::Output {
+        self.answer.record(Record::CGroup(content))
     }
 
     #[inline]
-    fn visit_text_poke(self, held: TextPoke<'a>, _metadata: RecordMetadata) -> Self::Output {
-        self.answer.record(Record::TextPoke(held))
+    fn visit_text_poke(self, content: TextPoke<'a>, _metadata: RecordMetadata) -> Self::Output {
+        self.answer.record(Record::TextPoke(content))
     }
 
     #[inline]
     fn visit_aux_output_hw_id(
         self,
-        held: AuxOutputHwId,
+        content: AuxOutputHwId,
         _metadata: RecordMetadata,
     ) -> Self::Output {
-        self.answer.record(Record::AuxOutputHwId(held))
+        self.answer.record(Record::AuxOutputHwId(content))
     }
 
     #[inline]

@@ -1,8 +1,8 @@
 //! Visitors of records.
 
 ghost use Rattle.std.specs.Prelude.{true};
-ghost use Rattle.perf_records.specs.Words as words;
-ghost use Rattle.perf_records.specs.Words.{Event, event};
+ghost use Rattle.perf_records.specs.Prelude as words;
+ghost use Rattle.perf_records.specs.Prelude.{Event, event};
 
 use crate::metadata::RecordMetadata;
 use perf_base::cow::CowSlice;
@@ -29,7 +29,7 @@ use perf_types::throttle::Throttle;
 ///
 /// Each method gets the contents of its type, and the metadata that every record has. A method that
 /// a visitor has no use for is the line `self.visit_unimplemented(metadata)`, and
-/// [`Visitor::visit_mmap2`] is the line `self.visit_mmap(held.into_mmap(), metadata)`; a visitor
+/// [`Visitor::visit_mmap2`] is the line `self.visit_mmap(content.into_mmap(), metadata)`; a visitor
 /// whose outputs borrow nothing can be written without these lines as a
 /// [`PartialVisitor`](crate::partial::PartialVisitor).
 pub trait Visitor<'a>: Drop {
@@ -46,85 +46,85 @@ pub trait Visitor<'a>: Drop {
     /// An executable mapping was made (`PERF_RECORD_MMAP`).
     ///
     /// In a visitor that leaves it out: `self.visit_unimplemented(metadata)`.
-    fn visit_mmap(self, held: Mmap<'a>, metadata: RecordMetadata) -> Self::Output
-        ensures { gives (event (words.mmap_is (words.mmap_value held.entry))
-            (words.is_borrowed held.entry.filename) metadata) result };
+    fn visit_mmap(self, content: Mmap<'a>, metadata: RecordMetadata) -> Self::Output
+        ensures { gives (event (words.mmap_is (words.mmap_value content.entry))
+            (words.is_borrowed content.entry.filename) metadata) result };
 
     /// Events were lost (`PERF_RECORD_LOST`).
     ///
     /// In a visitor that leaves it out: `self.visit_unimplemented(metadata)`.
-    fn visit_lost(self, held: Lost, metadata: RecordMetadata) -> Self::Output
-        ensures { gives (event (words.lost_is held) true metadata) result };
+    fn visit_lost(self, content: Lost, metadata: RecordMetadata) -> Self::Output
+        ensures { gives (event (words.lost_is content) true metadata) result };
 
     /// A task changed its name (`PERF_RECORD_COMM`).
     ///
     /// In a visitor that leaves it out: `self.visit_unimplemented(metadata)`.
-    fn visit_comm(self, held: Comm<'a>, metadata: RecordMetadata) -> Self::Output
-        ensures { gives (event (words.comm_is (words.comm_value held.entry))
-            (words.is_borrowed held.entry.comm) metadata) result };
+    fn visit_comm(self, content: Comm<'a>, metadata: RecordMetadata) -> Self::Output
+        ensures { gives (event (words.comm_is (words.comm_value content.entry))
+            (words.is_borrowed content.entry.comm) metadata) result };
 
     /// A task ended (`PERF_RECORD_EXIT`).
     ///
     /// In a visitor that leaves it out: `self.visit_unimplemented(metadata)`.
-    fn visit_exit(self, held: Exit, metadata: RecordMetadata) -> Self::Output
-        ensures { gives (event (words.exit_is held) true metadata) result };
+    fn visit_exit(self, content: Exit, metadata: RecordMetadata) -> Self::Output
+        ensures { gives (event (words.exit_is content) true metadata) result };
 
     /// The kernel began to throttle samples (`PERF_RECORD_THROTTLE`).
     ///
     /// In a visitor that leaves it out: `self.visit_unimplemented(metadata)`.
-    fn visit_throttle(self, held: Throttle, metadata: RecordMetadata) -> Self::Output
-        ensures { gives (event (words.throttle_is held) true metadata) result };
+    fn visit_throttle(self, content: Throttle, metadata: RecordMetadata) -> Self::Output
+        ensures { gives (event (words.throttle_is content) true metadata) result };
 
     /// The kernel takes samples again (`PERF_RECORD_UNTHROTTLE`).
     ///
     /// In a visitor that leaves it out: `self.visit_unimplemented(metadata)`.
-    fn visit_unthrottle(self, held: Throttle, metadata: RecordMetadata) -> Self::Output
-        ensures { gives (event (words.unthrottle_is held) true metadata) result };
+    fn visit_unthrottle(self, content: Throttle, metadata: RecordMetadata) -> Self::Output
+        ensures { gives (event (words.unthrottle_is content) true metadata) result };
 
     /// A task was created (`PERF_RECORD_FORK`).
     ///
     /// In a visitor that leaves it out: `self.visit_unimplemented(metadata)`.
-    fn visit_fork(self, held: Fork, metadata: RecordMetadata) -> Self::Output
-        ensures { gives (event (words.fork_is held) true metadata) result };
+    fn visit_fork(self, content: Fork, metadata: RecordMetadata) -> Self::Output
+        ensures { gives (event (words.fork_is content) true metadata) result };
 
     /// A counter of a task was read (`PERF_RECORD_READ`).
     ///
     /// In a visitor that leaves it out: `self.visit_unimplemented(metadata)`.
-    fn visit_read(self, held: Read, metadata: RecordMetadata) -> Self::Output
-        ensures { gives (event (words.read_is (words.task_read held)) true metadata) result };
+    fn visit_read(self, content: Read, metadata: RecordMetadata) -> Self::Output
+        ensures { gives (event (words.read_is (words.task_read content)) true metadata) result };
 
     /// An event happened (`PERF_RECORD_SAMPLE`).
     ///
     /// In a visitor that leaves it out: `self.visit_unimplemented(metadata)`.
-    fn visit_sample(self, held: Sample<'a>, metadata: RecordMetadata) -> Self::Output
-        ensures { gives (event (words.sample_is (words.sample_value held.entry))
-            (words.is_lent_sample held.entry) metadata) result };
+    fn visit_sample(self, content: Sample<'a>, metadata: RecordMetadata) -> Self::Output
+        ensures { gives (event (words.sample_is (words.sample_value content.entry))
+            (words.is_borrowed_sample content.entry) metadata) result };
 
     /// A file was mapped, with the file's identity (`PERF_RECORD_MMAP2`).
     ///
     /// In a visitor that does not need the file's identity:
-    /// `self.visit_mmap(held.into_mmap(), metadata)`.
-    fn visit_mmap2(self, held: Mmap2<'a>, metadata: RecordMetadata) -> Self::Output
-        ensures { gives (event (words.mmap2_is (words.mmap2_value held.entry))
-            (words.is_borrowed held.entry.filename) metadata) result };
+    /// `self.visit_mmap(content.into_mmap(), metadata)`.
+    fn visit_mmap2(self, content: Mmap2<'a>, metadata: RecordMetadata) -> Self::Output
+        ensures { gives (event (words.mmap2_is (words.mmap2_value content.entry))
+            (words.is_borrowed content.entry.filename) metadata) result };
 
     /// There is new data in the AUX buffer (`PERF_RECORD_AUX`).
     ///
     /// In a visitor that leaves it out: `self.visit_unimplemented(metadata)`.
-    fn visit_aux(self, held: Aux, metadata: RecordMetadata) -> Self::Output
-        ensures { gives (event (words.aux_is (words.aux_value held)) true metadata) result };
+    fn visit_aux(self, content: Aux, metadata: RecordMetadata) -> Self::Output
+        ensures { gives (event (words.aux_is (words.aux_value content)) true metadata) result };
 
     /// An instruction trace began (`PERF_RECORD_ITRACE_START`).
     ///
     /// In a visitor that leaves it out: `self.visit_unimplemented(metadata)`.
-    fn visit_itrace_start(self, held: ITraceStart, metadata: RecordMetadata) -> Self::Output
-        ensures { gives (event (words.itrace_start_is held) true metadata) result };
+    fn visit_itrace_start(self, content: ITraceStart, metadata: RecordMetadata) -> Self::Output
+        ensures { gives (event (words.itrace_start_is content) true metadata) result };
 
     /// Samples were lost (`PERF_RECORD_LOST_SAMPLES`).
     ///
     /// In a visitor that leaves it out: `self.visit_unimplemented(metadata)`.
-    fn visit_lost_samples(self, held: LostSamples, metadata: RecordMetadata) -> Self::Output
-        ensures { gives (event (words.lost_samples_is held) true metadata) result };
+    fn visit_lost_samples(self, content: LostSamples, metadata: RecordMetadata) -> Self::Output
+        ensures { gives (event (words.lost_samples_is content) true metadata) result };
 
     /// A task was scheduled on its CPU or off it (`PERF_RECORD_SWITCH`); the record contains
     /// nothing else.
@@ -136,50 +136,54 @@ pub trait Visitor<'a>: Drop {
     /// Which task another one handed its CPU to, or got it from (`PERF_RECORD_SWITCH_CPU_WIDE`).
     ///
     /// In a visitor that leaves it out: `self.visit_unimplemented(metadata)`.
-    fn visit_switch_cpu_wide(self, held: SwitchCpuWide, metadata: RecordMetadata) -> Self::Output
-        ensures { gives (event (words.switch_cpu_wide_is held) true metadata) result };
+    fn visit_switch_cpu_wide(self, content: SwitchCpuWide, metadata: RecordMetadata) -> Self::Output
+        ensures { gives (event (words.switch_cpu_wide_is content) true metadata) result };
 
     /// The namespaces of a task (`PERF_RECORD_NAMESPACES`).
     ///
     /// In a visitor that leaves it out: `self.visit_unimplemented(metadata)`.
-    fn visit_namespaces(self, held: Namespaces<'a>, metadata: RecordMetadata) -> Self::Output
-        ensures { gives (event (words.namespaces_is (words.namespaces_value held.entry))
+    fn visit_namespaces(self, content: Namespaces<'a>, metadata: RecordMetadata) -> Self::Output
+        ensures { gives (event (words.namespaces_is (words.namespaces_value content.entry))
             true metadata) result };
 
     /// A kernel symbol was registered or unregistered (`PERF_RECORD_KSYMBOL`).
     ///
     /// In a visitor that leaves it out: `self.visit_unimplemented(metadata)`.
-    fn visit_ksymbol(self, held: KSymbol<'a>, metadata: RecordMetadata) -> Self::Output
-        ensures { gives (event (words.ksymbol_is (words.ksymbol_value held.entry))
-            (words.is_borrowed held.entry.name) metadata) result };
+    fn visit_ksymbol(self, content: KSymbol<'a>, metadata: RecordMetadata) -> Self::Output
+        ensures { gives (event (words.ksymbol_is (words.ksymbol_value content.entry))
+            (words.is_borrowed content.entry.name) metadata) result };
 
     /// A BPF program was loaded or unloaded (`PERF_RECORD_BPF_EVENT`).
     ///
     /// In a visitor that leaves it out: `self.visit_unimplemented(metadata)`.
-    fn visit_bpf_event(self, held: BpfEvent, metadata: RecordMetadata) -> Self::Output
-        ensures { gives (event (words.bpf_event_is (words.bpf_event_value held))
+    fn visit_bpf_event(self, content: BpfEvent, metadata: RecordMetadata) -> Self::Output
+        ensures { gives (event (words.bpf_event_is (words.bpf_event_value content))
             true metadata) result };
 
     /// A control group: its id and path (`PERF_RECORD_CGROUP`).
     ///
     /// In a visitor that leaves it out: `self.visit_unimplemented(metadata)`.
-    fn visit_cgroup(self, held: CGroup<'a>, metadata: RecordMetadata) -> Self::Output
-        ensures { gives (event (words.cgroup_is (words.cgroup_value held.entry))
-            (words.is_borrowed held.entry.path) metadata) result };
+    fn visit_cgroup(self, content: CGroup<'a>, metadata: RecordMetadata) -> Self::Output
+        ensures { gives (event (words.cgroup_is (words.cgroup_value content.entry))
+            (words.is_borrowed content.entry.path) metadata) result };
 
     /// The kernel changed its own instructions (`PERF_RECORD_TEXT_POKE`).
     ///
     /// In a visitor that leaves it out: `self.visit_unimplemented(metadata)`.
-    fn visit_text_poke(self, held: TextPoke<'a>, metadata: RecordMetadata) -> Self::Output
-        ensures { gives (event (words.text_poke_is (words.text_poke_value held.entry))
-            (words.is_lent_text_poke held.entry) metadata) result };
+    fn visit_text_poke(self, content: TextPoke<'a>, metadata: RecordMetadata) -> Self::Output
+        ensures { gives (event (words.text_poke_is (words.text_poke_value content.entry))
+            (words.is_borrowed_text_poke content.entry) metadata) result };
 
     /// The hardware's id of an event whose data is in the AUX buffer
     /// (`PERF_RECORD_AUX_OUTPUT_HW_ID`).
     ///
     /// In a visitor that leaves it out: `self.visit_unimplemented(metadata)`.
-    fn visit_aux_output_hw_id(self, held: AuxOutputHwId, metadata: RecordMetadata) -> Self::Output
-        ensures { gives (event (words.aux_output_hw_id_is held) true metadata) result };
+    fn visit_aux_output_hw_id(
+        self,
+        content: AuxOutputHwId,
+        metadata: RecordMetadata,
+    ) -> Self::Output
+        ensures { gives (event (words.aux_output_hw_id_is content) true metadata) result };
 
     /// A record of a type that this library does not know: the bytes between its header and its
     /// sample id. The metadata gives its type.

@@ -14,7 +14,7 @@ use Rattle.perf_base.specs.declared.error.ParseError.{ParseError}
 use Rattle.perf_base.specs.declared.refusal.Refusal.{Refusal}
 use Rattle.perf_base.specs.declared.sys.perf_event_header.{perf_event_header}
 use Rattle.perf_buffers.specs.Buffer.{Source}
-use Rattle.perf_reader.specs.Meaning.{Meaning}
+use Rattle.perf_reader.specs.ReaderState.{ReaderState}
 use Rattle.perf_reader.specs.Reading.{of_layout}
 use Rattle.perf_reader.proofs.Paying.{last_moved}
 use Rattle.perf_base.specs.Configuration.{Configuration, under_misc}
@@ -32,10 +32,10 @@ use Rattle.perf_records.specs.Bodies.{body, body_of_type, unread}
 use Rattle.perf_records.specs.FrameReadings.{metadata_in}
 use Rattle.perf_records.specs.Metadata.{MetadataValue, id_length}
 use Rattle.perf_records.specs.RecordTypes.{type_of}
-use Rattle.perf_records.specs.Shown.{VisitsBytes}
-use Rattle.perf_records.specs.Visits.{VisitsAll}
-use Rattle.perf_records.specs.Answers.{FrameParts, parts_of, body_length, split_behind, record_in, answer_behind, answer_of_frame, answers}
-use Rattle.perf_records.specs.Frames.{frame_length, first_frames, frames, behind_frames}
+use Rattle.perf_records.specs.Shown.{GivesFrameBytes}
+use Rattle.perf_records.specs.Gives.{GivesWholeBody}
+use Rattle.perf_records.specs.Answers.{FrameParts, parts_of, body_length, split_after, record_in, answer_after, answer_of_frame, answers}
+use Rattle.perf_records.specs.Frames.{frame_length, first_frames, frames, drop_frames}
 use Rattle.perf_records.specs.Records.{RecordValue, sample_is}
 use Rattle.perf_records.specs.Sights.{Sight, whole, bad, sight_after, sight_in}
 use Rattle.perf_records.proofs.FrameList.{frames_short}
@@ -45,23 +45,23 @@ use Rattle.perf_parser.specs.FrameRuns.{Handed, HandsFirst, EndsFrames}
 use Rattle.perf_parser.specs.Runs.{EndsWith, LeavesWithin}
 use Rattle.perf_parser.specs.declared.runs.RunEnd.{RunEnd}
 use Rattle.perf_parser.proofs.Handing.{moved_by}
-use Rattle.perf_parser.proofs.Listing.{AreThere, frames_next, there_fits, there_next, behind_on, frames_fit}
+use Rattle.perf_parser.proofs.Listing.{AreThere, frames_next, there_fits, there_next, after_on, frames_fit}
 use Rattle.perf_reports.specs.Counting.{wrapped, frame_sum, counted, plus, sight_header, sight_answer, counted_sight, IsRefused, IsFault, EndsBy, CountsSight, CountsRun, RefusesSight, SumsAnswer, Adds, record_sum, attribute_in}
 use Rattle.perf_reports.specs.declared.counting.FrameCounter.{FrameCounter}
 use Rattle.perf_reports.specs.declared.counts.Counts.{Counts}
 
 -- ---- the result of a frame by what is seen of it
 
-split_small : (c : Configuration) (o : Order) (h : perf_event_header) (bytes : List ℕ) → h.size < 8 → split_behind c o h bytes ≡ Err InvalidRecord
+split_small : (c : Configuration) (o : Order) (h : perf_event_header) (bytes : List ℕ) → h.size < 8 → split_after c o h bytes ≡ Err InvalidRecord
 split_small c o h bytes small = let a : nat_lt h.size 8 ≡ true = lt-ltb h.size 8 small in rw a refl
 
-split_short : (c : Configuration) (o : Order) (h : perf_event_header) (bytes : List ℕ) → 8 ≤ h.size → length bytes < body_length h → split_behind c o h bytes ≡ Err Eof
+split_short : (c : Configuration) (o : Order) (h : perf_event_header) (bytes : List ℕ) → 8 ≤ h.size → length bytes < body_length h → split_after c o h bytes ≡ Err Eof
 split_short c o h bytes sized short =
     let a : nat_lt h.size 8 ≡ false = le-ltb h.size 8 sized in
     let b : nat_lt (length bytes) (body_length h) ≡ true = lt-ltb (length bytes) (body_length h) short in
     rw (a, b) refl
 
-split_take : (c : Configuration) (o : Order) (h : perf_event_header) (bytes : List ℕ) → body_length h ≤ length bytes → split_behind c o h (take (body_length h) bytes) ≡ split_behind c o h bytes
+split_take : (c : Configuration) (o : Order) (h : perf_event_header) (bytes : List ℕ) → body_length h ≤ length bytes → split_after c o h (take (body_length h) bytes) ≡ split_after c o h bytes
 split_take c o h bytes fits =
     let all : length (take (body_length h) bytes) ≡ body_length h = length-take-le (body_length h) bytes fits in
     let a : nat_lt (length (take (body_length h) bytes)) (body_length h) ≡ false = le-ltb (length (take (body_length h) bytes)) (body_length h) (omega (arith, all)) in
@@ -69,11 +69,11 @@ split_take c o h bytes fits =
     let t : take (body_length h) (take (body_length h) bytes) ≡ take (body_length h) bytes = take-take (body_length h) (body_length h) bytes (omega arith) in
     rw (a, b, t) refl
 
-sight_small : (h : perf_event_header) (bytes : List ℕ) (lasting : Bool) → h.size < 8 → sight_after h bytes lasting ≡ bad h InvalidRecord
-sight_small h bytes lasting small = let a : nat_lt h.size 8 ≡ true = lt-ltb h.size 8 small in rw a refl
+sight_small : (h : perf_event_header) (bytes : List ℕ) (borrowed : Bool) → h.size < 8 → sight_after h bytes borrowed ≡ bad h InvalidRecord
+sight_small h bytes borrowed small = let a : nat_lt h.size 8 ≡ true = lt-ltb h.size 8 small in rw a refl
 
-sight_short : (h : perf_event_header) (bytes : List ℕ) (lasting : Bool) → 8 ≤ h.size → length bytes < body_length h → sight_after h bytes lasting ≡ bad h Eof
-sight_short h bytes lasting sized short =
+sight_short : (h : perf_event_header) (bytes : List ℕ) (borrowed : Bool) → 8 ≤ h.size → length bytes < body_length h → sight_after h bytes borrowed ≡ bad h Eof
+sight_short h bytes borrowed sized short =
     let a : nat_lt h.size 8 ≡ false = le-ltb h.size 8 sized in
     let b : nat_lt (length bytes) (body_length h) ≡ true = lt-ltb (length bytes) (body_length h) short in
     rw (a, b) refl
@@ -86,18 +86,18 @@ seen_pair c o seen = (sight_header seen, sight_answer c o seen)
 abbrev pub pair_of : Configuration → Order → List ℕ → perf_event_header × Result RecordValue ErrorKind
 pair_of c o frame = (header_of o frame, answer_of_frame c o frame)
 
-after_pair : (c : Configuration) (o : Order) (h : perf_event_header) (bytes : List ℕ) (lasting : Bool) → seen_pair c o (sight_after h bytes lasting) ≡ (h, answer_behind c o h bytes)
-after_pair c o h bytes lasting = elim (cases_lt h.size 8) [
-  | inl small ↦ ap (seen_pair c o) (sight_small h bytes lasting small) ∙ ap (λ s. (h, record_in c o h s)) (sym (split_small c o h bytes small))
+after_pair : (c : Configuration) (o : Order) (h : perf_event_header) (bytes : List ℕ) (borrowed : Bool) → seen_pair c o (sight_after h bytes borrowed) ≡ (h, answer_after c o h bytes)
+after_pair c o h bytes borrowed = elim (cases_lt h.size 8) [
+  | inl small ↦ ap (seen_pair c o) (sight_small h bytes borrowed small) ∙ ap (λ s. (h, record_in c o h s)) (sym (split_small c o h bytes small))
   | inr sized ↦ elim (cases_lt (length bytes) (body_length h)) [
-    | inl short ↦ ap (seen_pair c o) (sight_short h bytes lasting sized short) ∙ ap (λ s. (h, record_in c o h s)) (sym (split_short c o h bytes sized short))
-    | inr fits ↦ ap (seen_pair c o) (finished h bytes lasting sized fits) ∙ ap (λ s. (h, record_in c o h s)) (split_take c o h bytes fits)
+    | inl short ↦ ap (seen_pair c o) (sight_short h bytes borrowed sized short) ∙ ap (λ s. (h, record_in c o h s)) (sym (split_short c o h bytes sized short))
+    | inr fits ↦ ap (seen_pair c o) (finished h bytes borrowed sized fits) ∙ ap (λ s. (h, record_in c o h s)) (split_take c o h bytes fits)
   ]
 ]
 
-pub frame_pair : (c : Configuration) (o : Order) (frame : List ℕ) (lasting : Bool) → 8 ≤ length frame → seen_pair c o (sight_in o frame lasting) ≡ pair_of c o frame
-frame_pair c o frame lasting fits =
-    after_pair c o (header_of o frame) (drop 8 frame) lasting ∙ ap (λ r. (header_of o frame, r)) (sym (answer_whole c o frame fits))
+pub frame_pair : (c : Configuration) (o : Order) (frame : List ℕ) (borrowed : Bool) → 8 ≤ length frame → seen_pair c o (sight_in o frame borrowed) ≡ pair_of c o frame
+frame_pair c o frame borrowed fits =
+    after_pair c o (header_of o frame) (drop 8 frame) borrowed ∙ ap (λ r. (header_of o frame, r)) (sym (answer_whole c o frame fits))
 
 -- ---- counts add up
 
@@ -126,7 +126,7 @@ refused_counts h (Err e) refused = refl
 
 -- they contain no record
 short_answer : (c : Configuration) (o : Order) (h : perf_event_header) (bytes : List ℕ) (v : RecordValue) → 8 ≤ h.size → length bytes ≡ body_length h → h.type_ ≡ 9 →
-    length bytes < 8 * count_ones (c.sample_type % 2 ^ 24) → answer_behind c o h bytes ≡ Ok v → ⊥
+    length bytes < 8 * count_ones (c.sample_type % 2 ^ 24) → answer_after c o h bytes ≡ Ok v → ⊥
 short_answer c o h bytes v sized all_there is short answer =
     let c' : Configuration = under_misc h.misc c in
     let none : id_length c h.type_ ≡ 0 = ap (id_length c) is in
@@ -135,17 +135,17 @@ short_answer c o h bytes v sized all_there is short answer =
     let room : nat_lt (body_length h) (id_length c h.type_) ≡ false = le-ltb (body_length h) (id_length c h.type_) (omega (arith, none)) in
     let all : take (body_length h) bytes ≡ bytes = take_all (body_length h) bytes (omega (arith, all_there)) in
     let own : take (length bytes - id_length c h.type_) bytes ≡ bytes = take_all (length bytes - id_length c h.type_) bytes (omega (arith, none)) in
-    let split : split_behind c o h bytes ≡ Ok (parts_of c o h bytes) = rw (small, fits, room, all) refl in
+    let split : split_after c o h bytes ≡ Ok (parts_of c o h bytes) = rw (small, fits, room, all) refl in
     let made : layout o (body c' 9) bytes ≡ Ok v =
     sym (ap (λ b. layout o (body c' 9) b) own) ∙ sym (ap (λ ty. layout o (body c' ty) (take (length bytes - id_length c h.type_) bytes)) is) ∙ sym (ap (record_in c o h) split) ∙ answer in
     let first = then_inv o (sample c') (λ s. done (sample_is s)) bytes v _ (layout_run o (mapped sample_is (sample c')) bytes v made) in
     subst (λ (r : Result SampleValue ErrorKind). IfOk r (λ s. ⊥)) (run_layout o (sample c') bytes first.0 first.1 first.2).0 (short_sample c' o bytes short)
 
 pub short_refused : (c : Configuration) (o : Order) (h : perf_event_header) (bytes : List ℕ) → 8 ≤ h.size → length bytes ≡ body_length h → h.type_ ≡ 9 →
-    length bytes < 8 * count_ones (c.sample_type % 2 ^ 24) → IsRefused (answer_behind c o h bytes)
-short_refused c o h bytes sized all_there is short = go (answer_behind c o h bytes) refl
+    length bytes < 8 * count_ones (c.sample_type % 2 ^ 24) → IsRefused (answer_after c o h bytes)
+short_refused c o h bytes sized all_there is short = go (answer_after c o h bytes) refl
   where
-    go : (says : Result RecordValue ErrorKind) → answer_behind c o h bytes ≡ says → IsRefused says
+    go : (says : Result RecordValue ErrorKind) → answer_after c o h bytes ≡ says → IsRefused says
     go (Ok v) answer = short_answer c o h bytes v sized all_there is short answer
     go (Err e) answer = tt
 
@@ -168,11 +168,11 @@ module _ (c : Configuration) (o : Order) (all : Bool) where
   gets was seen go now = CountsSight was c o seen go now
 
   -- one more frame
-  one_more : (xs : List Answered) (frame : List ℕ) (lasting : Bool) (was now : FrameCounter) → 8 ≤ length frame → was.counts ≡ counted xs →
-      now.counts ≡ plus was.counts (counted_sight c o (sight_in o frame lasting)) → now.counts ≡ counted (xs ++ pair_of c o frame ∷ [])
-  one_more xs frame lasting was now fits so_far got =
-      got ∙ ap (λ k. plus k (counted_sight c o (sight_in o frame lasting))) so_far
-      ∙ ap (λ p. plus (counted xs) (counted (p ∷ []))) (frame_pair c o frame lasting fits)
+  one_more : (xs : List Answered) (frame : List ℕ) (borrowed : Bool) (was now : FrameCounter) → 8 ≤ length frame → was.counts ≡ counted xs →
+      now.counts ≡ plus was.counts (counted_sight c o (sight_in o frame borrowed)) → now.counts ≡ counted (xs ++ pair_of c o frame ∷ [])
+  one_more xs frame borrowed was now fits so_far got =
+      got ∙ ap (λ k. plus k (counted_sight c o (sight_in o frame borrowed))) so_far
+      ∙ ap (λ p. plus (counted xs) (counted (p ∷ []))) (frame_pair c o frame borrowed fits)
       ∙ counted_more xs (pair_of c o frame ∷ [])
 
   regroup : (xs : List Answered) (frame : List ℕ) (more : List (List ℕ)) → (xs ++ pair_of c o frame ∷ []) ++ map (pair_of c o) more ≡ xs ++ map (pair_of c o) (frame ∷ more)
@@ -234,18 +234,18 @@ not_of_layout : {a b : ErrorKind} → a ≡ b → (IsTrue (of_layout b) → ⊥)
 not_of_layout same other = λ h. other (subst (λ (k : ErrorKind). IsTrue (of_layout k)) same h)
 
 ended_by : (o : Order) (limit k : ℕ) (bytes left : List ℕ) (refusal : Option Refusal) (e : RunEnd) → k < limit → IsFault refusal → EndsBy refusal e →
-    left ≡ behind_frames o (k + 1) bytes → EndsWith o limit bytes k e left
-ended_by o limit k bytes left None e below fault by behind = absurd fault
-ended_by o limit k bytes left (Some r) e below fault by behind =
+    left ≡ drop_frames o (k + 1) bytes → EndsWith o limit bytes k e left
+ended_by o limit k bytes left None e below fault by after = absurd fault
+ended_by o limit k bytes left (Some r) e below fault by after =
     subst (λ (x : RunEnd). EndsWith o limit bytes k x left) (sym by.1)
-    (below, not_of_layout by.2.kind_is fault, taken_within o (behind_frames o k bytes) left (behind ∙ behind_on o k bytes))
+    (below, not_of_layout by.2.kind_is fault, taken_within o (drop_frames o k bytes) left (after ∙ after_on o k bytes))
 
 -- the end of a run over frames that were handed to a counter
 abbrev pub IsRunEnd : Option RunEnd → FrameCounter → RunEnd → Type 0
 IsRunEnd (Some x) now e = e ≡ x
 IsRunEnd None now e = EndsBy now.refusal e
 
-pub run_counts : (old : Meaning) (limit count : ℕ) (ended : Option RunEnd) (e : RunEnd) (was now : FrameCounter) (left : List ℕ) → was.counts ≡ counted [] →
+pub run_counts : (old : ReaderState) (limit count : ℕ) (ended : Option RunEnd) (e : RunEnd) (was now : FrameCounter) (left : List ℕ) → was.counts ≡ counted [] →
     HandsFirst (λ s x. CountsSight s old.settings old.order x) old count ended was now → EndsFrames old.order limit old.source.left count ended left → IsRunEnd ended now e →
     CountsRun old.settings old.order limit old.source.left now.counts e left
 run_counts old limit count (Some x) e was now left none handed ends is =
@@ -263,21 +263,21 @@ run_counts old limit count None e was now left none handed ends is =
     let one_more : k + 1 ≡ count = omega (arith, r.1, handed.0) in (
       k,
       r.2 ∙ ap counted (fewer_answers c o k count bytes (omega (arith, one_more)) handed.0),
-      ended_by o limit k bytes left now.refusal e (omega (arith, one_more, ends.1)) r.3 is (ends.2 ∙ ap (λ n. behind_frames o n bytes) (sym one_more)),
+      ended_by o limit k bytes left now.refusal e (omega (arith, one_more, ends.1)) r.3 is (ends.2 ∙ ap (λ n. drop_frames o n bytes) (sym one_more)),
     )
 
 -- ---- what is summed of a frame
 
 -- what a visit of a frame summed
-pub visited_sum : (h : perf_event_header) (c : Configuration) (o : Order) (bytes : List ℕ) (lasting : Bool) (r : Result ℕ Refusal) (k : ℕ) →
-    VisitsBytes Adds h c o bytes lasting r k → SumsAnswer (answer_behind c o h bytes) r
-visited_sum h c o bytes lasting (Ok sum) k v = (v.0.0, v.0.6.0, v.0.3)
-visited_sum h c o bytes lasting (Err e) k v = λ layout. (v.0 layout).0
+pub visited_sum : (h : perf_event_header) (c : Configuration) (o : Order) (bytes : List ℕ) (borrowed : Bool) (r : Result ℕ Refusal) (k : ℕ) →
+    GivesFrameBytes Adds h c o bytes borrowed r k → SumsAnswer (answer_after c o h bytes) r
+visited_sum h c o bytes borrowed (Ok sum) k v = (v.0.0, v.0.6.0, v.0.3)
+visited_sum h c o bytes borrowed (Err e) k v = λ layout. (v.0 layout).0
 
 -- the same without the claim that the bytes are borrowed from the input
-pub less_lasting : (m : MetadataValue) (o : Order) (p : Parts RecordValue) (bytes : List ℕ) (lasting : Bool) (r : Result ℕ ErrorKind) (k : ℕ) → VisitsAll Adds m o p bytes true r k → VisitsAll Adds m o p bytes lasting r k
-less_lasting m o p bytes lasting (Ok sum) k v = (v.0, v.1, v.2, v.3, v.4, (λ is. v.5 refl), v.6)
-less_lasting m o p bytes lasting (Err e) k v = (v.0, (λ is. v.1 refl))
+pub less_borrowed : (m : MetadataValue) (o : Order) (p : Parts RecordValue) (bytes : List ℕ) (borrowed : Bool) (r : Result ℕ ErrorKind) (k : ℕ) → GivesWholeBody Adds m o p bytes true r k → GivesWholeBody Adds m o p bytes borrowed r k
+less_borrowed m o p bytes borrowed (Ok sum) k v = (v.0, v.1, v.2, v.3, v.4, (λ is. v.5 refl), v.6)
+less_borrowed m o p bytes borrowed (Err e) k v = (v.0, (λ is. v.1 refl))
 
 -- a type that the kernel does not have: its body is all bytes, whatever they are
 unread_says : (o : Order) (ty : ℕ) (bytes : List ℕ) → layout o (unread ty) bytes ≡ Ok (value o bytes 0 (unread ty))
@@ -289,19 +289,19 @@ unknown_says : (c : Configuration) (o : Order) (h : perf_event_header) (parts : 
 unknown_says c o h parts none =
     ap (λ t. layout o (body_of_type (under_misc h.misc c) h.type_ t) parts.body) none ∙ unread_says o h.type_ parts.body
 
-pub unknown_adds : (c : Configuration) (o : Order) (h : perf_event_header) (bytes : List ℕ) (m : MetadataValue) → type_of h.type_ ≡ None → Ok m ≡ metadata_in (split_behind c o h bytes) →
-    SumsAnswer (answer_behind c o h bytes) (Ok 0)
-unknown_adds c o h bytes m none is = by (split_behind c o h bytes) refl
+pub unknown_adds : (c : Configuration) (o : Order) (h : perf_event_header) (bytes : List ℕ) (m : MetadataValue) → type_of h.type_ ≡ None → Ok m ≡ metadata_in (split_after c o h bytes) →
+    SumsAnswer (answer_after c o h bytes) (Ok 0)
+unknown_adds c o h bytes m none is = by (split_after c o h bytes) refl
   where
-    by : (s : Result FrameParts ErrorKind) → split_behind c o h bytes ≡ s → SumsAnswer (answer_behind c o h bytes) (Ok 0)
+    by : (s : Result FrameParts ErrorKind) → split_after c o h bytes ≡ s → SumsAnswer (answer_after c o h bytes) (Ok 0)
     by (Ok parts) e = (value o parts.body 0 (unread h.type_), ap (record_in c o h) e ∙ unknown_says c o h parts none, refl)
     by (Err k) e = let never : Ok m ≡ metadata_in (Err k) = is ∙ ap metadata_in e in absurd (cc)
 
-pub unknown_refused : (c : Configuration) (o : Order) (h : perf_event_header) (bytes : List ℕ) (x : ParseError) → Err (kind_of x) ≡ metadata_in (split_behind c o h bytes) → IsAnswerOf x NoRoomForId →
-    SumsAnswer (answer_behind c o h bytes) (Err NoRoomForId)
-unknown_refused c o h bytes x is why = by (split_behind c o h bytes) refl
+pub unknown_refused : (c : Configuration) (o : Order) (h : perf_event_header) (bytes : List ℕ) (x : ParseError) → Err (kind_of x) ≡ metadata_in (split_after c o h bytes) → IsAnswerOf x NoRoomForId →
+    SumsAnswer (answer_after c o h bytes) (Err NoRoomForId)
+unknown_refused c o h bytes x is why = by (split_after c o h bytes) refl
   where
-    by : (s : Result FrameParts ErrorKind) → split_behind c o h bytes ≡ s → SumsAnswer (answer_behind c o h bytes) (Err NoRoomForId)
+    by : (s : Result FrameParts ErrorKind) → split_after c o h bytes ≡ s → SumsAnswer (answer_after c o h bytes) (Err NoRoomForId)
     by (Ok parts) e = let never : Err (kind_of x) ≡ metadata_in (Ok parts) = is ∙ ap metadata_in e in absurd (cc)
     by (Err k) e =
         let same : Err (kind_of x) ≡ metadata_in (Err k) = is ∙ ap metadata_in e in
@@ -310,14 +310,14 @@ unknown_refused c o h bytes x is why = by (split_behind c o h bytes) refl
 
 -- ---- what a counter counts of one frame
 
-pub sums_seen : (h : perf_event_header) (c : Configuration) (o : Order) (bytes : List ℕ) (lasting : Bool) (sum : ℕ) (was now : FrameCounter) → SumsAnswer (answer_behind c o h bytes) (Ok sum) →
-    ((r : RecordValue) → sum ≡ wrapped (record_sum r) → now.counts ≡ plus was.counts (counted ((h, Ok r) ∷ []))) → CountsSight was c o (whole h bytes lasting) true now
-sums_seen h c o bytes lasting sum was now says added = added says.0 says.2 ∙ ap (λ a. plus was.counts (counted ((h, a) ∷ []))) (sym says.1)
+pub sums_seen : (h : perf_event_header) (c : Configuration) (o : Order) (bytes : List ℕ) (borrowed : Bool) (sum : ℕ) (was now : FrameCounter) → SumsAnswer (answer_after c o h bytes) (Ok sum) →
+    ((r : RecordValue) → sum ≡ wrapped (record_sum r) → now.counts ≡ plus was.counts (counted ((h, Ok r) ∷ []))) → CountsSight was c o (whole h bytes borrowed) true now
+sums_seen h c o bytes borrowed sum was now says added = added says.0 says.2 ∙ ap (λ a. plus was.counts (counted ((h, a) ∷ []))) (sym says.1)
 
-pub refuses_seen : (h : perf_event_header) (c : Configuration) (o : Order) (bytes : List ℕ) (lasting : Bool) (e : Refusal) (was now : FrameCounter) (go : Bool) → SumsAnswer (answer_behind c o h bytes) (Err e) →
-    RefusesSight e was go now → CountsSight was c o (whole h bytes lasting) go now
-refuses_seen h c o bytes lasting e was now true says p = p.1 h ∙ ap (λ a. plus was.counts (counted ((h, a) ∷ []))) (sym (says p.0))
-refuses_seen h c o bytes lasting e was now false says p = p
+pub refuses_seen : (h : perf_event_header) (c : Configuration) (o : Order) (bytes : List ℕ) (borrowed : Bool) (e : Refusal) (was now : FrameCounter) (go : Bool) → SumsAnswer (answer_after c o h bytes) (Err e) →
+    RefusesSight e was go now → CountsSight was c o (whole h bytes borrowed) go now
+refuses_seen h c o bytes borrowed e was now true says p = p.1 h ∙ ap (λ a. plus was.counts (counted ((h, a) ∷ []))) (sym (says p.0))
+refuses_seen h c o bytes borrowed e was now false says p = p
 
 -- ---- the attribute of a stream
 

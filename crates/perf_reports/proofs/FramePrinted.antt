@@ -1,9 +1,9 @@
 -- What a printer has printed of the frames that were handed to it.
 use Rattle.perf_base.specs.declared.refusal.Refusal.{Refusal}
 use Rattle.perf_records.specs.Records.{record_value, sample_is, sample_value}
-use Rattle.perf_records.specs.Answers.{answer_behind}
-use Rattle.perf_records.specs.Shown.{VisitsBytes}
-use Rattle.perf_records.specs.Visits.{IsRecordOf, IsSampleIn}
+use Rattle.perf_records.specs.Answers.{answer_after}
+use Rattle.perf_records.specs.Shown.{GivesFrameBytes}
+use Rattle.perf_records.specs.Gives.{IsRecordOf, IsSampleIn}
 use Rattle.perf_records.specs.declared.record.Record.{Record}
 use Rattle.perf_sample_types.specs.declared.sample.Sample.{Sample}
 use Rattle.std.proofs.Common.{◌≡◌, ℕ, ◌+◌, ◌-◌, ◌≤◌, Bool, true, false, List, [], ◌∷◌, ◌++◌, ◌∙◌, ◌&&◌, Option, Some, None, length, take, drop, map, arith, refl, sym, ap, subst, append_assoc, append-nil, inl, inr, Ok, Err, string_bytes}
@@ -26,7 +26,7 @@ use Rattle.perf_records.specs.Records.{RecordValue}
 use Rattle.perf_records.specs.Sights.{Sight, sight_in}
 use Rattle.perf_parser.specs.FrameRuns.{Handed, HandsFirst, went_on}
 use Rattle.perf_parser.specs.declared.runs.RunEnd.{RunEnd}
-use Rattle.perf_reader.specs.Meaning.{Meaning}
+use Rattle.perf_reader.specs.ReaderState.{ReaderState}
 use Rattle.perf_reports.specs.FramePrinting.{Answered, by_kinds, TellsErrors, all_clean, Prints, StopsAt, PrintsAnswer, PrintsSight, PrintsFirst, answers_of}
 use Rattle.perf_reports.specs.Printing.{printed, printed_answer, printed_answers, error_line, error_lines, Grows, GrowsWithin, is_memory}
 use Rattle.perf_reports.specs.declared.frame_printer.FramePrinter.{FramePrinter}
@@ -178,8 +178,8 @@ module _ {W E : Type 0} (out : W → Option (List ℕ)) (err : E → Option (Lis
   abbrev gets : FramePrinter W E → Sight → Bool → FramePrinter W E → Type 0
   gets was seen go now = PrintsSight out err was c o seen go now
 
-  one : (frame : List ℕ) (lasting : Bool) (was now : FramePrinter W E) → 8 ≤ length frame → gets was (sight_in o frame lasting) true now → Prints out err was (pair_of c o frame ∷ []) now
-  one frame lasting was now fits p = subst (λ (x : Answered). Prints out err was (x ∷ []) now) (frame_pair c o frame lasting fits) p
+  one : (frame : List ℕ) (borrowed : Bool) (was now : FramePrinter W E) → 8 ≤ length frame → gets was (sight_in o frame borrowed) true now → Prints out err was (pair_of c o frame ∷ []) now
+  one frame borrowed was now fits p = subst (λ (x : Answered). Prints out err was (x ∷ []) now) (frame_pair c o frame borrowed fits) p
 
   all_printed : (fs : List (List ℕ)) (was now : FramePrinter W E) → Headed fs → Handed gets o all was fs true now → Prints out err was (map (pair_of c o) fs) now
   all_printed [] was now headed p = subst (λ (x : FramePrinter W E). Prints out err was [] x) (sym p.0) (prints_none out err was)
@@ -283,7 +283,7 @@ module _ {W E : Type 0} (out : W → Option (List ℕ)) (err : E → Option (Lis
       )
 
   -- a run of a parser: it went on
-  pub went_on_prints : (old : Meaning) (count : ℕ) (ended : Option RunEnd) (e : RunEnd) (was now : FramePrinter W E) → ended ≡ Some e →
+  pub went_on_prints : (old : ReaderState) (count : ℕ) (ended : Option RunEnd) (e : RunEnd) (was now : FramePrinter W E) → ended ≡ Some e →
       HandsFirst (λ s x. PrintsSight out err s old.settings old.order x) old count ended was now → Prints out err was (take count (answers_of old)) now
   went_on_prints old count ended e was now is handed =
       let c = old.settings in let o = old.order in
@@ -293,7 +293,7 @@ module _ {W E : Type 0} (out : W → Option (List ℕ)) (err : E → Option (Lis
       (all_printed out err c o old.source.whole fs was now (frames_headed o count old.source.left) all)
 
   -- it was stopped
-  pub stopped_prints : (old : Meaning) (count : ℕ) (ended : Option RunEnd) (was now : FramePrinter W E) → ended ≡ None →
+  pub stopped_prints : (old : ReaderState) (count : ℕ) (ended : Option RunEnd) (was now : FramePrinter W E) → ended ≡ None →
       HandsFirst (λ s x. PrintsSight out err s old.settings old.order x) old count ended was now → StopsAfter out err was (take count (answers_of old)) now
   stopped_prints old count ended was now is handed =
       let c = old.settings in let o = old.order in
@@ -303,7 +303,7 @@ module _ {W E : Type 0} (out : W → Option (List ℕ)) (err : E → Option (Lis
       (stops_after out err c o old.source.whole fs was now (frames_headed o count old.source.left) all)
 
   -- all the answers are present
-  pub there : (old : Meaning) (count : ℕ) (ended : Option RunEnd) (was now : FramePrinter W E) →
+  pub there : (old : ReaderState) (count : ℕ) (ended : Option RunEnd) (was now : FramePrinter W E) →
       HandsFirst (λ s x. PrintsSight out err s old.settings old.order x) old count ended was now → length (take count (answers_of old)) ≡ count
   there old count ended was now handed =
       sym (ap length (first_answers old.settings old.order count old.source.left handed.0)) ∙ length-map (first_frames old.order count old.source.left) (pair_of old.settings old.order) ∙ handed.0
@@ -311,15 +311,15 @@ module _ {W E : Type 0} (out : W → Option (List ℕ)) (err : E → Option (Lis
 -- ---- what was read of a frame
 
 -- its record
-pub record_said : (h : perf_event_header) (c : Configuration) (o : Order) (bytes : List ℕ) (lasting : Bool) (r : Result Record Refusal) (k : ℕ) (x : Record) →
-    VisitsBytes IsRecordOf h c o bytes lasting r k → r ≡ Ok x → answer_behind c o h bytes ≡ Ok (record_value x)
-record_said h c o bytes lasting r k x visits is =
-    let said = (subst (λ (q : Result Record Refusal). VisitsBytes IsRecordOf h c o bytes lasting q k) is visits).0 in
+pub record_said : (h : perf_event_header) (c : Configuration) (o : Order) (bytes : List ℕ) (borrowed : Bool) (r : Result Record Refusal) (k : ℕ) (x : Record) →
+    GivesFrameBytes IsRecordOf h c o bytes borrowed r k → r ≡ Ok x → answer_after c o h bytes ≡ Ok (record_value x)
+record_said h c o bytes borrowed r k x visits is =
+    let said = (subst (λ (q : Result Record Refusal). GivesFrameBytes IsRecordOf h c o bytes borrowed q k) is visits).0 in
     said.6.0 ∙ ap Ok (sym said.3.0)
 
 -- its sample, read into the place of another
-pub sample_said : (h : perf_event_header) (c : Configuration) (o : Order) (bytes : List ℕ) (lasting : Bool) (r : Result (Unit {0}) Refusal) (k : ℕ) (now : Sample) →
-    VisitsBytes (λ seen output. IsSampleIn seen now) h c o bytes lasting r k → r ≡ Ok tt → answer_behind c o h bytes ≡ Ok (sample_is (sample_value now))
-sample_said h c o bytes lasting r k now visits is =
-    let said = (subst (λ (q : Result (Unit {0}) Refusal). VisitsBytes (λ seen output. IsSampleIn seen now) h c o bytes lasting q k) is visits).0 in
+pub sample_said : (h : perf_event_header) (c : Configuration) (o : Order) (bytes : List ℕ) (borrowed : Bool) (r : Result (Unit {0}) Refusal) (k : ℕ) (now : Sample) →
+    GivesFrameBytes (λ seen output. IsSampleIn seen now) h c o bytes borrowed r k → r ≡ Ok tt → answer_after c o h bytes ≡ Ok (sample_is (sample_value now))
+sample_said h c o bytes borrowed r k now visits is =
+    let said = (subst (λ (q : Result (Unit {0}) Refusal). GivesFrameBytes (λ seen output. IsSampleIn seen now) h c o bytes borrowed q k) is visits).0 in
     said.6.0 ∙ ap Ok (sym said.3.0)

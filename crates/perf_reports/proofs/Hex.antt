@@ -125,11 +125,11 @@ pub IsUtf8-digits : (n : ℕ) → IsUtf8 (digits 16 false n)
 IsUtf8-digits n = IsUtf8-from_ascii _ (IsAscii-digits n)
 
 -- digits before text are text
-pub IsUtf8-behind_digits : (n : ℕ) (xs ys : List ℕ) → xs ≡ digits 16 false n ++ ys → IsUtf8 ys → IsUtf8 xs
-IsUtf8-behind_digits n xs ys e behind = rw e (IsUtf8-append (digits 16 false n) ys (IsUtf8-digits n) behind)
+pub IsUtf8-after_digits : (n : ℕ) (xs ys : List ℕ) → xs ≡ digits 16 false n ++ ys → IsUtf8 ys → IsUtf8 xs
+IsUtf8-after_digits n xs ys e after = rw e (IsUtf8-append (digits 16 false n) ys (IsUtf8-digits n) after)
 
-pub IsUtf8-behind_decimal : (n : ℕ) (xs ys : List ℕ) → n < 2 ^ 64 → xs ≡ decimal n ++ ys → IsUtf8 ys → IsUtf8 xs
-IsUtf8-behind_decimal n xs ys fits e behind = rw e (IsUtf8-append (decimal n) ys (IsUtf8-from_ascii _ (IsAscii-decimal n fits)) behind)
+pub IsUtf8-after_decimal : (n : ℕ) (xs ys : List ℕ) → n < 2 ^ 64 → xs ≡ decimal n ++ ys → IsUtf8 ys → IsUtf8 xs
+IsUtf8-after_decimal n xs ys fits e after = rw e (IsUtf8-append (decimal n) ys (IsUtf8-from_ascii _ (IsAscii-decimal n fits)) after)
 
 pub IsUtf8-pair : (b : ℕ) → b < 256 → IsUtf8 (pair b)
 IsUtf8-pair b small = IsUtf8-from_ascii _ (IsAscii-cons _ (digit_glyph false (b % 16) ∷ []) (glyph_is_ascii (b / 16) (omega arith)) (IsAscii-cons _ [] (glyph_is_ascii (b % 16) (omega arith)) IsAscii-nil))

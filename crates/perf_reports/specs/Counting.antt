@@ -18,8 +18,8 @@ use Rattle.perf_types.specs.Mmap.{MmapValue}
 use Rattle.perf_types.specs.Mmap2.{Mmap2Value}
 use Rattle.perf_types.specs.Comm.{CommValue}
 use Rattle.perf_reader.specs.Reading.{of_layout}
-use Rattle.perf_records.specs.Answers.{answer_behind, answers}
-use Rattle.perf_records.specs.Visits.{Event}
+use Rattle.perf_records.specs.Answers.{answer_after, answers}
+use Rattle.perf_records.specs.Gives.{Event}
 use Rattle.perf_records.specs.Sights.{Sight, whole, bad}
 use Rattle.perf_parser.specs.Runs.{EndsWith}
 use Rattle.perf_parser.specs.declared.runs.RunEnd.{RunEnd}
@@ -114,12 +114,12 @@ plus a b = record {
 
 -- the header of what is at the start of a frame
 abbrev pub sight_header : Sight → perf_event_header
-sight_header (whole h bytes lasting) = h
+sight_header (whole h bytes borrowed) = h
 sight_header (bad h e) = h
 
 -- the result of a whole frame, or why none follows the header
 abbrev pub sight_answer : Configuration → Order → Sight → Result RecordValue ErrorKind
-sight_answer c o (whole h bytes lasting) = answer_behind c o h bytes
+sight_answer c o (whole h bytes borrowed) = answer_after c o h bytes
 sight_answer c o (bad h e) = Err e
 
 -- a frame is refused

@@ -9,9 +9,9 @@ use Rattle.perf_base.specs.Refusals.{error_kinds}
 use Rattle.perf_base.specs.declared.error.ErrorKind.{ErrorKind}
 use Rattle.perf_base.specs.declared.error.ParseError.{ParseError}
 use Rattle.perf_base.specs.declared.sys.perf_event_header.{perf_event_header}
-use Rattle.perf_reader.specs.Meaning.{Meaning}
+use Rattle.perf_reader.specs.ReaderState.{ReaderState}
 use Rattle.perf_buffers.specs.Buffer.{chunk_bytes}
-use Rattle.perf_records.specs.Answers.{answer_behind, answers}
+use Rattle.perf_records.specs.Answers.{answer_after, answers}
 use Rattle.perf_records.specs.Records.{RecordValue}
 use Rattle.perf_records.specs.Sights.{Sight}
 use Rattle.perf_records.specs.declared.frame.Frame.{Frame}
@@ -58,7 +58,7 @@ pub record Prints {W E : Type 0} (out : W → Option (List ℕ)) (err : E → Op
 
 -- the result of a whole frame
 abbrev pub frame_answer : Configuration → Order → Frame → Answered
-frame_answer c o frame = (frame.header, answer_behind c o frame.header (chunk_bytes frame.rest))
+frame_answer c o frame = (frame.header, answer_after c o frame.header (chunk_bytes frame.rest))
 
 -- what a printer has done when it stops at a frame
 pub record StopsAt {W E : Type 0} (out : W → Option (List ℕ)) (err : E → Option (List ℕ))
@@ -92,7 +92,7 @@ PrintsSight out err was c o seen false now =
     × StopsAt out err was (sight_pair c o seen) why now
 
 -- the results of the frames that a parser has not read yet
-abbrev pub answers_of : Meaning → List Answered
+abbrev pub answers_of : ReaderState → List Answered
 answers_of m = answers m.settings m.order m.source.left
 
 -- All lines and errors of the first k results were written, after the lines that were gathered.
@@ -106,7 +106,7 @@ PrintsFirst out err was answers k now =
 -- A run printed the first results of what a parser has not read yet, and all their lines were
 -- written: how it ended, and what it left.
 abbrev pub PrintsRun : {W E : Type 0} → (W → Option (List ℕ)) → (E → Option (List ℕ)) →
-    FramePrinter W E → Meaning → (limit : ℕ) → RunEnd → (left : List ℕ) → FramePrinter W E → Type 0
+    FramePrinter W E → ReaderState → (limit : ℕ) → RunEnd → (left : List ℕ) → FramePrinter W E → Type 0
 PrintsRun out err was old limit e left now =
     (k : ℕ) × PrintsFirst out err was (answers_of old) k now
     × (now.report ≡ was.report)

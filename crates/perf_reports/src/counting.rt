@@ -3,9 +3,9 @@
 ghost use Rattle.std.specs.Prelude.{◌≡◌, [], None, IsTrue, false, true};
 ghost use Rattle.perf_base.specs.Configured.{configuration_of, endian_of};
 ghost use Rattle.perf_base.specs.Refusals.{refusal_kind};
-ghost use Rattle.perf_buffers.specs.Words.{chunk_bytes};
+ghost use Rattle.perf_buffers.specs.Prelude.{chunk_bytes};
 ghost use Rattle.perf_reader.specs.Reading.{of_layout};
-ghost use Rattle.perf_records.specs.Answers.{answer_behind};
+ghost use Rattle.perf_records.specs.Answers.{answer_after};
 ghost use Rattle.perf_records.specs.RecordTypes.{type_of};
 ghost use Rattle.perf_reports.specs.Counting.{counted, CountsSight, EndsBy, IsRefused, RefusesSight};
 ghost use Rattle.perf_reports.specs.Counting.{SumsAnswer};
@@ -88,7 +88,7 @@ impl<'p> FrameCounter<'p> {
 // refused.
 #[inline]
 fn is_short_sample<E: Endian>(config: &ParseConfig<E>, frame: &Frame<'_, '_>) -> bool
-    ensures { result ≡ true → IsRefused (answer_behind (configuration_of config.now)
+    ensures { result ≡ true → IsRefused (answer_after (configuration_of config.now)
         (E.order (endian_of config.now)) frame.now.header (chunk_bytes frame.now.rest)) }
 {
     frame.header().type_ == PERF_RECORD_SAMPLE && frame.rest().len() < least_len(config)
@@ -103,7 +103,7 @@ fn frame_sum<'p, E: Endian>(
     frame: Frame<'_, 'p>,
     place: &mut Sample<'p>,
 ) -> ReadResult<u64>
-    ensures { SumsAnswer (answer_behind (configuration_of config.now)
+    ensures { SumsAnswer (answer_after (configuration_of config.now)
         (E.order (endian_of config.now)) frame.entry.header (chunk_bytes frame.entry.rest)) result }
 {
     if frame.kind().is_none() {
@@ -120,7 +120,7 @@ fn unknown_sum<E: Endian>(
     frame: Frame<'_, '_>,
 ) -> ReadResult<u64>
     requires { type_of frame.header.type_ ≡ None }
-    ensures { SumsAnswer (answer_behind (configuration_of config.now)
+    ensures { SumsAnswer (answer_after (configuration_of config.now)
         (E.order (endian_of config.now)) frame.entry.header (chunk_bytes frame.entry.rest)) result }
 {
     match frame.metadata(alloc, config) {

@@ -3,7 +3,7 @@
 ghost use Rattle.std.specs.Prelude.{◌≡◌, ◌≤◌, ◌⊎◌, ◌++◌, ℕ, false, IsTrue, [], take, length, string_bytes};
 ghost use Rattle.std.specs.Prelude.{OnOk, IfOk, IfErr, if◌then◌else◌};
 ghost use Rattle.std.specs.Io.KnownBytes.{Appends};
-ghost use Rattle.perf_parser.specs.Words.{buffer_of, config_of, meaning};
+ghost use Rattle.perf_parser.specs.Prelude.{buffer_of, config_of, state_of};
 ghost use Rattle.perf_reports.specs.FramePrinting.{PrintsFirst, PrintsRun, answers_of};
 ghost use Rattle.perf_reports.specs.Printing.{found_value, printed, printed_answers, is_memory};
 ghost use Rattle.perf_reports.specs.Printing.{Grows, GrowsWithin};
@@ -264,16 +264,16 @@ fn print_frames<'p, B: ParseBuf<'p>, O: Endian, W: Write, E: Write>(
 ) -> Result<RunEnd, Stopped>
     ensures config { config_of parser.new ≡ config_of parser.old }
     ensures sent { IsTrue (B.source (buffer_of parser.old)).told → IfOk result (λ end.
-        PrintsRun W.contents E.contents printer.old (meaning B.source O.order parser.old) BATCH end
+        PrintsRun W.contents E.contents printer.old (state_of B.source O.order parser.old) BATCH end
         (B.source (buffer_of parser.new)).left printer.new) }
     ensures none { OnOk result (string_bytes printer.new.lines.gathered ≡ []) }
     ensures part { IsTrue (B.source (buffer_of parser.old)).told →
         GrowsWithin (W.contents printer.old.output) (W.contents printer.new.output)
         (string_bytes printer.old.lines.gathered ++ printed_answers printer.old.report
-        (take BATCH (answers_of (meaning B.source O.order parser.old)))) }
+        (take BATCH (answers_of (state_of B.source O.order parser.old)))) }
     ensures refused { IsTrue (B.source (buffer_of parser.old)).told → IfErr result (λ stopped.
         IsTrue (is_memory stopped) → (k : ℕ) × PrintsFirst W.contents E.contents printer.old
-        (answers_of (meaning B.source O.order parser.old)) k printer.new) }
+        (answers_of (state_of B.source O.order parser.old)) k printer.new) }
 {
     let run = each_frame(parser, BATCH, printer);
     match run.end {

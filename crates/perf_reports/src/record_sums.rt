@@ -1,9 +1,9 @@
 //! What a record adds to the checksum, from its body.
 
 ghost use Rattle.std.specs.Prelude.{◌≡◌, ◌≤◌, ◌+◌, ⊤, true, false, length};
-ghost use Rattle.perf_records.specs.Words.{Call, VisitsAll, VisitsType, MetadataValue, kinds, body};
-ghost use Rattle.perf_records.specs.Words.{configuration_of, endian_of, refused, is_external};
-ghost use Rattle.perf_records.specs.Words.{one_if_refused};
+ghost use Rattle.perf_records.specs.Prelude.{Call, GivesWholeBody, GivesType, MetadataValue, kinds, body};
+ghost use Rattle.perf_records.specs.Prelude.{configuration_of, endian_of, refused, is_external};
+ghost use Rattle.perf_records.specs.Prelude.{one_if_refused};
 ghost use Rattle.perf_reports.specs.Counting.{Adds};
 
 use crate::sums::{comm_sum, lost_sum, mmap_sum, mmap2_sum, sample_sum, task_sum};
@@ -71,7 +71,7 @@ fn read_kept<'p, E: Endian>(
     place: &mut Sample<'p>,
 ) -> (ReadResult<u64>, ReadCounter)
     requires { metadata.ty ≡ 9 }
-    ensures answer { VisitsAll Adds metadata (E.order (endian_of config))
+    ensures answer { GivesWholeBody Adds metadata (E.order (endian_of config))
         (body (configuration_of config) metadata.ty) bytes.now true (kinds result.0) result.1 }
     ensures faults { is_external (refused (kinds result.0)) ≡ false }
     ensures cost { result.1 ≤ length bytes.now + one_if_refused (refused (kinds result.0)) }
@@ -98,7 +98,7 @@ fn read_sample<E: Endian>(
     metadata: RecordMetadata,
 ) -> (ReadResult<u64>, ReadCounter)
     requires { metadata.ty ≡ 9 }
-    ensures answer { VisitsAll Adds metadata (E.order (endian_of config))
+    ensures answer { GivesWholeBody Adds metadata (E.order (endian_of config))
         (body (configuration_of config) metadata.ty) bytes.now true (kinds result.0) result.1 }
     ensures faults { is_external (refused (kinds result.0)) ≡ false }
     ensures cost { result.1 ≤ length bytes.now + one_if_refused (refused (kinds result.0)) }
@@ -111,7 +111,7 @@ fn read_sample<E: Endian>(
 // What the next sample adds. A sample is large, and so it stays where it is read.
 #[inline]
 fn next_sample<'p, I: Input<'p>, E: Endian>(reader: &mut Reader<I, E>) -> ReadResult<u64>
-    ensures { (m : MetadataValue) → Call I.source E.order (VisitsType Adds m RecordType.Sample)
+    ensures { (m : MetadataValue) → Call I.source E.order (GivesType Adds m RecordType.Sample)
         reader.old (kinds result) reader.new }
 {
     let mut sample = empty_sample();
@@ -136,76 +136,76 @@ impl<'a> Visitor<'a> for SumVisitor {
     }
 
     #[inline]
-    fn visit_mmap(self, held: Mmap<'a>, _metadata: RecordMetadata) -> u64 {
-        let sum = mmap_sum(&held);
-        drop(held);
+    fn visit_mmap(self, content: Mmap<'a>, _metadata: RecordMetadata) -> u64 {
+        let sum = mmap_sum(&content);
+        drop(content);
         sum
     }
 
     #[inline]
-    fn visit_lost(self, held: Lost, _metadata: RecordMetadata) -> u64 {
-        lost_sum(&held)
+    fn visit_lost(self, content: Lost, _metadata: RecordMetadata) -> u64 {
+        lost_sum(&content)
     }
 
     #[inline]
-    fn visit_comm(self, held: Comm<'a>, _metadata: RecordMetadata) -> u64 {
-        let sum = comm_sum(&held);
-        drop(held);
+    fn visit_comm(self, content: Comm<'a>, _metadata: RecordMetadata) -> u64 {
+        let sum = comm_sum(&content);
+        drop(content);
         sum
     }
 
     #[inline]
-    fn visit_exit(self, held: Exit, _metadata: RecordMetadata) -> u64 {
-        task_sum(&held)
+    fn visit_exit(self, content: Exit, _metadata: RecordMetadata) -> u64 {
+        task_sum(&content)
     }
 
     #[inline]
-    fn visit_throttle(self, _held: Throttle, _metadata: RecordMetadata) -> u64 {
+    fn visit_throttle(self, _content: Throttle, _metadata: RecordMetadata) -> u64 {
         0
     }
 
     #[inline]
-    fn visit_unthrottle(self, _held: Throttle, _metadata: RecordMetadata) -> u64 {
+    fn visit_unthrottle(self, _content: Throttle, _metadata: RecordMetadata) -> u64 {
         0
     }
 
     #[inline]
-    fn visit_fork(self, held: Fork, _metadata: RecordMetadata) -> u64 {
-        task_sum(&held)
+    fn visit_fork(self, content: Fork, _metadata: RecordMetadata) -> u64 {
+        task_sum(&content)
     }
 
     #[inline]
-    fn visit_read(self, _held: Read, _metadata: RecordMetadata) -> u64 {
+    fn visit_read(self, _content: Read, _metadata: RecordMetadata) -> u64 {
         0
     }
 
     #[inline]
-    fn visit_sample(self, held: Sample<'a>, _metadata: RecordMetadata) -> u64 {
-        let sum = sample_sum(&held);
-        drop(held);
+    fn visit_sample(self, content: Sample<'a>, _metadata: RecordMetadata) -> u64 {
+        let sum = sample_sum(&content);
+        drop(content);
         sum
     }
 
     #[inline]
-    fn visit_mmap2(self, held: Mmap2<'a>, _metadata: RecordMetadata) -> u64 {
-        let sum = mmap2_sum(&held);
-        drop(held);
+    fn visit_mmap2(self, content: Mmap2<'a>, _metadata: RecordMetadata) -> u64 {
+        let sum = mmap2_sum(&content);
+        drop(content);
         sum
     }
 
     #[inline]
-    fn visit_aux(self, _held: Aux, _metadata: RecordMetadata) -> u64 {
+    fn visit_aux(self, _content: Aux, _metadata: RecordMetadata) -> u64 {
         0
     }
 
     #[inline]
-    fn visit_itrace_start(self, _held: ITraceStart, _metadata: RecordMetadata) -> u64 {
+    fn visit_itrace_start(self, _content: ITraceStart, _metadata: RecordMetadata) -> u64 {
         0
     }
 
     #[inline]
-    fn visit_lost_samples(self, held: LostSamples, _metadata: RecordMetadata) -> u64 {
-        held.lost
+    fn visit_lost_samples(self, content: LostSamples, _metadata: RecordMetadata) -> u64 {
+        content.lost
     }
 
     #[inline]
@@ -214,41 +214,41 @@ impl<'a> Visitor<'a> for SumVisitor {
     }
 
     #[inline]
-    fn visit_switch_cpu_wide(self, _held: SwitchCpuWide, _metadata: RecordMetadata) -> u64 {
+    fn visit_switch_cpu_wide(self, _content: SwitchCpuWide, _metadata: RecordMetadata) -> u64 {
         0
     }
 
     #[inline]
-    fn visit_namespaces(self, held: Namespaces<'a>, _metadata: RecordMetadata) -> u64 {
-        drop(held);
+    fn visit_namespaces(self, content: Namespaces<'a>, _metadata: RecordMetadata) -> u64 {
+        drop(content);
         0
     }
 
     #[inline]
-    fn visit_ksymbol(self, held: KSymbol<'a>, _metadata: RecordMetadata) -> u64 {
-        drop(held);
+    fn visit_ksymbol(self, content: KSymbol<'a>, _metadata: RecordMetadata) -> u64 {
+        drop(content);
         0
     }
 
     #[inline]
-    fn visit_bpf_event(self, _held: BpfEvent, _metadata: RecordMetadata) -> u64 {
+    fn visit_bpf_event(self, _content: BpfEvent, _metadata: RecordMetadata) -> u64 {
         0
     }
 
     #[inline]
-    fn visit_cgroup(self, held: CGroup<'a>, _metadata: RecordMetadata) -> u64 {
-        drop(held);
+    fn visit_cgroup(self, content: CGroup<'a>, _metadata: RecordMetadata) -> u64 {
+        drop(content);
         0
     }
 
     #[inline]
-    fn visit_text_poke(self, held: TextPoke<'a>, _metadata: RecordMetadata) -> u64 {
-        drop(held);
+    fn visit_text_poke(self, content: TextPoke<'a>, _metadata: RecordMetadata) -> u64 {
+        drop(content);
         0
     }
 
     #[inline]
-    fn visit_aux_output_hw_id(self, _held: AuxOutputHwId, _metadata: RecordMetadata) -> u64 {
+    fn visit_aux_output_hw_id(self, _content: AuxOutputHwId, _metadata: RecordMetadata) -> u64 {
         0
     }
 

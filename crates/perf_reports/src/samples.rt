@@ -86,10 +86,10 @@ fn put_moment(buffer: &mut [u8; ROOM], end: usize, sample: &Sample) -> usize
     let tid = put_decimal_word(buffer, end, wide(sample.tid()));
     let slash = put_str(buffer, tid, "/");
     let pid = put_decimal_word(buffer, slash, wide(sample.pid()));
-    let behind_cpu = put_str(buffer, pid, " ");
-    let cpu = put_decimal_word(buffer, behind_cpu, wide(sample.cpu()));
-    let behind_time = put_str(buffer, cpu, " ");
-    put_decimal_word(buffer, behind_time, sample.time())
+    let after_cpu = put_str(buffer, pid, " ");
+    let cpu = put_decimal_word(buffer, after_cpu, wide(sample.cpu()));
+    let after_time = put_str(buffer, cpu, " ");
+    put_decimal_word(buffer, after_time, sample.time())
 }
 
 // How many events the sample stands for, the address that was accessed, and that of the code.
@@ -102,10 +102,10 @@ fn put_event(buffer: &mut [u8; ROOM], end: usize, sample: &Sample) -> usize
 {
     let colon = put_str(buffer, end, ":");
     let ip = put_hex_word(buffer, colon, sample.ip());
-    let behind_addr = put_str(buffer, ip, " ");
-    let addr = put_hex_word(buffer, behind_addr, sample.addr());
-    let behind_period = put_str(buffer, addr, " ");
-    put_decimal_word(buffer, behind_period, sample.period())
+    let after_addr = put_str(buffer, ip, " ");
+    let addr = put_hex_word(buffer, after_addr, sample.addr());
+    let after_period = put_str(buffer, addr, " ");
+    put_decimal_word(buffer, after_period, sample.period())
 }
 
 // The same number as 64 bits.

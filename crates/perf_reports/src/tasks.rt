@@ -140,12 +140,12 @@ fn put_head(buffer: &mut [u8; ROOM], end: usize, what: &str, pid: u32, tid: u32)
     ensures written { drop result buffer.new ≡ printed.line what.now pid tid (drop end buffer.old) }
     ensures text { IsUtf8 (drop end buffer.old) → IsUtf8 (drop result buffer.new) }
 {
-    let behind_tid = put_str(buffer, end, " ");
-    let tid = put_decimal(buffer, behind_tid, u64::from(tid));
-    let behind_pid = put_str(buffer, tid, " ");
-    let pid = put_decimal(buffer, behind_pid, u64::from(pid));
-    let behind_what = put_str(buffer, pid, " ");
-    put_str(buffer, behind_what, what)
+    let after_tid = put_str(buffer, end, " ");
+    let tid = put_decimal(buffer, after_tid, u64::from(tid));
+    let after_pid = put_str(buffer, tid, " ");
+    let pid = put_decimal(buffer, after_pid, u64::from(pid));
+    let after_what = put_str(buffer, pid, " ");
+    put_str(buffer, after_what, what)
 }
 
 // The address of a mapping, its length, and its offset in the file.
@@ -157,10 +157,10 @@ fn put_place(buffer: &mut [u8; ROOM], end: usize, addr: u64, len: u64, pgoff: u6
     ensures text { IsUtf8 (drop end buffer.old) → IsUtf8 (drop result buffer.new) }
 {
     let pgoff = put_hex(buffer, end, pgoff);
-    let behind_len = put_str(buffer, pgoff, " ");
-    let len = put_hex(buffer, behind_len, len);
-    let behind_addr = put_str(buffer, len, " ");
-    put_hex(buffer, behind_addr, addr)
+    let after_len = put_str(buffer, pgoff, " ");
+    let len = put_hex(buffer, after_len, len);
+    let after_addr = put_str(buffer, len, " ");
+    put_hex(buffer, after_addr, addr)
 }
 
 // Appends the file of a mapping: its inode, or the digits of its build id.
@@ -196,10 +196,10 @@ fn put_inode(
     ensures text { IsUtf8 (drop end buffer.old) → IsUtf8 (drop result buffer.new) }
 {
     let generation = put_decimal(buffer, end, generation);
-    let behind_ino = put_str(buffer, generation, " ");
-    let ino = put_decimal(buffer, behind_ino, ino);
-    let behind_min = put_str(buffer, ino, " ");
-    let min = put_hex(buffer, behind_min, u64::from(min));
+    let after_ino = put_str(buffer, generation, " ");
+    let ino = put_decimal(buffer, after_ino, ino);
+    let after_min = put_str(buffer, ino, " ");
+    let min = put_hex(buffer, after_min, u64::from(min));
     let colon = put_str(buffer, min, ":");
     put_hex(buffer, colon, u64::from(maj))
 }

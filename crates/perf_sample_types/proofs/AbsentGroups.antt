@@ -23,7 +23,7 @@ use Rattle.perf_words.proofs.Contained.{contains_bit}
 use Rattle.perf_sample_types.specs.Sample.{has_one, fields_under, state_fields, cost_fields, memory_fields}
 use Rattle.perf_sample_types.specs.SampleEmpty.{no_state, no_costs, no_memory}
 use Rattle.perf_sample_types.specs.SampleGroups.{state_value, costs_value, memory_value, IsBorrowedState, IsBorrowedMemory}
-use Rattle.perf_sample_types.proofs.FlaggedFields.{field_kept_out, flags_behind}
+use Rattle.perf_sample_types.proofs.FlaggedFields.{field_kept_out, flags_after}
 
 -- ---- flags
 
@@ -49,12 +49,12 @@ flags_out word type mask bit other asked inside outside none = rw (bit_out word 
 
 module _ {I E : Type 0} {source : I → Source} {order : E → Order} where
   -- one that is absent, and those after it
-  absent_behind : {Y A : Type 0} {a c : Reader I E} {seen : Result Y ErrorKind}
+  absent_after : {Y A : Type 0} {a c : Reader I E} {outcome : Result Y ErrorKind}
       (view : Y → List (Option A)) (f : Took (List (Option A)) → Took (List (Option A))) (flags : List ℕ) (p : Configuration → Parts A) (fields : Configuration → List (Option (Parts A))) →
-      has_one (configuration_of a.config).sample_type flags ≡ false → Call source order (Row (λ r. f (before None r)) fields view) a seen c →
-      Call source order (Row f (λ s. present_if (has_one s.sample_type flags) (p s) ∷ fields s) view) a seen c
-  absent_behind view f flags p fields is next =
-      flags_behind {value = option_map (λ v. v)} {x = None} view f flags false p fields refl is (field_kept_out {value = λ v. v} {borrowed = λ v. Unit {0}} false p refl) (λ kept. next)
+      has_one (configuration_of a.config).sample_type flags ≡ false → Call source order (Row (λ r. f (before None r)) fields view) a outcome c →
+      Call source order (Row f (λ s. present_if (has_one s.sample_type flags) (p s) ∷ fields s) view) a outcome c
+  absent_after view f flags p fields is next =
+      flags_after {value = option_map (λ v. v)} {x = None} view f flags false p fields refl is (field_kept_out {value = λ v. v} {borrowed = λ v. Unit {0}} false p refl) (λ kept. next)
 
   -- ---- groups
 
@@ -64,10 +64,10 @@ module _ {I E : Type 0} {source : I → Source} {order : E → Order} where
       let type : ℕ = (configuration_of a.config).sample_type in
       let none : bit_and word 15360 ≡ 0 = eqb-true (bit_and word 15360) 0 (sym test ∙ holds) in
       of_row _ _ _ (λ t w. (tt, tt)) (
-      absent_behind _ _ (10 ∷ []) _ _ (flag_out word type 15360 10 asked refl none) (
-      absent_behind _ _ (11 ∷ []) _ _ (flag_out word type 15360 11 asked refl none) (
-      absent_behind _ _ (12 ∷ []) _ _ (flag_out word type 15360 12 asked refl none) (
-      absent_behind _ _ (13 ∷ []) _ _ (flag_out word type 15360 13 asked refl none) (
+      absent_after _ _ (10 ∷ []) _ _ (flag_out word type 15360 10 asked refl none) (
+      absent_after _ _ (11 ∷ []) _ _ (flag_out word type 15360 11 asked refl none) (
+      absent_after _ _ (12 ∷ []) _ _ (flag_out word type 15360 12 asked refl none) (
+      absent_after _ _ (13 ∷ []) _ _ (flag_out word type 15360 13 asked refl none) (
       fields_give _ _ (λ left m. refl))))))
 
   pub absent_costs : {a : Reader I E} (word : ℕ) {there : Bool} → word ≡ (configuration_of a.config).sample_type → there ≡ (bit_and word 17219584 == 0) → there ≡ true →
@@ -76,10 +76,10 @@ module _ {I E : Type 0} {source : I → Source} {order : E → Order} where
       let type : ℕ = (configuration_of a.config).sample_type in
       let none : bit_and word 17219584 ≡ 0 = eqb-true (bit_and word 17219584) 0 (sym test ∙ holds) in
       of_row _ _ _ (λ t w. tt) (
-      absent_behind _ _ (14 ∷ 24 ∷ []) _ _ (flags_out word type 17219584 14 24 asked refl refl none) (
-      absent_behind _ _ (15 ∷ []) _ _ (flag_out word type 17219584 15 asked refl none) (
-      absent_behind _ _ (17 ∷ []) _ _ (flag_out word type 17219584 17 asked refl none) (
-      absent_behind _ _ (18 ∷ []) _ _ (flag_out word type 17219584 18 asked refl none) (
+      absent_after _ _ (14 ∷ 24 ∷ []) _ _ (flags_out word type 17219584 14 24 asked refl refl none) (
+      absent_after _ _ (15 ∷ []) _ _ (flag_out word type 17219584 15 asked refl none) (
+      absent_after _ _ (17 ∷ []) _ _ (flag_out word type 17219584 17 asked refl none) (
+      absent_after _ _ (18 ∷ []) _ _ (flag_out word type 17219584 18 asked refl none) (
       fields_give _ _ (λ left m. refl))))))
 
   pub absent_memory : {a : Reader I E} (word : ℕ) {there : Bool} → word ≡ (configuration_of a.config).sample_type → there ≡ (bit_and word 16252928 == 0) → there ≡ true →
@@ -88,9 +88,9 @@ module _ {I E : Type 0} {source : I → Source} {order : E → Order} where
       let type : ℕ = (configuration_of a.config).sample_type in
       let none : bit_and word 16252928 ≡ 0 = eqb-true (bit_and word 16252928) 0 (sym test ∙ holds) in
       of_row _ _ _ (λ t w. tt) (
-      absent_behind _ _ (19 ∷ []) _ _ (flag_out word type 16252928 19 asked refl none) (
-      absent_behind _ _ (21 ∷ []) _ _ (flag_out word type 16252928 21 asked refl none) (
-      absent_behind _ _ (22 ∷ []) _ _ (flag_out word type 16252928 22 asked refl none) (
-      absent_behind _ _ (23 ∷ []) _ _ (flag_out word type 16252928 23 asked refl none) (
-      absent_behind _ _ (20 ∷ []) _ _ (flag_out word type 16252928 20 asked refl none) (
+      absent_after _ _ (19 ∷ []) _ _ (flag_out word type 16252928 19 asked refl none) (
+      absent_after _ _ (21 ∷ []) _ _ (flag_out word type 16252928 21 asked refl none) (
+      absent_after _ _ (22 ∷ []) _ _ (flag_out word type 16252928 22 asked refl none) (
+      absent_after _ _ (23 ∷ []) _ _ (flag_out word type 16252928 23 asked refl none) (
+      absent_after _ _ (20 ∷ []) _ _ (flag_out word type 16252928 20 asked refl none) (
       fields_give _ _ (λ left m. refl)))))))

@@ -12,10 +12,10 @@ use Rattle.perf_base.proofs.Took.{then_take}
 use Rattle.perf_base.specs.declared.error.ErrorKind.{ErrorKind}
 use Rattle.perf_buffers.specs.Buffer.{Source}
 use Rattle.perf_reader.specs.Calls.{Call}
-use Rattle.perf_reader.specs.Meaning.{Meaning, meaning}
+use Rattle.perf_reader.specs.ReaderState.{ReaderState, state_of}
 use Rattle.perf_reader.specs.TableRuns.{ReadsBorrowed, ReadsField, before}
 use Rattle.perf_reader.specs.declared.reader.Reader.{Reader}
-use Rattle.perf_reader.proofs.Asked.{Row, field_behind, field_stops}
+use Rattle.perf_reader.proofs.Asked.{Row, field_after, field_stops}
 use Rattle.perf_reader.proofs.TableRuns.{field_there, field_absent}
 use Rattle.perf_words.specs.Bits.{has_bit}
 use Rattle.perf_words.proofs.Contained.{contains_bit}
@@ -33,7 +33,7 @@ module _ {I E : Type 0} {source : I → Source} {order : E → Order} where
   pub field_kept_out : {X A : Type 0} {value : X → A} {borrowed : X → Type 0} {a : Reader I E} (present : Bool) (p : Configuration → Parts A) → present ≡ false →
       Call {X = Option X} source order (ReadsField (λ s. present_if present (p s)) (option_map value) (λ x. IfSome x borrowed)) a (Ok None) a
   field_kept_out {a = a} present p absent =
-      let old : Meaning = meaning source order a in record {
+      let old : ReaderState = state_of source order a in record {
         config = refl;
         whole = refl;
         told = λ h. h;
@@ -46,7 +46,7 @@ module _ {I E : Type 0} {source : I → Source} {order : E → Order} where
       Call source order (ReadsBorrowed p value borrowed) a (Ok x) b →
       Call {X = Option X} source order (ReadsField (λ s. present_if present (p s)) (option_map value) (λ x. IfSome x borrowed)) a (Ok (Some x)) b
   field_read {a = a} present p there first =
-      let old : Meaning = meaning source order a in record {
+      let old : ReaderState = state_of source order a in record {
         config = first.config;
         whole = first.whole;
         told = first.told;
@@ -60,7 +60,7 @@ module _ {I E : Type 0} {source : I → Source} {order : E → Order} where
       Call source order (ReadsBorrowed p value borrowed) a (Err e) b →
       Call {X = Option X} source order (ReadsField (λ s. present_if present (p s)) (option_map value) (λ x. IfSome x borrowed)) a (Err e) b
   field_refused {a = a} present p there first =
-      let old : Meaning = meaning source order a in record {
+      let old : ReaderState = state_of source order a in record {
         config = first.config;
         whole = first.whole;
         told = first.told;
@@ -72,13 +72,13 @@ module _ {I E : Type 0} {source : I → Source} {order : E → Order} where
   -- ---- fields one after another
 
   -- one that was read, present or absent; the sample type stays for those after it
-  pub flags_behind : {X Y A : Type 0} {value : X → Option A} {borrowed : X → Type 0} {a b c : Reader I E} {x : X} {seen : Result Y ErrorKind} {type : ℕ}
+  pub flags_after : {X Y A : Type 0} {value : X → Option A} {borrowed : X → Type 0} {a b c : Reader I E} {x : X} {outcome : Result Y ErrorKind} {type : ℕ}
       (view : Y → List (Option A)) (f : Took (List (Option A)) → Took (List (Option A))) (flags : List ℕ) (present : Bool) (p : Configuration → Parts A) (fields : Configuration → List (Option (Parts A))) →
       (configuration_of a.config).sample_type ≡ type → has_one type flags ≡ present → Call source order (ReadsField (λ s. present_if present (p s)) value borrowed) a (Ok x) b →
-      ((configuration_of b.config).sample_type ≡ type → Call source order (Row (λ r. f (before (value x) r)) fields view) b seen c) →
-      Call source order (Row f (λ s. present_if (has_one s.sample_type flags) (p s) ∷ fields s) view) a seen c
-  flags_behind view f flags present p fields kept is first next =
-      field_behind view f (λ s. has_one s.sample_type flags) present p fields (ap (λ t. has_one t flags) kept ∙ is) first
+      ((configuration_of b.config).sample_type ≡ type → Call source order (Row (λ r. f (before (value x) r)) fields view) b outcome c) →
+      Call source order (Row f (λ s. present_if (has_one s.sample_type flags) (p s) ∷ fields s) view) a outcome c
+  flags_after view f flags present p fields kept is first next =
+      field_after view f (λ s. has_one s.sample_type flags) present p fields (ap (λ t. has_one t flags) kept ∙ is) first
       (next (ap (λ k. (configuration_of k).sample_type) first.config ∙ kept))
 
   -- one that was refused
@@ -90,13 +90,13 @@ module _ {I E : Type 0} {source : I → Source} {order : E → Order} where
       field_stops view f (λ s. has_one s.sample_type flags) present p fields quits (ap (λ t. has_one t flags) kept ∙ is) first
 
   -- a field of one flag
-  pub flag_behind : {X Y A : Type 0} {value : X → Option A} {borrowed : X → Type 0} {a b c : Reader I E} {x : X} {seen : Result Y ErrorKind} {word type : ℕ}
+  pub flag_after : {X Y A : Type 0} {value : X → Option A} {borrowed : X → Type 0} {a b c : Reader I E} {x : X} {outcome : Result Y ErrorKind} {word type : ℕ}
       (view : Y → List (Option A)) (f : Took (List (Option A)) → Took (List (Option A))) (bit : ℕ) (p : Configuration → Parts A) (fields : Configuration → List (Option (Parts A))) →
       (configuration_of a.config).sample_type ≡ type → word ≡ type → Call source order (ReadsField (λ s. present_if (bit_and word (2 ^ bit) == 2 ^ bit) (p s)) value borrowed) a (Ok x) b →
-      ((configuration_of b.config).sample_type ≡ type → Call source order (Row (λ r. f (before (value x) r)) fields view) b seen c) →
-      Call source order (Row f (λ s. present_if (has_one s.sample_type (bit ∷ [])) (p s) ∷ fields s) view) a seen c
-  flag_behind {word = word} view f bit p fields kept asked first next =
-      flags_behind view f (bit ∷ []) (bit_and word (2 ^ bit) == 2 ^ bit) p fields kept (flag_asked bit asked) first next
+      ((configuration_of b.config).sample_type ≡ type → Call source order (Row (λ r. f (before (value x) r)) fields view) b outcome c) →
+      Call source order (Row f (λ s. present_if (has_one s.sample_type (bit ∷ [])) (p s) ∷ fields s) view) a outcome c
+  flag_after {word = word} view f bit p fields kept asked first next =
+      flags_after view f (bit ∷ []) (bit_and word (2 ^ bit) == 2 ^ bit) p fields kept (flag_asked bit asked) first next
 
   pub flag_stops : {X Y A : Type 0} {value : X → Option A} {borrowed : X → Type 0} {a b : Reader I E} {e : ErrorKind} {word type : ℕ}
       (view : Y → List (Option A)) (f : Took (List (Option A)) → Took (List (Option A))) (bit : ℕ) (p : Configuration → Parts A) (fields : Configuration → List (Option (Parts A))) →

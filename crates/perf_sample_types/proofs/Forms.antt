@@ -27,5 +27,5 @@ four_ahead xs ys zs us vs =
 -- they stay the same, if the four and those after them do
 pub four_stay : (xs ys zs us vs xs' ys' zs' us' vs' : List Bool) → xs ++ (ys ++ (zs ++ us)) ≡ xs' ++ (ys' ++ (zs' ++ us')) → vs ≡ vs' →
     xs ++ (ys ++ (zs ++ (us ++ vs))) ≡ xs' ++ (ys' ++ (zs' ++ (us' ++ vs')))
-four_stay xs ys zs us vs xs' ys' zs' us' vs' four behind =
-    sym (four_ahead xs ys zs us vs) ∙ ap (λ ls. ls ++ vs) four ∙ ap (λ ls. (xs' ++ (ys' ++ (zs' ++ us'))) ++ ls) behind ∙ four_ahead xs' ys' zs' us' vs'
+four_stay xs ys zs us vs xs' ys' zs' us' vs' four after =
+    sym (four_ahead xs ys zs us vs) ∙ ap (λ ls. ls ++ vs) four ∙ ap (λ ls. (xs' ++ (ys' ++ (zs' ++ us'))) ++ ls) after ∙ four_ahead xs' ys' zs' us' vs'

@@ -5,25 +5,25 @@ use Rattle.perf_base.specs.Layout.{◌>>=◌}
 use Rattle.perf_base.specs.Order.{Order}
 use Rattle.perf_base.specs.declared.error.ErrorKind.{ErrorKind}
 use Rattle.perf_buffers.specs.Buffer.{Source}
-use Rattle.perf_reader.proofs.Behind.{call_behind, call_stops}
+use Rattle.perf_reader.proofs.After.{call_after, call_stops}
 use Rattle.perf_reader.specs.Calls.{Call}
 use Rattle.perf_reader.specs.Reading.{Reads, ReadsPlain}
 use Rattle.perf_reader.specs.declared.reader.Reader.{Reader}
 use Rattle.perf_sample_types.specs.SampleId.{SampleIdValue}
-use Rattle.perf_sample_types.specs.SampleIdFields.{fields_of, origin, behind_origin}
+use Rattle.perf_sample_types.specs.SampleIdFields.{fields_of, origin, after_origin}
 use Rattle.perf_sample_types.specs.declared.sample_id.Origin.{Origin}
 use Rattle.perf_sample_types.specs.declared.sample_id.Present.{Present}
 
-groups_are_it : (has : Present) → (origin has >>= behind_origin has) ≡ fields_of has
+groups_are_it : (has : Present) → (origin has >>= after_origin has) ≡ fields_of has
 groups_are_it has = refl
 
 module _ {I E : Type 0} {source : I → Source} {order : E → Order} where
   -- the second group was read after the first
-  pub origin_read : {a b c : Reader I E} {o : Origin} {seen : Result SampleIdValue ErrorKind} (has : Present) →
+  pub origin_read : {a b c : Reader I E} {o : Origin} {outcome : Result SampleIdValue ErrorKind} (has : Present) →
       Call source order (ReadsPlain (λ _. origin has) (λ o. o)) a (Ok o) b →
-      Call source order (ReadsPlain (λ _. behind_origin has o) (λ s. s)) b seen c →
-      Call source order (ReadsPlain (λ _. fields_of has) (λ s. s)) a seen c
-  origin_read {a} {b} {c} {o} {seen} has first next =
+      Call source order (ReadsPlain (λ _. after_origin has o) (λ s. s)) b outcome c →
+      Call source order (ReadsPlain (λ _. fields_of has) (λ s. s)) a outcome c
+  origin_read {a} {b} {c} {o} {outcome} has first next =
       let plain : Call {X = Origin} source order (Reads (λ _. origin has) (λ o. o)) a (Ok o) b = record {
         config = first.config;
         whole = first.whole;
@@ -31,8 +31,8 @@ module _ {I E : Type 0} {source : I → Source} {order : E → Order} where
         answer = λ t. (first.answer t).0;
         keeps = first.keeps;
       } in
-      let all : Call {X = SampleIdValue} source order (Reads (λ _. fields_of has) (λ s. s)) a seen c =
-      call_behind (λ _. origin has) (λ _. behind_origin has) plain (record {
+      let all : Call {X = SampleIdValue} source order (Reads (λ _. fields_of has) (λ s. s)) a outcome c =
+      call_after (λ _. origin has) (λ _. after_origin has) plain (record {
         config = next.config;
         whole = next.whole;
         told = next.told;
@@ -59,7 +59,7 @@ module _ {I E : Type 0} {source : I → Source} {order : E → Order} where
         keeps = first.keeps;
       } in
       let all : Call {X = SampleIdValue} source order (Reads (λ _. fields_of has) (λ s. s)) a (Err e) b =
-      call_stops (λ _. origin has) (λ _. behind_origin has) plain in record {
+      call_stops (λ _. origin has) (λ _. after_origin has) plain in record {
         config = all.config;
         whole = all.whole;
         told = all.told;

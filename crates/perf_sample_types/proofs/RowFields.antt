@@ -14,7 +14,7 @@ use Rattle.perf_base.proofs.Took.{places_took, then_take, took_yes}
 use Rattle.perf_buffers.specs.Buffer.{Source}
 use Rattle.perf_reader.specs.AtOnce.{PassesOver}
 use Rattle.perf_reader.specs.Calls.{Call}
-use Rattle.perf_reader.specs.Meaning.{Meaning, meaning}
+use Rattle.perf_reader.specs.ReaderState.{ReaderState, state_of}
 use Rattle.perf_reader.specs.TableRuns.{ReadsTable, before, table_took}
 use Rattle.perf_reader.specs.declared.reader.Reader.{Reader}
 use Rattle.perf_reader.proofs.TableRuns.{field_there, field_absent, places_table}
@@ -149,11 +149,11 @@ module _ {I E : Type 0} {source : I → Source} {order : E → Order} where
   pub row_call : {Y : Type 0} {a b : Reader I E} {y : Y} (fields : Configuration → List (Option (Parts FieldValue))) (view : Y → SampleValue) (shown : List ℕ) (was now : Row) (len : ℕ) →
       (IsTrue (source a.input).told → (length shown ≤ length (source a.input).left) × (shown ≡ take (length shown) (source a.input).left)) →
       was.left.now ≡ shown → was.reads ≡ 0 → len ≡ length shown - length now.left.now →
-      TakesFields (meaning source order a).order (fields (meaning source order a).settings) (view y) was now →
+      TakesFields (state_of source order a).order (fields (state_of source order a).settings) (view y) was now →
       Call {X = Unit {0}} source order (PassesOver len now.reads) a (Ok tt) b → Call source order (ReadsTable fields view (λ _. Unit {0})) a (Ok y) b
   row_call {Y} {a} {b} {y} fields view shown was now len shows begins none length_is takes call =
-      let old : Meaning = meaning source order a in
-      let new : Meaning = meaning source order b in record {
+      let old : ReaderState = state_of source order a in
+      let new : ReaderState = state_of source order b in record {
         config = call.config;
         whole = call.whole;
         told = call.told;

@@ -7,8 +7,8 @@ use Rattle.perf_sample_types.specs.declared.sample.Sample.{Sample}
 
 -- the fields of the sample in a box
 abbrev pub boxed_value : Box Sample Global → SampleValue
-boxed_value held = sample_value held.value
+boxed_value content = sample_value content.value
 
 -- no byte of it was copied
 abbrev pub IsBorrowedBox : Box Sample Global → Type 0
-IsBorrowedBox held = IsBorrowedSample held.value
+IsBorrowedBox content = IsBorrowedSample content.value

@@ -5,7 +5,7 @@ use Rattle.perf_types.specs.ReadGroup.{GroupRead, group_read, read_group_form}
 use Rattle.perf_words.specs.Branch.{Branch}
 use Rattle.perf_sample_types.specs.Registers.{RegistersValue, registers_value, registers_form}
 use Rattle.perf_sample_types.specs.SampleForms.{form_if}
-use Rattle.perf_sample_types.specs.declared.sample_fields.Held.{Held}
+use Rattle.perf_sample_types.specs.declared.sample_fields.Content.{Content}
 use Rattle.perf_sample_types.specs.declared.sample_fields.SampleFields.{SampleFields}
 use Rattle.perf_sample_types.specs.declared.sample_fields.Trace.{Trace}
 
@@ -39,14 +39,14 @@ trace_of f = record { values = f.values; callchain = f.callchain; raw = f.raw; l
 -- ---- registers, the stack and bytes of the AUX area
 
 -- their values
-pub record HeldValue : Type 0 where
+pub record ContentValue : Type 0 where
   pub regs_user : Option RegistersValue
   pub stack_user : Option (List ℕ)
   pub regs_intr : Option RegistersValue
   pub aux : Option (List ℕ)
 
-abbrev pub held_value : Held → HeldValue
-held_value h = record {
+abbrev pub content_value : Content → ContentValue
+content_value h = record {
   regs_user = option_map registers_value h.regs_user;
   stack_user = option_map cow_items h.stack_user;
   regs_intr = option_map registers_value h.regs_intr;
@@ -54,15 +54,15 @@ held_value h = record {
 }
 
 -- which of their lists are borrowed
-abbrev pub held_form : Held → List Bool
-held_form h =
+abbrev pub content_form : Content → List Bool
+content_form h =
     form_if registers_form h.regs_user
     ++ (form_if cow_form h.stack_user
     ++ (form_if registers_form h.regs_intr ++ form_if cow_form h.aux))
 
 -- those of a sample's fields
-abbrev pub held_of : SampleFields → Held
-held_of f = record {
+abbrev pub content_of : SampleFields → Content
+content_of f = record {
   regs_user = f.regs_user;
   stack_user = f.stack_user;
   regs_intr = f.regs_intr;

@@ -2,7 +2,7 @@
 use Rattle.std.specs.Prelude.{◌≡◌, ℕ, ◌<◌, Ok, Err, IsTrue, length, drop}
 use Rattle.perf_base.specs.FieldWords.{u32_if, u64_if, ignored_if}
 use Rattle.perf_base.specs.Layout.{Parts, done, ◌>>=◌, ◌>>◌}
-use Rattle.perf_reader.specs.Reading.{Says, of_layout}
+use Rattle.perf_reader.specs.Reading.{Transition, of_layout}
 use Rattle.perf_sample_types.specs.SampleId.{SampleIdValue, first_of}
 use Rattle.perf_sample_types.specs.declared.sample_id.Present.{Present}
 use Rattle.perf_sample_types.specs.declared.sample_id.Origin.{Origin}
@@ -39,8 +39,8 @@ origin has = do
   done (record { pid = pid; tid = tid; time = time; id = id })
 
 -- the fields after these
-abbrev pub behind_origin : Present → Origin → Parts SampleIdValue
-behind_origin has o = do
+abbrev pub after_origin : Present → Origin → Parts SampleIdValue
+after_origin has o = do
   stream_id ← u64_if has.stream_id
   cpu ← u32_if has.cpu
   ignored_if has.cpu 4
@@ -57,6 +57,6 @@ behind_origin has o = do
 -- ---- how many bytes
 
 -- n bytes were taken; or fewer were left, if it was refused with a kind of the layout
-abbrev pub TakesOrLacks : {X : Type 0} → ℕ → Says X
+abbrev pub TakesOrLacks : {X : Type 0} → ℕ → Transition X
 TakesOrLacks n old (Ok x) new = new.source.left ≡ drop n old.source.left
 TakesOrLacks n old (Err e) new = IsTrue (of_layout e) → length old.source.left < n

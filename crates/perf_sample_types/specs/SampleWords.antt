@@ -2,7 +2,7 @@
 pub use Rattle.perf_base.specs.Layout.{Parts}
 pub use Rattle.perf_base.specs.Cow.{cow_items, is_borrowed}
 pub use Rattle.perf_reader.specs.TableRuns.{ReadsBorrowed, ReadsField, ReadsTable}
-pub use Rattle.perf_types.specs.Words.{Call, IsClone, Reads, kinds}
+pub use Rattle.perf_types.specs.Prelude.{Call, IsClone, Reads, kinds}
 pub use Rattle.perf_sample_types.specs.Sample.{sample}
 pub use Rattle.perf_sample_types.specs.SampleGetters.{getters_of, sample_id_of, fields_getters}
 pub use Rattle.perf_sample_types.specs.SampleGetters.{IsBorrowedFields}

@@ -4,9 +4,9 @@ ghost use Rattle.std.specs.Prelude.{◌≡◌, ◌*◌, [], Bool, true, false, l
 ghost use Rattle.std.specs.Prelude.{IfOk, IfErr};
 ghost use Rattle.perf_base.specs.Layout.{words_of};
 ghost use Rattle.perf_buffers.specs.Room.{falls_short};
-ghost use Rattle.perf_reader.specs.Words.{input_of, refusal_kind};
+ghost use Rattle.perf_reader.specs.Prelude.{input_of, refusal_kind};
 ghost use Rattle.perf_sample_types.specs.Branches.{branch_numbers, branch_of};
-ghost use Rattle.perf_types.specs.Words.{Call, ReadsOne, TakesNoMemory, flat_map, kinds, words};
+ghost use Rattle.perf_types.specs.Prelude.{Call, ReadsOne, TakesNoMemory, flat_map, kinds, words};
 
 use perf_base::endian::Endian;
 use perf_base::reads::ReadCounter;

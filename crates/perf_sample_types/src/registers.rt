@@ -32,7 +32,7 @@ pub struct Registers<'a> {
 
 impl<'p> Registers<'p> {
     ghost use Rattle.perf_sample_types.specs.Registers.{registers_of, registers_value, registers_form};
-    ghost use Rattle.perf_types.specs.Words.{Call, Reads, kinds, IsClone};
+    ghost use Rattle.perf_types.specs.Prelude.{Call, Reads, kinds, IsClone};
 
     /// Reads the registers of a mask.
     #[inline]

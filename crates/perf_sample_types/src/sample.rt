@@ -25,7 +25,7 @@ use perf_base::endian::Endian;
 use perf_base::error::ParseResult;
 use perf_base::refusal::ReadResult;
 use perf_buffers::input::Input;
-use perf_reader::read::{Meant, ReadFrom};
+use perf_reader::read::{HasTransition, ReadFrom};
 use perf_reader::reader::Reader;
 use perf_types::read_group::ReadGroup;
 use perf_words::{BranchEntry, DataSource, Txn};
@@ -390,8 +390,8 @@ impl<'a> Sample<'a> {
     }
 }
 
-impl Meant for Sample<'_> {
-    ghost says = { ReadsBorrowed shown.sample shown.sample_value shown.IsBorrowedSample };
+impl HasTransition for Sample<'_> {
+    ghost transition = { ReadsBorrowed shown.sample shown.sample_value shown.IsBorrowedSample };
 }
 
 /// Registers of [`SampleRegsAbi::NONE`](perf_words::SampleRegsAbi::NONE) have no values. A user

@@ -4,7 +4,7 @@
 ghost use Rattle.std.specs.Prelude.{◌≡◌, ◌*◌, ◌%◌, ◌^◌, ⊤, true, count_ones, Err, IfOk};
 ghost use Rattle.perf_base.specs.Configured.{configuration_of};
 ghost use Rattle.perf_buffers.specs.Room.{falls_short};
-ghost use Rattle.perf_reader.specs.Words.{input_of, config_of, refusal_kind};
+ghost use Rattle.perf_reader.specs.Prelude.{input_of, config_of, refusal_kind};
 ghost use Rattle.perf_sample_types.specs.Sample as sample;
 ghost use Rattle.perf_sample_types.specs.SampleEmpty.{filled};
 ghost use Rattle.perf_sample_types.specs.SampleGroups as groups;
@@ -130,7 +130,7 @@ pub fn read_boxed_sample<'p, I: Input<'p>, E: Endian>(
 ) -> ReadResult<Box<Sample<'p>>>
     ensures short { falls_short (I.hint (input_of reader.old))
         (8 * count_ones ((configuration_of (config_of reader.old)).sample_type % 2 ^ 24)) ≡ true →
-        IfOk result (λ held. ⊥) }
+        IfOk result (λ content. ⊥) }
     ensures call { Call I.source E.order
         (ReadsBorrowed shown.sample shown.boxed_value shown.IsBorrowedBox)
         reader.old (kinds result) reader.new }
@@ -138,17 +138,17 @@ pub fn read_boxed_sample<'p, I: Input<'p>, E: Endian>(
     if reader.has_bytes(least_len(reader.config())) == Some(false) {
         return Err(refuse_sample(reader));
     }
-    let mut held = match Box::new(reader.alloc(), empty_sample()) {
-        Ok(held) => held,
+    let mut content = match Box::new(reader.alloc(), empty_sample()) {
+        Ok(content) => content,
         Err(failed) => {
             drop(failed);
             return Err(refuse_sample(reader));
         }
     };
-    match fill_sample(&mut held, reader) {
-        Ok(()) => Ok(held),
+    match fill_sample(&mut content, reader) {
+        Ok(()) => Ok(content),
         Err(refusal) => {
-            drop(held);
+            drop(content);
             Err(refusal)
         }
     }

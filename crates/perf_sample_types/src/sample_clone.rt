@@ -9,7 +9,7 @@ ghost use Rattle.perf_sample_types.specs.SampleGroups as groups;
 ghost use Rattle.perf_sample_types.specs.SampleParts as parts;
 ghost use Rattle.perf_types.specs.ReadGroup.{group_read, read_group_form};
 ghost use Rattle.perf_sample_types.specs.Registers.{registers_value, registers_form};
-ghost use Rattle.perf_types.specs.Words.{IsClone, cow_items};
+ghost use Rattle.perf_types.specs.Prelude.{IsClone, cow_items};
 ghost use Rattle.perf_base.specs.Cow.{cow_form};
 
 use crate::registers::Registers;

@@ -3,7 +3,7 @@
 ghost use Rattle.std.specs.Prelude.{◌≡◌};
 ghost use Rattle.perf_base.specs.Copies.{IsClone};
 ghost use Rattle.perf_sample_types.specs.SampleCopies.{trace_value, trace_form, trace_of};
-ghost use Rattle.perf_sample_types.specs.SampleCopies.{held_value, held_form, held_of};
+ghost use Rattle.perf_sample_types.specs.SampleCopies.{content_value, content_form, content_of};
 ghost use Rattle.perf_sample_types.specs.SampleForms.{fields_form};
 ghost use Rattle.perf_sample_types.specs.SampleGetters.{fields_getters, no_getters};
 
@@ -84,7 +84,7 @@ struct Trace<'a> {
 
 // Their registers, the stack and bytes of the AUX area.
 #[derive(Drop)]
-struct Held<'a> {
+struct Content<'a> {
     regs_user: Option<Registers<'a>>,
     stack_user: Option<CowSlice<'a, u8>>,
     regs_intr: Option<Registers<'a>>,
@@ -109,14 +109,14 @@ impl<'a> SampleFields<'a> {
     }
 
     // The same registers, stack and bytes of the AUX area.
-    fn clone_held(&self, alloc: Global) -> ParseResult<Held<'a>>
-        ensures { IsClone held_value held_form (held_of self.now) result }
+    fn clone_content(&self, alloc: Global) -> ParseResult<Content<'a>>
+        ensures { IsClone content_value content_form (content_of self.now) result }
     {
         let regs_user = clone_registers(&self.regs_user, alloc)?;
         let stack_user = clone_list(&self.stack_user, alloc)?;
         let regs_intr = clone_registers(&self.regs_intr, alloc)?;
         let aux = clone_list(&self.aux, alloc)?;
-        Ok(Held {
+        Ok(Content {
             regs_user,
             stack_user,
             regs_intr,
@@ -129,7 +129,7 @@ impl<'a> SampleFields<'a> {
         ensures { IsClone fields_getters fields_form self.now result }
     {
         let trace = self.clone_trace(alloc)?;
-        let held = self.clone_held(alloc)?;
+        let content = self.clone_content(alloc)?;
         Ok(SampleFields {
             ip: self.ip,
             pid: self.pid,
@@ -145,14 +145,14 @@ impl<'a> SampleFields<'a> {
             raw: trace.raw,
             lbr_hw_index: self.lbr_hw_index,
             lbr: trace.lbr,
-            regs_user: held.regs_user,
-            stack_user: held.stack_user,
+            regs_user: content.regs_user,
+            stack_user: content.stack_user,
             weight: self.weight,
             data_src: self.data_src,
             transaction: self.transaction,
-            regs_intr: held.regs_intr,
+            regs_intr: content.regs_intr,
             phys_addr: self.phys_addr,
-            aux: held.aux,
+            aux: content.aux,
             cgroup: self.cgroup,
             data_page_size: self.data_page_size,
             code_page_size: self.code_page_size,

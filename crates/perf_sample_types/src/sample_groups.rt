@@ -7,7 +7,7 @@ ghost use Rattle.perf_sample_types.specs.SampleEmpty.{filled};
 ghost use Rattle.perf_sample_types.specs.Sample as sample;
 ghost use Rattle.perf_sample_types.specs.SampleGroups as groups;
 ghost use Rattle.perf_base.specs.Configuration.{Configuration};
-ghost use Rattle.perf_reader.specs.Words.{refusal_kind};
+ghost use Rattle.perf_reader.specs.Prelude.{refusal_kind};
 ghost use Rattle.perf_sample_types.specs.SampleRows.{TakesFields};
 ghost use Rattle.perf_sample_types.specs.SampleWords.{Call, ReadsTable, kinds};
 ghost use Rattle.perf_words.specs.SetBits.{sample_flags_bits};

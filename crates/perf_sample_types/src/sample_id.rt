@@ -3,10 +3,10 @@
 
 ghost use Rattle.std.specs.Prelude.{◌≡◌, ◌*◌, if◌then◌else◌};
 ghost use Rattle.perf_sample_types.specs.SampleId as ids;
-ghost use Rattle.perf_sample_types.specs.SampleIdFields.{fields_of, origin, behind_origin, TakesOrLacks};
+ghost use Rattle.perf_sample_types.specs.SampleIdFields.{fields_of, origin, after_origin, TakesOrLacks};
 ghost use Rattle.perf_sample_types.specs.SampleWords as shown;
-ghost use Rattle.perf_types.specs.Words.{Call, ReadsPlain, kinds, configuration_of};
-ghost use Rattle.perf_types.specs.Words.{sample_flags_bits};
+ghost use Rattle.perf_types.specs.Prelude.{Call, ReadsPlain, kinds, configuration_of};
+ghost use Rattle.perf_types.specs.Prelude.{sample_flags_bits};
 
 use crate::sample::Sample;
 use bitflags::Flags;
@@ -14,7 +14,7 @@ use perf_base::config::ParseConfig;
 use perf_base::endian::Endian;
 use perf_base::refusal::ReadResult;
 use perf_buffers::input::Input;
-use perf_reader::read::{Meant, ReadFrom};
+use perf_reader::read::{HasTransition, ReadFrom};
 use perf_reader::reader::Reader;
 use perf_words::SampleFlags;
 use std::marker::Model;
@@ -272,12 +272,12 @@ fn read_origin<'p, I: Input<'p>, E: Endian>(
 
 // The fields after these.
 #[inline]
-fn read_behind<'p, I: Input<'p>, E: Endian>(
+fn read_after<'p, I: Input<'p>, E: Endian>(
     reader: &mut Reader<I, E>,
     has: Present,
     origin: Origin,
 ) -> ReadResult<SampleId>
-    ensures call { Call I.source E.order (ReadsPlain (λ _. behind_origin has origin) (λ s. s))
+    ensures call { Call I.source E.order (ReadsPlain (λ _. after_origin has origin) (λ s. s))
         reader.old (kinds result) reader.new }
 {
     let stream_id = reader.read_u64_if(has.stream_id)?;
@@ -298,14 +298,14 @@ fn read_fields<'p, I: Input<'p>, E: Endian>(
         reader.old (kinds result) reader.new }
 {
     match read_origin(reader, has) {
-        Ok(origin) => read_behind(reader, has, origin),
+        Ok(origin) => read_after(reader, has, origin),
         Err(refusal) => Err(refusal),
     }
 }
 
-impl Meant for SampleId {
-    ghost says = { λ old seen new. ReadsPlain ids.sample_id (λ s. s) old seen new
-        × TakesOrLacks (ids.sample_id_length old.settings) old seen new };
+impl HasTransition for SampleId {
+    ghost transition = { λ old outcome new. ReadsPlain ids.sample_id (λ s. s) old outcome new
+        × TakesOrLacks (ids.sample_id_length old.settings) old outcome new };
 }
 
 /// The sample id of a record, from where its bytes begin. It is read whenever

@@ -2,7 +2,7 @@
 
 ghost use Rattle.std.specs.Prelude.{◌≡◌, option_map, IfSome, IsTrue};
 ghost use Rattle.perf_sample_types.specs.SampleForms as forms;
-ghost use Rattle.perf_sample_types.specs.SampleGetters as seen;
+ghost use Rattle.perf_sample_types.specs.SampleGetters as outcome;
 ghost use Rattle.perf_sample_types.specs.SampleParts as parts;
 ghost use Rattle.perf_sample_types.specs.SampleWords.{cow_items, is_borrowed, registers_value};
 
@@ -15,8 +15,8 @@ use perf_words::BranchEntry;
 
 // A process and its thread, if either is present.
 pub(crate) fn task_of(pid: Option<u32>, tid: Option<u32>) -> Option<Task>
-    ensures pid { seen.pid_in (option_map parts.task_value result) ≡ pid }
-    ensures tid { seen.tid_in (option_map parts.task_value result) ≡ tid }
+    ensures pid { outcome.pid_in (option_map parts.task_value result) ≡ pid }
+    ensures tid { outcome.tid_in (option_map parts.task_value result) ≡ tid }
 {
     match (pid, tid) {
         (None, None) => None,
@@ -29,8 +29,8 @@ pub(crate) fn branches_of<'a>(
     hw_index: Option<u64>,
     entries: Option<CowSlice<'a, BranchEntry>>,
 ) -> Option<Branches<'a>>
-    ensures hw_index { seen.hw_index_in (option_map parts.branches_value result) ≡ hw_index }
-    ensures entries { seen.branches_in (option_map parts.branches_value result) ≡
+    ensures hw_index { outcome.hw_index_in (option_map parts.branches_value result) ≡ hw_index }
+    ensures entries { outcome.branches_in (option_map parts.branches_value result) ≡
         option_map cow_items entries.entry }
     ensures lists { forms.form_if forms.branches_form result ≡
         forms.form_if forms.cow_form entries.entry }
@@ -43,7 +43,7 @@ pub(crate) fn branches_of<'a>(
 
 // A processor.
 pub(crate) fn cpu_of(number: Option<u32>) -> Option<Cpu>
-    ensures is { seen.number_in (option_map parts.cpu_value result) ≡ number }
+    ensures is { outcome.number_in (option_map parts.cpu_value result) ≡ number }
 {
     match number {
         Some(number) => Some(Cpu(number)),
@@ -53,7 +53,7 @@ pub(crate) fn cpu_of(number: Option<u32>) -> Option<Cpu>
 
 // A call chain.
 pub(crate) fn call_chain_of<'a>(addresses: Option<CowSlice<'a, u64>>) -> Option<CallChain<'a>>
-    ensures is { seen.numbers_in (option_map parts.call_chain_value result) ≡
+    ensures is { outcome.numbers_in (option_map parts.call_chain_value result) ≡
         option_map cow_items addresses.entry }
     ensures lists { forms.form_if forms.call_chain_form result ≡
         forms.form_if forms.cow_form addresses.entry }
@@ -66,7 +66,7 @@ pub(crate) fn call_chain_of<'a>(addresses: Option<CowSlice<'a, u64>>) -> Option<
 
 // Raw bytes.
 pub(crate) fn raw_of<'a>(bytes: Option<CowSlice<'a, u8>>) -> Option<RawData<'a>>
-    ensures is { seen.bytes_in (option_map parts.raw_value result) ≡
+    ensures is { outcome.bytes_in (option_map parts.raw_value result) ≡
         option_map cow_items bytes.entry }
     ensures lists { forms.form_if forms.raw_form result ≡
         forms.form_if forms.cow_form bytes.entry }
@@ -81,7 +81,7 @@ pub(crate) fn raw_of<'a>(bytes: Option<CowSlice<'a, u8>>) -> Option<RawData<'a>>
 
 // A stack.
 pub(crate) fn stack_of<'a>(bytes: Option<CowSlice<'a, u8>>) -> Option<Stack<'a>>
-    ensures is { seen.bytes_in (option_map parts.stack_value result) ≡
+    ensures is { outcome.bytes_in (option_map parts.stack_value result) ≡
         option_map cow_items bytes.entry }
     ensures lists { forms.form_if forms.stack_form result ≡
         forms.form_if forms.cow_form bytes.entry }
@@ -96,7 +96,7 @@ pub(crate) fn stack_of<'a>(bytes: Option<CowSlice<'a, u8>>) -> Option<Stack<'a>>
 
 // Bytes of the AUX area.
 pub(crate) fn aux_of<'a>(bytes: Option<CowSlice<'a, u8>>) -> Option<AuxBytes<'a>>
-    ensures is { seen.bytes_in (option_map parts.aux_value result) ≡
+    ensures is { outcome.bytes_in (option_map parts.aux_value result) ≡
         option_map cow_items bytes.entry }
     ensures lists { forms.form_if forms.aux_form result ≡
         forms.form_if forms.cow_form bytes.entry }
@@ -111,7 +111,7 @@ pub(crate) fn aux_of<'a>(bytes: Option<CowSlice<'a, u8>>) -> Option<AuxBytes<'a>
 
 // Registers of the task's user-space code.
 pub(crate) fn user_registers_of<'a>(registers: Option<Registers<'a>>) -> Option<UserRegisters<'a>>
-    ensures is { seen.registers_in (option_map parts.user_value result) ≡
+    ensures is { outcome.registers_in (option_map parts.user_value result) ≡
         option_map registers_value registers.entry }
     ensures lists { forms.form_if forms.user_form result ≡
         forms.form_if forms.registers_form registers.entry }
@@ -126,7 +126,7 @@ pub(crate) fn user_registers_of<'a>(registers: Option<Registers<'a>>) -> Option<
 pub(crate) fn interrupt_registers_of<'a>(
     registers: Option<Registers<'a>>,
 ) -> Option<InterruptRegisters<'a>>
-    ensures is { seen.registers_in (option_map parts.interrupt_value result) ≡
+    ensures is { outcome.registers_in (option_map parts.interrupt_value result) ≡
         option_map registers_value registers.entry }
     ensures lists { forms.form_if forms.interrupt_form result ≡
         forms.form_if forms.registers_form registers.entry }

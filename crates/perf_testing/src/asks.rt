@@ -156,7 +156,7 @@ fn next_header<'p, B: ParseBuf<'p>, E: Endian>(
 }
 
 // The record after a header that is parsed first.
-fn tell_behind_header<'p, B: ParseBuf<'p>, E: Endian>(
+fn tell_after_header<'p, B: ParseBuf<'p>, E: Endian>(
     text: &mut String,
     parser: &mut Parser<B, E>,
 ) -> Result<(), AllocError> {
@@ -258,7 +258,7 @@ fn tell_beside<'p, B: ParseBuf<'p>, E: Endian>(
         "SampleId" => tell_debug(text, SampleId::parse(parser)),
         "config" => tell_config(text, parser.config()),
         "Record" => tell_next_record(text, parser, false),
-        "parse_with_header" => tell_behind_header(text, parser),
+        "parse_with_header" => tell_after_header(text, parser),
         "namespaces" => tell_next_record(text, parser, true),
         _ => tell_part_of_sample(text, parser, name),
     }
@@ -345,7 +345,7 @@ fn tell_inside<'p, E: Endian>(
     }
 }
 
-fn tell_inside_behind_header<'p, B: ParseBuf<'p>, E: Endian>(
+fn tell_inside_after_header<'p, B: ParseBuf<'p>, E: Endian>(
     text: &mut String,
     parser: &mut Parser<B, E>,
     words: &str,
@@ -369,7 +369,7 @@ fn tell_part<'p, B: ParseBuf<'p>, E: Endian>(
     let (first, words) = part.split_once(' ').unwrap_or((part, ""));
     match first {
         "parse_metadata" => tell_inside(text, parser.parse_metadata(), words),
-        "parse_metadata_with_header" => tell_inside_behind_header(text, parser, words),
+        "parse_metadata_with_header" => tell_inside_after_header(text, parser, words),
         _ => tell_answers(text, parser, part),
     }
 }

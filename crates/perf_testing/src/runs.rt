@@ -155,7 +155,7 @@ fn tell_runs<'p, B: ParseBuf<'p>, E: Endian>(
 }
 
 // What comes after the attribute at the start of the bytes; or its error.
-fn told_behind<'p, B: ParseBuf<'p> + Drop>(
+fn told_after<'p, B: ParseBuf<'p> + Drop>(
     alloc: Global,
     buf: B,
     limits: &[usize],
@@ -197,13 +197,13 @@ struct Behind<'a> {
 
 impl<'p, B: ParseBuf<'p> + Drop> Says<'p, B> for Behind<'_> {
     fn say(&self, alloc: Global, buf: B) -> Result<String, AllocError> {
-        told_behind(alloc, buf, self.limits)
+        told_after(alloc, buf, self.limits)
     }
 }
 
 /// The attribute at the start of these bytes and the runs after it, over a slice, buffered readers
 /// and pieces.
-pub fn tell_behind(alloc: Global, bytes: &[u8], limits: &[usize]) -> Result<String, AllocError> {
+pub fn tell_after(alloc: Global, bytes: &[u8], limits: &[usize]) -> Result<String, AllocError> {
     say_everywhere(alloc, bytes, &Behind { limits })
 }
 

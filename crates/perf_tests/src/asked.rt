@@ -4,7 +4,7 @@ use crate::bodies::{Body, told_frame};
 use crate::checks::check_answer;
 use crate::orders::{Asking, told_by_order};
 use crate::own_types::{Own, told_own};
-use crate::visits::{Visits, told_visits};
+use crate::visits::{Gives, told_visits};
 use perf_event_data::PieceBuf;
 use perf_event_data::endian::Little;
 use perf_event_data::parse::{ErrorKind, ParseBuf, ParseConfig, ParseResult, Parser};
@@ -22,7 +22,7 @@ pub enum Asked {
     /// What is read in a byte order of a user's own.
     InOrder(Asking),
     /// What a visitor makes of each frame.
-    Visited(Visits),
+    Visited(Gives),
 }
 
 /// What is asked for over these bytes, and the result.
@@ -66,8 +66,8 @@ pub fn check_case(rt: &(impl AllocGlobal + Abort), case: &Case<'_>) {
         }
     }
     for most in [1, 3, 7, 64] {
-        for lasting in [true, false] {
-            check_over(rt, PieceBuf::new(case.bytes, most, lasting), case);
+        for borrowed in [true, false] {
+            check_over(rt, PieceBuf::new(case.bytes, most, borrowed), case);
         }
     }
 }

@@ -31,7 +31,7 @@ fn tell_metadata(text: &mut String, metadata: &RecordMetadata) -> Result<(), All
 }
 
 // Appends the results of the parser of a body.
-fn told_behind<'p, E: Endian>(
+fn told_after<'p, E: Endian>(
     mut text: String,
     mut inner: Parser<ParseBufCursor<'p>, E>,
     body: Body,
@@ -53,5 +53,5 @@ pub fn told_frame<'p, B: ParseBuf<'p>, E: Endian>(
     let (inner, metadata) = parser.parse_metadata()?;
     let mut text = String::new(alloc);
     tell_metadata(&mut text, &metadata)?;
-    told_behind(text, inner, body)
+    told_after(text, inner, body)
 }

@@ -29,7 +29,7 @@ fn tell_conditions<'p, E: Endian>(
     let before = two_if(inner, false)?;
     let found = two_if(inner, true)?;
     let refused = kind_of(one_if(inner, true));
-    let behind = one_if(inner, false)?;
+    let after = one_if(inner, false)?;
     Ok(write!(text, " {before:?} {found:?} {refused:?} {behind:?}")?)
 }
 

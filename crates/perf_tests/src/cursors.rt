@@ -35,7 +35,7 @@ fn tell_both<'p, B: ParseBuf<'p>>(text: &mut String, buf: &mut B) -> ParseResult
 
 // Writes how many bytes a buffer reports, which it shows first, why there is no cursor over three
 // of them, whether it shows any after that, and what a cursor over none gives.
-fn tell_behind<'p, B: ParseBuf<'p>>(
+fn tell_after<'p, B: ParseBuf<'p>>(
     text: &mut String,
     alloc: Global,
     buf: &mut B,
@@ -55,7 +55,7 @@ fn told<'p, B: ParseBuf<'p> + Drop>(alloc: Global, buf: B) -> ParseResult<String
     let mut cursor = ParseBufCursor::new(alloc, &mut buf, 3)?;
     write!(text, "{:?}: ", cursor.as_slice())?;
     tell_both(&mut text, &mut cursor)?;
-    tell_behind(&mut text, alloc, &mut buf)?;
+    tell_after(&mut text, alloc, &mut buf)?;
     Ok(text)
 }
 

@@ -70,7 +70,7 @@ const BOTH: &str =
     "0 13 0 16 LostSamples lost=5\n1 13 0 16 LostSamples lost=5\nend fault External\n";
 
 #[test]
-fn a_fault_ends_the_text_behind_whole_frames(rt: HostRuntime) {
+fn a_fault_ends_the_text_after_whole_frames(rt: HostRuntime) {
     for count in 0..33 {
         let text = match count {
             0..=15 => NOTHING,

@@ -61,7 +61,7 @@ const TWICE: &str =
     "0 13 0 16 LostSamples lost=5; fault External | fault External | 0 13 0 16 LostSamples lost=6; done";
 
 // The text of a run that a fault ends after `before` bytes.
-fn ended_behind(before: usize) -> &'static str {
+fn ended_after(before: usize) -> &'static str {
     match before {
         0..=15 => "fault External",
         16..=31 => "0 13 0 16 LostSamples lost=5; fault External",
@@ -95,15 +95,15 @@ fn check_reader(
 }
 
 #[test]
-fn a_failing_reader_ends_the_run_behind_whole_frames(rt: HostRuntime) -> Result<(), Fail> {
+fn a_failing_reader_ends_the_run_after_whole_frames(rt: HostRuntime) -> Result<(), Fail> {
     for before in 0..33 {
-        check_reader(&rt, before, false, &[10], ended_behind(before))?;
+        check_reader(&rt, before, false, &[10], ended_after(before))?;
     }
     Ok(())
 }
 
 #[test]
-fn a_run_goes_on_behind_a_reader_that_failed_once(rt: HostRuntime) -> Result<(), Fail> {
+fn a_run_goes_on_after_a_reader_that_failed_once(rt: HostRuntime) -> Result<(), Fail> {
     check_reader(&rt, 16, true, &[10, 10], ONCE)
 }
 
@@ -209,7 +209,7 @@ const FAULTS: [((u64, u64), &[usize], &str); 5] = [
 ];
 
 #[test]
-fn a_run_goes_on_behind_counted_faults(rt: HostRuntime) -> Result<(), Fail> {
+fn a_run_goes_on_after_counted_faults(rt: HostRuntime) -> Result<(), Fail> {
     for (faults, limits, want) in FAULTS {
         check_counted(&rt, 16, faults, limits, want)?;
     }
@@ -219,7 +219,7 @@ fn a_run_goes_on_behind_counted_faults(rt: HostRuntime) -> Result<(), Fail> {
 #[test]
 fn a_counted_fault_ends_the_run_wherever_it_comes(rt: HostRuntime) -> Result<(), Fail> {
     for before in 0..33 {
-        check_counted(&rt, before, (1, 0), &[10], ended_behind(before))?;
+        check_counted(&rt, before, (1, 0), &[10], ended_after(before))?;
     }
     Ok(())
 }

@@ -144,10 +144,10 @@ fn entries_from_both_ends(rt: HostRuntime) {
     let mut entries = group.entries();
     let taken = [entries.nth(1), entries.next_back(), entries.nth_back(1)];
     let left = entries.len();
-    let behind = [entries.next(), entries.next_back()];
+    let after = [entries.next(), entries.next_back()];
     check_debug(
         &rt,
-        &(taken, left, behind, count_and_last()),
+        &(taken, left, after, count_and_last()),
         "([Some(GroupEntry { value: 2, id: None, lost: None }), \
             Some(GroupEntry { value: 5, id: None, lost: None }), \
             Some(GroupEntry { value: 3, id: None, lost: None })], 0, [None, None], \
@@ -280,27 +280,27 @@ fn reads_are_cloned(rt: HostRuntime) {
 }
 
 // A clone of a read, converted to a group of one and back.
-fn behind_a_group(alloc: Global) -> ParseResult<Result<ReadValue, TryFromGroupError>> {
+fn after_a_group(alloc: Global) -> ParseResult<Result<ReadValue, TryFromGroupError>> {
     let group = ReadGroup::from_value(alloc, single().clone()?)?;
     Ok(ReadValue::try_from(group))
 }
 
 // A read, converted to a group of one and back, twice.
-fn behind_two_groups(alloc: Global) -> ParseResult<Result<ReadValue, TryFromGroupError>> {
-    match behind_a_group(alloc)? {
+fn after_two_groups(alloc: Global) -> ParseResult<Result<ReadValue, TryFromGroupError>> {
+    match after_a_group(alloc)? {
         Ok(read) => through_a_group(alloc, read),
         Err(error) => Ok(Err(error)),
     }
 }
 
 #[test]
-fn a_read_is_the_same_behind_a_group(rt: HostRuntime) {
+fn a_read_is_the_same_after_a_group(rt: HostRuntime) {
     let alloc = rt.alloc();
     let want = "Ok(Ok(ReadValue { value: 3, time_enabled: Some(4), time_running: Some(5), \
         id: Some(6), lost: Some(7) }))";
-    check_debug(&rt, &behind_a_group(alloc), want);
+    check_debug(&rt, &after_a_group(alloc), want);
     check_debug(&rt, &through_a_group(alloc, single()), want);
-    check_debug(&rt, &behind_two_groups(alloc), want);
+    check_debug(&rt, &after_two_groups(alloc), want);
 }
 
 // The results of a read that is made from the times of one group and the first entry of another.

@@ -32,7 +32,7 @@ struct Hinting<'a, 'p> {
     unread: &'p [u8],
     ready: &'p [u8],
     ahead: usize,
-    lasting: bool,
+    borrowed: bool,
     rule: Rule,
     hint: Option<usize>,
     asked: &'a Cell<usize>,
@@ -42,7 +42,7 @@ impl<'a, 'p> Hinting<'a, 'p> {
     fn new(
         bytes: &'p [u8],
         ahead: usize,
-        lasting: bool,
+        borrowed: bool,
         rule: Rule,
         asked: &'a Cell<usize>,
     ) -> Self {
@@ -54,7 +54,7 @@ impl<'a, 'p> Hinting<'a, 'p> {
             unread: bytes,
             ready: &[],
             ahead,
-            lasting,
+            borrowed,
             rule,
             hint,
             asked,
@@ -92,7 +92,7 @@ impl<'p> ParseBuf<'p> for Hinting<'_, 'p> {
         if self.ready.is_empty() {
             return Err(ParseError::eof());
         }
-        if self.lasting {
+        if self.borrowed {
             Ok(ParseBufChunk::External(self.ready))
         } else {
             Ok(ParseBufChunk::Temporary(self.ready))
@@ -157,9 +157,9 @@ const TYPES: [(u8, &str, &str); 3] = [
 // as the input and with bytes that do not.
 fn check_rule(rt: &(impl AllocGlobal + Abort), bytes: &[u8], ahead: usize, rule: Rule, want: &str) {
     let attr = attribute(SampleFlags::IP.bits(), 0);
-    for lasting in [true, false] {
+    for borrowed in [true, false] {
         let asked = Cell::new(0);
-        let buf = Hinting::new(bytes, ahead, lasting, rule, &asked);
+        let buf = Hinting::new(bytes, ahead, borrowed, rule, &asked);
         check_text(rt, tell_under(rt.alloc(), buf, Little, &attr, &[1]), want);
     }
 }
@@ -226,12 +226,12 @@ const LAST: [(u8, &str); 3] = [
 fn calls_of_chunk(
     alloc: Global,
     bytes: &[u8],
-    lasting: bool,
+    borrowed: bool,
     rule: Rule,
     last: &str,
 ) -> Result<(usize, bool), AllocError> {
     let asked = Cell::new(0);
-    let buf = Hinting::new(bytes, 8192, lasting, rule, &asked);
+    let buf = Hinting::new(bytes, 8192, borrowed, rule, &asked);
     let text = tell_under(
         alloc,
         buf,
@@ -250,8 +250,8 @@ fn a_frame_in_one_chunk_takes_two_calls(rt: HostRuntime) -> Result<(), Fail> {
             push_frame(&mut bytes, ty, 24)?;
         }
         for rule in [Rule::Left, Rule::Around(None, None)] {
-            for lasting in [true, false] {
-                let told = calls_of_chunk(rt.alloc(), &bytes, lasting, rule, last)?;
+            for borrowed in [true, false] {
+                let told = calls_of_chunk(rt.alloc(), &bytes, borrowed, rule, last)?;
                 check_same(
                     &rt,
                     last,

@@ -3,7 +3,7 @@
 ghost use Rattle.std.specs.Prelude.{⊤};
 
 use crate::asked::{Asked, Case, check_cases};
-use crate::visits::Visits;
+use crate::visits::Gives;
 use perf_event_data::{
     Aux, AuxOutputHwId, BpfEvent, CGroup, Comm, CowSlice, Exit, Fork, ITraceStart, KSymbol, Lost,
     LostSamples, Mmap, Mmap2, Namespaces, PartialVisitor, Read, RecordMetadata, Sample,
@@ -30,55 +30,55 @@ impl PartialVisitor for OwnCalls {
         "unimplemented"
     }
 
-    fn visit_mmap(self, _held: Mmap<'_>, _metadata: RecordMetadata) -> Self::Output {
+    fn visit_mmap(self, _content: Mmap<'_>, _metadata: RecordMetadata) -> Self::Output {
         "mmap"
     }
 
-    fn visit_lost(self, _held: Lost, _metadata: RecordMetadata) -> Self::Output {
+    fn visit_lost(self, _content: Lost, _metadata: RecordMetadata) -> Self::Output {
         "lost"
     }
 
-    fn visit_comm(self, _held: Comm<'_>, _metadata: RecordMetadata) -> Self::Output {
+    fn visit_comm(self, _content: Comm<'_>, _metadata: RecordMetadata) -> Self::Output {
         "comm"
     }
 
-    fn visit_exit(self, _held: Exit, _metadata: RecordMetadata) -> Self::Output {
+    fn visit_exit(self, _content: Exit, _metadata: RecordMetadata) -> Self::Output {
         "exit"
     }
 
-    fn visit_throttle(self, _held: Throttle, _metadata: RecordMetadata) -> Self::Output {
+    fn visit_throttle(self, _content: Throttle, _metadata: RecordMetadata) -> Self::Output {
         "throttle"
     }
 
-    fn visit_unthrottle(self, _held: Throttle, _metadata: RecordMetadata) -> Self::Output {
+    fn visit_unthrottle(self, _content: Throttle, _metadata: RecordMetadata) -> Self::Output {
         "unthrottle"
     }
 
-    fn visit_fork(self, _held: Fork, _metadata: RecordMetadata) -> Self::Output {
+    fn visit_fork(self, _content: Fork, _metadata: RecordMetadata) -> Self::Output {
         "fork"
     }
 
-    fn visit_read(self, _held: Read, _metadata: RecordMetadata) -> Self::Output {
+    fn visit_read(self, _content: Read, _metadata: RecordMetadata) -> Self::Output {
         "read"
     }
 
-    fn visit_sample(self, _held: Sample<'_>, _metadata: RecordMetadata) -> Self::Output {
+    fn visit_sample(self, _content: Sample<'_>, _metadata: RecordMetadata) -> Self::Output {
         "sample"
     }
 
-    fn visit_mmap2(self, _held: Mmap2<'_>, _metadata: RecordMetadata) -> Self::Output {
+    fn visit_mmap2(self, _content: Mmap2<'_>, _metadata: RecordMetadata) -> Self::Output {
         "mmap2"
     }
 
-    fn visit_aux(self, _held: Aux, _metadata: RecordMetadata) -> Self::Output {
+    fn visit_aux(self, _content: Aux, _metadata: RecordMetadata) -> Self::Output {
         "aux"
     }
 
-    fn visit_itrace_start(self, _held: ITraceStart, _metadata: RecordMetadata) -> Self::Output {
+    fn visit_itrace_start(self, _content: ITraceStart, _metadata: RecordMetadata) -> Self::Output {
         "itrace_start"
     }
 
-    fn visit_lost_samples(self, _held: LostSamples, _metadata: RecordMetadata) -> Self::Output {
+    fn visit_lost_samples(self, _content: LostSamples, _metadata: RecordMetadata) -> Self::Output {
         "lost_samples"
     }
 
@@ -88,35 +88,35 @@ impl PartialVisitor for OwnCalls {
 
     fn visit_switch_cpu_wide(
         self,
-        _held: SwitchCpuWide,
+        _content: SwitchCpuWide,
         _metadata: RecordMetadata,
     ) -> Self::Output {
         "switch_cpu_wide"
     }
 
-    fn visit_namespaces(self, _held: Namespaces<'_>, _metadata: RecordMetadata) -> Self::Output {
+    fn visit_namespaces(self, _content: Namespaces<'_>, _metadata: RecordMetadata) -> Self::Output {
         "namespaces"
     }
 
-    fn visit_ksymbol(self, _held: KSymbol<'_>, _metadata: RecordMetadata) -> Self::Output {
+    fn visit_ksymbol(self, _content: KSymbol<'_>, _metadata: RecordMetadata) -> Self::Output {
         "ksymbol"
     }
 
-    fn visit_bpf_event(self, _held: BpfEvent, _metadata: RecordMetadata) -> Self::Output {
+    fn visit_bpf_event(self, _content: BpfEvent, _metadata: RecordMetadata) -> Self::Output {
         "bpf_event"
     }
 
-    fn visit_cgroup(self, _held: CGroup<'_>, _metadata: RecordMetadata) -> Self::Output {
+    fn visit_cgroup(self, _content: CGroup<'_>, _metadata: RecordMetadata) -> Self::Output {
         "cgroup"
     }
 
-    fn visit_text_poke(self, _held: TextPoke<'_>, _metadata: RecordMetadata) -> Self::Output {
+    fn visit_text_poke(self, _content: TextPoke<'_>, _metadata: RecordMetadata) -> Self::Output {
         "text_poke"
     }
 
     fn visit_aux_output_hw_id(
         self,
-        _held: AuxOutputHwId,
+        _content: AuxOutputHwId,
         _metadata: RecordMetadata,
     ) -> Self::Output {
         "aux_output_hw_id"
@@ -174,7 +174,7 @@ impl PartialVisitor for Mappings<'_> {
         self.visited("unimplemented", &metadata)
     }
 
-    fn visit_mmap(self, _held: Mmap<'_>, metadata: RecordMetadata) -> Self::Output {
+    fn visit_mmap(self, _content: Mmap<'_>, metadata: RecordMetadata) -> Self::Output {
         self.visited("mmap", &metadata)
     }
 }
@@ -189,25 +189,25 @@ const BY_LONG_BUILD_ID: &[u8] = b"\x0A\0\0\0\0\x40\x50\0\x01\0\0\0\x02\0\0\0\
 const CASES: [Case; 4] = [
     Case {
         name: "MMAP2 goes to its own call for mappings",
-        asked: Asked::Visited(Visits::Mappings),
+        asked: Asked::Visited(Gives::Mappings),
         bytes: BY_BUILD_ID,
         want: "mmap None None 10; Eof, 1",
     },
     Case {
         name: "LOST_SAMPLES goes the default way",
-        asked: Asked::Visited(Visits::Mappings),
+        asked: Asked::Visited(Gives::Mappings),
         bytes: b"\x0D\0\0\0\0\0\x10\0\x05\0\0\0\0\0\0\0",
         want: "unimplemented None None 13; Eof, 1",
     },
     Case {
         name: "SWITCH goes the default way",
-        asked: Asked::Visited(Visits::Mappings),
+        asked: Asked::Visited(Gives::Mappings),
         bytes: b"\x0E\0\0\0\0\0\x08\0",
         want: "unimplemented None None 14; Eof, 1",
     },
     Case {
         name: "a frame that is refused is not visited",
-        asked: Asked::Visited(Visits::Mappings),
+        asked: Asked::Visited(Gives::Mappings),
         bytes: BY_LONG_BUILD_ID,
         want: "InvalidRecord, 0",
     },

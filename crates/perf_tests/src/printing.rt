@@ -157,7 +157,7 @@ struct Printed<'a> {
     name: &'a str,
     report: Report,
     attr: &'a [u8],
-    behind: &'a [u8],
+    after: &'a [u8],
     fault: Option<io::ErrorKind>,
     output: &'a [u8],
     errors: &'a [u8],
@@ -169,7 +169,7 @@ const PRINTED: [Printed; 10] = [
         name: "a record that tells of a task has a line",
         report: Report::Tasks,
         attr: &PLAIN_64,
-        behind: COMM,
+        after: COMM,
         fault: None,
         output: b"comm 1 2 sh\n",
         errors: b"",
@@ -179,7 +179,7 @@ const PRINTED: [Printed; 10] = [
         name: "and none where samples are told",
         report: Report::Samples,
         attr: &PLAIN_64,
-        behind: COMM,
+        after: COMM,
         fault: None,
         output: b"",
         errors: b"",
@@ -189,7 +189,7 @@ const PRINTED: [Printed; 10] = [
         name: "a refused record is told as an error",
         report: Report::Tasks,
         attr: &PLAIN_64,
-        behind: b"\x02\0\0\0\0\0\x07\0\x03\0\0\0\0\0\x18\0\x01\0\0\0\x02\0\0\0sh\0\0\0\0\0\0",
+        after: b"\x02\0\0\0\0\0\x07\0\x03\0\0\0\0\0\x18\0\x01\0\0\0\x02\0\0\0sh\0\0\0\0\0\0",
         fault: None,
         output: b"comm 1 2 sh\n",
         errors: TOO_SMALL,
@@ -199,7 +199,7 @@ const PRINTED: [Printed; 10] = [
         name: "a cut header is an error behind the lines",
         report: Report::Tasks,
         attr: &PLAIN_64,
-        behind: b"\x03\0\0\0\0\0\x18\0\x01\0\0\0\x02\0\0\0sh\0\0\0\0\0\0\x0D\0\0",
+        after: b"\x03\0\0\0\0\0\x18\0\x01\0\0\0\x02\0\0\0sh\0\0\0\0\0\0\x0D\0\0",
         fault: None,
         output: b"comm 1 2 sh\n",
         errors: b"",
@@ -209,7 +209,7 @@ const PRINTED: [Printed; 10] = [
         name: "a failing input is an error behind the lines",
         report: Report::Tasks,
         attr: &PLAIN_64,
-        behind: COMM,
+        after: COMM,
         fault: Some(io::ErrorKind::Other),
         output: b"comm 1 2 sh\n",
         errors: b"",
@@ -219,7 +219,7 @@ const PRINTED: [Printed; 10] = [
         name: "also inside a record",
         report: Report::Tasks,
         attr: &PLAIN_64,
-        behind: b"\x03\0\0\0\0\0\x18\0\x01\0\0\0\x02\0\0\0sh\0\0\0\0\0\0\x03\0\0\0\0\0\x18\0\x01\0\0\0",
+        after: b"\x03\0\0\0\0\0\x18\0\x01\0\0\0\x02\0\0\0sh\0\0\0\0\0\0\x03\0\0\0\0\0\x18\0\x01\0\0\0",
         fault: Some(io::ErrorKind::Other),
         output: b"comm 1 2 sh\n",
         errors: b"",
@@ -229,7 +229,7 @@ const PRINTED: [Printed; 10] = [
         name: "and behind a refused record",
         report: Report::Tasks,
         attr: &PLAIN_64,
-        behind: SMALL,
+        after: SMALL,
         fault: Some(io::ErrorKind::Other),
         output: b"",
         errors: TOO_SMALL,
@@ -239,7 +239,7 @@ const PRINTED: [Printed; 10] = [
         name: "a refused attribute is an error",
         report: Report::Tasks,
         attr: &PLAIN_100,
-        behind: COMM,
+        after: COMM,
         fault: None,
         output: b"",
         errors: b"",
@@ -249,7 +249,7 @@ const PRINTED: [Printed; 10] = [
         name: "an input that ends inside the attribute is an error",
         report: Report::Tasks,
         attr: b"\0\0\0\0\x40\0\0",
-        behind: b"",
+        after: b"",
         fault: None,
         output: b"",
         errors: b"",
@@ -259,7 +259,7 @@ const PRINTED: [Printed; 10] = [
         name: "an input that fails there is another",
         report: Report::Tasks,
         attr: b"\0\0\0\0\x40\0\0",
-        behind: b"",
+        after: b"",
         fault: Some(io::ErrorKind::Other),
         output: b"",
         errors: b"",
@@ -278,7 +278,7 @@ fn ended(alloc: Global, printed: AnyResult<bool>) -> Result<String, AllocError> 
 
 // Asserts what is printed of a recording, however many bytes a read gives.
 fn check_printed(rt: &(impl AllocGlobal + Abort), case: Printed<'_>) -> Result<(), AllocError> {
-    let bytes = joined(rt.alloc(), case.attr, case.behind)?;
+    let bytes = joined(rt.alloc(), case.attr, case.after)?;
     for most in [1, 7, 8192] {
         let log = Cell::new(1);
         let input = Input {
@@ -308,17 +308,17 @@ fn recordings_are_printed(rt: HostRuntime) -> Result<(), AllocError> {
 // A refused record is read with the first 256 frames, and those after them are not refused.
 #[test]
 fn an_early_refusal_is_not_forgotten(rt: HostRuntime) -> Result<(), AllocError> {
-    let mut behind = Vec::from_slice(rt.alloc(), SMALL)?;
+    let mut after = Vec::from_slice(rt.alloc(), SMALL)?;
     let mut output = Vec::new(rt.alloc());
     for _ in 0..600 {
-        behind.extend_from_slice(COMM)?;
+        after.extend_from_slice(COMM)?;
         output.extend_from_slice(b"comm 1 2 sh\n")?;
     }
     let case = Printed {
         name: "an early refusal",
         report: Report::Tasks,
         attr: &PLAIN_64,
-        behind: behind.as_slice(),
+        after: after.as_slice(),
         fault: None,
         output: output.as_slice(),
         errors: TOO_SMALL,

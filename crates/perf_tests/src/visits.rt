@@ -22,7 +22,7 @@ use std::test::Fail;
 
 /// Which visitor is used.
 #[derive(Copy, Clone)]
-pub enum Visits {
+pub enum Gives {
     /// That of the names of calls.
     Names,
     /// The partial one that has every call itself.
@@ -35,19 +35,19 @@ pub enum Visits {
     TimedRecords,
 }
 
-impl Visits {
+impl Gives {
     // An attribute with time and CPU as sample ids, or the default one.
     fn attr(self) -> perf_event_attr {
         match self {
-            Visits::Names | Visits::OwnCalls | Visits::Mappings => perf_event_attr::default(),
-            Visits::TimedMappings | Visits::TimedRecords => {
+            Gives::Names | Gives::OwnCalls | Gives::Mappings => perf_event_attr::default(),
+            Gives::TimedMappings | Gives::TimedRecords => {
                 ids_attribute(SampleFlags::TIME.bits() | SampleFlags::CPU.bits())
             },
         }
     }
 
     fn are_counted(self) -> bool {
-        matches!(self, Visits::Mappings | Visits::TimedMappings)
+        matches!(self, Gives::Mappings | Gives::TimedMappings)
     }
 }
 
@@ -65,55 +65,55 @@ impl<'a> Visitor<'a> for Names {
         "unimplemented"
     }
 
-    fn visit_mmap(self, _held: Mmap<'a>, _metadata: RecordMetadata) -> Self::Output {
+    fn visit_mmap(self, _content: Mmap<'a>, _metadata: RecordMetadata) -> Self::Output {
         "mmap"
     }
 
-    fn visit_lost(self, _held: Lost, _metadata: RecordMetadata) -> Self::Output {
+    fn visit_lost(self, _content: Lost, _metadata: RecordMetadata) -> Self::Output {
         "lost"
     }
 
-    fn visit_comm(self, _held: Comm<'a>, _metadata: RecordMetadata) -> Self::Output {
+    fn visit_comm(self, _content: Comm<'a>, _metadata: RecordMetadata) -> Self::Output {
         "comm"
     }
 
-    fn visit_exit(self, _held: Exit, _metadata: RecordMetadata) -> Self::Output {
+    fn visit_exit(self, _content: Exit, _metadata: RecordMetadata) -> Self::Output {
         "exit"
     }
 
-    fn visit_throttle(self, _held: Throttle, _metadata: RecordMetadata) -> Self::Output {
+    fn visit_throttle(self, _content: Throttle, _metadata: RecordMetadata) -> Self::Output {
         "throttle"
     }
 
-    fn visit_unthrottle(self, _held: Throttle, _metadata: RecordMetadata) -> Self::Output {
+    fn visit_unthrottle(self, _content: Throttle, _metadata: RecordMetadata) -> Self::Output {
         "unthrottle"
     }
 
-    fn visit_fork(self, _held: Fork, _metadata: RecordMetadata) -> Self::Output {
+    fn visit_fork(self, _content: Fork, _metadata: RecordMetadata) -> Self::Output {
         "fork"
     }
 
-    fn visit_read(self, _held: Read, _metadata: RecordMetadata) -> Self::Output {
+    fn visit_read(self, _content: Read, _metadata: RecordMetadata) -> Self::Output {
         "read"
     }
 
-    fn visit_sample(self, _held: Sample<'a>, _metadata: RecordMetadata) -> Self::Output {
+    fn visit_sample(self, _content: Sample<'a>, _metadata: RecordMetadata) -> Self::Output {
         "sample"
     }
 
-    fn visit_mmap2(self, _held: Mmap2<'a>, _metadata: RecordMetadata) -> Self::Output {
+    fn visit_mmap2(self, _content: Mmap2<'a>, _metadata: RecordMetadata) -> Self::Output {
         "mmap2"
     }
 
-    fn visit_aux(self, _held: Aux, _metadata: RecordMetadata) -> Self::Output {
+    fn visit_aux(self, _content: Aux, _metadata: RecordMetadata) -> Self::Output {
         "aux"
     }
 
-    fn visit_itrace_start(self, _held: ITraceStart, _metadata: RecordMetadata) -> Self::Output {
+    fn visit_itrace_start(self, _content: ITraceStart, _metadata: RecordMetadata) -> Self::Output {
         "itrace_start"
     }
 
-    fn visit_lost_samples(self, _held: LostSamples, _metadata: RecordMetadata) -> Self::Output {
+    fn visit_lost_samples(self, _content: LostSamples, _metadata: RecordMetadata) -> Self::Output {
         "lost_samples"
     }
 
@@ -123,35 +123,35 @@ impl<'a> Visitor<'a> for Names {
 
     fn visit_switch_cpu_wide(
         self,
-        _held: SwitchCpuWide,
+        _content: SwitchCpuWide,
         _metadata: RecordMetadata,
     ) -> Self::Output {
         "switch_cpu_wide"
     }
 
-    fn visit_namespaces(self, _held: Namespaces<'a>, _metadata: RecordMetadata) -> Self::Output {
+    fn visit_namespaces(self, _content: Namespaces<'a>, _metadata: RecordMetadata) -> Self::Output {
         "namespaces"
     }
 
-    fn visit_ksymbol(self, _held: KSymbol<'a>, _metadata: RecordMetadata) -> Self::Output {
+    fn visit_ksymbol(self, _content: KSymbol<'a>, _metadata: RecordMetadata) -> Self::Output {
         "ksymbol"
     }
 
-    fn visit_bpf_event(self, _held: BpfEvent, _metadata: RecordMetadata) -> Self::Output {
+    fn visit_bpf_event(self, _content: BpfEvent, _metadata: RecordMetadata) -> Self::Output {
         "bpf_event"
     }
 
-    fn visit_cgroup(self, _held: CGroup<'a>, _metadata: RecordMetadata) -> Self::Output {
+    fn visit_cgroup(self, _content: CGroup<'a>, _metadata: RecordMetadata) -> Self::Output {
         "cgroup"
     }
 
-    fn visit_text_poke(self, _held: TextPoke<'a>, _metadata: RecordMetadata) -> Self::Output {
+    fn visit_text_poke(self, _content: TextPoke<'a>, _metadata: RecordMetadata) -> Self::Output {
         "text_poke"
     }
 
     fn visit_aux_output_hw_id(
         self,
-        _held: AuxOutputHwId,
+        _content: AuxOutputHwId,
         _metadata: RecordMetadata,
     ) -> Self::Output {
         "aux_output_hw_id"
@@ -185,16 +185,16 @@ fn tell_visit<'p, B: ParseBuf<'p>, E: Endian>(
     alloc: Global,
     text: &mut String,
     parser: &mut Parser<B, E>,
-    visitor: Visits,
+    visitor: Gives,
     visits: &Cell<u32>,
 ) -> Result<bool, AllocError> {
     match visitor {
-        Visits::Names => tell_made(text, parser.parse_record(Names)),
-        Visits::OwnCalls => tell_made(text, parser.parse_record(Partial(OwnCalls))),
-        Visits::Mappings | Visits::TimedMappings => {
+        Gives::Names => tell_made(text, parser.parse_record(Names)),
+        Gives::OwnCalls => tell_made(text, parser.parse_record(Partial(OwnCalls))),
+        Gives::Mappings | Gives::TimedMappings => {
             tell_made(text, parser.parse_record(Partial(Mappings { visits })))
         }
-        Visits::TimedRecords => tell_made(text, parser.parse_record(RecordVisitor::new(alloc))),
+        Gives::TimedRecords => tell_made(text, parser.parse_record(RecordVisitor::new(alloc))),
     }
 }
 
@@ -202,7 +202,7 @@ fn tell_visit<'p, B: ParseBuf<'p>, E: Endian>(
 pub fn told_visits<'p, B: ParseBuf<'p> + Drop>(
     alloc: Global,
     buf: B,
-    visitor: Visits,
+    visitor: Gives,
 ) -> Result<String, AllocError> {
     let config = ParseConfig::<Native>::from(visitor.attr()).with_endian(Little);
     let mut parser = Parser::new(alloc, buf, config);
@@ -227,10 +227,7 @@ const CALLS: &str = "mmap; lost; comm; exit; throttle; unthrottle; \
 #[test]
 fn each_type_has_its_call(rt: HostRuntime) -> Result<(), Fail> {
     let bytes = zero_frames(rt.alloc())?;
-    for (name, visitor) in [
-        ("a visitor", Visits::Names),
-        ("own calls", Visits::OwnCalls),
-    ] {
+    for (name, visitor) in [("a visitor", Gives::Names), ("own calls", Gives::OwnCalls)] {
         let case = Case {
             name,
             asked: Asked::Visited(visitor),
@@ -252,14 +249,14 @@ const TIMED: &[u8] = b"\x0D\0\0\0\0\0\x20\0\x05\0\0\0\0\0\0\0\
 const CASES: [Case; 2] = [
     Case {
         name: "a timeline is made of sample ids",
-        asked: Asked::Visited(Visits::TimedMappings),
+        asked: Asked::Visited(Gives::TimedMappings),
         bytes: TIMED,
         want: "unimplemented Some(7) Some(3) 13; unimplemented Some(8) Some(2) 14; \
             unimplemented Some(9) Some(1) 3; Eof, 3",
     },
     Case {
         name: "the visitor of records makes them",
-        asked: Asked::Visited(Visits::TimedRecords),
+        asked: Asked::Visited(Gives::TimedRecords),
         bytes: TIMED,
         want: "LostSamples lost=5; Switch; Comm pid=1 tid=2 comm=61; Eof",
     },

@@ -296,8 +296,8 @@ fn an_iterator_leaves_a_header_that_is_cut(rt: HostRuntime) {
     let mut cut = frames(&FIVE_LOST[..12], Little);
     check_same(&rt, "the frames", cut.next().is_some(), true);
     check_same(&rt, "what is left", cut.left().len(), 0);
-    let mut behind = frames(&TWO[..20], Little);
-    check_same(&rt, "the frames", behind.next().is_some(), true);
-    check_same(&rt, "the end", behind.next().is_none(), true);
-    check_same(&rt, "what is left", behind.left().len(), 4);
+    let mut after = frames(&TWO[..20], Little);
+    check_same(&rt, "the frames", after.next().is_some(), true);
+    check_same(&rt, "the end", after.next().is_none(), true);
+    check_same(&rt, "what is left", after.left().len(), 4);
 }

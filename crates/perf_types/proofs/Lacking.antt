@@ -14,7 +14,7 @@ use Rattle.perf_base.proofs.Took.{took_no}
 use Rattle.perf_buffers.specs.Buffer.{Source}
 use Rattle.perf_buffers.specs.Room.{falls_short}
 use Rattle.perf_reader.specs.Calls.{Call}
-use Rattle.perf_reader.specs.Meaning.{Meaning}
+use Rattle.perf_reader.specs.ReaderState.{ReaderState}
 use Rattle.perf_reader.specs.Reading.{ReadsOne, Keeps}
 use Rattle.perf_reader.specs.declared.reader.Reader.{Reader}
 use Rattle.perf_reader.proofs.InRow.{InRow}
@@ -28,15 +28,15 @@ within_items numbers count k i item number =
     omega (arith, next, same, turned, number)
 
 -- an input that does not report fewer bytes does not fall short of them
-pub not_short : {P : Type 0} (hint : Option ℕ) (n m : ℕ) (seen : Option Bool) → seen ≡ option_map (nat_le n) hint → false ≡ option_eq beq seen (Some false) → m ≡ n →
+pub not_short : {P : Type 0} (hint : Option ℕ) (n m : ℕ) (outcome : Option Bool) → outcome ≡ option_map (nat_le n) hint → false ≡ option_eq beq outcome (Some false) → m ≡ n →
     falls_short hint m ≡ true → P
-not_short None n m seen is fits same short = absurd (false≢true short)
-not_short (Some left) n m seen is fits same short = elim (leb_tells n left) [
+not_short None n m outcome is fits same short = absurd (false≢true short)
+not_short (Some left) n m outcome is fits same short = elim (leb_tells n left) [
   | inl fits_all ↦ absurd (omega (arith, ltb-true left m short, fits_all.1, same))
   | inr fewer ↦ absurd (false≢true (fits ∙ ap (λ (s : Option Bool). option_eq beq s (Some false)) (is ∙ ap Some fewer.0)))
 ]
 
-lacking : (start m : Meaning) → Keeps start None m → Keeps start (Some Eof) m
+lacking : (start m : ReaderState) → Keeps start None m → Keeps start (Some Eof) m
 lacking start m h = record {
   buffer = (h.buffer.0, h.buffer.1, h.buffer.2, h.buffer.3);
   fault = λ x. cc;

@@ -7,29 +7,29 @@ use Rattle.perf_base.specs.Order.{Order}
 use Rattle.perf_base.specs.Refusals.{TakesNoMemory}
 use Rattle.perf_base.specs.declared.error.ErrorKind.{ErrorKind}
 use Rattle.perf_buffers.specs.Buffer.{Source}
-use Rattle.perf_reader.proofs.Behind.{call_behind, call_stops}
+use Rattle.perf_reader.proofs.After.{call_after, call_stops}
 use Rattle.perf_reader.specs.Calls.{Call}
-use Rattle.perf_reader.specs.Reading.{Reads, ReadsLent}
+use Rattle.perf_reader.specs.Reading.{Reads, ReadsInPlace}
 use Rattle.perf_reader.specs.declared.reader.Reader.{Reader}
-use Rattle.perf_types.specs.Mmap2.{mmap2, mmap2_value, IsBorrowedMmap2, place, behind_place}
-use Rattle.perf_types.specs.Mmap2.{behind_detail}
+use Rattle.perf_types.specs.Mmap2.{mmap2, mmap2_value, IsBorrowedMmap2, place, after_place}
+use Rattle.perf_types.specs.Mmap2.{after_detail}
 use Rattle.perf_types.specs.MmapDetail.{mmap_detail, detail_value}
 use Rattle.perf_types.specs.declared.mmap2.Mmap2.{Mmap2}
 use Rattle.perf_types.specs.declared.mmap2.MmapDetail.{MmapDetail}
 use Rattle.perf_types.specs.declared.mmap2.Place.{Place}
 
-groups_are_it : (c : Configuration) → (place >>= λ p. behind_place p c) ≡ mmap2 c
+groups_are_it : (c : Configuration) → (place >>= λ p. after_place p c) ≡ mmap2 c
 groups_are_it c = refl
 
 module _ {I E : Type 0} {source : I → Source} {order : E → Order} where
   -- the second group was read after the first
-  pub places_read : {a b c : Reader I E} {p : Place} {seen : Result Mmap2 ErrorKind} →
+  pub places_read : {a b c : Reader I E} {p : Place} {outcome : Result Mmap2 ErrorKind} →
       Call source order (Reads (λ _. place) (λ p. p)) a (Ok p) b →
-      Call source order (ReadsLent (behind_place p) mmap2_value IsBorrowedMmap2) b seen c →
-      Call source order (ReadsLent mmap2 mmap2_value IsBorrowedMmap2) a seen c
-  places_read {a} {b} {c} {p} {seen} first next =
-      let all : Call source order (Reads mmap2 mmap2_value) a seen c =
-      call_behind (λ _. place) (λ s p. behind_place p s) first (record {
+      Call source order (ReadsInPlace (after_place p) mmap2_value IsBorrowedMmap2) b outcome c →
+      Call source order (ReadsInPlace mmap2 mmap2_value IsBorrowedMmap2) a outcome c
+  places_read {a} {b} {c} {p} {outcome} first next =
+      let all : Call source order (Reads mmap2 mmap2_value) a outcome c =
+      call_after (λ _. place) (λ s p. after_place p s) first (record {
         config = next.config;
         whole = next.whole;
         told = next.told;
@@ -51,10 +51,10 @@ module _ {I E : Type 0} {source : I → Source} {order : E → Order} where
   pub place_stops : {a b : Reader I E} {e : ErrorKind} →
       TakesNoMemory {A = Place} (Err e) →
       Call source order (Reads (λ _. place) (λ p. p)) a (Err e) b →
-      Call source order (ReadsLent mmap2 mmap2_value IsBorrowedMmap2) a (Err e) b
+      Call source order (ReadsInPlace mmap2 mmap2_value IsBorrowedMmap2) a (Err e) b
   place_stops {a} {b} {e} memory first =
       let all : Call source order (Reads mmap2 mmap2_value) a (Err e) b =
-      call_stops (λ _. place) (λ s p. behind_place p s) first in record {
+      call_stops (λ _. place) (λ s p. after_place p s) first in record {
         config = all.config;
         whole = all.whole;
         told = all.told;
@@ -63,13 +63,13 @@ module _ {I E : Type 0} {source : I → Source} {order : E → Order} where
       }
 
   -- the path was read after the detail
-  pub detail_read : (p : Place) {a b c : Reader I E} {d : MmapDetail} {seen : Result Mmap2 ErrorKind} →
+  pub detail_read : (p : Place) {a b c : Reader I E} {d : MmapDetail} {outcome : Result Mmap2 ErrorKind} →
       Call source order (Reads mmap_detail detail_value) a (Ok d) b →
-      Call source order (ReadsLent (λ _. behind_detail p (detail_value d)) mmap2_value IsBorrowedMmap2) b seen c →
-      Call source order (ReadsLent (behind_place p) mmap2_value IsBorrowedMmap2) a seen c
-  detail_read p {a} {b} {c} {d} {seen} first next =
-      let all : Call source order (Reads (behind_place p) mmap2_value) a seen c =
-      call_behind mmap_detail (λ s v. behind_detail p v) first (record {
+      Call source order (ReadsInPlace (λ _. after_detail p (detail_value d)) mmap2_value IsBorrowedMmap2) b outcome c →
+      Call source order (ReadsInPlace (after_place p) mmap2_value IsBorrowedMmap2) a outcome c
+  detail_read p {a} {b} {c} {d} {outcome} first next =
+      let all : Call source order (Reads (after_place p) mmap2_value) a outcome c =
+      call_after mmap_detail (λ s v. after_detail p v) first (record {
         config = next.config;
         whole = next.whole;
         told = next.told;
@@ -91,10 +91,10 @@ module _ {I E : Type 0} {source : I → Source} {order : E → Order} where
   pub detail_stops : (p : Place) {a b : Reader I E} {e : ErrorKind} →
       TakesNoMemory {A = MmapDetail} (Err e) →
       Call source order (Reads mmap_detail detail_value) a (Err e) b →
-      Call source order (ReadsLent (behind_place p) mmap2_value IsBorrowedMmap2) a (Err e) b
+      Call source order (ReadsInPlace (after_place p) mmap2_value IsBorrowedMmap2) a (Err e) b
   detail_stops p {a} {b} {e} memory first =
-      let all : Call source order (Reads (behind_place p) mmap2_value) a (Err e) b =
-      call_stops mmap_detail (λ s v. behind_detail p v) first in record {
+      let all : Call source order (Reads (after_place p) mmap2_value) a (Err e) b =
+      call_stops mmap_detail (λ s v. after_detail p v) first in record {
         config = all.config;
         whole = all.whole;
         told = all.told;

@@ -157,23 +157,23 @@ mmap_of_16_bytes = refl
 abbrev in_front : List ℕ
 in_front = four 1 0 ++ four 2 0 ++ eight 0 16 ++ eight 0 32 ++ eight 0 0
 
-abbrev behind : List ℕ
-behind = four 5 0 ++ four 2 0 ++ 0x61 ∷ 0x62 ∷ 0 ∷ 0 ∷ 0 ∷ 0 ∷ 0 ∷ 0 ∷ []
+abbrev after : List ℕ
+after = four 5 0 ++ four 2 0 ++ 0x61 ∷ 0x62 ∷ 0 ∷ 0 ∷ 0 ∷ 0 ∷ 0 ∷ 0 ∷ []
 
 -- twenty bytes, 1 to 20
 abbrev twenty : List ℕ
 twenty = 1 ∷ 2 ∷ 3 ∷ 4 ∷ 5 ∷ 6 ∷ 7 ∷ 8 ∷ 9 ∷ 10 ∷ 11 ∷ 12 ∷ 13 ∷ 14 ∷ 15 ∷ 16 ∷ 17 ∷ 18 ∷ 19 ∷ 20 ∷ []
 
-mmap2_with_an_inode : layout little (mmap2 plain) (in_front ++ four 8 0 ++ four 1 0 ++ eight 99 0 ++ eight 3 0 ++ behind) ≡
+mmap2_with_an_inode : layout little (mmap2 plain) (in_front ++ four 8 0 ++ four 1 0 ++ eight 99 0 ++ eight 3 0 ++ after) ≡
     Ok (record { pid = 1; tid = 2; addr = 4096; len = 8192; pgoff = 0; detail = inode_is 8 1 99 3; prot = 5; flags = 2; filename = 0x61 ∷ 0x62 ∷ [] })
 mmap2_with_an_inode = refl
 
-mmap2_with_a_build_id : layout little (mmap2 (under_misc 0x4000)) (in_front ++ 20 ∷ 0 ∷ 0 ∷ 0 ∷ twenty ++ behind) ≡
+mmap2_with_a_build_id : layout little (mmap2 (under_misc 0x4000)) (in_front ++ 20 ∷ 0 ∷ 0 ∷ 0 ∷ twenty ++ after) ≡
     Ok (record { pid = 1; tid = 2; addr = 4096; len = 8192; pgoff = 0; detail = build_id_is twenty; prot = 5; flags = 2; filename = 0x61 ∷ 0x62 ∷ [] })
 mmap2_with_a_build_id = refl
 
 -- the three bytes after the length have no meaning, nor have those after the build id
-mmap2_with_a_build_id_of_two_bytes : layout little (mmap2 (under_misc 0x4000)) (in_front ++ 2 ∷ 7 ∷ 8 ∷ 9 ∷ twenty ++ behind) ≡
+mmap2_with_a_build_id_of_two_bytes : layout little (mmap2 (under_misc 0x4000)) (in_front ++ 2 ∷ 7 ∷ 8 ∷ 9 ∷ twenty ++ after) ≡
     Ok (record { pid = 1; tid = 2; addr = 4096; len = 8192; pgoff = 0; detail = build_id_is (1 ∷ 2 ∷ []); prot = 5; flags = 2; filename = 0x61 ∷ 0x62 ∷ [] })
 mmap2_with_a_build_id_of_two_bytes = refl
 

@@ -25,4 +25,4 @@ pub mod Text
 pub mod TextPoke
 pub mod Pair
 pub mod Throttle
-pub mod Words
+pub mod Prelude

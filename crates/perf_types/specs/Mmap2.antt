@@ -92,8 +92,8 @@ place = do
   done (record { pid = pid; tid = tid; addr = addr; len = len; pgoff = pgoff })
 
 -- what follows the detail
-abbrev pub behind_detail : Place → DetailValue → Parts Mmap2Value
-behind_detail p detail = do
+abbrev pub after_detail : Place → DetailValue → Parts Mmap2Value
+after_detail p detail = do
   prot ← u32
   flags ← u32
   filename ← name
@@ -110,7 +110,7 @@ behind_detail p detail = do
   })
 
 -- what follows the place
-abbrev pub behind_place : Place → Configuration → Parts Mmap2Value
-behind_place p c = do
+abbrev pub after_place : Place → Configuration → Parts Mmap2Value
+after_place p c = do
   detail ← mmap_detail c
-  behind_detail p detail
+  after_detail p detail

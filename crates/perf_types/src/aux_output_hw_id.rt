@@ -1,13 +1,13 @@
 //! AUX_OUTPUT_HW_ID.
 #![tactic(auto, using(perf_reader::proofs::Paying::chain))]
 
-ghost use Rattle.perf_reader.specs.Words.{ReadsPlain};
+ghost use Rattle.perf_reader.specs.Prelude.{ReadsPlain};
 ghost use Rattle.perf_types.specs.AuxOutputHwId.{aux_output_hw_id};
 
 use perf_base::endian::Endian;
 use perf_base::refusal::ReadResult;
 use perf_buffers::input::Input;
-use perf_reader::read::{Meant, ReadFrom};
+use perf_reader::read::{HasTransition, ReadFrom};
 use perf_reader::reader::Reader;
 
 /// The hardware's id of an event whose output goes to the AUX buffer
@@ -18,8 +18,8 @@ pub struct AuxOutputHwId {
     pub hw_id: u64,
 }
 
-impl Meant for AuxOutputHwId {
-    ghost says = { ReadsPlain (λ _. aux_output_hw_id) (λ r. r) };
+impl HasTransition for AuxOutputHwId {
+    ghost transition = { ReadsPlain (λ _. aux_output_hw_id) (λ r. r) };
 }
 
 impl<'p, I: Input<'p>> ReadFrom<'p, I> for AuxOutputHwId {

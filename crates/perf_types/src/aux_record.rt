@@ -1,13 +1,13 @@
 //! AUX.
 #![tactic(auto, using(perf_reader::proofs::Paying::chain))]
 
-ghost use Rattle.perf_reader.specs.Words.{ReadsPlain};
+ghost use Rattle.perf_reader.specs.Prelude.{ReadsPlain};
 ghost use Rattle.perf_types.specs.Aux.{aux, aux_value};
 
 use perf_base::endian::Endian;
 use perf_base::refusal::ReadResult;
 use perf_buffers::input::Input;
-use perf_reader::read::{Meant, ReadFrom};
+use perf_reader::read::{HasTransition, ReadFrom};
 use perf_reader::reader::Reader;
 use perf_words::flags::AuxFlags;
 
@@ -22,8 +22,8 @@ pub struct Aux {
     pub flags: AuxFlags,
 }
 
-impl Meant for Aux {
-    ghost says = { ReadsPlain (λ _. aux) aux_value };
+impl HasTransition for Aux {
+    ghost transition = { ReadsPlain (λ _. aux) aux_value };
 }
 
 impl<'p, I: Input<'p>> ReadFrom<'p, I> for Aux {

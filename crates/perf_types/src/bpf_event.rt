@@ -1,13 +1,13 @@
 //! BPF_EVENT.
 #![tactic(auto, using(perf_reader::proofs::Paying::chain))]
 
-ghost use Rattle.perf_reader.specs.Words.{ReadsPlain};
+ghost use Rattle.perf_reader.specs.Prelude.{ReadsPlain};
 ghost use Rattle.perf_types.specs.BpfEvent.{bpf_event, bpf_event_value};
 
 use perf_base::endian::Endian;
 use perf_base::refusal::ReadResult;
 use perf_buffers::input::Input;
-use perf_reader::read::{Meant, ReadFrom};
+use perf_reader::read::{HasTransition, ReadFrom};
 use perf_reader::reader::Reader;
 use perf_words::named::BpfEventType;
 
@@ -24,8 +24,8 @@ pub struct BpfEvent {
     pub tag: [u8; 8],
 }
 
-impl Meant for BpfEvent {
-    ghost says = { ReadsPlain (λ _. bpf_event) bpf_event_value };
+impl HasTransition for BpfEvent {
+    ghost transition = { ReadsPlain (λ _. bpf_event) bpf_event_value };
 }
 
 impl<'p, I: Input<'p>> ReadFrom<'p, I> for BpfEvent {

@@ -3,7 +3,7 @@
 
 ghost use Rattle.std.specs.Prelude.{◌≡◌, option_map};
 ghost use Rattle.perf_types.specs.CGroup.{cgroup, cgroup_value, IsBorrowedCGroup, cgroup_form};
-ghost use Rattle.perf_types.specs.Words.{ReadsLent, cow_items, text_of, IsClone, IsOwnedCopy};
+ghost use Rattle.perf_types.specs.Prelude.{ReadsInPlace, cow_items, text_of, IsClone, IsOwnedCopy};
 
 use crate::text::text;
 use perf_base::cow::CowSlice;
@@ -11,7 +11,7 @@ use perf_base::endian::Endian;
 use perf_base::error::ParseResult;
 use perf_base::refusal::ReadResult;
 use perf_buffers::input::Input;
-use perf_reader::read::{Meant, ReadFrom};
+use perf_reader::read::{HasTransition, ReadFrom};
 use perf_reader::reader::Reader;
 use std::alloc::Global;
 
@@ -56,8 +56,8 @@ impl<'a> CGroup<'a> {
     }
 }
 
-impl Meant for CGroup<'_> {
-    ghost says = { ReadsLent (λ _. cgroup) cgroup_value IsBorrowedCGroup };
+impl HasTransition for CGroup<'_> {
+    ghost transition = { ReadsInPlace (λ _. cgroup) cgroup_value IsBorrowedCGroup };
 }
 
 impl<'p, I: Input<'p>> ReadFrom<'p, I> for CGroup<'p> {

@@ -3,7 +3,7 @@
 
 ghost use Rattle.std.specs.Prelude.{◌≡◌, option_map};
 ghost use Rattle.perf_types.specs.Comm.{comm, comm_value, IsBorrowedComm, comm_form};
-ghost use Rattle.perf_types.specs.Words.{ReadsLent, cow_items, text_of, IsClone, IsOwnedCopy};
+ghost use Rattle.perf_types.specs.Prelude.{ReadsInPlace, cow_items, text_of, IsClone, IsOwnedCopy};
 
 use crate::pair::read_pair;
 use crate::text::text;
@@ -12,7 +12,7 @@ use perf_base::endian::Endian;
 use perf_base::error::ParseResult;
 use perf_base::refusal::ReadResult;
 use perf_buffers::input::Input;
-use perf_reader::read::{Meant, ReadFrom};
+use perf_reader::read::{HasTransition, ReadFrom};
 use perf_reader::reader::Reader;
 use std::alloc::Global;
 
@@ -61,8 +61,8 @@ impl<'a> Comm<'a> {
     }
 }
 
-impl Meant for Comm<'_> {
-    ghost says = { ReadsLent (λ _. comm) comm_value IsBorrowedComm };
+impl HasTransition for Comm<'_> {
+    ghost transition = { ReadsInPlace (λ _. comm) comm_value IsBorrowedComm };
 }
 
 impl<'p, I: Input<'p>> ReadFrom<'p, I> for Comm<'p> {

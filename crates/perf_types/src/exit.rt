@@ -3,14 +3,14 @@
 
 ghost use Rattle.std.specs.Prelude.{◌≡◌};
 ghost use Rattle.perf_base.specs.Layout.{value};
-ghost use Rattle.perf_reader.specs.Words.{ReadsPlain};
+ghost use Rattle.perf_reader.specs.Prelude.{ReadsPlain};
 ghost use Rattle.perf_types.specs.Exit.{exit};
 
 use crate::pair::pair_in;
 use perf_base::endian::Endian;
 use perf_base::refusal::ReadResult;
 use perf_buffers::input::Input;
-use perf_reader::read::{Meant, ReadFrom};
+use perf_reader::read::{HasTransition, ReadFrom};
 use perf_reader::reader::Reader;
 
 /// A task ended (`PERF_RECORD_EXIT`), or was created (`PERF_RECORD_FORK`), as perf_event_open(2)
@@ -32,8 +32,8 @@ pub struct Exit {
 /// A task was created by `fork(2)` or `clone(2)`: the same fields as an [`Exit`].
 pub type Fork = Exit;
 
-impl Meant for Exit {
-    ghost says = { ReadsPlain (λ _. exit) (λ r. r) };
+impl HasTransition for Exit {
+    ghost transition = { ReadsPlain (λ _. exit) (λ r. r) };
 }
 
 // The size of the fields in bytes, and how many numbers they are.

@@ -32,12 +32,12 @@ impl GroupEntry {
         requires { length block.now ≡ block_len with_id with_lost }
         ensures { result ≡ entry_of with_id with_lost block.now }
     {
-        let behind_id = if with_id { 2 } else { 1 };
+        let after_id = if with_id { 2 } else { 1 };
         GroupEntry {
             value: block[0],
             id: if with_id { Some(block[1]) } else { None },
             lost: if with_lost {
-                Some(block[behind_id])
+                Some(block[after_id])
             } else {
                 None
             },

@@ -77,8 +77,8 @@ impl<'a> Iterator for GroupIter<'a> {
         if self.left == 0 {
             return None;
         }
-        let (block, behind) = self.words.split_at(block_len(self.with_id, self.with_lost));
-        self.words = behind;
+        let (block, after) = self.words.split_at(block_len(self.with_id, self.with_lost));
+        self.words = after;
         self.left -= 1;
         Some(GroupEntry::of_block(block, self.with_id, self.with_lost))
     }

@@ -5,7 +5,7 @@ ghost use Rattle.std.specs.Prelude.{◌≡◌, IfOk, IfErr, Some, option_map};
 ghost use Rattle.perf_types.specs.EntryCalls.{answer_of, left_by, answers_of, left_by_all};
 ghost use Rattle.perf_types.specs.GroupIter.{entries_left};
 ghost use Rattle.perf_types.specs.ReadValue.{single_read};
-ghost use Rattle.perf_types.specs.Words.{kind_of, result_ok};
+ghost use Rattle.perf_types.specs.Prelude.{kind_of, result_ok};
 
 use crate::group_entry::GroupEntry;
 use crate::group_iter::GroupIter;

@@ -1,13 +1,13 @@
 //! ITRACE_START.
 #![tactic(auto, using(perf_reader::proofs::Paying::chain))]
 
-ghost use Rattle.perf_reader.specs.Words.{ReadsPlain};
+ghost use Rattle.perf_reader.specs.Prelude.{ReadsPlain};
 ghost use Rattle.perf_types.specs.ITraceStart.{itrace_start};
 
 use perf_base::endian::Endian;
 use perf_base::refusal::ReadResult;
 use perf_buffers::input::Input;
-use perf_reader::read::{Meant, ReadFrom};
+use perf_reader::read::{HasTransition, ReadFrom};
 use perf_reader::reader::Reader;
 
 /// An instruction trace began (`PERF_RECORD_ITRACE_START`).
@@ -19,8 +19,8 @@ pub struct ITraceStart {
     pub tid: u32,
 }
 
-impl Meant for ITraceStart {
-    ghost says = { ReadsPlain (λ _. itrace_start) (λ r. r) };
+impl HasTransition for ITraceStart {
+    ghost transition = { ReadsPlain (λ _. itrace_start) (λ r. r) };
 }
 
 impl<'p, I: Input<'p>> ReadFrom<'p, I> for ITraceStart {

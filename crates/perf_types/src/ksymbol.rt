@@ -1,7 +1,7 @@
 //! KSYMBOL.
 #![tactic(auto, using(perf_reader::proofs::Paying::chain))]
 
-ghost use Rattle.perf_reader.specs.Words.{ReadsLent};
+ghost use Rattle.perf_reader.specs.Prelude.{ReadsInPlace};
 ghost use Rattle.perf_types.specs.KSymbol.{ksymbol, ksymbol_value, IsBorrowedKSymbol, ksymbol_form};
 ghost use Rattle.perf_base.specs.Copies.{IsClone, IsOwnedCopy};
 
@@ -10,7 +10,7 @@ use perf_base::endian::Endian;
 use perf_base::error::ParseResult;
 use perf_base::refusal::ReadResult;
 use perf_buffers::input::Input;
-use perf_reader::read::{Meant, ReadFrom};
+use perf_reader::read::{HasTransition, ReadFrom};
 use perf_reader::reader::Reader;
 use perf_words::flags::KSymbolFlags;
 use perf_words::named::KSymbolType;
@@ -68,8 +68,8 @@ impl<'a> KSymbol<'a> {
     }
 }
 
-impl Meant for KSymbol<'_> {
-    ghost says = { ReadsLent (λ _. ksymbol) ksymbol_value IsBorrowedKSymbol };
+impl HasTransition for KSymbol<'_> {
+    ghost transition = { ReadsInPlace (λ _. ksymbol) ksymbol_value IsBorrowedKSymbol };
 }
 
 impl<'p, I: Input<'p>> ReadFrom<'p, I> for KSymbol<'p> {

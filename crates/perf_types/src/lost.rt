@@ -1,13 +1,13 @@
 //! LOST.
 #![tactic(auto, using(perf_reader::proofs::Paying::chain))]
 
-ghost use Rattle.perf_reader.specs.Words.{ReadsPlain};
+ghost use Rattle.perf_reader.specs.Prelude.{ReadsPlain};
 ghost use Rattle.perf_types.specs.Lost.{lost};
 
 use perf_base::endian::Endian;
 use perf_base::refusal::ReadResult;
 use perf_buffers::input::Input;
-use perf_reader::read::{Meant, ReadFrom};
+use perf_reader::read::{HasTransition, ReadFrom};
 use perf_reader::reader::Reader;
 
 /// Events were lost, because the ring buffer was full (`PERF_RECORD_LOST`).
@@ -19,8 +19,8 @@ pub struct Lost {
     pub lost: u64,
 }
 
-impl Meant for Lost {
-    ghost says = { ReadsPlain (λ _. lost) (λ r. r) };
+impl HasTransition for Lost {
+    ghost transition = { ReadsPlain (λ _. lost) (λ r. r) };
 }
 
 impl<'p, I: Input<'p>> ReadFrom<'p, I> for Lost {

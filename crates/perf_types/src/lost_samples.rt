@@ -1,13 +1,13 @@
 //! LOST_SAMPLES.
 #![tactic(auto, using(perf_reader::proofs::Paying::chain))]
 
-ghost use Rattle.perf_reader.specs.Words.{ReadsPlain};
+ghost use Rattle.perf_reader.specs.Prelude.{ReadsPlain};
 ghost use Rattle.perf_types.specs.LostSamples.{lost_samples};
 
 use perf_base::endian::Endian;
 use perf_base::refusal::ReadResult;
 use perf_buffers::input::Input;
-use perf_reader::read::{Meant, ReadFrom};
+use perf_reader::read::{HasTransition, ReadFrom};
 use perf_reader::reader::Reader;
 
 /// Hardware samples were lost (`PERF_RECORD_LOST_SAMPLES`).
@@ -17,8 +17,8 @@ pub struct LostSamples {
     pub lost: u64,
 }
 
-impl Meant for LostSamples {
-    ghost says = { ReadsPlain (λ _. lost_samples) (λ r. r) };
+impl HasTransition for LostSamples {
+    ghost transition = { ReadsPlain (λ _. lost_samples) (λ r. r) };
 }
 
 impl<'p, I: Input<'p>> ReadFrom<'p, I> for LostSamples {

@@ -3,7 +3,7 @@
 
 ghost use Rattle.std.specs.Prelude.{◌≡◌, option_map};
 ghost use Rattle.perf_types.specs.Mmap.{mmap, mmap_value, IsBorrowedMmap, mmap_form};
-ghost use Rattle.perf_types.specs.Words.{ReadsLent, cow_items, text_of, IsClone, IsOwnedCopy};
+ghost use Rattle.perf_types.specs.Prelude.{ReadsInPlace, cow_items, text_of, IsClone, IsOwnedCopy};
 
 use crate::mmap2::Place;
 use crate::text::text;
@@ -12,7 +12,7 @@ use perf_base::endian::Endian;
 use perf_base::error::ParseResult;
 use perf_base::refusal::ReadResult;
 use perf_buffers::input::Input;
-use perf_reader::read::{Meant, ReadFrom};
+use perf_reader::read::{HasTransition, ReadFrom};
 use perf_reader::reader::Reader;
 use std::alloc::Global;
 
@@ -82,8 +82,8 @@ impl<'a> Mmap<'a> {
     }
 }
 
-impl Meant for Mmap<'_> {
-    ghost says = { ReadsLent (λ _. mmap) mmap_value IsBorrowedMmap };
+impl HasTransition for Mmap<'_> {
+    ghost transition = { ReadsInPlace (λ _. mmap) mmap_value IsBorrowedMmap };
 }
 
 impl<'p, I: Input<'p>> ReadFrom<'p, I> for Mmap<'p> {

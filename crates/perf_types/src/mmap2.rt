@@ -5,8 +5,8 @@ ghost use Rattle.std.specs.Prelude.{◌≡◌, IsTrue, IfOk, option_map};
 ghost use Rattle.perf_base.specs.Layout.{value};
 ghost use Rattle.perf_base.specs.Misc.{build_id_bit};
 ghost use Rattle.perf_types.specs.MmapDetail as file;
-ghost use Rattle.perf_types.specs.Words.{Call, Reads, ReadsPlain, ReadsLent, TakesNoMemory, kinds};
-ghost use Rattle.perf_types.specs.Words.{cow_items, is_borrowed, text_of, has_bit};
+ghost use Rattle.perf_types.specs.Prelude.{Call, Reads, ReadsPlain, ReadsInPlace, TakesNoMemory, kinds};
+ghost use Rattle.perf_types.specs.Prelude.{cow_items, is_borrowed, text_of, has_bit};
 
 use crate::hex::Hex;
 use crate::mmap::Mmap;
@@ -18,7 +18,7 @@ use perf_base::error::ParseResult;
 use perf_base::refusal::{ReadResult, Refusal};
 use perf_base::sys::PERF_RECORD_MISC_MMAP_BUILD_ID;
 use perf_buffers::input::Input;
-use perf_reader::read::{Meant, ReadFrom};
+use perf_reader::read::{HasTransition, ReadFrom};
 use perf_reader::reader::Reader;
 use std::alloc::Global;
 use std::fmt;
@@ -102,7 +102,7 @@ impl fmt::Debug for MmapDetail {
 impl<'a> Mmap2<'a> {
     ghost use Rattle.perf_types.specs.Mmap.{mmap_value, mmap_form};
     ghost use Rattle.perf_types.specs.Mmap2.{mmap2_value, mmap2_form, mapping_of};
-    ghost use Rattle.perf_types.specs.Words.{KeepsForm, IsClone, IsOwnedCopy};
+    ghost use Rattle.perf_types.specs.Prelude.{KeepsForm, IsClone, IsOwnedCopy};
 
     /// The record of these fields, including the bytes after a build id.
     pub fn from_parts(
@@ -398,8 +398,8 @@ fn read_detail<'p, I: Input<'p>, E: Endian>(reader: &mut Reader<I, E>) -> ReadRe
     }
 }
 
-impl Meant for MmapDetail {
-    ghost says = { ReadsPlain file.mmap_detail file.detail_value };
+impl HasTransition for MmapDetail {
+    ghost transition = { ReadsPlain file.mmap_detail file.detail_value };
 }
 
 impl<'p, I: Input<'p>> ReadFrom<'p, I> for MmapDetail {
@@ -463,16 +463,16 @@ impl Place {
 
 impl<'p> Mmap2<'p> {
     ghost use Rattle.perf_types.specs.Mmap2.{mmap2_value, IsBorrowedMmap2};
-    ghost use Rattle.perf_types.specs.Mmap2.{behind_place, behind_detail};
+    ghost use Rattle.perf_types.specs.Mmap2.{after_place, after_detail};
 
     // What follows the place.
     #[inline]
-    fn read_behind<I: Input<'p>, E: Endian>(
+    fn read_after<I: Input<'p>, E: Endian>(
         reader: &mut Reader<I, E>,
         place: Place,
     ) -> ReadResult<Mmap2<'p>>
         ensures call { Call I.source E.order
-            (ReadsLent (behind_place place) mmap2_value IsBorrowedMmap2)
+            (ReadsInPlace (after_place place) mmap2_value IsBorrowedMmap2)
             reader.old (kinds result) reader.new }
     {
         match read_detail(reader) {
@@ -490,7 +490,7 @@ impl<'p> Mmap2<'p> {
     ) -> ReadResult<Mmap2<'p>>
         requires { IsTrue (file.has_fitting_id detail) }
         ensures call { Call I.source E.order
-            (ReadsLent (λ _. behind_detail place (file.detail_value detail)) mmap2_value
+            (ReadsInPlace (λ _. after_detail place (file.detail_value detail)) mmap2_value
             IsBorrowedMmap2)
             reader.old (kinds result) reader.new }
     {
@@ -507,10 +507,10 @@ impl<'p> Mmap2<'p> {
     }
 }
 
-impl Meant for Mmap2<'_> {
+impl HasTransition for Mmap2<'_> {
     ghost use Rattle.perf_types.specs.Mmap2.{mmap2, mmap2_value, IsBorrowedMmap2};
 
-    ghost says = { ReadsLent mmap2 mmap2_value IsBorrowedMmap2 };
+    ghost transition = { ReadsInPlace mmap2 mmap2_value IsBorrowedMmap2 };
 }
 
 impl<'p, I: Input<'p>> ReadFrom<'p, I> for Mmap2<'p> {
@@ -518,7 +518,7 @@ impl<'p, I: Input<'p>> ReadFrom<'p, I> for Mmap2<'p> {
     #[tactic(auto)]
     fn read<E: Endian>(reader: &mut Reader<I, E>) -> ReadResult<Self> {
         match Place::read(reader) {
-            Ok(place) => Mmap2::read_behind(reader, place),
+            Ok(place) => Mmap2::read_after(reader, place),
             Err(refusal) => Err(refusal),
         }
     }

@@ -3,10 +3,10 @@
 
 ghost use Rattle.std.specs.Prelude.{◌≡◌, ◌*◌, true, IfOk, slice_get};
 ghost use Rattle.perf_buffers.specs.Room.{falls_short};
-ghost use Rattle.perf_reader.specs.Words.{input_of};
+ghost use Rattle.perf_reader.specs.Prelude.{input_of};
 ghost use Rattle.perf_types.specs.Namespaces as spaces;
-ghost use Rattle.perf_types.specs.Words.{Call, Reads, ReadsOne, ReadsPlain, TakesNoMemory, kinds, words};
-ghost use Rattle.perf_types.specs.Words.{cow_items, IsClone, flat_map, option_copied};
+ghost use Rattle.perf_types.specs.Prelude.{Call, Reads, ReadsOne, ReadsPlain, TakesNoMemory, kinds, words};
+ghost use Rattle.perf_types.specs.Prelude.{cow_items, IsClone, flat_map, option_copied};
 
 use crate::numbers::read_to_the_end;
 use perf_base::cow::CowSlice;
@@ -14,7 +14,7 @@ use perf_base::endian::Endian;
 use perf_base::error::ParseResult;
 use perf_base::refusal::{ReadResult, Refusal};
 use perf_buffers::input::Input;
-use perf_reader::read::{Meant, ReadFrom};
+use perf_reader::read::{HasTransition, ReadFrom};
 use perf_reader::reader::Reader;
 use std::alloc::Global;
 
@@ -118,8 +118,8 @@ impl<'a> Namespaces<'a> {
     }
 }
 
-impl Meant for NamespaceEntry {
-    ghost says = { ReadsPlain (λ _. spaces.namespace_entry) (λ e. e) };
+impl HasTransition for NamespaceEntry {
+    ghost transition = { ReadsPlain (λ _. spaces.namespace_entry) (λ e. e) };
 }
 
 impl<'p, I: Input<'p>> ReadFrom<'p, I> for NamespaceEntry {
@@ -172,8 +172,8 @@ fn read_entries<'p, I: Input<'p>, E: Endian>(
     Ok(entries)
 }
 
-impl Meant for Namespaces<'_> {
-    ghost says = { Reads (λ _. spaces.namespaces) spaces.namespaces_value };
+impl HasTransition for Namespaces<'_> {
+    ghost transition = { Reads (λ _. spaces.namespaces) spaces.namespaces_value };
 }
 
 impl<'p, I: Input<'p>> ReadFrom<'p, I> for Namespaces<'p> {

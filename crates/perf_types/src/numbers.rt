@@ -2,8 +2,8 @@
 
 ghost use Rattle.std.specs.Prelude.{◌≡◌, ◌≢◌, ◌<◌, ◌*◌, [], true, length, Err, IsTrue, IfOk};
 ghost use Rattle.perf_buffers.specs.Room.{falls_short};
-ghost use Rattle.perf_reader.specs.Words.{input_of, refusal_kind, OutOfMemory};
-ghost use Rattle.perf_types.specs.Words.{Call, ReadsOne, TakesNoMemory, kinds, words};
+ghost use Rattle.perf_reader.specs.Prelude.{input_of, refusal_kind, OutOfMemory};
+ghost use Rattle.perf_types.specs.Prelude.{Call, ReadsOne, TakesNoMemory, kinds, words};
 
 use perf_base::endian::Endian;
 use perf_base::refusal::{ReadResult, Refusal};

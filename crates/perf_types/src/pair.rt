@@ -3,7 +3,7 @@
 ghost use Rattle.std.specs.Prelude.{◌≡◌};
 ghost use Rattle.perf_base.specs.Layout.{value};
 ghost use Rattle.perf_types.specs.Pair.{pair};
-ghost use Rattle.perf_types.specs.Words.{Call, Reads, TakesNoMemory, kinds};
+ghost use Rattle.perf_types.specs.Prelude.{Call, Reads, TakesNoMemory, kinds};
 
 use perf_base::endian::Endian;
 use perf_base::refusal::ReadResult;

@@ -1,14 +1,14 @@
 //! READ.
 #![tactic(auto, using(perf_reader::proofs::Paying::chain))]
 
-ghost use Rattle.perf_reader.specs.Words.{ReadsPlain};
+ghost use Rattle.perf_reader.specs.Prelude.{ReadsPlain};
 ghost use Rattle.perf_types.specs.Read.{read, task_read};
 
 use crate::read_value::ReadValue;
 use perf_base::endian::Endian;
 use perf_base::refusal::ReadResult;
 use perf_buffers::input::Input;
-use perf_reader::read::{Meant, ReadFrom};
+use perf_reader::read::{HasTransition, ReadFrom};
 use perf_reader::reader::Reader;
 
 /// The kernel read a counter of a task (`PERF_RECORD_READ`), which it does if the attribute has
@@ -23,8 +23,8 @@ pub struct Read {
     pub values: ReadValue,
 }
 
-impl Meant for Read {
-    ghost says = { ReadsPlain read task_read };
+impl HasTransition for Read {
+    ghost transition = { ReadsPlain read task_read };
 }
 
 impl<'p, I: Input<'p>> ReadFrom<'p, I> for Read {

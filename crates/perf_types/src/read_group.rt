@@ -15,7 +15,7 @@ use perf_base::endian::Endian;
 use perf_base::error::{ErrorKind, ParseResult};
 use perf_base::refusal::{ReadResult, Refusal};
 use perf_buffers::input::Input;
-use perf_reader::read::{Meant, ReadFrom};
+use perf_reader::read::{HasTransition, ReadFrom};
 use perf_reader::reader::Reader;
 use perf_words::ReadFormat;
 use std::alloc::Global;
@@ -36,9 +36,9 @@ impl<'a> ReadGroup<'a> {
     ghost use Rattle.std.specs.Prelude.{IsTrue, IsOk, IfOk, IfErr, IsNone, ◌↔◌, slice_get, [], not};
     ghost use Rattle.perf_types.specs.ReadGroup.{group_read, group_with, group_of};
     ghost use Rattle.perf_types.specs.ReadGroup.{is_borrowed_group, read_group_form};
-    ghost use Rattle.perf_types.specs.Words.{is_borrowed, kind_of, element_len, read_format_bits};
-    ghost use Rattle.perf_types.specs.Words.{IsClone, IsOwnedCopy};
-    ghost use Rattle.perf_types.specs.Words.{single_read, entry_with_id, entries_left};
+    ghost use Rattle.perf_types.specs.Prelude.{is_borrowed, kind_of, element_len, read_format_bits};
+    ghost use Rattle.perf_types.specs.Prelude.{IsClone, IsOwnedCopy};
+    ghost use Rattle.perf_types.specs.Prelude.{single_read, entry_with_id, entries_left};
 
     /// The group of these numbers. A time whose flag is not in the read format is ignored. The
     /// entries' numbers follow one another, [`ReadFormat::element_len`] for each: its value, its id
@@ -219,11 +219,11 @@ impl<'a> ReadGroup<'a> {
     }
 }
 
-impl Meant for ReadGroup<'_> {
-    ghost use Rattle.perf_reader.specs.Words.{Reads};
+impl HasTransition for ReadGroup<'_> {
+    ghost use Rattle.perf_reader.specs.Prelude.{Reads};
     ghost use Rattle.perf_types.specs.ReadGroup.{read_group, group_read};
 
-    ghost says = { Reads read_group group_read };
+    ghost transition = { Reads read_group group_read };
 }
 
 /// A read format without a group is [`Refusal::GroupRead`], and one with unknown flags is

@@ -13,7 +13,7 @@ use bitflags::Flags;
 use perf_base::endian::Endian;
 use perf_base::refusal::{ReadResult, Refusal};
 use perf_buffers::input::Input;
-use perf_reader::read::{Meant, ReadFrom};
+use perf_reader::read::{HasTransition, ReadFrom};
 use perf_reader::reader::Reader;
 use perf_words::ReadFormat;
 use std::fmt;
@@ -122,10 +122,10 @@ impl ReadValue {
     }
 }
 
-impl Meant for ReadValue {
-    ghost use Rattle.perf_reader.specs.Words.{ReadsPlain};
+impl HasTransition for ReadValue {
+    ghost use Rattle.perf_reader.specs.Prelude.{ReadsPlain};
 
-    ghost says = { ReadsPlain read_value single_read };
+    ghost transition = { ReadsPlain read_value single_read };
 }
 
 /// A read format with a group is [`Refusal::SingleRead`], and one with unknown flags is

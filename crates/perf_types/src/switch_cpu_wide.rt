@@ -2,7 +2,7 @@
 #![tactic(auto, using(perf_reader::proofs::Paying::chain))]
 
 ghost use Rattle.std.specs.Prelude.{◌≡◌};
-ghost use Rattle.perf_reader.specs.Words.{ReadsPlain};
+ghost use Rattle.perf_reader.specs.Prelude.{ReadsPlain};
 ghost use Rattle.perf_types.specs.SwitchCpuWide.{other_pid, other_tid, switch_cpu_wide};
 ghost use Rattle.perf_base.specs.Misc.{switch_out_bit};
 ghost use Rattle.perf_words.specs.Bits.{has_bit};
@@ -11,7 +11,7 @@ use perf_base::endian::Endian;
 use perf_base::refusal::ReadResult;
 use perf_base::sys::PERF_RECORD_MISC_SWITCH_OUT;
 use perf_buffers::input::Input;
-use perf_reader::read::{Meant, ReadFrom};
+use perf_reader::read::{HasTransition, ReadFrom};
 use perf_reader::reader::Reader;
 
 /// The processor switched from one task to another (`PERF_RECORD_SWITCH_CPU_WIDE`), as seen by a
@@ -65,8 +65,8 @@ fn is_switch_out(misc: u16) -> bool
     misc & PERF_RECORD_MISC_SWITCH_OUT == PERF_RECORD_MISC_SWITCH_OUT
 }
 
-impl Meant for SwitchCpuWide {
-    ghost says = { ReadsPlain switch_cpu_wide (λ r. r) };
+impl HasTransition for SwitchCpuWide {
+    ghost transition = { ReadsPlain switch_cpu_wide (λ r. r) };
 }
 
 impl<'p, I: Input<'p>> ReadFrom<'p, I> for SwitchCpuWide {

@@ -2,7 +2,7 @@
 #![tactic(auto, using(perf_reader::proofs::Paying::chain))]
 
 ghost use Rattle.std.specs.Prelude.{◌≡◌, ◌<◌, ◌≤◌, ◌^◌};
-ghost use Rattle.perf_reader.specs.Words.{ReadsLent};
+ghost use Rattle.perf_reader.specs.Prelude.{ReadsInPlace};
 ghost use Rattle.perf_types.specs.TextPoke.{text_poke, text_poke_value, poked_len};
 ghost use Rattle.perf_types.specs.TextPoke.{IsBorrowedTextPoke, text_poke_form};
 ghost use Rattle.perf_base.specs.Copies.{IsClone, IsOwnedCopy};
@@ -12,7 +12,7 @@ use perf_base::endian::Endian;
 use perf_base::error::ParseResult;
 use perf_base::refusal::{ReadResult, Refusal};
 use perf_buffers::input::Input;
-use perf_reader::read::{Meant, ReadFrom};
+use perf_reader::read::{HasTransition, ReadFrom};
 use perf_reader::reader::Reader;
 use std::alloc::Global;
 
@@ -72,8 +72,8 @@ fn poked_len(both: usize) -> usize
     both + (12 - both % 8) % 8
 }
 
-impl Meant for TextPoke<'_> {
-    ghost says = { ReadsLent (λ _. text_poke) text_poke_value IsBorrowedTextPoke };
+impl HasTransition for TextPoke<'_> {
+    ghost transition = { ReadsInPlace (λ _. text_poke) text_poke_value IsBorrowedTextPoke };
 }
 
 impl<'p, I: Input<'p>> ReadFrom<'p, I> for TextPoke<'p> {

@@ -1,13 +1,13 @@
 //! THROTTLE and UNTHROTTLE.
 #![tactic(auto, using(perf_reader::proofs::Paying::chain))]
 
-ghost use Rattle.perf_reader.specs.Words.{ReadsPlain};
+ghost use Rattle.perf_reader.specs.Prelude.{ReadsPlain};
 ghost use Rattle.perf_types.specs.Throttle.{throttle};
 
 use perf_base::endian::Endian;
 use perf_base::refusal::ReadResult;
 use perf_buffers::input::Input;
-use perf_reader::read::{Meant, ReadFrom};
+use perf_reader::read::{HasTransition, ReadFrom};
 use perf_reader::reader::Reader;
 
 /// The kernel stopped an event that occurred too often (`PERF_RECORD_THROTTLE`), or resumed it
@@ -22,8 +22,8 @@ pub struct Throttle {
     pub stream_id: u64,
 }
 
-impl Meant for Throttle {
-    ghost says = { ReadsPlain (λ _. throttle) (λ r. r) };
+impl HasTransition for Throttle {
+    ghost transition = { ReadsPlain (λ _. throttle) (λ r. r) };
 }
 
 impl<'p, I: Input<'p>> ReadFrom<'p, I> for Throttle {

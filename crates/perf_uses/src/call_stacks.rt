@@ -1,7 +1,7 @@
 //! A visitor that folds call chains.
 
 ghost use Rattle.std.specs.Prelude.{◌≡◌, Ok, None};
-ghost use Rattle.perf_records.specs.Visits.{IsSample};
+ghost use Rattle.perf_records.specs.Gives.{IsSample};
 
 use perf_event_data::endian::Little;
 use perf_event_data::parse::{ParseConfig, ParseResult};

@@ -3,7 +3,7 @@
 ghost use Rattle.std.specs.Prelude.{◌≡◌, IfOk, Ok};
 ghost use Rattle.perf_base.specs.Layout.{layout};
 ghost use Rattle.perf_base.specs.Order.{little};
-ghost use Rattle.perf_parser.specs.Words.{ReadsLent};
+ghost use Rattle.perf_parser.specs.Prelude.{ReadsInPlace};
 ghost use Rattle.perf_uses.specs.Mark.{mark_parts, mark_value, IsBorrowedMark};
 
 use perf_event_data::CowSlice;
@@ -28,7 +28,7 @@ pub struct Mark<'a> {
 
 impl Layout for Mark<'_> {
     // what its layout gives; no byte is copied from a slice
-    ghost parses = { ReadsLent (λ _. mark_parts) mark_value IsBorrowedMark };
+    ghost parses = { ReadsInPlace (λ _. mark_parts) mark_value IsBorrowedMark };
 }
 
 impl<'p, B: ParseBuf<'p>> Parse<'p, B> for Mark<'p> {

@@ -1,6 +1,6 @@
 //! A type of one's own with a check and a length.
 
-ghost use Rattle.perf_parser.specs.Words.{ReadsLent};
+ghost use Rattle.perf_parser.specs.Prelude.{ReadsInPlace};
 ghost use Rattle.perf_uses.specs.Span.{span_parts, span_value, IsBorrowedSpan};
 
 use perf_event_data::CowSlice;
@@ -20,7 +20,7 @@ pub struct Span<'a> {
 
 impl Layout for Span<'_> {
     // what its layout gives; no byte is copied from a slice
-    ghost parses = { ReadsLent (λ _. span_parts) span_value IsBorrowedSpan };
+    ghost parses = { ReadsInPlace (λ _. span_parts) span_value IsBorrowedSpan };
 }
 
 impl<'p, B: ParseBuf<'p>> Parse<'p, B> for Span<'p> {

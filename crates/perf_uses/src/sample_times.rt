@@ -2,9 +2,9 @@
 
 ghost use Rattle.std.specs.Prelude.{◌≡◌, IfSome, Some};
 ghost use Rattle.perf_base.specs.Order.{little};
-ghost use Rattle.perf_buffers.specs.Words.{chunk_bytes};
+ghost use Rattle.perf_buffers.specs.Prelude.{chunk_bytes};
 ghost use Rattle.perf_records.specs.FrameNumbers.{time_in};
-ghost use Rattle.perf_records.specs.Words.{configuration_of};
+ghost use Rattle.perf_records.specs.Prelude.{configuration_of};
 
 use perf_event_data::endian::Little;
 use perf_event_data::parse::ParseConfig;

@@ -6,7 +6,7 @@ ghost use Rattle.perf_base.specs.Configuration.{configured_by};
 ghost use Rattle.perf_base.specs.Order.{little};
 ghost use Rattle.perf_base.specs.Took.{took, took_by_places};
 ghost use Rattle.perf_base.specs.declared.sys.perf_event_attr.{perf_event_attr};
-ghost use Rattle.perf_parser.specs.Words.{buffer_of, config_of, configuration_of, reads_of};
+ghost use Rattle.perf_parser.specs.Prelude.{buffer_of, config_of, configuration_of, reads_of};
 
 use perf_event_data::endian::Little;
 use perf_event_data::parse::{ParseBuf, ParseConfig, ParseResult, Parser};

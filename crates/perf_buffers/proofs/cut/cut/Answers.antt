@@ -3,10 +3,10 @@ use Rattle.std.specs.Prelude.{IfOk, IfErr, IsTrue}
 use Rattle.perf_base.specs.declared.error.ErrorKind.TheVariants.{OutOfMemory}
 use Rattle.perf_base.specs.Refusals.{refusal_kind, refused, kinds}
 use Rattle.perf_buffers.specs.Buffer.{Source}
-use Rattle.perf_buffers.specs.Cursor.{held_left}
+use Rattle.perf_buffers.specs.Cursor.{content_left}
 use Rattle.perf_buffers.specs.Room.{falls_short, is_made_beforehand, makes_all_room}
 use Rattle.perf_buffers.specs.Taking.{FailsToKeep}
-use Rattle.perf_buffers.proofs.Behind.{if_err, keeps_same, never_short, all_room}
+use Rattle.perf_buffers.proofs.After.{if_err, keeps_same, never_short, all_room}
 use Rattle.perf_buffers.proofs.Chunks.{stays_then, can_fail_then}
 use Rattle.perf_buffers.proofs.Hints.{hint_falls_short}
 use Rattle.perf_buffers.proofs.Options.{none_matches, some_matches, some_holds}
@@ -51,14 +51,14 @@ returns-in-Ok-Some g c =
     let same = c.in-Ok-Some.field-0-is in record {
       stays = e.stays;
       can_fail = tt;
-      whole = λ w. some_matches _ _ c.in-Ok-Some.field-0 c.in-Ok-Some.held same (e.whole w);
+      whole = λ w. some_matches _ _ c.in-Ok-Some.field-0 c.in-Ok-Some.content same (e.whole w);
       whole_memory = λ w. tt;
       nothing = λ z. absurd (c.if-len-eq0.false z);
       short = λ s. (tt, not_short s);
       beforehand = λ told made. tt;
-      ok = λ told. some_matches _ _ c.in-Ok-Some.field-0 c.in-Ok-Some.held same (e.ok told);
-      start = some_holds _ c.in-Ok-Some.field-0 c.in-Ok-Some.held same e.start;
-      count = some_holds _ c.in-Ok-Some.field-0 c.in-Ok-Some.held same e.count;
+      ok = λ told. some_matches _ _ c.in-Ok-Some.field-0 c.in-Ok-Some.content same (e.ok told);
+      start = some_holds _ c.in-Ok-Some.field-0 c.in-Ok-Some.content same e.start;
+      count = some_holds _ c.in-Ok-Some.field-0 c.in-Ok-Some.content same e.count;
       err = λ told. tt;
     }
 
@@ -86,7 +86,7 @@ returns-in-Ok-None g c =
       beforehand = λ told made.
           let room = ap (λ b. makes_all_room b n) c.is_some.ensures ∙ all_room hint.result n (ap (λ h. is_made_beforehand h n) hint.ensures.is ∙ made) in
           subst (λ xs. IfErr r (λ d. refusal_kind d ≡ OutOfMemory → new.left ≡ xs)) (same told) (e.beforehand (a.stays.3 told) room);
-      ok = λ told. subst (λ xs. IfOk r (λ d. ((n ≤ length xs) × (new.left ≡ drop n xs)) × (held_left d.held ≡ take n xs))) (same told) (e.ok (a.stays.3 told));
+      ok = λ told. subst (λ xs. IfOk r (λ d. ((n ≤ length xs) × (new.left ≡ drop n xs)) × (content_left d.content ≡ take n xs))) (same told) (e.ok (a.stays.3 told));
       start = e.start;
       count = e.count;
       err = λ told. if_err (λ d. FailsToKeep mid n (refusal_kind d) new) (λ d. FailsToKeep old n (refusal_kind d) new) r (λ d. keeps_same old mid new n (refusal_kind d) (same told)) (e.err (a.stays.3 told));

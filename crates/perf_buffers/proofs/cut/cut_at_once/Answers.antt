@@ -1,8 +1,8 @@
 use Rattle.std.proofs.Common.{ap, ◌≡◌, ◌≤◌, length, take, arith, ◌∙◌, refl, sym, subst}
 use Rattle.std.proofs.lemmas.List.{length-take-le}
 use Rattle.std.specs.Prelude.{IsTrue}
-use Rattle.perf_buffers.specs.Buffer.{Source, Advances, chunk_bytes, lasts}
-use Rattle.perf_buffers.specs.Cursor.{held_left, is_lent, is_at_start}
+use Rattle.perf_buffers.specs.Buffer.{Source, Advances, chunk_bytes, chunk_is_borrowed}
+use Rattle.perf_buffers.specs.Cursor.{content_left, content_is_borrowed, ContentIsAtStart}
 use Rattle.perf_buffers.proofs.Chunks.{Refused, refused_chunk, shown_chunk, taken_chunk, within_none}
 use Rattle.perf_buffers.proofs.cut.cut_at_once.Goals as goal
 use Rattle.perf_buffers.proofs.cut.cut_at_once.Goals.{in-External, in-Temporary+in-Ok-from_slice}
@@ -48,7 +48,7 @@ returns-in-Err-from_slice g c =
       stays = s.stays;
       can_fail = tt;
       whole = λ w. tt;
-      whole_memory = λ w. let never = subst (λ x. IsTrue (lasts x)) c.in-Temporary.is (s.shows.2 w).1 in cc;
+      whole_memory = λ w. let never = subst (λ x. IsTrue (chunk_is_borrowed x)) c.in-Temporary.is (s.shows.2 w).1 in cc;
       beforehand = λ told kind. s.same told;
       count = tt;
       start = tt;
@@ -63,12 +63,12 @@ returns g c =
     let new : Source = g.B.ParseBuf.source c.advance.new.self in
     let s = shown_chunk old mid (g.B.ParseBuf.ready c.chunk.follows.lender-at-none) c.chunk.result c.in-Ok.chunk c.chunk.ensures.shows c.in-Ok.is c.chunk.follows.holds-at-none in
     let n = c.args.len in
-    let held = c.match-chunk-2.held in
+    let content = c.match-chunk-2.content in
     let within : n ≤ length (chunk_bytes c.in-Ok.chunk) = let long = ap length c.as_bytes.ensures in omega (arith, long, c.if-as_bytes-len.false) in
-    let facts : (IsTrue old.whole → IsTrue (is_lent held)) × is_at_start held × (held_left held ≡ take n (chunk_bytes c.in-Ok.chunk)) × (g.B.ParseBuf.source c.match-chunk-2.buf ≡ mid) =
+    let facts : (IsTrue old.whole → IsTrue (content_is_borrowed content)) × ContentIsAtStart content × (content_left content ≡ take n (chunk_bytes c.in-Ok.chunk)) × (g.B.ParseBuf.source c.match-chunk-2.buf ≡ mid) =
     elim c.match-chunk-2.branch [
-      | in-External w ↦ ((λ h. subst (λ d. IsTrue (is_lent d)) (sym w.held-is) refl), subst is_at_start (sym w.held-is) tt, ap held_left w.held-is ∙ ap (λ x. take n (chunk_bytes x)) (sym w.in-External.is), ap g.B.ParseBuf.source w.buf-is)
-      | in-Temporary+in-Ok-from_slice w ↦ ((λ h. let never = subst (λ x. IsTrue (lasts x)) w.in-Temporary.is (s.shows.2 h).1 in cc), subst is_at_start (sym w.held-is) refl, ap held_left w.held-is ∙ w.in-Ok-from_slice.ensures.items ∙ ap (λ x. take n (chunk_bytes x)) (sym w.in-Temporary.is), ap g.B.ParseBuf.source w.buf-is)
+      | in-External w ↦ ((λ h. subst (λ d. IsTrue (content_is_borrowed d)) (sym w.content-is) refl), subst ContentIsAtStart (sym w.content-is) tt, ap content_left w.content-is ∙ ap (λ x. take n (chunk_bytes x)) (sym w.in-External.is), ap g.B.ParseBuf.source w.buf-is)
+      | in-Temporary+in-Ok-from_slice w ↦ ((λ h. let never = subst (λ x. IsTrue (chunk_is_borrowed x)) w.in-Temporary.is (s.shows.2 h).1 in cc), subst ContentIsAtStart (sym w.content-is) refl, ap content_left w.content-is ∙ w.in-Ok-from_slice.ensures.items ∙ ap (λ x. take n (chunk_bytes x)) (sym w.in-Temporary.is), ap g.B.ParseBuf.source w.buf-is)
     ] in
     let on = subst (λ b. Advances b n new) facts.3 c.advance.ensures in
     let t = taken_chunk old mid new c.in-Ok.chunk (g.B.ParseBuf.ready c.chunk.follows.lender-at-none) n within s on in record {

@@ -2,7 +2,7 @@ use Rattle.std.proofs.Common.{◌∙◌, sym, subst, Some, arith}
 use Rattle.perf_base.specs.Errors.{kind_of}
 use Rattle.perf_buffers.specs.Buffer.{Source, Stays}
 use Rattle.perf_buffers.specs.Taking.{CanFail, FailsToKeep}
-use Rattle.perf_buffers.proofs.Behind.{fails_to_keep}
+use Rattle.perf_buffers.proofs.After.{fails_to_keep}
 use Rattle.perf_buffers.proofs.cut.shortage.Goals as goal
 
 pub returns-in-Ok : goal.returns-in-Ok

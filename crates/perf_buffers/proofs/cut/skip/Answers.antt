@@ -1,7 +1,7 @@
 use Rattle.std.proofs.Common.{◌≡◌, Err, None, Some, refl, arith, sym}
 use Rattle.perf_base.specs.Errors.{kind_of}
 use Rattle.perf_buffers.specs.Buffer.{Source}
-use Rattle.perf_buffers.proofs.Behind.{fails_on}
+use Rattle.perf_buffers.proofs.After.{fails_on}
 use Rattle.perf_buffers.proofs.Chunks.{stays_then, can_fail_then, came_up}
 use Rattle.perf_buffers.proofs.Taking.{takes_more}
 use Rattle.perf_buffers.proofs.cut.skip.Goals as goal

@@ -1,7 +1,7 @@
 use Rattle.std.proofs.Common.{◌≡◌, None, Some, arith, sym}
 use Rattle.perf_base.specs.Errors.{kind_of}
 use Rattle.perf_buffers.specs.Buffer.{Source}
-use Rattle.perf_buffers.proofs.Behind.{fails_to_keep_on}
+use Rattle.perf_buffers.proofs.After.{fails_to_keep_on}
 use Rattle.perf_buffers.proofs.Chunks.{stays_then, can_fail_then}
 use Rattle.perf_buffers.proofs.Taking.{takes_more, append_on, append_all}
 use Rattle.perf_buffers.proofs.fill.append.Goals as goal

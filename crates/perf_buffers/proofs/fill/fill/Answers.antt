@@ -3,7 +3,7 @@ use Rattle.std.specs.Prelude.{IsTrue, OnOk, IfErr}
 use Rattle.perf_base.specs.Refusals.{refusal_kind, refused, kinds}
 use Rattle.perf_buffers.specs.Buffer.{Source}
 use Rattle.perf_buffers.specs.Taking.{FailsToTake, TakesAtOnce}
-use Rattle.perf_buffers.proofs.Behind.{if_err, takes_same}
+use Rattle.perf_buffers.proofs.After.{if_err, takes_same}
 use Rattle.perf_buffers.proofs.Chunks.{stays_then, can_fail_then}
 use Rattle.perf_buffers.proofs.fill.fill.Goals as goal
 

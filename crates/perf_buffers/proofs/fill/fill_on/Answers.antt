@@ -3,7 +3,7 @@ use Rattle.std.proofs.lemmas.List.{take_all, length-take, length-drop}
 use Rattle.perf_base.specs.Errors.{kind_of}
 use Rattle.perf_buffers.specs.Buffer.{Source}
 use Rattle.perf_buffers.specs.Taking.{FailsToTake}
-use Rattle.perf_buffers.proofs.Behind.{fails_on}
+use Rattle.perf_buffers.proofs.After.{fails_on}
 use Rattle.perf_buffers.proofs.Chunks.{stays_then, can_fail_then, came_up}
 use Rattle.perf_buffers.proofs.Taking.{takes_more, take_on, length_on}
 use Rattle.perf_buffers.proofs.fill.fill_on.Goals as goal

@@ -4,7 +4,7 @@ use Rattle.std.specs.Prelude.{IsTrue}
 use Rattle.perf_base.specs.Errors.{kind_of}
 use Rattle.perf_buffers.specs.Buffer.{Source}
 use Rattle.perf_buffers.specs.Taking.{Takes}
-use Rattle.perf_buffers.proofs.Behind.{rest_on, rest_same}
+use Rattle.perf_buffers.proofs.After.{rest_on, rest_same}
 use Rattle.perf_buffers.proofs.Chunks.{stays_then, can_fail_then}
 use Rattle.perf_buffers.proofs.Options.{none_matches, some_matches, some_holds}
 use Rattle.perf_buffers.proofs.Taking.{took_all, took_everything}

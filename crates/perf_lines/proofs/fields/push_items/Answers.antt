@@ -6,8 +6,8 @@ use Rattle.std.proofs.lemmas.List.{nil_from_length}
 use Rattle.perf_lines.proofs.Spaced.{listed_to_end}
 use Rattle.perf_lines.proofs.fields.push_items.Goals as goal
 
-abbrev behind_comma : ℕ → List ℕ
-behind_comma n = codes "," ++ decimal n
+abbrev after_comma : ℕ → List ℕ
+after_comma n = codes "," ++ decimal n
 
 pub loop-piece-init : goal.loop-piece-init
 loop-piece-init c = record {
@@ -21,9 +21,9 @@ loop-piece-preserved c =
     let piece : List ℕ = c.in-Some-piece.piece.now in
     let rest : List ℕ = chunks_rest c.next.new.self in record {
       size = c.in-Some-piece.ensures.steps.0 ∙ c.loop-piece.invariant.size;
-      written = ap (λ s. s ++ flat_map behind_comma rest) c.in_ok-push_others.ensures
-          ∙ append_assoc text (flat_map behind_comma piece) (flat_map behind_comma rest)
-          ∙ ap (λ xs. text ++ xs) (sym (flat_map-append behind_comma piece rest) ∙ ap (flat_map behind_comma) (sym c.in-Some-piece.ensures.steps.1.0))
+      written = ap (λ s. s ++ flat_map after_comma rest) c.in_ok-push_others.ensures
+          ∙ append_assoc text (flat_map after_comma piece) (flat_map after_comma rest)
+          ∙ ap (λ xs. text ++ xs) (sym (flat_map-append after_comma piece rest) ∙ ap (flat_map after_comma) (sym c.in-Some-piece.ensures.steps.1.0))
           ∙ c.loop-piece.invariant.written;
     }
 
@@ -33,5 +33,5 @@ returns c =
     let others = ap chunks_rest c.into_iter-piece-iterator.ensures.into_iter_gives ∙ c.chunks-piece-items.ensures.rest in
     listed_to_end decimal (string_bytes c.args.text.now) c.args.before.now (string_bytes c.push_str.new.self) first (string_bytes c.loop-piece.text) c.in-Some.first.now (chunks_rest c.loop-piece.piece-iterator) c.in-Some.rest.now c.args.numbers.now
     c.in_ok-push_str.ensures.bytes c.in_ok-push_number.ensures
-    (c.loop-piece.invariant.written ∙ ap (λ xs. first ++ flat_map behind_comma xs) others)
+    (c.loop-piece.invariant.written ∙ ap (λ xs. first ++ flat_map after_comma xs) others)
     (nil_from_length _ c.in-None.ensures.steps.1.0) c.in-Some.ensures.cases.0

@@ -1,10 +1,10 @@
 use Rattle.std.proofs.Common.{◌≡◌, ℕ, ◌+◌, ◌<◌, ◌≤◌, ◌^◌, List, length, take, string_bytes, arith, subst, ap, ◌∙◌}
 use Rattle.std.specs.Prelude.{◌||◌}
-use Rattle.perf_records.specs.Frames.{behind_frames}
+use Rattle.perf_records.specs.Frames.{drop_frames}
 use Rattle.perf_base.specs.Configured.{configuration_of, endian_of}
 use Rattle.perf_records.specs.Answers.{answers}
 use Rattle.perf_parser.specs.Runs.{seen_answers, EndsWith}
-use Rattle.perf_lines.proofs.Batches.{behind_more}
+use Rattle.perf_lines.proofs.Batches.{after_more}
 use Rattle.perf_lines.proofs.Progress.{Listed, batch_more}
 use Rattle.perf_lines.proofs.Endings.{Made, if_ok_map}
 use Rattle.perf_lines.proofs.Ended.{made_to_ending}
@@ -24,13 +24,13 @@ returns-in_default g c = λ told.
     let bytes : List ℕ = (g.B.ParseBuf.source start.reader.input.buf).left in
     let buffer = g.B.ParseBuf.source c.loop-count.parser.reader.input.buf in
     let left : List ℕ = buffer.left in
-    let behind : List ℕ = (g.B.ParseBuf.source r.new.parser.reader.input.buf).left in
+    let after : List ℕ = (g.B.ParseBuf.source r.new.parser.reader.input.buf).left in
     let n : ℕ = c.loop-count.count in
     let pairs = r.result.frames.items in
     let k : ℕ = length pairs in
     let t = i.told told in
     let are = subst (λ p. seen_answers pairs ≡ take k (answers (configuration_of p) (g.E.Endian.order (endian_of p)) left)) i.config (r.ensures.answers t) in
-    let ends = subst (λ p. EndsWith (g.E.Endian.order (endian_of p)) c.min-batch.result left k r.result.end behind) i.config (r.ensures.end t) in
+    let ends = subst (λ p. EndsWith (g.E.Endian.order (endian_of p)) c.min-batch.result left k r.result.end after) i.config (r.ensures.end t) in
     let listed = i.listed told in
     let within : n + c.min-batch.result ≤ c.args.limit = omega (arith, c.min-batch.ensures, c.loop-count-test.true) in
     let fits : n + length c.deref.result.now < 2 ^ 64 = omega (arith, ap length c.deref.ensures.value, r.ensures.count, within, c.ranges.limit.fits) in
@@ -39,7 +39,7 @@ returns-in_default g c = λ told.
     c.deref.result.now c.deref.ensures.value now (c.in_ok-push_lines.ensures fits)
     c.deref-in-loop-count.result.now c.deref-in-loop-count.ensures.value c.has_refusal-refused.result c.has_refusal-refused.ensures in
     if_ok_map c.push_ending.result _ (λ outcome. Made f config order c.args.limit bytes old outcome (string_bytes c.push_ending.new.text))
-    (λ outcome last. made_to_ending f buffer.can_fault i.can_fault config order c.args.limit n c.min-batch.result within bytes old left behind k r.result.end c.in_default.not-Limit ends r.ensures.keeps.fault listed.within (i.left told) now _ batch (string_bytes c.push_ending.new.text) outcome last.0 last.1)
+    (λ outcome last. made_to_ending f buffer.can_fault i.can_fault config order c.args.limit n c.min-batch.result within bytes old left after k r.result.end c.in_default.not-Limit ends r.ensures.keeps.fault listed.within (i.left told) now _ batch (string_bytes c.push_ending.new.text) outcome last.0 last.1)
     c.push_ending.ensures
 
 pub loop-count-preserved : goal.loop-count-preserved
@@ -63,7 +63,7 @@ loop-count-preserved g c = record {
       let t = i.told told in
       let are = subst (λ p. seen_answers pairs ≡ take k (answers (configuration_of p) (g.E.Endian.order (endian_of p)) left)) i.config (r.ensures.answers t) in
       let ends = rw c.in-Limit.is at (subst (λ p. EndsWith (g.E.Endian.order (endian_of p)) c.min-batch.result left k r.result.end (g.B.ParseBuf.source r.new.parser.reader.input.buf).left) i.config (r.ensures.end t)) in
-      ends.1 ∙ ap (λ xs. behind_frames order k xs) (i.left told) ∙ behind_more order n k bytes ∙ ap (λ j. behind_frames order (n + j) bytes) ends.0;
+      ends.1 ∙ ap (λ xs. drop_frames order k xs) (i.left told) ∙ after_more order n k bytes ∙ ap (λ j. drop_frames order (n + j) bytes) ends.0;
   listed = λ told.
       let i = c.loop-count.invariant in
       let r = c.read_records-run in

@@ -1,7 +1,7 @@
 use Rattle.std.proofs.Common.{◌-◌, ◌≡◌, ◌≤◌, string_bytes}
 use Rattle.std.specs.Prelude.{IsTrue}
 use Rattle.perf_base.specs.Configured.{configuration_of, endian_of}
-use Rattle.perf_records.specs.Frames.{behind_frames}
+use Rattle.perf_records.specs.Frames.{drop_frames}
 use Rattle.perf_lines.proofs.Progress.{Listed}
 use Rattle.perf_lines.proofs.run.push_run.Given as goal
 
@@ -14,7 +14,7 @@ invariant-loop-count g l =
       config : l.parser.reader.config ≡ l.initial.parser.reader.config;
       can_fault : IsTrue (source l.parser.reader.input.buf).can_fault → IsTrue (source l.initial.parser.reader.input.buf).can_fault;
       told : IsTrue (source l.initial.parser.reader.input.buf).told → IsTrue (source l.parser.reader.input.buf).told;
-      left : IsTrue (source l.initial.parser.reader.input.buf).told → (source l.parser.reader.input.buf).left ≡ behind_frames order l.count bytes;
+      left : IsTrue (source l.initial.parser.reader.input.buf).told → (source l.parser.reader.input.buf).left ≡ drop_frames order l.count bytes;
       listed : IsTrue (source l.initial.parser.reader.input.buf).told
           → Listed (configuration_of l.initial.parser.reader.config) order bytes (string_bytes l.initial.text) l.count (string_bytes l.text) l.refused;
     }

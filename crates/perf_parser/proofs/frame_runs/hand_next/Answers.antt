@@ -6,29 +6,29 @@ use Rattle.perf_base.specs.Refusals.{refusal_kind}
 use Rattle.perf_base.specs.declared.config.ParseConfig.{ParseConfig}
 use Rattle.perf_base.specs.declared.error.ErrorKind.{ErrorKind}
 use Rattle.perf_buffers.specs.declared.outer.Outer.{Outer}
-use Rattle.perf_reader.specs.Meaning.{Meaning, meaning}
+use Rattle.perf_reader.specs.ReaderState.{ReaderState, state_of}
 use Rattle.perf_reader.specs.Reading.{Keeps}
 use Rattle.perf_reader.proofs.Paying.{can_fault, keeps_none, keeps_more}
 use Rattle.perf_records.specs.Answers.{body_length}
 use Rattle.perf_records.specs.Sights.{Sight, sight_after, sight_in}
-use Rattle.perf_records.proofs.Headers.{frame_behind}
+use Rattle.perf_records.proofs.Headers.{after_frame}
 use Rattle.perf_records.proofs.Keeping.{moved_keeps}
-use Rattle.perf_parser.proofs.Ending.{stops_behind, run_more, run_stops}
+use Rattle.perf_parser.proofs.Ending.{stops_after, run_more, run_stops}
 use Rattle.perf_records.proofs.Handing.{sight_take}
 use Rattle.perf_parser.proofs.Handing.{moved_by}
 use Rattle.perf_parser.proofs.frame_runs.hand_next.Goals as goal
 
 pub returns-in-Err-clause-keeps : goal.returns-in-Err-clause-keeps
 returns-in-Err-clause-keeps g c = λ start n k.
-    let old : Meaning = meaning (λ (o : Outer g.row.B.Denot). g.B.ParseBuf.source o.buf) g.E.Endian.order c.args.reader.now in
-    let new : Meaning = meaning (λ (o : Outer g.row.B.Denot). g.B.ParseBuf.source o.buf) g.E.Endian.order c.next_header.new.self in
+    let old : ReaderState = state_of (λ (o : Outer g.row.B.Denot). g.B.ParseBuf.source o.buf) g.E.Endian.order c.args.reader.now in
+    let new : ReaderState = state_of (λ (o : Outer g.row.B.Denot). g.B.ParseBuf.source o.buf) g.E.Endian.order c.next_header.new.self in
     run_stops start old new n c.in-Err.stop k (c.in-Err.ensures.call.keeps old (keeps_none old))
 
 pub returns-in-Ok-hand_after-clause-handed : goal.returns-in-Ok-hand_after-clause-handed
 returns-in-Ok-hand_after-clause-handed g c = λ told.
-    let old : Meaning = meaning (λ (o : Outer g.row.B.Denot). g.B.ParseBuf.source o.buf) g.E.Endian.order c.args.reader.now in
-    let mid : Meaning = meaning (λ (o : Outer g.row.B.Denot). g.B.ParseBuf.source o.buf) g.E.Endian.order c.next_header.new.self in
-    let new : Meaning = meaning (λ (o : Outer g.row.B.Denot). g.B.ParseBuf.source o.buf) g.E.Endian.order c.hand_after.new.reader in
+    let old : ReaderState = state_of (λ (o : Outer g.row.B.Denot). g.B.ParseBuf.source o.buf) g.E.Endian.order c.args.reader.now in
+    let mid : ReaderState = state_of (λ (o : Outer g.row.B.Denot). g.B.ParseBuf.source o.buf) g.E.Endian.order c.next_header.new.self in
+    let new : ReaderState = state_of (λ (o : Outer g.row.B.Denot). g.B.ParseBuf.source o.buf) g.E.Endian.order c.hand_after.new.reader in
     let h = c.in-Ok.header in
     let call = c.in-Ok.ensures.call in
     let head = call.answer told in
@@ -38,19 +38,19 @@ returns-in-Ok-hand_after-clause-handed g c = λ told.
     let now = c.hand_after.new.handler in
     let P : ParseConfig g.row.E.Denot → Type 0 = λ k. g.H.FrameHandler.gets c.args.handler.now (configuration_of k) (g.E.Endian.order (endian_of k)) (sight_after h e.0 e.1) go now in
     let Q : Sight → Type 0 = λ x. g.H.FrameHandler.gets c.args.handler.now old.settings old.order x go now in
-    let seen : sight_after h e.0 e.1 ≡ sight_in old.order old.source.left e.1 =
+    let outcome : sight_after h e.0 e.1 ≡ sight_in old.order old.source.left e.1 =
     ap (λ xs. sight_after h xs e.1) t.0 ∙ sight_take h mid.source.left e.1 ∙ ap (λ k. sight_after k mid.source.left e.1) head.1 ∙ ap (λ xs. sight_after (header_of old.order old.source.left) xs e.1) head.2 in (
       head.0,
-      (e.1, (λ whole. e.4 (call.whole ∙ whole)), subst Q seen (subst P call.config e.2)),
-      frame_behind old.order old.source.left mid.source.left new.source.left h head.1 head.2 t.1,
+      (e.1, (λ whole. e.4 (call.whole ∙ whole)), subst Q outcome (subst P call.config e.2)),
+      after_frame old.order old.source.left mid.source.left new.source.left h head.1 head.2 t.1,
       c.in-Ok-hand_after.ensures.reads ∙ head.3,
     )
 
 pub returns-in-Ok-hand_after-clause-keeps : goal.returns-in-Ok-hand_after-clause-keeps
 returns-in-Ok-hand_after-clause-keeps g c = λ start n k.
-    let old : Meaning = meaning (λ (o : Outer g.row.B.Denot). g.B.ParseBuf.source o.buf) g.E.Endian.order c.args.reader.now in
-    let mid : Meaning = meaning (λ (o : Outer g.row.B.Denot). g.B.ParseBuf.source o.buf) g.E.Endian.order c.next_header.new.self in
-    let new : Meaning = meaning (λ (o : Outer g.row.B.Denot). g.B.ParseBuf.source o.buf) g.E.Endian.order c.hand_after.new.reader in
+    let old : ReaderState = state_of (λ (o : Outer g.row.B.Denot). g.B.ParseBuf.source o.buf) g.E.Endian.order c.args.reader.now in
+    let mid : ReaderState = state_of (λ (o : Outer g.row.B.Denot). g.B.ParseBuf.source o.buf) g.E.Endian.order c.next_header.new.self in
+    let new : ReaderState = state_of (λ (o : Outer g.row.B.Denot). g.B.ParseBuf.source o.buf) g.E.Endian.order c.hand_after.new.reader in
     let e = c.in-Ok-hand_after.ensures in
     let first : Keeps old None mid = c.in-Ok.ensures.call.keeps old (keeps_none old) in
     let second : Keeps mid None new = moved_keeps mid new None 0 (omega (arith, e.reads)) e.stays (λ x. cc)
@@ -59,19 +59,19 @@ returns-in-Ok-hand_after-clause-keeps g c = λ start n k.
 
 pub returns-in-Err-hand_after-clause-stop : goal.returns-in-Err-hand_after-clause-stop
 returns-in-Err-hand_after-clause-stop g c = λ told.
-    let old : Meaning = meaning (λ (o : Outer g.row.B.Denot). g.B.ParseBuf.source o.buf) g.E.Endian.order c.args.reader.now in
-    let mid : Meaning = meaning (λ (o : Outer g.row.B.Denot). g.B.ParseBuf.source o.buf) g.E.Endian.order c.next_header.new.self in
-    let new : Meaning = meaning (λ (o : Outer g.row.B.Denot). g.B.ParseBuf.source o.buf) g.E.Endian.order c.hand_after.new.reader in
+    let old : ReaderState = state_of (λ (o : Outer g.row.B.Denot). g.B.ParseBuf.source o.buf) g.E.Endian.order c.args.reader.now in
+    let mid : ReaderState = state_of (λ (o : Outer g.row.B.Denot). g.B.ParseBuf.source o.buf) g.E.Endian.order c.next_header.new.self in
+    let new : ReaderState = state_of (λ (o : Outer g.row.B.Denot). g.B.ParseBuf.source o.buf) g.E.Endian.order c.hand_after.new.reader in
     let head = c.in-Ok.ensures.call.answer told in
     let e = c.in-Err-hand_after.ensures in
     let still = c.in-Ok.ensures.call.told told in
-    stops_behind old mid new c.in-Ok.header c.in-Err-hand_after.refusal (e.stops still) head.0 head.1 head.2 (e.left still)
+    stops_after old mid new c.in-Ok.header c.in-Err-hand_after.refusal (e.stops still) head.0 head.1 head.2 (e.left still)
 
 pub returns-in-Err-hand_after-clause-keeps : goal.returns-in-Err-hand_after-clause-keeps
 returns-in-Err-hand_after-clause-keeps g c = λ start n k.
-    let old : Meaning = meaning (λ (o : Outer g.row.B.Denot). g.B.ParseBuf.source o.buf) g.E.Endian.order c.args.reader.now in
-    let mid : Meaning = meaning (λ (o : Outer g.row.B.Denot). g.B.ParseBuf.source o.buf) g.E.Endian.order c.next_header.new.self in
-    let new : Meaning = meaning (λ (o : Outer g.row.B.Denot). g.B.ParseBuf.source o.buf) g.E.Endian.order c.hand_after.new.reader in
+    let old : ReaderState = state_of (λ (o : Outer g.row.B.Denot). g.B.ParseBuf.source o.buf) g.E.Endian.order c.args.reader.now in
+    let mid : ReaderState = state_of (λ (o : Outer g.row.B.Denot). g.B.ParseBuf.source o.buf) g.E.Endian.order c.next_header.new.self in
+    let new : ReaderState = state_of (λ (o : Outer g.row.B.Denot). g.B.ParseBuf.source o.buf) g.E.Endian.order c.hand_after.new.reader in
     let e = c.in-Err-hand_after.ensures in
     let kind : Option ErrorKind = Some (refusal_kind c.in-Err-hand_after.refusal) in
     let first : Keeps old None mid = c.in-Ok.ensures.call.keeps old (keeps_none old) in

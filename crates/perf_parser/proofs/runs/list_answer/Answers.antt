@@ -1,5 +1,5 @@
 use Rattle.perf_records.proofs.Making.{body_borrows}
-use Rattle.perf_records.proofs.Shown.{says_call}
+use Rattle.perf_records.proofs.Shown.{transition_call}
 use Rattle.perf_parser.proofs.Answering.{lists_record, lists_refused, lists_none}
 use Rattle.perf_parser.proofs.runs.list_answer.Goals as goal
 
@@ -7,16 +7,16 @@ pub returns-in-Ok : goal.returns-in-Ok
 returns-in-Ok g c =
     let e = c.in-Ok.ensures in
     lists_record g.B.ParseBuf.source g.B.ParseBuf.hint g.E.Endian.order c.args.header c.args.reader.now c.read_after.new.reader c.args.frames.now.items c.list_record.new.frames.items e.within
-    c.in-Ok.record (λ lacks. (e.short lacks).1) c.list_record.ensures (λ whole. body_borrows c.args.header (g.B.ParseBuf.source c.args.reader.now.input.buf).whole c.in-Ok.record e.event whole) (says_call c.args.header e.call)
+    c.in-Ok.record (λ lacks. (e.short lacks).1) c.list_record.ensures (λ whole. body_borrows c.args.header (g.B.ParseBuf.source c.args.reader.now.input.buf).whole c.in-Ok.record e.event whole) (transition_call c.args.header e.call)
 
 pub returns-in-Ok-list_refused : goal.returns-in-Ok-list_refused
 returns-in-Ok-list_refused g c =
     let e = c.in-Err.ensures in let after = c.in-Ok-list_refused.ensures in
     lists_refused g.B.ParseBuf.source g.B.ParseBuf.hint g.E.Endian.order c.args.header c.args.reader.now c.read_after.new.reader c.args.frames.now.items c.list_refused.new.frames.items e.within
-    c.list_refused.new.reader c.in-Err.refusal (says_call c.args.header e.call) after.buf after.config after.reads after.listed
+    c.list_refused.new.reader c.in-Err.refusal (transition_call c.args.header e.call) after.buf after.config after.reads after.listed
 
 pub returns-in-Err-list_refused : goal.returns-in-Err-list_refused
 returns-in-Err-list_refused g c =
     let e = c.in-Err.ensures in let after = c.in-Err-list_refused.ensures in
     lists_none g.B.ParseBuf.source g.B.ParseBuf.hint g.E.Endian.order c.args.header c.args.reader.now c.read_after.new.reader c.args.frames.now.items c.list_refused.new.frames.items e.within
-    c.list_refused.new.reader c.in-Err.refusal (says_call c.args.header e.call) after.buf after.config after.reads c.in-Err-list_refused.refusal after.stops after.kept e.spent
+    c.list_refused.new.reader c.in-Err.refusal (transition_call c.args.header e.call) after.buf after.config after.reads c.in-Err-list_refused.refusal after.stops after.kept e.spent

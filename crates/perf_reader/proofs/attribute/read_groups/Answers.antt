@@ -1,5 +1,5 @@
 use Rattle.std.proofs.Common.{◌≡◌, Err}
-use Rattle.perf_reader.proofs.Behind.{came_up}
+use Rattle.perf_reader.proofs.After.{came_up}
 use Rattle.perf_reader.proofs.Attributes.{front_stops, event_stops, wakeup_stops, registers_stop, aux_stops, last_stops, tail_stops}
 use Rattle.perf_reader.proofs.Attributes.{front_read, event_read, wakeup_read, registers_read, aux_read, last_read, tail_read}
 use Rattle.perf_reader.proofs.attribute.read_groups.Goals as goal

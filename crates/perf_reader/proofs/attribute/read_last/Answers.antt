@@ -1,6 +1,6 @@
 use Rattle.std.proofs.Common.{◌≡◌, Err}
 use Rattle.perf_base.specs.Attribute.{or_zero}
-use Rattle.perf_reader.proofs.Behind.{part_behind, part_stops, call_none, came_up}
+use Rattle.perf_reader.proofs.After.{part_after, part_stops, call_none, came_up}
 use Rattle.perf_reader.proofs.attribute.read_last.Goals as goal
 
 pub returns-in_err-read_u64_if-clause-call : goal.returns-in_err-read_u64_if-clause-call
@@ -11,15 +11,15 @@ returns-in_err-read_u64_if-clause-call g c =
 pub returns-in_err-read_u64_if-2-clause-call : goal.returns-in_err-read_u64_if-2-clause-call
 returns-in_err-read_u64_if-2-clause-call g c =
     let up : c.from_residual-in_err-read_u64_if-2.result ≡ Err c.in_err-read_u64_if-2.field-0.0 = came_up _ _ c.from_residual-in_err-read_u64_if-2.ensures in rw up (
-    part_behind _ _ _ c.in_ok-read_u64_if.ensures.call (
+    part_after _ _ _ c.in_ok-read_u64_if.ensures.call (
     part_stops _ _ _ c.in_err-read_u64_if-2.ensures.call))
 
 pub returns-clause-call : goal.returns-clause-call
 returns-clause-call g c =
     let v1 : c.unwrap_or.result ≡ or_zero c.in_ok-read_u64_if.field-0 = c.unwrap_or.ensures in
     let v2 : c.unwrap_or-2.result ≡ or_zero c.in_ok-read_u64_if-2.field-0 = c.unwrap_or-2.ensures in rw (v1, v2) (
-    part_behind _ _ _ c.in_ok-read_u64_if.ensures.call (
-    part_behind _ _ _ c.in_ok-read_u64_if-2.ensures.call (
+    part_after _ _ _ c.in_ok-read_u64_if.ensures.call (
+    part_after _ _ _ c.in_ok-read_u64_if-2.ensures.call (
     call_none {show = λ v. v})))
 
 pub returns-in_err-read_u64_if-clause-memory : goal.returns-in_err-read_u64_if-clause-memory

@@ -1,7 +1,7 @@
 use Rattle.std.proofs.Common.{rules, Some, true, refl, sym, ◌∙◌, ap}
 use Rattle.perf_base.specs.Layout.{done}
 use Rattle.perf_base.proofs.Took.{places_took}
-use Rattle.perf_reader.specs.Meaning.{Meaning, meaning}
+use Rattle.perf_reader.specs.ReaderState.{ReaderState, state_of}
 use Rattle.perf_records.specs.RecordTypes.{type_of}
 use Rattle.perf_records.specs.Records.{switch_is}
 use Rattle.perf_records.specs.declared.record_type.RecordType.{RecordType}
@@ -93,7 +93,7 @@ returns-in-AuxOutputHwId g c =
 -- nothing is read of SWITCH
 pub returns-in-Switch : goal.returns-in-Switch
 returns-in-Switch g c =
-    let old : Meaning = meaning g.I.Input.source g.E.Endian.order c.args.reader.now in
+    let old : ReaderState = state_of g.I.Input.source g.E.Endian.order c.args.reader.now in
     record {
       call = visits_type g.V.Visitor.gives c.args.metadata (ap type_of (sym c.ty.ensures) ∙ sym c.of.ensures ∙ c.in-Some.is ∙ ap (λ (k : RecordType). Some k) c.in-Switch.is) (record {
         config = refl;

@@ -1,15 +1,15 @@
 use Rattle.perf_base.specs.Cow.{is_borrowed}
 use Rattle.perf_records.specs.Records.{cgroup_is, cgroup_value}
 use Rattle.perf_types.specs.CGroup.{cgroup}
-use Rattle.perf_records.proofs.Seeing.{saw_lent, no_lent}
+use Rattle.perf_records.proofs.Seeing.{saw_borrowed, no_borrowed}
 use Rattle.perf_records.proofs.body.visit_cgroup.Goals as goal
 
 pub returns-in-Err : goal.returns-in-Err
 returns-in-Err g c = record {
-  call = no_lent g.V.Visitor.gives c.args.metadata (λ _. cgroup) cgroup_value cgroup_is c.in-Err.ensures.call;
+  call = no_borrowed g.V.Visitor.gives c.args.metadata (λ _. cgroup) cgroup_value cgroup_is c.in-Err.ensures.call;
 }
 
 pub returns-in-Ok : goal.returns-in-Ok
 returns-in-Ok g c = record {
-  call = saw_lent g.V.Visitor.gives c.args.metadata (λ _. cgroup) cgroup_value cgroup_is (λ r. is_borrowed r.path) c.visit_cgroup.ensures (λ is. is) (λ none. none) c.in-Ok.ensures.call;
+  call = saw_borrowed g.V.Visitor.gives c.args.metadata (λ _. cgroup) cgroup_value cgroup_is (λ r. is_borrowed r.path) c.visit_cgroup.ensures (λ is. is) (λ none. none) c.in-Ok.ensures.call;
 }

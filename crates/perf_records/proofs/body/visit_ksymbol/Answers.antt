@@ -1,15 +1,15 @@
 use Rattle.perf_base.specs.Cow.{is_borrowed}
 use Rattle.perf_records.specs.Records.{ksymbol_is, ksymbol_value}
 use Rattle.perf_types.specs.KSymbol.{ksymbol}
-use Rattle.perf_records.proofs.Seeing.{saw_lent, no_lent}
+use Rattle.perf_records.proofs.Seeing.{saw_borrowed, no_borrowed}
 use Rattle.perf_records.proofs.body.visit_ksymbol.Goals as goal
 
 pub returns-in-Err : goal.returns-in-Err
 returns-in-Err g c = record {
-  call = no_lent g.V.Visitor.gives c.args.metadata (λ _. ksymbol) ksymbol_value ksymbol_is c.in-Err.ensures.call;
+  call = no_borrowed g.V.Visitor.gives c.args.metadata (λ _. ksymbol) ksymbol_value ksymbol_is c.in-Err.ensures.call;
 }
 
 pub returns-in-Ok : goal.returns-in-Ok
 returns-in-Ok g c = record {
-  call = saw_lent g.V.Visitor.gives c.args.metadata (λ _. ksymbol) ksymbol_value ksymbol_is (λ r. is_borrowed r.name) c.visit_ksymbol.ensures (λ is. is) (λ none. none) c.in-Ok.ensures.call;
+  call = saw_borrowed g.V.Visitor.gives c.args.metadata (λ _. ksymbol) ksymbol_value ksymbol_is (λ r. is_borrowed r.name) c.visit_ksymbol.ensures (λ is. is) (λ none. none) c.in-Ok.ensures.call;
 }

@@ -4,42 +4,42 @@ use Rattle.perf_base.specs.Configured.{configuration_of, endian_of}
 use Rattle.perf_base.specs.Refusals.{kinds, refused}
 use Rattle.perf_base.specs.declared.config.ParseConfig.{ParseConfig}
 use Rattle.perf_buffers.specs.Buffer.{Source}
-use Rattle.perf_reader.specs.Meaning.{Meaning, meaning}
+use Rattle.perf_reader.specs.ReaderState.{ReaderState, state_of}
 use Rattle.perf_reader.proofs.Paying.{keeps_none}
 use Rattle.perf_records.specs.Bodies.{body}
-use Rattle.perf_records.specs.Visits.{Event, VisitsAll}
+use Rattle.perf_records.specs.Gives.{Event, GivesWholeBody}
 use Rattle.perf_records.proofs.Visiting.{visits_all}
 use Rattle.perf_records.proofs.Keeping.{inside_cannot_fault, inside_pays}
 use Rattle.perf_records.proofs.body_reader.read_from.Goals as goal
 
 pub returns-clause-answer : goal.returns-clause-answer
 returns-clause-answer g c = λ reads.
-    let gives : Event → _ → Type 0 = λ seen x. g.M.OfBody.gives seen c.args.state.now x c.read_body-output.new.state in
+    let gives : Event → _ → Type 0 = λ outcome x. g.M.OfBody.gives outcome c.args.state.now x c.read_body-output.new.state in
     let m = c.args.metadata in
-    let seen = kinds c.read_body-output.result in
+    let outcome = kinds c.read_body-output.result in
     let n = c.new-reader.ensures in
-    let old : Meaning = meaning g.I.Input.source g.E.Endian.order c.new-reader.result in
-    let new : Meaning = meaning g.I.Input.source g.E.Endian.order c.read_body-output.new.reader in
+    let old : ReaderState = state_of g.I.Input.source g.E.Endian.order c.new-reader.result in
+    let new : ReaderState = state_of g.I.Input.source g.E.Endian.order c.read_body-output.new.reader in
     let from : Source = g.I.Input.source c.args.bytes in
     let same : old.source ≡ from = ap g.I.Input.source n.input in
     let told : IsTrue old.source.told = subst (λ (s : Source). IsTrue s.told) (sym same) c.requires.told in
-    let done = visits_all gives m seen old new old.source.whole n.reads (λ is. is) ((c.read_body-output.ensures.call reads).answer told) in
-    let P : ParseConfig g.row.E.Denot → Type 0 = λ k. VisitsAll gives m (g.E.Endian.order (endian_of k)) (body (configuration_of k) m.ty) from.left from.whole seen new.reads in
-    let Q : Source → Type 0 = λ s. VisitsAll gives m old.order (body old.settings m.ty) s.left s.whole seen new.reads in
-    subst (λ k. VisitsAll gives m (g.E.Endian.order (endian_of c.args.config)) (body (configuration_of c.args.config) m.ty) from.left from.whole seen k) (sym c.into_reads.ensures)
+    let done = visits_all gives m outcome old new old.source.whole n.reads (λ is. is) ((c.read_body-output.ensures.call reads).answer told) in
+    let P : ParseConfig g.row.E.Denot → Type 0 = λ k. GivesWholeBody gives m (g.E.Endian.order (endian_of k)) (body (configuration_of k) m.ty) from.left from.whole outcome new.reads in
+    let Q : Source → Type 0 = λ s. GivesWholeBody gives m old.order (body old.settings m.ty) s.left s.whole outcome new.reads in
+    subst (λ k. GivesWholeBody gives m (g.E.Endian.order (endian_of c.args.config)) (body (configuration_of c.args.config) m.ty) from.left from.whole outcome k) (sym c.into_reads.ensures)
     (subst P n.config (subst Q same done))
 
 pub returns-clause-faults : goal.returns-clause-faults
 returns-clause-faults g c = λ reads.
     let n = c.new-reader.ensures in
-    let old : Meaning = meaning g.I.Input.source g.E.Endian.order c.new-reader.result in
+    let old : ReaderState = state_of g.I.Input.source g.E.Endian.order c.new-reader.result in
     let inside : old.source.can_fault ≡ _ = ap (λ i. (g.I.Input.source i).can_fault) n.input ∙ c.requires.inside in
     inside_cannot_fault (refused (kinds c.read_body-output.result)) (λ e. subst IsTrue inside (((c.read_body-output.ensures.call reads).keeps old (keeps_none old)).fault e))
 
 pub returns-clause-cost : goal.returns-clause-cost
 returns-clause-cost g c = λ reads.
     let n = c.new-reader.ensures in
-    let old : Meaning = meaning g.I.Input.source g.E.Endian.order c.new-reader.result in
+    let old : ReaderState = state_of g.I.Input.source g.E.Endian.order c.new-reader.result in
     let from : Source = g.I.Input.source c.args.bytes in
     let same : old.source ≡ from = ap g.I.Input.source n.input in
     let told : IsTrue old.source.told = subst (λ (s : Source). IsTrue s.told) (sym same) c.requires.told in

@@ -28,7 +28,7 @@ returns-else-not-is_eof-clause-handed g c =
     let P : ParseConfig g.row.E.Denot → Type 0 = λ k. g.H.FrameHandler.gets c.args.handler.now (configuration_of k) (g.E.Endian.order (endian_of k)) (bad h Eof) go now in
     let as-refused : g.H.FrameHandler.gets c.args.handler.now (configuration_of c.config-in-Err.result.now) (g.E.Endian.order (endian_of c.config-in-Err.result.now)) (bad c.new-bad-in-Err.result.header (refusal_kind c.new-bad-in-Err.result.refusal)) go now =
     subst (λ s. g.H.FrameHandler.gets s (configuration_of c.config-in-Err.result.now) (g.E.Endian.order (endian_of c.config-in-Err.result.now)) (bad c.new-bad-in-Err.result.header (refusal_kind c.new-bad-in-Err.result.refusal)) go now) e.same c.frame-in-Err.ensures in
-    let seen : bad c.new-bad-in-Err.result.header (refusal_kind c.new-bad-in-Err.result.refusal) ≡ bad h Eof = ap (λ k. bad k (refusal_kind c.new-bad-in-Err.result.refusal)) b.header ∙ ap (λ r. bad h (refusal_kind r)) b.refusal ∙ ap (bad h) kind in
-    let got : gets c.args.handler.now (bad h Eof) go now = subst P config (subst (λ x. g.H.FrameHandler.gets c.args.handler.now (configuration_of c.config-in-Err.result.now) (g.E.Endian.order (endian_of c.config-in-Err.result.now)) x go now) seen as-refused) in
+    let outcome : bad c.new-bad-in-Err.result.header (refusal_kind c.new-bad-in-Err.result.refusal) ≡ bad h Eof = ap (λ k. bad k (refusal_kind c.new-bad-in-Err.result.refusal)) b.header ∙ ap (λ r. bad h (refusal_kind r)) b.refusal ∙ ap (bad h) kind in
+    let got : gets c.args.handler.now (bad h Eof) go now = subst P config (subst (λ x. g.H.FrameHandler.gets c.args.handler.now (configuration_of c.config-in-Err.result.now) (g.E.Endian.order (endian_of c.config-in-Err.result.now)) x go now) outcome as-refused) in
     hands_unfinished gets h old new c.args.handler.now now go sized (λ none. let never : false ≡ true = (e.nothing none).0 in absurd (cc))
     (λ told. subst (λ (k : ErrorKind). FailsToKeep old (body_length h) k new) kind (e.err.1 told)) got

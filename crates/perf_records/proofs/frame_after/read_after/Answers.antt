@@ -5,7 +5,7 @@ use Rattle.perf_buffers.specs.Buffer.{Source}
 use Rattle.perf_buffers.specs.declared.outer.Outer.{Outer}
 use Rattle.perf_buffers.proofs.Taking.{takes_moves}
 use Rattle.perf_records.specs.Answers.{body_length}
-use Rattle.perf_records.specs.Visits.{Event}
+use Rattle.perf_records.specs.Gives.{Event}
 use Rattle.perf_records.proofs.Keeping.{taken_within}
 use Rattle.perf_records.proofs.Shown.{Read, frame_call, unread_call}
 use Rattle.perf_records.proofs.frame_after.read_after.Goals as goal
@@ -21,7 +21,7 @@ returns-in-Ok-clause-within g c = λ told.
 
 pub returns-in-Ok-clause-call : goal.returns-in-Ok-clause-call
 returns-in-Ok-clause-call g c =
-    let gives : Event → _ → Type 0 = λ seen x. g.M.OfBody.gives seen c.args.state.now x c.with_frame.new.state in
+    let gives : Event → _ → Type 0 = λ outcome x. g.M.OfBody.gives outcome c.args.state.now x c.with_frame.new.state in
     let source = λ (o : Outer g.row.B.Denot). g.B.ParseBuf.source o.buf in
     let h = c.args.header in
     let old = c.args.reader.now in let new = c.with_frame.new.self in
@@ -32,7 +32,7 @@ returns-in-Ok-clause-call g c =
 
 pub returns-in-Err-clause-call : goal.returns-in-Err-clause-call
 returns-in-Err-clause-call g c =
-    let gives : Event → _ → Type 0 = λ seen x. g.M.OfBody.gives seen c.args.state.now x c.with_frame.new.state in
+    let gives : Event → _ → Type 0 = λ outcome x. g.M.OfBody.gives outcome c.args.state.now x c.with_frame.new.state in
     let source = λ (o : Outer g.row.B.Denot). g.B.ParseBuf.source o.buf in
     let sized : 8 ≤ c.args.header.size = grind (arith, nat_tests) in
     let e = c.in-Err.ensures in

@@ -3,10 +3,10 @@ use Rattle.std.proofs.lemmas.List.{take_all, length-drop}
 use Rattle.perf_base.specs.Header.{header_of}
 use Rattle.perf_base.specs.Order.{Order}
 use Rattle.perf_base.specs.declared.sys.perf_event_header.{perf_event_header}
-use Rattle.perf_buffers.specs.Buffer.{chunk_bytes, lasts}
+use Rattle.perf_buffers.specs.Buffer.{chunk_bytes, chunk_is_borrowed}
 use Rattle.perf_records.specs.Answers.{body_length}
 use Rattle.perf_records.specs.Sights.{whole, sight_after}
-use Rattle.perf_records.proofs.Headers.{frame_behind, header_take}
+use Rattle.perf_records.proofs.Headers.{after_frame, header_take}
 use Rattle.perf_records.proofs.Handing.{finished}
 use Rattle.perf_records.proofs.frame_list.cut_first.Goals as goal
 
@@ -23,9 +23,9 @@ returns g c =
     let s = c.split_at.ensures in
     let long : body_length h ≤ length (drop 8 bytes) = subst (λ (xs : List ℕ). body_length h ≤ length xs) all c.if-rest-len.false in
     let body : chunk_bytes c.new-2.result.rest ≡ take (body_length h) (drop 8 bytes) = n.rest ∙ s.front ∙ ap (take (body_length h)) all in
-    let seen : whole c.new-2.result.header (chunk_bytes c.new-2.result.rest) (lasts c.new-2.result.rest) ≡ whole h (take (body_length h) (drop 8 bytes)) true =
-    ap (λ k. whole k (chunk_bytes c.new-2.result.rest) (lasts c.new-2.result.rest)) n.header ∙ ap (λ xs. whole h xs (lasts c.new-2.result.rest)) body ∙ ap (λ b. whole h (take (body_length h) (drop 8 bytes)) b) n.lasts in (
+    let outcome : whole c.new-2.result.header (chunk_bytes c.new-2.result.rest) (chunk_is_borrowed c.new-2.result.rest) ≡ whole h (take (body_length h) (drop 8 bytes)) true =
+    ap (λ k. whole k (chunk_bytes c.new-2.result.rest) (chunk_is_borrowed c.new-2.result.rest)) n.header ∙ ap (λ xs. whole h xs (chunk_is_borrowed c.new-2.result.rest)) body ∙ ap (λ b. whole h (take (body_length h) (drop 8 bytes)) b) n.chunk_is_borrowed in (
       fits,
-      seen ∙ sym (finished h (drop 8 bytes) true c.if-header-lt8.false long) ∙ ap (λ k. sight_after k (drop 8 bytes) true) e,
-      frame_behind o bytes (drop 8 bytes) c.split_at.result.1.now h e refl (s.back ∙ ap (drop (body_length h)) all),
+      outcome ∙ sym (finished h (drop 8 bytes) true c.if-header-lt8.false long) ∙ ap (λ k. sight_after k (drop 8 bytes) true) e,
+      after_frame o bytes (drop 8 bytes) c.split_at.result.1.now h e refl (s.back ∙ ap (drop (body_length h)) all),
     )

@@ -38,9 +38,9 @@ returns-in-Err-clause-id g c =
     let bytes = c.args.reader.now.input.now in
     let carries : carries_sample_id c.args.ty ≡ true = sym c.carries_sample_id.ensures ∙ c.if-carries_sample_id.true in
     let enough : length bytes ≡ sample_id_length settings = c.requires ∙ ap (λ (b : Bool). if b then sample_id_length settings else 0) carries in
-    let says = c.in-Err.ensures.call.answer refl in
+    let transition = c.in-Err.ensures.call.answer refl in
     let kept = c.in-Err.ensures.call.keeps _ (keeps_none _) in
-    never_refused _ (refusal_kind c.in-Err.field-0) (length bytes) (sample_id_length settings) enough says.0.1 kept.fault says.1
+    never_refused _ (refusal_kind c.in-Err.field-0) (length bytes) (sample_id_length settings) enough transition.0.1 kept.fault transition.1
 
 pub returns-in-Err-clause-reads : goal.returns-in-Err-clause-reads
 returns-in-Err-clause-reads g c =
@@ -48,9 +48,9 @@ returns-in-Err-clause-reads g c =
     let bytes = c.args.reader.now.input.now in
     let carries : carries_sample_id c.args.ty ≡ true = sym c.carries_sample_id.ensures ∙ c.if-carries_sample_id.true in
     let enough : length bytes ≡ sample_id_length settings = c.requires ∙ ap (λ (b : Bool). if b then sample_id_length settings else 0) carries in
-    let says = c.in-Err.ensures.call.answer refl in
+    let transition = c.in-Err.ensures.call.answer refl in
     let kept = c.in-Err.ensures.call.keeps _ (keeps_none _) in
-    never_refused _ (refusal_kind c.in-Err.field-0) (length bytes) (sample_id_length settings) enough says.0.1 kept.fault says.1
+    never_refused _ (refusal_kind c.in-Err.field-0) (length bytes) (sample_id_length settings) enough transition.0.1 kept.fault transition.1
 
 pub returns-in-Err-clause-bound : goal.returns-in-Err-clause-bound
 returns-in-Err-clause-bound g c =
@@ -58,6 +58,6 @@ returns-in-Err-clause-bound g c =
     let bytes = c.args.reader.now.input.now in
     let carries : carries_sample_id c.args.ty ≡ true = sym c.carries_sample_id.ensures ∙ c.if-carries_sample_id.true in
     let enough : length bytes ≡ sample_id_length settings = c.requires ∙ ap (λ (b : Bool). if b then sample_id_length settings else 0) carries in
-    let says = c.in-Err.ensures.call.answer refl in
+    let transition = c.in-Err.ensures.call.answer refl in
     let kept = c.in-Err.ensures.call.keeps _ (keeps_none _) in
-    never_refused _ (refusal_kind c.in-Err.field-0) (length bytes) (sample_id_length settings) enough says.0.1 kept.fault says.1
+    never_refused _ (refusal_kind c.in-Err.field-0) (length bytes) (sample_id_length settings) enough transition.0.1 kept.fault transition.1

@@ -12,10 +12,10 @@ use Rattle.perf_buffers.specs.Cursor.{cursor_left}
 use Rattle.perf_buffers.specs.Taking.{Moves, MovesWithin, FailsToKeep}
 use Rattle.perf_buffers.proofs.Taking.{takes_moves}
 use Rattle.perf_reader.specs.Calls.{Call}
-use Rattle.perf_reader.specs.Meaning.{Meaning, meaning}
+use Rattle.perf_reader.specs.ReaderState.{ReaderState, state_of}
 use Rattle.perf_reader.specs.Reading.{Keeps}
 use Rattle.perf_reader.proofs.Paying.{keeps_none, keeps_more, can_fault, within_taken}
-use Rattle.perf_records.specs.Answers.{body_length, FrameParts, answered_parts, frame_parts, parts_of, SplitsBehind}
+use Rattle.perf_records.specs.Answers.{body_length, FrameParts, answered_parts, frame_parts, parts_of, SplitsAfter}
 use Rattle.perf_records.specs.Parts.{FindsId}
 use Rattle.perf_records.specs.Metadata.{id_length}
 use Rattle.perf_records.proofs.Keeping.{moved_keeps, stays_refused, within_none, within_kept, taken_pays}
@@ -33,8 +33,8 @@ last_all frame bytes n all is = let none : length frame - n ≡ 0 = omega (arith
 -- the cut was refused
 pub returns-in-Err-clause-call : goal.returns-in-Err-clause-call
 returns-in-Err-clause-call g c =
-    let old : Meaning = meaning g.I.Input.source g.E.Endian.order c.args.reader.now in
-    let new : Meaning = meaning g.I.Input.source g.E.Endian.order c.cut.new.self in
+    let old : ReaderState = state_of g.I.Input.source g.E.Endian.order c.args.reader.now in
+    let new : ReaderState = state_of g.I.Input.source g.E.Endian.order c.cut.new.self in
     let h = c.args.header in
     let kind : ErrorKind = refusal_kind c.in-Err.refusal in
     let e = c.in-Err.ensures in
@@ -51,9 +51,9 @@ returns-in-Err-clause-call g c =
 -- the frame was split
 pub returns-clause-call : goal.returns-clause-call
 returns-clause-call g c =
-    let old : Meaning = meaning g.I.Input.source g.E.Endian.order c.args.reader.now in
-    let mid : Meaning = meaning g.I.Input.source g.E.Endian.order c.cut.new.self in
-    let new : Meaning = meaning g.I.Input.source g.E.Endian.order c.count.new.self in
+    let old : ReaderState = state_of g.I.Input.source g.E.Endian.order c.args.reader.now in
+    let mid : ReaderState = state_of g.I.Input.source g.E.Endian.order c.cut.new.self in
+    let new : ReaderState = state_of g.I.Input.source g.E.Endian.order c.count.new.self in
     let h = c.args.header in
     let frame : List ℕ = cursor_left c.in-Ok.frame in
     let id = c.in-Ok-id_in.id in
@@ -89,8 +89,8 @@ returns-clause-call g c =
 -- it is too short for its sample id
 pub returns-in-Err-id_in-clause-call : goal.returns-in-Err-id_in-clause-call
 returns-in-Err-id_in-clause-call g c =
-    let old : Meaning = meaning g.I.Input.source g.E.Endian.order c.args.reader.now in
-    let new : Meaning = meaning g.I.Input.source g.E.Endian.order c.cut.new.self in
+    let old : ReaderState = state_of g.I.Input.source g.E.Endian.order c.args.reader.now in
+    let new : ReaderState = state_of g.I.Input.source g.E.Endian.order c.cut.new.self in
     let h = c.args.header in
     let frame : List ℕ = cursor_left c.in-Ok.frame in
     let e = c.in-Ok.ensures in
@@ -103,7 +103,7 @@ returns-in-Err-id_in-clause-call g c =
     let stays : Stays old.source (Some InvalidRecord) new.source = stays_refused old.source new.source InvalidRecord refl e.stays in
     let kept : Keeps old (Some InvalidRecord) new = moved_keeps old new (Some InvalidRecord) 0 (omega (arith, e.reads)) stays (λ x. cc) (λ told.
     let m = takes_moves old.source new.source (body_length h) (e.ok told).0 in (m, omega (arith, m.0))) in
-    subst (λ k. Call g.I.Input.source g.E.Endian.order (SplitsBehind h) c.args.reader.now (Err k) c.cut.new.self) (sym (ap refusal_kind t.refused.0)) (record {
+    subst (λ k. Call g.I.Input.source g.E.Endian.order (SplitsAfter h) c.args.reader.now (Err k) c.cut.new.self) (sym (ap refusal_kind t.refused.0)) (record {
       config = e.config;
       whole = stays.0;
       told = stays.3;
@@ -274,7 +274,7 @@ returns-then-header-lt8-clause-paid g c = λ told. tt
 
 pub returns-then-header-lt8-clause-call : goal.returns-then-header-lt8-clause-call
 returns-then-header-lt8-clause-call g c =
-    let old : Meaning = meaning g.I.Input.source g.E.Endian.order c.args.reader.now in
+    let old : ReaderState = state_of g.I.Input.source g.E.Endian.order c.args.reader.now in
     let h = c.args.header in
     let small : h.size < 8 = omega arith in
     let stays : Stays old.source (Some InvalidRecord) old.source = stays_refused old.source old.source InvalidRecord refl (keeps_none old).buffer in

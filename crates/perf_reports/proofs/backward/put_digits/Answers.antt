@@ -1,5 +1,5 @@
 use Rattle.std.proofs.Common.{◌≡◌, ◌%◌, refl, arith, append_assoc}
-use Rattle.perf_reports.proofs.Hex.{length_digits, length_pair, length_two, length_one, digits_pair, digits_two, digits_one, PAIRS_at, IsUtf8-behind_digits}
+use Rattle.perf_reports.proofs.Hex.{length_digits, length_pair, length_two, length_one, digits_pair, digits_two, digits_one, PAIRS_at, IsUtf8-after_digits}
 use Rattle.perf_reports.proofs.backward.put_digits.Goals as goal
 
 pub loop-left-init : goal.loop-left-init
@@ -50,10 +50,10 @@ returns-clause-written c =
     rw (c.put_byte.ensures.written, p.1, same) (rw (digits_one c.loop-left.left (omega arith)) at c.loop-left.invariant.written)
 
 pub returns-then-left-ge16-clause-text : goal.returns-then-left-ge16-clause-text
-returns-then-left-ge16-clause-text c = IsUtf8-behind_digits c.args.number _ _ (returns-then-left-ge16-clause-written c)
+returns-then-left-ge16-clause-text c = IsUtf8-after_digits c.args.number _ _ (returns-then-left-ge16-clause-written c)
 
 pub returns-clause-start : goal.returns-clause-start
 returns-clause-start c = omega (arith, length_one c.loop-left.left (omega arith), length_digits c.args.number c.ranges.number.fits)
 
 pub returns-clause-text : goal.returns-clause-text
-returns-clause-text c = IsUtf8-behind_digits c.args.number _ _ (returns-clause-written c)
+returns-clause-text c = IsUtf8-after_digits c.args.number _ _ (returns-clause-written c)

@@ -11,9 +11,9 @@ returns-clause-written c =
     let end = c.args.end in
     let buffer = c.args.buffer.now in
     let second : end - 2 + 1 ≡ end - 1 = omega arith in
-    let behind : end - 1 + 1 ≡ end = omega arith in
+    let after : end - 1 + 1 ≡ end = omega arith in
     let low = digit_glyph false (c.args.byte % 16) in
-    rw (p.0, p.1, set_comm buffer (end - 2) (end - 1) _ _ (λ x. omega arith), drop-set (set buffer (end - 1) low) (end - 2) _ (omega (arith, length-set buffer (end - 1) low)), second, drop-set buffer (end - 1) _ (omega arith), behind)
+    rw (p.0, p.1, set_comm buffer (end - 2) (end - 1) _ _ (λ x. omega arith), drop-set (set buffer (end - 1) low) (end - 2) _ (omega (arith, length-set buffer (end - 1) low)), second, drop-set buffer (end - 1) _ (omega arith), after)
 
 pub returns-clause-text : goal.returns-clause-text
-returns-clause-text c = λ behind. rw (returns-clause-written c) (IsUtf8-append _ _ (IsUtf8-pair c.args.byte c.requires.0) behind)
+returns-clause-text c = λ after. rw (returns-clause-written c) (IsUtf8-append _ _ (IsUtf8-pair c.args.byte c.requires.0) after)

@@ -7,4 +7,4 @@ pub returns-clause-written : goal.returns-clause-written
 returns-clause-written c = grind (arith, common_steps)
 
 pub returns-clause-text : goal.returns-clause-text
-returns-clause-text c = λ behind. rw (returns-clause-written c) (IsUtf8-append _ _ c.utf8.word behind)
+returns-clause-text c = λ after. rw (returns-clause-written c) (IsUtf8-append _ _ c.utf8.word after)

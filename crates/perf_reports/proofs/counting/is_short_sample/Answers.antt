@@ -2,7 +2,7 @@ use Rattle.std.proofs.Common.{◌≡◌, ◌<◌, length, ap, sym, ◌∙◌, ar
 use Rattle.std.proofs.lemmas.Bool.{ltb-true}
 use Rattle.perf_base.specs.Configuration.{Configuration}
 use Rattle.perf_base.specs.Configured.{configuration_of, endian_of}
-use Rattle.perf_buffers.specs.Words.{chunk_bytes}
+use Rattle.perf_buffers.specs.Prelude.{chunk_bytes}
 use Rattle.perf_reports.proofs.Counted.{short_refused}
 use Rattle.perf_reports.proofs.counting.is_short_sample.Goals as goal
 

@@ -1,5 +1,5 @@
 use Rattle.perf_base.specs.Configured.{configuration_of, endian_of}
-use Rattle.perf_buffers.specs.Words.{chunk_bytes}
+use Rattle.perf_buffers.specs.Prelude.{chunk_bytes}
 use Rattle.perf_reports.proofs.Counted.{unknown_adds}
 use Rattle.perf_reports.proofs.counting.unknown_sum.Goals as goal
 

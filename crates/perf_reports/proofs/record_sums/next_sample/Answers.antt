@@ -1,8 +1,8 @@
 use Rattle.std.proofs.Common.{◌≡◌, true, false, refl}
 use Rattle.perf_records.specs.Records.{sample_is, sample_value}
-use Rattle.perf_records.specs.Visits.{is_lent_sample}
+use Rattle.perf_records.specs.Gives.{is_borrowed_sample}
 use Rattle.perf_sample_types.specs.Sample.{sample}
-use Rattle.perf_records.proofs.Lending.{sample_lent}
+use Rattle.perf_records.proofs.Lending.{sample_borrowed}
 use Rattle.perf_records.proofs.Seeing.{visited, unvisited, of_said}
 use Rattle.perf_reports.specs.Counting.{Adds}
 use Rattle.perf_reports.proofs.record_sums.next_sample.Goals as goal
@@ -14,6 +14,6 @@ returns g c = λ m.
 
 pub returns-in-Ok : goal.returns-in-Ok
 returns-in-Ok g c = λ m.
-    let held = c.fill_sample.new.sample in
+    let content = c.fill_sample.new.sample in
     let call = c.in-Ok.ensures.call in
-    visited Adds m sample sample_value sample_is (is_lent_sample held) true c.sample_sum.ensures (λ t w. sample_lent held ((call.answer t).1 w)) (λ is. refl) (of_said (λ says. says.0) call)
+    visited Adds m sample sample_value sample_is (is_borrowed_sample content) true c.sample_sum.ensures (λ t w. sample_borrowed content ((call.answer t).1 w)) (λ is. refl) (of_said (λ says. says.0) call)

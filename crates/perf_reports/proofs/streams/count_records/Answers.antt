@@ -1,8 +1,8 @@
 use Rattle.std.proofs.Common.{List, ℕ, sym, subst}
 use Rattle.std.specs.Prelude.{Option}
-use Rattle.perf_parser.specs.Meaning.{buffer_of, meaning}
+use Rattle.perf_parser.specs.ReaderState.{buffer_of, state_of}
 use Rattle.perf_parser.specs.declared.runs.RunEnd.{RunEnd}
-use Rattle.perf_reader.specs.Meaning.{Meaning}
+use Rattle.perf_reader.specs.ReaderState.{ReaderState}
 use Rattle.perf_reports.specs.Counting.{CountsRun, EndsBy}
 use Rattle.perf_reports.specs.declared.counts.Counts.{Counts}
 use Rattle.perf_reports.specs.declared.streams.TheConstants.{MOST_FRAMES}
@@ -12,7 +12,7 @@ use Rattle.perf_reports.proofs.streams.count_records.Goals.{in-Some, in-None}
 
 pub returns-clause-counts : goal.returns-clause-counts
 returns-clause-counts g c = λ told.
-    let old : Meaning = meaning g.B.ParseBuf.source g.E.Endian.order c.args.parser.now in
+    let old : ReaderState = state_of g.B.ParseBuf.source g.E.Endian.order c.args.parser.now in
     let left : List ℕ = (g.B.ParseBuf.source (buffer_of c.each_frame-run.new.parser)).left in
     let run = c.each_frame-run in
     let now = run.new.handler in

@@ -4,7 +4,7 @@ use Rattle.perf_base.specs.Configuration.{Configuration, configured_by}
 use Rattle.perf_base.specs.Configured.{configuration_of, endian_of}
 use Rattle.perf_base.specs.Order.{Order}
 use Rattle.perf_base.specs.declared.config.ParseConfig.{ParseConfig}
-use Rattle.perf_parser.specs.Meaning.{buffer_of, config_of}
+use Rattle.perf_parser.specs.ReaderState.{buffer_of, config_of}
 use Rattle.perf_reports.specs.Counting.{CountsRun, CountsStream, attribute_in}
 use Rattle.perf_reports.specs.declared.streams.TheConstants.{MOST_FRAMES}
 use Rattle.perf_reports.proofs.streams.count_stream.Goals as goal

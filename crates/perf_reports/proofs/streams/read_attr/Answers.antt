@@ -1,7 +1,7 @@
 use Rattle.std.proofs.Common.{ap, ◌∙◌}
 use Rattle.perf_base.specs.Configured.{configuration_of, endian_of}
 use Rattle.perf_base.specs.Errors.{kind_of}
-use Rattle.perf_parser.specs.Meaning.{buffer_of, config_of, reads_of}
+use Rattle.perf_parser.specs.ReaderState.{buffer_of, config_of, reads_of}
 use Rattle.perf_reports.proofs.Counted.{attribute_read, attribute_refused}
 use Rattle.perf_reports.proofs.streams.read_attr.Goals as goal
 

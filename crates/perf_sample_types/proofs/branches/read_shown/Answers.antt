@@ -3,7 +3,7 @@ use Rattle.std.specs.List.{flat_map}
 use Rattle.std.specs.Prelude.{IsTrue}
 use Rattle.perf_base.specs.Layout.{words_of}
 use Rattle.perf_buffers.specs.Taking.{Takes}
-use Rattle.perf_reader.specs.Meaning.{Meaning, meaning}
+use Rattle.perf_reader.specs.ReaderState.{ReaderState, state_of}
 use Rattle.perf_reader.proofs.AtHand.{shown_there}
 use Rattle.perf_sample_types.specs.Branches.{branch_numbers}
 use Rattle.perf_sample_types.proofs.branches.read_shown.Goals as goal
@@ -12,8 +12,8 @@ pub returns-in-Ok-clause-shown : goal.returns-in-Ok-clause-shown
 returns-in-Ok-clause-shown g c =
     let source = g.I.Input.source in
     let order = g.E.Endian.order in
-    let old : Meaning = meaning source order c.args.reader.now in
-    let new : Meaning = meaning source order c.pass.new.self in
+    let old : ReaderState = state_of source order c.args.reader.now in
+    let new : ReaderState = state_of source order c.pass.new.self in
     let n = length c.args.branches.now in
     let shown : List ℕ = c.shown-shown.result.now in
     let ys : List ℕ = flat_map branch_numbers c.convert.new.branches in

@@ -2,7 +2,7 @@ use Rattle.std.proofs.Common.{◌≡◌, Err, refl, arith, true, false}
 use Rattle.std.specs.Prelude.{nat_le}
 use Rattle.perf_base.specs.declared.error.ErrorKind.TheVariants.{InvalidRecord}
 use Rattle.perf_reader.proofs.Asked.{check_holds, check_fails, not_for_memory}
-use Rattle.perf_reader.proofs.Behind.{part_behind, part_stops, call_none}
+use Rattle.perf_reader.proofs.After.{part_after, part_stops, call_none}
 use Rattle.perf_types.specs.MmapDetail.{detail_value}
 use Rattle.perf_types.proofs.Readings.{came_up}
 use Rattle.perf_types.proofs.mmap2.read_build_id.Goals as goal
@@ -15,22 +15,22 @@ returns-in_err-len-clause-call g c =
 pub returns-in_err-skip-clause-call : goal.returns-in_err-skip-clause-call
 returns-in_err-skip-clause-call g c =
     let up : c.from_residual-in_err-skip.result ≡ Err c.in_err-skip.field-0.0 = came_up _ _ c.from_residual-in_err-skip.ensures in rw up (
-    part_behind _ _ _ c.in_ok-len.ensures.call (
+    part_after _ _ _ c.in_ok-len.ensures.call (
     part_stops _ _ _ c.in_err-skip.ensures.call))
 
 pub returns-in_err-build_id-clause-call : goal.returns-in_err-build_id-clause-call
 returns-in_err-build_id-clause-call g c =
     let up : c.from_residual-in_err-build_id.result ≡ Err c.in_err-build_id.field-0.0 = came_up _ _ c.from_residual-in_err-build_id.ensures in rw up (
-    part_behind _ _ _ c.in_ok-len.ensures.call (
-    part_behind _ _ _ c.in_ok-skip.ensures.call (
+    part_after _ _ _ c.in_ok-len.ensures.call (
+    part_after _ _ _ c.in_ok-skip.ensures.call (
     part_stops _ _ _ c.in_err-build_id.ensures.call)))
 
 pub returns-clause-call : goal.returns-clause-call
 returns-clause-call g c =
     let fits : nat_le c.in_ok-len.len 20 ≡ true = grind arith in
-    part_behind _ _ _ c.in_ok-len.ensures.call (
-    part_behind _ _ _ c.in_ok-skip.ensures.call (
-    part_behind _ _ _ c.in_ok-build_id.ensures.call (
+    part_after _ _ _ c.in_ok-len.ensures.call (
+    part_after _ _ _ c.in_ok-skip.ensures.call (
+    part_after _ _ _ c.in_ok-build_id.ensures.call (
     check_holds _ _ _ fits (
     call_none {show = detail_value}))))
 
@@ -67,9 +67,9 @@ returns-then-len-gt-BUILD_ID_SIZE_MAX-clause-fitting g c = tt
 pub returns-then-len-gt-BUILD_ID_SIZE_MAX-clause-call : goal.returns-then-len-gt-BUILD_ID_SIZE_MAX-clause-call
 returns-then-len-gt-BUILD_ID_SIZE_MAX-clause-call g c =
     let long : nat_le c.in_ok-len.len 20 ≡ false = grind arith in
-    part_behind _ _ _ c.in_ok-len.ensures.call (
-    part_behind _ _ _ c.in_ok-skip.ensures.call (
-    part_behind _ _ _ c.in_ok-build_id.ensures.call (
+    part_after _ _ _ c.in_ok-len.ensures.call (
+    part_after _ _ _ c.in_ok-skip.ensures.call (
+    part_after _ _ _ c.in_ok-build_id.ensures.call (
     check_fails _ _ _ refl long)))
 
 pub returns-clause-memory : goal.returns-clause-memory

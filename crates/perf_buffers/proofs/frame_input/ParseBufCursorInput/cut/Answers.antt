@@ -1,13 +1,13 @@
 use Rattle.std.proofs.Common.{◌≡◌, ◌≤◌, ◌∙◌, List, ℕ, ap, subst, refl, take, drop, length}
 use Rattle.std.proofs.lemmas.List.{length-take-le}
 use Rattle.perf_base.specs.Refusals.{refusal_kind}
-use Rattle.perf_buffers.specs.Taking.{FailsBehind}
-use Rattle.perf_buffers.proofs.Behind.{enough, fewer, refused_behind}
+use Rattle.perf_buffers.specs.Taking.{FailsAfter}
+use Rattle.perf_buffers.proofs.After.{enough, fewer, refused_after}
 use Rattle.perf_buffers.proofs.frame_input.ParseBufCursorInput.cut.Goals as goal
 
-pub returns-in-Lent : goal.returns-in-Lent
-returns-in-Lent c =
-    let e = c.cut.ensures in rw c.in-Lent.is (record {
+pub returns-in-Borrowed : goal.returns-in-Borrowed
+returns-in-Borrowed c =
+    let e = c.cut.ensures in rw c.in-Borrowed.is (record {
       stays = e.stays;
       can_fail = e.can_fail;
       whole = e.whole;
@@ -27,8 +27,8 @@ returns-in-Ok c =
     let from = c.in-Own.place in
     let bytes : List ℕ = c.in-Own.bytes.items in
     let copy : List ℕ = c.in-Ok.copy.items in
-    let e : (n ≤ length (drop from bytes)) × (copy ≡ take n (drop from bytes)) × (drop c.copy_behind.new.place bytes ≡ drop n (drop from bytes)) =
-    subst (λ xs. (n ≤ length (drop from xs)) × (copy ≡ take n (drop from xs)) × (drop c.copy_behind.new.place xs ≡ drop n (drop from xs))) c.deref.ensures.value c.in-Ok.ensures.ok in rw c.in-Own.is (record {
+    let e : (n ≤ length (drop from bytes)) × (copy ≡ take n (drop from bytes)) × (drop c.copy_after.new.place bytes ≡ drop n (drop from bytes)) =
+    subst (λ xs. (n ≤ length (drop from xs)) × (copy ≡ take n (drop from xs)) × (drop c.copy_after.new.place xs ≡ drop n (drop from xs))) c.deref.ensures.value c.in-Ok.ensures.ok in rw c.in-Own.is (record {
       stays = (refl, (λ t. t), refl, (λ t. t));
       can_fail = tt;
       whole = λ w. w;
@@ -48,7 +48,7 @@ returns-in-Err c =
     let from = c.in-Own.place in
     let bytes : List ℕ = c.in-Own.bytes.items in
     let kind = refusal_kind c.in-Err.refusal in
-    let r = refused_behind n kind bytes from c.copy_behind.new.place (subst (λ xs. FailsBehind kind n xs from c.copy_behind.new.place) c.deref.ensures.value c.in-Err.ensures.err) in rw c.in-Own.is (record {
+    let r = refused_after n kind bytes from c.copy_after.new.place (subst (λ xs. FailsAfter kind n xs from c.copy_after.new.place) c.deref.ensures.value c.in-Err.ensures.err) in rw c.in-Own.is (record {
       stays = (refl, (λ t. t), r.faults, (λ t. t));
       can_fail = r.can_fail;
       whole = λ w. tt;

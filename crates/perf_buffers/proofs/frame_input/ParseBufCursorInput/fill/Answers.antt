@@ -1,8 +1,8 @@
 use Rattle.perf_buffers.proofs.frame_input.ParseBufCursorInput.fill.Goals as goal
 
-pub returns-in-Lent : goal.returns-in-Lent
-returns-in-Lent c =
-    let e = c.fill.ensures in rw c.in-Lent.is (record {
+pub returns-in-Borrowed : goal.returns-in-Borrowed
+returns-in-Borrowed c =
+    let e = c.fill.ensures in rw c.in-Borrowed.is (record {
       stays = e.stays;
       can_fail = e.can_fail;
       memory = e.memory;

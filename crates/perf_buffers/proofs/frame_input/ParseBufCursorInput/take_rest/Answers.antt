@@ -1,8 +1,8 @@
 use Rattle.std.proofs.Common.{◌≡◌, ◌∙◌, ap, sym, subst, refl, None, Some}
 use Rattle.perf_buffers.specs.Buffer.{Source, faults_after}
-use Rattle.perf_buffers.specs.Cursor.{held_left}
+use Rattle.perf_buffers.specs.Cursor.{content_left}
 use Rattle.perf_buffers.specs.Taking.{CanFail, FailsInRest}
-use Rattle.perf_buffers.proofs.Behind.{own}
+use Rattle.perf_buffers.proofs.After.{own}
 use Rattle.perf_buffers.proofs.Chunks.{moves_none}
 use Rattle.perf_buffers.proofs.frame_input.ParseBufCursorInput.take_rest.Goals as goal
 
@@ -18,9 +18,9 @@ returns-then-is_empty c =
       err = λ told. tt;
     }
 
-pub returns-in-Lent : goal.returns-in-Lent
-returns-in-Lent c =
-    let e = c.take_rest.ensures in rw c.in-Lent.is (record {
+pub returns-in-Borrowed : goal.returns-in-Borrowed
+returns-in-Borrowed c =
+    let e = c.take_rest.ensures in rw c.in-Borrowed.is (record {
       stays = e.stays;
       can_fail = e.can_fail;
       whole = e.whole;
@@ -36,7 +36,7 @@ returns-in-Ok c = rw c.in-Own.is (record {
   can_fail = tt;
   whole = λ w. w;
   whole_memory = λ w. tt;
-  nothing = λ told none. let never = sym c.if-is_empty.false ∙ c.is_empty.ensures.1 (ap held_left c.in-Own.is ∙ none) in (tt, cc);
+  nothing = λ told none. let never = sym c.if-is_empty.false ∙ c.is_empty.ensures.1 (ap content_left c.in-Own.is ∙ none) in (tt, cc);
   ok = λ told. c.in-Ok.ensures.ok;
   err = λ told. tt;
 })
@@ -51,7 +51,7 @@ returns-in-Err c =
       can_fail = subst (λ k. CanFail old (Some k)) kind tt;
       whole = λ w. tt;
       whole_memory = λ w. cc;
-      nothing = λ told none. let never = sym c.if-is_empty.false ∙ c.is_empty.ensures.1 (ap held_left c.in-Own.is ∙ none) in (cc, tt);
+      nothing = λ told none. let never = sym c.if-is_empty.false ∙ c.is_empty.ensures.1 (ap content_left c.in-Own.is ∙ none) in (cc, tt);
       ok = λ told. tt;
       err = λ told. subst (λ k. FailsInRest old k new) kind (moves_none old new e.1);
     })

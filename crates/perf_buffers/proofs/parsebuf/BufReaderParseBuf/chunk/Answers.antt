@@ -3,7 +3,7 @@ use Rattle.std.proofs.lemmas.List.{take_at}
 use Rattle.std.specs.Prelude.{if◌then◌else◌, IsTrue}
 use Rattle.std.specs.Io.{StartsWith}
 use Rattle.std.specs.Io.KnownBytes.{prepend_known}
-use Rattle.perf_buffers.specs.Words.{reader_remaining, known, is_known}
+use Rattle.perf_buffers.specs.Prelude.{reader_remaining, known, is_known}
 use Rattle.perf_buffers.proofs.parsebuf.BufReaderParseBuf.chunk.Goals as goal
 
 -- bytes that were read ahead are the first of the known ones

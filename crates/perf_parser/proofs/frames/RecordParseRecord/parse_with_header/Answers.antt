@@ -1,7 +1,7 @@
 use Rattle.std.proofs.Common.{◌∙◌, sym, ap, subst, Err}
 use Rattle.perf_base.specs.Refusals.{IsAnswerOf}
 use Rattle.perf_records.proofs.Making.{body_borrows}
-use Rattle.perf_records.proofs.Shown.{says_call}
+use Rattle.perf_records.proofs.Shown.{transition_call}
 use Rattle.perf_parser.proofs.Lifting.{lifted, answered}
 use Rattle.perf_parser.proofs.frames.RecordParseRecord.parse_with_header.Goals as goal
 
@@ -35,7 +35,7 @@ pub returns-in-Ok-clause-spent : goal.returns-in-Ok-clause-spent
 returns-in-Ok-clause-spent g c = c.in-Ok.ensures.spent
 
 pub returns-in-Ok-clause-call : goal.returns-in-Ok-clause-call
-returns-in-Ok-clause-call g c = lifted _ _ _ _ _ _ (says_call c.args.header c.in-Ok.ensures.call)
+returns-in-Ok-clause-call g c = lifted _ _ _ _ _ _ (transition_call c.args.header c.in-Ok.ensures.call)
 
 -- a refusal that becomes an error leaves the buffer as it is, and keeps its kind
 
@@ -73,4 +73,4 @@ returns-in-Err-clause-spent g c = λ told whole out.
 pub returns-in-Err-clause-call : goal.returns-in-Err-clause-call
 returns-in-Err-clause-call g c =
     let same = c.answer.ensures in
-    answered _ _ _ _ _ c.read_after.new.reader _ _ (says_call c.args.header c.in-Err.ensures.call) same.error.kind_is same.buf same.config same.reads
+    answered _ _ _ _ _ c.read_after.new.reader _ _ (transition_call c.args.header c.in-Err.ensures.call) same.error.kind_is same.buf same.config same.reads

@@ -6,43 +6,43 @@ use Rattle.perf_base.specs.Header.{header as header_parts}
 use Rattle.perf_base.specs.declared.config.ParseConfig.{ParseConfig}
 use Rattle.perf_base.specs.declared.error.ErrorKind.{ErrorKind}
 use Rattle.perf_base.specs.declared.sys.perf_event_header.{perf_event_header}
-use Rattle.perf_reader.specs.Meaning.{Meaning}
-use Rattle.perf_records.specs.Answers.{body_length, split_behind, answer_behind, reads_behind}
+use Rattle.perf_reader.specs.ReaderState.{ReaderState}
+use Rattle.perf_records.specs.Answers.{body_length, split_after, answer_after, reads_after}
 use Rattle.perf_records.specs.Bodies.{wants_memory}
 use Rattle.perf_records.specs.Records.{RecordValue}
-use Rattle.perf_records.specs.Visits.{VisitsExactly}
+use Rattle.perf_records.specs.Gives.{GivesExactly}
 use Rattle.perf_records.proofs.Headers.{header_read, header_unread, tells_no_header, no_header_within, frame_within, refuses_read, refuses_unread}
 use Rattle.perf_records.proofs.Saying.{took_ran, quit_stopped}
 use Rattle.perf_records.proofs.Visiting.{visits_frame}
-use Rattle.perf_parser.specs.Meaning.{meaning}
+use Rattle.perf_parser.specs.ReaderState.{state_of}
 use Rattle.perf_parser.proofs.parser.Parser.parse_record.Goals as goal
 
 -- the header was refused
 pub returns-in-Err : goal.returns-in-Err
 returns-in-Err g c =
-    let old : Meaning = meaning g.B.ParseBuf.source g.E.Endian.order c.args.self.now in
-    let new : Meaning = meaning g.B.ParseBuf.source g.E.Endian.order c.parse.new.self in
+    let old : ReaderState = state_of g.B.ParseBuf.source g.E.Endian.order c.args.self.now in
+    let new : ReaderState = state_of g.B.ParseBuf.source g.E.Endian.order c.parse.new.self in
     let kind : ErrorKind = kind_of c.in-Err.error in
     let read = c.in-Err.ensures.call in record {
       small = λ told.
-          let says = read.answer told in
+          let transition = read.answer told in
           refuses_unread old.order old.source.left new.source.left kind
-          (λ layout. header_unread old.order old.source.left new.source.left kind (quit_stopped old.order header_parts old.source.left new.source.left old.reads new.reads kind (says.0 layout)).0)
-          says.1;
+          (λ layout. header_unread old.order old.source.left new.source.left kind (quit_stopped old.order header_parts old.source.left new.source.left old.reads new.reads kind (transition.0 layout)).0)
+          transition.1;
       call = record {
         config = read.config;
         whole = read.whole;
         told = read.told;
         answer = λ told.
-            let says = read.answer told in (
+            let transition = read.answer told in (
               (λ layout.
-                  let q = quit_stopped old.order header_parts old.source.left new.source.left old.reads new.reads kind (says.0 layout) in
+                  let q = quit_stopped old.order header_parts old.source.left new.source.left old.reads new.reads kind (transition.0 layout) in
                   let h = header_unread old.order old.source.left new.source.left kind q.0 in
-                  tells_no_header (λ (v : RecordValue). v) (answer_behind old.settings old.order) (reads_behind old.settings old.order) old new kind h.0 h.1 h.2 q.1 layout),
+                  tells_no_header (λ (v : RecordValue). v) (answer_after old.settings old.order) (reads_after old.settings old.order) old new kind h.0 h.1 h.2 q.1 layout),
               (λ inside. no_header_within old.order old.source new.source kind
-                  (λ layout. header_unread old.order old.source.left new.source.left kind (quit_stopped old.order header_parts old.source.left new.source.left old.reads new.reads kind (says.0 layout)).0)
-                  says.1 inside),
-              (λ whole none. says.1),
+                  (λ layout. header_unread old.order old.source.left new.source.left kind (quit_stopped old.order header_parts old.source.left new.source.left old.reads new.reads kind (transition.0 layout)).0)
+                  transition.1 inside),
+              (λ whole none. transition.1),
             );
         counted = read.counted;
         follows = read.follows;
@@ -53,20 +53,20 @@ returns-in-Err g c =
 pub returns-in-Ok-parse_record_with_header : goal.returns-in-Ok-parse_record_with_header
 returns-in-Ok-parse_record_with_header g c =
     let gives = g.V.Visitor.gives in
-    let old : Meaning = meaning g.B.ParseBuf.source g.E.Endian.order c.args.self.now in
-    let mid : Meaning = meaning g.B.ParseBuf.source g.E.Endian.order c.parse.new.self in
-    let new : Meaning = meaning g.B.ParseBuf.source g.E.Endian.order c.parse_record_with_header.new.self in
+    let old : ReaderState = state_of g.B.ParseBuf.source g.E.Endian.order c.args.self.now in
+    let mid : ReaderState = state_of g.B.ParseBuf.source g.E.Endian.order c.parse.new.self in
+    let new : ReaderState = state_of g.B.ParseBuf.source g.E.Endian.order c.parse_record_with_header.new.self in
     let header = c.in-Ok.header in
-    let seen : Result g.row.V-Output.Denot ErrorKind = Ok c.in-Ok-parse_record_with_header.output in
+    let outcome : Result g.row.V-Output.Denot ErrorKind = Ok c.in-Ok-parse_record_with_header.output in
     let read = c.in-Ok.ensures.call in
-    let behind = c.in-Ok-parse_record_with_header.ensures in
-    let rest = behind.call in
-    let P : ParseConfig g.row.E.Denot → Type 0 = λ k. VisitsExactly gives (split_behind (configuration_of k) (g.E.Endian.order (endian_of k)) header mid.source.left) (answer_behind (configuration_of k) (g.E.Endian.order (endian_of k)) header mid.source.left)
-    (body_length header) (reads_behind (configuration_of k) (g.E.Endian.order (endian_of k)) header mid.source.left) mid seen new in record {
+    let after = c.in-Ok-parse_record_with_header.ensures in
+    let rest = after.call in
+    let P : ParseConfig g.row.E.Denot → Type 0 = λ k. GivesExactly gives (split_after (configuration_of k) (g.E.Endian.order (endian_of k)) header mid.source.left) (answer_after (configuration_of k) (g.E.Endian.order (endian_of k)) header mid.source.left)
+    (body_length header) (reads_after (configuration_of k) (g.E.Endian.order (endian_of k)) header mid.source.left) mid outcome new in record {
       small = λ told.
           let q = took_ran old.order header_parts old.source.left mid.source.left old.reads mid.reads header (read.answer told).0 in
           let h = header_read old.order old.source.left mid.source.left header q.0 in
-          refuses_read old.order old.source.left header seen h.0 h.1 (λ small. (behind.small small).0);
+          refuses_read old.order old.source.left header outcome h.0 h.1 (λ small. (after.small small).0);
       call = record {
         config = rest.config ∙ read.config;
         whole = rest.whole ∙ read.whole;
@@ -74,9 +74,9 @@ returns-in-Ok-parse_record_with_header g c =
         answer = λ told.
             let q = took_ran old.order header_parts old.source.left mid.source.left old.reads mid.reads header (read.answer told).0 in
             let h = header_read old.order old.source.left mid.source.left header q.0 in (
-              visits_frame gives old mid new header seen h.0 h.1 h.2 q.1 read.whole (subst P read.config (rest.answer (read.told told))),
-              (λ inside. frame_within old.order old.source mid.source new.source header h.0 h.1 h.2 (behind.within (read.told told))),
-              (λ whole none. behind.whole_memory (subst IsTrue (sym read.whole) whole)
+              visits_frame gives old mid new header outcome h.0 h.1 h.2 q.1 read.whole (subst P read.config (rest.answer (read.told told))),
+              (λ inside. frame_within old.order old.source mid.source new.source header h.0 h.1 h.2 (after.within (read.told told))),
+              (λ whole none. after.whole_memory (subst IsTrue (sym read.whole) whole)
                   (ap (λ (k : perf_event_header). wants_memory k.type_) h.1 ∙ none)),
             );
         counted = λ start p. rest.counted start (read.counted start p);
@@ -88,20 +88,20 @@ returns-in-Ok-parse_record_with_header g c =
 pub returns-in-Err-parse_record_with_header : goal.returns-in-Err-parse_record_with_header
 returns-in-Err-parse_record_with_header g c =
     let gives = g.V.Visitor.gives in
-    let old : Meaning = meaning g.B.ParseBuf.source g.E.Endian.order c.args.self.now in
-    let mid : Meaning = meaning g.B.ParseBuf.source g.E.Endian.order c.parse.new.self in
-    let new : Meaning = meaning g.B.ParseBuf.source g.E.Endian.order c.parse_record_with_header.new.self in
+    let old : ReaderState = state_of g.B.ParseBuf.source g.E.Endian.order c.args.self.now in
+    let mid : ReaderState = state_of g.B.ParseBuf.source g.E.Endian.order c.parse.new.self in
+    let new : ReaderState = state_of g.B.ParseBuf.source g.E.Endian.order c.parse_record_with_header.new.self in
     let header = c.in-Ok.header in
-    let seen : Result g.row.V-Output.Denot ErrorKind = Err (kind_of c.in-Err-parse_record_with_header.error) in
+    let outcome : Result g.row.V-Output.Denot ErrorKind = Err (kind_of c.in-Err-parse_record_with_header.error) in
     let read = c.in-Ok.ensures.call in
-    let behind = c.in-Err-parse_record_with_header.ensures in
-    let rest = behind.call in
-    let P : ParseConfig g.row.E.Denot → Type 0 = λ k. VisitsExactly gives (split_behind (configuration_of k) (g.E.Endian.order (endian_of k)) header mid.source.left) (answer_behind (configuration_of k) (g.E.Endian.order (endian_of k)) header mid.source.left)
-    (body_length header) (reads_behind (configuration_of k) (g.E.Endian.order (endian_of k)) header mid.source.left) mid seen new in record {
+    let after = c.in-Err-parse_record_with_header.ensures in
+    let rest = after.call in
+    let P : ParseConfig g.row.E.Denot → Type 0 = λ k. GivesExactly gives (split_after (configuration_of k) (g.E.Endian.order (endian_of k)) header mid.source.left) (answer_after (configuration_of k) (g.E.Endian.order (endian_of k)) header mid.source.left)
+    (body_length header) (reads_after (configuration_of k) (g.E.Endian.order (endian_of k)) header mid.source.left) mid outcome new in record {
       small = λ told.
           let q = took_ran old.order header_parts old.source.left mid.source.left old.reads mid.reads header (read.answer told).0 in
           let h = header_read old.order old.source.left mid.source.left header q.0 in
-          refuses_read old.order old.source.left header seen h.0 h.1 (λ small. (behind.small small).0);
+          refuses_read old.order old.source.left header outcome h.0 h.1 (λ small. (after.small small).0);
       call = record {
         config = rest.config ∙ read.config;
         whole = rest.whole ∙ read.whole;
@@ -109,9 +109,9 @@ returns-in-Err-parse_record_with_header g c =
         answer = λ told.
             let q = took_ran old.order header_parts old.source.left mid.source.left old.reads mid.reads header (read.answer told).0 in
             let h = header_read old.order old.source.left mid.source.left header q.0 in (
-              visits_frame gives old mid new header seen h.0 h.1 h.2 q.1 read.whole (subst P read.config (rest.answer (read.told told))),
-              (λ inside. frame_within old.order old.source mid.source new.source header h.0 h.1 h.2 (behind.within (read.told told))),
-              (λ whole none. behind.whole_memory (subst IsTrue (sym read.whole) whole)
+              visits_frame gives old mid new header outcome h.0 h.1 h.2 q.1 read.whole (subst P read.config (rest.answer (read.told told))),
+              (λ inside. frame_within old.order old.source mid.source new.source header h.0 h.1 h.2 (after.within (read.told told))),
+              (λ whole none. after.whole_memory (subst IsTrue (sym read.whole) whole)
                   (ap (λ (k : perf_event_header). wants_memory k.type_) h.1 ∙ none)),
             );
         counted = λ start p. rest.counted start (read.counted start p);

@@ -1,11 +1,11 @@
-use Rattle.perf_reader.specs.Meaning.{Meaning, meaning}
+use Rattle.perf_reader.specs.ReaderState.{ReaderState, state_of}
 use Rattle.perf_reader.proofs.Attributes.{takes_its_size}
 use Rattle.perf_reader.proofs.attribute.Perf_event_attrReadFrom.read.Goals as goal
 
 pub returns-in-Ok : goal.returns-in-Ok
 returns-in-Ok g c =
-    let old : Meaning = meaning g.I.Input.source g.E.Endian.order c.args.reader.now in
-    let new : Meaning = meaning g.I.Input.source g.E.Endian.order c.read_groups.new.reader in
+    let old : ReaderState = state_of g.I.Input.source g.E.Endian.order c.args.reader.now in
+    let new : ReaderState = state_of g.I.Input.source g.E.Endian.order c.read_groups.new.reader in
     let e = c.in-Ok.ensures.call in record {
       call = record {
         config = e.config;

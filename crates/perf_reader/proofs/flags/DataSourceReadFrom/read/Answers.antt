@@ -1,6 +1,6 @@
 use Rattle.std.proofs.Common.{◌≡◌, Err, sym}
 use Rattle.perf_reader.proofs.Asked.{call_gives}
-use Rattle.perf_reader.proofs.Behind.{part_behind, part_stops, plain, came_up}
+use Rattle.perf_reader.proofs.After.{part_after, part_stops, plain, came_up}
 use Rattle.perf_reader.proofs.flags.DataSourceReadFrom.read.Goals as goal
 
 pub returns-in_err-read_u64 : goal.returns-in_err-read_u64
@@ -15,6 +15,6 @@ pub returns : goal.returns
 returns g c =
     record {
       call = plain _ _ (λ t. tt) (
-          part_behind _ _ _ c.in_ok-read_u64.ensures.call (
+          part_after _ _ _ c.in_ok-read_u64.ensures.call (
           call_gives {show = λ word. word} (λ _. c.in_ok-read_u64.field-0) (sym c.from_word.ensures)));
     }

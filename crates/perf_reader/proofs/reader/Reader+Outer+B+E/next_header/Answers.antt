@@ -4,7 +4,7 @@ use Rattle.perf_base.specs.declared.sys.perf_event_header.{perf_event_header}
 use Rattle.perf_buffers.specs.declared.outer.Outer.{Outer}
 use Rattle.perf_reader.specs.Calls.{Call}
 use Rattle.perf_reader.specs.Headers.{ReadsShownHeader, stop_kind}
-use Rattle.perf_reader.specs.Meaning.{Meaning, meaning}
+use Rattle.perf_reader.specs.ReaderState.{ReaderState, state_of}
 use Rattle.perf_reader.proofs.Stopping.{stops_unshown, header_shown, header_cut, header_stops}
 use Rattle.perf_reader.proofs.reader.Reader+Outer+B+E.next_header.Goals as goal
 
@@ -40,7 +40,7 @@ returns-in-Err-read_header_in_two-clause-stop g c = λ told.
 pub returns-in-Err-clause-stop : goal.returns-in-Err-clause-stop
 returns-in-Err-clause-stop g c = λ told.
     let source = λ (o : Outer g.row.B.Denot). g.B.ParseBuf.source o.buf in
-    let old : Meaning = meaning source g.E.Endian.order c.args.self.now in
-    let new : Meaning = meaning source g.E.Endian.order c.read_shown_header.new.self in
+    let old : ReaderState = state_of source g.E.Endian.order c.args.self.now in
+    let new : ReaderState = state_of source g.E.Endian.order c.read_shown_header.new.self in
     let a = c.in-Err.ensures.call.answer told in
     stops_unshown old new c.in-Err.refusal c.stop_at.result c.stop_at.ensures.eof c.stop_at.ensures.other a.2 told a.0 a.1

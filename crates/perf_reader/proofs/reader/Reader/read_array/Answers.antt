@@ -1,14 +1,14 @@
 use Rattle.std.proofs.Common.{None, Some, refl}
 use Rattle.perf_base.specs.Refusals.{refusal_kind}
-use Rattle.perf_reader.specs.Meaning.{Meaning, meaning}
+use Rattle.perf_reader.specs.ReaderState.{ReaderState, state_of}
 use Rattle.perf_reader.proofs.Paying.{array_keeps, within_taken, within_failed}
 use Rattle.perf_reader.proofs.Steps.{run_there, array_short}
 use Rattle.perf_reader.proofs.reader.Reader.read_array.Goals as goal
 
 pub returns-in-Ok-clause-call : goal.returns-in-Ok-clause-call
 returns-in-Ok-clause-call g c =
-    let old : Meaning = meaning g.I.Input.source g.E.Endian.order c.args.self.now in
-    let new : Meaning = record { settings = old.settings; order = old.order; source = g.I.Input.source c.take_array.new.input; reads = c.tick.new.self } in
+    let old : ReaderState = state_of g.I.Input.source g.E.Endian.order c.args.self.now in
+    let new : ReaderState = record { settings = old.settings; order = old.order; source = g.I.Input.source c.take_array.new.input; reads = c.tick.new.self } in
     let e = c.in-Ok.ensures in record {
       config = refl;
       whole = e.stays.0;
@@ -19,8 +19,8 @@ returns-in-Ok-clause-call g c =
 
 pub returns-in-Err-clause-call : goal.returns-in-Err-clause-call
 returns-in-Err-clause-call g c =
-    let old : Meaning = meaning g.I.Input.source g.E.Endian.order c.args.self.now in
-    let new : Meaning = record { settings = old.settings; order = old.order; source = g.I.Input.source c.take_array.new.input; reads = c.tick.new.self } in
+    let old : ReaderState = state_of g.I.Input.source g.E.Endian.order c.args.self.now in
+    let new : ReaderState = record { settings = old.settings; order = old.order; source = g.I.Input.source c.take_array.new.input; reads = c.tick.new.self } in
     let e = c.in-Err.ensures in record {
       config = refl;
       whole = e.stays.0;

@@ -3,15 +3,15 @@ use Rattle.std.proofs.lemmas.Bool.Decides.{nat_tests}
 use Rattle.perf_base.specs.Layout.{byte_string}
 use Rattle.perf_base.specs.Refusals.{refusal_kind}
 use Rattle.perf_base.specs.Took.{took, one_took}
-use Rattle.perf_reader.specs.Meaning.{Meaning, meaning}
+use Rattle.perf_reader.specs.ReaderState.{ReaderState, state_of}
 use Rattle.perf_reader.proofs.Paying.{array_keeps, kept_keeps}
 use Rattle.perf_reader.proofs.Steps.{any, run_there, run_none, kept_short}
 use Rattle.perf_reader.proofs.reader.Reader.read_bytes.Goals as goal
 
 pub returns-in-Ok-clause-call : goal.returns-in-Ok-clause-call
 returns-in-Ok-clause-call g c =
-    let old : Meaning = meaning g.I.Input.source g.E.Endian.order c.args.self.now in
-    let new : Meaning = record { settings = old.settings; order = old.order; source = g.I.Input.source c.cut.new.self; reads = c.tick.new.self } in
+    let old : ReaderState = state_of g.I.Input.source g.E.Endian.order c.args.self.now in
+    let new : ReaderState = record { settings = old.settings; order = old.order; source = g.I.Input.source c.cut.new.self; reads = c.tick.new.self } in
     let some : 0 < c.args.len = grind (arith, nat_tests) in
     let e = c.in-Ok.ensures in record {
       config = refl;
@@ -23,8 +23,8 @@ returns-in-Ok-clause-call g c =
 
 pub returns-in-Err-clause-call : goal.returns-in-Err-clause-call
 returns-in-Err-clause-call g c =
-    let old : Meaning = meaning g.I.Input.source g.E.Endian.order c.args.self.now in
-    let new : Meaning = record { settings = old.settings; order = old.order; source = g.I.Input.source c.cut.new.self; reads = c.tick.new.self } in
+    let old : ReaderState = state_of g.I.Input.source g.E.Endian.order c.args.self.now in
+    let new : ReaderState = record { settings = old.settings; order = old.order; source = g.I.Input.source c.cut.new.self; reads = c.tick.new.self } in
     let some : 0 < c.args.len = grind (arith, nat_tests) in
     let e = c.in-Err.ensures in record {
       config = refl;
@@ -94,7 +94,7 @@ returns-in-Err-clause-length g c = tt
 
 pub returns-then-len-eq0-clause-call : goal.returns-then-len-eq0-clause-call
 returns-then-len-eq0-clause-call g c =
-    let old : Meaning = meaning g.I.Input.source g.E.Endian.order c.args.self.now in record {
+    let old : ReaderState = state_of g.I.Input.source g.E.Endian.order c.args.self.now in record {
       config = refl;
       whole = refl;
       told = λ told. told;

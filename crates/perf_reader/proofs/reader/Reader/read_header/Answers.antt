@@ -1,14 +1,14 @@
 use Rattle.std.proofs.Common.{◌≡◌, ◌+◌, Some, refl, ap, arith}
 use Rattle.perf_base.specs.Refusals.{refusal_kind}
-use Rattle.perf_reader.specs.Meaning.{Meaning}
+use Rattle.perf_reader.specs.ReaderState.{ReaderState}
 use Rattle.perf_reader.proofs.HeaderAtOnce.{header_at_once, never_short, header_keeps}
 use Rattle.perf_reader.proofs.Paying.{array_keeps}
 use Rattle.perf_reader.proofs.reader.Reader.read_header.Goals as goal
 
 pub returns-in-Err : goal.returns-in-Err
 returns-in-Err g c =
-    let old : Meaning = record { settings = _; order = g.E.Endian.order c.args.self.now.config.endian; source = g.I.Input.source c.args.self.now.input; reads = c.args.self.now.reads } in
-    let new : Meaning = record { settings = old.settings; order = old.order; source = g.I.Input.source c.take_array.new.input; reads = c.tick.new.self } in
+    let old : ReaderState = record { settings = _; order = g.E.Endian.order c.args.self.now.config.endian; source = g.I.Input.source c.args.self.now.input; reads = c.args.self.now.reads } in
+    let new : ReaderState = record { settings = old.settings; order = old.order; source = g.I.Input.source c.take_array.new.input; reads = c.tick.new.self } in
     let e = c.in-Err.ensures in record {
       call = record {
         config = refl;
@@ -21,8 +21,8 @@ returns-in-Err g c =
 
 pub returns : goal.returns
 returns g c =
-    let old : Meaning = record { settings = _; order = g.E.Endian.order c.args.self.now.config.endian; source = g.I.Input.source c.args.self.now.input; reads = c.args.self.now.reads } in
-    let new : Meaning = record { settings = old.settings; order = old.order; source = g.I.Input.source c.take_array.new.input; reads = c.tick-3.new.self } in
+    let old : ReaderState = record { settings = _; order = g.E.Endian.order c.args.self.now.config.endian; source = g.I.Input.source c.args.self.now.input; reads = c.args.self.now.reads } in
+    let new : ReaderState = record { settings = old.settings; order = old.order; source = g.I.Input.source c.take_array.new.input; reads = c.tick-3.new.self } in
     let e = c.in-Ok.ensures in
     let count : new.reads ≡ old.reads + 3 = omega (arith, c.tick.ensures, c.tick-2.ensures, c.tick-3.ensures) in record {
       call = record {

@@ -4,30 +4,30 @@ use Rattle.std.proofs.Math.Seq.{take-add}
 use Rattle.perf_base.specs.Configured.{endian_of}
 use Rattle.perf_base.specs.Header.{header_of}
 use Rattle.perf_base.specs.Order.{Order}
-use Rattle.perf_reader.specs.Meaning.{Meaning, meaning}
+use Rattle.perf_reader.specs.ReaderState.{ReaderState, state_of}
 use Rattle.perf_reader.proofs.HeaderAtOnce.{header_front}
 use Rattle.perf_reader.proofs.Stopping.{taken, stops_first, stops_others}
 use Rattle.perf_reader.proofs.reader.Reader.read_header_in_two.Goals as goal
 
 pub returns-in-Err-clause-stop : goal.returns-in-Err-clause-stop
 returns-in-Err-clause-stop g c = λ told.
-    stops_first (meaning g.I.Input.source g.E.Endian.order c.args.self.now) (meaning g.I.Input.source g.E.Endian.order c.read_array.new.self)
+    stops_first (state_of g.I.Input.source g.E.Endian.order c.args.self.now) (state_of g.I.Input.source g.E.Endian.order c.read_array.new.self)
     c.in-Err.refusal c.stop_at.result c.stop_at.ensures.eof c.stop_at.ensures.other
     (c.in-Err.ensures.call.answer told) (c.in-Err.ensures.within told)
 
 pub returns-in-Err-read_array-clause-stop : goal.returns-in-Err-read_array-clause-stop
 returns-in-Err-read_array-clause-stop g c = λ told.
     let one = c.in-Ok.ensures.call in let others = c.in-Err-read_array.ensures in
-    stops_others (meaning g.I.Input.source g.E.Endian.order c.args.self.now) (meaning g.I.Input.source g.E.Endian.order c.read_array.new.self)
-    (meaning g.I.Input.source g.E.Endian.order c.read_array-2.new.self) c.in-Err-read_array.refusal c.stop_at-in-Err-read_array.result c.in-Ok.bytes
+    stops_others (state_of g.I.Input.source g.E.Endian.order c.args.self.now) (state_of g.I.Input.source g.E.Endian.order c.read_array.new.self)
+    (state_of g.I.Input.source g.E.Endian.order c.read_array-2.new.self) c.in-Err-read_array.refusal c.stop_at-in-Err-read_array.result c.in-Ok.bytes
     c.stop_at-in-Err-read_array.ensures.eof c.stop_at-in-Err-read_array.ensures.other
     (one.answer told) (others.call.answer (one.told told)) (others.within (one.told told))
 
 pub returns-clause-call : goal.returns-clause-call
 returns-clause-call g c =
-    let old : Meaning = meaning g.I.Input.source g.E.Endian.order c.args.self.now in
-    let mid : Meaning = meaning g.I.Input.source g.E.Endian.order c.read_array.new.self in
-    let new : Meaning = meaning g.I.Input.source g.E.Endian.order c.read_array-2.new.self in
+    let old : ReaderState = state_of g.I.Input.source g.E.Endian.order c.args.self.now in
+    let mid : ReaderState = state_of g.I.Input.source g.E.Endian.order c.read_array.new.self in
+    let new : ReaderState = state_of g.I.Input.source g.E.Endian.order c.read_array-2.new.self in
     let one = c.in-Ok.ensures.call in let others = c.in-Ok-read_array.ensures.call in record {
       config = others.config ∙ one.config;
       whole = others.whole ∙ one.whole;

@@ -2,7 +2,7 @@ use Rattle.std.proofs.Common.{◌≡◌, take, sym, ap, ◌∙◌}
 use Rattle.perf_base.specs.Cow.{cow_items}
 use Rattle.perf_base.specs.Zeros.{trimmed}
 use Rattle.perf_reader.proofs.Asked.{call_gives}
-use Rattle.perf_reader.proofs.Behind.{part_behind, part_stops}
+use Rattle.perf_reader.proofs.After.{part_after, part_stops}
 use Rattle.perf_reader.proofs.reader.Reader.read_rest_trim_nul.Goals as goal
 
 pub returns-in-Ok-clause-whole : goal.returns-in-Ok-clause-whole
@@ -17,7 +17,7 @@ returns-in-Ok-clause-nothing g c = λ t l. (tt, c.truncate.ensures.form ∙ (c.i
 pub returns-in-Ok-clause-call : goal.returns-in-Ok-clause-call
 returns-in-Ok-clause-call g c =
     let same : c.as_slice.result.now ≡ cow_items c.in-Ok.bytes = c.as_slice.ensures in
-    part_behind _ _ _ c.in-Ok.ensures.call (
+    part_after _ _ _ c.in-Ok.ensures.call (
     call_gives {show = cow_items} (λ _. trimmed (cow_items c.in-Ok.bytes)) (sym (c.truncate.ensures.items ∙ (ap (take c.trimmed_len-len.result) (sym same) ∙ (c.trimmed_len-len.ensures.trimmed ∙ ap trimmed same)))))
 
 pub returns-in-Err-clause-whole : goal.returns-in-Err-clause-whole

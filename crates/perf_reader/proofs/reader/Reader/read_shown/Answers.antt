@@ -1,14 +1,14 @@
 use Rattle.std.proofs.Common.{◌≡◌, ◌≤◌, ◌+◌, ◌*◌, ℕ, List, length, Some, refl, ap, arith}
 use Rattle.perf_base.specs.Refusals.{refusal_kind}
-use Rattle.perf_reader.specs.Meaning.{Meaning, meaning}
+use Rattle.perf_reader.specs.ReaderState.{ReaderState, state_of}
 use Rattle.perf_reader.proofs.AtHand.{never_short, block_keeps, shown_there}
 use Rattle.perf_reader.proofs.Paying.{array_keeps}
 use Rattle.perf_reader.proofs.reader.Reader.read_shown.Goals as goal
 
 pub returns-in-Err-clause-refused : goal.returns-in-Err-clause-refused
 returns-in-Err-clause-refused g c =
-    let old : Meaning = meaning g.I.Input.source g.E.Endian.order c.args.self.now in
-    let new : Meaning = record { settings = old.settings; order = old.order; source = g.I.Input.source c.skip.new.self; reads = c.tick.new.self } in
+    let old : ReaderState = state_of g.I.Input.source g.E.Endian.order c.args.self.now in
+    let new : ReaderState = record { settings = old.settings; order = old.order; source = g.I.Input.source c.skip.new.self; reads = c.tick.new.self } in
     let e = c.in-Err.ensures in
     let k = length c.args.numbers.now in
     let shown : List ℕ = c.shown-shown.result.now in
@@ -23,8 +23,8 @@ returns-in-Err-clause-refused g c =
 
 pub returns-clause-shown : goal.returns-clause-shown
 returns-clause-shown g c =
-    let old : Meaning = meaning g.I.Input.source g.E.Endian.order c.args.self.now in
-    let new : Meaning = record { settings = old.settings; order = old.order; source = g.I.Input.source c.skip.new.self; reads = c.add.new.self } in
+    let old : ReaderState = state_of g.I.Input.source g.E.Endian.order c.args.self.now in
+    let new : ReaderState = record { settings = old.settings; order = old.order; source = g.I.Input.source c.skip.new.self; reads = c.add.new.self } in
     let e = c.in-Ok.ensures in
     let k = length c.args.numbers.now in
     let shown : List ℕ = c.shown-shown.result.now in

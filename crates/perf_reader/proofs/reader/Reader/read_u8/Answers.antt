@@ -1,6 +1,6 @@
 use Rattle.std.proofs.Common.{◌≡◌, Err, refl}
 use Rattle.perf_base.specs.Layout.{w1}
-use Rattle.perf_reader.proofs.Behind.{came_up}
+use Rattle.perf_reader.proofs.After.{came_up}
 use Rattle.perf_reader.proofs.Single.{number_read, number_refused}
 use Rattle.perf_reader.proofs.reader.Reader.read_u8.Goals as goal
 

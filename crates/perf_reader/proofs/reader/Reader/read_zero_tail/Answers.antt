@@ -1,14 +1,14 @@
 use Rattle.std.proofs.Common.{None, Some, refl, ◌<◌, arith}
 use Rattle.std.proofs.lemmas.Bool.Decides.{nat_tests}
 use Rattle.perf_base.specs.Refusals.{refusal_kind}
-use Rattle.perf_reader.specs.Meaning.{Meaning, meaning}
+use Rattle.perf_reader.specs.ReaderState.{ReaderState, state_of}
 use Rattle.perf_reader.proofs.Paying.{array_keeps}
 use Rattle.perf_reader.proofs.ZeroTails.{zeros_none, zeros_there, others_there, zeros_short, tail_keeps}
 use Rattle.perf_reader.proofs.reader.Reader.read_zero_tail.Goals as goal
 
 pub returns-then-len-eq0-clause-call : goal.returns-then-len-eq0-clause-call
 returns-then-len-eq0-clause-call g c =
-    let old : Meaning = meaning g.I.Input.source g.E.Endian.order c.args.self.now in record {
+    let old : ReaderState = state_of g.I.Input.source g.E.Endian.order c.args.self.now in record {
       config = refl;
       whole = refl;
       told = λ told. told;
@@ -18,8 +18,8 @@ returns-then-len-eq0-clause-call g c =
 
 pub returns-in-Ok-true-clause-call : goal.returns-in-Ok-true-clause-call
 returns-in-Ok-true-clause-call g c =
-    let old : Meaning = meaning g.I.Input.source g.E.Endian.order c.args.self.now in
-    let new : Meaning = record { settings = old.settings; order = old.order; source = g.I.Input.source c.take_zeros.new.self; reads = c.tick.new.self } in
+    let old : ReaderState = state_of g.I.Input.source g.E.Endian.order c.args.self.now in
+    let new : ReaderState = record { settings = old.settings; order = old.order; source = g.I.Input.source c.take_zeros.new.self; reads = c.tick.new.self } in
     let some : 0 < c.args.len = grind (arith, nat_tests) in
     let e = c.in-Ok-true.ensures in record {
       config = refl;
@@ -31,8 +31,8 @@ returns-in-Ok-true-clause-call g c =
 
 pub returns-in-Ok-false-clause-call : goal.returns-in-Ok-false-clause-call
 returns-in-Ok-false-clause-call g c =
-    let old : Meaning = meaning g.I.Input.source g.E.Endian.order c.args.self.now in
-    let new : Meaning = record { settings = old.settings; order = old.order; source = g.I.Input.source c.take_zeros.new.self; reads = c.tick.new.self } in
+    let old : ReaderState = state_of g.I.Input.source g.E.Endian.order c.args.self.now in
+    let new : ReaderState = record { settings = old.settings; order = old.order; source = g.I.Input.source c.take_zeros.new.self; reads = c.tick.new.self } in
     let some : 0 < c.args.len = grind (arith, nat_tests) in
     let e = c.in-Ok-false.ensures in record {
       config = refl;
@@ -44,8 +44,8 @@ returns-in-Ok-false-clause-call g c =
 
 pub returns-in-Err-clause-call : goal.returns-in-Err-clause-call
 returns-in-Err-clause-call g c =
-    let old : Meaning = meaning g.I.Input.source g.E.Endian.order c.args.self.now in
-    let new : Meaning = record { settings = old.settings; order = old.order; source = g.I.Input.source c.take_zeros.new.self; reads = c.tick.new.self } in
+    let old : ReaderState = state_of g.I.Input.source g.E.Endian.order c.args.self.now in
+    let new : ReaderState = record { settings = old.settings; order = old.order; source = g.I.Input.source c.take_zeros.new.self; reads = c.tick.new.self } in
     let some : 0 < c.args.len = grind (arith, nat_tests) in
     let e = c.in-Err.ensures in record {
       config = refl;

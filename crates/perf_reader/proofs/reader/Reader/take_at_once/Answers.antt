@@ -1,14 +1,14 @@
 use Rattle.std.proofs.Common.{◌≡◌, ◌+◌, Some, refl, arith}
 use Rattle.perf_base.specs.Refusals.{refusal_kind}
-use Rattle.perf_reader.specs.Meaning.{Meaning, meaning}
+use Rattle.perf_reader.specs.ReaderState.{ReaderState, state_of}
 use Rattle.perf_reader.proofs.AtOnce.{never_lacking, at_once_keeps}
 use Rattle.perf_reader.proofs.Paying.{array_keeps}
 use Rattle.perf_reader.proofs.reader.Reader.take_at_once.Goals as goal
 
 pub returns-in-Err-clause-call : goal.returns-in-Err-clause-call
 returns-in-Err-clause-call g c =
-    let old : Meaning = meaning g.I.Input.source g.E.Endian.order c.args.self.now in
-    let new : Meaning = record { settings = old.settings; order = old.order; source = g.I.Input.source c.take_array.new.input; reads = c.tick.new.self } in
+    let old : ReaderState = state_of g.I.Input.source g.E.Endian.order c.args.self.now in
+    let new : ReaderState = record { settings = old.settings; order = old.order; source = g.I.Input.source c.take_array.new.input; reads = c.tick.new.self } in
     let e = c.in-Err.ensures in record {
       config = refl;
       whole = e.stays.0;
@@ -19,8 +19,8 @@ returns-in-Err-clause-call g c =
 
 pub returns-clause-call : goal.returns-clause-call
 returns-clause-call g c =
-    let old : Meaning = meaning g.I.Input.source g.E.Endian.order c.args.self.now in
-    let new : Meaning = record { settings = old.settings; order = old.order; source = g.I.Input.source c.take_array.new.input; reads = c.add.new.self } in
+    let old : ReaderState = state_of g.I.Input.source g.E.Endian.order c.args.self.now in
+    let new : ReaderState = record { settings = old.settings; order = old.order; source = g.I.Input.source c.take_array.new.input; reads = c.add.new.self } in
     let e = c.in-Ok.ensures in
     let count : new.reads ≡ old.reads + c.args.numbers = omega (arith, c.add.ensures, c.tick.ensures, c.of.ensures, c.requires.some) in record {
       config = refl;

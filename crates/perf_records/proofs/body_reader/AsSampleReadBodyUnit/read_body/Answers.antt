@@ -1,7 +1,7 @@
 use Rattle.std.proofs.Common.{ap}
 use Rattle.perf_base.specs.Refusals.{refusal_kind}
 use Rattle.perf_records.specs.RecordTypes.{type_of}
-use Rattle.perf_records.specs.Visits.{IsSampleOf}
+use Rattle.perf_records.specs.Gives.{IsSampleOf}
 use Rattle.perf_records.proofs.Making.{boxed_visit, unboxed_visit}
 use Rattle.perf_records.proofs.Visiting.{visits_type}
 use Rattle.perf_records.proofs.body_reader.AsSampleReadBodyUnit.read_body.Goals as goal

@@ -7,14 +7,14 @@ use Rattle.perf_base.specs.declared.config.ParseConfig.{ParseConfig}
 use Rattle.perf_base.specs.declared.error.ErrorKind.{ErrorKind}
 use Rattle.perf_base.specs.declared.sys.perf_event_header.{perf_event_header}
 use Rattle.perf_base.specs.declared.error.ErrorKind.TheVariants.{Eof}
-use Rattle.perf_reader.specs.Meaning.{Meaning, meaning}
+use Rattle.perf_reader.specs.ReaderState.{ReaderState, state_of}
 use Rattle.perf_reader.specs.Reading.{of_layout}
-use Rattle.perf_records.specs.Answers.{AnswersExactly, body_length, answer_behind, reads_behind}
+use Rattle.perf_records.specs.Answers.{AnswersExactly, body_length, answer_after, reads_after}
 use Rattle.perf_records.specs.Bodies.{wants_memory}
 use Rattle.perf_records.specs.Records.{record_value}
 use Rattle.perf_records.specs.declared.record.Record.{Record}
 use Rattle.perf_buffers.specs.declared.outer.Outer.{Outer}
-use Rattle.perf_records.proofs.Making.{body_says, body_borrows}
+use Rattle.perf_records.proofs.Making.{body_transition, body_borrows}
 use Rattle.perf_records.proofs.Headers.{header_read, header_unread, tells_frame, tells_no_header, no_header_within, frame_within, refuses_read, refuses_unread}
 use Rattle.perf_records.proofs.Saying.{took_ran, quit_stopped}
 use Rattle.perf_records.proofs.frame_after.RecordReadFromOuter.read.Goals as goal
@@ -22,8 +22,8 @@ use Rattle.perf_records.proofs.frame_after.RecordReadFromOuter.read.Goals as goa
 -- the header was refused
 pub returns-in-Err : goal.returns-in-Err
 returns-in-Err g c =
-    let old : Meaning = meaning (λ (o : Outer g.row.B.Denot). g.B.ParseBuf.source o.buf) g.E.Endian.order c.args.reader.now in
-    let new : Meaning = meaning (λ (o : Outer g.row.B.Denot). g.B.ParseBuf.source o.buf) g.E.Endian.order c.read.new.self in
+    let old : ReaderState = state_of (λ (o : Outer g.row.B.Denot). g.B.ParseBuf.source o.buf) g.E.Endian.order c.args.reader.now in
+    let new : ReaderState = state_of (λ (o : Outer g.row.B.Denot). g.B.ParseBuf.source o.buf) g.E.Endian.order c.read.new.self in
     let kind : ErrorKind = refusal_kind c.in-Err.refusal in
     let read = c.in-Err.ensures.call in record {
       call = record {
@@ -31,17 +31,17 @@ returns-in-Err g c =
         whole = read.whole;
         told = read.told;
         answer = λ told.
-            let says = read.answer told in
-            let unread : IsTrue (of_layout kind) → (length old.source.left < 8) × (kind ≡ Eof) × (new.source.left ≡ []) = λ layout. header_unread old.order old.source.left new.source.left kind (quit_stopped old.order header_parts old.source.left new.source.left old.reads new.reads kind (says.0 layout)).0 in (
+            let transition = read.answer told in
+            let unread : IsTrue (of_layout kind) → (length old.source.left < 8) × (kind ≡ Eof) × (new.source.left ≡ []) = λ layout. header_unread old.order old.source.left new.source.left kind (quit_stopped old.order header_parts old.source.left new.source.left old.reads new.reads kind (transition.0 layout)).0 in (
               (
                 (λ layout.
-                    let q = quit_stopped old.order header_parts old.source.left new.source.left old.reads new.reads kind (says.0 layout) in
+                    let q = quit_stopped old.order header_parts old.source.left new.source.left old.reads new.reads kind (transition.0 layout) in
                     let h = header_unread old.order old.source.left new.source.left kind q.0 in
-                    tells_no_header record_value (answer_behind old.settings old.order) (reads_behind old.settings old.order) old new kind h.0 h.1 h.2 q.1 layout),
-                (λ inside. no_header_within old.order old.source new.source kind unread says.1 inside),
-                (λ whole. (tt, (λ none. says.1))),
+                    tells_no_header record_value (answer_after old.settings old.order) (reads_after old.settings old.order) old new kind h.0 h.1 h.2 q.1 layout),
+                (λ inside. no_header_within old.order old.source new.source kind unread transition.1 inside),
+                (λ whole. (tt, (λ none. transition.1))),
               ),
-              refuses_unread old.order old.source.left new.source.left kind unread says.1,
+              refuses_unread old.order old.source.left new.source.left kind unread transition.1,
             );
         keeps = read.keeps;
       };
@@ -50,16 +50,16 @@ returns-in-Err g c =
 -- the header was read, and the rest too
 pub returns-in-Ok-read_after : goal.returns-in-Ok-read_after
 returns-in-Ok-read_after g c =
-    let old : Meaning = meaning (λ (o : Outer g.row.B.Denot). g.B.ParseBuf.source o.buf) g.E.Endian.order c.args.reader.now in
-    let mid : Meaning = meaning (λ (o : Outer g.row.B.Denot). g.B.ParseBuf.source o.buf) g.E.Endian.order c.read.new.self in
-    let new : Meaning = meaning (λ (o : Outer g.row.B.Denot). g.B.ParseBuf.source o.buf) g.E.Endian.order c.read_after.new.reader in
+    let old : ReaderState = state_of (λ (o : Outer g.row.B.Denot). g.B.ParseBuf.source o.buf) g.E.Endian.order c.args.reader.now in
+    let mid : ReaderState = state_of (λ (o : Outer g.row.B.Denot). g.B.ParseBuf.source o.buf) g.E.Endian.order c.read.new.self in
+    let new : ReaderState = state_of (λ (o : Outer g.row.B.Denot). g.B.ParseBuf.source o.buf) g.E.Endian.order c.read_after.new.reader in
     let header = c.in-Ok.header in
-    let seen : Result Record ErrorKind = Ok c.in-Ok-read_after.record in
+    let outcome : Result Record ErrorKind = Ok c.in-Ok-read_after.record in
     let read = c.in-Ok.ensures.call in
     let rest = c.in-Ok-read_after.ensures.call in
-    let behind = c.in-Ok-read_after.ensures in
-    let P : ParseConfig g.row.E.Denot → Type 0 = λ k. AnswersExactly record_value (answer_behind (configuration_of k) (g.E.Endian.order (endian_of k)) header mid.source.left) (body_length header)
-    (reads_behind (configuration_of k) (g.E.Endian.order (endian_of k)) header mid.source.left) mid seen new in record {
+    let after = c.in-Ok-read_after.ensures in
+    let P : ParseConfig g.row.E.Denot → Type 0 = λ k. AnswersExactly record_value (answer_after (configuration_of k) (g.E.Endian.order (endian_of k)) header mid.source.left) (body_length header)
+    (reads_after (configuration_of k) (g.E.Endian.order (endian_of k)) header mid.source.left) mid outcome new in record {
       call = record {
         config = rest.config ∙ read.config;
         whole = rest.whole ∙ read.whole;
@@ -68,11 +68,11 @@ returns-in-Ok-read_after g c =
             let q = took_ran old.order header_parts old.source.left mid.source.left old.reads mid.reads header (read.answer told).0 in
             let h = header_read old.order old.source.left mid.source.left header q.0 in (
               (
-                tells_frame record_value (answer_behind old.settings old.order) (reads_behind old.settings old.order) old mid new header seen h.0 h.1 h.2 q.1 (subst P read.config (body_says header mid new seen (rest.answer (read.told told)))),
-                (λ inside. frame_within old.order old.source mid.source new.source header h.0 h.1 h.2 (behind.within (read.told told))),
-                (λ whole. let still = subst IsTrue (sym read.whole) whole in (body_borrows header mid.source.whole c.in-Ok-read_after.record behind.event still, (λ none. behind.whole_memory still (ap (λ (k : perf_event_header). wants_memory k.type_) h.1 ∙ none)))),
+                tells_frame record_value (answer_after old.settings old.order) (reads_after old.settings old.order) old mid new header outcome h.0 h.1 h.2 q.1 (subst P read.config (body_transition header mid new outcome (rest.answer (read.told told)))),
+                (λ inside. frame_within old.order old.source mid.source new.source header h.0 h.1 h.2 (after.within (read.told told))),
+                (λ whole. let still = subst IsTrue (sym read.whole) whole in (body_borrows header mid.source.whole c.in-Ok-read_after.record after.event still, (λ none. after.whole_memory still (ap (λ (k : perf_event_header). wants_memory k.type_) h.1 ∙ none)))),
               ),
-              refuses_read old.order old.source.left header seen h.0 h.1 (λ small. (behind.small small).0),
+              refuses_read old.order old.source.left header outcome h.0 h.1 (λ small. (after.small small).0),
             );
         keeps = λ start p. rest.keeps start (read.keeps start p);
       };
@@ -81,16 +81,16 @@ returns-in-Ok-read_after g c =
 -- the header was read, and the rest refused
 pub returns-in-Err-read_after : goal.returns-in-Err-read_after
 returns-in-Err-read_after g c =
-    let old : Meaning = meaning (λ (o : Outer g.row.B.Denot). g.B.ParseBuf.source o.buf) g.E.Endian.order c.args.reader.now in
-    let mid : Meaning = meaning (λ (o : Outer g.row.B.Denot). g.B.ParseBuf.source o.buf) g.E.Endian.order c.read.new.self in
-    let new : Meaning = meaning (λ (o : Outer g.row.B.Denot). g.B.ParseBuf.source o.buf) g.E.Endian.order c.read_after.new.reader in
+    let old : ReaderState = state_of (λ (o : Outer g.row.B.Denot). g.B.ParseBuf.source o.buf) g.E.Endian.order c.args.reader.now in
+    let mid : ReaderState = state_of (λ (o : Outer g.row.B.Denot). g.B.ParseBuf.source o.buf) g.E.Endian.order c.read.new.self in
+    let new : ReaderState = state_of (λ (o : Outer g.row.B.Denot). g.B.ParseBuf.source o.buf) g.E.Endian.order c.read_after.new.reader in
     let header = c.in-Ok.header in
-    let seen : Result Record ErrorKind = Err (refusal_kind c.in-Err-read_after.refusal) in
+    let outcome : Result Record ErrorKind = Err (refusal_kind c.in-Err-read_after.refusal) in
     let read = c.in-Ok.ensures.call in
     let rest = c.in-Err-read_after.ensures.call in
-    let behind = c.in-Err-read_after.ensures in
-    let P : ParseConfig g.row.E.Denot → Type 0 = λ k. AnswersExactly record_value (answer_behind (configuration_of k) (g.E.Endian.order (endian_of k)) header mid.source.left) (body_length header)
-    (reads_behind (configuration_of k) (g.E.Endian.order (endian_of k)) header mid.source.left) mid seen new in record {
+    let after = c.in-Err-read_after.ensures in
+    let P : ParseConfig g.row.E.Denot → Type 0 = λ k. AnswersExactly record_value (answer_after (configuration_of k) (g.E.Endian.order (endian_of k)) header mid.source.left) (body_length header)
+    (reads_after (configuration_of k) (g.E.Endian.order (endian_of k)) header mid.source.left) mid outcome new in record {
       call = record {
         config = rest.config ∙ read.config;
         whole = rest.whole ∙ read.whole;
@@ -99,11 +99,11 @@ returns-in-Err-read_after g c =
             let q = took_ran old.order header_parts old.source.left mid.source.left old.reads mid.reads header (read.answer told).0 in
             let h = header_read old.order old.source.left mid.source.left header q.0 in (
               (
-                tells_frame record_value (answer_behind old.settings old.order) (reads_behind old.settings old.order) old mid new header seen h.0 h.1 h.2 q.1 (subst P read.config (body_says header mid new seen (rest.answer (read.told told)))),
-                (λ inside. frame_within old.order old.source mid.source new.source header h.0 h.1 h.2 (behind.within (read.told told))),
-                (λ whole. let still = subst IsTrue (sym read.whole) whole in (tt, (λ none. behind.whole_memory still (ap (λ (k : perf_event_header). wants_memory k.type_) h.1 ∙ none)))),
+                tells_frame record_value (answer_after old.settings old.order) (reads_after old.settings old.order) old mid new header outcome h.0 h.1 h.2 q.1 (subst P read.config (body_transition header mid new outcome (rest.answer (read.told told)))),
+                (λ inside. frame_within old.order old.source mid.source new.source header h.0 h.1 h.2 (after.within (read.told told))),
+                (λ whole. let still = subst IsTrue (sym read.whole) whole in (tt, (λ none. after.whole_memory still (ap (λ (k : perf_event_header). wants_memory k.type_) h.1 ∙ none)))),
               ),
-              refuses_read old.order old.source.left header seen h.0 h.1 (λ small. (behind.small small).0),
+              refuses_read old.order old.source.left header outcome h.0 h.1 (λ small. (after.small small).0),
             );
         keeps = λ start p. rest.keeps start (read.keeps start p);
       };

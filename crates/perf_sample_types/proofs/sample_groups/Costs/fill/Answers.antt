@@ -4,7 +4,7 @@ use Rattle.perf_base.specs.Configured.{configuration_of}
 use Rattle.perf_reader.proofs.Asked.{fields_give, of_row}
 use Rattle.perf_types.proofs.Readings.{came_up}
 use Rattle.perf_sample_types.proofs.AbsentGroups.{absent_costs}
-use Rattle.perf_sample_types.proofs.FlaggedFields.{flags_behind, flags_stop, flag_behind, flag_stops}
+use Rattle.perf_sample_types.proofs.FlaggedFields.{flags_after, flags_stop, flag_after, flag_stops}
 use Rattle.perf_sample_types.specs.Sample.{has_one}
 use Rattle.perf_sample_types.proofs.sample_groups.Costs.fill.Goals as goal
 
@@ -31,7 +31,7 @@ returns-in_err-fill_flagged g c =
     let up : c.from_residual-in_err-fill_flagged.result ≡ Err c.in_err-fill_flagged.field-0.0 = came_up _ _ c.from_residual-in_err-fill_flagged.ensures in rw up (
     record {
       call = of_row _ _ _ (λ t w. tt) (
-          flags_behind _ _ (14 ∷ 24 ∷ []) _ _ _ refl weighed c.in_ok-fill_field_if.ensures.call (λ kept.
+          flags_after _ _ (14 ∷ 24 ∷ []) _ _ _ refl weighed c.in_ok-fill_field_if.ensures.call (λ kept.
           flag_stops _ _ 15 _ _ (λ left m. refl) kept asked c.in_err-fill_flagged.ensures.call));
     })
 
@@ -42,8 +42,8 @@ returns-in_err-fill_flagged-2 g c =
     let up : c.from_residual-in_err-fill_flagged-2.result ≡ Err c.in_err-fill_flagged-2.field-0.0 = came_up _ _ c.from_residual-in_err-fill_flagged-2.ensures in rw up (
     record {
       call = of_row _ _ _ (λ t w. tt) (
-          flags_behind _ _ (14 ∷ 24 ∷ []) _ _ _ refl weighed c.in_ok-fill_field_if.ensures.call (λ kept.
-          flag_behind _ _ 15 _ _ kept asked c.in_ok-fill_flagged.ensures.call (λ kept.
+          flags_after _ _ (14 ∷ 24 ∷ []) _ _ _ refl weighed c.in_ok-fill_field_if.ensures.call (λ kept.
+          flag_after _ _ 15 _ _ kept asked c.in_ok-fill_flagged.ensures.call (λ kept.
           flag_stops _ _ 17 _ _ (λ left m. refl) kept asked c.in_err-fill_flagged-2.ensures.call)));
     })
 
@@ -54,9 +54,9 @@ returns-in_err-fill_flagged-3 g c =
     let up : c.from_residual-in_err-fill_flagged-3.result ≡ Err c.in_err-fill_flagged-3.field-0.0 = came_up _ _ c.from_residual-in_err-fill_flagged-3.ensures in rw up (
     record {
       call = of_row _ _ _ (λ t w. tt) (
-          flags_behind _ _ (14 ∷ 24 ∷ []) _ _ _ refl weighed c.in_ok-fill_field_if.ensures.call (λ kept.
-          flag_behind _ _ 15 _ _ kept asked c.in_ok-fill_flagged.ensures.call (λ kept.
-          flag_behind _ _ 17 _ _ kept asked c.in_ok-fill_flagged-2.ensures.call (λ kept.
+          flags_after _ _ (14 ∷ 24 ∷ []) _ _ _ refl weighed c.in_ok-fill_field_if.ensures.call (λ kept.
+          flag_after _ _ 15 _ _ kept asked c.in_ok-fill_flagged.ensures.call (λ kept.
+          flag_after _ _ 17 _ _ kept asked c.in_ok-fill_flagged-2.ensures.call (λ kept.
           flag_stops _ _ 18 _ _ (λ left m. refl) kept asked c.in_err-fill_flagged-3.ensures.call))));
     })
 
@@ -66,9 +66,9 @@ returns g c =
     let weighed : has_one (configuration_of c.args.reader.now.config).sample_type (14 ∷ 24 ∷ []) ≡ c.is_weighed.result = sym (c.is_weighed.ensures ∙ ap (λ t. has_one t (14 ∷ 24 ∷ [])) asked) in
     record {
       call = of_row _ _ _ (λ t w. tt) (
-          flags_behind _ _ (14 ∷ 24 ∷ []) _ _ _ refl weighed c.in_ok-fill_field_if.ensures.call (λ kept.
-          flag_behind _ _ 15 _ _ kept asked c.in_ok-fill_flagged.ensures.call (λ kept.
-          flag_behind _ _ 17 _ _ kept asked c.in_ok-fill_flagged-2.ensures.call (λ kept.
-          flag_behind _ _ 18 _ _ kept asked c.in_ok-fill_flagged-3.ensures.call (λ kept.
+          flags_after _ _ (14 ∷ 24 ∷ []) _ _ _ refl weighed c.in_ok-fill_field_if.ensures.call (λ kept.
+          flag_after _ _ 15 _ _ kept asked c.in_ok-fill_flagged.ensures.call (λ kept.
+          flag_after _ _ 17 _ _ kept asked c.in_ok-fill_flagged-2.ensures.call (λ kept.
+          flag_after _ _ 18 _ _ kept asked c.in_ok-fill_flagged-3.ensures.call (λ kept.
           fields_give _ _ (λ left m. refl))))));
     }

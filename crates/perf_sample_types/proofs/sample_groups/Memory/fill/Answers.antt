@@ -5,7 +5,7 @@ use Rattle.perf_base.specs.Configured.{configuration_of}
 use Rattle.perf_reader.proofs.Asked.{fields_give, of_row}
 use Rattle.perf_types.proofs.Readings.{came_up}
 use Rattle.perf_sample_types.proofs.AbsentGroups.{absent_memory}
-use Rattle.perf_sample_types.proofs.FlaggedFields.{flag_behind, flag_stops}
+use Rattle.perf_sample_types.proofs.FlaggedFields.{flag_after, flag_stops}
 use Rattle.perf_sample_types.proofs.sample_groups.Memory.fill.Goals as goal
 
 -- no field is present
@@ -29,7 +29,7 @@ returns-in_err-fill_flagged-2 g c =
     let up : c.from_residual-in_err-fill_flagged-2.result ≡ Err c.in_err-fill_flagged-2.field-0.0 = came_up _ _ c.from_residual-in_err-fill_flagged-2.ensures in rw up (
     record {
       call = of_row _ _ _ (λ t w. tt) (
-          flag_behind _ _ 19 _ _ refl asked c.in_ok-fill_flagged.ensures.call (λ kept.
+          flag_after _ _ 19 _ _ refl asked c.in_ok-fill_flagged.ensures.call (λ kept.
           flag_stops _ _ 21 _ _ (λ left m. refl) kept asked c.in_err-fill_flagged-2.ensures.call));
     })
 
@@ -39,8 +39,8 @@ returns-in_err-fill_flagged-3 g c =
     let up : c.from_residual-in_err-fill_flagged-3.result ≡ Err c.in_err-fill_flagged-3.field-0.0 = came_up _ _ c.from_residual-in_err-fill_flagged-3.ensures in rw up (
     record {
       call = of_row _ _ _ (λ t w. tt) (
-          flag_behind _ _ 19 _ _ refl asked c.in_ok-fill_flagged.ensures.call (λ kept.
-          flag_behind _ _ 21 _ _ kept asked c.in_ok-fill_flagged-2.ensures.call (λ kept.
+          flag_after _ _ 19 _ _ refl asked c.in_ok-fill_flagged.ensures.call (λ kept.
+          flag_after _ _ 21 _ _ kept asked c.in_ok-fill_flagged-2.ensures.call (λ kept.
           flag_stops _ _ 22 _ _ (λ left m. refl) kept asked c.in_err-fill_flagged-3.ensures.call)));
     })
 
@@ -50,9 +50,9 @@ returns-in_err-fill_flagged-4 g c =
     let up : c.from_residual-in_err-fill_flagged-4.result ≡ Err c.in_err-fill_flagged-4.field-0.0 = came_up _ _ c.from_residual-in_err-fill_flagged-4.ensures in rw up (
     record {
       call = of_row _ _ _ (λ t w. tt) (
-          flag_behind _ _ 19 _ _ refl asked c.in_ok-fill_flagged.ensures.call (λ kept.
-          flag_behind _ _ 21 _ _ kept asked c.in_ok-fill_flagged-2.ensures.call (λ kept.
-          flag_behind _ _ 22 _ _ kept asked c.in_ok-fill_flagged-3.ensures.call (λ kept.
+          flag_after _ _ 19 _ _ refl asked c.in_ok-fill_flagged.ensures.call (λ kept.
+          flag_after _ _ 21 _ _ kept asked c.in_ok-fill_flagged-2.ensures.call (λ kept.
+          flag_after _ _ 22 _ _ kept asked c.in_ok-fill_flagged-3.ensures.call (λ kept.
           flag_stops _ _ 23 _ _ (λ left m. refl) kept asked c.in_err-fill_flagged-4.ensures.call))));
     })
 
@@ -62,10 +62,10 @@ returns-in_err-fill_flagged-5 g c =
     let up : c.from_residual-in_err-fill_flagged-5.result ≡ Err c.in_err-fill_flagged-5.field-0.0 = came_up _ _ c.from_residual-in_err-fill_flagged-5.ensures in rw up (
     record {
       call = of_row _ _ _ (λ t w. tt) (
-          flag_behind _ _ 19 _ _ refl asked c.in_ok-fill_flagged.ensures.call (λ kept.
-          flag_behind _ _ 21 _ _ kept asked c.in_ok-fill_flagged-2.ensures.call (λ kept.
-          flag_behind _ _ 22 _ _ kept asked c.in_ok-fill_flagged-3.ensures.call (λ kept.
-          flag_behind _ _ 23 _ _ kept asked c.in_ok-fill_flagged-4.ensures.call (λ kept.
+          flag_after _ _ 19 _ _ refl asked c.in_ok-fill_flagged.ensures.call (λ kept.
+          flag_after _ _ 21 _ _ kept asked c.in_ok-fill_flagged-2.ensures.call (λ kept.
+          flag_after _ _ 22 _ _ kept asked c.in_ok-fill_flagged-3.ensures.call (λ kept.
+          flag_after _ _ 23 _ _ kept asked c.in_ok-fill_flagged-4.ensures.call (λ kept.
           flag_stops _ _ 20 _ _ (λ left m. refl) kept asked c.in_err-fill_flagged-5.ensures.call)))));
     })
 
@@ -74,10 +74,10 @@ returns g c =
     let asked : sample_flags_bits c.sample_type-flags.result ≡ (configuration_of c.args.reader.now.config).sample_type = c.sample_type-flags.ensures ∙ ap (λ k. (configuration_of k).sample_type) c.config.ensures in
     record {
       call = of_row _ _ _ (λ t w. (c.in_ok-fill_flagged-5.ensures.call.answer (c.in_ok-fill_flagged-4.ensures.call.told (c.in_ok-fill_flagged-3.ensures.call.told (c.in_ok-fill_flagged-2.ensures.call.told (c.in_ok-fill_flagged.ensures.call.told t))))).1 (subst IsTrue (sym c.in_ok-fill_flagged-4.ensures.call.whole) (subst IsTrue (sym c.in_ok-fill_flagged-3.ensures.call.whole) (subst IsTrue (sym c.in_ok-fill_flagged-2.ensures.call.whole) (subst IsTrue (sym c.in_ok-fill_flagged.ensures.call.whole) w))))) (
-          flag_behind _ _ 19 _ _ refl asked c.in_ok-fill_flagged.ensures.call (λ kept.
-          flag_behind _ _ 21 _ _ kept asked c.in_ok-fill_flagged-2.ensures.call (λ kept.
-          flag_behind _ _ 22 _ _ kept asked c.in_ok-fill_flagged-3.ensures.call (λ kept.
-          flag_behind _ _ 23 _ _ kept asked c.in_ok-fill_flagged-4.ensures.call (λ kept.
-          flag_behind _ _ 20 _ _ kept asked c.in_ok-fill_flagged-5.ensures.call (λ kept.
+          flag_after _ _ 19 _ _ refl asked c.in_ok-fill_flagged.ensures.call (λ kept.
+          flag_after _ _ 21 _ _ kept asked c.in_ok-fill_flagged-2.ensures.call (λ kept.
+          flag_after _ _ 22 _ _ kept asked c.in_ok-fill_flagged-3.ensures.call (λ kept.
+          flag_after _ _ 23 _ _ kept asked c.in_ok-fill_flagged-4.ensures.call (λ kept.
+          flag_after _ _ 20 _ _ kept asked c.in_ok-fill_flagged-5.ensures.call (λ kept.
           fields_give _ _ (λ left m. refl)))))));
     }

@@ -3,7 +3,7 @@ use Rattle.perf_words.specs.SetBits.{sample_flags_bits}
 use Rattle.perf_base.specs.Configured.{configuration_of}
 use Rattle.perf_reader.proofs.Asked.{fields_give, of_row}
 use Rattle.perf_types.proofs.Readings.{came_up}
-use Rattle.perf_sample_types.proofs.FlaggedFields.{flag_behind, flag_stops}
+use Rattle.perf_sample_types.proofs.FlaggedFields.{flag_after, flag_stops}
 use Rattle.perf_sample_types.proofs.sample_groups.Moment.fill_by_field.Goals as goal
 
 pub returns-in_err-fill_flagged : goal.returns-in_err-fill_flagged
@@ -21,7 +21,7 @@ returns-in_err-fill_flagged-2 g c =
     let up : c.from_residual-in_err-fill_flagged-2.result ≡ Err c.in_err-fill_flagged-2.field-0.0 = came_up _ _ c.from_residual-in_err-fill_flagged-2.ensures in rw up (
     record {
       call = of_row _ _ _ (λ t w. tt) (
-          flag_behind _ _ 16 _ _ refl asked c.in_ok-fill_flagged.ensures.call (λ kept.
+          flag_after _ _ 16 _ _ refl asked c.in_ok-fill_flagged.ensures.call (λ kept.
           flag_stops _ _ 0 _ _ (λ left m. refl) kept asked c.in_err-fill_flagged-2.ensures.call));
     })
 
@@ -31,8 +31,8 @@ returns-in_err-fill_flagged-3 g c =
     let up : c.from_residual-in_err-fill_flagged-3.result ≡ Err c.in_err-fill_flagged-3.field-0.0 = came_up _ _ c.from_residual-in_err-fill_flagged-3.ensures in rw up (
     record {
       call = of_row _ _ _ (λ t w. tt) (
-          flag_behind _ _ 16 _ _ refl asked c.in_ok-fill_flagged.ensures.call (λ kept.
-          flag_behind _ _ 0 _ _ kept asked c.in_ok-fill_flagged-2.ensures.call (λ kept.
+          flag_after _ _ 16 _ _ refl asked c.in_ok-fill_flagged.ensures.call (λ kept.
+          flag_after _ _ 0 _ _ kept asked c.in_ok-fill_flagged-2.ensures.call (λ kept.
           flag_stops _ _ 1 _ _ (λ left m. refl) kept asked c.in_err-fill_flagged-3.ensures.call)));
     })
 
@@ -42,9 +42,9 @@ returns-in_err-fill_flagged-4 g c =
     let up : c.from_residual-in_err-fill_flagged-4.result ≡ Err c.in_err-fill_flagged-4.field-0.0 = came_up _ _ c.from_residual-in_err-fill_flagged-4.ensures in rw up (
     record {
       call = of_row _ _ _ (λ t w. tt) (
-          flag_behind _ _ 16 _ _ refl asked c.in_ok-fill_flagged.ensures.call (λ kept.
-          flag_behind _ _ 0 _ _ kept asked c.in_ok-fill_flagged-2.ensures.call (λ kept.
-          flag_behind _ _ 1 _ _ kept asked c.in_ok-fill_flagged-3.ensures.call (λ kept.
+          flag_after _ _ 16 _ _ refl asked c.in_ok-fill_flagged.ensures.call (λ kept.
+          flag_after _ _ 0 _ _ kept asked c.in_ok-fill_flagged-2.ensures.call (λ kept.
+          flag_after _ _ 1 _ _ kept asked c.in_ok-fill_flagged-3.ensures.call (λ kept.
           flag_stops _ _ 2 _ _ (λ left m. refl) kept asked c.in_err-fill_flagged-4.ensures.call))));
     })
 
@@ -54,10 +54,10 @@ returns-in_err-fill_flagged-5 g c =
     let up : c.from_residual-in_err-fill_flagged-5.result ≡ Err c.in_err-fill_flagged-5.field-0.0 = came_up _ _ c.from_residual-in_err-fill_flagged-5.ensures in rw up (
     record {
       call = of_row _ _ _ (λ t w. tt) (
-          flag_behind _ _ 16 _ _ refl asked c.in_ok-fill_flagged.ensures.call (λ kept.
-          flag_behind _ _ 0 _ _ kept asked c.in_ok-fill_flagged-2.ensures.call (λ kept.
-          flag_behind _ _ 1 _ _ kept asked c.in_ok-fill_flagged-3.ensures.call (λ kept.
-          flag_behind _ _ 2 _ _ kept asked c.in_ok-fill_flagged-4.ensures.call (λ kept.
+          flag_after _ _ 16 _ _ refl asked c.in_ok-fill_flagged.ensures.call (λ kept.
+          flag_after _ _ 0 _ _ kept asked c.in_ok-fill_flagged-2.ensures.call (λ kept.
+          flag_after _ _ 1 _ _ kept asked c.in_ok-fill_flagged-3.ensures.call (λ kept.
+          flag_after _ _ 2 _ _ kept asked c.in_ok-fill_flagged-4.ensures.call (λ kept.
           flag_stops _ _ 3 _ _ (λ left m. refl) kept asked c.in_err-fill_flagged-5.ensures.call)))));
     })
 
@@ -67,11 +67,11 @@ returns-in_err-fill_flagged-6 g c =
     let up : c.from_residual-in_err-fill_flagged-6.result ≡ Err c.in_err-fill_flagged-6.field-0.0 = came_up _ _ c.from_residual-in_err-fill_flagged-6.ensures in rw up (
     record {
       call = of_row _ _ _ (λ t w. tt) (
-          flag_behind _ _ 16 _ _ refl asked c.in_ok-fill_flagged.ensures.call (λ kept.
-          flag_behind _ _ 0 _ _ kept asked c.in_ok-fill_flagged-2.ensures.call (λ kept.
-          flag_behind _ _ 1 _ _ kept asked c.in_ok-fill_flagged-3.ensures.call (λ kept.
-          flag_behind _ _ 2 _ _ kept asked c.in_ok-fill_flagged-4.ensures.call (λ kept.
-          flag_behind _ _ 3 _ _ kept asked c.in_ok-fill_flagged-5.ensures.call (λ kept.
+          flag_after _ _ 16 _ _ refl asked c.in_ok-fill_flagged.ensures.call (λ kept.
+          flag_after _ _ 0 _ _ kept asked c.in_ok-fill_flagged-2.ensures.call (λ kept.
+          flag_after _ _ 1 _ _ kept asked c.in_ok-fill_flagged-3.ensures.call (λ kept.
+          flag_after _ _ 2 _ _ kept asked c.in_ok-fill_flagged-4.ensures.call (λ kept.
+          flag_after _ _ 3 _ _ kept asked c.in_ok-fill_flagged-5.ensures.call (λ kept.
           flag_stops _ _ 6 _ _ (λ left m. refl) kept asked c.in_err-fill_flagged-6.ensures.call))))));
     })
 
@@ -81,12 +81,12 @@ returns-in_err-fill_flagged-7 g c =
     let up : c.from_residual-in_err-fill_flagged-7.result ≡ Err c.in_err-fill_flagged-7.field-0.0 = came_up _ _ c.from_residual-in_err-fill_flagged-7.ensures in rw up (
     record {
       call = of_row _ _ _ (λ t w. tt) (
-          flag_behind _ _ 16 _ _ refl asked c.in_ok-fill_flagged.ensures.call (λ kept.
-          flag_behind _ _ 0 _ _ kept asked c.in_ok-fill_flagged-2.ensures.call (λ kept.
-          flag_behind _ _ 1 _ _ kept asked c.in_ok-fill_flagged-3.ensures.call (λ kept.
-          flag_behind _ _ 2 _ _ kept asked c.in_ok-fill_flagged-4.ensures.call (λ kept.
-          flag_behind _ _ 3 _ _ kept asked c.in_ok-fill_flagged-5.ensures.call (λ kept.
-          flag_behind _ _ 6 _ _ kept asked c.in_ok-fill_flagged-6.ensures.call (λ kept.
+          flag_after _ _ 16 _ _ refl asked c.in_ok-fill_flagged.ensures.call (λ kept.
+          flag_after _ _ 0 _ _ kept asked c.in_ok-fill_flagged-2.ensures.call (λ kept.
+          flag_after _ _ 1 _ _ kept asked c.in_ok-fill_flagged-3.ensures.call (λ kept.
+          flag_after _ _ 2 _ _ kept asked c.in_ok-fill_flagged-4.ensures.call (λ kept.
+          flag_after _ _ 3 _ _ kept asked c.in_ok-fill_flagged-5.ensures.call (λ kept.
+          flag_after _ _ 6 _ _ kept asked c.in_ok-fill_flagged-6.ensures.call (λ kept.
           flag_stops _ _ 9 _ _ (λ left m. refl) kept asked c.in_err-fill_flagged-7.ensures.call)))))));
     })
 
@@ -96,13 +96,13 @@ returns-in_err-fill_flagged-8 g c =
     let up : c.from_residual-in_err-fill_flagged-8.result ≡ Err c.in_err-fill_flagged-8.field-0.0 = came_up _ _ c.from_residual-in_err-fill_flagged-8.ensures in rw up (
     record {
       call = of_row _ _ _ (λ t w. tt) (
-          flag_behind _ _ 16 _ _ refl asked c.in_ok-fill_flagged.ensures.call (λ kept.
-          flag_behind _ _ 0 _ _ kept asked c.in_ok-fill_flagged-2.ensures.call (λ kept.
-          flag_behind _ _ 1 _ _ kept asked c.in_ok-fill_flagged-3.ensures.call (λ kept.
-          flag_behind _ _ 2 _ _ kept asked c.in_ok-fill_flagged-4.ensures.call (λ kept.
-          flag_behind _ _ 3 _ _ kept asked c.in_ok-fill_flagged-5.ensures.call (λ kept.
-          flag_behind _ _ 6 _ _ kept asked c.in_ok-fill_flagged-6.ensures.call (λ kept.
-          flag_behind _ _ 9 _ _ kept asked c.in_ok-fill_flagged-7.ensures.call (λ kept.
+          flag_after _ _ 16 _ _ refl asked c.in_ok-fill_flagged.ensures.call (λ kept.
+          flag_after _ _ 0 _ _ kept asked c.in_ok-fill_flagged-2.ensures.call (λ kept.
+          flag_after _ _ 1 _ _ kept asked c.in_ok-fill_flagged-3.ensures.call (λ kept.
+          flag_after _ _ 2 _ _ kept asked c.in_ok-fill_flagged-4.ensures.call (λ kept.
+          flag_after _ _ 3 _ _ kept asked c.in_ok-fill_flagged-5.ensures.call (λ kept.
+          flag_after _ _ 6 _ _ kept asked c.in_ok-fill_flagged-6.ensures.call (λ kept.
+          flag_after _ _ 9 _ _ kept asked c.in_ok-fill_flagged-7.ensures.call (λ kept.
           flag_stops _ _ 7 _ _ (λ left m. refl) kept asked c.in_err-fill_flagged-8.ensures.call))))))));
     })
 
@@ -112,14 +112,14 @@ returns-in_err-fill_flagged-9 g c =
     let up : c.from_residual-in_err-fill_flagged-9.result ≡ Err c.in_err-fill_flagged-9.field-0.0 = came_up _ _ c.from_residual-in_err-fill_flagged-9.ensures in rw up (
     record {
       call = of_row _ _ _ (λ t w. tt) (
-          flag_behind _ _ 16 _ _ refl asked c.in_ok-fill_flagged.ensures.call (λ kept.
-          flag_behind _ _ 0 _ _ kept asked c.in_ok-fill_flagged-2.ensures.call (λ kept.
-          flag_behind _ _ 1 _ _ kept asked c.in_ok-fill_flagged-3.ensures.call (λ kept.
-          flag_behind _ _ 2 _ _ kept asked c.in_ok-fill_flagged-4.ensures.call (λ kept.
-          flag_behind _ _ 3 _ _ kept asked c.in_ok-fill_flagged-5.ensures.call (λ kept.
-          flag_behind _ _ 6 _ _ kept asked c.in_ok-fill_flagged-6.ensures.call (λ kept.
-          flag_behind _ _ 9 _ _ kept asked c.in_ok-fill_flagged-7.ensures.call (λ kept.
-          flag_behind _ _ 7 _ _ kept asked c.in_ok-fill_flagged-8.ensures.call (λ kept.
+          flag_after _ _ 16 _ _ refl asked c.in_ok-fill_flagged.ensures.call (λ kept.
+          flag_after _ _ 0 _ _ kept asked c.in_ok-fill_flagged-2.ensures.call (λ kept.
+          flag_after _ _ 1 _ _ kept asked c.in_ok-fill_flagged-3.ensures.call (λ kept.
+          flag_after _ _ 2 _ _ kept asked c.in_ok-fill_flagged-4.ensures.call (λ kept.
+          flag_after _ _ 3 _ _ kept asked c.in_ok-fill_flagged-5.ensures.call (λ kept.
+          flag_after _ _ 6 _ _ kept asked c.in_ok-fill_flagged-6.ensures.call (λ kept.
+          flag_after _ _ 9 _ _ kept asked c.in_ok-fill_flagged-7.ensures.call (λ kept.
+          flag_after _ _ 7 _ _ kept asked c.in_ok-fill_flagged-8.ensures.call (λ kept.
           flag_stops _ _ 8 _ _ (λ left m. refl) kept asked c.in_err-fill_flagged-9.ensures.call)))))))));
     })
 
@@ -128,14 +128,14 @@ returns g c =
     let asked : sample_flags_bits c.sample_type-flags.result ≡ (configuration_of c.args.reader.now.config).sample_type = c.sample_type-flags.ensures ∙ ap (λ k. (configuration_of k).sample_type) c.config.ensures in
     record {
       call = of_row _ _ _ (λ t w. tt) (
-          flag_behind _ _ 16 _ _ refl asked c.in_ok-fill_flagged.ensures.call (λ kept.
-          flag_behind _ _ 0 _ _ kept asked c.in_ok-fill_flagged-2.ensures.call (λ kept.
-          flag_behind _ _ 1 _ _ kept asked c.in_ok-fill_flagged-3.ensures.call (λ kept.
-          flag_behind _ _ 2 _ _ kept asked c.in_ok-fill_flagged-4.ensures.call (λ kept.
-          flag_behind _ _ 3 _ _ kept asked c.in_ok-fill_flagged-5.ensures.call (λ kept.
-          flag_behind _ _ 6 _ _ kept asked c.in_ok-fill_flagged-6.ensures.call (λ kept.
-          flag_behind _ _ 9 _ _ kept asked c.in_ok-fill_flagged-7.ensures.call (λ kept.
-          flag_behind _ _ 7 _ _ kept asked c.in_ok-fill_flagged-8.ensures.call (λ kept.
-          flag_behind _ _ 8 _ _ kept asked c.in_ok-fill_flagged-9.ensures.call (λ kept.
+          flag_after _ _ 16 _ _ refl asked c.in_ok-fill_flagged.ensures.call (λ kept.
+          flag_after _ _ 0 _ _ kept asked c.in_ok-fill_flagged-2.ensures.call (λ kept.
+          flag_after _ _ 1 _ _ kept asked c.in_ok-fill_flagged-3.ensures.call (λ kept.
+          flag_after _ _ 2 _ _ kept asked c.in_ok-fill_flagged-4.ensures.call (λ kept.
+          flag_after _ _ 3 _ _ kept asked c.in_ok-fill_flagged-5.ensures.call (λ kept.
+          flag_after _ _ 6 _ _ kept asked c.in_ok-fill_flagged-6.ensures.call (λ kept.
+          flag_after _ _ 9 _ _ kept asked c.in_ok-fill_flagged-7.ensures.call (λ kept.
+          flag_after _ _ 7 _ _ kept asked c.in_ok-fill_flagged-8.ensures.call (λ kept.
+          flag_after _ _ 8 _ _ kept asked c.in_ok-fill_flagged-9.ensures.call (λ kept.
           fields_give _ _ (λ left m. refl)))))))))));
     }

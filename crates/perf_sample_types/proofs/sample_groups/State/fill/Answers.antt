@@ -5,7 +5,7 @@ use Rattle.perf_base.specs.Configured.{configuration_of}
 use Rattle.perf_reader.proofs.Asked.{fields_give, of_row}
 use Rattle.perf_types.proofs.Readings.{came_up}
 use Rattle.perf_sample_types.proofs.AbsentGroups.{absent_state}
-use Rattle.perf_sample_types.proofs.FlaggedFields.{flag_behind, flag_stops}
+use Rattle.perf_sample_types.proofs.FlaggedFields.{flag_after, flag_stops}
 use Rattle.perf_sample_types.proofs.sample_groups.State.fill.Goals as goal
 
 -- no field is present
@@ -29,7 +29,7 @@ returns-in_err-fill_flagged-2 g c =
     let up : c.from_residual-in_err-fill_flagged-2.result ≡ Err c.in_err-fill_flagged-2.field-0.0 = came_up _ _ c.from_residual-in_err-fill_flagged-2.ensures in rw up (
     record {
       call = of_row _ _ _ (λ t w. tt) (
-          flag_behind _ _ 10 _ _ refl asked c.in_ok-fill_flagged.ensures.call (λ kept.
+          flag_after _ _ 10 _ _ refl asked c.in_ok-fill_flagged.ensures.call (λ kept.
           flag_stops _ _ 11 _ _ (λ left m. refl) kept asked c.in_err-fill_flagged-2.ensures.call));
     })
 
@@ -39,8 +39,8 @@ returns-in_err-fill_flagged-3 g c =
     let up : c.from_residual-in_err-fill_flagged-3.result ≡ Err c.in_err-fill_flagged-3.field-0.0 = came_up _ _ c.from_residual-in_err-fill_flagged-3.ensures in rw up (
     record {
       call = of_row _ _ _ (λ t w. tt) (
-          flag_behind _ _ 10 _ _ refl asked c.in_ok-fill_flagged.ensures.call (λ kept.
-          flag_behind _ _ 11 _ _ kept asked c.in_ok-fill_flagged-2.ensures.call (λ kept.
+          flag_after _ _ 10 _ _ refl asked c.in_ok-fill_flagged.ensures.call (λ kept.
+          flag_after _ _ 11 _ _ kept asked c.in_ok-fill_flagged-2.ensures.call (λ kept.
           flag_stops _ _ 12 _ _ (λ left m. refl) kept asked c.in_err-fill_flagged-3.ensures.call)));
     })
 
@@ -50,9 +50,9 @@ returns-in_err-fill_flagged-4 g c =
     let up : c.from_residual-in_err-fill_flagged-4.result ≡ Err c.in_err-fill_flagged-4.field-0.0 = came_up _ _ c.from_residual-in_err-fill_flagged-4.ensures in rw up (
     record {
       call = of_row _ _ _ (λ t w. tt) (
-          flag_behind _ _ 10 _ _ refl asked c.in_ok-fill_flagged.ensures.call (λ kept.
-          flag_behind _ _ 11 _ _ kept asked c.in_ok-fill_flagged-2.ensures.call (λ kept.
-          flag_behind _ _ 12 _ _ kept asked c.in_ok-fill_flagged-3.ensures.call (λ kept.
+          flag_after _ _ 10 _ _ refl asked c.in_ok-fill_flagged.ensures.call (λ kept.
+          flag_after _ _ 11 _ _ kept asked c.in_ok-fill_flagged-2.ensures.call (λ kept.
+          flag_after _ _ 12 _ _ kept asked c.in_ok-fill_flagged-3.ensures.call (λ kept.
           flag_stops _ _ 13 _ _ (λ left m. refl) kept asked c.in_err-fill_flagged-4.ensures.call))));
     })
 
@@ -61,9 +61,9 @@ returns g c =
     let asked : sample_flags_bits c.sample_type-flags.result ≡ (configuration_of c.args.reader.now.config).sample_type = c.sample_type-flags.ensures ∙ ap (λ k. (configuration_of k).sample_type) c.config.ensures in
     record {
       call = of_row _ _ _ (λ t w. ((c.in_ok-fill_flagged.ensures.call.answer t).1 w, (c.in_ok-fill_flagged-4.ensures.call.answer (c.in_ok-fill_flagged-3.ensures.call.told (c.in_ok-fill_flagged-2.ensures.call.told (c.in_ok-fill_flagged.ensures.call.told t)))).1 (subst IsTrue (sym c.in_ok-fill_flagged-3.ensures.call.whole) (subst IsTrue (sym c.in_ok-fill_flagged-2.ensures.call.whole) (subst IsTrue (sym c.in_ok-fill_flagged.ensures.call.whole) w))))) (
-          flag_behind _ _ 10 _ _ refl asked c.in_ok-fill_flagged.ensures.call (λ kept.
-          flag_behind _ _ 11 _ _ kept asked c.in_ok-fill_flagged-2.ensures.call (λ kept.
-          flag_behind _ _ 12 _ _ kept asked c.in_ok-fill_flagged-3.ensures.call (λ kept.
-          flag_behind _ _ 13 _ _ kept asked c.in_ok-fill_flagged-4.ensures.call (λ kept.
+          flag_after _ _ 10 _ _ refl asked c.in_ok-fill_flagged.ensures.call (λ kept.
+          flag_after _ _ 11 _ _ kept asked c.in_ok-fill_flagged-2.ensures.call (λ kept.
+          flag_after _ _ 12 _ _ kept asked c.in_ok-fill_flagged-3.ensures.call (λ kept.
+          flag_after _ _ 13 _ _ kept asked c.in_ok-fill_flagged-4.ensures.call (λ kept.
           fields_give _ _ (λ left m. refl))))));
     }

@@ -5,7 +5,7 @@ use Rattle.perf_base.specs.Layout.{Parts}
 use Rattle.perf_base.specs.Refusals.{refusal_kind}
 use Rattle.perf_base.specs.Took.{took, took_by_places}
 use Rattle.perf_base.specs.declared.config.ParseConfig.{ParseConfig}
-use Rattle.perf_reader.specs.Meaning.{reads_of}
+use Rattle.perf_reader.specs.ReaderState.{reads_of}
 use Rattle.perf_sample_types.specs.SampleId.{SampleIdValue, has_tid, has_time, has_id, has_stream_id, has_cpu, has_identifier, sample_id}
 use Rattle.perf_sample_types.specs.SampleIdFields.{fields_of}
 use Rattle.perf_sample_types.proofs.SampleIds.{Known, id_known, id_takes, id_lacks}

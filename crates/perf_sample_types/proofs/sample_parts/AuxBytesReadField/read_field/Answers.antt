@@ -1,7 +1,7 @@
 use Rattle.std.proofs.Common.{◌≡◌, Err, sym, subst}
 use Rattle.std.specs.Prelude.{IsTrue}
-use Rattle.perf_reader.proofs.Behind.{part_behind, part_stops, call_none}
-use Rattle.perf_reader.proofs.Asked.{loan}
+use Rattle.perf_reader.proofs.After.{part_after, part_stops, call_none}
+use Rattle.perf_reader.proofs.Asked.{transient}
 use Rattle.perf_sample_types.specs.SampleParts.{aux_value}
 use Rattle.perf_types.proofs.Readings.{came_up}
 use Rattle.perf_sample_types.proofs.sample_parts.AuxBytesReadField.read_field.Goals as goal
@@ -10,7 +10,7 @@ pub returns-in_err-size : goal.returns-in_err-size
 returns-in_err-size g c =
     let up : c.from_residual.result ≡ Err c.in_err-size.field-0.0 = came_up _ _ c.from_residual.ensures in rw up (
     record {
-      call = loan _ _ _ (λ t w. tt) (
+      call = transient _ _ _ (λ t w. tt) (
           part_stops _ _ _ c.in_err-size.ensures.call);
     })
 
@@ -18,16 +18,16 @@ pub returns-in_err-bytes : goal.returns-in_err-bytes
 returns-in_err-bytes g c =
     let up : c.from_residual-in_err-bytes.result ≡ Err c.in_err-bytes.field-0.0 = came_up _ _ c.from_residual-in_err-bytes.ensures in rw up (
     record {
-      call = loan _ _ _ (λ t w. tt) (
-          part_behind _ _ _ c.in_ok-size.ensures.call (
+      call = transient _ _ _ (λ t w. tt) (
+          part_after _ _ _ c.in_ok-size.ensures.call (
           part_stops _ _ _ c.in_err-bytes.ensures.call));
     })
 
 pub returns : goal.returns
 returns g c =
     record {
-      call = loan _ _ _ (λ t w. c.in_ok-bytes.ensures.whole (subst IsTrue (sym c.in_ok-size.ensures.call.whole) w)) (
-          part_behind _ _ _ c.in_ok-size.ensures.call (
-          part_behind _ _ _ c.in_ok-bytes.ensures.call (
+      call = transient _ _ _ (λ t w. c.in_ok-bytes.ensures.whole (subst IsTrue (sym c.in_ok-size.ensures.call.whole) w)) (
+          part_after _ _ _ c.in_ok-size.ensures.call (
+          part_after _ _ _ c.in_ok-bytes.ensures.call (
           call_none {show = aux_value})));
     }

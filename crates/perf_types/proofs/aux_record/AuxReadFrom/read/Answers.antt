@@ -1,7 +1,7 @@
 use Rattle.std.proofs.Common.{◌≡◌, Err}
 use Rattle.perf_base.specs.FieldWords.{u64}
 use Rattle.perf_types.specs.Aux.{aux_value}
-use Rattle.perf_reader.proofs.Behind.{part_behind, part_stops, call_behind, call_stops, call_none, plain, of_plain}
+use Rattle.perf_reader.proofs.After.{part_after, part_stops, call_after, call_stops, call_none, plain, of_plain}
 use Rattle.perf_types.proofs.Readings.{came_up}
 use Rattle.perf_types.proofs.aux_record.AuxReadFrom.read.Goals as goal
 
@@ -18,7 +18,7 @@ returns-in_err-read_u64-2 g c =
     let up : c.from_residual-in_err-read_u64-2.result ≡ Err c.in_err-read_u64-2.field-0.0 = came_up _ _ c.from_residual-in_err-read_u64-2.ensures in rw up (
     record {
       call = plain _ _ (λ t. c.in_err-read_u64-2.ensures.memory) (
-          part_behind _ _ _ c.in_ok-read_u64.ensures.call (
+          part_after _ _ _ c.in_ok-read_u64.ensures.call (
           part_stops _ _ _ c.in_err-read_u64-2.ensures.call));
     })
 
@@ -27,8 +27,8 @@ returns-in_err-read g c =
     let up : c.from_residual-in_err-read.result ≡ Err c.in_err-read.field-0.0 = came_up _ _ c.from_residual-in_err-read.ensures in rw up (
     record {
       call = plain _ _ (λ t. (c.in_err-read.ensures.call.answer (c.in_ok-read_u64-2.ensures.call.told (c.in_ok-read_u64.ensures.call.told t))).1) (
-          part_behind _ _ _ c.in_ok-read_u64.ensures.call (
-          part_behind _ _ _ c.in_ok-read_u64-2.ensures.call (
+          part_after _ _ _ c.in_ok-read_u64.ensures.call (
+          part_after _ _ _ c.in_ok-read_u64-2.ensures.call (
           call_stops (λ _. u64) _ (of_plain _ _ c.in_err-read.ensures.call))));
     })
 
@@ -36,8 +36,8 @@ pub returns : goal.returns
 returns g c =
     record {
       call = plain _ _ (λ t. tt) (
-          part_behind _ _ _ c.in_ok-read_u64.ensures.call (
-          part_behind _ _ _ c.in_ok-read_u64-2.ensures.call (
-          call_behind (λ _. u64) _ (of_plain _ _ c.in_ok-read.ensures.call) (
+          part_after _ _ _ c.in_ok-read_u64.ensures.call (
+          part_after _ _ _ c.in_ok-read_u64-2.ensures.call (
+          call_after (λ _. u64) _ (of_plain _ _ c.in_ok-read.ensures.call) (
           call_none {show = aux_value}))));
     }

@@ -1,7 +1,7 @@
 use Rattle.std.proofs.Common.{◌≡◌, Err}
 use Rattle.perf_base.specs.FieldWords.{u16}
 use Rattle.perf_types.specs.BpfEvent.{bpf_event_value}
-use Rattle.perf_reader.proofs.Behind.{part_behind, part_stops, call_behind, call_stops, call_none, plain, of_plain}
+use Rattle.perf_reader.proofs.After.{part_after, part_stops, call_after, call_stops, call_none, plain, of_plain}
 use Rattle.perf_types.proofs.Readings.{came_up}
 use Rattle.perf_types.proofs.bpf_event.BpfEventReadFrom.read.Goals as goal
 
@@ -18,7 +18,7 @@ returns-in_err-read_u16 g c =
     let up : c.from_residual-in_err-read_u16.result ≡ Err c.in_err-read_u16.field-0.0 = came_up _ _ c.from_residual-in_err-read_u16.ensures in rw up (
     record {
       call = plain _ _ (λ t. c.in_err-read_u16.ensures.memory) (
-          call_behind (λ _. u16) _ (of_plain _ _ c.in_ok-read.ensures.call) (
+          call_after (λ _. u16) _ (of_plain _ _ c.in_ok-read.ensures.call) (
           part_stops _ _ _ c.in_err-read_u16.ensures.call));
     })
 
@@ -27,8 +27,8 @@ returns-in_err-read_u32 g c =
     let up : c.from_residual-in_err-read_u32.result ≡ Err c.in_err-read_u32.field-0.0 = came_up _ _ c.from_residual-in_err-read_u32.ensures in rw up (
     record {
       call = plain _ _ (λ t. c.in_err-read_u32.ensures.memory) (
-          call_behind (λ _. u16) _ (of_plain _ _ c.in_ok-read.ensures.call) (
-          part_behind _ _ _ c.in_ok-read_u16.ensures.call (
+          call_after (λ _. u16) _ (of_plain _ _ c.in_ok-read.ensures.call) (
+          part_after _ _ _ c.in_ok-read_u16.ensures.call (
           part_stops _ _ _ c.in_err-read_u32.ensures.call)));
     })
 
@@ -37,9 +37,9 @@ returns-in_err-read_array g c =
     let up : c.from_residual-in_err-read_array.result ≡ Err c.in_err-read_array.field-0.0 = came_up _ _ c.from_residual-in_err-read_array.ensures in rw up (
     record {
       call = plain _ _ (λ t. c.in_err-read_array.ensures.memory) (
-          call_behind (λ _. u16) _ (of_plain _ _ c.in_ok-read.ensures.call) (
-          part_behind _ _ _ c.in_ok-read_u16.ensures.call (
-          part_behind _ _ _ c.in_ok-read_u32.ensures.call (
+          call_after (λ _. u16) _ (of_plain _ _ c.in_ok-read.ensures.call) (
+          part_after _ _ _ c.in_ok-read_u16.ensures.call (
+          part_after _ _ _ c.in_ok-read_u32.ensures.call (
           part_stops _ _ _ c.in_err-read_array.ensures.call))));
     })
 
@@ -47,9 +47,9 @@ pub returns : goal.returns
 returns g c =
     record {
       call = plain _ _ (λ t. tt) (
-          call_behind (λ _. u16) _ (of_plain _ _ c.in_ok-read.ensures.call) (
-          part_behind _ _ _ c.in_ok-read_u16.ensures.call (
-          part_behind _ _ _ c.in_ok-read_u32.ensures.call (
-          part_behind _ _ _ c.in_ok-read_array.ensures.call (
+          call_after (λ _. u16) _ (of_plain _ _ c.in_ok-read.ensures.call) (
+          part_after _ _ _ c.in_ok-read_u16.ensures.call (
+          part_after _ _ _ c.in_ok-read_u32.ensures.call (
+          part_after _ _ _ c.in_ok-read_array.ensures.call (
           call_none {show = bpf_event_value})))));
     }

@@ -1,6 +1,6 @@
 use Rattle.perf_base.specs.Layout.{value}
 use Rattle.perf_reader.proofs.AtOnce.{at_once}
-use Rattle.perf_reader.proofs.Behind.{plain}
+use Rattle.perf_reader.proofs.After.{plain}
 use Rattle.perf_types.specs.Exit.{exit}
 use Rattle.perf_types.proofs.AtOnce.{exit_taken}
 use Rattle.perf_types.proofs.exit.ExitReadFrom.read.Goals as goal

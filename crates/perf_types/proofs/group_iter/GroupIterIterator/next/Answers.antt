@@ -6,7 +6,7 @@ use Rattle.perf_types.proofs.group_iter.GroupIterIterator.next.Goals as goal
 entries-front : (i l : Bool) (left others : ℕ) (words front back : List ℕ) → left ≡ suc others →
     front ≡ take (block_len i l) words → back ≡ drop (block_len i l) words →
     entries_of i l left words ≡ entry_of i l front ∷ entries_of i l others back
-entries-front i l left others words front back is first behind = rw (is, first, behind) refl
+entries-front i l left others words front back is first after = rw (is, first, after) refl
 
 pub returns-then-self-eq0-clause-steps : goal.returns-then-self-eq0-clause-steps
 returns-then-self-eq0-clause-steps c =

@@ -1,5 +1,5 @@
 use Rattle.std.proofs.Common.{◌≡◌, Err}
-use Rattle.perf_reader.proofs.Behind.{part_behind, part_stops, call_none, plain}
+use Rattle.perf_reader.proofs.After.{part_after, part_stops, call_none, plain}
 use Rattle.perf_types.proofs.Readings.{came_up}
 use Rattle.perf_types.proofs.lost_samples.LostSamplesReadFrom.read.Goals as goal
 
@@ -15,6 +15,6 @@ pub returns : goal.returns
 returns g c =
     record {
       call = plain _ _ (λ t. tt) (
-          part_behind _ _ _ c.in_ok-read_u64.ensures.call (
+          part_after _ _ _ c.in_ok-read_u64.ensures.call (
           call_none {show = λ v. v}));
     }

@@ -1,5 +1,5 @@
 use Rattle.std.proofs.Common.{◌≡◌, Err}
-use Rattle.perf_reader.proofs.Behind.{part_behind, part_stops, call_none, plain}
+use Rattle.perf_reader.proofs.After.{part_after, part_stops, call_none, plain}
 use Rattle.perf_types.proofs.Readings.{came_up}
 use Rattle.perf_types.proofs.namespaces.NamespaceEntryReadFrom.read.Goals as goal
 
@@ -16,7 +16,7 @@ returns-in_err-read_u64-2 g c =
     let up : c.from_residual-in_err-read_u64-2.result ≡ Err c.in_err-read_u64-2.field-0.0 = came_up _ _ c.from_residual-in_err-read_u64-2.ensures in rw up (
     record {
       call = plain _ _ (λ t. c.in_err-read_u64-2.ensures.memory) (
-          part_behind _ _ _ c.in_ok-read_u64.ensures.call (
+          part_after _ _ _ c.in_ok-read_u64.ensures.call (
           part_stops _ _ _ c.in_err-read_u64-2.ensures.call));
     })
 
@@ -24,7 +24,7 @@ pub returns : goal.returns
 returns g c =
     record {
       call = plain _ _ (λ t. tt) (
-          part_behind _ _ _ c.in_ok-read_u64.ensures.call (
-          part_behind _ _ _ c.in_ok-read_u64-2.ensures.call (
+          part_after _ _ _ c.in_ok-read_u64.ensures.call (
+          part_after _ _ _ c.in_ok-read_u64-2.ensures.call (
           call_none {show = λ v. v})));
     }

@@ -3,8 +3,8 @@ use Rattle.perf_words.specs.SetBits.{read_format_bits}
 use Rattle.std.specs.Prelude.{nat_lt}
 use Rattle.perf_base.specs.Configuration.{Configuration}
 use Rattle.perf_base.specs.Configured.{configuration_of}
-use Rattle.perf_reader.proofs.Behind.{part_behind, part_stops}
-use Rattle.perf_reader.proofs.Asked.{check_holds, check_fails, option_behind, option_stops, words_behind, words_stop, call_gives}
+use Rattle.perf_reader.proofs.After.{part_after, part_stops}
+use Rattle.perf_reader.proofs.Asked.{check_holds, check_fails, option_after, option_stops, words_after, words_stop, call_gives}
 use Rattle.perf_types.proofs.Blocks.{counted_blocks, product_counted, product_uncounted}
 use Rattle.perf_types.specs.GroupEntry.{block_len}
 use Rattle.perf_types.proofs.Readings.{bit_is, came_up}
@@ -47,7 +47,7 @@ returns-in_err-time_enabled g c =
     let up : c.from_residual-in_err-time_enabled.result ≡ Err c.in_err-time_enabled.field-0.0 = came_up _ _ c.from_residual-in_err-time_enabled.ensures in rw up (
     record {
       call = check_holds _ _ _ grouped (check_holds _ _ _ known (
-          part_behind _ _ _ c.in_ok-count.ensures.call (
+          part_after _ _ _ c.in_ok-count.ensures.call (
           option_stops _ _ _ _ (ap (λ k. has_time_enabled (configuration_of k).read_format) (c.in_ok-count.ensures.call.config) ∙ enabled) c.in_err-time_enabled.ensures.call)));
     })
 
@@ -61,8 +61,8 @@ returns-in_err-time_running g c =
     let up : c.from_residual-in_err-time_running.result ≡ Err c.in_err-time_running.field-0.0 = came_up _ _ c.from_residual-in_err-time_running.ensures in rw up (
     record {
       call = check_holds _ _ _ grouped (check_holds _ _ _ known (
-          part_behind _ _ _ c.in_ok-count.ensures.call (
-          option_behind _ _ _ _ (ap (λ k. has_time_enabled (configuration_of k).read_format) (c.in_ok-count.ensures.call.config) ∙ enabled) c.in_ok-time_enabled.ensures.call (
+          part_after _ _ _ c.in_ok-count.ensures.call (
+          option_after _ _ _ _ (ap (λ k. has_time_enabled (configuration_of k).read_format) (c.in_ok-count.ensures.call.config) ∙ enabled) c.in_ok-time_enabled.ensures.call (
           option_stops _ _ _ _ (ap (λ k. has_time_running (configuration_of k).read_format) (c.in_ok-time_enabled.ensures.call.config ∙ c.in_ok-count.ensures.call.config) ∙ running) c.in_err-time_running.ensures.call))));
     })
 
@@ -77,9 +77,9 @@ returns-in-None g c =
     let small : nat_lt (c.in_ok-count.count * element_len (configuration_of c.args.reader.now.config).read_format) (2 ^ 64) ≡ false = subst (λ k. nat_lt (c.in_ok-count.count * k) (2 ^ 64) ≡ false) size (product_uncounted _ _ c.checked_mul.ensures c.in-None.is) in
     record {
       call = check_holds _ _ _ grouped (check_holds _ _ _ known (
-          part_behind _ _ _ c.in_ok-count.ensures.call (
-          option_behind _ _ _ _ (ap (λ k. has_time_enabled (configuration_of k).read_format) (c.in_ok-count.ensures.call.config) ∙ enabled) c.in_ok-time_enabled.ensures.call (
-          option_behind _ _ _ _ (ap (λ k. has_time_running (configuration_of k).read_format) (c.in_ok-time_enabled.ensures.call.config ∙ c.in_ok-count.ensures.call.config) ∙ running) c.in_ok-time_running.ensures.call (
+          part_after _ _ _ c.in_ok-count.ensures.call (
+          option_after _ _ _ _ (ap (λ k. has_time_enabled (configuration_of k).read_format) (c.in_ok-count.ensures.call.config) ∙ enabled) c.in_ok-time_enabled.ensures.call (
+          option_after _ _ _ _ (ap (λ k. has_time_running (configuration_of k).read_format) (c.in_ok-time_enabled.ensures.call.config ∙ c.in_ok-count.ensures.call.config) ∙ running) c.in_ok-time_running.ensures.call (
           check_fails _ _ _ refl (ap (λ k. nat_lt (c.in_ok-count.count * element_len (configuration_of k).read_format) (2 ^ 64)) (c.in_ok-time_running.ensures.call.config ∙ c.in_ok-time_enabled.ensures.call.config ∙ c.in_ok-count.ensures.call.config) ∙ small))))));
     }
 
@@ -97,9 +97,9 @@ returns-in_err-words g c =
     let up : c.from_residual-in_err-words.result ≡ Err c.in_err-words.field-0.0 = came_up _ _ c.from_residual-in_err-words.ensures in rw up (
     record {
       call = check_holds _ _ _ grouped (check_holds _ _ _ known (
-          part_behind _ _ _ c.in_ok-count.ensures.call (
-          option_behind _ _ _ _ (ap (λ k. has_time_enabled (configuration_of k).read_format) (c.in_ok-count.ensures.call.config) ∙ enabled) c.in_ok-time_enabled.ensures.call (
-          option_behind _ _ _ _ (ap (λ k. has_time_running (configuration_of k).read_format) (c.in_ok-time_enabled.ensures.call.config ∙ c.in_ok-count.ensures.call.config) ∙ running) c.in_ok-time_running.ensures.call (
+          part_after _ _ _ c.in_ok-count.ensures.call (
+          option_after _ _ _ _ (ap (λ k. has_time_enabled (configuration_of k).read_format) (c.in_ok-count.ensures.call.config) ∙ enabled) c.in_ok-time_enabled.ensures.call (
+          option_after _ _ _ _ (ap (λ k. has_time_running (configuration_of k).read_format) (c.in_ok-time_enabled.ensures.call.config ∙ c.in_ok-count.ensures.call.config) ∙ running) c.in_ok-time_running.ensures.call (
           check_holds _ _ _ (ap (λ k. nat_lt (c.in_ok-count.count * element_len (configuration_of k).read_format) (2 ^ 64)) (c.in_ok-time_running.ensures.call.config ∙ c.in_ok-time_enabled.ensures.call.config ∙ c.in_ok-count.ensures.call.config) ∙ small) (
           words_stop _ _ _ (ap (λ k. c.in_ok-count.count * element_len (configuration_of k).read_format) (c.in_ok-time_running.ensures.call.config ∙ c.in_ok-time_enabled.ensures.call.config ∙ c.in_ok-count.ensures.call.config) ∙ many) c.in_err-words.ensures.call))))));
     })
@@ -120,11 +120,11 @@ returns g c =
     let value : Configuration → GroupRead = λ s. record { time_enabled = c.in_ok-time_enabled.time_enabled; time_running = c.in_ok-time_running.time_running; with_id = has_id s.read_format; with_lost = has_lost s.read_format; entries = all_entries (has_id s.read_format) (has_lost s.read_format) c.in_ok-words.words.items } in
     record {
       call = check_holds _ _ _ grouped (check_holds _ _ _ known (
-          part_behind _ _ _ c.in_ok-count.ensures.call (
-          option_behind _ _ _ _ (ap (λ k. has_time_enabled (configuration_of k).read_format) (c.in_ok-count.ensures.call.config) ∙ enabled) c.in_ok-time_enabled.ensures.call (
-          option_behind _ _ _ _ (ap (λ k. has_time_running (configuration_of k).read_format) (c.in_ok-time_enabled.ensures.call.config ∙ c.in_ok-count.ensures.call.config) ∙ running) c.in_ok-time_running.ensures.call (
+          part_after _ _ _ c.in_ok-count.ensures.call (
+          option_after _ _ _ _ (ap (λ k. has_time_enabled (configuration_of k).read_format) (c.in_ok-count.ensures.call.config) ∙ enabled) c.in_ok-time_enabled.ensures.call (
+          option_after _ _ _ _ (ap (λ k. has_time_running (configuration_of k).read_format) (c.in_ok-time_enabled.ensures.call.config ∙ c.in_ok-count.ensures.call.config) ∙ running) c.in_ok-time_running.ensures.call (
           check_holds _ _ _ (ap (λ k. nat_lt (c.in_ok-count.count * element_len (configuration_of k).read_format) (2 ^ 64)) (c.in_ok-time_running.ensures.call.config ∙ c.in_ok-time_enabled.ensures.call.config ∙ c.in_ok-count.ensures.call.config) ∙ small) (
-          words_behind _ _ _ (ap (λ k. c.in_ok-count.count * element_len (configuration_of k).read_format) (c.in_ok-time_running.ensures.call.config ∙ c.in_ok-time_enabled.ensures.call.config ∙ c.in_ok-count.ensures.call.config) ∙ many) c.in_ok-words.ensures.call (
+          words_after _ _ _ (ap (λ k. c.in_ok-count.count * element_len (configuration_of k).read_format) (c.in_ok-time_running.ensures.call.config ∙ c.in_ok-time_enabled.ensures.call.config ∙ c.in_ok-count.ensures.call.config) ∙ many) c.in_ok-words.ensures.call (
           call_gives value (ap (λ k. value (configuration_of k)) (c.in_ok-words.ensures.call.config ∙ c.in_ok-time_running.ensures.call.config ∙ c.in_ok-time_enabled.ensures.call.config ∙ c.in_ok-count.ensures.call.config) ∙ rw (numbered, lossy) refl))))))));
     }
 

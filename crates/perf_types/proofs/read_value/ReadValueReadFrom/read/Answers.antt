@@ -3,8 +3,8 @@ use Rattle.perf_words.specs.SetBits.{read_format_bits}
 use Rattle.perf_base.specs.declared.error.ErrorKind.TheVariants.{UnsupportedConfig}
 use Rattle.std.specs.Prelude.{not}
 use Rattle.perf_base.specs.Configured.{configuration_of}
-use Rattle.perf_reader.proofs.Behind.{part_behind, part_stops, call_none, plain}
-use Rattle.perf_reader.proofs.Asked.{check_holds, check_fails, option_behind, option_stops, not_for_memory}
+use Rattle.perf_reader.proofs.After.{part_after, part_stops, call_none, plain}
+use Rattle.perf_reader.proofs.Asked.{check_holds, check_fails, option_after, option_stops, not_for_memory}
 use Rattle.perf_types.proofs.Readings.{bit_is, came_up}
 use Rattle.perf_types.proofs.Flags.{contains_group, contains_time_enabled, contains_time_running, contains_counter_id, contains_counter_lost}
 use Rattle.perf_types.specs.ReadFormat.{has_group, is_known, has_time_enabled, has_time_running, has_id, has_lost}
@@ -44,7 +44,7 @@ returns-in_err-read_u64_if g c =
     let up : c.from_residual-in_err-read_u64_if.result ≡ Err c.in_err-read_u64_if.field-0.0 = came_up _ _ c.from_residual-in_err-read_u64_if.ensures in rw up (
     record {
       call = plain _ _ (λ t. c.in_err-read_u64_if.ensures.memory) (check_holds _ _ _ lone (check_holds _ _ _ known (
-          part_behind _ _ _ c.in_ok-read_u64.ensures.call (
+          part_after _ _ _ c.in_ok-read_u64.ensures.call (
           option_stops _ _ _ _ (ap (λ k. has_time_enabled (configuration_of k).read_format) (c.in_ok-read_u64.ensures.call.config) ∙ f1) c.in_err-read_u64_if.ensures.call))));
     })
 
@@ -58,8 +58,8 @@ returns-in_err-read_u64_if-2 g c =
     let up : c.from_residual-in_err-read_u64_if-2.result ≡ Err c.in_err-read_u64_if-2.field-0.0 = came_up _ _ c.from_residual-in_err-read_u64_if-2.ensures in rw up (
     record {
       call = plain _ _ (λ t. c.in_err-read_u64_if-2.ensures.memory) (check_holds _ _ _ lone (check_holds _ _ _ known (
-          part_behind _ _ _ c.in_ok-read_u64.ensures.call (
-          option_behind _ _ _ _ (ap (λ k. has_time_enabled (configuration_of k).read_format) (c.in_ok-read_u64.ensures.call.config) ∙ f1) c.in_ok-read_u64_if.ensures.call (
+          part_after _ _ _ c.in_ok-read_u64.ensures.call (
+          option_after _ _ _ _ (ap (λ k. has_time_enabled (configuration_of k).read_format) (c.in_ok-read_u64.ensures.call.config) ∙ f1) c.in_ok-read_u64_if.ensures.call (
           option_stops _ _ _ _ (ap (λ k. has_time_running (configuration_of k).read_format) (c.in_ok-read_u64_if.ensures.call.config ∙ c.in_ok-read_u64.ensures.call.config) ∙ f2) c.in_err-read_u64_if-2.ensures.call)))));
     })
 
@@ -74,9 +74,9 @@ returns-in_err-read_u64_if-3 g c =
     let up : c.from_residual-in_err-read_u64_if-3.result ≡ Err c.in_err-read_u64_if-3.field-0.0 = came_up _ _ c.from_residual-in_err-read_u64_if-3.ensures in rw up (
     record {
       call = plain _ _ (λ t. c.in_err-read_u64_if-3.ensures.memory) (check_holds _ _ _ lone (check_holds _ _ _ known (
-          part_behind _ _ _ c.in_ok-read_u64.ensures.call (
-          option_behind _ _ _ _ (ap (λ k. has_time_enabled (configuration_of k).read_format) (c.in_ok-read_u64.ensures.call.config) ∙ f1) c.in_ok-read_u64_if.ensures.call (
-          option_behind _ _ _ _ (ap (λ k. has_time_running (configuration_of k).read_format) (c.in_ok-read_u64_if.ensures.call.config ∙ c.in_ok-read_u64.ensures.call.config) ∙ f2) c.in_ok-read_u64_if-2.ensures.call (
+          part_after _ _ _ c.in_ok-read_u64.ensures.call (
+          option_after _ _ _ _ (ap (λ k. has_time_enabled (configuration_of k).read_format) (c.in_ok-read_u64.ensures.call.config) ∙ f1) c.in_ok-read_u64_if.ensures.call (
+          option_after _ _ _ _ (ap (λ k. has_time_running (configuration_of k).read_format) (c.in_ok-read_u64_if.ensures.call.config ∙ c.in_ok-read_u64.ensures.call.config) ∙ f2) c.in_ok-read_u64_if-2.ensures.call (
           option_stops _ _ _ _ (ap (λ k. has_id (configuration_of k).read_format) (c.in_ok-read_u64_if-2.ensures.call.config ∙ c.in_ok-read_u64_if.ensures.call.config ∙ c.in_ok-read_u64.ensures.call.config) ∙ f3) c.in_err-read_u64_if-3.ensures.call))))));
     })
 
@@ -92,10 +92,10 @@ returns-in_err-read_u64_if-4 g c =
     let up : c.from_residual-in_err-read_u64_if-4.result ≡ Err c.in_err-read_u64_if-4.field-0.0 = came_up _ _ c.from_residual-in_err-read_u64_if-4.ensures in rw up (
     record {
       call = plain _ _ (λ t. c.in_err-read_u64_if-4.ensures.memory) (check_holds _ _ _ lone (check_holds _ _ _ known (
-          part_behind _ _ _ c.in_ok-read_u64.ensures.call (
-          option_behind _ _ _ _ (ap (λ k. has_time_enabled (configuration_of k).read_format) (c.in_ok-read_u64.ensures.call.config) ∙ f1) c.in_ok-read_u64_if.ensures.call (
-          option_behind _ _ _ _ (ap (λ k. has_time_running (configuration_of k).read_format) (c.in_ok-read_u64_if.ensures.call.config ∙ c.in_ok-read_u64.ensures.call.config) ∙ f2) c.in_ok-read_u64_if-2.ensures.call (
-          option_behind _ _ _ _ (ap (λ k. has_id (configuration_of k).read_format) (c.in_ok-read_u64_if-2.ensures.call.config ∙ c.in_ok-read_u64_if.ensures.call.config ∙ c.in_ok-read_u64.ensures.call.config) ∙ f3) c.in_ok-read_u64_if-3.ensures.call (
+          part_after _ _ _ c.in_ok-read_u64.ensures.call (
+          option_after _ _ _ _ (ap (λ k. has_time_enabled (configuration_of k).read_format) (c.in_ok-read_u64.ensures.call.config) ∙ f1) c.in_ok-read_u64_if.ensures.call (
+          option_after _ _ _ _ (ap (λ k. has_time_running (configuration_of k).read_format) (c.in_ok-read_u64_if.ensures.call.config ∙ c.in_ok-read_u64.ensures.call.config) ∙ f2) c.in_ok-read_u64_if-2.ensures.call (
+          option_after _ _ _ _ (ap (λ k. has_id (configuration_of k).read_format) (c.in_ok-read_u64_if-2.ensures.call.config ∙ c.in_ok-read_u64_if.ensures.call.config ∙ c.in_ok-read_u64.ensures.call.config) ∙ f3) c.in_ok-read_u64_if-3.ensures.call (
           option_stops _ _ _ _ (ap (λ k. has_lost (configuration_of k).read_format) (c.in_ok-read_u64_if-3.ensures.call.config ∙ c.in_ok-read_u64_if-2.ensures.call.config ∙ c.in_ok-read_u64_if.ensures.call.config ∙ c.in_ok-read_u64.ensures.call.config) ∙ f4) c.in_err-read_u64_if-4.ensures.call)))))));
     })
 
@@ -110,10 +110,10 @@ returns g c =
     let f4 : has_lost (configuration_of c.args.reader.now.config).read_format ≡ c.contains-5.result = bit_is 4 _ _ _ _ asked (c.contains-5.ensures tt) (contains_counter_lost _) in
     record {
       call = plain _ _ (λ t. tt) (check_holds _ _ _ lone (check_holds _ _ _ known (
-          part_behind _ _ _ c.in_ok-read_u64.ensures.call (
-          option_behind _ _ _ _ (ap (λ k. has_time_enabled (configuration_of k).read_format) (c.in_ok-read_u64.ensures.call.config) ∙ f1) c.in_ok-read_u64_if.ensures.call (
-          option_behind _ _ _ _ (ap (λ k. has_time_running (configuration_of k).read_format) (c.in_ok-read_u64_if.ensures.call.config ∙ c.in_ok-read_u64.ensures.call.config) ∙ f2) c.in_ok-read_u64_if-2.ensures.call (
-          option_behind _ _ _ _ (ap (λ k. has_id (configuration_of k).read_format) (c.in_ok-read_u64_if-2.ensures.call.config ∙ c.in_ok-read_u64_if.ensures.call.config ∙ c.in_ok-read_u64.ensures.call.config) ∙ f3) c.in_ok-read_u64_if-3.ensures.call (
-          option_behind _ _ _ _ (ap (λ k. has_lost (configuration_of k).read_format) (c.in_ok-read_u64_if-3.ensures.call.config ∙ c.in_ok-read_u64_if-2.ensures.call.config ∙ c.in_ok-read_u64_if.ensures.call.config ∙ c.in_ok-read_u64.ensures.call.config) ∙ f4) c.in_ok-read_u64_if-4.ensures.call (
+          part_after _ _ _ c.in_ok-read_u64.ensures.call (
+          option_after _ _ _ _ (ap (λ k. has_time_enabled (configuration_of k).read_format) (c.in_ok-read_u64.ensures.call.config) ∙ f1) c.in_ok-read_u64_if.ensures.call (
+          option_after _ _ _ _ (ap (λ k. has_time_running (configuration_of k).read_format) (c.in_ok-read_u64_if.ensures.call.config ∙ c.in_ok-read_u64.ensures.call.config) ∙ f2) c.in_ok-read_u64_if-2.ensures.call (
+          option_after _ _ _ _ (ap (λ k. has_id (configuration_of k).read_format) (c.in_ok-read_u64_if-2.ensures.call.config ∙ c.in_ok-read_u64_if.ensures.call.config ∙ c.in_ok-read_u64.ensures.call.config) ∙ f3) c.in_ok-read_u64_if-3.ensures.call (
+          option_after _ _ _ _ (ap (λ k. has_lost (configuration_of k).read_format) (c.in_ok-read_u64_if-3.ensures.call.config ∙ c.in_ok-read_u64_if-2.ensures.call.config ∙ c.in_ok-read_u64_if.ensures.call.config ∙ c.in_ok-read_u64.ensures.call.config) ∙ f4) c.in_ok-read_u64_if-4.ensures.call (
           call_none {show = single_read}))))))));
     }

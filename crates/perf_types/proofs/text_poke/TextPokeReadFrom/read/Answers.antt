@@ -3,7 +3,7 @@ use Rattle.std.proofs.lemmas.Bool.{false≢true}
 use Rattle.std.specs.Prelude.{IsTrue}
 use Rattle.perf_base.specs.Cow.{cow_items, is_borrowed}
 use Rattle.perf_reader.proofs.Asked.{call_gives}
-use Rattle.perf_reader.proofs.Behind.{part_behind, part_stops, lent}
+use Rattle.perf_reader.proofs.After.{part_after, part_stops, lent}
 use Rattle.perf_types.proofs.Readings.{call_starves, bytes_many, came_up}
 use Rattle.perf_types.proofs.Poked.{both_parts}
 use Rattle.perf_types.specs.TextPoke.{text_poke_value}
@@ -22,7 +22,7 @@ returns-in_err-old_len g c =
     let up : c.from_residual-in_err-old_len.result ≡ Err c.in_err-old_len.field-0.0 = came_up _ _ c.from_residual-in_err-old_len.ensures in rw up (
     record {
       call = lent _ _ _ (λ t w. (tt, c.in_err-old_len.ensures.memory)) (
-          part_behind _ _ _ c.in_ok-addr.ensures.call (
+          part_after _ _ _ c.in_ok-addr.ensures.call (
           part_stops _ _ _ c.in_err-old_len.ensures.call));
     })
 
@@ -31,8 +31,8 @@ returns-in_err-new_len g c =
     let up : c.from_residual-in_err-new_len.result ≡ Err c.in_err-new_len.field-0.0 = came_up _ _ c.from_residual-in_err-new_len.ensures in rw up (
     record {
       call = lent _ _ _ (λ t w. (tt, c.in_err-new_len.ensures.memory)) (
-          part_behind _ _ _ c.in_ok-addr.ensures.call (
-          part_behind _ _ _ c.in_ok-old_len.ensures.call (
+          part_after _ _ _ c.in_ok-addr.ensures.call (
+          part_after _ _ _ c.in_ok-old_len.ensures.call (
           part_stops _ _ _ c.in_err-new_len.ensures.call)));
     })
 
@@ -41,9 +41,9 @@ returns-in_err-run g c =
     let up : c.from_residual-in_err-run.result ≡ Err c.in_err-run.field-0.0 = came_up _ _ c.from_residual-in_err-run.ensures in rw up (
     record {
       call = lent _ _ _ (λ t w. (tt, c.in_err-run.ensures.whole_memory (subst IsTrue (sym c.in_ok-new_len.ensures.call.whole) (subst IsTrue (sym c.in_ok-old_len.ensures.call.whole) (subst IsTrue (sym c.in_ok-addr.ensures.call.whole) w))))) (
-          part_behind _ _ _ c.in_ok-addr.ensures.call (
-          part_behind _ _ _ c.in_ok-old_len.ensures.call (
-          part_behind _ _ _ c.in_ok-new_len.ensures.call (
+          part_after _ _ _ c.in_ok-addr.ensures.call (
+          part_after _ _ _ c.in_ok-old_len.ensures.call (
+          part_after _ _ _ c.in_ok-new_len.ensures.call (
           part_stops _ _ _ (bytes_many _ _ c.poked_len.ensures.exact c.in_err-run.ensures.call)))));
     })
 
@@ -56,10 +56,10 @@ returns-in-Ok g c =
       call = lent _ _ _ (λ t w.
           let lies : IsTrue (is_borrowed c.in_ok-run.run') = c.in_ok-run.ensures.whole (subst IsTrue (sym c.in_ok-new_len.ensures.call.whole) (subst IsTrue (sym c.in_ok-old_len.ensures.call.whole) (subst IsTrue (sym c.in_ok-addr.ensures.call.whole) w))) in
           ((subst IsTrue (sym c.in-Ok.ensures.front_form) lies, subst IsTrue (sym (c.truncate.ensures.form ∙ c.in-Ok.ensures.back_form)) lies), tt)) (
-          part_behind _ _ _ c.in_ok-addr.ensures.call (
-          part_behind _ _ _ c.in_ok-old_len.ensures.call (
-          part_behind _ _ _ c.in_ok-new_len.ensures.call (
-          part_behind _ _ _ (bytes_many _ _ c.poked_len.ensures.exact c.in_ok-run.ensures.call) (
+          part_after _ _ _ c.in_ok-addr.ensures.call (
+          part_after _ _ _ c.in_ok-old_len.ensures.call (
+          part_after _ _ _ c.in_ok-new_len.ensures.call (
+          part_after _ _ _ (bytes_many _ _ c.poked_len.ensures.exact c.in_ok-run.ensures.call) (
           call_gives {show = text_poke_value} _ (both_parts c.in_ok-addr.addr old new))))));
     }
 
@@ -67,9 +67,9 @@ pub returns-in-Err : goal.returns-in-Err
 returns-in-Err g c =
     record {
       call = lent _ _ _ (λ t w. absurd (false≢true (c.in-Err.ensures.no_memory (c.in_ok-run.ensures.whole (subst IsTrue (sym c.in_ok-new_len.ensures.call.whole) (subst IsTrue (sym c.in_ok-old_len.ensures.call.whole) (subst IsTrue (sym c.in_ok-addr.ensures.call.whole) w))))))) (
-          part_behind _ _ _ c.in_ok-addr.ensures.call (
-          part_behind _ _ _ c.in_ok-old_len.ensures.call (
-          part_behind _ _ _ c.in_ok-new_len.ensures.call (
-          part_behind _ _ _ (bytes_many _ _ c.poked_len.ensures.exact c.in_ok-run.ensures.call) (
+          part_after _ _ _ c.in_ok-addr.ensures.call (
+          part_after _ _ _ c.in_ok-old_len.ensures.call (
+          part_after _ _ _ c.in_ok-new_len.ensures.call (
+          part_after _ _ _ (bytes_many _ _ c.poked_len.ensures.exact c.in_ok-run.ensures.call) (
           call_starves _)))));
     }

@@ -10,18 +10,18 @@ pub use Rattle.perf_base.specs.LayoutReads.{one_if_any}
 pub use Rattle.perf_base.specs.Refusals.{error_kinds, refused, TakesNoMemory, IsAnswerOf}
 pub use Rattle.perf_base.specs.declared.refusal.Refusal.TheVariants.{SmallHeader, NoRoomForId}
 pub use Rattle.perf_base.specs.declared.sys.perf_event_header.{perf_event_header}
-pub use Rattle.perf_buffers.specs.Cursor.{cursor_lent}
+pub use Rattle.perf_buffers.specs.Cursor.{cursor_is_borrowed}
 pub use Rattle.perf_buffers.specs.Room.{falls_short, is_made_beforehand}
 pub use Rattle.perf_buffers.specs.Taking.{MovesWithin}
-pub use Rattle.perf_reader.specs.Meaning.{Meaning}
-pub use Rattle.perf_reader.specs.Reading.{Says, Reads, ReadsPlain, ReadsLent, ReadsOne, ReadsNumber}
+pub use Rattle.perf_reader.specs.ReaderState.{ReaderState}
+pub use Rattle.perf_reader.specs.Reading.{Transition, Reads, ReadsPlain, ReadsInPlace, ReadsOne, ReadsNumber}
 pub use Rattle.perf_reader.specs.Reading.{Keeps, of_layout}
-pub use Rattle.perf_records.specs.Answers.{SaysBehind, answers, body_length, LeavesAllOrBehind}
+pub use Rattle.perf_records.specs.Answers.{ReadsFrameAfter, answers, body_length, LeavesAllOrRest}
 pub use Rattle.perf_records.specs.Answers.{RefusesHeader}
 pub use Rattle.perf_records.specs.Bodies.{wants_memory}
 pub use Rattle.perf_records.specs.Records.{IsBorrowed}
-pub use Rattle.perf_records.specs.Visits.{VisitsBehind, VisitsFrame, BelongsTo}
+pub use Rattle.perf_records.specs.Gives.{GivesFrameAfter, GivesFrame, BelongsTo}
 pub use Rattle.perf_sample_types.specs.Registers.{RegistersValue, registers_of, registers_value}
 pub use Rattle.perf_parser.specs.Calls.{Follows, Counts, KeepsOn, Call, CallAs, CallOnly}
 pub use Rattle.perf_parser.specs.Frames.{SplitsParser, SplitsFrame}
-pub use Rattle.perf_parser.specs.Meaning.{reader_of, buffer_of, config_of, reads_of, meaning}
+pub use Rattle.perf_parser.specs.ReaderState.{reader_of, buffer_of, config_of, reads_of, state_of}

@@ -9,10 +9,10 @@ pub use Rattle.perf_base.specs.Zeros.{all_zero}
 pub use Rattle.perf_base.specs.declared.error.ErrorKind.TheVariants.{Eof, OutOfMemory}
 pub use Rattle.perf_buffers.specs.Buffer.{Source, Stays, Shows, ShowsReady, Refuses, KeepsChunk}
 pub use Rattle.perf_buffers.specs.Buffer.{Advances, chunk_bytes, known, is_known, RefusesReader}
-pub use Rattle.perf_buffers.specs.Buffer.{NeedsNoMemory, refusal, lasts}
-pub use Rattle.perf_buffers.specs.Cursor.{cursor_left, cursor_lent, IsAtStart, held_left, is_lent}
-pub use Rattle.perf_buffers.specs.Cursor.{is_at_start}
+pub use Rattle.perf_buffers.specs.Buffer.{NeedsNoMemory, refusal, chunk_is_borrowed}
+pub use Rattle.perf_buffers.specs.Cursor.{cursor_left, cursor_is_borrowed, IsAtStart, content_left, content_is_borrowed}
+pub use Rattle.perf_buffers.specs.Cursor.{ContentIsAtStart}
 pub use Rattle.perf_buffers.specs.Room.{falls_short, is_made_beforehand, makes_all_room, room_made}
 pub use Rattle.perf_buffers.specs.Taking.{Takes, FailsToTake, FailsToKeep, FailsInRest, CanFail}
-pub use Rattle.perf_buffers.specs.Taking.{FailsBehind, TakesAtOnce}
+pub use Rattle.perf_buffers.specs.Taking.{FailsAfter, TakesAtOnce}
 pub use Rattle.perf_buffers.specs.FrameBytes.{GivesNextBytes}

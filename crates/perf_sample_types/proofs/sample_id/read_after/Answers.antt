@@ -2,9 +2,9 @@ use Rattle.std.proofs.Common.{◌≡◌, ℕ, Option, Some, None, Err, refl, sym
 use Rattle.std.specs.Option.{option_or}
 use Rattle.perf_reader.proofs.Asked.{call_gives}
 use Rattle.perf_sample_types.specs.SampleId.{SampleIdValue, first_of}
-use Rattle.perf_reader.proofs.Behind.{part_behind, part_stops, plain, padded}
+use Rattle.perf_reader.proofs.After.{part_after, part_stops, plain, padded}
 use Rattle.perf_types.proofs.Readings.{came_up}
-use Rattle.perf_sample_types.proofs.sample_id.read_behind.Goals as goal
+use Rattle.perf_sample_types.proofs.sample_id.read_after.Goals as goal
 
 either_first : (id identifier : Option ℕ) → first_of id identifier ≡ option_or id identifier
 either_first None identifier = refl
@@ -23,7 +23,7 @@ returns-in_err-cpu g c =
     let up : c.from_residual-in_err-cpu.result ≡ Err c.in_err-cpu.field-0.0 = came_up _ _ c.from_residual-in_err-cpu.ensures in rw up (
     record {
       call = plain _ _ (λ t. c.in_err-cpu.ensures.memory) (
-          part_behind _ _ _ c.in_ok-stream_id.ensures.call (
+          part_after _ _ _ c.in_ok-stream_id.ensures.call (
           part_stops _ _ _ c.in_err-cpu.ensures.call));
     })
 
@@ -32,8 +32,8 @@ returns-in_err-skip g c =
     let up : c.from_residual-in_err-skip.result ≡ Err c.in_err-skip.field-0.0 = came_up _ _ c.from_residual-in_err-skip.ensures in rw up (
     record {
       call = plain _ _ (λ t. c.in_err-skip.ensures.memory) (
-          part_behind _ _ _ c.in_ok-stream_id.ensures.call (
-          part_behind _ _ _ c.in_ok-cpu.ensures.call (
+          part_after _ _ _ c.in_ok-stream_id.ensures.call (
+          part_after _ _ _ c.in_ok-cpu.ensures.call (
           part_stops _ _ _ (padded _ _ c.padding_len.ensures c.in_err-skip.ensures.call))));
     })
 
@@ -42,9 +42,9 @@ returns-in_err-identifier g c =
     let up : c.from_residual-in_err-identifier.result ≡ Err c.in_err-identifier.field-0.0 = came_up _ _ c.from_residual-in_err-identifier.ensures in rw up (
     record {
       call = plain _ _ (λ t. c.in_err-identifier.ensures.memory) (
-          part_behind _ _ _ c.in_ok-stream_id.ensures.call (
-          part_behind _ _ _ c.in_ok-cpu.ensures.call (
-          part_behind _ _ _ (padded _ _ c.padding_len.ensures c.in_ok-skip.ensures.call) (
+          part_after _ _ _ c.in_ok-stream_id.ensures.call (
+          part_after _ _ _ c.in_ok-cpu.ensures.call (
+          part_after _ _ _ (padded _ _ c.padding_len.ensures c.in_ok-skip.ensures.call) (
           part_stops _ _ _ c.in_err-identifier.ensures.call))));
     })
 
@@ -54,9 +54,9 @@ returns g c =
     let first : first_of c.args.origin.id c.in_ok-identifier.identifier ≡ c.or.result = either_first c.args.origin.id c.in_ok-identifier.identifier ∙ sym c.or.ensures in
     record {
       call = plain _ _ (λ t. tt) (
-          part_behind _ _ _ c.in_ok-stream_id.ensures.call (
-          part_behind _ _ _ c.in_ok-cpu.ensures.call (
-          part_behind _ _ _ (padded _ _ c.padding_len.ensures c.in_ok-skip.ensures.call) (
-          part_behind _ _ _ c.in_ok-identifier.ensures.call (
+          part_after _ _ _ c.in_ok-stream_id.ensures.call (
+          part_after _ _ _ c.in_ok-cpu.ensures.call (
+          part_after _ _ _ (padded _ _ c.padding_len.ensures c.in_ok-skip.ensures.call) (
+          part_after _ _ _ c.in_ok-identifier.ensures.call (
           call_gives {show = λ v. v} (λ _. read (first_of c.args.origin.id c.in_ok-identifier.identifier)) (ap read first ∙ sym c.from_parts.ensures))))));
     }

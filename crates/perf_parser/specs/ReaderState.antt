@@ -4,8 +4,8 @@ use Rattle.perf_base.specs.Order.{Order}
 use Rattle.perf_base.specs.declared.config.ParseConfig.{ParseConfig}
 use Rattle.perf_buffers.specs.Buffer.{Source}
 use Rattle.perf_buffers.specs.declared.outer.Outer.{Outer}
-use Rattle.perf_reader.specs.Meaning as reader
-use Rattle.perf_reader.specs.Meaning.{Meaning}
+use Rattle.perf_reader.specs.ReaderState as reader
+use Rattle.perf_reader.specs.ReaderState.{ReaderState}
 use Rattle.perf_reader.specs.declared.reader.Reader.{Reader}
 use Rattle.perf_parser.specs.declared.parser.Parser.{Parser}
 
@@ -26,5 +26,5 @@ abbrev pub reads_of : {B E : Type 0} → Parser B E → ℕ
 reads_of p = reader.reads_of p.reader
 
 -- the state of a parser, by what its buffer contains and its order
-abbrev pub meaning : {B E : Type 0} → (B → Source) → (E → Order) → Parser B E → Meaning
-meaning source order p = reader.meaning (λ o. source o.buf) order p.reader
+abbrev pub state_of : {B E : Type 0} → (B → Source) → (E → Order) → Parser B E → ReaderState
+state_of source order p = reader.state_of (λ o. source o.buf) order p.reader

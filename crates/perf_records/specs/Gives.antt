@@ -13,9 +13,9 @@ use Rattle.perf_base.specs.declared.error.ErrorKind.TheVariants.{OutOfMemory}
 use Rattle.perf_base.specs.declared.sys.perf_event_header.{perf_event_header}
 use Rattle.perf_base.specs.Refusals.{refused, TakesNoMemory}
 use Rattle.perf_buffers.specs.Taking.{MovesWithin}
-use Rattle.perf_reader.specs.Reading.{Says, of_layout, is_external}
-use Rattle.perf_records.specs.Answers.{FrameParts, AnswersExactly, split_behind, answer_behind}
-use Rattle.perf_records.specs.Answers.{reads_behind, body_length, split_of_frame, answer_of_frame}
+use Rattle.perf_reader.specs.Reading.{Transition, of_layout, is_external}
+use Rattle.perf_records.specs.Answers.{FrameParts, AnswersExactly, split_after, answer_after}
+use Rattle.perf_records.specs.Answers.{reads_after, body_length, split_of_frame, answer_of_frame}
 use Rattle.perf_records.specs.Answers.{frame_reads}
 use Rattle.perf_records.specs.Bodies.{body_of_type, wants_memory_of_type, wants_memory}
 use Rattle.perf_records.specs.Frames.{frame_length}
@@ -45,12 +45,12 @@ abbrev pub event : RecordValue → Bool → MetadataValue → Event
 event v l m = record { value = v; lent = l; metadata = m }
 
 -- no byte of it was copied
-abbrev pub is_lent_text_poke : TextPoke → Bool
-is_lent_text_poke r = is_borrowed r.old_bytes && is_borrowed r.new_bytes
+abbrev pub is_borrowed_text_poke : TextPoke → Bool
+is_borrowed_text_poke r = is_borrowed r.old_bytes && is_borrowed r.new_bytes
 
 -- no byte of it was copied
-abbrev pub is_lent_sample : Sample → Bool
-is_lent_sample s =
+abbrev pub is_borrowed_sample : Sample → Bool
+is_borrowed_sample s =
     elim s.state.raw [ Some raw ↦ is_borrowed raw.0 | None ↦ true ]
     && (elim s.state.stack_user [ Some stack ↦ is_borrowed stack.0 | None ↦ true ]
     && elim s.memory.aux [ Some aux ↦ is_borrowed aux.0 | None ↦ true ])
@@ -64,31 +64,31 @@ IsSample _ = ⊥
 
 -- the record of that value, of which nothing was copied if the event's was not
 abbrev pub IsRecordOf : Event → Record → Type 0
-IsRecordOf seen r = (record_value r ≡ seen.value) × (IsTrue seen.lent → IsBorrowed r)
+IsRecordOf outcome r = (record_value r ≡ outcome.value) × (IsTrue outcome.lent → IsBorrowed r)
 
 -- The record of the event, or there was no memory for the box of a sample. It is opened only when a
 -- proof asks for it.
 unfoldable pub GivesRecord : Event → Result Record ErrorKind → Type 0
-GivesRecord seen (Ok r) = IsRecordOf seen r
-GivesRecord seen (Err e) = (e ≡ OutOfMemory) × IsSample seen.value
+GivesRecord outcome (Ok r) = IsRecordOf outcome r
+GivesRecord outcome (Err e) = (e ≡ OutOfMemory) × IsSample outcome.value
 
 -- the sample of that value, of which nothing was copied if the event's was not
 abbrev pub IsSampleIn : Event → Sample → Type 0
-IsSampleIn seen s = (sample_is (sample_value s) ≡ seen.value) × (IsTrue seen.lent → IsBorrowedSample s)
+IsSampleIn outcome s = (sample_is (sample_value s) ≡ outcome.value) × (IsTrue outcome.lent → IsBorrowedSample s)
 
 -- the sample of that value in a box, of which nothing was copied if the event's was not
 abbrev pub IsSampleOf : Event → Box Sample Global → Type 0
-IsSampleOf seen held = IsSampleIn seen held.value
+IsSampleOf outcome content = IsSampleIn outcome content.value
 
 -- what is returned for a record belongs to each event that it is the record of
 abbrev pub MakesRecord : {O : Type 0} → (Event → O → Type 0) → Record → O → Type 0
 MakesRecord gives r output =
-    (seen : Event) → record_value r ≡ seen.value → (IsTrue seen.lent → IsBorrowed r) →
-    gives seen output
+    (outcome : Event) → record_value r ≡ outcome.value → (IsTrue outcome.lent → IsBorrowed r) →
+    gives outcome output
 
 -- what is returned for a sample without a box belongs to its event, whichever that is
 abbrev pub MakesNoSample : {O : Type 0} → (Event → O → Type 0) → O → Type 0
-MakesNoSample gives output = (seen : Event) → IsSample seen.value → gives seen output
+MakesNoSample gives output = (outcome : Event) → IsSample outcome.value → gives outcome output
 
 -- ---- outputs of a visitor that leaves records out
 
@@ -100,53 +100,53 @@ mapping_in v = v
 -- the output belongs to the event, to that of its mapping, or to a record that is left out
 abbrev pub GivesOrLeavesOut : {O : Type 0} → (Event → O → Type 0) → (MetadataValue → O → Type 0) →
     Event → O → Type 0
-GivesOrLeavesOut gives left_out seen output =
-    gives seen output
-    ⊎ (gives (event (mapping_in seen.value) seen.lent seen.metadata) output
-    ⊎ left_out seen.metadata output)
+GivesOrLeavesOut gives left_out outcome output =
+    gives outcome output
+    ⊎ (gives (event (mapping_in outcome.value) outcome.lent outcome.metadata) output
+    ⊎ left_out outcome.metadata output)
 
 -- ---- what a visit of a body does
 
 -- The output belongs to the record that the parts give, with that metadata. Nothing of a whole
 -- buffer is copied, and memory is needed only if the type takes it.
-abbrev pub Visits : {O : Type 0} → (Event → O → Type 0) → MetadataValue →
-    (Configuration → Parts RecordValue) → Bool → Says O
-Visits gives m parts wants old (Ok output) new =
+abbrev pub Gives : {O : Type 0} → (Event → O → Type 0) → MetadataValue →
+    (Configuration → Parts RecordValue) → Bool → Transition O
+Gives gives m parts wants old (Ok output) new =
     (value : RecordValue) × (lent : Bool) × gives (event value lent m) output
     × (took_by_places old.order (parts old.settings) old.source.left old.reads
     ≡ took value new.source.left new.reads)
     × (IsTrue old.source.whole → IsTrue lent) × (IsSample value → wants ≡ true)
-Visits gives m parts wants old (Err e) new =
+Gives gives m parts wants old (Err e) new =
     (IsTrue (of_layout e) →
     took_by_places old.order (parts old.settings) old.source.left old.reads
     ≡ quit e new.source.left new.reads)
     × (IsTrue old.source.whole → wants ≡ false → e ≢ OutOfMemory)
 
 -- the same for a known type, or for one that has no table
-abbrev pub VisitsOf : {O : Type 0} → (Event → O → Type 0) → MetadataValue → Option RecordType →
-    Says O
-VisitsOf gives m type = Visits gives m (λ c. body_of_type c m.ty type) (wants_memory_of_type type)
+abbrev pub GivesOf : {O : Type 0} → (Event → O → Type 0) → MetadataValue → Option RecordType →
+    Transition O
+GivesOf gives m type = Gives gives m (λ c. body_of_type c m.ty type) (wants_memory_of_type type)
 
 -- the same for a type
-abbrev pub VisitsType : {O : Type 0} → (Event → O → Type 0) → MetadataValue → RecordType → Says O
-VisitsType gives m type = VisitsOf gives m (Some type)
+abbrev pub GivesType : {O : Type 0} → (Event → O → Type 0) → MetadataValue → RecordType → Transition O
+GivesType gives m type = GivesOf gives m (Some type)
 
 -- the same for all bytes
-abbrev pub VisitsUnread : {O : Type 0} → (Event → O → Type 0) → MetadataValue → Says O
-VisitsUnread gives m = VisitsOf gives m None
+abbrev pub GivesUnknown : {O : Type 0} → (Event → O → Type 0) → MetadataValue → Transition O
+GivesUnknown gives m = GivesOf gives m None
 
 -- the same for the type given by the metadata
-abbrev pub VisitsBody : {O : Type 0} → (Event → O → Type 0) → MetadataValue → Says O
-VisitsBody gives m = VisitsOf gives m (type_of m.ty)
+abbrev pub GivesBody : {O : Type 0} → (Event → O → Type 0) → MetadataValue → Transition O
+GivesBody gives m = GivesOf gives m (type_of m.ty)
 
 -- The visit of all of a body, of borrowed bytes or not: its layout, and the number of reads.
-abbrev pub VisitsAll : {O : Type 0} → (Event → O → Type 0) → MetadataValue → Order →
+abbrev pub GivesWholeBody : {O : Type 0} → (Event → O → Type 0) → MetadataValue → Order →
     Parts RecordValue → List ℕ → Bool → Result O ErrorKind → ℕ → Type 0
-VisitsAll gives m o p bytes from (Ok output) k =
+GivesWholeBody gives m o p bytes from (Ok output) k =
     (value : RecordValue) × (lent : Bool) × gives (event value lent m) output
     × (layout o p bytes ≡ Ok value) × (k ≡ layout_reads o p bytes)
     × (IsTrue from → IsTrue lent) × (IsSample value → wants_memory m.ty ≡ true)
-VisitsAll gives m o p bytes from (Err e) k =
+GivesWholeBody gives m o p bytes from (Err e) k =
     (IsTrue (of_layout e) → (layout o p bytes ≡ Err e) × (k ≡ layout_reads o p bytes))
     × (IsTrue from → wants_memory m.ty ≡ false → e ≢ OutOfMemory)
 
@@ -155,39 +155,39 @@ VisitsAll gives m o p bytes from (Err e) k =
 -- The output belongs to the record that a definition gives and to its metadata, and nothing of a
 -- whole buffer was copied; or the refusal is the definition's. n bytes are taken, or all that are
 -- left if there are fewer, and k reads are made.
-abbrev pub VisitsExactly : {O : Type 0} → (Event → O → Type 0) → Result FrameParts ErrorKind →
-    Result RecordValue ErrorKind → (n k : ℕ) → Says O
-VisitsExactly gives split says n k old (Ok output) new =
+abbrev pub GivesExactly : {O : Type 0} → (Event → O → Type 0) → Result FrameParts ErrorKind →
+    Result RecordValue ErrorKind → (n k : ℕ) → Transition O
+GivesExactly gives split answer n k old (Ok output) new =
     (value : RecordValue) × (lent : Bool) × (parts : FrameParts)
     × gives (event value lent parts.metadata) output
     × (split ≡ Ok parts) × (IsTrue old.source.whole → IsTrue lent)
-    × AnswersExactly (λ v. v) says n k old (Ok value) new
-VisitsExactly gives split says n k old (Err e) new =
-    AnswersExactly (λ (v : RecordValue). v) says n k old (Err e) new
+    × AnswersExactly (λ v. v) answer n k old (Ok value) new
+GivesExactly gives split answer n k old (Err e) new =
+    AnswersExactly (λ (v : RecordValue). v) answer n k old (Err e) new
 
 -- the visit of a frame after its header; exactly its body and its sample id are taken
-abbrev pub VisitsBehind : {O : Type 0} → (Event → O → Type 0) → perf_event_header → Says O
-VisitsBehind gives h old seen new =
+abbrev pub GivesFrameAfter : {O : Type 0} → (Event → O → Type 0) → perf_event_header → Transition O
+GivesFrameAfter gives h old outcome new =
     let c = old.settings in let o = old.order in let bytes = old.source.left in
-    VisitsExactly gives (split_behind c o h bytes) (answer_behind c o h bytes) (body_length h)
-    (reads_behind c o h bytes) old seen new
+    GivesExactly gives (split_after c o h bytes) (answer_after c o h bytes) (body_length h)
+    (reads_after c o h bytes) old outcome new
 
 -- The same of a frame with its header. If it is refused in another way, except by a fault, a prefix
 -- of the frame is taken. Memory over a whole buffer is needed only for a list or a box.
-abbrev pub VisitsFrame : {O : Type 0} → (Event → O → Type 0) → Says O
-VisitsFrame gives old seen new =
+abbrev pub GivesFrame : {O : Type 0} → (Event → O → Type 0) → Transition O
+GivesFrame gives old outcome new =
     let c = old.settings in let o = old.order in let bytes = old.source.left in
-    VisitsExactly gives (split_of_frame c o bytes) (answer_of_frame c o bytes) (frame_length o bytes)
-    (frame_reads (reads_behind c o) o bytes) old seen new
-    × (is_external (refused seen) ≡ false →
+    GivesExactly gives (split_of_frame c o bytes) (answer_of_frame c o bytes) (frame_length o bytes)
+    (frame_reads (reads_after c o) o bytes) old outcome new
+    × (is_external (refused outcome) ≡ false →
     MovesWithin old.source (frame_length o bytes) new.source)
     × (IsTrue old.source.whole → wants_memory (header_of o bytes).type_ ≡ false →
-    TakesNoMemory seen)
+    TakesNoMemory outcome)
 
 -- What is known of an output even if a buffer's bytes are not known: the type and the misc of its
 -- event are those of the header, and nothing of a whole buffer was copied.
 abbrev pub BelongsTo : {O : Type 0} → (Event → O → Type 0) → perf_event_header → Bool → O → Type 0
 BelongsTo gives h whole output =
-    (seen : Event) × gives seen output
-    × (seen.metadata.ty ≡ h.type_) × (seen.metadata.misc ≡ h.misc)
-    × (IsTrue whole → IsTrue seen.lent) × (IsSample seen.value → wants_memory h.type_ ≡ true)
+    (outcome : Event) × gives outcome output
+    × (outcome.metadata.ty ≡ h.type_) × (outcome.metadata.misc ≡ h.misc)
+    × (IsTrue whole → IsTrue outcome.lent) × (IsSample outcome.value → wants_memory h.type_ ≡ true)

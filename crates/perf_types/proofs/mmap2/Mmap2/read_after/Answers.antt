@@ -1,5 +1,5 @@
 use Rattle.perf_types.proofs.Places.{detail_read, detail_stops}
-use Rattle.perf_types.proofs.mmap2.Mmap2.read_behind.Goals as goal
+use Rattle.perf_types.proofs.mmap2.Mmap2.read_after.Goals as goal
 
 pub returns-in-Ok : goal.returns-in-Ok
 returns-in-Ok g c =

@@ -4,7 +4,7 @@ use Rattle.perf_base.specs.Cow.{cow_form}
 use Rattle.perf_sample_types.specs.Registers.{registers_form}
 use Rattle.perf_sample_types.specs.SampleForms.{form_if}
 use Rattle.perf_types.proofs.Readings.{came_up}
-use Rattle.perf_sample_types.proofs.sample_fields.SampleFields.clone_held.Goals as goal
+use Rattle.perf_sample_types.proofs.sample_fields.SampleFields.clone_content.Goals as goal
 
 pub returns-in_err-regs_user : goal.returns-in_err-regs_user
 returns-in_err-regs_user c =

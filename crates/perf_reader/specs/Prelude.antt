@@ -6,12 +6,12 @@ pub use Rattle.perf_base.specs.LayoutReads.{one_if_any}
 pub use Rattle.perf_base.specs.Refusals.{kinds, error_kinds, refusal_kind, refused, TakesNoMemory}
 pub use Rattle.perf_base.specs.declared.error.ErrorKind.TheVariants.{OutOfMemory}
 pub use Rattle.perf_buffers.specs.Buffer.{Stays, Refuses}
-pub use Rattle.perf_buffers.specs.Cursor.{cursor_left, cursor_lent, IsAtStart}
+pub use Rattle.perf_buffers.specs.Cursor.{cursor_left, cursor_is_borrowed, IsAtStart}
 pub use Rattle.perf_buffers.specs.Room.{falls_short, is_made_beforehand}
 pub use Rattle.perf_buffers.specs.Taking.{Takes, FailsToKeep, CanFail, MovesWithin}
 pub use Rattle.perf_reader.specs.AtOnce.{ReadsAtOnce, PassesOver}
 pub use Rattle.perf_reader.specs.Calls.{Call}
-pub use Rattle.perf_reader.specs.Meaning.{Meaning, input_of, buffer_of, config_of, reads_of}
-pub use Rattle.perf_reader.specs.Meaning.{meaning}
-pub use Rattle.perf_reader.specs.Reading.{Says, Reads, ReadsPlain, ReadsLent, ReadsOne, ReadsNumber}
+pub use Rattle.perf_reader.specs.ReaderState.{ReaderState, input_of, buffer_of, config_of, reads_of}
+pub use Rattle.perf_reader.specs.ReaderState.{state_of}
+pub use Rattle.perf_reader.specs.Reading.{Transition, Reads, ReadsPlain, ReadsInPlace, ReadsOne, ReadsNumber}
 pub use Rattle.perf_reader.specs.Reading.{Keeps, of_layout}

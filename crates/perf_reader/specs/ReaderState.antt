@@ -10,7 +10,7 @@ use Rattle.perf_buffers.specs.declared.outer.Outer.{Outer}
 use Rattle.perf_reader.specs.declared.reader.Reader.{Reader}
 
 -- the state of a reader
-pub record Meaning : Type 0 where
+pub record ReaderState : Type 0 where
   pub settings : Configuration
   pub order : Order
   pub source : Source
@@ -33,8 +33,8 @@ abbrev pub reads_of : {I E : Type 0} → Reader I E → ℕ
 reads_of r = r.reads
 
 -- the state of a reader, by what its input contains and its order
-abbrev pub meaning : {I E : Type 0} → (I → Source) → (E → Order) → Reader I E → Meaning
-meaning source order r = record {
+abbrev pub state_of : {I E : Type 0} → (I → Source) → (E → Order) → Reader I E → ReaderState
+state_of source order r = record {
   settings = configuration_of r.config;
   order = order (endian_of r.config);
   source = source r.input;

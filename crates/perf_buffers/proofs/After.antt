@@ -6,19 +6,19 @@ use Rattle.perf_base.specs.declared.error.ErrorKind.{ErrorKind}
 use Rattle.perf_base.specs.declared.error.ErrorKind.TheVariants.{Eof, InvalidRecord, UnsupportedConfig, UnsupportedData, External, OutOfMemory}
 use Rattle.perf_buffers.specs.Buffer.{Source, faults_after}
 use Rattle.perf_buffers.specs.Room.{falls_short, is_made_beforehand, makes_all_room, room_made}
-use Rattle.perf_buffers.specs.Taking.{Moves, MovesWithin, Takes, FailsToTake, FailsToKeep, FailsInRest, FailsBehind, CanFail, consumed}
+use Rattle.perf_buffers.specs.Taking.{Moves, MovesWithin, Takes, FailsToTake, FailsToKeep, FailsInRest, FailsAfter, CanFail, consumed}
 use Rattle.perf_buffers.proofs.Chunks.{within_none}
 use Rattle.perf_buffers.proofs.Taking.{takes_moves, moves_more}
 
 -- some bytes were taken, and then fewer than requested
 within_on : (a b c : Source) (m n : ℕ) → m ≤ n → Takes a m b → MovesWithin b (n - m) c → MovesWithin a n c
 within_on a b c m n le p q =
-    let behind : length b.left ≡ length a.left - m = ap length p.1 ∙ length-drop m a.left in
+    let after : length b.left ≡ length a.left - m = ap length p.1 ∙ length-drop m a.left in
     (omega arith, moves_more a b c (takes_moves a b m p) q.1)
 
 short_on : (a b : Source) (m n : ℕ) → m ≤ n → Takes a m b → length b.left < n - m → length a.left < n
 short_on a b m n le p short =
-    let behind : length b.left ≡ length a.left - m = ap length p.1 ∙ length-drop m a.left in
+    let after : length b.left ≡ length a.left - m = ap length p.1 ∙ length-drop m a.left in
     omega arith
 
 pub fails_on : (a b c : Source) (m n : ℕ) (k : ErrorKind) → m ≤ n → Takes a m b → FailsToTake b (n - m) k c → FailsToTake a n k c
@@ -125,18 +125,18 @@ abbrev pub own : List ℕ → ℕ → Source
 own bytes place = record { left = drop place bytes; told = true; whole = false; can_fault = false; faults = None }
 
 -- what a failed copy of them means for a read
-pub record RefusedBehind (n : ℕ) (k : ErrorKind) (bytes : List ℕ) (old new : ℕ) : Type 0 where
+pub record RefusedAfter (n : ℕ) (k : ErrorKind) (bytes : List ℕ) (old new : ℕ) : Type 0 where
   pub faults : None ≡ faults_after None (Some k)
   pub can_fail : CanFail (own bytes old) (Some k)
   pub keeps : FailsToKeep (own bytes old) n k (own bytes new)
   pub nothing : k ≡ OutOfMemory → drop new bytes ≡ drop old bytes
 
-pub refused_behind : (n : ℕ) (k : ErrorKind) (bytes : List ℕ) (old new : ℕ) → FailsBehind k n bytes old new → RefusedBehind n k bytes old new
-refused_behind n Eof bytes old new q = record { faults = refl; can_fail = tt; keeps = q; nothing = λ k. cc }
-refused_behind n External bytes old new q = absurd q
-refused_behind n InvalidRecord bytes old new q = absurd q
-refused_behind n UnsupportedConfig bytes old new q = absurd q
-refused_behind n UnsupportedData bytes old new q = absurd q
-refused_behind n OutOfMemory bytes old new q =
+pub refused_after : (n : ℕ) (k : ErrorKind) (bytes : List ℕ) (old new : ℕ) → FailsAfter k n bytes old new → RefusedAfter n k bytes old new
+refused_after n Eof bytes old new q = record { faults = refl; can_fail = tt; keeps = q; nothing = λ k. cc }
+refused_after n External bytes old new q = absurd q
+refused_after n InvalidRecord bytes old new q = absurd q
+refused_after n UnsupportedConfig bytes old new q = absurd q
+refused_after n UnsupportedData bytes old new q = absurd q
+refused_after n OutOfMemory bytes old new q =
     let same : drop new bytes ≡ drop old bytes = ap (λ p. drop p bytes) q in
     record { faults = refl; can_fail = tt; keeps = within_none (own bytes old) (own bytes new) n same; nothing = λ k. same }

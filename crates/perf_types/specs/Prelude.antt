@@ -9,8 +9,8 @@ pub use Rattle.perf_base.specs.Configured.{configuration_of}
 pub use Rattle.perf_base.specs.Copies.{KeepsForm, IsClone, IsOwnedCopy}
 pub use Rattle.perf_base.specs.Cow.{cow_items, is_borrowed}
 pub use Rattle.perf_base.specs.Errors.{kind_of}
-pub use Rattle.perf_reader.specs.Words.{Call, Reads, ReadsPlain, ReadsLent, ReadsOne}
-pub use Rattle.perf_reader.specs.Words.{TakesNoMemory, kinds, words}
+pub use Rattle.perf_reader.specs.Prelude.{Call, Reads, ReadsPlain, ReadsInPlace, ReadsOne}
+pub use Rattle.perf_reader.specs.Prelude.{TakesNoMemory, kinds, words}
 pub use Rattle.perf_types.specs.Text.{text_of}
 pub use Rattle.perf_types.specs.ReadValue.{single_read}
 pub use Rattle.perf_types.specs.GroupEntry.{entry_with_id}

@@ -2,7 +2,7 @@
 
 ghost use Rattle.std.specs.Prelude.{◌≡◌, length, true, false, Some, None};
 
-use crate::cursor::{Held, ParseBufCursor};
+use crate::cursor::{Content, ParseBufCursor};
 use crate::input::Input;
 use perf_base::cow::CowSlice;
 use perf_base::refusal::{ReadResult, Refusal};
@@ -10,21 +10,21 @@ use std::alloc::Global;
 
 /// Bytes that are borrowed for a short time.
 #[derive(Debug, Drop)]
-pub struct Loan<'a> {
+pub struct TransientBytes<'a> {
     bytes: &'a [u8],
 }
 
-impl<'a> Loan<'a> {
+impl<'a> TransientBytes<'a> {
     /// An input over these bytes.
     #[inline]
-    pub fn new(bytes: &'a [u8]) -> Loan<'a>
+    pub fn new(bytes: &'a [u8]) -> TransientBytes<'a>
         ensures { result.bytes.now ≡ bytes.now }
     {
-        Loan { bytes }
+        TransientBytes { bytes }
     }
 }
 
-impl<'a, 'p> Input<'p> for Loan<'a> {
+impl<'a, 'p> Input<'p> for TransientBytes<'a> {
     ghost source = { λ l. record {
       left = l.bytes.now;
       told = true;
@@ -77,7 +77,7 @@ impl<'a, 'p> Input<'p> for Loan<'a> {
             Ok(copy) => {
                 self.bytes = &self.bytes[len..];
                 Ok(ParseBufCursor {
-                    held: Held::Own(copy, 0),
+                    content: Content::Own(copy, 0),
                 })
             }
             Err(_) => Err(Refusal::OutOfMemory),
