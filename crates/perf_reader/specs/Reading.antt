@@ -4,6 +4,7 @@ use Rattle.std.specs.Prelude.{Option, Result, Ok, Err, Some, None, Bool, true, f
 use Rattle.std.specs.Prelude.{◌≡◌, ℕ, ◌+◌, ◌-◌, ◌≤◌, List, length, drop}
 use Rattle.perf_base.specs.Configuration.{Configuration}
 use Rattle.perf_base.specs.Layout.{Width, Shape, number, Answer, Parts}
+pub use Rattle.perf_base.specs.LayoutReads.{one_if_refused}
 use Rattle.perf_base.specs.Refusals.{TakesNoMemory}
 use Rattle.perf_base.specs.Took.{Took, took, quit, one_took, took_by_places}
 use Rattle.perf_base.specs.declared.error.ErrorKind.{ErrorKind}
@@ -63,11 +64,6 @@ ReadsNumber w old outcome new = ReadsOne (number w) (λ n. n) old outcome new ×
 -- the last n of a list; it is opened only when a proof asks for it
 unfoldable pub last_of : ℕ → List ℕ → List ℕ
 last_of n xs = drop (length xs - n) xs
-
--- one if it was refused
-abbrev pub one_if_refused : Option ErrorKind → ℕ
-one_if_refused None = 0
-one_if_refused (Some e) = 1
 
 -- it is a fault of the buffer
 abbrev pub is_external : Option ErrorKind → Bool
