@@ -17,7 +17,8 @@ use Rattle.perf_reader.specs.Reading.{of_layout}
 use Rattle.perf_reader.specs.declared.reader.Reader.{Reader}
 use Rattle.perf_records.specs.Records.{IsBorrowed}
 use Rattle.perf_records.specs.declared.record.Record.{Record}
-use Rattle.perf_parser.specs.Runs.{Pairs, ListsFrame, ListsRefused, ReadsFrameAfter, body_length}
+use Rattle.perf_parser.specs.Runs.{Pairs, ReadsFrameAfter, body_length}
+use Rattle.perf_parser.specs.Steps.{ListsFrame, ListsRefused}
 use Rattle.perf_parser.proofs.Ending.{same_call}
 
 module _ {B E : Type 0} (source : B → Source) (hint : B → Option ℕ) (order : E → Order) (h : perf_event_header) (old mid : Reader (Outer B) E) (was now : Pairs)

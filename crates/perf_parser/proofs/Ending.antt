@@ -25,8 +25,10 @@ use Rattle.perf_records.specs.Answers.{ReadsFrameAfter, body_length, answer_afte
 use Rattle.perf_records.specs.Frames.{frame_length}
 use Rattle.perf_records.specs.declared.record.Record.{Record}
 use Rattle.perf_records.proofs.Headers.{frame_body, after_frame, answer_whole}
-use Rattle.perf_parser.specs.Runs.{Pairs, seen_answer, refused_count, listed_reads, StopsAt, KeepsRun, IsListed}
-use Rattle.perf_parser.specs.Runs.{stop_kind, stopped_by, StopsBetween, IsEndOf, one_if_ended, end_refusal}
+use Rattle.perf_parser.specs.Runs.{Pairs, seen_answer, refused_count, listed_reads, KeepsRun}
+use Rattle.perf_parser.specs.Steps.{StopsAt, IsListed}
+use Rattle.perf_parser.specs.Runs.{one_if_ended, end_refusal}
+use Rattle.perf_parser.specs.Steps.{stop_kind, stopped_by, StopsBetween, IsEndOf}
 use Rattle.perf_parser.specs.declared.runs.RunEnd.{RunEnd}
 use Rattle.perf_reader.specs.declared.header.Stop.{Stop}
 use Rattle.perf_reader.specs.declared.header.Stop.TheVariants as stop

@@ -13,7 +13,7 @@ use Rattle.perf_records.specs.Frames.{frame_length, first_frames, drop_frames}
 use Rattle.perf_records.specs.Sights.{Sight, sight_in}
 use Rattle.perf_records.proofs.Handing.{sight_alone}
 use Rattle.perf_parser.specs.FrameRuns.{Handed, HandsNext, CountsHeaders}
-use Rattle.perf_parser.specs.Runs.{StopsAt, IsEndOf}
+use Rattle.perf_parser.specs.Steps.{StopsAt, IsEndOf}
 use Rattle.perf_parser.specs.declared.runs.RunEnd.{RunEnd}
 use Rattle.perf_reader.specs.declared.header.Stop.{Stop}
 use Rattle.perf_reader.specs.declared.header.Stop.TheVariants as stop

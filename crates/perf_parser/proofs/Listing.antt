@@ -19,7 +19,8 @@ use Rattle.perf_records.specs.Records.{RecordValue}
 use Rattle.perf_records.specs.declared.record.Record.{Record}
 use Rattle.perf_records.proofs.Headers.{header_alone, answer_alone, reads_alone}
 use Rattle.perf_parser.specs.Runs.{Pairs, seen_answer, seen_answers, listed_reads, first_reads, CountsReads}
-use Rattle.perf_parser.specs.Runs.{IsBorrowedAnswer, AllBorrowed, LeavesWithin, StopsAt, StopsBetween, IsEndOf, EndsWith, EndsBetween}
+use Rattle.perf_parser.specs.Runs.{IsBorrowedAnswer, AllBorrowed, LeavesWithin, EndsWith, EndsBetween}
+use Rattle.perf_parser.specs.Steps.{StopsAt, StopsBetween, IsEndOf}
 use Rattle.perf_parser.specs.declared.runs.RunEnd.{RunEnd}
 use Rattle.perf_reader.specs.declared.header.Stop.{Stop}
 use Rattle.perf_reader.specs.declared.header.Stop.TheVariants as stop

@@ -10,7 +10,8 @@ use Rattle.perf_base.specs.declared.refusal.Refusal.TheVariants as why
 use Rattle.perf_reader.proofs.Paying.{last_all}
 use Rattle.perf_records.specs.Answers.{answer_of_frame}
 use Rattle.perf_records.specs.Frames.{frame_length}
-use Rattle.perf_parser.specs.Runs.{Pairs, KeepsRun, ListsNext, StopsAt, StopsBetween, listed_reads}
+use Rattle.perf_parser.specs.Runs.{Pairs, KeepsRun, listed_reads}
+use Rattle.perf_parser.specs.Steps.{ListsNext, StopsAt, StopsBetween}
 use Rattle.perf_reader.specs.declared.header.Stop.{Stop}
 use Rattle.perf_reader.specs.declared.header.Stop.TheVariants as stop
 use Rattle.perf_parser.proofs.Ending.{run_more}

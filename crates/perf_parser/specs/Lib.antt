@@ -4,4 +4,5 @@ pub mod Repeats
 pub mod Prelude
 pub mod Frames
 pub mod Runs
+pub mod Steps
 pub mod FrameRuns

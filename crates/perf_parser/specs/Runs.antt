@@ -1,32 +1,23 @@
 -- What a run over a stream lists, how it ends, what it leaves, and how many elementary reads it
 -- makes.
 use Rattle.std.specs.Prelude.{Option, Some, Result, Ok, Err, true, IsTrue, ◌≡◌}
-use Rattle.std.specs.Prelude.{None, max, ◌*◌, ◌⊎◌, OnOk, OnErr, IfErr}
-use Rattle.std.specs.Prelude.{ℕ, ◌+◌, ◌<◌, ◌≤◌, List, [], ◌∷◌, ◌++◌, map, length, drop, sum_by}
+use Rattle.std.specs.Prelude.{None, ◌⊎◌}
+use Rattle.std.specs.Prelude.{ℕ, ◌+◌, ◌<◌, ◌≤◌, List, [], ◌∷◌, map, length, drop, sum_by}
 use Rattle.perf_base.specs.Configuration.{Configuration}
 use Rattle.perf_base.specs.Errors.{kind_of}
 use Rattle.perf_base.specs.Header.{header_of}
 use Rattle.perf_base.specs.Order.{Order}
-use Rattle.perf_base.specs.Refusals.{refusal_kind, error_kinds, IsAnswerOf}
 use Rattle.perf_base.specs.declared.error.ErrorKind.{ErrorKind}
 use Rattle.perf_base.specs.declared.error.ErrorKind.TheVariants.{OutOfMemory}
 use Rattle.perf_base.specs.declared.error.ParseError.{ParseError}
 use Rattle.perf_base.specs.declared.sys.perf_event_header.{perf_event_header}
-use Rattle.perf_base.specs.declared.refusal.Refusal.{Refusal}
-use Rattle.perf_buffers.specs.Buffer.{Source, Stays}
-use Rattle.perf_buffers.specs.Room.{falls_short}
-use Rattle.perf_buffers.specs.Taking.{MovesWithin}
-use Rattle.perf_buffers.specs.declared.outer.Outer.{Outer}
-use Rattle.perf_reader.specs.Calls.{Call}
-pub use Rattle.perf_reader.specs.Headers.{ReadsHeader, StopsAt, LeavesWithin, stop_kind, stop_kinds}
-use Rattle.perf_reader.specs.ReaderState.{ReaderState, buffer_of}
-use Rattle.perf_reader.specs.Reading.{Transition, of_layout, last_of, is_external}
-use Rattle.perf_reader.specs.declared.header.Stop.{Stop}
-use Rattle.perf_reader.specs.declared.reader.Reader.{Reader}
-use Rattle.perf_reader.specs.declared.header.Stop.TheVariants as stop
-use Rattle.perf_records.specs.Answers.{answer_of_frame, reads_after, LeavesAllOrRest}
+use Rattle.perf_buffers.specs.Buffer.{Stays}
+pub use Rattle.perf_reader.specs.Headers.{LeavesWithin}
+use Rattle.perf_reader.specs.ReaderState.{ReaderState}
+use Rattle.perf_reader.specs.Reading.{of_layout, last_of, is_external}
+use Rattle.perf_records.specs.Answers.{reads_after}
 pub use Rattle.perf_records.specs.Answers.{ReadsFrameAfter, answers, body_length}
-use Rattle.perf_records.specs.Frames.{frame_length, first_frames, frames, drop_frames}
+use Rattle.perf_records.specs.Frames.{first_frames, frames, drop_frames}
 use Rattle.perf_records.specs.Frames.{stream_end, done, cut_header}
 use Rattle.perf_records.specs.Records.{RecordValue, record_value, IsBorrowed}
 use Rattle.perf_records.specs.declared.record.Record.{Record}
@@ -141,102 +132,3 @@ pub record KeepsRun (start : ReaderState) (refusals : ℕ) (e : Option ErrorKind
   -- what is left is an end of what was left
   pub place : IsTrue start.source.told → (length new.source.left ≤ length start.source.left)
       × (new.source.left ≡ last_of (length new.source.left) start.source.left)
-
--- ---- one frame of it
-
--- the refusal that stopped it, if one did
-abbrev pub stopped_by : {A : Type 0} → Result A Stop → Option ErrorKind
-stopped_by (Ok x) = None
-stopped_by (Err stop.Done) = None
-stopped_by (Err stop.CutHeader) = None
-stopped_by (Err (stop.Refused r)) = Some (refusal_kind r)
-
--- one where it stopped
-abbrev pub one_if_stopped : {A : Type 0} → Result A Stop → ℕ
-one_if_stopped (Ok x) = 0
-one_if_stopped (Err s) = 1
-
--- If an allocation failed, nothing was taken, or exactly the next frame.
-abbrev pub StopsBetween : ReaderState → Stop → ReaderState → Type 0
-StopsBetween old s new = stop_kind s ≡ OutOfMemory →
-    LeavesAllOrRest old.source (frame_length old.order old.source.left) new.source
-
--- how a run ends that was stopped in this way: by the error that a refusal becomes, with its
--- message
-abbrev pub IsEndOf : Stop → RunEnd → Type 0
-IsEndOf stop.Done e = e ≡ end.Done
-IsEndOf stop.CutHeader e = e ≡ end.CutHeader
-IsEndOf (stop.Refused r) e = (x : ParseError) × (e ≡ end.Fault x) × IsAnswerOf x r
-
--- an answer that is listed is neither a fault nor out of memory
-abbrev pub IsListed : Result Record ParseError → Type 0
-IsListed (Ok r) = Unit {0}
-IsListed (Err e) = IsTrue (of_layout (kind_of e))
-
--- the answer of a frame was listed after the others, and this holds of its reading
-abbrev pub ListsAnswer : perf_event_header → (was now : Pairs) → (whole : Type 0) →
-    (Result Record ErrorKind → Type 0) → Type 0
-ListsAnswer h was now whole transition =
-    (r : Result Record ParseError) × (now ≡ was ++ (h, r) ∷ [])
-    × (whole → IsBorrowedAnswer r) × IsListed r × transition (error_kinds r)
-
--- the same of a refusal of the layout: the error that it becomes, with its message
-abbrev pub ListsRefused : perf_event_header → Refusal → (was now : Pairs) → Type 0
-ListsRefused h r was now =
-    (e : ParseError) × (now ≡ was ++ (h, Err e) ∷ []) × IsAnswerOf e r
-    × IsTrue (of_layout (refusal_kind r))
-
--- one more frame was listed: the next one, which was taken whole
-abbrev pub ListsNext : ReaderState → (was now : Pairs) → ReaderState → Type 0
-ListsNext old was now new =
-    (h : perf_event_header) × (r : Result Record ParseError) × (now ≡ was ++ (h, r) ∷ [])
-    × (IsTrue old.source.whole → IsBorrowedAnswer r)
-    × (IsTrue old.source.told →
-    (8 ≤ length old.source.left) × (h ≡ header_of old.order old.source.left)
-    × (seen_answer r ≡ answer_of_frame old.settings old.order old.source.left)
-    × (new.source.left ≡ drop (frame_length old.order old.source.left) old.source.left)
-    × (new.reads ≡ old.reads + listed_reads old.settings old.order old.source.left))
-
--- the answer that was listed is no record
-abbrev pub ListsNoRecord : (was now : Pairs) → Type 0
-ListsNoRecord was now =
-    (h : perf_event_header) × (e : ParseError) × (now ≡ was ++ (h, Err e) ∷ [])
-
--- What is listed of the frame after a header that was read, in capacity that was reserved; or a
--- fault or a failed allocation stops the run.
-pub record ListsFrame {B E : Type 0} (source : B → Source) (hint : B → Option ℕ) (order : E → Order)
-    (h : perf_event_header) (old new : Reader (Outer B) E) (was now : Pairs)
-    (result : Result (Unit {0}) Refusal) : Type 0 where
-  -- at most the frame's bytes are taken
-  pub within : IsTrue (source (buffer_of old)).told →
-      MovesWithin (source (buffer_of old)) (body_length h) (source (buffer_of new))
-  -- its answer is listed after the others
-  pub listed : OnOk result (ListsAnswer h was now (IsTrue (source (buffer_of old)).whole)
-      (λ outcome. Call (λ (o : Outer B). source o.buf) order (ReadsFrameAfter h) old outcome new))
-  -- no record is listed if the buffer reports, after the header, that it has too few bytes
-  pub short : falls_short (hint (buffer_of old)) (body_length h) ≡ true →
-      OnOk result (ListsNoRecord was now)
-  -- nothing is listed if the run stops
-  pub kept : OnErr result (now ≡ was)
-  -- it stops by a refusal that is not of the layout
-  pub stops : IfErr result (λ e. (IsTrue (of_layout (refusal_kind e)) → ⊥)
-      × Call (λ (o : Outer B). source o.buf) order (ReadsFrameAfter h) old (Err (refusal_kind e)) new)
-  -- if an allocation fails over a slice, exactly the frame is taken
-  pub spent : IsTrue (source (buffer_of old)).told → IsTrue (source (buffer_of old)).whole →
-      IfErr result (λ e. refusal_kind e ≡ OutOfMemory →
-      (source (buffer_of new)).left ≡ drop (body_length h) (source (buffer_of old)).left)
-
--- ---- capacity for its answer
-
--- Capacity is reserved for as many answers as frames of eight bytes or more are shown, at most 256,
--- for as many again as there are, or for one.
-abbrev pub MakesRoom : (left count old new : ℕ) → Type 0
-MakesRoom left count old new =
-    (shown : ℕ) × (shown ≤ 256) × (8 * shown ≤ left)
-    × (new ≤ max old (count + max shown (max count 1)))
-
--- Nothing was taken. If the buffer shows nothing, that was the read of a first byte.
-abbrev pub TakesNothing : Transition (Unit {0})
-TakesNothing old (Ok x) new =
-    (new.source.left ≡ old.source.left) × (new.reads ≡ old.reads)
-TakesNothing old (Err e) new = new.source.left ≡ old.source.left

@@ -4,6 +4,7 @@ ghost use Rattle.std.specs.Prelude.{◌≡◌, ◌≢◌, ◌+◌, ◌≤◌, �
 ghost use Rattle.perf_base.specs.Configured.{configuration_of, endian_of};
 ghost use Rattle.perf_parser.specs.FrameRuns as hands;
 ghost use Rattle.perf_parser.specs.Runs as stream;
+ghost use Rattle.perf_parser.specs.Steps as steps;
 ghost use Rattle.perf_parser.specs.Prelude.{buffer_of, config_of, reads_of, state_of};
 ghost use Rattle.perf_reader.specs.Prelude as low;
 
@@ -40,14 +41,14 @@ fn hand_next<'p, B: ParseBuf<'p>, E: Endian, H: FrameHandler<'p, E>>(
         (low.state_of (λ (o : Outer B). B.source o.buf) E.order reader.new) handler.new) }
     ensures same { OnErr result (handler.new ≡ handler.old) }
     ensures stop { IsTrue (B.source (low.buffer_of reader.old)).told → IfErr result (λ s.
-        stream.StopsAt (low.state_of (λ (o : Outer B). B.source o.buf) E.order reader.old) s
+        steps.StopsAt (low.state_of (λ (o : Outer B). B.source o.buf) E.order reader.old) s
         (low.state_of (λ (o : Outer B). B.source o.buf) E.order reader.new)) }
     ensures whole_memory { IsTrue (B.source (low.buffer_of reader.old)).told →
         IsTrue (B.source (low.buffer_of reader.old)).whole →
-        low.TakesNoMemory (stream.stop_kinds result) }
+        low.TakesNoMemory (steps.stop_kinds result) }
     ensures keeps { (start : low.ReaderState) (n : ℕ) → stream.KeepsRun start n None
         (low.state_of (λ (o : Outer B). B.source o.buf) E.order reader.old) →
-        stream.KeepsRun start (n + stream.one_if_stopped result) (stream.stopped_by result)
+        stream.KeepsRun start (n + steps.one_if_stopped result) (steps.stopped_by result)
         (low.state_of (λ (o : Outer B). B.source o.buf) E.order reader.new) }
 {
     let header = match reader.next_header() {

@@ -6,6 +6,7 @@ ghost use Rattle.std.specs.Prelude.{vec_len, vec_capacity};
 ghost use Rattle.std.specs.Prelude.{IsTrue, IfOk, IfErr, OnOk, OnErr};
 ghost use Rattle.perf_parser.specs.Prelude.{buffer_of, config_of, reads_of, state_of};
 ghost use Rattle.perf_parser.specs.Runs as stream;
+ghost use Rattle.perf_parser.specs.Steps as steps;
 ghost use Rattle.perf_reader.specs.Prelude as low;
 
 use crate::parser::Parser;
@@ -58,7 +59,7 @@ fn list_short<'p>(
     header: perf_event_header,
 )
     requires { vec_len frames.old < vec_capacity frames.old }
-    ensures { stream.ListsRefused header Refusal.Eof frames.old.items frames.new.items }
+    ensures { steps.ListsRefused header Refusal.Eof frames.old.items frames.new.items }
 {
     frames.push_reserved((header, Err(ParseError::eof())));
 }
@@ -74,7 +75,7 @@ fn list_refused<'p, B: ParseBuf<'p>, E: Endian>(
     refusal: Refusal,
 ) -> ReadResult<()>
     requires room { vec_len frames.old < vec_capacity frames.old }
-    ensures listed { OnOk result (stream.ListsRefused header refusal
+    ensures listed { OnOk result (steps.ListsRefused header refusal
         frames.old.items frames.new.items) }
     ensures stops { IfErr result (λ e. (e ≡ refusal)
         × (IsTrue (low.of_layout (low.refusal_kind refusal)) → ⊥)) }
@@ -124,7 +125,7 @@ fn list_answer<'p, B: ParseBuf<'p>, E: Endian>(
     header: perf_event_header,
 ) -> ReadResult<()>
     requires room { vec_len frames.old < vec_capacity frames.old }
-    ensures { stream.ListsFrame B.source B.hint E.order header reader.old reader.new
+    ensures { steps.ListsFrame B.source B.hint E.order header reader.old reader.new
         frames.old.items frames.new.items result }
 {
     match read_after(reader, header, AsRecord, &mut ()) {
@@ -162,7 +163,7 @@ fn list_sample<'p, B: ParseBuf<'p>, E: Endian>(
 ) -> ReadResult<()>
     requires ty { header.type_ ≡ 9 }
     requires room { vec_len frames.old < vec_capacity frames.old }
-    ensures { stream.ListsFrame B.source B.hint E.order header reader.old reader.new
+    ensures { steps.ListsFrame B.source B.hint E.order header reader.old reader.new
         frames.old.items frames.new.items result }
 {
     match read_after(reader, header, AsSample, &mut ()) {
@@ -185,7 +186,7 @@ fn list_frame<'p, B: ParseBuf<'p>, E: Endian>(
     header: perf_event_header,
 ) -> ReadResult<()>
     requires room { vec_len frames.old < vec_capacity frames.old }
-    ensures { stream.ListsFrame B.source B.hint E.order header reader.old reader.new
+    ensures { steps.ListsFrame B.source B.hint E.order header reader.old reader.new
         frames.old.items frames.new.items result }
 {
     if header.type_ == PERF_RECORD_SAMPLE {
@@ -228,13 +229,13 @@ fn make_room<'p, B: ParseBuf<'p>, E: Endian>(
     ensures room { OnOk result (vec_len frames.new < vec_capacity frames.new) }
     ensures items { frames.new.items ≡ frames.old.items }
     ensures bound { IsTrue (B.source (low.buffer_of reader.old)).told →
-        stream.MakesRoom (length (B.source (low.buffer_of reader.old)).left) (vec_len frames.old)
+        steps.MakesRoom (length (B.source (low.buffer_of reader.old)).left) (vec_len frames.old)
         (vec_capacity frames.old) (vec_capacity frames.new) }
     ensures stop { IsTrue (B.source (low.buffer_of reader.old)).told → IfErr result (λ s.
-        stream.StopsAt (low.state_of (λ (o : Outer B). B.source o.buf) E.order reader.old) s
+        steps.StopsAt (low.state_of (λ (o : Outer B). B.source o.buf) E.order reader.old) s
         (low.state_of (λ (o : Outer B). B.source o.buf) E.order reader.new)) }
-    ensures call { low.Call (λ (o : Outer B). B.source o.buf) E.order stream.TakesNothing
-        reader.old (stream.stop_kinds result) reader.new }
+    ensures call { low.Call (λ (o : Outer B). B.source o.buf) E.order steps.TakesNothing
+        reader.old (steps.stop_kinds result) reader.new }
 {
     if frames.len() < frames.capacity() {
         return Ok(());
@@ -257,22 +258,22 @@ fn list_next<'p, B: ParseBuf<'p>, E: Endian>(
 ) -> Result<(), Stop>
     requires room { vec_len frames.old < vec_capacity frames.old }
     ensures config { low.config_of reader.new ≡ low.config_of reader.old }
-    ensures listed { OnOk result (stream.ListsNext
+    ensures listed { OnOk result (steps.ListsNext
         (low.state_of (λ (o : Outer B). B.source o.buf) E.order reader.old) frames.old.items
         frames.new.items (low.state_of (λ (o : Outer B). B.source o.buf) E.order reader.new)) }
     ensures kept { OnErr result (frames.new.items ≡ frames.old.items) }
     ensures stop { IsTrue (B.source (low.buffer_of reader.old)).told → IfErr result (λ s.
-        stream.StopsAt (low.state_of (λ (o : Outer B). B.source o.buf) E.order reader.old) s
+        steps.StopsAt (low.state_of (λ (o : Outer B). B.source o.buf) E.order reader.old) s
         (low.state_of (λ (o : Outer B). B.source o.buf) E.order reader.new)) }
     ensures between { IsTrue (B.source (low.buffer_of reader.old)).told →
         IsTrue (B.source (low.buffer_of reader.old)).whole → IfErr result (λ s.
-        stream.StopsBetween (low.state_of (λ (o : Outer B). B.source o.buf) E.order reader.old) s
+        steps.StopsBetween (low.state_of (λ (o : Outer B). B.source o.buf) E.order reader.old) s
         (low.state_of (λ (o : Outer B). B.source o.buf) E.order reader.new)) }
     ensures keeps { (start : low.ReaderState) →
         stream.KeepsRun start (stream.refused_count frames.old.items) None
         (low.state_of (λ (o : Outer B). B.source o.buf) E.order reader.old) →
-        stream.KeepsRun start (stream.refused_count frames.new.items + stream.one_if_stopped result)
-        (stream.stopped_by result)
+        stream.KeepsRun start (stream.refused_count frames.new.items + steps.one_if_stopped result)
+        (steps.stopped_by result)
         (low.state_of (λ (o : Outer B). B.source o.buf) E.order reader.new) }
 {
     let header = match reader.next_header() {
@@ -294,22 +295,22 @@ fn read_next<'p, B: ParseBuf<'p>, E: Endian>(
     limit: usize,
 ) -> Result<(), Stop>
     ensures config { low.config_of reader.new ≡ low.config_of reader.old }
-    ensures listed { OnOk result (stream.ListsNext
+    ensures listed { OnOk result (steps.ListsNext
         (low.state_of (λ (o : Outer B). B.source o.buf) E.order reader.old) frames.old.items
         frames.new.items (low.state_of (λ (o : Outer B). B.source o.buf) E.order reader.new)) }
     ensures kept { OnErr result (frames.new.items ≡ frames.old.items) }
     ensures stop { IsTrue (B.source (low.buffer_of reader.old)).told → IfErr result (λ s.
-        stream.StopsAt (low.state_of (λ (o : Outer B). B.source o.buf) E.order reader.old) s
+        steps.StopsAt (low.state_of (λ (o : Outer B). B.source o.buf) E.order reader.old) s
         (low.state_of (λ (o : Outer B). B.source o.buf) E.order reader.new)) }
     ensures between { IsTrue (B.source (low.buffer_of reader.old)).told →
         IsTrue (B.source (low.buffer_of reader.old)).whole → IfErr result (λ s.
-        stream.StopsBetween (low.state_of (λ (o : Outer B). B.source o.buf) E.order reader.old) s
+        steps.StopsBetween (low.state_of (λ (o : Outer B). B.source o.buf) E.order reader.old) s
         (low.state_of (λ (o : Outer B). B.source o.buf) E.order reader.new)) }
     ensures keeps { (start : low.ReaderState) →
         stream.KeepsRun start (stream.refused_count frames.old.items) None
         (low.state_of (λ (o : Outer B). B.source o.buf) E.order reader.old) →
-        stream.KeepsRun start (stream.refused_count frames.new.items + stream.one_if_stopped result)
-        (stream.stopped_by result)
+        stream.KeepsRun start (stream.refused_count frames.new.items + steps.one_if_stopped result)
+        (steps.stopped_by result)
         (low.state_of (λ (o : Outer B). B.source o.buf) E.order reader.new) }
 {
     match make_room(reader, frames, limit) {
@@ -327,7 +328,7 @@ pub(crate) fn end_of<'p, B: ParseBuf<'p>, E: Endian>(
     reader: &mut Reader<Outer<B>, E>,
     stop: Stop,
 ) -> RunEnd
-    ensures end { stream.IsEndOf stop result }
+    ensures end { steps.IsEndOf stop result }
     ensures buf { low.buffer_of reader.new ≡ low.buffer_of reader.old }
     ensures config { low.config_of reader.new ≡ low.config_of reader.old }
     ensures reads { low.reads_of reader.new ≡ low.reads_of reader.old }

@@ -3,7 +3,8 @@ use Rattle.perf_base.specs.Configured.{configuration_of, endian_of}
 use Rattle.perf_buffers.specs.declared.outer.Outer.{Outer}
 use Rattle.perf_reader.specs.ReaderState.{ReaderState, state_of}
 use Rattle.perf_reader.proofs.Paying.{keeps_none}
-use Rattle.perf_parser.specs.Runs.{Pairs, KeepsRun, ListsNext, refused_count, stopped_by}
+use Rattle.perf_parser.specs.Runs.{Pairs, KeepsRun, refused_count}
+use Rattle.perf_parser.specs.Steps.{ListsNext, stopped_by}
 use Rattle.perf_parser.proofs.Ending.{run_stops}
 use Rattle.perf_parser.proofs.Meeting.{looked_lists, looked_keeps, looked_between}
 use Rattle.perf_parser.proofs.runs.read_next.Goals as goal
