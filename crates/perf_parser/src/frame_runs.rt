@@ -3,7 +3,7 @@
 ghost use Rattle.std.specs.Prelude.{◌≡◌, ◌≢◌, ◌+◌, ◌≤◌, ℕ, Some, None, IsTrue, IfOk, IfErr, OnErr};
 ghost use Rattle.perf_base.specs.Configured.{configuration_of, endian_of};
 ghost use Rattle.perf_parser.specs.FrameRuns as hands;
-ghost use Rattle.perf_parser.specs.Runs as stream;
+ghost use Rattle.perf_parser.specs.Runs as runs;
 ghost use Rattle.perf_parser.specs.Steps as steps;
 ghost use Rattle.perf_parser.specs.Prelude.{buffer_of, config_of, reads_of, state_of};
 ghost use Rattle.perf_reader.specs.Prelude as low;
@@ -46,9 +46,9 @@ fn hand_next<'p, B: ParseBuf<'p>, E: Endian, H: FrameHandler<'p, E>>(
     ensures whole_memory { IsTrue (B.source (low.buffer_of reader.old)).told →
         IsTrue (B.source (low.buffer_of reader.old)).whole →
         low.TakesNoMemory (steps.stop_kinds result) }
-    ensures keeps { (start : low.ReaderState) (n : ℕ) → stream.KeepsRun start n None
+    ensures keeps { (start : low.ReaderState) (n : ℕ) → runs.KeepsRun start n None
         (low.state_of (λ (o : Outer B). B.source o.buf) E.order reader.old) →
-        stream.KeepsRun start (n + steps.one_if_stopped result) (steps.stopped_by result)
+        runs.KeepsRun start (n + steps.one_if_stopped result) (steps.stopped_by result)
         (low.state_of (λ (o : Outer B). B.source o.buf) E.order reader.new) }
 {
     let header = match reader.next_header() {
@@ -78,16 +78,14 @@ pub fn each_frame<'p, B: ParseBuf<'p>, E: Endian, H: FrameHandler<'p, E>>(
     ensures count { result.count ≤ limit }
 
     // What the handler got: the first frames of the bytes, each once, in order.
-    ensures handed { IsTrue (B.source (buffer_of parser.old)).told → hands.HandsFirst
-        (λ s x. H.gets s (configuration_of (config_of parser.old))
-        (E.order (endian_of (config_of parser.old))) x)
-        (state_of B.source E.order parser.old) result.count result.end handler.old handler.new }
+    ensures handed { let start = state_of B.source E.order parser.old in
+        IsTrue start.source.told → hands.HandsFirst (λ s x. H.gets s start.settings start.order x)
+        start result.count result.end handler.old handler.new }
 
     // How it ends, and what it leaves.
-    ensures end { IsTrue (B.source (buffer_of parser.old)).told →
-        hands.EndsFrames (state_of B.source E.order parser.old).order limit
-        (B.source (buffer_of parser.old)).left result.count result.end
-        (B.source (buffer_of parser.new)).left }
+    ensures end { let start = state_of B.source E.order parser.old in
+        IsTrue start.source.told → hands.EndsFrames start.order limit start.source.left
+        result.count result.end (B.source (buffer_of parser.new)).left }
 
     // Over a slice it takes no memory, so no allocation can fail.
     ensures whole_memory { IsTrue (B.source (buffer_of parser.old)).told →
@@ -99,7 +97,7 @@ pub fn each_frame<'p, B: ParseBuf<'p>, E: Endian, H: FrameHandler<'p, E>>(
         result.count result.end (reads_of parser.old) (reads_of parser.new) }
 
     // What it keeps, whatever the buffer: faults are counted, and no more is read than is taken.
-    ensures keeps { stream.KeepsRun (state_of B.source E.order parser.old)
+    ensures keeps { runs.KeepsRun (state_of B.source E.order parser.old)
         (hands.one_if_run_ended result.end) (hands.frames_refusal result.end)
         (state_of B.source E.order parser.new) }
 {

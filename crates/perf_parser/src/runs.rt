@@ -5,7 +5,7 @@ ghost use Rattle.std.specs.Prelude.{max, min, length};
 ghost use Rattle.std.specs.Prelude.{vec_len, vec_capacity};
 ghost use Rattle.std.specs.Prelude.{IsTrue, IfOk, IfErr, OnOk, OnErr};
 ghost use Rattle.perf_parser.specs.Prelude.{buffer_of, config_of, reads_of, state_of};
-ghost use Rattle.perf_parser.specs.Runs as stream;
+ghost use Rattle.perf_parser.specs.Runs as runs;
 ghost use Rattle.perf_parser.specs.Steps as steps;
 ghost use Rattle.perf_reader.specs.Prelude as low;
 
@@ -270,9 +270,9 @@ fn list_next<'p, B: ParseBuf<'p>, E: Endian>(
         steps.StopsBetween (low.state_of (λ (o : Outer B). B.source o.buf) E.order reader.old) s
         (low.state_of (λ (o : Outer B). B.source o.buf) E.order reader.new)) }
     ensures keeps { (start : low.ReaderState) →
-        stream.KeepsRun start (stream.refused_count frames.old.items) None
+        runs.KeepsRun start (runs.refused_count frames.old.items) None
         (low.state_of (λ (o : Outer B). B.source o.buf) E.order reader.old) →
-        stream.KeepsRun start (stream.refused_count frames.new.items + steps.one_if_stopped result)
+        runs.KeepsRun start (runs.refused_count frames.new.items + steps.one_if_stopped result)
         (steps.stopped_by result)
         (low.state_of (λ (o : Outer B). B.source o.buf) E.order reader.new) }
 {
@@ -307,9 +307,9 @@ fn read_next<'p, B: ParseBuf<'p>, E: Endian>(
         steps.StopsBetween (low.state_of (λ (o : Outer B). B.source o.buf) E.order reader.old) s
         (low.state_of (λ (o : Outer B). B.source o.buf) E.order reader.new)) }
     ensures keeps { (start : low.ReaderState) →
-        stream.KeepsRun start (stream.refused_count frames.old.items) None
+        runs.KeepsRun start (runs.refused_count frames.old.items) None
         (low.state_of (λ (o : Outer B). B.source o.buf) E.order reader.old) →
-        stream.KeepsRun start (stream.refused_count frames.new.items + steps.one_if_stopped result)
+        runs.KeepsRun start (runs.refused_count frames.new.items + steps.one_if_stopped result)
         (steps.stopped_by result)
         (low.state_of (λ (o : Outer B). B.source o.buf) E.order reader.new) }
 {
@@ -351,43 +351,39 @@ pub fn read_records<'p, B: ParseBuf<'p>, E: Endian>(
     ensures config { config_of parser.new ≡ config_of parser.old }
 
     // The list is the first answers of the bytes.
-    ensures answers { IsTrue (B.source (buffer_of parser.old)).told →
-        stream.listed result ≡ take (stream.listed_count result)
-        (stream.answers (state_of B.source E.order parser.old).settings
-        (state_of B.source E.order parser.old).order (B.source (buffer_of parser.old)).left) }
+    ensures answers { let start = state_of B.source E.order parser.old in
+        IsTrue start.source.told → runs.listed result ≡ take (runs.listed_count result)
+        (runs.answers start.settings start.order start.source.left) }
 
-    ensures count { stream.listed_count result ≤ limit }
+    ensures count { runs.listed_count result ≤ limit }
 
     // How it ends, and what it leaves.
-    ensures end { IsTrue (B.source (buffer_of parser.old)).told →
-        stream.EndsWith (state_of B.source E.order parser.old).order limit
-        (B.source (buffer_of parser.old)).left (stream.listed_count result) result.end
-        (B.source (buffer_of parser.new)).left }
+    ensures end { let start = state_of B.source E.order parser.old in
+        IsTrue start.source.told → runs.EndsWith start.order limit start.source.left
+        (runs.listed_count result) result.end (B.source (buffer_of parser.new)).left }
 
     // Over a slice, a run that a failed allocation ended is between two frames: the failure costs
     // at most the answer of the next one, and the run after it begins at a frame.
-    ensures between { IsTrue (B.source (buffer_of parser.old)).told →
-        IsTrue (B.source (buffer_of parser.old)).whole →
-        stream.EndsBetween (state_of B.source E.order parser.old).order
-        (B.source (buffer_of parser.old)).left (stream.listed_count result) result.end
+    ensures between { let start = state_of B.source E.order parser.old in
+        IsTrue start.source.told → IsTrue start.source.whole →
+        runs.EndsBetween start.order start.source.left (runs.listed_count result) result.end
         (B.source (buffer_of parser.new)).left }
 
     // The number of elementary reads: those of the frames that it lists, and those of its end.
-    ensures reads { IsTrue (B.source (buffer_of parser.old)).told →
-        stream.CountsReads (state_of B.source E.order parser.old).settings
-        (state_of B.source E.order parser.old).order (B.source (buffer_of parser.old)).left
-        (stream.listed_count result) result.end (reads_of parser.old) (reads_of parser.new) }
+    ensures reads { let start = state_of B.source E.order parser.old in
+        IsTrue start.source.told → runs.CountsReads start.settings start.order start.source.left
+        (runs.listed_count result) result.end start.reads (reads_of parser.new) }
 
     // There are at most as many of them as bytes taken, and one more for each refused answer and
     // for an end before the limit.
-    ensures keeps { stream.KeepsRun (state_of B.source E.order parser.old)
-        (stream.refused_count result.frames.items + stream.one_if_ended result.end)
-        (stream.end_refusal result.end)
+    ensures keeps { runs.KeepsRun (state_of B.source E.order parser.old)
+        (runs.refused_count result.frames.items + runs.one_if_ended result.end)
+        (runs.end_refusal result.end)
         (state_of B.source E.order parser.new) }
 
     // Over a slice no byte string is copied.
     ensures borrowed { IsTrue (B.source (buffer_of parser.old)).whole →
-        stream.AllBorrowed result.frames.items }
+        runs.AllBorrowed result.frames.items }
 {
     let mut frames = Vec::new(parser.reader.alloc());
     for _ in 0..limit {
