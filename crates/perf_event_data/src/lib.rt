@@ -4,8 +4,6 @@
 //! pieces. [`read_records`] returns a record or an error for every frame of a stream.
 #![tactic(auto)]
 
-pub mod laws;
-
 pub use perf_base::cow::CowSlice;
 pub use perf_base::{endian, sys};
 pub use perf_buffers::pieces::PieceBuf;
@@ -19,6 +17,7 @@ pub use perf_records::record::Record;
 pub use perf_records::record_type::RecordType;
 pub use perf_records::record_visitor::RecordVisitor;
 pub use perf_records::visitor::Visitor;
+pub use perf_sample_types::laws;
 pub use perf_sample_types::registers::Registers;
 pub use perf_sample_types::sample::Sample;
 pub use perf_sample_types::sample_fields::SampleFields;

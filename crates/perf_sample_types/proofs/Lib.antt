@@ -7,9 +7,13 @@ pub mod Forms
 pub mod GroupRuns
 mod Origins
 pub mod RowFields
+mod Closed
+mod LawFlags
 pub mod SampleGetters
+pub mod SampleLaws
 pub mod SampleTable
 pub mod SampleIdLength
 pub mod SampleIds
 mod WorkedSamples
+mod WorkedLaws
 mod WorkedSampleIds

@@ -7,6 +7,7 @@ pub mod SampleEmpty
 pub mod SampleForms
 pub mod SampleGetters
 pub mod SampleGroups
+pub mod SampleLaws
 pub mod SampleParts
 pub mod SampleRows
 pub mod SampleWords

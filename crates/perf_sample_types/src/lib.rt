@@ -2,6 +2,7 @@
 #![tactic(auto)]
 
 mod branches;
+pub mod laws;
 pub mod registers;
 pub mod sample;
 pub mod sample_boxed;

@@ -13,7 +13,7 @@ use Rattle.perf_base.specs.Layout.{Parts}
 use Rattle.perf_base.specs.Table.{present_if}
 use Rattle.perf_sample_types.specs.Sample.{Field, FieldValue, settings_of, is_present, has_one, field_under, fields_under}
 use Rattle.perf_words.specs.Bits.{has_bit}
-use Rattle.perf_event_data.specs.SampleLaws.{no_field, with_flag, without_bit, without_bits}
+use Rattle.perf_sample_types.specs.SampleLaws.{no_field, with_flag, without_bit, without_bits}
 
 -- ---- one bit
 

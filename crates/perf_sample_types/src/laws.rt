@@ -4,7 +4,7 @@
 
 ghost use Rattle.std.specs.Prelude.{◌<◌};
 ghost use Rattle.perf_base.specs.Configured.{configuration_of};
-ghost use Rattle.perf_event_data.specs.SampleLaws.{SpliceLaw, CutLaw};
+ghost use Rattle.perf_sample_types.specs.SampleLaws.{SpliceLaw, CutLaw};
 
 use perf_base::config::ParseConfig;
 

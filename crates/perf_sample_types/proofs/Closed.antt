@@ -9,7 +9,7 @@ use Rattle.perf_types.specs.ReadFormat.{has_group}
 use Rattle.perf_types.specs.ReadGroup.{read_group, group_of}
 use Rattle.perf_types.specs.ReadValue.{read_value}
 use Rattle.perf_sample_types.specs.Sample.{Field, FieldValue, group_is, values, branch_stack, registers, plain, settings_of, is_present, field_under, fields_under, sample_fields, sample_groups, moment_fields, count_fields, state_fields, cost_fields, memory_fields}
-use Rattle.perf_event_data.proofs.Flags.{field_of}
+use Rattle.perf_sample_types.proofs.LawFlags.{field_of}
 
 -- ---- each field
 

@@ -6,7 +6,7 @@ use Rattle.perf_base.specs.Order.{little, big}
 use Rattle.perf_base.specs.Splice.{Spells}
 use Rattle.perf_sample_types.specs.Sample.{number_is, task_is, bytes_are, SampleValue, sample}
 use Rattle.perf_sample_types.specs.SampleGetters.{getters_of}
-use Rattle.perf_event_data.specs.SampleLaws.{flags_of, parts_of, is_there, with_flag, without_field, spliced, without_bytes}
+use Rattle.perf_sample_types.specs.SampleLaws.{flags_of, parts_of, is_there, with_flag, without_field, spliced, without_bytes}
 
 -- ---- the fields by their numbers
 

@@ -14,9 +14,9 @@ use Rattle.perf_base.proofs.Tables.{splice_fields, cut_fields, tables_inv, cons_
 use Rattle.perf_sample_types.specs.Sample.{FieldValue, number_is, SampleValue, sample, sample_fields, settings_of, field_under, fields_under, plain}
 use Rattle.perf_sample_types.specs.SampleGetters.{field_at, number_in}
 use Rattle.perf_sample_types.specs.SampleId.{first_of}
-use Rattle.perf_event_data.specs.SampleLaws.{no_field, table_field, id_field, flags_of, parts_of, is_there, with_flag, without_field, spliced, without_bytes, said_id, said_identifier, ChangesField, KeepsId, SpliceLaw, CutLaw}
-use Rattle.perf_event_data.proofs.Closed.{sample_ended, front_closed, one_closed}
-use Rattle.perf_event_data.proofs.Flags.{with_fields, without_fields, under_true, under_false}
+use Rattle.perf_sample_types.specs.SampleLaws.{no_field, table_field, id_field, flags_of, parts_of, is_there, with_flag, without_field, spliced, without_bytes, said_id, said_identifier, ChangesField, KeepsId, SpliceLaw, CutLaw}
+use Rattle.perf_sample_types.proofs.Closed.{sample_ended, front_closed, one_closed}
+use Rattle.perf_sample_types.proofs.LawFlags.{with_fields, without_fields, under_true, under_false}
 
 -- ---- the fields under a configuration
 

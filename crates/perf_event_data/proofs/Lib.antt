@@ -1,4 +1,0 @@
-mod Flags
-mod Closed
-pub mod SampleLaws
-mod Worked
