@@ -158,11 +158,11 @@ by_answer o bytes (Ok a) e = rw (e, stream_after_attribute) refl
 by_answer o bytes (Err kind) e = rw (e, stream_after_attribute) refl
 
 -- if the attribute is read, the frames after it are the stream
-pub read_attribute : (o : Order) (bytes left : List ℕ) (a : perf_event_attr) → by_places o attribute bytes ≡ ran a left → left ≡ drop a.size bytes → stream_after_attribute o bytes ≡ framed (configured_by a) left
-read_attribute o bytes left a read is = by_answer o bytes (Ok a) (sym (places_layout o attribute bytes) ∙ ap answer read) ∙ ap (λ xs. framed (configured_by a) xs) (sym is)
+pub read_attribute : (o : Order) (bytes left : List ℕ) (a : perf_event_attr) → layout o attribute bytes ≡ Ok a → left ≡ drop a.size bytes → stream_after_attribute o bytes ≡ framed (configured_by a) left
+read_attribute o bytes left a read is = by_answer o bytes (Ok a) read ∙ ap (λ xs. framed (configured_by a) xs) (sym is)
 
-pub refused_attribute : (o : Order) (bytes left : List ℕ) (kind : ErrorKind) → by_places o attribute bytes ≡ stopped kind left → stream_after_attribute o bytes ≡ without_frames kind
-refused_attribute o bytes left kind read = by_answer o bytes (Err kind) (sym (places_layout o attribute bytes) ∙ ap answer read)
+pub refused_attribute : (o : Order) (bytes : List ℕ) (kind : ErrorKind) → layout o attribute bytes ≡ Err kind → stream_after_attribute o bytes ≡ without_frames kind
+refused_attribute o bytes kind read = by_answer o bytes (Err kind) read
 
 -- after start comes what a run over this stream writes
 abbrev pub MadeOf : Bool → Order → ℕ → Stream → List ℕ → Outcome → List ℕ → Type 0

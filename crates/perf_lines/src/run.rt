@@ -12,7 +12,7 @@ use crate::outcome::Outcome;
 use crate::output::write_whole;
 use perf_event_data::endian::{Endian, Native};
 use perf_event_data::parse::{ErrorKind, ParseBuf, ParseConfig, ParseResult, Parser};
-use perf_event_data::sys::{perf_event_attr, perf_event_header};
+use perf_event_data::sys::perf_event_header;
 use perf_event_data::{Record, RunEnd, read_records};
 use std::alloc::{AllocError, Global};
 use std::io::{BufReader, Read, Write};
@@ -112,45 +112,10 @@ fn push_run_with_attr<'p, B: ParseBuf<'p> + Drop, E: Endian>(
         limit (shown.stream_after_attribute (E.order (endian_of (config_of parser)))
         (B.source (buffer_of parser)).left) outcome written) }
 {
-    match parse_attr(parser) {
+    match parser.after_attribute() {
         Ok(mut after) => push_run(text, &mut after, limit),
         Err(error) => push_refusal(text, error.kind()),
     }
-}
-
-// Reads the attribute, and returns a parser of the rest under its configuration and the same byte
-// order.
-fn parse_attr<'p, B: ParseBuf<'p> + Drop, E: Endian>(
-    mut parser: Parser<B, E>,
-) -> ParseResult<Parser<B, E>>
-    ensures told { IsTrue (B.source (buffer_of parser)).told → IfOk result (λ after.
-        IsTrue (B.source (buffer_of after)).told) }
-    ensures can_fault { IfOk result (λ after. IsTrue (B.source (buffer_of after)).can_fault →
-        IsTrue (B.source (buffer_of parser)).can_fault) }
-    ensures fault { IfErr result (λ e. kind_of e ≡ ErrorKind.External →
-        IsTrue (B.source (buffer_of parser)).can_fault) }
-    ensures order { IfOk result (λ after.
-        E.order (endian_of (config_of after)) ≡ E.order (endian_of (config_of parser))) }
-    ensures read { IsTrue (B.source (buffer_of parser)).told → IfOk result (λ after.
-        shown.stream_after_attribute (E.order (endian_of (config_of parser)))
-        (B.source (buffer_of parser)).left
-        ≡ shown.framed (configuration_of (config_of after)) (B.source (buffer_of after)).left) }
-    ensures refused { IsTrue (B.source (buffer_of parser)).told → IfErr result (λ e.
-        IsTrue (of_layout (kind_of e)) →
-        shown.stream_after_attribute (E.order (endian_of (config_of parser)))
-        (B.source (buffer_of parser)).left
-        ≡ shown.without_frames (kind_of e)) }
-{
-    let attr = match parser.parse::<perf_event_attr>() {
-        Ok(attr) => attr,
-        Err(error) => return Err(error),
-    };
-    let order = match parser.endian().duplicate() {
-        Ok(order) => order,
-        Err(error) => return Err(error),
-    };
-    let config = ParseConfig::<Native>::from(attr).with_endian(order);
-    Ok(parser.reconfigure(config))
 }
 
 // Appends the only line of a run whose attribute could not be read.

@@ -7,6 +7,7 @@ pub mod Metadata
 pub mod Listing
 pub mod Ending
 pub mod Answering
+pub mod Attributes
 pub mod Handing
 pub mod Meeting
 pub mod Covering

@@ -1,4 +1,9 @@
 -- The names that contracts of parsing use.
+pub use Rattle.perf_base.specs.Attribute.{attribute}
+pub use Rattle.perf_base.specs.Configuration.{configured_by}
+pub use Rattle.perf_base.specs.Layout.{layout}
+pub use Rattle.perf_base.specs.Took.{took, took_by_places}
+pub use Rattle.perf_base.specs.declared.sys.perf_event_attr.{perf_event_attr}
 pub use Rattle.perf_base.specs.Configured.{endian_of, configuration_of}
 pub use Rattle.perf_base.specs.Cow.{cow_items, is_borrowed}
 pub use Rattle.perf_base.specs.Errors.{kind_of}

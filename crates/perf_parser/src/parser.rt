@@ -16,9 +16,9 @@ ghost use Rattle.perf_parser.specs.Prelude as words;
 use crate::parse::Parse;
 use perf_base::config::ParseConfig;
 use perf_base::cow::CowSlice;
-use perf_base::endian::Endian;
+use perf_base::endian::{Endian, Native};
 use perf_base::error::{ErrorKind, ParseError, ParseResult};
-use perf_base::sys::perf_event_header;
+use perf_base::sys::{perf_event_attr, perf_event_header};
 use perf_buffers::cursor::ParseBufCursor;
 use perf_buffers::outer::Outer;
 use perf_buffers::parsebuf::ParseBuf;
@@ -526,5 +526,51 @@ impl<'p, B: ParseBuf<'p>, E: Endian> Parser<B, E> {
             Ok(parts) => Ok(parts),
             Err(error) => Err(error),
         }
+    }
+}
+
+// The attribute at the front of a recording.
+impl<'p, B: ParseBuf<'p> + Drop, E: Endian> Parser<B, E> {
+    /// Reads the attribute at the front (`struct perf_event_attr`), and returns a parser of the bytes
+    /// after it, under the attribute's configuration and in the same byte order.
+    ///
+    /// It fails as the parse of a `perf_event_attr` does, and if the order's `duplicate` does.
+    pub fn after_attribute(mut self) -> ParseResult<Parser<B, E>>
+        ensures order { IfOk result (λ after.
+            E.order (endian_of (config_of after)) ≡ E.order (endian_of (config_of self))) }
+
+        // The attribute is the layout of the first bytes, and takes as many as its size says.
+        ensures read { let start = state_of B.source E.order self in
+            IsTrue start.source.told → IfOk result (λ after. (attr : words.perf_event_attr)
+            × (words.took_by_places start.order words.attribute start.source.left start.reads
+            ≡ words.took attr (B.source (buffer_of after)).left (reads_of after))
+            × ((B.source (buffer_of after)).left ≡ drop attr.size start.source.left)
+            × (configuration_of (config_of after) ≡ words.configured_by attr)) }
+
+        // It fails as that layout does, or by a fault of the buffer, or out of memory for the order.
+        ensures refused { let start = state_of B.source E.order self in
+            IsTrue start.source.told → IfErr result (λ e. IsTrue (words.of_layout (kind_of e)) →
+            words.layout start.order words.attribute start.source.left ≡ Err (kind_of e)) }
+        ensures fault { IfErr result (λ e. kind_of e ≡ ErrorKind.External →
+            IsTrue (B.source (buffer_of self)).can_fault) }
+        ensures memory { IsTrue (B.source (buffer_of self)).told → IfErr result (λ e.
+            kind_of e ≡ ErrorKind.OutOfMemory →
+            IsTrue (E.may_refuse (endian_of (config_of self)))) }
+
+        // What was kept since any earlier state is kept.
+        ensures keeps { (start : words.ReaderState) →
+            words.Keeps start None (state_of B.source E.order self) →
+            IfOk result (λ after. words.Keeps start None (state_of B.source E.order after)) }
+    {
+        let attr = match self.parse::<perf_event_attr>() {
+            Ok(attr) => attr,
+            Err(error) => return Err(error),
+        };
+        let order = match self.endian().duplicate() {
+            Ok(order) => order,
+            Err(error) => return Err(error),
+        };
+        let config = ParseConfig::<Native>::from(attr).with_endian(order);
+        Ok(self.reconfigure(config))
     }
 }

@@ -325,6 +325,6 @@ pub attribute_read : (o : Order) (bytes left : List ℕ) (n m : ℕ) (a : perf_e
 unfolding attribute_in
 attribute_read o bytes left n m a h = (took_says o attribute bytes left n m a h).0
 
-pub attribute_refused : (o : Order) (bytes left : List ℕ) (n m : ℕ) (e : ErrorKind) → took_by_places o attribute bytes n ≡ quit e left m → attribute_in o bytes ≡ Err e
+pub attribute_refused : (o : Order) (bytes : List ℕ) (e : ErrorKind) → layout o attribute bytes ≡ Err e → attribute_in o bytes ≡ Err e
 unfolding attribute_in
-attribute_refused o bytes left n m e h = (quit_says o attribute bytes left n m e h).0
+attribute_refused o bytes e h = h

@@ -11,7 +11,6 @@ use crate::counting::FrameCounter;
 use crate::counts::Counts;
 use perf_event_data::endian::{Endian, Native};
 use perf_event_data::parse::{ParseBuf, ParseConfig, ParseResult, Parser};
-use perf_event_data::sys::perf_event_attr;
 use perf_event_data::{RunEnd, each_frame};
 use std::alloc::Global;
 
@@ -39,41 +38,10 @@ pub fn count_stream<'p, B: ParseBuf<'p> + Drop, E: Endian>(
     if !with_attr {
         return Ok(count_records(alloc, &mut parser));
     }
-    match read_attr(parser) {
+    match parser.after_attribute() {
         Ok(mut after) => Ok(count_records(alloc, &mut after)),
         Err(error) => Err(error),
     }
-}
-
-// Reads an attribute, and returns a parser of the rest under its configuration and the same order.
-fn read_attr<'p, B: ParseBuf<'p> + Drop, E: Endian>(
-    mut parser: Parser<B, E>,
-) -> ParseResult<Parser<B, E>>
-    ensures told { IsTrue (B.source (buffer_of parser)).told → IfOk result (λ after.
-        IsTrue (B.source (buffer_of after)).told) }
-    ensures order { IfOk result (λ after.
-        E.order (endian_of (config_of after)) ≡ E.order (endian_of (config_of parser))) }
-    ensures attr { IsTrue (B.source (buffer_of parser)).told → IfOk result (λ after.
-        (attr : perf_event_attr)
-        × (attribute_in (E.order (endian_of (config_of parser)))
-        (B.source (buffer_of parser)).left ≡ Ok attr)
-        × (configuration_of (config_of after) ≡ configured_by attr)
-        × ((B.source (buffer_of after)).left ≡ drop attr.size (B.source (buffer_of parser)).left)) }
-    ensures refused { IsTrue (B.source (buffer_of parser)).told → IfErr result (λ e.
-        IsTrue (of_layout (kind_of e)) →
-        attribute_in (E.order (endian_of (config_of parser)))
-        (B.source (buffer_of parser)).left ≡ Err (kind_of e)) }
-{
-    let attr = match parser.parse::<perf_event_attr>() {
-        Ok(attr) => attr,
-        Err(error) => return Err(error),
-    };
-    let order = match parser.endian().duplicate() {
-        Ok(order) => order,
-        Err(error) => return Err(error),
-    };
-    let config = ParseConfig::<Native>::from(attr).with_endian(order);
-    Ok(parser.reconfigure(config))
 }
 
 /// Counts the frames that a parser reads until its buffer ends, and returns how it ended.

@@ -1,17 +1,26 @@
-use Rattle.std.proofs.Common.{string_bytes, subst, sym, ◌≡◌}
+use Rattle.std.proofs.Common.{string_bytes, subst, sym, refl, ◌≡◌, ◌∙◌}
 use Rattle.std.specs.Prelude.{IsTrue}
+use Rattle.perf_base.specs.Attribute.{attribute}
+use Rattle.perf_base.specs.Configuration.{configured_by}
 use Rattle.perf_base.specs.Configured.{configuration_of, endian_of}
+use Rattle.perf_base.specs.Errors.{kind_of}
 use Rattle.perf_base.specs.declared.error.ErrorKind.TheVariants.{External}
 use Rattle.perf_reader.specs.Reading.{of_layout}
+use Rattle.perf_reader.proofs.Paying.{keeps_none}
+use Rattle.perf_records.proofs.Saying.{took_says}
+use Rattle.perf_parser.specs.ReaderState.{state_of}
 use Rattle.perf_lines.specs.Text.{stream_after_attribute, without_frames}
-use Rattle.perf_lines.proofs.Endings.{made_refused, made_after}
+use Rattle.perf_lines.proofs.Endings.{made_refused, made_after, read_attribute, refused_attribute, framed_as}
 use Rattle.perf_lines.proofs.run.push_run_with_attr.Goals as goal
 
 pub returns-in-Err : goal.returns-in-Err
 returns-in-Err g c = λ told.
     let order = g.E.Endian.order (endian_of c.args.parser.reader.config) in
-    let stream = stream_after_attribute order (g.B.ParseBuf.source c.args.parser.reader.input.buf).left in
-    let refused = subst (λ kind. IsTrue (of_layout kind) → stream ≡ without_frames kind) (sym c.kind.ensures) (c.in-Err.ensures.refused told) in
+    let bytes = (g.B.ParseBuf.source c.args.parser.reader.input.buf).left in
+    let stream = stream_after_attribute order bytes in
+    let kind = kind_of c.in-Err.error in
+    let read = λ (known : IsTrue (of_layout kind)). refused_attribute order bytes kind (c.in-Err.ensures.refused told known) in
+    let refused = subst (λ kind. IsTrue (of_layout kind) → stream ≡ without_frames kind) (sym c.kind.ensures) read in
     let can_fault = (g.B.ParseBuf.source c.args.parser.reader.input.buf).can_fault in
     let fault = subst (λ kind. kind ≡ External → IsTrue can_fault) (sym c.kind.ensures) c.in-Err.ensures.fault in
     made_refused can_fault order c.args.limit stream (string_bytes c.args.text.now) c.kind.result refused fault
@@ -20,8 +29,14 @@ returns-in-Err g c = λ told.
 pub returns-in-Ok : goal.returns-in-Ok
 returns-in-Ok g c = λ told.
     let after = c.in-Ok.after in
-    made_after (g.B.ParseBuf.source c.args.parser.reader.input.buf).can_fault (g.B.ParseBuf.source after.reader.input.buf).can_fault c.in-Ok.ensures.can_fault
-    (g.E.Endian.order (endian_of c.args.parser.reader.config)) (g.E.Endian.order (endian_of after.reader.config)) c.args.limit
-    (stream_after_attribute (g.E.Endian.order (endian_of c.args.parser.reader.config)) (g.B.ParseBuf.source c.args.parser.reader.input.buf).left)
-    (g.B.ParseBuf.source after.reader.input.buf).left (string_bytes c.args.text.now) (configuration_of after.reader.config) c.in-Ok.ensures.order (c.in-Ok.ensures.read told)
-    c.push_run.result (string_bytes c.push_run.new.text) (c.push_run.ensures (c.in-Ok.ensures.told told))
+    let start = state_of g.B.ParseBuf.source g.E.Endian.order c.args.parser in
+    let now = state_of g.B.ParseBuf.source g.E.Endian.order after in
+    let kept = c.in-Ok.ensures.keeps start (keeps_none start) in
+    let read = c.in-Ok.ensures.read told in
+    let framed = read_attribute start.order start.source.left now.source.left read.0
+    (took_says start.order attribute start.source.left now.source.left start.reads now.reads read.0 read.1).0 read.2
+    ∙ framed_as (configured_by read.0) (configuration_of after.reader.config) (sym read.3) now.source.left now.source.left refl in
+    made_after start.source.can_fault now.source.can_fault kept.buffer.1 start.order now.order c.args.limit
+    (stream_after_attribute start.order start.source.left) now.source.left (string_bytes c.args.text.now)
+    (configuration_of after.reader.config) c.in-Ok.ensures.order framed
+    c.push_run.result (string_bytes c.push_run.new.text) (c.push_run.ensures (kept.buffer.3 told))

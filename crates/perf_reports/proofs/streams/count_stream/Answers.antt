@@ -2,11 +2,14 @@ use Rattle.std.proofs.Common.{◌≡◌, true, Bool, List, ℕ, ap, sym, subst, 
 use Rattle.std.specs.Prelude.{IsTrue}
 use Rattle.perf_base.specs.Configuration.{Configuration, configured_by}
 use Rattle.perf_base.specs.Configured.{configuration_of, endian_of}
+use Rattle.perf_base.specs.Errors.{kind_of}
 use Rattle.perf_base.specs.Order.{Order}
 use Rattle.perf_base.specs.declared.config.ParseConfig.{ParseConfig}
-use Rattle.perf_parser.specs.ReaderState.{buffer_of, config_of}
+use Rattle.perf_reader.proofs.Paying.{keeps_none}
+use Rattle.perf_parser.specs.ReaderState.{buffer_of, config_of, reads_of, state_of}
 use Rattle.perf_reports.specs.Counting.{CountsRun, CountsStream, attribute_in}
 use Rattle.perf_reports.specs.declared.streams.TheConstants.{MOST_FRAMES}
+use Rattle.perf_reports.proofs.Counted.{attribute_read, attribute_refused}
 use Rattle.perf_reports.proofs.streams.count_stream.Goals as goal
 
 pub returns-in-Ok-clause-counts : goal.returns-in-Ok-clause-counts
@@ -18,17 +21,20 @@ returns-in-Ok-clause-counts g c = λ told.
     let order : g.E.Endian.order (endian_of (config_of p.result)) ≡ o = ap (λ (k : ParseConfig g.row.E.Denot). g.E.Endian.order (endian_of k)) p.ensures.config ∙ ap g.E.Endian.order c.with_endian-plain.ensures.endian in
     let bytes : List ℕ = (source c.args.input).left in
     let same : (source (buffer_of p.result)).left ≡ bytes = ap (λ (b : g.row.B.Denot). (source b).left) p.ensures.buf in
-    let a = c.in-Ok.ensures.attr here in
+    let start = state_of source g.E.Endian.order p.result in
+    let now = state_of source g.E.Endian.order c.in-Ok.after in
+    let a = c.in-Ok.ensures.read here in
+    let is_read = attribute_read start.order start.source.left now.source.left start.reads now.reads a.0 a.1 in
     let counted = c.count_records-in-Ok.result in
     let left : List ℕ = (source (buffer_of c.count_records-in-Ok.new.parser)).left in
     let R : Configuration → Order → List ℕ → Type 0 = λ k x xs. CountsRun k x MOST_FRAMES xs counted.0 counted.1 left in
     let after = c.in-Ok.after in
     let rest : List ℕ = drop a.0.size bytes in
     let run : R (configured_by a.0) o rest =
-    subst (λ (k : Configuration). R k o rest) a.2
+    subst (λ (k : Configuration). R k o rest) a.3
     (subst (λ (x : Order). R (configuration_of (config_of after)) x rest) (c.in-Ok.ensures.order ∙ order)
-    (subst (λ (xs : List ℕ). R (configuration_of (config_of after)) (g.E.Endian.order (endian_of (config_of after))) xs) (a.3 ∙ ap (drop a.0.size) same) (c.count_records-in-Ok.ensures.counts (c.in-Ok.ensures.told here)))) in
-    let read = ap (λ (x : Order). attribute_in x bytes) (sym order) ∙ ap (attribute_in (g.E.Endian.order (endian_of (config_of p.result)))) (sym same) ∙ a.1 in
+    (subst (λ (xs : List ℕ). R (configuration_of (config_of after)) (g.E.Endian.order (endian_of (config_of after))) xs) (a.2 ∙ ap (drop a.0.size) same) (c.count_records-in-Ok.ensures.counts ((c.in-Ok.ensures.keeps start (keeps_none start)).buffer.3 here)))) in
+    let read = ap (λ (x : Order). attribute_in x bytes) (sym order) ∙ ap (attribute_in (g.E.Endian.order (endian_of (config_of p.result)))) (sym same) ∙ is_read in
     let with : c.args.with_attr ≡ true = search rules in
     subst (λ (b : Bool). CountsStream b o MOST_FRAMES bytes counted.0 counted.1) (sym with) (a.0, read, (left, run))
 
@@ -42,4 +48,4 @@ returns-in-Err-clause-refused g c = λ told known.
     let bytes : List ℕ = (source c.args.input).left in
     let same : (source (buffer_of p.result)).left ≡ bytes = ap (λ (b : g.row.B.Denot). (source b).left) p.ensures.buf in
     let with : c.args.with_attr ≡ true = search rules in
-    (with, ap (λ (x : Order). attribute_in x bytes) (sym order) ∙ ap (attribute_in (g.E.Endian.order (endian_of (config_of p.result)))) (sym same) ∙ c.in-Err.ensures.refused here known)
+    (with, ap (λ (x : Order). attribute_in x bytes) (sym order) ∙ ap (attribute_in (g.E.Endian.order (endian_of (config_of p.result)))) (sym same) ∙ attribute_refused (g.E.Endian.order (endian_of (config_of p.result))) (source (buffer_of p.result)).left (kind_of c.in-Err.error) (c.in-Err.ensures.refused here known))

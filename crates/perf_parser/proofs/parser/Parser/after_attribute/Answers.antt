@@ -1,0 +1,52 @@
+use Rattle.std.proofs.Common.{ap, sym, subst, ◌∙◌}
+use Rattle.perf_base.specs.Attribute.{attribute}
+use Rattle.perf_base.specs.Configured.{configuration_of, endian_of}
+use Rattle.perf_base.specs.Errors.{kind_of}
+use Rattle.perf_base.specs.Took.{took}
+use Rattle.perf_reader.proofs.Paying.{keeps_none}
+use Rattle.perf_records.proofs.Saying.{quit_says}
+use Rattle.perf_parser.specs.ReaderState.{buffer_of, config_of, reads_of, state_of}
+use Rattle.perf_parser.proofs.Attributes.{keeps_moved, not_of_layout, no_fault, is_external_fault}
+use Rattle.perf_parser.proofs.parser.Parser.after_attribute.Goals as goal
+
+pub returns-in-Err-clause-refused : goal.returns-in-Err-clause-refused
+returns-in-Err-clause-refused g c = λ told known.
+    let start = state_of g.B.ParseBuf.source g.E.Endian.order c.args.self in
+    let mid = state_of g.B.ParseBuf.source g.E.Endian.order c.parse.new.self in
+    (quit_says start.order attribute start.source.left mid.source.left start.reads mid.reads (kind_of c.in-Err.error) ((c.in-Err.ensures.call.answer told).0 known)).0
+
+pub returns-in-Err-clause-fault : goal.returns-in-Err-clause-fault
+returns-in-Err-clause-fault g c = λ external.
+    let start = state_of g.B.ParseBuf.source g.E.Endian.order c.args.self in
+    let kept = c.in-Err.ensures.call.counted start (keeps_none start) in
+    kept.fault (is_external_fault (kind_of c.in-Err.error) external)
+
+pub returns-in-Err-clause-memory : goal.returns-in-Err-clause-memory
+returns-in-Err-clause-memory g c = λ told is. absurd ((c.in-Err.ensures.call.answer told).1 is)
+
+pub returns-in-Err-duplicate-clause-refused : goal.returns-in-Err-duplicate-clause-refused
+returns-in-Err-duplicate-clause-refused g c = λ told known. absurd (not_of_layout (kind_of c.in-Err-duplicate.error) c.in-Err-duplicate.ensures.refused.0 known)
+
+pub returns-in-Err-duplicate-clause-fault : goal.returns-in-Err-duplicate-clause-fault
+returns-in-Err-duplicate-clause-fault g c = λ external. absurd (no_fault (kind_of c.in-Err-duplicate.error) c.in-Err-duplicate.ensures.refused.0 external)
+
+pub returns-in-Err-duplicate-clause-memory : goal.returns-in-Err-duplicate-clause-memory
+returns-in-Err-duplicate-clause-memory g c = λ told is. subst (λ k. IsTrue (g.E.Endian.may_refuse (endian_of k))) c.in-Ok.ensures.call.config c.in-Err-duplicate.ensures.refused.1
+
+pub returns-clause-read : goal.returns-clause-read
+returns-clause-read g c = λ told.
+    let source = g.B.ParseBuf.source in
+    let mid = c.parse.new.self in
+    let answer = c.in-Ok.ensures.call.answer told in
+    let left = sym (ap (λ b. (source b).left) c.reconfigure.ensures.buf) in (
+      c.in-Ok.attr,
+      answer.0 ∙ ap (λ l. took c.in-Ok.attr l (reads_of mid)) left ∙ ap (λ n. took c.in-Ok.attr (source (buffer_of c.reconfigure.result)).left n) (sym c.reconfigure.ensures.reads),
+      sym left ∙ answer.2,
+      ap configuration_of c.reconfigure.ensures.config ∙ c.with_endian-config.ensures.same ∙ c.from.ensures.0,
+    )
+
+pub returns-clause-keeps : goal.returns-clause-keeps
+returns-clause-keeps g c = λ start kept.
+    let mid = state_of g.B.ParseBuf.source g.E.Endian.order c.parse.new.self in
+    let after = state_of g.B.ParseBuf.source g.E.Endian.order c.reconfigure.result in
+    keeps_moved start mid after (ap g.B.ParseBuf.source c.reconfigure.ensures.buf) c.reconfigure.ensures.reads (c.in-Ok.ensures.call.counted start kept)
