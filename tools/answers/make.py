@@ -1,5 +1,5 @@
 #!/usr/bin/env python3
-"""Makes the list of answers that crates/perf_cases replays: see README.md beside this file.
+"""Makes the list of answers that crates/perf_replay replays: see README.md beside this file.
 
     make.py --streams            lists the cases and counts their frames; runs nothing
     make.py --page PROGRAM WORD.. compares what PROGRAM prints with page.py, also for what the lists leave out
@@ -21,7 +21,7 @@ sys.dont_write_bytecode = True
 import page  # noqa: E402
 
 HERE = os.path.dirname(os.path.abspath(__file__))
-REPLAY = os.path.join(HERE, "..", "..", "crates", "perf_cases")
+REPLAY = os.path.join(HERE, "..", "..", "crates", "perf_replay")
 # What stands in front of the list; what is in front of that is written by hand.
 MARK = "# What the original answers: tools/answers/make.py writes all that follows.\n"
 LIMIT = 1000

@@ -6,7 +6,7 @@ use bitflags::Flags;
 use perf_event_data::endian::{Dynamic, Little};
 use perf_event_data::parse::{ParseConfig, Parser};
 use perf_event_data::sys::perf_event_attr;
-use perf_testing::told::tell_config;
+use perf_test_helpers::told::tell_config;
 use perf_words::{ReadFormat, SampleFlags};
 use std::alloc::{AllocError, Global};
 use std::process::Abort;

@@ -9,8 +9,8 @@ use perf_event_data::{
     LostSamples, Mmap, Mmap2, Namespaces, PartialVisitor, Read, RecordMetadata, Sample,
     SwitchCpuWide, TextPoke, Throttle,
 };
-use perf_testing::frames::BY_BUILD_ID;
-use perf_testing::told::Tell;
+use perf_test_helpers::frames::BY_BUILD_ID;
+use perf_test_helpers::told::Tell;
 use std::alloc::AllocError;
 use std::cell::Cell;
 

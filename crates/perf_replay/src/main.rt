@@ -1,6 +1,6 @@
 //! Checks cases that are written by hand, and what the original returned for others.
 //!
-//! `perf_cases` reads a list from standard input: for each case the bytes, what a parser over them
+//! `perf_replay` reads a list from standard input: for each case the bytes, what a parser over them
 //! is asked for, and what it returns. It asks over a slice, buffered readers and pieces, prints
 //! each result that differs, and then the numbers of cases, of results and of those that differ.
 //! The exit status is 0 if none differs. A line is a word and what follows it:
@@ -10,11 +10,11 @@
 //!   `branch_sample_type`, `sample_regs_user` and `sample_regs_intr`, 0 if they are not named.
 //! - `bytes DIGITS ..`, `zeros COUNT`, and `u16`, `u32` and `u64 NUMBER ..` are the bytes, one
 //!   after another. The first such line after an answer replaces the bytes before.
-//! - `ask WORD ..` asks a parser ([`perf_testing::asks`]); after the line `big` in big endian, and
+//! - `ask WORD ..` asks a parser ([`perf_test_helpers::asks`]); after the line `big` in big endian, and
 //!   after `little` in little endian again.
 //! - `run LIMIT ..` reads the records of a stream, each time at most that many, and
 //!   `after LIMIT ..` those after the attribute at the start of the bytes. Each frame is its line
-//!   of `perfrec`, and after that what it leaves out ([`perf_testing::told`]).
+//!   of `perfrec`, and after that what it leaves out ([`perf_test_helpers::told`]).
 //! - `shown` is the `{:?}` of the records of a slice: bytes that are its own are `Borrowed`.
 //! - `sample LEFT` reads a sample, alone and as a frame, after which that many bytes are left, in
 //!   little and in big endian.

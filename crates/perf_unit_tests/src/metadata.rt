@@ -5,7 +5,7 @@ use perf_event_data::endian::Little;
 use perf_event_data::parse::ParseConfig;
 use perf_event_data::sys::perf_event_attr;
 use perf_sample_types::sample_id::SampleId;
-use perf_testing::attributes::{attribute, ids_attribute};
+use perf_test_helpers::attributes::{attribute, ids_attribute};
 
 const TID: u64 = 1 << 1;
 

@@ -7,7 +7,7 @@ use perf_event_data::sys::{
 };
 use perf_event_data::{Sample, SampleFields};
 use perf_records::record::Record;
-use perf_testing::told::tell_record;
+use perf_test_helpers::told::tell_record;
 use perf_types::lost::Lost;
 use perf_types::lost_samples::LostSamples;
 use std::alloc::{AllocError, Global};

@@ -4,9 +4,9 @@ use crate::perfrec;
 use anyhow::{Context, Result, bail};
 use perf_event_data::endian::Dynamic;
 use perf_event_data::sys::perf_event_attr;
-use perf_testing::asks::tell_asked;
-use perf_testing::runs::{tell_after, tell_everywhere, tell_shown};
-use perf_testing::sample_bytes::{Part, frames, put_parts};
+use perf_test_helpers::asks::tell_asked;
+use perf_test_helpers::runs::{tell_after, tell_everywhere, tell_shown};
+use perf_test_helpers::sample_bytes::{Part, frames, put_parts};
 use std::alloc::{AllocError, Global};
 
 /// What the lines of a case have set so far.

@@ -13,9 +13,9 @@ use perf_event_data::{
     LostSamples, Mmap, Mmap2, Namespaces, Partial, Read, RecordMetadata, RecordVisitor, Sample,
     SampleFlags, SwitchCpuWide, TextPoke, Throttle, Visitor,
 };
-use perf_testing::attributes::ids_attribute;
-use perf_testing::frames::zero_frames;
-use perf_testing::told::{Tell, tell_error};
+use perf_test_helpers::attributes::ids_attribute;
+use perf_test_helpers::frames::zero_frames;
+use perf_test_helpers::told::{Tell, tell_error};
 use std::alloc::{AllocError, Global};
 use std::cell::Cell;
 use std::test::Fail;

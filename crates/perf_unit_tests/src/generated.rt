@@ -6,9 +6,9 @@ use perf_event_data::endian::{Dynamic, Native};
 use perf_event_data::parse::{ErrorKind, ParseConfig, ParseResult};
 use perf_event_data::sys::perf_event_attr;
 use perf_event_data::{BadFrame, Frame, frames};
-use perf_testing::everywhere::OTHERS;
-use perf_testing::runs::tell_differences;
-use perf_testing::sample_bytes::{Part, put_parts};
+use perf_test_helpers::everywhere::OTHERS;
+use perf_test_helpers::runs::tell_differences;
+use perf_test_helpers::sample_bytes::{Part, put_parts};
 use std::alloc::{AllocError, Global};
 use std::process::Abort;
 

@@ -4,7 +4,7 @@
 use perf_event_data::endian::Endian;
 use perf_event_data::parse::ParseResult;
 use perf_event_data::sys::perf_event_attr;
-use perf_testing::runs::tell_everywhere;
+use perf_test_helpers::runs::tell_everywhere;
 use std::alloc::AllocError;
 use std::fmt::Debug;
 use std::process::Abort;

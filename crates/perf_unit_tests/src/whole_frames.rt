@@ -11,9 +11,9 @@ use perf_event_data::{
     BadFrame, Frame, FrameHandler, PieceBuf, Record, RecordMetadata, RecordVisitor, Sample,
     SampleFields, SampleFlags, each_frame, frames,
 };
-use perf_testing::attributes::ids_attribute;
-use perf_testing::runs::tell_shown_record;
-use perf_testing::told::tell_error;
+use perf_test_helpers::attributes::ids_attribute;
+use perf_test_helpers::runs::tell_shown_record;
+use perf_test_helpers::told::tell_error;
 use std::alloc::{AllocError, Global};
 
 // The fields of the samples.

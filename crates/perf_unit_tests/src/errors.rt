@@ -8,7 +8,7 @@ use perf_base::cow::CowSlice;
 use perf_base::endian::Little;
 use perf_base::error::{ErrorKind, ParseError};
 use perf_event_data::parse::Parser;
-use perf_testing::asks::next_record;
+use perf_test_helpers::asks::next_record;
 use std::alloc::{AllocError, AllocFailed, Global};
 use std::io::{self, BufReader, Read};
 use std::process::Abort;

@@ -5,7 +5,7 @@ use Rattle.perf_base.specs.Refusals.{refused, error_kinds}
 use Rattle.perf_parser.specs.Prelude.{Keeps}
 use Rattle.perf_parser.specs.ReaderState.{state_of}
 use Rattle.perf_parser.proofs.InRow.{runs_kept, short_kept}
-use Rattle.perf_tests.proofs.own_types.OwnListParse.parse.Goals as goal
+use Rattle.perf_unit_tests.proofs.own_types.OwnListParse.parse.Goals as goal
 
 pub returns-in_err-numbers : goal.returns-in_err-numbers
 returns-in_err-numbers g c = record {

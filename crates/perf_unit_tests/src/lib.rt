@@ -1,4 +1,4 @@
-//! Tests that are no row of a list (`perf_cases` reads those): plain values and their copies,
+//! Tests that are no row of a list (`perf_replay` reads those): plain values and their copies,
 //! cursors, configurations, whose bytes a parser borrows, visitors, byte orders, buffers, readers,
 //! writers, types and closures of a user's own, runs of `perfrec`, what the small programs print,
 //! and what is outside the contracts, such as the texts of errors. Without its tests this crate is

@@ -10,7 +10,7 @@ use perf_event_data::parse::{
     ErrorKind, ParseBuf, ParseBufChunk, ParseConfig, ParseError, ParseResult, Parser,
 };
 use perf_event_data::{RunEnd, read_records};
-use perf_testing::runs::tell;
+use perf_test_helpers::runs::tell;
 use std::io;
 use std::io::{BufReader, Read};
 use std::process::Abort;
