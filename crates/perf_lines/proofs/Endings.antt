@@ -9,9 +9,7 @@ use Rattle.perf_base.specs.Order.{Order}
 use Rattle.perf_base.specs.Configuration.{Configuration, configured_by}
 use Rattle.perf_base.specs.Attribute.{attribute}
 use Rattle.perf_base.specs.Layout.{layout}
-use Rattle.perf_base.specs.Run.{ran, stopped, answer, by_places}
 use Rattle.perf_base.specs.declared.sys.perf_event_attr.{perf_event_attr}
-use Rattle.perf_base.proofs.Tables.{places_layout}
 use Rattle.perf_base.specs.declared.error.ErrorKind.{ErrorKind}
 use Rattle.perf_base.specs.declared.error.ErrorKind.TheVariants.{Eof, InvalidRecord, UnsupportedConfig, UnsupportedData, External, OutOfMemory}
 use Rattle.perf_records.specs.Frames.{StreamEnd, done, cut_header, stream_end}

@@ -1,6 +1,6 @@
 -- What reading the attribute in front keeps.
-use Rattle.std.proofs.Common.{◌≡◌, ℕ, ◌+◌, ◌≤◌, length, true, sym, subst, ap, ◌∙◌}
-use Rattle.std.specs.Prelude.{Option, None, Some, IsTrue}
+use Rattle.std.proofs.Common.{◌≡◌, ℕ, ◌+◌, ◌≤◌, length, true, sym, subst, ap}
+use Rattle.std.specs.Prelude.{None, Some, IsTrue}
 use Rattle.perf_base.specs.declared.error.ErrorKind.{ErrorKind}
 use Rattle.perf_base.specs.declared.error.ErrorKind.TheVariants.{External, OutOfMemory}
 use Rattle.perf_buffers.specs.Buffer.{Source, Stays}

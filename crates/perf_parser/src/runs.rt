@@ -3,7 +3,7 @@
 ghost use Rattle.std.specs.Prelude.{◌≡◌, ◌+◌, ◌≤◌, ◌<◌, ◌++◌, [], ◌∷◌, take, None, Ok};
 ghost use Rattle.std.specs.Prelude.{max, min, length};
 ghost use Rattle.std.specs.Prelude.{vec_len, vec_capacity};
-ghost use Rattle.std.specs.Prelude.{IsTrue, IfOk, IfErr, OnOk, OnErr};
+ghost use Rattle.std.specs.Prelude.{IsTrue, IfErr, OnOk, OnErr};
 ghost use Rattle.perf_parser.specs.Prelude.{buffer_of, config_of, reads_of, state_of};
 ghost use Rattle.perf_parser.specs.Runs as runs;
 ghost use Rattle.perf_parser.specs.Steps as steps;

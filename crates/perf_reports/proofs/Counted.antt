@@ -19,9 +19,9 @@ use Rattle.perf_reader.specs.Reading.{of_layout}
 use Rattle.perf_reader.proofs.Paying.{last_moved}
 use Rattle.perf_base.specs.Configuration.{Configuration, under_misc}
 use Rattle.perf_base.specs.Attribute.{attribute}
-use Rattle.perf_base.specs.Took.{took, quit, took_by_places}
+use Rattle.perf_base.specs.Took.{took, took_by_places}
 use Rattle.perf_base.specs.declared.sys.perf_event_attr.{perf_event_attr}
-use Rattle.perf_records.proofs.Saying.{took_says, quit_says}
+use Rattle.perf_records.proofs.Saying.{took_says}
 use Rattle.perf_base.specs.Layout.{Parts, done, mapped, layout, value}
 use Rattle.perf_base.proofs.Algebra.{then_inv}
 use Rattle.perf_base.proofs.Tables.{layout_run, run_layout}

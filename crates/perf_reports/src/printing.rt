@@ -14,7 +14,6 @@ use anyhow::{Result, bail};
 use perf_base::refusal::{Kept, Refusal};
 use perf_event_data::endian::{Endian, Little};
 use perf_event_data::parse::{ParseBuf, ParseConfig, Parser};
-use perf_event_data::sys::perf_event_attr;
 use perf_event_data::{Record, RunEnd, Sample, each_frame};
 use std::alloc::{AllocError, Global};
 use std::error::Error;
@@ -230,9 +229,8 @@ pub fn print_recording<R: Read + Drop, W: Write, E: Write>(
     report: Report,
 ) -> Result<bool> {
     let input = BufReader::new(alloc, input)?;
-    let mut parser = Parser::new(alloc, input, ParseConfig::<Little>::default());
-    let attr = parser.parse::<perf_event_attr>()?;
-    let mut parser = parser.reconfigure(ParseConfig::<Little>::from(attr));
+    let parser = Parser::new(alloc, input, ParseConfig::<Little>::default());
+    let mut parser = parser.after_attribute()?;
     let mut printer = FramePrinter::new(alloc, output, errors, report);
     print_records(&mut parser, &mut printer)
 }

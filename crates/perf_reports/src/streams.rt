@@ -1,9 +1,7 @@
 //! Counting the frames of a stream.
 
-ghost use Rattle.std.specs.Prelude.{◌≡◌, true, Ok, Err, drop, IsTrue, IfOk, IfErr};
-ghost use Rattle.perf_base.specs.Configuration.{configured_by};
+ghost use Rattle.std.specs.Prelude.{◌≡◌, true, Ok, Err, IsTrue, IfOk, IfErr};
 ghost use Rattle.perf_base.specs.Configured.{configuration_of, endian_of};
-ghost use Rattle.perf_base.specs.declared.sys.perf_event_attr.{perf_event_attr};
 ghost use Rattle.perf_parser.specs.Prelude.{buffer_of, config_of, kind_of, of_layout};
 ghost use Rattle.perf_reports.specs.Counting.{CountsRun, CountsStream, attribute_in};
 

@@ -6,7 +6,6 @@ use crate::runs::{PLAIN_64, PLAIN_100, joined};
 use anyhow::{Result as AnyResult, bail};
 use perf_event_data::endian::Little;
 use perf_event_data::parse::{ParseConfig, Parser};
-use perf_event_data::sys::perf_event_attr;
 use perf_event_data::{Record, RunEnd, read_records};
 use perf_reports::printing::{Report, print_recording};
 use perf_reports::{samples, tasks};
@@ -482,9 +481,8 @@ fn print_by_lines(
     report: Report,
 ) -> AnyResult<bool> {
     let input = BufReader::new(alloc, input)?;
-    let mut parser = Parser::new(alloc, input, ParseConfig::<Little>::default());
-    let attr = parser.parse::<perf_event_attr>()?;
-    let mut parser = parser.reconfigure(ParseConfig::<Little>::from(attr));
+    let parser = Parser::new(alloc, input, ParseConfig::<Little>::default());
+    let mut parser = parser.after_attribute()?;
     let mut clean = true;
     for _ in 0..u64::MAX {
         let run = read_records(&mut parser, 256);

@@ -10,7 +10,6 @@ ghost use Rattle.perf_parser.specs.Prelude.{buffer_of, config_of, configuration_
 
 use perf_event_data::endian::Little;
 use perf_event_data::parse::{ParseBuf, ParseConfig, ParseResult, Parser};
-use perf_event_data::sys::perf_event_attr;
 use std::alloc::Global;
 
 /// A parser of the records after the attribute that a recording begins with, under the configuration
@@ -24,7 +23,5 @@ pub fn open_recording<'p, B: ParseBuf<'p> + Drop>(
         ≡ took attr (B.source (buffer_of parser)).left (reads_of parser))
         × (configuration_of (config_of parser) ≡ configured_by attr)) }
 {
-    let mut parser = Parser::new(alloc, input, ParseConfig::<Little>::default());
-    let attr = parser.parse::<perf_event_attr>()?;
-    Ok(parser.reconfigure(ParseConfig::from(attr)))
+    Parser::new(alloc, input, ParseConfig::<Little>::default()).after_attribute()
 }

@@ -5,7 +5,7 @@ use Rattle.perf_base.specs.Errors.{kind_of}
 use Rattle.perf_base.specs.Took.{took}
 use Rattle.perf_reader.proofs.Paying.{keeps_none}
 use Rattle.perf_records.proofs.Saying.{quit_says}
-use Rattle.perf_parser.specs.ReaderState.{buffer_of, config_of, reads_of, state_of}
+use Rattle.perf_parser.specs.ReaderState.{buffer_of, reads_of, state_of}
 use Rattle.perf_parser.proofs.Attributes.{keeps_moved, not_of_layout, no_fault, is_external_fault}
 use Rattle.perf_parser.proofs.parser.Parser.after_attribute.Goals as goal
 
