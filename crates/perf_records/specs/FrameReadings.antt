@@ -35,10 +35,10 @@ HasNoRoom h c = body_length h < id_length c h.type_
 abbrev pub FrameGives : {O : Type 0} → (Event → O → Type 0) → perf_event_header → Configuration →
     Order → List ℕ → Bool → Result O ParseError → Type 0
 FrameGives gives h c o bytes borrowed (Ok output) =
-    (value : RecordValue) × (lent : Bool) × (parts : FrameParts)
-    × gives (event value lent parts.metadata) output
+    (value : RecordValue) × (b : Bool) × (parts : FrameParts)
+    × gives (event value b parts.metadata) output
     × (split_after c o h bytes ≡ Ok parts) × (answer_after c o h bytes ≡ Ok value)
-    × (IsTrue borrowed → IsTrue lent)
+    × (IsTrue borrowed → IsTrue b)
 FrameGives gives h c o bytes borrowed (Err e) =
     (IsTrue (of_layout (kind_of e)) → answer_after c o h bytes ≡ Err (kind_of e))
     × (HasNoRoom h c → IsAnswerOf e NoRoomForId)

@@ -37,12 +37,12 @@ use Rattle.perf_types.specs.declared.text_poke.TextPoke.{TextPoke}
 -- metadata.
 pub record Event : Type 0 where
   pub value : RecordValue
-  pub lent : Bool
+  pub borrowed : Bool
   pub metadata : MetadataValue
 
 -- the event of these
 abbrev pub event : RecordValue → Bool → MetadataValue → Event
-event v l m = record { value = v; lent = l; metadata = m }
+event v b m = record { value = v; borrowed = b; metadata = m }
 
 -- no byte of it was copied
 abbrev pub is_borrowed_text_poke : TextPoke → Bool
@@ -64,31 +64,31 @@ IsSample _ = ⊥
 
 -- the record of that value, of which nothing was copied if the event's was not
 abbrev pub IsRecordOf : Event → Record → Type 0
-IsRecordOf outcome r = (record_value r ≡ outcome.value) × (IsTrue outcome.lent → IsBorrowed r)
+IsRecordOf e r = (record_value r ≡ e.value) × (IsTrue e.borrowed → IsBorrowed r)
 
 -- The record of the event, or there was no memory for the box of a sample. It is opened only when a
 -- proof asks for it.
 unfoldable pub GivesRecord : Event → Result Record ErrorKind → Type 0
-GivesRecord outcome (Ok r) = IsRecordOf outcome r
-GivesRecord outcome (Err e) = (e ≡ OutOfMemory) × IsSample outcome.value
+GivesRecord e (Ok r) = IsRecordOf e r
+GivesRecord e (Err kind) = (kind ≡ OutOfMemory) × IsSample e.value
 
 -- the sample of that value, of which nothing was copied if the event's was not
 abbrev pub IsSampleIn : Event → Sample → Type 0
-IsSampleIn outcome s = (sample_is (sample_value s) ≡ outcome.value) × (IsTrue outcome.lent → IsBorrowedSample s)
+IsSampleIn e s = (sample_is (sample_value s) ≡ e.value) × (IsTrue e.borrowed → IsBorrowedSample s)
 
 -- the sample of that value in a box, of which nothing was copied if the event's was not
 abbrev pub IsSampleOf : Event → Box Sample Global → Type 0
-IsSampleOf outcome content = IsSampleIn outcome content.value
+IsSampleOf e content = IsSampleIn e content.value
 
 -- what is returned for a record belongs to each event that it is the record of
 abbrev pub MakesRecord : {O : Type 0} → (Event → O → Type 0) → Record → O → Type 0
 MakesRecord gives r output =
-    (outcome : Event) → record_value r ≡ outcome.value → (IsTrue outcome.lent → IsBorrowed r) →
-    gives outcome output
+    (e : Event) → record_value r ≡ e.value → (IsTrue e.borrowed → IsBorrowed r) →
+    gives e output
 
 -- what is returned for a sample without a box belongs to its event, whichever that is
 abbrev pub MakesNoSample : {O : Type 0} → (Event → O → Type 0) → O → Type 0
-MakesNoSample gives output = (outcome : Event) → IsSample outcome.value → gives outcome output
+MakesNoSample gives output = (e : Event) → IsSample e.value → gives e output
 
 -- ---- outputs of a visitor that leaves records out
 
@@ -100,10 +100,10 @@ mapping_in v = v
 -- the output belongs to the event, to that of its mapping, or to a record that is left out
 abbrev pub GivesOrLeavesOut : {O : Type 0} → (Event → O → Type 0) → (MetadataValue → O → Type 0) →
     Event → O → Type 0
-GivesOrLeavesOut gives left_out outcome output =
-    gives outcome output
-    ⊎ (gives (event (mapping_in outcome.value) outcome.lent outcome.metadata) output
-    ⊎ left_out outcome.metadata output)
+GivesOrLeavesOut gives left_out e output =
+    gives e output
+    ⊎ (gives (event (mapping_in e.value) e.borrowed e.metadata) output
+    ⊎ left_out e.metadata output)
 
 -- ---- what a visit of a body does
 
@@ -112,10 +112,10 @@ GivesOrLeavesOut gives left_out outcome output =
 abbrev pub Gives : {O : Type 0} → (Event → O → Type 0) → MetadataValue →
     (Configuration → Parts RecordValue) → Bool → Transition O
 Gives gives m parts wants old (Ok output) new =
-    (value : RecordValue) × (lent : Bool) × gives (event value lent m) output
+    (value : RecordValue) × (b : Bool) × gives (event value b m) output
     × (took_by_places old.order (parts old.settings) old.source.left old.reads
     ≡ took value new.source.left new.reads)
-    × (IsTrue old.source.whole → IsTrue lent) × (IsSample value → wants ≡ true)
+    × (IsTrue old.source.whole → IsTrue b) × (IsSample value → wants ≡ true)
 Gives gives m parts wants old (Err e) new =
     (IsTrue (of_layout e) →
     took_by_places old.order (parts old.settings) old.source.left old.reads
@@ -143,9 +143,9 @@ GivesBody gives m = GivesOf gives m (type_of m.ty)
 abbrev pub GivesWholeBody : {O : Type 0} → (Event → O → Type 0) → MetadataValue → Order →
     Parts RecordValue → List ℕ → Bool → Result O ErrorKind → ℕ → Type 0
 GivesWholeBody gives m o p bytes from (Ok output) k =
-    (value : RecordValue) × (lent : Bool) × gives (event value lent m) output
+    (value : RecordValue) × (b : Bool) × gives (event value b m) output
     × (layout o p bytes ≡ Ok value) × (k ≡ layout_reads o p bytes)
-    × (IsTrue from → IsTrue lent) × (IsSample value → wants_memory m.ty ≡ true)
+    × (IsTrue from → IsTrue b) × (IsSample value → wants_memory m.ty ≡ true)
 GivesWholeBody gives m o p bytes from (Err e) k =
     (IsTrue (of_layout e) → (layout o p bytes ≡ Err e) × (k ≡ layout_reads o p bytes))
     × (IsTrue from → wants_memory m.ty ≡ false → e ≢ OutOfMemory)
@@ -158,9 +158,9 @@ GivesWholeBody gives m o p bytes from (Err e) k =
 abbrev pub GivesExactly : {O : Type 0} → (Event → O → Type 0) → Result FrameParts ErrorKind →
     Result RecordValue ErrorKind → (n k : ℕ) → Transition O
 GivesExactly gives split answer n k old (Ok output) new =
-    (value : RecordValue) × (lent : Bool) × (parts : FrameParts)
-    × gives (event value lent parts.metadata) output
-    × (split ≡ Ok parts) × (IsTrue old.source.whole → IsTrue lent)
+    (value : RecordValue) × (b : Bool) × (parts : FrameParts)
+    × gives (event value b parts.metadata) output
+    × (split ≡ Ok parts) × (IsTrue old.source.whole → IsTrue b)
     × AnswersExactly (λ v. v) answer n k old (Ok value) new
 GivesExactly gives split answer n k old (Err e) new =
     AnswersExactly (λ (v : RecordValue). v) answer n k old (Err e) new
@@ -188,6 +188,6 @@ GivesFrame gives old outcome new =
 -- event are those of the header, and nothing of a whole buffer was copied.
 abbrev pub BelongsTo : {O : Type 0} → (Event → O → Type 0) → perf_event_header → Bool → O → Type 0
 BelongsTo gives h whole output =
-    (outcome : Event) × gives outcome output
-    × (outcome.metadata.ty ≡ h.type_) × (outcome.metadata.misc ≡ h.misc)
-    × (IsTrue whole → IsTrue outcome.lent) × (IsSample outcome.value → wants_memory h.type_ ≡ true)
+    (e : Event) × gives e output
+    × (e.metadata.ty ≡ h.type_) × (e.metadata.misc ≡ h.misc)
+    × (IsTrue whole → IsTrue e.borrowed) × (IsSample e.value → wants_memory h.type_ ≡ true)
