@@ -1,4 +1,4 @@
-# Turns what perf printed into recording.expected: a line for each COMM, MMAP, MMAP2, FORK, EXIT and NAMESPACES record.
+# Converts what perf printed to recording.expected: a line for each COMM, MMAP, MMAP2, FORK, EXIT and NAMESPACES record.
 #
 #     perf script --show-task-events --show-mmap-events --show-namespace-events .. | awk -f expected.awk
 #
@@ -9,11 +9,11 @@
 #     exit PID TID PPID PTID
 #     namespaces PID TID DEV:INODE,DEV:INODE,...
 #
-# A NAME goes to the end of its line. Numbers are decimal or hexadecimal as perf prints them, but a hexadecimal one has
-# always 0x in front and no zeros behind that (0 is 0x0), and an id that perf prints as -1 is 4294967295. PROT is `r`,
-# `w` and `x` or `-` in their places, and then `s` (shared) where bit 0 of the record's flags is set, else `p`
-# (private). A line of one of the six names that has another form ends the run with the status 1, and so does one of an
-# MMAP2 record with a build id. Other lines are left out.
+# A NAME extends to the end of its line. Numbers are decimal or hexadecimal as perf prints them, but a hexadecimal one
+# always begins with 0x, without zeros after that (0 is 0x0), and an id that perf prints as -1 is 4294967295. PROT is `r`,
+# `w` and `x`, or `-` instead of each, and then `s` (shared) if bit 0 of the record's flags is set, else `p` (private). A
+# line with one of the six names and another form ends the run with the status 1, and so does one of an MMAP2 record with
+# a build id. Other lines are left out.
 
 function fail() {
     print "expected.awk: line " NR ": " $0 > "/dev/stderr"
@@ -45,7 +45,7 @@ function hex(text) {
     return "0x" (text == "" ? "0" : text)
 }
 
-# What is left of the text behind its first `count` words.
+# The text after its first `count` words.
 function behind(text, count,    k) {
     for (k = 0; k < count; k++) if (!sub(/^[^ ]+ /, "", text)) fail()
     return text
@@ -64,7 +64,7 @@ function without(text, ending) {
     return substr(text, 1, length(text) - length(ending))
 }
 
-# The lines of a NAMESPACES record behind its first: [0/net: DEV/INODE, 1/uts: DEV/INODE, ..]
+# The lines of a NAMESPACES record after its first: [0/net: DEV/INODE, 1/uts: DEV/INODE, ..]
 wanted > 0 {
     text = $0
     gsub(/[][,\t ]+/, " ", text)

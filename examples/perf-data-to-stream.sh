@@ -1,43 +1,43 @@
 #!/bin/sh
-# Turns a file that `perf record` wrote into a stream for `perfrec little LIMIT attr`.
+# Converts a file that `perf record` wrote to a stream for `perfrec little LIMIT attr`.
 #
 #     perf-data-to-stream.sh perf.data > recording.stream
 #
-# The stream is an attribute (`struct perf_event_attr`, as long as its own field `size` says) and behind it the whole
-# data section of the file, which is records one behind another. They stay in the order of the file: perf copies one
-# processor's ring buffer after another's, so that times can go back. Beside the kernel's records (types 1 to 21) the
-# section holds some that perf numbers for itself from 64 on, as FINISHED_ROUND (68). They stay in too.
+# The stream is an attribute (`struct perf_event_attr`, as long as its own field `size` specifies) and after it the whole
+# data section of the file, which is records one after another. They keep the order of the file: perf copies one
+# processor's ring buffer after another's, so that times can go back. Besides the kernel's records (types 1 to 21) the
+# section contains some of perf's own types, from 64 on, such as FINISHED_ROUND (68). They are kept too.
 #
-# A file has an attribute for each event that was recorded. The first is taken. The others must agree with it in all
-# that the reading of records rests on: size, sample_type, read_format, sample_id_all, branch_sample_type,
+# A file has an attribute for each event that was recorded. The script takes the first. The others must agree with it in
+# all that the reading of records depends on: size, sample_type, read_format, sample_id_all, branch_sample_type,
 # sample_regs_user and sample_regs_intr. One event makes one attribute: `perf record -e cpu-clock`. With `-a` perf may
-# add an event of its own (`dummy`), which has no frequency by default, so that its samples have no period: a frequency
-# or a period that is named makes both agree, as in `perf record -a -e cpu-clock -F 99` or with `-c 1000000`. If there are
-# several attributes that agree, standard error gets a line for each: the name of its event, and the ids that its
-# samples have.
+# add an event of its own (`dummy`), which has no frequency by default, so that its samples have no period. An explicit
+# frequency or period makes both agree, as in `perf record -a -e cpu-clock -F 99` or with `-c 1000000`. If there are
+# several attributes that agree, the script writes a line for each to standard error: the name of its event, and the ids
+# of its samples.
 #
-# Refused, with a message and the status 1, and with nothing written: a name that is none of a file, a file that can't
-# be read, a folder, standard input (`-`: the file is read in several places, and a file of that name is `./-`), what
-# isn't a file of perf, a big-endian or pipe mode file, one that perf did not close, one that is cut, attributes that
-# differ (the message names the field and both values, and says what to do), and files whose data section isn't plain
-# records: compressed (`perf record -z`), one file a thread (`--threads`), or with AUX data, which lies behind its
-# record. Other words get a usage line and the status 2.
+# It refuses, with a message and the status 1, and writes nothing for: a name without a file, a file that can't be read,
+# a folder, standard input (`-`: the file is read in several places, and a file of that name is `./-`), what isn't a file
+# of perf, a big-endian or pipe mode file, one that perf did not close, one that is cut, attributes that differ (the
+# message names the field and both values, and states what to do), and files whose data section isn't plain records:
+# compressed (`perf record -z`), one file per thread (`--threads`), or with AUX data, which follows its record. For other
+# arguments it prints a usage line, with the status 2.
 #
 # It needs `od`, `tr`, `wc`, `tail`, and a `head` that knows `-c`.
 #
-# The head of the file, all in little endian (`struct perf_file_header` of the kernel's tools/perf/util/header.h):
+# The head of the file, all little endian (`struct perf_file_header` of the kernel's tools/perf/util/header.h):
 #
 #     at  0  8 bytes  PERFILE2
 #     at  8  u64      the length of this head; 16 in pipe mode
 #     at 16  u64      the length of an entry of the next section: an attribute and 16 bytes (where its ids are)
-#     at 24  u64 u64  the section of the attributes: where, and how long
+#     at 24  u64 u64  the section of the attributes: its place and length
 #     at 40  u64 u64  the data section
 #     at 56  u64 u64  unused
 #     at 72  32 bytes a bit for each feature section: 12 EVENT_DESC, 18 AUXTRACE, 24 DIR_FORMAT, 27 COMPRESSED
 #
-# After the data section comes, for each bit that is set, where that section is and how long (u64 u64). EVENT_DESC has a
-# count and the length of an attribute (u32 u32), and for each event the attribute, how many ids it has (u32), its name
-# with the length before it (u32), and the ids.
+# After the data section come, for each bit that is set, the place and length of that section (u64 u64). EVENT_DESC has
+# a count and the length of an attribute (u32 u32), and for each event the attribute, the number of its ids (u32), its
+# name with the length before it (u32), and the ids.
 
 set -eu
 LC_ALL=C
@@ -59,7 +59,7 @@ hex() {
     od -An -v -tx1 -j "$1" -N "$2" < "$file" | tr -d ' \n'
 }
 
-# number AT LEN: sets `number` to the little-endian number there. One of 2^63 or more comes out negative.
+# number AT LEN: sets `number` to the little-endian number there, which is negative if it is 2^63 or more.
 number() {
     number=0
     shift_by=0
@@ -88,8 +88,8 @@ is_dummy() {
     [ "$number" -eq 9 ]
 }
 
-# differs NAME ONE OTHER: refuses the attribute at `at`, whose field NAME has another value than the first's. If the
-# samples of one event alone have a period (0x100 of sample_type), that event alone has a frequency.
+# differs NAME ONE OTHER: refuses the attribute at `at`, whose field NAME has another value than the first's. If only
+# the samples of one event have a period (0x100 of sample_type), only that event has a frequency.
 differs() {
     event=$(((at - first) / entry + 1))
     advice="record one event only, with -e EVENT"
@@ -105,7 +105,7 @@ differs() {
         "$event" "$1" "$2" "$3" "$added" "$advice")"
 }
 
-# same NAME AT LEN: sees that the attribute at `at` has the first one's value of the field NAME, whose bytes they are.
+# same NAME AT LEN: checks that the field NAME, which has these bytes, is in the attribute at `at` as in the first.
 same() {
     number $((first + $2)) "$3"
     one=$number
@@ -113,7 +113,7 @@ same() {
     [ "$number" -eq "$one" ] || differs "$1" "$one" "$number"
 }
 
-# agrees: sees that the attribute at `at` agrees with the first, whose size is `size`.
+# agrees: checks that the attribute at `at` agrees with the first, whose size is `size`.
 agrees() {
     same size 4 4
     same sample_type 24 8
@@ -127,7 +127,7 @@ agrees() {
     if [ "$size" -ge 104 ]; then same sample_regs_intr 96 8; fi
 }
 
-# find_names: sets `names` to where the feature section of the events' descriptions has the first one, and `described`
+# find_names: sets `names` to the place of the first event in the feature section of their descriptions, and `described`
 # to the length of an attribute there. Without that section `names` is 0.
 find_names() {
     names=0
@@ -144,7 +144,7 @@ find_names() {
     names=$((at + 8))
 }
 
-# next_name: sets `name` to that of the event at `names`, and `names` to where the next one begins.
+# next_name: sets `name` to that of the event at `names`, and `names` to the place of the next one.
 next_name() {
     number $((names + described)) 4
     ids=$number
@@ -155,7 +155,7 @@ next_name() {
     names=$((name_at + number + 8 * ids))
 }
 
-# tell_events: writes of each event its name and its ids to standard error.
+# tell_events: writes the name and the ids of each event to standard error.
 tell_events() {
     find_names
     event_at=$first

@@ -1,20 +1,20 @@
 #!/bin/sh
-# Makes a recording of samples with many fields as the one that is bundled here, and all texts beside it.
+# Makes a recording of samples with many fields like the bundled one, and all texts about it.
 #
 #     examples/record-samples.sh FOLDER
 #
-# FOLDER is made, and must not be there yet. The file perf.data stays in it too. It wants root, for physical addresses
-# and the kernel's call chains, and perf, taskset, dd and awk; no hardware counter is needed. Nothing of the caller's
-# environment or folder comes into the recording.
+# This creates FOLDER, which must not exist yet, and leaves the file perf.data in it too. It needs root, for physical
+# addresses and the kernel's call chains, and perf, taskset, dd and awk, but no hardware counter. The recording contains
+# nothing of the caller's environment or folder.
 #
 # - One event, so one attribute: page faults, which have an address (-d). With a frequency (-F) each sample has a period
 #   of its own; with a fixed period (-c) and a period in the samples (-P) the kernel makes each fault a sample.
-# - All on processor 1, so that the samples lie in the file in the order of their times, which is the order in which
+# - All on processor 1, so that the samples are in the file in the order of their times, which is the order in which
 #   `perf report -D` prints, and their processor is not zero.
 # - Some registers of the program, and up to 64 bytes of its stack (--call-graph dwarf,64), so that the call chains are
-#   the kernel's alone; some registers at the interrupt (-I); raw bytes (-R), which for a fault are four of zero; all
-#   else that the kernel takes for a software event.
-# - The commands: two programs, and one that has the kernel write into memory that was never touched, so that the kernel
+#   only the kernel's; some registers at the interrupt (-I); raw bytes (-R), which for a fault are four zeros; everything
+#   else that the kernel accepts for a software event.
+# - The commands: two programs, and one that makes the kernel write to memory that was never touched, so that the kernel
 #   itself faults.
 
 set -eu
@@ -37,7 +37,7 @@ clean taskset -c 1 \
 
 "$here/perf-data-to-stream.sh" perf.data > samples.stream
 
-# What perf read in each sample, without the bytes and without what it concludes from them.
+# The fields of each sample as perf read them, without the bytes and without what it concludes from them.
 clean perf report -i perf.data -D > all.txt
 awk '/: PERF_RECORD_SAMPLE\(/ { keep = 1 } /^ \.\.\. thread: / { keep = 0 } keep' all.txt > samples.dump.txt
 rm all.txt

@@ -1,13 +1,13 @@
-# Turns what perf dumped of samples into the fields of their lines in `perfrec`, as far as perf prints them.
+# Converts perf's dump of samples to the fields of their lines in `perfrec`, as far as perf prints them.
 #
 #     awk -f sample-fields.awk samples.dump.txt
 #
 #     Sample ip=N pid=N tid=N time=N addr=N cpu=N period=N callchain=N,N,.. regs_user_abi=N regs_user=N,.. weight=N
 #     data_src=N transaction=N regs_intr_abi=N regs_intr=N,.. phys_addr=N data_page_size=N code_page_size=N
 #
-# in one line for each sample, all numbers decimal. It is for samples that have all of these. perf doesn't print the
-# sample's id, its raw bytes, the bytes of its stack and its control group. A line of another form ends the run with the
-# status 1, and so does a weight that is not zero.
+# in one line per sample, all numbers decimal. It is for samples that have all of these. perf doesn't print the sample's
+# id, its raw bytes, the bytes of its stack or its control group. A line of another form ends the run with the status 1,
+# and so does a weight that is not zero.
 
 function fail() {
     print "sample-fields.awk: line " NR ": " $0 > "/dev/stderr"

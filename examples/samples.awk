@@ -1,18 +1,18 @@
-# Turns what perf dumped of samples into the lines that tell of them: one for each sample.
+# Converts perf's dump of samples to one line for each sample.
 #
 #     awk -f samples.awk samples.dump.txt
 #     awk -v absent=period,addr -f samples.awk recording.dump.txt
 #
 #     TIME CPU PID/TID PERIOD ADDR IP: CHAIN
 #
-# ADDR, IP and the addresses of CHAIN are hexadecimal, always with 0x in front and no zeros behind that (0 is 0x0), the
-# others decimal. CHAIN is a word for each number of the call chain, the innermost call first, and nothing where it is
-# empty. Numbers from -4095 on (as a u64) are no addresses, but say whose those behind them are: -128 is the word
-# `kernel` and -512 the word `user`, and the others stay numbers.
+# ADDR, IP and the addresses of CHAIN are hexadecimal, beginning with 0x, without zeros after that (0 is 0x0); the other
+# numbers are decimal. CHAIN is a word for each number of the call chain, the innermost call first, and nothing if it is
+# empty. Numbers from -4095 on (as a u64) are not addresses, but state whose addresses follow: -128 is the word `kernel`
+# and -512 the word `user`, and the others stay numbers.
 #
 # `absent` names fields that the event's sample_type lacks, whose word is `-`: perf prints an address of 0 and the
 # attribute's own period for these. A line of a sample or of a chain that has another form ends the run with the status
-# 1. What else perf dumps of a sample (its registers, stack, costs, pages) is left out.
+# 1. The rest of perf's dump of a sample (its registers, stack, costs, pages) is left out.
 
 function fail() {
     print "samples.awk: line " NR ": " $0 > "/dev/stderr"

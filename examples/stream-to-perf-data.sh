@@ -1,18 +1,19 @@
 #!/bin/sh
-# Turns a stream with an attribute in front into a file that `perf` reads.
+# Converts a stream that begins with an attribute to a file that `perf` reads.
 #
 #     stream-to-perf-data.sh recording.stream > perf.data
 #
-# The other way round than perf-data-to-stream.sh, whose head has the file's layout: perf-data-to-stream.sh of that file
-# gives the stream again, byte for byte. So perf itself can say what a stream holds:
+# It reverses perf-data-to-stream.sh, whose head has the file's layout: that script converts the file to the same stream
+# again, byte for byte. So perf itself can report what a stream contains:
 #
 #     perf report -i perf.data -D
 #
-# The stream's records stay as they are. In front of them stand the head, the ids of the event, and the attribute with
-# their place. The ids are those of the stream's ID_INDEX record (69), which perf wrote; without one there are none, and
-# perf takes each record as the one event's. What perf tells of the machine is not in a stream, and not in the file.
+# The stream's records are unchanged. Before them come the head, the ids of the event, and the attribute with the place of
+# the ids. The ids are those of the stream's ID_INDEX record (69), which perf wrote; without one there are none, and perf
+# assigns each record to the one event. What perf records about the machine is not in a stream, and not in the file.
 #
-# Little endian. Of a file that is no such stream no lawful perf.data comes. It needs `od`, `tr`, `awk` and `wc`.
+# Little endian. If the input is not such a stream, the output is not a valid perf.data. It needs `od`, `tr`, `awk` and
+# `wc`.
 
 set -eu
 LC_ALL=C

@@ -1,20 +1,20 @@
 #!/usr/bin/env bash
-# What crates/perf_uses prints of recording.stream, made of what perf reported of it.
+# Makes what crates/perf_uses prints for recording.stream, from what perf reported of it.
 #
 #     examples/uses.sh > lines
 #
-# The program prints ten lines more, of bytes in its source, which are worked out by hand.
+# The program prints ten more lines, for bytes in its source, which are computed by hand.
 set -eu
 cd "$(dirname "$0")"
 
 # The time of each sample.
 awk '{ print "sample at " $1 }' recording.samples
 
-# How many records there are, and how many of them are samples.
+# The number of records, and of samples.
 awk '/TOTAL events:/ { total = $3 } /SAMPLE events:/ { samples = $3 }
     END { print total " frames, " samples " samples" }' recording.stats.txt
 
-# Each call chain, the outermost call first, and of how many samples it is.
+# Each call chain, the outermost call first, and the number of its samples.
 awk '{
     stack = ""
     for (i = NF; i > 6; i--) {
@@ -26,7 +26,7 @@ awk '{
 # The file of each mapping.
 awk '$1 == "mmap2" { print $2 " maps " $NF }' recording.expected
 
-# When tasks got their names, and when they ended. A time is in seconds there, with nine digits after the point.
+# When tasks got their names, and when they ended. Times there are in seconds, with nine decimals.
 nanoseconds='function nanoseconds(seconds) {
     sub(/:$/, "", seconds)
     sub(/\./, "", seconds)

@@ -3,11 +3,11 @@
 
     make.py --streams            lists the cases and counts their frames; runs nothing
     make.py --page PROGRAM WORD.. compares what PROGRAM prints with page.py, also for what the lists leave out
-    make.py PROGRAM WORD..       writes the list behind the cases that are written by hand, and what a replay must print
+    make.py PROGRAM WORD..       writes the list after the cases that are written by hand, and what a replay must print
 
-PROGRAM is the original under a program that prints perfrec's lines. It takes perfrec's words (order, limit, and `attr`
-where the stream begins with an attribute), and in front of them the WORDs, which ask it to hide what README.md calls
-the original's own. The same input always makes the same list.
+PROGRAM is the original under a program that prints perfrec's lines. It takes perfrec's arguments (order, limit, and
+`attr` if the stream begins with an attribute), and before them the WORDs, which make it hide the departures that
+README.md lists. The same input always makes the same list.
 """
 
 import collections
@@ -22,14 +22,14 @@ import page  # noqa: E402
 
 HERE = os.path.dirname(os.path.abspath(__file__))
 REPLAY = os.path.join(HERE, "..", "..", "crates", "perf_replay")
-# What stands in front of the list; what is in front of that is written by hand.
+# The line before the list; everything before that line is written by hand.
 MARK = "# What the original answers: tools/answers/make.py writes all that follows.\n"
 LIMIT = 1000
 
-# The sizes of an attribute, one behind another.
+# The sizes of an attribute, in order.
 SIZES = [64, 72, 80, 96, 104, 112, 120, 128, 136, 137, 144, 160]
 
-# Types that stand in a list of their own.
+# Types that are in a list of their own.
 APART = {9}
 
 TID, TIME, ID, CPU, STREAM_ID, IDENTIFIER = 1 << 1, 1 << 2, 1 << 6, 1 << 7, 1 << 9, 1 << 16
@@ -51,7 +51,7 @@ class Draw:
         return things[self.below(len(things))]
 
     def number(self, bits):
-        """A number of so many bits: small, at an end, or any."""
+        """A number of that many bits: small, at an end, or any."""
         kind = self.below(8)
         if kind < 3:
             return self.below(1000)
@@ -73,7 +73,7 @@ def id_length(config):
 
 
 def agreed(config, type_):
-    """Whether the lists of all types have this one under this configuration; README.md says what they leave out."""
+    """Whether the lists of all types contain this one under this configuration; README.md has what they leave out."""
     if type_ in APART:
         return False
     return id_length(config) == 0 or (type_ != 1 and type_ < 64)
@@ -146,7 +146,7 @@ class Bodies:
         add(15, lambda: (0x2000, self.whole(15)[:-1]))
         add(15, lambda: (0x2000, b""))
 
-        # Names of all forms, and what stands in front of them cut short.
+        # Names of all forms, and what precedes them cut short.
         for type_ in [1, 3, 17, 19]:
             for at in range(len(self.names())):
                 add(type_, lambda type_=type_, at=at: (misc(), self.some(self.BEFORE_NAME[type_]) + self.names()[at]))
@@ -208,7 +208,7 @@ class Bodies:
             add(type_, lambda type_=type_: (misc(), draw.bytes(1 + draw.below(24))))
             add(type_, lambda type_=type_: (misc(), draw.bytes(8) + bytes(draw.below(9))))
 
-        # READ, and SAMPLE where the lists are compared: eight bytes for each number that the format can ask for.
+        # READ, and SAMPLE if the lists are compared: eight bytes for each number that the format can request.
         for count in range(7):
             add(8, lambda count=count: (misc(), self.some("II" + "Q" * count)))
             add(9, lambda count=count: (misc(), self.some("Q" * 2 * count)))
@@ -238,7 +238,7 @@ class Frames:
 
 
 def attribute(order, draw, size, config, tail=0):
-    """An attribute of the size: what the configuration asks for, and numbers without meaning for it elsewhere."""
+    """An attribute of the size: what the configuration requests, and elsewhere numbers without meaning for it."""
     mark = "<" if order == "little" else ">"
     flags = draw.number(63) & ~(1 << 18) | (1 << 18 if config.all_ids else 0)
     head = struct.pack(mark + "IIQQQQQIIQ", draw.below(6), size, draw.number(64), draw.number(64), config.sample_type,
@@ -292,7 +292,7 @@ class Turns:
 
 
 def ending(draw, frames, which):
-    """What stands behind the last whole frame: nothing, one to seven bytes, or an unfinished frame."""
+    """What follows the last whole frame: nothing, one to seven bytes, or an unfinished frame."""
     if which == 0:
         return b""
     if which == 1:
@@ -336,7 +336,7 @@ def cases(everything=False):
 
 
 def attributes():
-    """Attributes that are refused, and some at the edge that aren't, each with one frame behind it."""
+    """Attributes that are refused, and some at the edge that aren't, each with one frame after it."""
     found = []
     for order in ["little", "big"]:
         draw = Draw(7 if order == "little" else 11)
@@ -374,7 +374,7 @@ def reads():
     return found
 
 
-# The bits of a sample type: those whose fields may have any length, all but WEIGHT_STRUCT, and these in the order of
+# The bits of a sample type: those whose fields may have any length; all except WEIGHT_STRUCT; and these in the order of
 # their bytes.
 READ, CALLCHAIN, RAW, BRANCHES, REGS_USER, STACK_USER, REGS_INTR, AUX = 4, 5, 10, 11, 12, 13, 18, 20
 LISTS = [READ, CALLCHAIN, RAW, BRANCHES, REGS_USER, STACK_USER, REGS_INTR, AUX]
@@ -395,11 +395,11 @@ class Samples(Frames):
         return self.bodies.some(form)
 
     def counted(self, count, form, there=None):
-        """A count, and so many items, or another number of them."""
+        """A count, and that many items, or another number of them."""
         return self.bodies.pack("Q", count) + self.some(form * (count if there is None else there))
 
     def read(self, count, there=None):
-        """A read of a group, or where the format asks for none, of one event."""
+        """A read of a group, or of one event if the format requests no group."""
         read_format = self.config.read_format
         times, entry = "Q" * bin(read_format & 3).count("1"), "Q" * (1 + bin(read_format & 0x14).count("1"))
         if read_format & 8 == 0:
@@ -477,14 +477,14 @@ class Samples(Frames):
 
 
 def sample_case(name, order, size, config, make, last=b""):
-    """A stream of the samples that are made, each with a LOST_SAMPLES behind it that ends at a multiple of eight."""
+    """A stream of the samples that are made, each followed by a LOST_SAMPLES that ends at a multiple of eight."""
     draw = Draw(sum(name.encode()) * 2**20 + len(name) * 2**10 + (order == "big"))
     head = bytearray(attribute(order, draw, size, config))
     branch_sample_type = draw.number(64) & ~(1 << 17) | (config.hw_index << 17)
     for at, number in [(72, branch_sample_type), (80, config.user), (96, config.interrupt)]:
         if at + 8 <= size:
             head[at : at + 8] = number.to_bytes(8, order)
-    # An attribute that is too short for them doesn't ask for them.
+    # An attribute that is too short for them doesn't request them.
     within = config._replace(hw_index=config.hw_index if size >= 80 else 0, user=config.user if size >= 96 else 0,
                              interrupt=config.interrupt if size >= 104 else 0)
     frames, stream = Samples(order, draw, within), b""
@@ -549,7 +549,7 @@ def said(program, case):
 
 
 def compare(program):
-    """Prints each line on which the program and the page differ, also where the list leaves the frame out."""
+    """Prints each line on which the program and the page differ, also if the list leaves the frame out."""
     differ = collections.Counter()
     for case in cases(everything=True) + reads() + attributes() + samples():
         by_program, by_page = said(program, case), page.text(case.stream, *words_of(case))
@@ -572,7 +572,7 @@ def compare(program):
 
 
 def write(blocks):
-    """The list, behind what is written by hand, and what the program that replays both prints where nothing differs."""
+    """The list, after what is written by hand, and what the program that replays both prints if nothing differs."""
     with open(os.path.join(REPLAY, "stdin")) as it:
         by_hand = it.read().partition(MARK)[0].rstrip("\n")
     whole = "\n".join([by_hand + "\n", MARK, *blocks])
@@ -584,7 +584,7 @@ def write(blocks):
 
 
 def block_of(case, text, status, alone):
-    """A case's text. A line is marked by ~ where the original alone, that is nothing hidden, says something else."""
+    """A case's text. A line is marked by ~ if the original alone, with nothing hidden, prints something else."""
     digits = case.stream.hex()
     lines = ["case %s" % case.name, *["bytes %s" % digits[at : at + 112] for at in range(0, len(digits), 112)]]
     lines.append("perfrec %s" % " ".join(words_of(case)))
@@ -594,7 +594,7 @@ def block_of(case, text, status, alone):
 
 
 class Tally:
-    """How many frames of each type have each answer, and how many runs each last line."""
+    """The number of frames of each type with each answer, and of runs with each last line."""
 
     def __init__(self):
         self.frames, self.ends = collections.Counter(), collections.Counter()
@@ -620,7 +620,7 @@ class Tally:
 
 
 def answers(words, listed):
-    """The blocks of the cases, by the program that the words name, and their tally. Without words nothing is run."""
+    """The blocks of the cases, by the program that the words name; prints their tally. Without words nothing is run."""
     blocks, tally, marked = [], Tally(), 0
     for case in listed:
         text, status = page.text(case.stream, *words_of(case))

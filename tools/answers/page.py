@@ -1,4 +1,4 @@
-"""The text of a run as docs/FORMATS.md has it, written from that page and from no program."""
+"""The text of a run as docs/FORMATS.md specifies it, written from that page and from no program."""
 
 import collections
 
@@ -49,7 +49,7 @@ FIELDS = {
 }
 
 
-# What a single read has, each with the bit of the read format by which it is there: the value always is.
+# What a single read has, each with the bit of the read format by which it is present: the value always is.
 SINGLE_READ = [("value", None), ("time_enabled", 0), ("time_running", 1), ("id", 2), ("lost", 4)]
 GROUP, KNOWN_BITS = 3, 5
 
@@ -88,7 +88,7 @@ def words_of_field(name, kind, misc, read_format, reader):
     return ["old_bytes=" + run[:old].hex(), "new_bytes=" + run[old : old + new].hex()]
 
 
-# What an attribute says of the frames behind it; without one everything is 0.
+# What an attribute specifies about the frames after it; without one everything is 0.
 Asked = collections.namedtuple("Asked", "id_length read_format sample_type hw_index user interrupt")
 
 # The flags of a sample, by the names of their fields, and the fields that are one number of eight bytes.
@@ -102,7 +102,7 @@ LINE += " data_page_size code_page_size"
 
 
 class SampleReader(Reader):
-    """Reads the fields of a sample that aren't one number; each answers the words of its line by their names."""
+    """Reads the fields of a sample that aren't one number; each returns the words of its line by their names."""
 
     def __init__(self, data, order, asked):
         super().__init__(data, order)
@@ -207,7 +207,7 @@ def answer(type_, misc, asked, body, order):
 
 
 def attribute(reader):
-    """What the attribute says that the reader begins with."""
+    """What the attribute at the beginning of the reader specifies."""
     reader.number(4)
     size = reader.number(4)
     if size not in (64, 72, 80, 96, 104, 112, 120, 128, 136) and size <= 136:
@@ -215,7 +215,7 @@ def attribute(reader):
     rest = reader.take(size - 8)
     if any(rest[128:]):
         raise Refused("UnsupportedData")
-    # Fields beyond the size are 0; two of 4 bytes before config1, and two behind the mask of user registers.
+    # Fields beyond the size are 0; two of 4 bytes before config1, and two after the mask of user registers.
     fields = Reader(rest + bytes(128), reader.order)
     _, _, sample_type, read_format, flags = [fields.number(8) for _ in range(5)]
     fields.take(8 + 8 + 8)

@@ -1,5 +1,5 @@
 #!/usr/bin/env python3
-"""Says of each body of a joined must-fail edit whether the prover refuses it at its own goal.
+"""Reports for each body of a joined must-fail edit whether the prover refuses it at its own goal.
 
 Usage, at the top of the repository: tools/edits/bodies.py CRATE[/EDIT]...
 """
@@ -17,21 +17,21 @@ NOTE = re.compile(r"note: (?:\./)?(src/\S+?):(\d+):(\d+): (it is not proved .*)"
 GAVE_UP = re.compile(r"note: what antt said of .*?: (?:\./)?(src/\S+?):(\d+):(\d+): error: (.*)")
 UNREAD = re.compile(r"(?:\./)?src/\S+?:\d+:\d+: error: [^`].*")
 ERROR = re.compile(r"(?:\./)?proofs/(\S+?)/(\w+)\.antt:\d+:\d+: error: (.*)")
-# What says the numbers of a set or of a named number.
+# The functions that state the numbers of a set or of a named number.
 TABLES = ("flags", "names")
-# The answers of a proof name what the edit, or the refusal of a callee, took away.
+# Errors of proofs that name what the edit, or the refusal of a callee, removed.
 NAMES = re.compile(r"has no field|is not in scope|has no `|was not admitted|\(nearest:")
 
 
 class Body:
-    """The pairs of an edit that turn one function, and the lines where that function stands."""
+    """The pairs of an edit that change one function, and the lines of that function."""
 
     def __init__(self, line):
         self.line = self.first = self.last = line
         self.names, self.owner, self.others, self.text = [], "", [], ""
 
     def place(self, lines):
-        """Finds the function around the edited line, and the type whose impl it stands in."""
+        """Finds the function around the edited line, and the type whose impl contains it."""
         starts = [at for at, text in enumerate(lines, 1) if is_function(text)]
         self.text = lines[self.line - 1]
         before = [at for at in starts if at <= self.line and begins(lines[at - 1])]
@@ -50,7 +50,7 @@ class Body:
                 self.owner, self.others = "", []
 
     def at(self, line, column):
-        """The function at a place, where the edited line holds several."""
+        """The function at a place, if the edited line has several."""
         names = FUNCTION.findall(self.text[:column]) if line == self.line else []
         return names[-1] if names else self.names[0]
 
@@ -73,7 +73,7 @@ def closing(lines, at):
 
 
 def item_start(lines, at):
-    """Where the attributes and documents of a function begin: the prover's notes stand there."""
+    """Where the attributes and documentation of a function begin: the prover's notes are there."""
     while at > 1 and lines[at - 2].lstrip().startswith(("#[", "//")):
         at -= 1
     return at
@@ -85,8 +85,8 @@ def parts_of(header):
 
 
 def owner_of(header):
-    """What the folder of an impl's proofs is called: its type, and behind that its trait and what
-    the trait is of."""
+    """The name of the folder of an impl's proofs: its type, and after that its trait and what the
+    trait is of."""
     trait, is_trait, of = parts_of(header)
     of = re.sub(r"'\w+|\s", "", of)
     name = re.match(r"&?\[?(\w+)", of)
@@ -99,14 +99,14 @@ def owner_of(header):
 
 
 def trait_of(trait):
-    """A trait's part of such a name. A parameter, which is one letter, is none."""
+    """A trait's part of such a name. A parameter, which is one letter, adds nothing."""
     name, _, of = re.sub(r"'\w+,?\s*", "", trait).replace("()", "Unit").partition("<")
     of = re.match(r"&?[\w:]*", of)[0].replace("::", "").replace("&", "Ref")
     return name.split("::")[-1] + (of if len(of) > 1 else "")
 
 
 def other_owners(header):
-    """What else that folder may be called, where a trait of the crate has that name itself."""
+    """Other names of that folder, if a trait of the crate has that name itself."""
     trait, is_trait, of = parts_of(header)
     return [re.match(r"\w*", of)[0] + "Any" + trait_of(trait)] if is_trait else []
 
@@ -146,7 +146,7 @@ def applied(text, pairs):
 
 
 def joined(bodies):
-    """The bodies, where pairs that stand one behind another in one function are one body."""
+    """The bodies, in which consecutive pairs in one function are one body."""
     kept = []
     for body in bodies:
         if not kept or (kept[-1].first, kept[-1].last) != (body.first, body.last):
@@ -155,7 +155,7 @@ def joined(bodies):
 
 
 def refusal(body, path, output):
-    """What the prover says at the function of a body, or nothing."""
+    """What the prover reports at the function of a body, or nothing."""
     for line in output:
         note = NOTE.match(line) or GAVE_UP.match(line)
         if note and note[1] == path and body.first <= int(note[2]) <= body.last:
@@ -181,7 +181,7 @@ def proves(body, path, folder):
 
 
 def below(root, crate):
-    """The crates of the repository that a crate uses, each with what that uses."""
+    """The crates of the repository that a crate uses, directly or not."""
     used = {}
     for line in (root / "crates.txt").read_text(encoding="utf-8").split("\n"):
         head, colon, names = line.partition("#")[0].partition(":")
@@ -196,7 +196,7 @@ def below(root, crate):
 
 
 def copy_of(root, crate, room):
-    """A copy of the repository: kept answers of the crate, built libraries of those below."""
+    """A copy of the repository: kept answers of the crate, built libraries of those that it uses."""
     for name in ("crates.txt", "HANDLES"):
         shutil.copy2(root / name, room)
     under = below(root, crate)
@@ -207,7 +207,7 @@ def copy_of(root, crate, room):
 
 
 def check(edit, folder):
-    """Checks the copy under an edit, says what becomes of each body, and counts."""
+    """Checks the copy under an edit, prints the result for each body, and counts."""
     kept = {it: (folder / it).read_text(encoding="utf-8") for it in read_edit(edit)}
     changed = {it: applied(kept[it], pairs) for it, pairs in read_edit(edit).items()}
     bodies = [(path, body) for path, (_, found) in changed.items() for body in found]
@@ -223,7 +223,7 @@ def check(edit, folder):
 
 
 def told(bodies, output):
-    """Prints what the prover said of each body, and counts those that it refused."""
+    """Prints what the prover reported of each body, and counts those that it refused."""
     unread = next((it for it in output if UNREAD.match(it)), "")
     if not any(it.startswith("logic=") for it in output):
         unread = unread or "no verdict: " + next((it for it in output if "error" in it), "?")

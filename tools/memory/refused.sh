@@ -1,13 +1,13 @@
 #!/usr/bin/env bash
-# Runs the tests of the crate `perf_out_of_memory` with the first request for memory of each test refused,
-# and then with the second, the third and the fourth. Records over a slice are the same, and a sample
-# of raw bytes alone makes one request. Over a buffered reader, which makes the first request, a run
-# over nothing makes none, and one that lists a sample makes room for the frame, then for the
-# sample, and then for its call chain. Room for one answer is asked for twice if it is refused.
+# Runs the tests of the crate `perf_out_of_memory` with the first allocation of each test refused, and
+# then with the second, the third and the fourth. Records of a slice are the same, and a sample with
+# only raw bytes makes one allocation. With a buffered reader, which makes the first allocation, a run
+# over nothing makes none, and one that lists a sample allocates capacity for the frame, then for the
+# sample, and then for its call chain. If capacity for one answer is refused, it is requested again.
 set -eu
 cd "$(dirname "$0")/../../crates/perf_out_of_memory"
 
-# Checks that the tests pass where this request is refused, and that they print each of these lines.
+# Checks that the tests pass if this request is refused, and that they print each of these lines.
 check() {
     local request=$1 told line
     shift

@@ -1,8 +1,8 @@
 #!/usr/bin/env python3
-"""Makes docs/NAMES.md: the public names of perf_event_data, with the first sentence of what the code says of each.
+"""Makes docs/NAMES.md: the public names of perf_event_data, each with the first sentence of its documentation.
 
 Usage, at the top of the repository: tools/names/make.py         writes the page
-                                     tools/names/make.py --check says whether the page is as it would be made
+                                     tools/names/make.py --check fails if the page is not as it would be made
 """
 
 import re
@@ -13,8 +13,8 @@ from pathlib import Path
 PAGE = Path("docs/NAMES.md")
 HEAD = """# Names
 
-The public names of `perf_event_data`, each with the first sentence of what the code says of it. `tools/names/make.py` makes this
-page of the sources.
+The public names of `perf_event_data`, each with the first sentence of its documentation. `tools/names/make.py` makes this page from
+the sources.
 """
 TABLE = "\n| Name | Kind | What it is |\n|---|---|---|\n"
 USE = re.compile(r"pub use ([\w:]+?)(?:::(\w+)|::\{([^}]*)\});")
@@ -23,7 +23,7 @@ IMPL = re.compile(r"impl(?:<.*?>)? (\w+)(?:<.*>)? \{$|impl(?:<.*?>)? (\w+)(?:<.*
 
 
 def handed_on(file, crate):
-    """What a file hands on: the crate, the module and the name of each."""
+    """What a file exports again: the crate, the module and the name of each."""
     text = re.sub(r"\n\s+", " ", file.read_text())
     for path, one, many in USE.findall(text):
         home, *modules = path.split("::")
@@ -37,7 +37,7 @@ def modules_of(crate):
 
 
 def sentence(docs):
-    """The first sentence of a documentation, in one line."""
+    """The first sentence of the documentation, in one line."""
     text = " ".join(docs)
     end = re.search(r"\.(?= |$)", text)
     text = text[: end.end()] if end else text
@@ -75,7 +75,7 @@ def row(owner, kind, name, text):
 
 
 def rows_of(crate, name):
-    """The rows of a name, wherever it stands in its crate, and of its functions."""
+    """The rows of a name, wherever it is in its crate, and of its functions."""
     every = [item for file in sorted(Path("crates", crate, "src").glob("*.rt")) for item in items(file)]
     own = [item for item in every if item[0] is None and item[2] == name and item[1] != "const"]
     if not own:
