@@ -65,9 +65,9 @@ IsListed (Err e) = IsTrue (of_layout (kind_of e))
 -- the answer of a frame was listed after the others, and this holds of its reading
 abbrev pub ListsAnswer : perf_event_header → (was now : Pairs) → (whole : Type 0) →
     (Result Record ErrorKind → Type 0) → Type 0
-ListsAnswer h was now whole transition =
+ListsAnswer h was now whole of_result =
     (r : Result Record ParseError) × (now ≡ was ++ (h, r) ∷ [])
-    × (whole → IsBorrowedAnswer r) × IsListed r × transition (error_kinds r)
+    × (whole → IsBorrowedAnswer r) × IsListed r × of_result (error_kinds r)
 
 -- the same of a refusal of the layout: the error that it becomes, with its message
 abbrev pub ListsRefused : perf_event_header → Refusal → (was now : Pairs) → Type 0

@@ -21,7 +21,7 @@ use perf_records::frame_handler::FrameHandler;
 /// How many frames a run handed out, and how it ended.
 #[derive(Debug, Drop)]
 pub struct FrameRun {
-    /// How many frames the handler was handed, each whole or as a header that none follows.
+    /// How many whole frames and `BadFrame`s the handler was handed.
     pub count: usize,
     /// How the run ended, or `None` if its handler ended it.
     pub end: Option<RunEnd>,
@@ -65,8 +65,8 @@ fn hand_next<'p, B: ParseBuf<'p>, E: Endian, H: FrameHandler<'p, E>>(
 ///
 /// A frame that the buffer shows whole is handed out in place, whatever its type; any other is
 /// assembled in memory that the parser keeps for the next. Nothing else is allocated. A header that
-/// no whole frame follows is handed over as that: if its size does not include the header, the next
-/// frame begins after the header. Only a fault of the buffer and a failed allocation for a frame
+/// no whole frame follows is handed out as a `BadFrame`: if its size is below 8, the next frame
+/// begins after the header. Only a fault of the buffer and a failed allocation for a frame
 /// end a run early. Each header is two elementary reads; what a handler reads of a frame is not
 /// counted here.
 pub fn each_frame<'p, B: ParseBuf<'p>, E: Endian, H: FrameHandler<'p, E>>(

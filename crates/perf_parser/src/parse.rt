@@ -17,7 +17,7 @@ pub use perf_buffers::parsebuf::{ParseBuf, ParseBufChunk};
 use perf_reader::read::{HasTransition, ReadFrom};
 use perf_sample_types::registers::Registers;
 
-/// What the parse of a type means.
+/// The contract of parsing a type.
 pub trait Layout: Sized {
     // What a call returns, from the state of the parser before it, and the state after it.
     ghost parses: { Transition Self };
@@ -36,7 +36,7 @@ pub trait Parse<'p, B: ParseBuf<'p>>: Layout {
             parser.old (error_kinds result) parser.new };
 }
 
-/// What this library reads.
+/// Every type that this library reads can be parsed.
 impl<T: HasTransition> Layout for T {
     ghost parses = { T.transition };
 }
@@ -51,7 +51,7 @@ impl<'p, B: ParseBuf<'p>, T: ReadFrom<'p, Outer<B>> + HasTransition> Parse<'p, B
     }
 }
 
-/// What the parse of a frame means, by its header.
+/// The contract of parsing a frame, by its header.
 pub trait FrameLayout: Sized {
     // What a call returns after a header.
     ghost transition_after: { perf_event_header → Transition Self };
@@ -74,20 +74,18 @@ pub trait ParseRecord<'p, B: ParseBuf<'p>>: FrameLayout {
 
 /// The value of registers in plain numbers.
 pub trait RegistersLayout: Sized {
-    // their kind of task, their mask, and a number for each
+    // their ABI, their mask, and a number for each
     ghost shown: { Self → RegistersValue };
 }
 
 /// Registers that are parsed by a mask of the configuration.
 pub trait ParseRegisters<'p, B: ParseBuf<'p>>: RegistersLayout {
-    /// Parses the registers that a task had in its own code, those of the configuration's
-    /// `regs_user`.
+    /// Parses the user-space registers of a task, those of the configuration's `regs_user`.
     fn parse_user<E: Endian>(parser: &mut Parser<B, E>) -> ParseResult<Self>
         ensures call { Call B.source E.order (Reads (λ c. registers_of c.regs_user) Self.shown)
             parser.old (error_kinds result) parser.new };
 
-    /// Parses the registers that the processor had at an interrupt, those of the configuration's
-    /// `regs_intr`.
+    /// Parses the registers at the sampling interrupt, those of the configuration's `regs_intr`.
     fn parse_intr<E: Endian>(parser: &mut Parser<B, E>) -> ParseResult<Self>
         ensures call { Call B.source E.order (Reads (λ c. registers_of c.regs_intr) Self.shown)
             parser.old (error_kinds result) parser.new };

@@ -84,7 +84,7 @@ impl<'p, B: ParseBuf<'p>, E: Endian> Parser<B, E> {
 
 impl<'p, E: Endian> Parser<&'p [u8], E> {
     /// A second parser of the same bytes, under the same configuration. It has made no reads yet.
-    /// It is refused if the order's `duplicate` is.
+    /// It fails if the order's `duplicate` does.
     pub fn clone(&self) -> ParseResult<Parser<&'p [u8], E>>
         ensures buf { IfOk result (λ p. buffer_of p ≡ buffer_of self.now) }
         ensures same { IfOk result (λ p.
@@ -119,7 +119,7 @@ impl<'p, B: ParseBuf<'p>, E: Endian> Parser<B, E> {
 
 // ---- numbers
 impl<'p, B: ParseBuf<'p>, E: Endian> Parser<B, E> {
-    /// The next byte.
+    /// Parses a `u8`.
     #[inline]
     pub fn parse_u8(&mut self) -> ParseResult<u8>
         ensures counted { reads_of self.new ≡ reads_of self.old + 1 }
@@ -133,7 +133,7 @@ impl<'p, B: ParseBuf<'p>, E: Endian> Parser<B, E> {
         }
     }
 
-    /// The number of the next two bytes.
+    /// Parses a `u16`.
     #[inline]
     pub fn parse_u16(&mut self) -> ParseResult<u16>
         ensures counted { reads_of self.new ≡ reads_of self.old + 1 }
@@ -147,7 +147,7 @@ impl<'p, B: ParseBuf<'p>, E: Endian> Parser<B, E> {
         }
     }
 
-    /// The number of the next four bytes.
+    /// Parses a `u32`.
     #[inline]
     pub fn parse_u32(&mut self) -> ParseResult<u32>
         ensures counted { reads_of self.new ≡ reads_of self.old + 1 }
@@ -161,7 +161,7 @@ impl<'p, B: ParseBuf<'p>, E: Endian> Parser<B, E> {
         }
     }
 
-    /// The number of the next eight bytes.
+    /// Parses a `u64`.
     #[inline]
     pub fn parse_u64(&mut self) -> ParseResult<u64>
         ensures counted { reads_of self.new ≡ reads_of self.old + 1 }
@@ -253,7 +253,7 @@ impl<'p, B: ParseBuf<'p>, E: Endian> Parser<B, E> {
 
 // ---- lists of values, and values that may be absent
 impl<'p, B: ParseBuf<'p>, E: Endian> Parser<B, E> {
-    /// What a closure parses.
+    /// Calls `parse` with this parser, and returns its result.
     #[inline]
     pub fn parse_with<T, F: FnOnce(&mut Parser<B, E>) -> ParseResult<T>>(
         &mut self,
@@ -265,7 +265,7 @@ impl<'p, B: ParseBuf<'p>, E: Endian> Parser<B, E> {
         parse(self)
     }
 
-    /// What a closure parses, if the condition holds; otherwise nothing is read.
+    /// Calls `parse` if the condition holds; otherwise it reads nothing and returns `Ok(None)`.
     #[inline]
     pub fn parse_if_with<T, F: FnOnce(&mut Parser<B, E>) -> ParseResult<T> + Drop>(
         &mut self,
@@ -306,9 +306,9 @@ impl<'p, B: ParseBuf<'p>, E: Endian> Parser<B, E> {
     /// `len` values of a type, one after another. The error is that of the first one that is
     /// refused.
     ///
-    /// A claimed count by itself allocates nothing: the capacity that is reserved first is for at
-    /// most one item for each byte that is left, or for 16,384 if the buffer does not report how
-    /// many are. No memory is taken if `len` is 0.
+    /// `len` alone never decides the allocation: capacity is reserved for at most one item for each
+    /// byte that is left, or for 16,384 if the buffer does not report how many are. No memory is
+    /// taken if `len` is 0.
     pub fn parse_repeated<P: Parse<'p, B> + Drop>(&mut self, len: usize) -> ParseResult<Vec<P>>
         ensures nothing { len ≡ 0 → IsOk result }
         ensures call { CallOnly B.source E.order self.old (error_kinds result) self.new }
@@ -359,7 +359,7 @@ impl<'p, B: ParseBuf<'p>, E: Endian> Parser<B, E> {
 // ---- visits of frames
 impl<'p, B: ParseBuf<'p>, E: Endian> Parser<B, E> {
     /// Hands the record of the next frame, whose header was read before, to a visitor, and returns
-    /// what that makes of it.
+    /// the visitor's output.
     ///
     /// The record is read under the header's `misc`. A record that is accepted is visited once, and
     /// one that is refused is not visited. After a refusal exactly the frame is taken, or all that
@@ -413,6 +413,10 @@ impl<'p, B: ParseBuf<'p>, E: Endian> Parser<B, E> {
     }
 
     /// The same as [`Parser::parse_record_with_header`], of a record whose header comes next.
+    ///
+    /// `Eof` is returned at the end of the input, and also for a record that is cut short: a loop
+    /// that stops at the first `Eof` loses the records after such a one. [`crate::each_frame`] and
+    /// [`crate::read_records`] tell the two apart.
     #[inline]
     pub fn parse_record<V: Visitor<'p>>(&mut self, visitor: V) -> ParseResult<V::Output>
         // A header that is missing, or whose size does not include it, is refused before any memory

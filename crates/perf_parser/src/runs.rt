@@ -46,8 +46,8 @@ pub enum RunEnd {
     Done,
     /// Fewer bytes were left than a header has.
     CutHeader,
-    /// The buffer failed, or an allocation did. A beginning of the frame that was being read is
-    /// consumed; over a slice, where only an allocation can fail, none or all of it.
+    /// The buffer failed, or an allocation did. A prefix of the frame that was being read may have
+    /// been taken; over a slice, where only an allocation can fail, none or all of it.
     Fault(ParseError),
 }
 
@@ -342,8 +342,9 @@ pub(crate) fn end_of<'p, B: ParseBuf<'p>, E: Endian>(
 
 /// Reads the records of the next frames, at most `limit`.
 ///
-/// A refused frame costs that one answer, and the next frame begins at its end. Only a fault of the
-/// buffer and a failed allocation end a run early, and they are not listed.
+/// A refused frame costs that one answer, and the next frame begins at its end. Besides the end of
+/// the input, only a fault of the buffer and a failed allocation end a run before its limit; they
+/// are not listed.
 pub fn read_records<'p, B: ParseBuf<'p>, E: Endian>(
     parser: &mut Parser<B, E>,
     limit: usize,

@@ -100,8 +100,8 @@ reads_after c o h bytes = split_reads c o h bytes + record_reads c o h (split_af
 -- the same of a frame's own bytes, beginning with the header
 abbrev pub of_frame : {V : Type 0} → (perf_event_header → List ℕ → Result V ErrorKind) →
     Order → List ℕ → Result V ErrorKind
-of_frame transition o frame =
-    if nat_lt (length frame) 8 then Err Eof else transition (header_of o frame) (drop 8 frame)
+of_frame result_after o frame =
+    if nat_lt (length frame) 8 then Err Eof else result_after (header_of o frame) (drop 8 frame)
 
 -- how a frame is split, by its bytes
 abbrev pub split_of_frame : Configuration → Order → List ℕ → Result FrameParts ErrorKind
@@ -117,7 +117,7 @@ frame_reads after o frame =
     layout_reads o header frame
     + (if nat_lt (length frame) 8 then 0 else after (header_of o frame) (drop 8 frame))
 
--- The results of a stream: the header and the result of each of its frames.
+-- The answers of a stream: the header and the answer of each of its frames.
 abbrev pub answers : Configuration → Order → List ℕ →
     List (perf_event_header × Result RecordValue ErrorKind)
 answers c o bytes = map (λ frame. (header_of o frame, answer_of_frame c o frame)) (frames o bytes)
@@ -127,10 +127,10 @@ answers c o bytes = map (λ frame. (header_of o frame, answer_of_frame c o frame
 -- A call returns what a definition gives, seen through `view`, takes n bytes, or all that are left
 -- if there are fewer, and makes k reads. This does not cover a fault or out of memory.
 abbrev pub AnswersExactly : {X V : Type 0} → (X → V) → Result V ErrorKind → (n k : ℕ) → Transition X
-AnswersExactly view transition n k old (Ok x) new =
-    (transition ≡ Ok (view x)) × (new.source.left ≡ drop n old.source.left) × (new.reads ≡ old.reads + k)
-AnswersExactly view transition n k old (Err e) new = IsTrue (of_layout e) →
-    (transition ≡ Err e) × (new.source.left ≡ drop n old.source.left) × (new.reads ≡ old.reads + k)
+AnswersExactly view expected n k old (Ok x) new =
+    (expected ≡ Ok (view x)) × (new.source.left ≡ drop n old.source.left) × (new.reads ≡ old.reads + k)
+AnswersExactly view expected n k old (Err e) new = IsTrue (of_layout e) →
+    (expected ≡ Err e) × (new.source.left ≡ drop n old.source.left) × (new.reads ≡ old.reads + k)
 
 -- the parts of a frame that a call returns: the bytes of the body, and the metadata
 abbrev pub answered_parts : ParseBufCursor × MetadataValue → FrameParts

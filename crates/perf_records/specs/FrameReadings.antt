@@ -47,4 +47,4 @@ FrameGives gives h c o bytes borrowed (Err e) =
 
 -- true was returned, and the place contains the event's sample
 abbrev pub PutsSample : Event → Bool → Sample → Type 0
-PutsSample outcome put sample = (put ≡ true) × IsSampleIn outcome sample
+PutsSample e put sample = (put ≡ true) × IsSampleIn e sample

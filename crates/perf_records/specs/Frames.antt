@@ -1,4 +1,4 @@
--- Frames: how a stream of records is divided, each record by the size in its header (`struct
+-- Frames: how a stream is divided, each frame by the size in its header (`struct
 -- perf_event_header`). A list of bytes is cut into the bytes of its frames. Nothing here has a
 -- position or a state.
 use Rattle.std.specs.Prelude.{ℕ, zero, suc, List, [], ◌∷◌, length, take, drop, nat_lt}

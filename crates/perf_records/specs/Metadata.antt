@@ -1,4 +1,4 @@
--- The metadata of a record: from the `struct perf_event_header` before it and the sample id after
+-- The metadata of a frame: from the `struct perf_event_header` before it and the sample id after
 -- it, as perf_event.h lays out records under `sample_id_all`.
 use Rattle.std.specs.Prelude.{ℕ, Bool, ◌==◌, ◌&&◌, not, nat_lt, if◌then◌else◌}
 use Rattle.perf_base.specs.Configuration.{Configuration}

@@ -1,4 +1,4 @@
--- What a run passes on at the beginning of a frame.
+-- What a run hands out at the beginning of a frame.
 use Rattle.std.specs.Prelude.{◌≡◌, ℕ, IsTrue, List, Bool, Result, Ok, Err, length, take, drop, nat_lt, if◌then◌else◌}
 use Rattle.perf_base.specs.Header.{header_of}
 use Rattle.perf_base.specs.Order.{Order}

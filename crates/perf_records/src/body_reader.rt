@@ -51,7 +51,7 @@ pub trait BodyReader<'p, S>: OfBody<'p, S> {
         state: &mut S,
     ) -> (ReadResult<Self::Output>, ReadCounter)
         ensures answer { Self.reads metadata.ty →
-            GivesWholeBody (λ outcome output. Self.gives outcome state.old output state.new) metadata
+            GivesWholeBody (λ e output. Self.gives e state.old output state.new) metadata
             (E.order (endian_of config)) (body (configuration_of config) metadata.ty)
             (chunk_bytes bytes.entry) (chunk_is_borrowed bytes.entry) (kinds result.0) result.1 }
         ensures faults { Self.reads metadata.ty → is_external (refused (kinds result.0)) ≡ false }
@@ -70,7 +70,7 @@ pub trait ReadBody<'p, S, I: Input<'p>>: OfBody<'p, S> {
     ) -> ReadResult<Self::Output>
         requires { IsTrue (I.source (input_of reader.old)).told }
         ensures call { Self.reads metadata.ty → Call I.source E.order
-            (GivesBody (λ outcome output. Self.gives outcome state.old output state.new) metadata)
+            (GivesBody (λ e output. Self.gives e state.old output state.new) metadata)
             reader.old (kinds result) reader.new };
 }
 
@@ -87,7 +87,7 @@ fn read_from<'p, S, I: Input<'p> + Drop, E: Endian, M: ReadBody<'p, S, I>>(
     requires told { IsTrue (I.source bytes).told }
     requires inside { (I.source bytes).can_fault ≡ false }
     ensures answer { M.reads metadata.ty →
-        GivesWholeBody (λ outcome output. M.gives outcome state.old output state.new) metadata
+        GivesWholeBody (λ e output. M.gives e state.old output state.new) metadata
         (E.order (endian_of config)) (body (configuration_of config) metadata.ty)
         (I.source bytes).left (I.source bytes).whole (kinds result.0) result.1 }
     ensures faults { M.reads metadata.ty → is_external (refused (kinds result.0)) ≡ false }
@@ -126,7 +126,7 @@ impl<'p, V: Visitor<'p>> OfBody<'p, ()> for ByVisitor<V> {
 
     ghost reads = { λ _. ⊤ };
 
-    ghost gives = { λ outcome _ output _. V.gives outcome output };
+    ghost gives = { λ e _ output _. V.gives e output };
 }
 
 impl<'p, V: Visitor<'p>> BodyReader<'p, ()> for ByVisitor<V> {
@@ -165,7 +165,7 @@ impl<'p> OfBody<'p, ()> for AsRecord {
 
     ghost reads = { λ _. ⊤ };
 
-    ghost gives = { λ outcome _ output _. IsRecordOf outcome output };
+    ghost gives = { λ e _ output _. IsRecordOf e output };
 }
 
 impl<'p> BodyReader<'p, ()> for AsRecord {
@@ -213,7 +213,7 @@ impl<'p> OfBody<'p, ()> for AsSample {
 
     ghost reads = { λ ty. ty ≡ 9 };
 
-    ghost gives = { λ outcome _ output _. IsSampleOf outcome output };
+    ghost gives = { λ e _ output _. IsSampleOf e output };
 }
 
 impl<'p> BodyReader<'p, ()> for AsSample {
@@ -254,7 +254,7 @@ impl<'p> OfBody<'p, Sample<'p>> for IntoSample {
 
     ghost reads = { λ ty. ty ≡ 9 };
 
-    ghost gives = { λ outcome _ _ now. IsSampleIn outcome now };
+    ghost gives = { λ e _ _ now. IsSampleIn e now };
 }
 
 impl<'p> BodyReader<'p, Sample<'p>> for IntoSample {

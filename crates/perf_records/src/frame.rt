@@ -67,7 +67,7 @@ impl<'c, 'p> Frame<'c, 'p> {
         state: &mut S,
     ) -> (ReadResult<M::Output>, ReadCounter)
         ensures answer { M.reads self.entry.header.type_ →
-            GivesFrameBytes (λ outcome output. M.gives outcome state.old output state.new)
+            GivesFrameBytes (λ e output. M.gives e state.old output state.new)
             self.entry.header (configuration_of config.now) (E.order (endian_of config.now))
             (chunk_bytes self.entry.rest) (chunk_is_borrowed self.entry.rest) result.0 result.1 }
         ensures no_room { HasNoRoom self.entry.header (configuration_of config.now) →

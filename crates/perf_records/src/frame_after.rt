@@ -40,7 +40,7 @@ impl<'p, S, E: Endian, M: BodyReader<'p, S>> ConfiguredFrameReader<'p, E, S> for
     ghost len = { λ frame. body_length frame.header };
 
     ghost gives = { λ frame settings order bytes borrowed made was output now.
-        M.reads frame.header.type_ → words.GivesFrameBytes (λ outcome x. M.gives outcome was x now)
+        M.reads frame.header.type_ → words.GivesFrameBytes (λ e x. M.gives e was x now)
         frame.header settings order bytes borrowed output made };
 
     #[inline]
@@ -72,7 +72,7 @@ pub fn read_after<'p, S, B: ParseBuf<'p>, E: Endian, M: BodyReader<'p, S>>(
         words.MovesWithin (B.source (buffer_of reader.old)) (body_length header)
         (B.source (buffer_of reader.new)) }
     ensures event { IfOk result (λ output. words.BelongsTo
-        (λ outcome x. M.gives outcome state.old x state.new) header
+        (λ e x. M.gives e state.old x state.new) header
         (B.source (buffer_of reader.old)).whole output) }
     ensures whole_memory { IsTrue (B.source (buffer_of reader.old)).whole →
         words.wants_memory header.type_ ≡ false → words.TakesNoMemory (kinds result) }
@@ -100,7 +100,7 @@ pub fn read_after<'p, S, B: ParseBuf<'p>, E: Endian, M: BodyReader<'p, S>>(
         (B.source (buffer_of reader.new)).left
         ≡ drop (body_length header) (B.source (buffer_of reader.old)).left) }
     ensures call { Call (λ (o : Outer B). B.source o.buf) E.order
-        (words.GivesFrameAfter (λ outcome x. M.gives outcome state.old x state.new) header)
+        (words.GivesFrameAfter (λ e x. M.gives e state.old x state.new) header)
         reader.old (kinds result) reader.new }
 {
     if header.size < 8 {

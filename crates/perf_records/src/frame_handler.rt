@@ -14,8 +14,8 @@ use perf_base::error::{ErrorKind, ParseError};
 use perf_base::refusal::{Kept, Refusal};
 use perf_base::sys::perf_event_header;
 
-/// A header without a whole frame after it: its size does not count the header, or fewer bytes are
-/// left than it specifies.
+/// A header without a whole frame after it: its `size` is below 8, or fewer bytes are left than it
+/// states.
 #[derive(Copy, Clone, Debug)]
 pub struct BadFrame {
     pub(crate) header: perf_event_header,
@@ -61,7 +61,7 @@ impl BadFrame {
         self.refusal.kind()
     }
 
-    /// The error that a run returns for it.
+    /// The error that `read_records` lists for it.
     pub fn error(&self) -> ParseError
         ensures { IsAnswerOf result self.now.refusal }
     {

@@ -44,7 +44,7 @@ impl<'c, 'p> Frame<'c, 'p> {
         state: &mut S,
     ) -> ParseResult<M::Output>
         ensures { M.reads self.now.header.type_ → FrameGives
-            (λ outcome output. M.gives outcome state.old output state.new) self.now.header
+            (λ e output. M.gives e state.old output state.new) self.now.header
             (configuration_of config.now) (E.order (endian_of config.now))
             (chunk_bytes self.now.rest) (chunk_is_borrowed self.now.rest) result }
     {
@@ -137,7 +137,7 @@ impl<'c, 'p> Frame<'c, 'p> {
         sample: &mut Sample<'p>,
     ) -> ParseResult<bool>
         ensures sample { self.now.header.type_ ≡ 9 → FrameGives
-            (λ outcome put. PutsSample outcome put sample.new) self.now.header (configuration_of config.now)
+            (λ e put. PutsSample e put sample.new) self.now.header (configuration_of config.now)
             (E.order (endian_of config.now)) (chunk_bytes self.now.rest) (chunk_is_borrowed self.now.rest) result }
         ensures other { (self.now.header.type_ ≡ 9 → ⊥) →
             (result ≡ Ok false) × (sample.new ≡ sample.old) }

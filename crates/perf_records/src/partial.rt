@@ -44,7 +44,7 @@ pub trait PartialVisitor: Drop + Sized {
     fn visit_unimplemented(self, metadata: RecordMetadata) -> Self::Output
         ensures { left_out metadata result };
 
-    /// An executable mapping was made (`PERF_RECORD_MMAP`).
+    /// A memory mapping was made (`PERF_RECORD_MMAP`).
     #[inline]
     fn visit_mmap(self, content: Mmap<'_>, metadata: RecordMetadata) -> Self::Output
         ensures { GivesOrLeavesOut gives left_out
@@ -286,7 +286,7 @@ pub struct Partial<V>(pub V);
 impl<'a, V: PartialVisitor> Visitor<'a> for Partial<V> {
     type Output = V::Output;
 
-    ghost gives = { λ outcome output. GivesOrLeavesOut V.gives V.left_out outcome output };
+    ghost gives = { λ e output. GivesOrLeavesOut V.gives V.left_out e output };
 
     #[inline]
     fn visit_unimplemented(self, metadata: RecordMetadata) -> Self::Output {

@@ -30,7 +30,7 @@ use std::boxed::Box;
 /// A record of any type, as perf_event_open(2) names them.
 #[derive(Debug, Drop)]
 pub enum Record<'a> {
-    /// An executable mapping was made.
+    /// A memory mapping was made.
     Mmap(Mmap<'a>),
     /// Events were lost.
     Lost(Lost),
@@ -46,7 +46,7 @@ pub enum Record<'a> {
     Fork(Fork),
     /// A counter of a task was read.
     Read(Read),
-    /// An event happened.
+    /// A sample of an event.
     Sample(Box<Sample<'a>>),
     /// A file was mapped, with the file's identity.
     Mmap2(Mmap2<'a>),
@@ -58,7 +58,7 @@ pub enum Record<'a> {
     LostSamples(LostSamples),
     /// A task was scheduled on its CPU or off it.
     Switch,
-    /// Which task another one handed its CPU to, or got it from.
+    /// A context switch on a CPU, with the other task.
     SwitchCpuWide(SwitchCpuWide),
     /// The namespaces of a task.
     Namespaces(Namespaces<'a>),
@@ -76,7 +76,7 @@ pub enum Record<'a> {
     Unknown {
         /// The type in its header.
         ty: u32,
-        /// The bytes between its header and its sample id.
+        /// The bytes after its header, without its sample id: all of them for types from 64 on.
         bytes: CowSlice<'a, u8>,
     },
 }

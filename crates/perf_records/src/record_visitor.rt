@@ -54,7 +54,7 @@ pub struct OrError;
 impl<'a> Answer<'a> for OrError {
     type Output = ParseResult<Record<'a>>;
 
-    ghost gives = { λ outcome output. words.GivesRecord outcome (words.error_kinds output) };
+    ghost gives = { λ e output. words.GivesRecord e (words.error_kinds output) };
 
     #[inline]
     #[tactic(auto, unfolding(crate::specs::Gives::GivesRecord))]
@@ -76,7 +76,7 @@ pub struct OrRefusal;
 impl<'a> Answer<'a> for OrRefusal {
     type Output = ReadResult<Record<'a>>;
 
-    ghost gives = { λ outcome output. words.GivesRecord outcome (words.kinds output) };
+    ghost gives = { λ e output. words.GivesRecord e (words.kinds output) };
 
     #[inline]
     #[tactic(auto, unfolding(crate::specs::Gives::GivesRecord))]
@@ -127,7 +127,7 @@ impl Recording<OrRefusal> {
 impl<'a, A: Answer<'a>> Visitor<'a> for Recording<A> {
     type Output = A::Output;
 
-    ghost gives = { λ outcome output. A.gives outcome output };
+    ghost gives = { λ e output. A.gives e output };
 
     // never called
     #[inline]

@@ -43,7 +43,7 @@ pub trait Visitor<'a>: Drop {
     /// each visitor specifies its own result.
     fn visit_unimplemented(self, metadata: RecordMetadata) -> Self::Output;
 
-    /// An executable mapping was made (`PERF_RECORD_MMAP`).
+    /// A memory mapping was made (`PERF_RECORD_MMAP`).
     ///
     /// In a visitor that leaves it out: `self.visit_unimplemented(metadata)`.
     fn visit_mmap(self, content: Mmap<'a>, metadata: RecordMetadata) -> Self::Output
