@@ -3,15 +3,7 @@ use Rattle.std.specs.Prelude.{ℕ, Bool, true, false, List, [], ◌∷◌, codes
 use Rattle.std.specs.Prelude.{if◌then◌else◌, option_map}
 use Rattle.std.specs.Str.{bytes_eq}
 use Rattle.perf_count.specs.declared.command.Command.{Command}
-use Rattle.perf_count.specs.declared.command.OrderName.{OrderName}
-use Rattle.perf_count.specs.declared.command.OrderName.TheVariants.{Little, Big, Native}
-
--- the order that a word names
-abbrev pub order_named : List ℕ → Option OrderName
-order_named word =
-    if bytes_eq word (codes "little") then Some Little
-    else (if bytes_eq word (codes "big") then Some Big
-    else (if bytes_eq word (codes "native") then Some Native else None))
+use Rattle.perf_text.specs.Orders.{order_named}
 
 -- what an order's name asks for
 abbrev pub asked : Bool → List ℕ → Option Command

@@ -1,15 +1,6 @@
 //! What the program is asked to do.
 
-/// The name of a byte order.
-#[derive(Copy, Clone, Debug, PartialEq, Eq)]
-pub enum OrderName {
-    /// The lowest byte first.
-    Little,
-    /// The highest byte first.
-    Big,
-    /// The machine's own.
-    Native,
-}
+pub use perf_text::order::OrderName;
 
 /// What the program is asked to do.
 #[derive(Copy, Clone, Debug, PartialEq, Eq)]

@@ -1,7 +1,7 @@
 //! The words of the command line.
 
 ghost use Rattle.std.specs.Prelude.{◌≡◌, map, string_bytes};
-ghost use Rattle.perf_count.specs.Words.{order_named, asked, command_of};
+ghost use Rattle.perf_count.specs.Words.{asked, command_of};
 
 use crate::command::{Command, OrderName};
 
@@ -20,17 +20,6 @@ pub fn command(words: &[String]) -> Option<Command>
 fn asked(order: &str, with_attr: bool) -> Option<Command>
     ensures { result ≡ asked with_attr order.now }
 {
-    let order = order_named(order)?;
+    let order = OrderName::of(order)?;
     Some(Command { order, with_attr })
-}
-
-fn order_named(word: &str) -> Option<OrderName>
-    ensures { result ≡ order_named word.now }
-{
-    match word {
-        "little" => Some(OrderName::Little),
-        "big" => Some(OrderName::Big),
-        "native" => Some(OrderName::Native),
-        _ => None,
-    }
 }

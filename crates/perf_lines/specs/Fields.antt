@@ -2,6 +2,7 @@
 use Rattle.std.specs.Prelude.{ℕ, ◌+◌, ◌-◌, ◌/◌, ◌%◌, List, [], ◌∷◌, ◌++◌, nat_lt, codes, decimal}
 use Rattle.std.specs.Prelude.{Option, Some, None, if◌then◌else◌}
 use Rattle.std.specs.List.{flat_map}
+pub use Rattle.perf_text.specs.Numbers.{present}
 
 -- the hexadecimal digit of a number below sixteen: 48 is `0`, and 97 is `a`
 abbrev pub hex_digit : ℕ → ℕ
@@ -22,11 +23,6 @@ field name has = name ++ (codes "=" ++ has)
 -- a name, `=` and a number
 abbrev pub number : List ℕ → ℕ → List ℕ
 number name n = field name (decimal n)
-
--- a value as it is written, or nothing if it is absent
-abbrev pub present : {X : Type 0} → (X → List ℕ) → Option X → List ℕ
-present written (Some x) = written x
-present written None = []
 
 -- a field that may be absent, as a list of at most one word
 abbrev pub word_as : {X : Type 0} → List ℕ → (X → List ℕ) → Option X → List (List ℕ)

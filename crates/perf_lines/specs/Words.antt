@@ -6,15 +6,7 @@ use Rattle.std.specs.List.{list_all}
 use Rattle.std.specs.Str.{bytes_eq}
 use Rattle.std.specs.Str.Parse.{digits_value}
 use Rattle.perf_lines.specs.declared.command.Command.{Command}
-use Rattle.perf_lines.specs.declared.command.OrderName.{OrderName}
-use Rattle.perf_lines.specs.declared.command.OrderName.TheVariants.{Little, Big, Native}
-
--- the byte order of that name
-abbrev pub order_named : List ℕ → Option OrderName
-order_named word =
-    if bytes_eq word (codes "little") then Some Little
-    else (if bytes_eq word (codes "big") then Some Big
-    else (if bytes_eq word (codes "native") then Some Native else None))
+use Rattle.perf_text.specs.Orders.{order_named}
 
 -- a limit: decimal digits, at least one, whose value fits 64 bits
 abbrev pub limit_named : List ℕ → Option ℕ

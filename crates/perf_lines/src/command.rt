@@ -1,15 +1,6 @@
 //! The arguments of the program.
 
-/// The name of a byte order.
-#[derive(Copy, Clone, Debug, PartialEq, Eq)]
-pub enum OrderName {
-    /// The least significant byte first.
-    Little,
-    /// The most significant byte first.
-    Big,
-    /// The machine's own order.
-    Native,
-}
+pub use perf_text::order::OrderName;
 
 /// What the arguments of the program ask for.
 #[derive(Copy, Clone, Debug, PartialEq, Eq)]

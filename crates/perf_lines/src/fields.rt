@@ -5,7 +5,7 @@ ghost use Rattle.std.specs.Prelude.{OnOk, option_map, codes, IsTrue, nat_le};
 ghost use Rattle.std.specs.List.{flat_map, list_all};
 ghost use Rattle.perf_lines.specs.Fields.{hex_digit, hex, listed, present};
 
-use crate::strip::{MOST_DIGITS, ROOM, Strip};
+use perf_text::strip::{MOST_DIGITS, ROOM, Strip};
 use std::alloc::AllocError;
 
 // How many numbers fit a strip, each with a comma before it.

@@ -10,5 +10,4 @@ pub mod output;
 mod records;
 pub mod run;
 mod sample;
-mod strip;
 pub mod words;

@@ -8,10 +8,10 @@ ghost use Rattle.perf_lines.specs.Fields.{spaced};
 ghost use Rattle.perf_lines.specs.Text as shown;
 
 use crate::records::push_record;
-use crate::strip::Strip;
 use perf_event_data::Record;
 use perf_event_data::parse::{ErrorKind, ParseResult};
 use perf_event_data::sys::perf_event_header;
+use perf_text::strip::Strip;
 use std::alloc::{AllocError, Global};
 
 /// The line of one frame, without its line feed: its number, its header, and its record or error.

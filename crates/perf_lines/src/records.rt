@@ -8,12 +8,12 @@ ghost use Rattle.perf_lines.specs.Fields.{spaced, listed};
 
 use crate::fields::{push_fields, push_hex, push_numbers};
 use crate::sample::push_sample;
-use crate::strip::Strip;
 use bitflags::Flags;
 use perf_event_data::{
     Aux, AuxOutputHwId, BpfEvent, CGroup, Comm, Exit, ITraceStart, KSymbol, Lost, LostSamples,
     Mmap, Mmap2, NamespaceEntry, Namespaces, Read, Record, SwitchCpuWide, TextPoke, Throttle,
 };
+use perf_text::strip::Strip;
 use std::alloc::AllocError;
 
 pub(crate) fn push_record(text: &mut String, found: &Record) -> Result<(), AllocError>

@@ -8,9 +8,9 @@ ghost use Rattle.perf_lines.specs.Fields.{spaced, listed, present};
 ghost use Rattle.perf_lines.specs.SampleText as shown;
 
 use crate::fields::{push_bytes, push_items, push_list, push_number, push_numbers, push_present};
-use crate::strip::Strip;
 use bitflags::Flags;
 use perf_event_data::{BranchEntry, DataSource, GroupEntry, ReadGroup, Registers, Sample, Txn};
+use perf_text::strip::Strip;
 use std::alloc::AllocError;
 
 pub(crate) fn push_sample(text: &mut String, sample: &Sample) -> Result<(), AllocError>

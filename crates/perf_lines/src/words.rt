@@ -3,7 +3,7 @@
 ghost use Rattle.std.specs.Prelude.{◌≡◌, map, string_bytes};
 ghost use Rattle.std.specs.Char.{is_ascii_digit};
 ghost use Rattle.std.specs.List.{list_all};
-ghost use Rattle.perf_lines.specs.Words.{order_named, limit_named, asked, command_of};
+ghost use Rattle.perf_lines.specs.Words.{limit_named, asked, command_of};
 ghost use Rattle.perf_lines.specs.Words.{unlimited, unlimited_command_of};
 
 use crate::command::{Command, OrderName};
@@ -39,7 +39,7 @@ fn asked(order: &str, limit: &str, with_attr: bool) -> Option<Command>
     ensures { result ≡ asked with_attr order.now limit.now }
 {
     Some(Command {
-        order: order_named(order)?,
+        order: OrderName::of(order)?,
         limit: limit_named(limit)?,
         with_attr,
     })
@@ -49,21 +49,10 @@ fn unlimited(order: &str, with_attr: bool) -> Option<Command>
     ensures { result ≡ unlimited with_attr order.now }
 {
     Some(Command {
-        order: order_named(order)?,
+        order: OrderName::of(order)?,
         limit: usize::MAX,
         with_attr,
     })
-}
-
-fn order_named(word: &str) -> Option<OrderName>
-    ensures { result ≡ order_named word.now }
-{
-    match word {
-        "little" => Some(OrderName::Little),
-        "big" => Some(OrderName::Big),
-        "native" => Some(OrderName::Native),
-        _ => None,
-    }
 }
 
 // `parse` alone would also accept a sign.

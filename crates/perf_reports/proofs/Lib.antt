@@ -4,6 +4,5 @@ mod ControlLines
 mod Counted
 mod Escaped
 mod FramePrinted
-mod Hex
 mod Inode
 mod Printed

@@ -4,7 +4,6 @@
 //! What a program prints of itself, `perfrec` too, is `usage`.
 #![tactic(auto)]
 
-mod backward;
 mod counting;
 pub mod counts;
 mod frame_printer;

@@ -5,8 +5,7 @@ ghost use Rattle.std.specs.Char.{is_ascii};
 ghost use Rattle.std.specs.List.{flat_map, list_all};
 ghost use Rattle.perf_reports.specs.TaskLines as printed;
 
-use crate::backward::{ROOM, push_written, put_str};
-use crate::tasks::put_hex_byte;
+use perf_text::strip::Strip;
 use std::alloc::AllocError;
 
 // Appends the bytes of a name as text. Each byte of a control character or a backslash, and each
@@ -86,8 +85,8 @@ fn push_escape(text: &mut String, byte: u8) -> Result<(), AllocError>
     ensures { OnOk result (string_bytes text.new
         ≡ string_bytes text.old ++ printed.escaped_byte byte) }
 {
-    let mut buffer = [0; ROOM];
-    let digits = put_hex_byte(&mut buffer, ROOM, byte);
-    let start = put_str(&mut buffer, digits, "\\x");
-    push_written(text, &buffer, start)
+    let mut strip = Strip::new();
+    strip.put_hex_byte(byte);
+    strip.put("\\x");
+    text.push_str(strip.text())
 }

@@ -22,7 +22,7 @@ loop-some-preserved c =
     let some : List ℕ = c.in-Some.some.now in
     let rest : List ℕ = chunks_rest c.next.new.self in record {
       size = c.in-Some.ensures.steps.0 ∙ c.loop-some.invariant.size;
-      written = ap (λ s. s ++ flat_map entry rest) (c.in_ok-push_written.ensures ∙ ap (λ s. text ++ s) c.put_entries-start.ensures.written) ∙ append_assoc text (flat_map entry some) (flat_map entry rest)
+      written = ap (λ s. s ++ flat_map entry rest) (c.in_ok-push_str.ensures.bytes ∙ ap (λ s. text ++ s) (c.text.ensures ∙ c.put_entries.ensures)) ∙ append_assoc text (flat_map entry some) (flat_map entry rest)
           ∙ ap (λ xs. text ++ xs) (sym (flat_map-append entry some rest) ∙ ap (flat_map entry) (sym c.in-Some.ensures.steps.1.0))
           ∙ c.loop-some.invariant.written;
     }

@@ -6,6 +6,6 @@ use Rattle.perf_reports.proofs.samples.push_entries.Given as goal
 
 abbrev pub invariant-loop-some : goal.invariant-loop-some
 invariant-loop-some l = record {
-  size : chunks_size l.some-iterator ≡ 16;
+  size : chunks_size l.some-iterator ≡ 13;
   written : string_bytes l.text ++ flat_map entry (chunks_rest l.some-iterator) ≡ string_bytes l.initial.text ++ flat_map entry l.entries;
 }

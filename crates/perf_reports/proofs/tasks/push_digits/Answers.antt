@@ -20,9 +20,11 @@ pub loop-some-preserved : goal.loop-some-preserved
 loop-some-preserved c =
     let text : List ℕ = string_bytes c.loop-some.text in
     let some : List ℕ = c.in-Some.some.now in
-    let rest : List ℕ = chunks_rest c.next.new.self in record {
+    let rest : List ℕ = chunks_rest c.next.new.self in
+    let digits : List ℕ = flat_map hex_byte some in
+    let written : c.text.result.now ≡ digits = c.text.ensures ∙ c.put_hex_bytes.ensures.text ∙ ap (λ s. digits ++ s) c.clear.ensures.text ∙ append-nil digits in record {
       size = c.in-Some.ensures.steps.0 ∙ c.loop-some.invariant.size;
-      written = ap (λ s. s ++ flat_map hex_byte rest) (c.in_ok-push_written.ensures ∙ ap (λ s. text ++ s) c.put_bytes-start.ensures.written) ∙ append_assoc text (flat_map hex_byte some) (flat_map hex_byte rest)
+      written = ap (λ s. s ++ flat_map hex_byte rest) (c.in_ok-push_str.ensures.bytes ∙ ap (λ s. text ++ s) written) ∙ append_assoc text digits (flat_map hex_byte rest)
           ∙ ap (λ xs. text ++ xs) (sym (flat_map-append hex_byte some rest) ∙ ap (flat_map hex_byte) (sym c.in-Some.ensures.steps.1.0))
           ∙ c.loop-some.invariant.written;
     }

@@ -9,6 +9,6 @@ returns c =
     let r = mmap2_value c.args.map.now in
     let old : List ℕ = string_bytes c.args.text.now in
     let e : string_bytes c.push_protection.new.text ++ escaped c.as_slice.result.now ≡ old ++ mmap2_line r =
-    rw (← c.as_slice.ensures, c.in_ok-push_protection.ensures, c.in_ok-push_file.ensures, c.in_ok-push_written.ensures, c.put_head-start.ensures.written, c.put_place-place.ensures.written, c.put_str-space.ensures.written)
+    rw (← c.as_slice.ensures, c.in_ok-push_protection.ensures, c.in_ok-push_file.ensures, c.in_ok-push_str.ensures.bytes, c.text.ensures, c.put_head.ensures.text, c.put_place.ensures.text, c.put.ensures.text, c.new-strip.ensures.text)
     (mapped old (codes "mmap2") r.pid r.tid (place r.addr r.len r.pgoff) (file r.detail) (protection r.prot r.flags) (escaped c.as_slice.result.now)) in
     appended c.push_name.result _ _ _ e c.push_name.ensures
