@@ -19,8 +19,8 @@
 //! standard error. `--help` alone prints the usage, with the status 0.
 #![tactic(auto)]
 
+mod args;
 mod command;
-mod words;
 
 use crate::command::{Command, OrderName};
 use anyhow::{Result, bail};
@@ -29,7 +29,7 @@ use perf_event_data::endian::{Big, Little, Native};
 use perf_event_data::parse::{ErrorKind, ParseError, ParseResult};
 use perf_reports::counts::Counts;
 use perf_reports::streams::count_stream;
-use perf_reports::usage::print_usage;
+use perf_text::usage::print_usage;
 use std::alloc::Global;
 use std::env;
 use std::io::{BufReader, Read};
@@ -47,7 +47,7 @@ const INPUT_ROOM: usize = 1 << 20;
 
 fn main(rt: HostRuntime) -> Result<ExitCode> {
     let words: Vec<String> = env::args(&rt)?.skip(1).collect(rt.alloc())?;
-    let Some(command) = words::command(&words) else {
+    let Some(command) = args::command(&words) else {
         return Ok(ExitCode::from(print_usage(&rt, &words, USAGE)?));
     };
     let input = BufReader::with_capacity(rt.alloc(), INPUT_ROOM, rt.stdin())?;

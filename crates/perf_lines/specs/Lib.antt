@@ -1,4 +1,4 @@
-pub mod Words
+pub mod Args
 pub mod Fields
 pub mod SampleText
 pub mod Text

@@ -2,6 +2,7 @@
 //! reader to a writer.
 #![tactic(auto)]
 
+pub mod args;
 pub mod command;
 mod fields;
 pub mod line;
@@ -10,4 +11,3 @@ pub mod output;
 mod records;
 pub mod run;
 mod sample;
-pub mod words;

@@ -3,4 +3,3 @@ pub mod FramePrinting
 pub mod Printing
 pub mod SampleLines
 pub mod TaskLines
-pub mod Usage

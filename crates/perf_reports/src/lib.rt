@@ -1,7 +1,6 @@
 //! What the small programs beside `perfrec` print of records: a line for each record about a task
 //! (`tasks`), a line for each sample (`samples`), either of them for a whole recording
 //! (`printing`), and counts of frames (`counts`, `streams`).
-//! What a program prints of itself, `perfrec` too, is `usage`.
 #![tactic(auto)]
 
 mod counting;
@@ -14,4 +13,3 @@ pub mod samples;
 pub mod streams;
 mod sums;
 pub mod tasks;
-pub mod usage;

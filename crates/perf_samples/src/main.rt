@@ -11,7 +11,7 @@
 
 use anyhow::Result;
 use perf_reports::printing::{Report, print_recording};
-use perf_reports::usage::print_usage;
+use perf_text::usage::print_usage;
 use std::env;
 use std::process::ExitCode;
 

@@ -1,3 +1,4 @@
 pub mod Numbers
 pub mod Orders
 pub mod Strips
+pub mod Usage

@@ -1,7 +1,8 @@
 //! What the lines and the arguments of the programs share: a short text that is written backward
-//! (`strip`), and the names of byte orders (`order`).
+//! (`strip`), the names of byte orders (`order`), and what a program prints of itself (`usage`).
 #![tactic(auto)]
 
 mod hexadecimal;
 pub mod order;
 pub mod strip;
+pub mod usage;

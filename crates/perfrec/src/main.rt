@@ -12,11 +12,11 @@
 #![tactic(auto)]
 
 use perf_event_data::endian::{Big, Endian, Little, Native};
+use perf_lines::args::{command, unlimited_command};
 use perf_lines::command::{Command, OrderName};
 use perf_lines::outcome::Outcome;
 use perf_lines::run::run;
-use perf_lines::words::{command, unlimited_command};
-use perf_reports::usage::print_usage;
+use perf_text::usage::print_usage;
 use std::process::ExitCode;
 use std::{env, io};
 

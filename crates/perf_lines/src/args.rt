@@ -3,8 +3,8 @@
 ghost use Rattle.std.specs.Prelude.{◌≡◌, map, string_bytes};
 ghost use Rattle.std.specs.Char.{is_ascii_digit};
 ghost use Rattle.std.specs.List.{list_all};
-ghost use Rattle.perf_lines.specs.Words.{limit_named, asked, command_of};
-ghost use Rattle.perf_lines.specs.Words.{unlimited, unlimited_command_of};
+ghost use Rattle.perf_lines.specs.Args.{limit_named, asked, command_of};
+ghost use Rattle.perf_lines.specs.Args.{unlimited, unlimited_command_of};
 
 use crate::command::{Command, OrderName};
 
@@ -22,9 +22,8 @@ pub fn command(words: &[String]) -> Option<Command>
     }
 }
 
-/// What the words after the program's name ask for if they name no limit, so that all frames are
-/// printed: an order's name, and then `attr` if the input begins with an attribute. Other words ask
-/// for nothing.
+/// What the arguments ask for if they name no limit, so that all frames are printed: the name of a
+/// byte order, and then `attr` if the input begins with an attribute. `None` for any other arguments.
 pub fn unlimited_command(words: &[String]) -> Option<Command>
     ensures { result ≡ unlimited_command_of (map string_bytes words.now) }
 {

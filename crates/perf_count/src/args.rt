@@ -1,12 +1,12 @@
-//! The words of the command line.
+//! Parses the command line.
 
 ghost use Rattle.std.specs.Prelude.{◌≡◌, map, string_bytes};
-ghost use Rattle.perf_count.specs.Words.{asked, command_of};
+ghost use Rattle.perf_count.specs.Args.{asked, command_of};
 
 use crate::command::{Command, OrderName};
 
-/// What the words behind the program's name ask for: an order's name, and then `attr`, where the
-/// input begins with an attribute. Other words ask for nothing.
+/// What the arguments of the program ask for: the name of a byte order, and then `attr` if the input
+/// begins with an attribute. `None` for any other arguments.
 pub fn command(words: &[String]) -> Option<Command>
     ensures { result ≡ command_of (map string_bytes words.now) }
 {

@@ -1,13 +1,13 @@
 //! What a program prints of itself.
 
 ghost use Rattle.std.specs.Prelude.{◌≡◌, map, string_bytes, false, IfOk, IsOk};
-ghost use Rattle.perf_reports.specs.Usage.{asks_for_usage, usage_status};
+ghost use Rattle.perf_text.specs.Usage.{asks_for_usage, usage_status};
 
 use std::io;
 
-/// Prints the usage of a program whose words ask for nothing else, and returns the exit status: on
-/// standard output and 0 if the only word is `--help`, and on standard error and 2 for other words.
-/// It is an error if standard output fails; if standard error fails, the status alone reports it.
+/// Prints the usage of a program, and returns the exit status: on standard output and 0 if `--help`
+/// is the only argument, and on standard error and 2 for other arguments. It fails if standard output
+/// does; if standard error fails, the status alone reports it.
 pub fn print_usage(rt: &(impl Print + Eprint), words: &[String], usage: &str) -> io::Result<u8>
     ensures status { IfOk result (λ status. status ≡ usage_status (map string_bytes words.now)) }
     ensures other { asks_for_usage (map string_bytes words.now) ≡ false → IsOk result }
