@@ -30,7 +30,7 @@ fn tell_conditions<'p, E: Endian>(
     let found = two_if(inner, true)?;
     let refused = kind_of(one_if(inner, true));
     let after = one_if(inner, false)?;
-    Ok(write!(text, " {before:?} {found:?} {refused:?} {behind:?}")?)
+    Ok(write!(text, " {before:?} {found:?} {refused:?} {after:?}")?)
 }
 
 /// Writes what a closure parses from a frame's body: always, if a condition is true, and if it is
