@@ -1,9 +1,9 @@
 -- What a flat frame states, by how it was made.
 use Rattle.std.proofs.Common.{◌≡◌, ℕ, ◌+◌, ◌-◌, ◌≤◌, ◌<◌, ◌^◌, Bool, true, false, List, [], ◌∷◌, length, take, drop, Option, Some, None, Result, Ok, Err, refl, sym, ◌∙◌, ap, subst, inl, inr, arith}
-use Rattle.std.specs.Prelude.{IsTrue, ◌⊎◌, ◌≢◌, nat_lt}
+use Rattle.std.specs.Prelude.{IsTrue, IfOk, ◌⊎◌, ◌≢◌, nat_lt}
 use Rattle.std.proofs.lemmas.Bool.{cases_lt, lt-ltb, le-ltb}
 use Rattle.std.proofs.lemmas.List.{length-drop, length-take, length-take-le, take-take, drop-take}
-use Rattle.perf_base.specs.Configuration.{Configuration, under_misc}
+use Rattle.perf_base.specs.Configuration.{Configuration, plain, under_misc}
 use Rattle.perf_base.specs.Header.{header_of}
 use Rattle.perf_base.specs.Layout.{layout}
 use Rattle.perf_base.specs.Order.{Order}
@@ -13,6 +13,7 @@ use Rattle.perf_base.specs.declared.error.ErrorKind.TheVariants.{Eof, InvalidRec
 use Rattle.perf_base.specs.declared.refusal.Refusal.{Refusal}
 use Rattle.perf_base.specs.declared.refusal.Refusal.TheVariants as why
 use Rattle.perf_base.specs.declared.sys.perf_event_header.{perf_event_header}
+use Rattle.perf_buffers.specs.Buffer.{chunk_bytes, is_borrowed}
 use Rattle.perf_reader.specs.Reading.{of_layout, is_external}
 use Rattle.perf_records.specs.Answers.{FrameParts, body_length, parts_of, split_after, record_in, answer_after, split_of_frame, answer_of_frame}
 use Rattle.perf_records.specs.Bodies.{body, wants_memory}
@@ -23,7 +24,9 @@ use Rattle.perf_records.specs.Metadata.{MetadataValue, id_length}
 use Rattle.perf_records.specs.Records.{RecordValue}
 use Rattle.perf_records.specs.RecordTypes.{type_of}
 use Rattle.perf_records.specs.Shown.{GivesFrameBytes}
-use Rattle.perf_records.specs.Sights.{Sight, whole, bad, sight_after, sight_in}
+use Rattle.perf_records.specs.Sights.{Sight, whole, bad, sight_of, sight_after, sight_in}
+use Rattle.perf_records.specs.declared.frame.Frame.{Frame}
+use Rattle.perf_records.specs.declared.frame_handler.BadFrame.{BadFrame}
 use Rattle.perf_records.proofs.FrameList.{next_sight, no_sight, some_sight}
 use Rattle.perf_records.proofs.Handing.{finished}
 use Rattle.perf_records.proofs.Headers.{frame_whole, frame_body, header_alone}
@@ -269,3 +272,16 @@ bad_first c o bytes h e f fits seen flat =
         | inr whole_there ↦ let no = sym (finished k after true sized whole_there) ∙ seen in absurd (cc)
       ]
     ]
+
+-- ---- what the iterator returns
+
+-- it is at the front of the bytes, which are those of the iterator
+pub at_front : (o p : Order) (bytes left : List ℕ) (x : Sight) (xs : List Sight) → p ≡ o → left ≡ bytes → sights p left ≡ x ∷ xs → (8 ≤ length bytes) × (sight_in o bytes true ≡ x)
+at_front o p bytes left x xs same front e = first_sight o bytes x xs (sym (ap (λ q. sights q bytes) same) ∙ sym (ap (sights p) front) ∙ e)
+
+pub nothing_there : (o p : Order) (bytes left : List ℕ) → p ≡ o → left ≡ bytes → sights p left ≡ [] → length bytes < 8
+nothing_there o p bytes left same front e = no_first o bytes (sym (ap (λ q. sights q bytes) same) ∙ sym (ap (sights p) front) ∙ e)
+
+pub first_lasts : (o : Order) (bytes : List ℕ) (first : Result Frame BadFrame) → 8 ≤ length bytes → sight_in o bytes true ≡ sight_of first → IfOk first (λ frame. IsTrue (is_borrowed frame.rest))
+first_lasts o bytes (Ok frame) fits seen = (whole_first plain o bytes (chunk_bytes frame.rest) frame.header (is_borrowed frame.rest) fits seen).is_borrowed
+first_lasts o bytes (Err b) fits seen = tt

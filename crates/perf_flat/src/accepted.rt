@@ -1,6 +1,6 @@
 //! Frames that have a record.
 
-ghost use Rattle.std.specs.Prelude.{◌≡◌};
+ghost use Rattle.std.specs.Prelude.{◌≡◌, ◌<◌, ◌^◌};
 ghost use Rattle.perf_flat.specs.Flat as flat;
 ghost use Rattle.perf_records.specs.Prelude.{configuration_of};
 
@@ -59,6 +59,7 @@ pub(crate) fn accepted_frame<E>(
     ensures numbers { flat.CarriesNumbers (configuration_of config.now) made.now.metadata.sample_id
         made.now.numbers result }
     ensures spans { result.spans ≡ made.now.spans }
+    ensures size { header.size < 2 ^ 16 }
 {
     let id = made.metadata.sample_id();
     FlatFrame {
