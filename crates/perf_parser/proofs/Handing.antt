@@ -1,23 +1,22 @@
 -- What a run over frames has handed out so far.
-use Rattle.std.proofs.Common.{◌≡◌, ℕ, ◌+◌, ◌*◌, ◌≤◌, Bool, List, [], ◌∷◌, ◌++◌, length, take, drop, arith, refl, sym, ◌∙◌, ap, subst, true, false, inl, inr, Some}
-use Rattle.std.specs.Prelude.{IsTrue}
+use Rattle.std.proofs.Common.{◌≡◌, ℕ, ◌+◌, ◌*◌, ◌≤◌, Bool, List, [], ◌∷◌, ◌++◌, length, take, drop, arith, refl, sym, ◌∙◌, subst, true, false, inl, inr}
+use Rattle.std.specs.Prelude.{IsTrue, sum_by}
 use Rattle.std.proofs.lemmas.Bool.{cases_lt}
-use Rattle.std.proofs.lemmas.List.{length-append, drop_all}
+use Rattle.std.proofs.lemmas.List.{drop_all}
+use Rattle.std.proofs.lemmas.List.Sums.{sum_by-append}
+use Rattle.perf_base.specs.Configuration.{Configuration}
 use Rattle.perf_base.specs.Order.{Order}
 use Rattle.perf_buffers.specs.Buffer.{Source}
 use Rattle.perf_buffers.specs.Taking.{Moves}
 use Rattle.perf_buffers.proofs.Taking.{takes_moves}
 use Rattle.perf_records.proofs.Keeping.{within_all}
 use Rattle.perf_reader.specs.ReaderState.{ReaderState}
-use Rattle.perf_records.specs.Frames.{frame_length, first_frames, drop_frames}
+use Rattle.perf_records.specs.Frames.{frame_length, first_frames}
 use Rattle.perf_records.specs.Sights.{Sight, sight_in}
 use Rattle.perf_records.proofs.Handing.{sight_alone}
-use Rattle.perf_parser.specs.FrameRuns.{Handed, HandsNext, CountsHeaders}
-use Rattle.perf_parser.specs.Steps.{StopsAt, IsEndOf}
-use Rattle.perf_parser.specs.declared.runs.RunEnd.{RunEnd}
-use Rattle.perf_reader.specs.declared.header.Stop.{Stop}
-use Rattle.perf_reader.specs.declared.header.Stop.TheVariants as stop
-use Rattle.perf_parser.proofs.Listing.{IsAfter, frames_on, after_on}
+use Rattle.perf_parser.specs.FrameRuns.{Handed}
+use Rattle.perf_parser.specs.Steps.{StepKind, HasTaken}
+use Rattle.perf_parser.proofs.Listing.{one_frame_more}
 
 -- bytes that were dropped were taken from the front
 pub moved_by : (n : ℕ) (old new : Source) → new.left ≡ drop n old.left → Moves old new
@@ -41,40 +40,27 @@ module _ {S : Type 0} (gets : S → Sight → Bool → S → Type 0) (o : Order)
     ],
   )
 
--- These first k frames, which are all present, were handed out; this is left after them, and two reads were made for each.
-pub record HandedSoFar {S : Type 0} (gets : S → Sight → Bool → S → Type 0) (start : ReaderState) (was : S) (k : ℕ) (here : ReaderState) (go : Bool) (now : S) : Type 0 where
-  pub handed : Handed gets start.order start.source.whole was (first_frames start.order k start.source.left) go now
-  pub after : IsAfter start k here
-  pub reads_are : here.reads ≡ start.reads + 2 * k
+-- The next frame was handed over, and taken.
+abbrev pub HandsNext : {S : Type 0} → (S → Sight → Bool → S → Type 0) → ReaderState → S → Bool → ReaderState → S → Type 0
+HandsNext gets old was go new now = IsTrue old.source.told →
+    (8 ≤ length old.source.left)
+    × ((borrowed : Bool) × (IsTrue old.source.whole → IsTrue borrowed) × gets was (sight_in old.order old.source.left borrowed) go now)
+    × (new.source.left ≡ drop (frame_length old.order old.source.left) old.source.left) × (new.reads ≡ old.reads + 2)
 
-pub none_handed : {S : Type 0} (gets : S → Sight → Bool → S → Type 0) (start : ReaderState) (was : S) → HandedSoFar gets start was 0 start true was
-none_handed gets start was = record { handed = (refl, refl); after = record { there = refl; left_is = refl }; reads_are = omega arith }
+pub hands_more : {S : Type 0} {kind : StepKind S} {state : S} (gets : Configuration → Order → S → Sight → Bool → S → Type 0) (start here new : ReaderState) (was mid now : S) (k : ℕ) (go : Bool) → HasTaken kind start k here state → IsTrue start.source.told →
+    Handed (gets start.settings start.order) start.order start.source.whole was (first_frames start.order k start.source.left) true mid → HandsNext (gets here.settings here.order) here mid go new now →
+    Handed (gets start.settings start.order) start.order start.source.whole was (first_frames start.order (k + 1) start.source.left) go now
+hands_more {S} gets start here new was mid now k go taken told so_far next =
+    let o : Order = start.order in let left : List ℕ = here.source.left in
+    let n = next (taken.keeps.buffer.3 told) in let b : Bool = n.1.0 in
+    let frame : List ℕ = take (frame_length o left) left in
+    let got : gets start.settings o mid (sight_in o frame b) go now =
+    subst (λ x. gets start.settings o mid x go now) (sym (sight_alone o left b))
+    (subst (λ (x : Order). gets start.settings x mid (sight_in x left b) go now) taken.order (subst (λ c. gets c here.order mid (sight_in here.order left b) go now) taken.settings n.1.2)) in
+    subst (λ xs. Handed (gets start.settings o) o start.source.whole was xs go now) (sym (one_frame_more start here k (taken.after told) n.0))
+    (handed_on (gets start.settings o) o start.source.whole (first_frames o k start.source.left) frame was mid now go b so_far (λ is. n.1.1 (taken.keeps.buffer.0 ∙ is)) got)
 
-pub one_more_handed : {S : Type 0} (gets : S → Sight → Bool → S → Type 0) (start here new : ReaderState) (was mid now : S) (k : ℕ) (go : Bool) → here.order ≡ start.order → here.source.whole ≡ start.source.whole → IsTrue here.source.told →
-    HandedSoFar gets start was k here true mid → HandsNext gets here mid go new now → HandedSoFar gets start was (k + 1) new go now
-one_more_handed {S} gets start here new was mid now k go order same told so_far next =
-    let o : Order = start.order in let bytes : List ℕ = start.source.left in let left : List ℕ = here.source.left in
-    let n = next told in
-    let step : List ℕ = take (frame_length o left) left in
-    let after : left ≡ drop_frames o k bytes = so_far.after.left_is in
-    let enough : 8 ≤ length (drop_frames o k bytes) = subst (λ (xs : List ℕ). 8 ≤ length xs) after n.0 in
-    let grown : first_frames o (k + 1) bytes ≡ first_frames o k bytes ++ step ∷ [] =
-    frames_on o k bytes so_far.after.there enough ∙ ap (λ xs. first_frames o k bytes ++ take (frame_length o xs) xs ∷ []) (sym after) in
-    let P : List (List ℕ) → Type 0 = λ xs. Handed gets o start.source.whole was xs go now in
-    let sight : sight_in here.order left n.1.0 ≡ sight_in o step n.1.0 = ap (λ (x : Order). sight_in x left n.1.0) order ∙ sym (sight_alone o left n.1.0) in
-    let got : gets mid (sight_in o step n.1.0) go now = subst (λ x. gets mid x go now) sight n.1.2 in
-    let size : drop (frame_length here.order left) left ≡ drop (frame_length o left) left = ap (λ (x : Order). drop (frame_length x left) left) order in
-    record {
-      handed = subst P (sym grown) (handed_on gets o start.source.whole (first_frames o k bytes) step was mid now go n.1.0 so_far.handed (λ is. n.1.1 (subst IsTrue (sym same) is)) got);
-      after = record {
-        there = ap length grown ∙ length-append (first_frames o k bytes) (step ∷ []) ∙ ap (λ m. m + 1) so_far.after.there;
-        left_is = n.2 ∙ size ∙ ap (λ xs. drop (frame_length o xs) xs) after ∙ sym (after_on o k bytes);
-      };
-      reads_are = omega (arith, n.3, so_far.reads_are);
-    }
-
--- how many reads a run made that stopped in this way
-pub counts_headers : (start here new : ReaderState) (k : ℕ) (s : Stop) (e : RunEnd) → here.reads ≡ start.reads + 2 * k → here.reads ≤ new.reads → StopsAt here s new → IsEndOf s e → CountsHeaders k (Some e) start.reads new.reads
-counts_headers start here new k stop.Done e reads more p is = subst (λ (x : RunEnd). CountsHeaders k (Some x) start.reads new.reads) (sym is) (omega (arith, p.2, reads))
-counts_headers start here new k stop.CutHeader e reads more p is = subst (λ (x : RunEnd). CountsHeaders k (Some x) start.reads new.reads) (sym is) (omega (arith, p.3, reads))
-counts_headers start here new k (stop.Refused r) e reads more p is = subst (λ (x : RunEnd). CountsHeaders k (Some x) start.reads new.reads) (sym is.1) (omega (arith, more, reads))
+-- two reads for each of some frames
+pub twice : (frames : List (List ℕ)) → sum_by (λ frame. 2) frames ≡ 2 * length frames
+twice [] = refl
+twice (frame ∷ frames) = omega (arith, sum_by-append (λ (frame : List ℕ). 2) (frame ∷ []) frames, twice frames)

@@ -5,6 +5,7 @@ pub mod Repeating
 pub mod InRow
 pub mod Metadata
 pub mod Listing
+pub mod Stepping
 pub mod Ending
 pub mod Answering
 pub mod Attributes

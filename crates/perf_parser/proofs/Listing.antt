@@ -1,9 +1,8 @@
 -- A run's list against the answers of all bytes.
 use Rattle.std.proofs.Common.{◌≡◌, ℕ, zero, suc, ◌+◌, ◌<◌, ◌≤◌, List, [], ◌∷◌, ◌++◌, length, take, drop, map, arith, refl, sym, ◌∙◌, ap, subst, true, false, nat_lt, inl, inr}
-use Rattle.std.specs.Prelude.{Result, IsTrue, sum_by}
+use Rattle.std.specs.Prelude.{Result, IsTrue, Bool}
 use Rattle.std.proofs.lemmas.Bool.{cases_lt, lt-ltb, le-ltb}
 use Rattle.std.proofs.lemmas.List.{length-append, length-drop, take-map}
-use Rattle.std.proofs.lemmas.List.Sums.{sum_by-append}
 use Rattle.perf_base.specs.Configuration.{Configuration}
 use Rattle.perf_base.specs.Header.{header_of}
 use Rattle.perf_base.specs.Order.{Order}
@@ -18,9 +17,9 @@ use Rattle.perf_records.specs.Frames.{cut_header, end_with, stream_end}
 use Rattle.perf_records.specs.Records.{RecordValue}
 use Rattle.perf_records.specs.declared.record.Record.{Record}
 use Rattle.perf_records.proofs.Headers.{header_alone, answer_alone, reads_alone}
-use Rattle.perf_parser.specs.Runs.{Pairs, seen_answer, seen_answers, listed_reads, first_reads, CountsReads}
+use Rattle.perf_parser.specs.Runs.{Pairs, seen_answer, seen_answers, listed_reads, CountsMore}
 use Rattle.perf_parser.specs.Runs.{IsBorrowedAnswer, AllBorrowed, LeavesWithin, EndsWith, EndsBetween}
-use Rattle.perf_parser.specs.Steps.{StopsAt, StopsBetween, IsEndOf}
+use Rattle.perf_parser.specs.Steps.{StopsAt, StopsBetween, IsEndOf, IsAfter, StepKind, HasTaken, ListsFirst}
 use Rattle.perf_parser.specs.declared.runs.RunEnd.{RunEnd}
 use Rattle.perf_reader.specs.declared.header.Stop.{Stop}
 use Rattle.perf_reader.specs.declared.header.Stop.TheVariants as stop
@@ -105,81 +104,56 @@ frames_all o (suc k) (suc n) bytes h le short =
     ∙ sym (frames_next o k bytes eight)
 
 -- ---- the list so far
--- a frame's pair
-abbrev pair_of : Configuration → Order → List ℕ → perf_event_header × Result RecordValue ErrorKind
-pair_of c o frame = (header_of o frame, answer_of_frame c o frame)
-
--- The first k frames are all present, and this is left after them.
-pub record IsAfter (start : ReaderState) (k : ℕ) (here : ReaderState) : Type 0 where
-  pub there : AreThere start.order k start.source.left
-  pub left_is : here.source.left ≡ drop_frames start.order k start.source.left
-
--- These pairs are the answers of the first k frames, which are all present; this is left after them, and this many reads were made.
-pub record IsSoFar (start : ReaderState) (pairs : Pairs) (k : ℕ) (here : ReaderState) : Type 0 where
-  pub said_is : seen_answers pairs ≡ map (pair_of start.settings start.order) (first_frames start.order k start.source.left)
-  pub there : AreThere start.order k start.source.left
-  pub left_is : here.source.left ≡ drop_frames start.order k start.source.left
-  pub reads_are : here.reads ≡ start.reads + first_reads start.settings start.order k start.source.left
-
-pub after_so_far : (start : ReaderState) (pairs : Pairs) (k : ℕ) (here : ReaderState) → IsSoFar start pairs k here → IsAfter start k here
-after_so_far start pairs k here so_far = record { there = so_far.there; left_is = so_far.left_is }
-
-pub none_so_far : (start : ReaderState) → IsSoFar start [] 0 start
-none_so_far start = record { said_is = refl; there = refl; left_is = refl; reads_are = omega arith }
+-- the next frame after the first k
+pub one_frame_more : (start here : ReaderState) (k : ℕ) → IsAfter start k here → 8 ≤ length here.source.left →
+    first_frames start.order (k + 1) start.source.left ≡ first_frames start.order k start.source.left ++ take (frame_length start.order here.source.left) here.source.left ∷ []
+one_frame_more start here k after fits =
+    let o : Order = start.order in let bytes : List ℕ = start.source.left in
+    frames_on o k bytes after.there (subst (λ (xs : List ℕ). 8 ≤ length xs) after.left_is fits) ∙ ap (λ xs. first_frames o k bytes ++ take (frame_length o xs) xs ∷ []) (sym after.left_is)
 
 map_on : {X Y : Type 0} (f : X → Y) (xs : List X) (x : X) → map f (xs ++ x ∷ []) ≡ map f xs ++ f x ∷ []
 map_on f [] x = refl
 map_on f (y ∷ ys) x = ap (λ zs. f y ∷ zs) (map_on f ys x)
 
 -- a frame by its own bytes, and before others
-listed_alone : (c : Configuration) (o : Order) (bytes : List ℕ) → listed_reads c o (take (frame_length o bytes) bytes) ≡ listed_reads c o bytes
+pub listed_alone : (c : Configuration) (o : Order) (bytes : List ℕ) → listed_reads c o (take (frame_length o bytes) bytes) ≡ listed_reads c o bytes
 listed_alone c o bytes = ap (λ n. 2 + n) (reads_alone c o bytes)
 
--- what is known of the next frame, under a configuration and an order
-abbrev TellsOf : Configuration → Order → ReaderState → perf_event_header → Result Record ParseError → ReaderState → Type 0
-TellsOf c o here h r new =
-    (8 ≤ length here.source.left) × (h ≡ header_of o here.source.left) × (seen_answer r ≡ answer_of_frame c o here.source.left)
-    × (new.source.left ≡ drop (frame_length o here.source.left) here.source.left) × (new.reads ≡ here.reads + listed_reads c o here.source.left)
+pub lists_none : (start : ReaderState) → ListsFirst start 0 true []
+lists_none start = record { count = refl; goes = refl; borrowed = λ whole. tt; answers = λ told. refl }
 
-one_more_told : (start here new : ReaderState) (pairs : Pairs) (k : ℕ) (h : perf_event_header) (r : Result Record ParseError) → IsSoFar start pairs k here →
-    8 ≤ length here.source.left → h ≡ header_of start.order here.source.left → seen_answer r ≡ answer_of_frame start.settings start.order here.source.left →
-    new.source.left ≡ drop (frame_length start.order here.source.left) here.source.left → new.reads ≡ here.reads + listed_reads start.settings start.order here.source.left →
-    IsSoFar start (pairs ++ (h, r) ∷ []) (k + 1) new
-one_more_told start here new pairs k h r so_far fits e s n count =
+-- one frame more is listed
+pub lists_more : {S : Type 0} {kind : StepKind S} {state : S} (start here : ReaderState) (was now : Pairs) (k : ℕ) (h : perf_event_header) (r : Result Record ParseError) → HasTaken kind start k here state → ListsFirst start k true was →
+    now ≡ was ++ (h, r) ∷ [] → (IsTrue here.source.whole → IsBorrowedAnswer r) → (IsTrue here.source.told → (8 ≤ length here.source.left) × (h ≡ header_of here.order here.source.left) × (seen_answer r ≡ answer_of_frame here.settings here.order here.source.left)) →
+    ListsFirst start (k + 1) true now
+lists_more start here was now k h r taken so_far pushed borrowed seen =
     let c : Configuration = start.settings in let o : Order = start.order in let bytes : List ℕ = start.source.left in let left : List ℕ = here.source.left in
-    let next : List ℕ = take (frame_length o left) left in
-    let after : left ≡ drop_frames o k bytes = so_far.left_is in
-    let enough : 8 ≤ length (drop_frames o k bytes) = subst (λ (xs : List ℕ). 8 ≤ length xs) after fits in
-    let grown : first_frames o (k + 1) bytes ≡ first_frames o k bytes ++ next ∷ [] =
-    frames_on o k bytes so_far.there enough ∙ ap (λ xs. first_frames o k bytes ++ take (frame_length o xs) xs ∷ []) (sym after) in
-    let pair : (h, seen_answer r) ≡ pair_of c o next = ap (λ x. (x, seen_answer r)) (e ∙ sym (header_alone o left)) ∙ ap (λ x. (header_of o next, x)) (s ∙ sym (answer_alone c o left fits)) in
-    let sum : first_reads c o (k + 1) bytes ≡ first_reads c o k bytes + sum_by (listed_reads c o) (next ∷ []) =
-    ap (sum_by (listed_reads c o)) grown ∙ sum_by-append (listed_reads c o) (first_frames o k bytes) (next ∷ []) in
-    let one : sum_by (listed_reads c o) (next ∷ []) ≡ listed_reads c o next = omega arith in
-    record {
-      said_is = map_on (λ p. (p.0, seen_answer p.1)) pairs (h, r) ∙ ap (λ ps. ps ++ (h, seen_answer r) ∷ []) so_far.said_is
-          ∙ ap (λ p. map (pair_of c o) (first_frames o k bytes) ++ p ∷ []) pair
-          ∙ sym (map_on (pair_of c o) (first_frames o k bytes) next) ∙ ap (map (pair_of c o)) (sym grown);
-      there = ap length grown ∙ length-append (first_frames o k bytes) (next ∷ []) ∙ ap (λ m. m + 1) so_far.there;
-      left_is = n ∙ ap (λ xs. drop (frame_length o xs) xs) after ∙ sym (after_on o k bytes);
-      reads_are = omega (arith, count, so_far.reads_are, sum, one, listed_alone c o left);
+    let more : List ℕ = take (frame_length o left) left in
+    let pair_of : List ℕ → perf_event_header × Result RecordValue ErrorKind = λ frame. (header_of o frame, answer_of_frame c o frame) in record {
+      count = ap length pushed ∙ length-append was ((h, r) ∷ []) ∙ ap (λ n. n + 1) so_far.count;
+      goes = refl;
+      borrowed = λ whole. subst AllBorrowed (sym pushed) (one_more_borrowed was h r (so_far.borrowed whole) (borrowed (taken.keeps.buffer.0 ∙ whole)));
+      answers = λ told.
+          let q = seen (taken.keeps.buffer.3 told) in
+          let header : h ≡ header_of o more = q.1 ∙ ap (λ (x : Order). header_of x left) taken.order ∙ sym (header_alone o left) in
+          let answer : seen_answer r ≡ answer_of_frame c o more =
+          q.2 ∙ ap (λ (x : Configuration). answer_of_frame x here.order left) taken.settings ∙ ap (λ (x : Order). answer_of_frame c x left) taken.order ∙ sym (answer_alone c o left q.0) in
+          let pair : (h, seen_answer r) ≡ pair_of more = ap (λ x. (x, seen_answer r)) header ∙ ap (λ x. (header_of o more, x)) answer in
+          ap seen_answers pushed ∙ map_on (λ p. (p.0, seen_answer p.1)) was (h, r) ∙ ap (λ ps. ps ++ (h, seen_answer r) ∷ []) (so_far.answers told)
+          ∙ ap (λ p. map pair_of (first_frames o k bytes) ++ p ∷ []) pair
+          ∙ sym (map_on pair_of (first_frames o k bytes) more) ∙ ap (map pair_of) (sym (one_frame_more start here k (taken.after told) q.0));
     }
 
-pub one_more_so_far : (start here new : ReaderState) (pairs : Pairs) (k : ℕ) (h : perf_event_header) (r : Result Record ParseError) → here.settings ≡ start.settings → here.order ≡ start.order →
-    IsSoFar start pairs k here → TellsOf here.settings here.order here h r new → IsSoFar start (pairs ++ (h, r) ∷ []) (k + 1) new
-one_more_so_far start here new pairs k h r settings order so_far next =
-    let p = subst (λ (c : Configuration). TellsOf c start.order here h r new) settings (subst (λ (o : Order). TellsOf here.settings o here h r new) order next) in
-    one_more_told start here new pairs k h r so_far p.0 p.1 p.2 p.3 p.4
-
 -- ---- what a run lists
-pub listed_first : (start here : ReaderState) (pairs : Pairs) (k : ℕ) → IsSoFar start pairs k here → length pairs ≡ k →
+pub listed_first : {start : ReaderState} {pairs : Pairs} {k : ℕ} {go : Bool} → IsTrue start.source.told → AreThere start.order k start.source.left → ListsFirst start k go pairs →
     seen_answers pairs ≡ take (length pairs) (answers start.settings start.order start.source.left)
-listed_first start here pairs k so_far e =
+listed_first {start = start} {pairs = pairs} {k = k} told there so_far =
     let c : Configuration = start.settings in let o : Order = start.order in let bytes : List ℕ = start.source.left in
-    so_far.said_is
-    ∙ ap (map (pair_of c o)) (sym (frames_take o k (length bytes) bytes so_far.there (frames_fit o k bytes so_far.there)))
-    ∙ sym (take-map (pair_of c o) k (frames o bytes))
-    ∙ ap (λ n. take n (answers c o bytes)) (sym e)
+    let pair_of : List ℕ → perf_event_header × Result RecordValue ErrorKind = λ frame. (header_of o frame, answer_of_frame c o frame) in
+    so_far.answers told
+    ∙ ap (map pair_of) (sym (frames_take o k (length bytes) bytes there (frames_fit o k bytes there)))
+    ∙ sym (take-map pair_of k (frames o bytes))
+    ∙ ap (λ n. take n (answers c o bytes)) (sym so_far.count)
 
 -- if fewer than eight bytes are left, all frames were read, and the stream ends with those bytes
 all_listed : (start here : ReaderState) (k : ℕ) → IsAfter start k here → length here.source.left < 8 →
@@ -225,11 +199,8 @@ ends_between start here new k s e so_far order p is = λ h. elim (p (end_kind s 
       ∙ sym (after_on start.order k start.source.left))
 ]
 
-pub counts_reads : (start here new : ReaderState) (pairs : Pairs) (k : ℕ) (s : Stop) (e : RunEnd) → IsSoFar start pairs k here → here.reads ≤ new.reads →
-    StopsAt here s new → IsEndOf s e → CountsReads start.settings start.order start.source.left k e start.reads new.reads
-counts_reads start here new pairs k stop.Done e so_far more p is =
-    subst (λ (x : RunEnd). CountsReads start.settings start.order start.source.left k x start.reads new.reads) (sym is) (omega (arith, p.2, so_far.reads_are))
-counts_reads start here new pairs k stop.CutHeader e so_far more p is =
-    subst (λ (x : RunEnd). CountsReads start.settings start.order start.source.left k x start.reads new.reads) (sym is) (omega (arith, p.3, so_far.reads_are))
-counts_reads start here new pairs k (stop.Refused r) e so_far more p is =
-    subst (λ (x : RunEnd). CountsReads start.settings start.order start.source.left k x start.reads new.reads) (sym is.1) (omega (arith, more, so_far.reads_are))
+-- how many reads it made
+pub counts_more : (start here new : ReaderState) (made : ℕ) (s : Stop) (e : RunEnd) → here.reads ≡ start.reads + made → here.reads ≤ new.reads → StopsAt here s new → IsEndOf s e → CountsMore made e start.reads new.reads
+counts_more start here new made stop.Done e reads more p is = subst (λ (x : RunEnd). CountsMore made x start.reads new.reads) (sym is) (omega (arith, p.2, reads))
+counts_more start here new made stop.CutHeader e reads more p is = subst (λ (x : RunEnd). CountsMore made x start.reads new.reads) (sym is) (omega (arith, p.3, reads))
+counts_more start here new made (stop.Refused r) e reads more p is = subst (λ (x : RunEnd). CountsMore made x start.reads new.reads) (sym is.1) (omega (arith, more, reads))

@@ -1,14 +1,13 @@
 -- What a run over frames hands out, how it ends, what it leaves, and how many elementary reads it makes.
 use Rattle.std.specs.Prelude.{Option, Some, None, true, false, Bool, IsTrue, ◌≡◌, ◌⊎◌, ℕ, ◌+◌, ◌*◌, ◌<◌, ◌≤◌}
-use Rattle.std.specs.Prelude.{List, [], ◌∷◌, length, drop}
+use Rattle.std.specs.Prelude.{List, [], ◌∷◌, length}
 use Rattle.perf_base.specs.Order.{Order}
 use Rattle.perf_base.specs.declared.error.ErrorKind.{ErrorKind}
 use Rattle.perf_reader.specs.ReaderState.{ReaderState}
-use Rattle.perf_records.specs.Frames.{frame_length, first_frames, drop_frames}
+use Rattle.perf_records.specs.Frames.{first_frames, drop_frames}
 use Rattle.perf_records.specs.Sights.{Sight, sight_in}
-use Rattle.perf_parser.specs.Runs.{EndsWith, end_refusal, one_if_ended}
+use Rattle.perf_parser.specs.Runs.{EndsWith, CountsMore, end_refusal, one_if_ended}
 use Rattle.perf_parser.specs.declared.runs.RunEnd.{RunEnd}
-use Rattle.perf_parser.specs.declared.runs.RunEnd.TheVariants as end
 
 -- A handler was handed these frames, one after the other: what is at each, by its bytes, which live
 -- as long as the input if the buffer is whole. It went on after each except perhaps the last, after
@@ -42,14 +41,14 @@ EndsFrames o limit bytes count (Some e) left = EndsWith o limit bytes count e le
 EndsFrames o limit bytes count None left =
     (0 < count) × (count ≤ limit) × (left ≡ drop_frames o count bytes)
 
--- Two reads for each header, and those of its end: one more if nothing is left, two if a header is
--- cut; those of a fault are only bounded.
+-- the reads of a run, by those of its frames
+abbrev pub CountsRun : (made : ℕ) → Option RunEnd → (old new : ℕ) → Type 0
+CountsRun made None old new = new ≡ old + made
+CountsRun made (Some e) old new = CountsMore made e old new
+
+-- two reads for each header, and those of its end
 abbrev pub CountsHeaders : (count : ℕ) → Option RunEnd → (old new : ℕ) → Type 0
-CountsHeaders count None old new = new ≡ old + 2 * count
-CountsHeaders count (Some end.Limit) old new = new ≡ old + 2 * count
-CountsHeaders count (Some end.Done) old new = new ≡ old + 2 * count + 1
-CountsHeaders count (Some end.CutHeader) old new = new ≡ old + 2 * count + 2
-CountsHeaders count (Some (end.Fault e)) old new = old + 2 * count ≤ new
+CountsHeaders count e old new = CountsRun (2 * count) e old new
 
 -- the kind of the fault that ended it, if one did
 abbrev pub frames_refusal : Option RunEnd → Option ErrorKind
@@ -60,15 +59,3 @@ frames_refusal (Some e) = end_refusal e
 abbrev pub one_if_run_ended : Option RunEnd → ℕ
 one_if_run_ended None = 0
 one_if_run_ended (Some e) = one_if_ended e
-
--- ---- one frame of it
-
--- The next frame was handed over, and taken.
-abbrev pub HandsNext : {S : Type 0} → (S → Sight → Bool → S → Type 0) → ReaderState → S → Bool → ReaderState →
-    S → Type 0
-HandsNext gets old was go new now = IsTrue old.source.told →
-    (8 ≤ length old.source.left)
-    × ((borrowed : Bool) × (IsTrue old.source.whole → IsTrue borrowed)
-    × gets was (sight_in old.order old.source.left borrowed) go now)
-    × (new.source.left ≡ drop (frame_length old.order old.source.left) old.source.left)
-    × (new.reads ≡ old.reads + 2)

@@ -74,13 +74,17 @@ listed_reads c o frame = 2 + reads_after c o (header_of o frame) (drop 8 frame)
 abbrev pub first_reads : Configuration → Order → ℕ → List ℕ → ℕ
 first_reads c o k bytes = sum_by (listed_reads c o) (first_frames o k bytes)
 
--- The reads of a run that listed k frames: theirs, one more if nothing is left, two if a header is
--- cut; those of a fault are only bounded.
+-- The reads of a run, by those of its frames: one more if nothing is left, two if a header is cut;
+-- those of a fault are only bounded.
+abbrev pub CountsMore : (made : ℕ) → RunEnd → (old new : ℕ) → Type 0
+CountsMore made end.Limit old new = new ≡ old + made
+CountsMore made end.Done old new = new ≡ old + made + 1
+CountsMore made end.CutHeader old new = new ≡ old + made + 2
+CountsMore made (end.Fault e) old new = old + made ≤ new
+
+-- those of a run that listed k frames
 abbrev pub CountsReads : Configuration → Order → List ℕ → (k : ℕ) → RunEnd → (old new : ℕ) → Type 0
-CountsReads c o bytes k end.Limit old new = new ≡ old + first_reads c o k bytes
-CountsReads c o bytes k end.Done old new = new ≡ old + first_reads c o k bytes + 1
-CountsReads c o bytes k end.CutHeader old new = new ≡ old + first_reads c o k bytes + 2
-CountsReads c o bytes k (end.Fault e) old new = old + first_reads c o k bytes ≤ new
+CountsReads c o bytes k e old new = CountsMore (first_reads c o k bytes) e old new
 
 -- ---- how it ends, and what it leaves
 

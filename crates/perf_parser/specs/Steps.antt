@@ -1,8 +1,9 @@
--- What private steps of a run list and leave: one frame of it, and the capacity for its answer. The contract of a
--- run itself needs none of this.
-use Rattle.std.specs.Prelude.{Option, Some, Result, Ok, Err, true, IsTrue, ◌≡◌}
-use Rattle.std.specs.Prelude.{None, max, ◌*◌, OnOk, OnErr, IfErr}
-use Rattle.std.specs.Prelude.{ℕ, ◌+◌, ◌≤◌, [], ◌∷◌, ◌++◌, length, drop}
+-- What private steps of a run list and leave: one frame of it, and the capacity for its answer; and the loop that
+-- takes the steps. The contract of a run itself needs none of this.
+use Rattle.std.specs.Prelude.{Option, Some, Result, Ok, Err, Bool, true, IsTrue, ◌≡◌, ◌⊎◌}
+use Rattle.std.specs.Prelude.{None, max, ◌*◌, OnOk, OnErr, IfOk, IfErr, sum_by}
+use Rattle.std.specs.Prelude.{ℕ, ◌+◌, ◌≤◌, List, [], ◌∷◌, ◌++◌, length, map, take, drop}
+use Rattle.perf_base.specs.Configuration.{Configuration}
 use Rattle.perf_base.specs.Errors.{kind_of}
 use Rattle.perf_base.specs.Header.{header_of}
 use Rattle.perf_base.specs.Order.{Order}
@@ -24,14 +25,15 @@ use Rattle.perf_reader.specs.declared.reader.Reader.{Reader}
 use Rattle.perf_reader.specs.declared.header.Stop.TheVariants as stop
 use Rattle.perf_records.specs.Answers.{answer_of_frame, LeavesAllOrRest}
 use Rattle.perf_records.specs.Answers.{ReadsFrameAfter, body_length}
-use Rattle.perf_records.specs.Frames.{frame_length}
+use Rattle.perf_records.specs.Frames.{frame_length, first_frames, drop_frames}
 use Rattle.perf_records.specs.declared.record.Record.{Record}
 use Rattle.perf_parser.specs.declared.runs.RunEnd.{RunEnd}
 use Rattle.perf_parser.specs.declared.runs.RunEnd.TheVariants as end
 pub use Rattle.perf_reader.specs.Headers.{ReadsHeader, StopsAt, stop_kind, stop_kinds}
-use Rattle.perf_parser.specs.Runs.{Pairs, seen_answer, IsBorrowedAnswer, listed_reads}
+use Rattle.perf_parser.specs.FrameRuns.{EndsFrames, CountsRun, went_on, frames_refusal, one_if_run_ended}
+use Rattle.perf_parser.specs.Runs.{Pairs, KeepsRun, seen_answers, IsBorrowedAnswer, AllBorrowed}
 
--- ---- one frame of it
+-- ---- how it stops
 
 -- the refusal that stopped it, if one did
 abbrev pub stopped_by : {A : Type 0} → Result A Stop → Option ErrorKind
@@ -57,6 +59,8 @@ IsEndOf stop.Done e = e ≡ end.Done
 IsEndOf stop.CutHeader e = e ≡ end.CutHeader
 IsEndOf (stop.Refused r) e = (x : ParseError) × (e ≡ end.Fault x) × IsAnswerOf x r
 
+-- ---- one frame that is listed
+
 -- an answer that is listed is neither a fault nor out of memory
 abbrev pub IsListed : Result Record ParseError → Type 0
 IsListed (Ok r) = Unit {0}
@@ -74,17 +78,6 @@ abbrev pub ListsRefused : perf_event_header → Refusal → (was now : Pairs) �
 ListsRefused h r was now =
     (e : ParseError) × (now ≡ was ++ (h, Err e) ∷ []) × IsAnswerOf e r
     × IsTrue (of_layout (refusal_kind r))
-
--- one more frame was listed: the next one, which was taken whole
-abbrev pub ListsNext : ReaderState → (was now : Pairs) → ReaderState → Type 0
-ListsNext old was now new =
-    (h : perf_event_header) × (r : Result Record ParseError) × (now ≡ was ++ (h, r) ∷ [])
-    × (IsTrue old.source.whole → IsBorrowedAnswer r)
-    × (IsTrue old.source.told →
-    (8 ≤ length old.source.left) × (h ≡ header_of old.order old.source.left)
-    × (seen_answer r ≡ answer_of_frame old.settings old.order old.source.left)
-    × (new.source.left ≡ drop (frame_length old.order old.source.left) old.source.left)
-    × (new.reads ≡ old.reads + listed_reads old.settings old.order old.source.left))
 
 -- the answer that was listed is no record
 abbrev pub ListsNoRecord : (was now : Pairs) → Type 0
@@ -129,3 +122,83 @@ abbrev pub TakesNothing : Transition (Unit {0})
 TakesNothing old (Ok x) new =
     (new.source.left ≡ old.source.left) × (new.reads ≡ old.reads)
 TakesNothing old (Err e) new = new.source.left ≡ old.source.left
+
+-- ---- the loop of a run
+
+-- what is stated of the states that a run's steps change
+pub record StepKind (S : Type 0) : Type 1 where
+  -- how many refusals a state has listed
+  pub refusals : S → ℕ
+  -- the reads of a frame, by its bytes
+  pub reads : Configuration → Order → List ℕ → ℕ
+  -- what the state is after this many frames from a start and a first state, and whether the run
+  -- goes on
+  pub so_far : ReaderState → S → ℕ → Bool → S → Type 0
+  -- if an allocation can fail over a slice too
+  pub allocates : Type 0
+
+-- the reads of the first k frames
+abbrev pub reads_of_first : {S : Type 0} → StepKind S → ReaderState → ℕ → ℕ
+reads_of_first kind start k =
+    sum_by (kind.reads start.settings start.order) (first_frames start.order k start.source.left)
+
+-- The first k frames are all present, and this is left after them.
+pub record IsAfter (start : ReaderState) (k : ℕ) (here : ReaderState) : Type 0 where
+  pub there : length (first_frames start.order k start.source.left) ≡ k
+  pub left_is : here.source.left ≡ drop_frames start.order k start.source.left
+
+-- a run has taken the first k frames
+pub record HasTaken {S : Type 0} (kind : StepKind S) (start : ReaderState) (k : ℕ) (here : ReaderState)
+    (now : S) : Type 0 where
+  pub settings : here.settings ≡ start.settings
+  pub order : here.order ≡ start.order
+  pub keeps : KeepsRun start (kind.refusals now) None here
+  pub after : IsTrue start.source.told → IsAfter start k here
+  pub reads : IsTrue start.source.told → here.reads ≡ start.reads + reads_of_first kind start k
+
+-- the next frame is taken whole, in its reads
+abbrev pub TakesNext : {S : Type 0} → StepKind S → Configuration → Order → (old new : ReaderState) →
+    Type 0
+TakesNext kind c o old new = let bytes = old.source.left in
+    (8 ≤ length bytes) × (new.source.left ≡ drop (frame_length o bytes) bytes)
+    × (new.reads ≡ old.reads + kind.reads c o (take (frame_length o bytes) bytes))
+
+-- a step takes the next frame and returns whether the run goes on, or why it stops
+pub record TakesStep {S : Type 0} (kind : StepKind S) (old : ReaderState) (was : S)
+    (result : Result Bool Stop) (new : ReaderState) (now : S) : Type 0 where
+  pub so_far : IfOk result (λ go. (start : ReaderState) (first : S) (k : ℕ) →
+      HasTaken kind start k old was → kind.so_far start first k true was →
+      kind.so_far start first (k + 1) go now)
+  pub takes : IsTrue old.source.told →
+      OnOk result (TakesNext kind old.settings old.order old new)
+  pub same : OnErr result ((start : ReaderState) (first : S) (k : ℕ) →
+      kind.so_far start first k true was → kind.so_far start first k true now)
+  pub stop : IsTrue old.source.told → IfErr result (λ s. StopsAt old s new)
+  pub memory : IsTrue old.source.told → IsTrue old.source.whole → IfErr result (λ s.
+      StopsBetween old s new × (stop_kind s ≡ OutOfMemory → kind.allocates))
+  pub keeps : (start : ReaderState) → KeepsRun start (kind.refusals was) None old →
+      KeepsRun start (kind.refusals now + one_if_stopped result) (stopped_by result) new
+
+-- a run takes k steps: the state after them, how it ends, and what it leaves
+pub record TakesSteps {S : Type 0} (kind : StepKind S) (start : ReaderState) (first : S) (limit k : ℕ)
+    (e : Option RunEnd) (new : ReaderState) (now : S) : Type 0 where
+  pub within : k ≤ limit
+  pub so_far : kind.so_far start first k (went_on e) now
+  pub there : IsTrue start.source.told → length (first_frames start.order k start.source.left) ≡ k
+  pub ends : IsTrue start.source.told →
+      EndsFrames start.order limit start.source.left k e new.source.left
+  pub reads : IsTrue start.source.told → CountsRun (reads_of_first kind start k) e start.reads new.reads
+  pub memory : IsTrue start.source.told → IsTrue start.source.whole →
+      frames_refusal e ≡ Some OutOfMemory → kind.allocates
+      × ((new.source.left ≡ drop_frames start.order k start.source.left)
+      ⊎ (new.source.left ≡ drop_frames start.order (k + 1) start.source.left))
+  pub keeps : KeepsRun start (kind.refusals now + one_if_run_ended e) (frames_refusal e) new
+
+-- the first k frames were listed, if their bytes are known with their answers
+pub record ListsFirst (start : ReaderState) (k : ℕ) (go : Bool) (pairs : Pairs) : Type 0 where
+  pub count : length pairs ≡ k
+  pub goes : go ≡ true
+  pub borrowed : IsTrue start.source.whole → AllBorrowed pairs
+  pub answers : IsTrue start.source.told → seen_answers pairs
+      ≡ map (λ frame. (header_of start.order frame, answer_of_frame start.settings start.order frame))
+      (first_frames start.order k start.source.left)

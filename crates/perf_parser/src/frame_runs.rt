@@ -1,15 +1,15 @@
 //! Runs that hand out frames.
 
-ghost use Rattle.std.specs.Prelude.{◌≡◌, ◌≢◌, ◌+◌, ◌≤◌, ℕ, Some, None, IsTrue, IfOk, IfErr, OnErr};
-ghost use Rattle.perf_base.specs.Configured.{configuration_of, endian_of};
+ghost use Rattle.std.specs.Prelude.{◌≡◌, ◌≢◌, ◌≤◌, Some, IsTrue};
 ghost use Rattle.perf_parser.specs.FrameRuns as hands;
 ghost use Rattle.perf_parser.specs.Runs as runs;
-ghost use Rattle.perf_parser.specs.Steps as steps;
 ghost use Rattle.perf_parser.specs.Prelude.{buffer_of, config_of, reads_of, state_of};
 ghost use Rattle.perf_reader.specs.Prelude as low;
+ghost use Rattle.perf_records.specs.Frames.{first_frames};
 
 use crate::parser::Parser;
-use crate::runs::{RunEnd, end_of};
+use crate::runs::RunEnd;
+use crate::steps::{Step, run_steps};
 use perf_base::endian::Endian;
 use perf_buffers::outer::Outer;
 use perf_buffers::parsebuf::ParseBuf;
@@ -27,37 +27,29 @@ pub struct FrameRun {
     pub end: Option<RunEnd>,
 }
 
-// Hands the next frame to the handler and returns whether the run goes on, or why it stops.
-#[inline]
-fn hand_next<'p, B: ParseBuf<'p>, E: Endian, H: FrameHandler<'p, E>>(
-    reader: &mut Reader<Outer<B>, E>,
-    handler: &mut H,
-) -> Result<bool, Stop>
-    ensures config { low.config_of reader.new ≡ low.config_of reader.old }
-    ensures handed { IfOk result (λ go. hands.HandsNext
-        (λ s x. H.gets s (configuration_of (low.config_of reader.old))
-        (E.order (endian_of (low.config_of reader.old))) x)
-        (low.state_of (λ (o : Outer B). B.source o.buf) E.order reader.old) handler.old go
-        (low.state_of (λ (o : Outer B). B.source o.buf) E.order reader.new) handler.new) }
-    ensures same { OnErr result (handler.new ≡ handler.old) }
-    ensures stop { IsTrue (B.source (low.buffer_of reader.old)).told → IfErr result (λ s.
-        steps.StopsAt (low.state_of (λ (o : Outer B). B.source o.buf) E.order reader.old) s
-        (low.state_of (λ (o : Outer B). B.source o.buf) E.order reader.new)) }
-    ensures whole_memory { IsTrue (B.source (low.buffer_of reader.old)).told →
-        IsTrue (B.source (low.buffer_of reader.old)).whole →
-        low.TakesNoMemory (steps.stop_kinds result) }
-    ensures keeps { (start : low.ReaderState) (n : ℕ) → runs.KeepsRun start n None
-        (low.state_of (λ (o : Outer B). B.source o.buf) E.order reader.old) →
-        runs.KeepsRun start (n + steps.one_if_stopped result) (steps.stopped_by result)
-        (low.state_of (λ (o : Outer B). B.source o.buf) E.order reader.new) }
-{
-    let header = match reader.next_header() {
-        Ok(header) => header,
-        Err(stop) => return Err(stop),
-    };
-    match hand_after(reader, header, handler) {
-        Ok(go) => Ok(go),
-        Err(refusal) => Err(Stop::Refused(refusal)),
+// Hands the next frame to a handler.
+struct Handing;
+
+impl<'p, B: ParseBuf<'p>, E: Endian, H: FrameHandler<'p, E>> Step<'p, B, E, H> for Handing {
+    ghost kind = { record {
+      refusals = λ handler. 0;
+      reads = λ c o frame. 2;
+      so_far = λ start first k go now. IsTrue start.source.told →
+          hands.Handed (λ s x. H.gets s start.settings start.order x) start.order
+          start.source.whole first (first_frames start.order k start.source.left) go now;
+      allocates = ⊥;
+    } };
+
+    #[inline]
+    fn step(&self, reader: &mut Reader<Outer<B>, E>, handler: &mut H) -> Result<bool, Stop> {
+        let header = match reader.next_header() {
+            Ok(header) => header,
+            Err(stop) => return Err(stop),
+        };
+        match hand_after(reader, header, handler) {
+            Ok(go) => Ok(go),
+            Err(refusal) => Err(Stop::Refused(refusal)),
+        }
     }
 }
 
@@ -101,26 +93,5 @@ pub fn each_frame<'p, B: ParseBuf<'p>, E: Endian, H: FrameHandler<'p, E>>(
         (hands.one_if_run_ended result.end) (hands.frames_refusal result.end)
         (state_of B.source E.order parser.new) }
 {
-    for count in 0..limit {
-        match hand_next(&mut parser.reader, handler) {
-            Ok(true) => {}
-            Ok(false) => {
-                return FrameRun {
-                    count: count + 1,
-                    end: None,
-                };
-            }
-            Err(stop) => {
-                let end = end_of(&mut parser.reader, stop);
-                return FrameRun {
-                    count,
-                    end: Some(end),
-                };
-            }
-        }
-    }
-    FrameRun {
-        count: limit,
-        end: Some(RunEnd::Limit),
-    }
+    run_steps(&mut parser.reader, limit, &Handing, handler)
 }

@@ -9,6 +9,7 @@ mod frames;
 pub mod parse;
 mod parser;
 mod runs;
+mod steps;
 
 pub use crate::frame_runs::{FrameRun, each_frame};
 pub use crate::runs::{Run, RunEnd, read_records};

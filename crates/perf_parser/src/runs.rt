@@ -1,6 +1,6 @@
 //! Runs over a stream of records.
 
-ghost use Rattle.std.specs.Prelude.{◌≡◌, ◌+◌, ◌≤◌, ◌<◌, ◌++◌, [], ◌∷◌, take, None, Ok};
+ghost use Rattle.std.specs.Prelude.{◌≡◌, ◌+◌, ◌≤◌, ◌<◌, ◌++◌, [], ◌∷◌, take, Ok};
 ghost use Rattle.std.specs.Prelude.{max, min, length};
 ghost use Rattle.std.specs.Prelude.{vec_len, vec_capacity};
 ghost use Rattle.std.specs.Prelude.{IsTrue, IfErr, OnOk, OnErr};
@@ -10,6 +10,7 @@ ghost use Rattle.perf_parser.specs.Steps as steps;
 ghost use Rattle.perf_reader.specs.Prelude as low;
 
 use crate::parser::Parser;
+use crate::steps::{Step, run_steps};
 use perf_base::endian::Endian;
 use perf_base::error::{ErrorKind, ParseError, ParseResult};
 use perf_base::reads::ReadCounter;
@@ -27,6 +28,9 @@ use std::boxed::Box;
 
 // The most answers for which capacity is reserved at a time.
 const MOST_RESERVED: usize = 256;
+
+// The header of each frame, and its record or why there is none.
+type Frames<'p> = Vec<(perf_event_header, ParseResult<Record<'p>>)>;
 
 /// The frames that a run read, each with its header and its answer, and how the run ended.
 #[derive(Debug, Drop)]
@@ -250,93 +254,38 @@ fn make_room<'p, B: ParseBuf<'p>, E: Endian>(
     }
 }
 
-// Reads one frame and lists it in capacity that was reserved, or returns why the run stops.
-#[inline]
-fn list_next<'p, B: ParseBuf<'p>, E: Endian>(
-    reader: &mut Reader<Outer<B>, E>,
-    frames: &mut Vec<(perf_event_header, ParseResult<Record<'p>>)>,
-) -> Result<(), Stop>
-    requires room { vec_len frames.old < vec_capacity frames.old }
-    ensures config { low.config_of reader.new ≡ low.config_of reader.old }
-    ensures listed { OnOk result (steps.ListsNext
-        (low.state_of (λ (o : Outer B). B.source o.buf) E.order reader.old) frames.old.items
-        frames.new.items (low.state_of (λ (o : Outer B). B.source o.buf) E.order reader.new)) }
-    ensures kept { OnErr result (frames.new.items ≡ frames.old.items) }
-    ensures stop { IsTrue (B.source (low.buffer_of reader.old)).told → IfErr result (λ s.
-        steps.StopsAt (low.state_of (λ (o : Outer B). B.source o.buf) E.order reader.old) s
-        (low.state_of (λ (o : Outer B). B.source o.buf) E.order reader.new)) }
-    ensures between { IsTrue (B.source (low.buffer_of reader.old)).told →
-        IsTrue (B.source (low.buffer_of reader.old)).whole → IfErr result (λ s.
-        steps.StopsBetween (low.state_of (λ (o : Outer B). B.source o.buf) E.order reader.old) s
-        (low.state_of (λ (o : Outer B). B.source o.buf) E.order reader.new)) }
-    ensures keeps { (start : low.ReaderState) →
-        runs.KeepsRun start (runs.refused_count frames.old.items) None
-        (low.state_of (λ (o : Outer B). B.source o.buf) E.order reader.old) →
-        runs.KeepsRun start (runs.refused_count frames.new.items + steps.one_if_stopped result)
-        (steps.stopped_by result)
-        (low.state_of (λ (o : Outer B). B.source o.buf) E.order reader.new) }
-{
-    let header = match reader.next_header() {
-        Ok(header) => header,
-        Err(stop) => return Err(stop),
-    };
-    match list_frame(reader, frames, header) {
-        Ok(()) => Ok(()),
-        Err(refusal) => Err(Stop::Refused(refusal)),
-    }
-}
-
-// Reads one frame and lists it, or returns why the run stops. Capacity for the answer is reserved
-// first.
-#[inline]
-fn read_next<'p, B: ParseBuf<'p>, E: Endian>(
-    reader: &mut Reader<Outer<B>, E>,
-    frames: &mut Vec<(perf_event_header, ParseResult<Record<'p>>)>,
+// Lists the next frame, for whose answer capacity is reserved first.
+#[derive(Copy, Clone)]
+struct Listing {
     limit: usize,
-) -> Result<(), Stop>
-    ensures config { low.config_of reader.new ≡ low.config_of reader.old }
-    ensures listed { OnOk result (steps.ListsNext
-        (low.state_of (λ (o : Outer B). B.source o.buf) E.order reader.old) frames.old.items
-        frames.new.items (low.state_of (λ (o : Outer B). B.source o.buf) E.order reader.new)) }
-    ensures kept { OnErr result (frames.new.items ≡ frames.old.items) }
-    ensures stop { IsTrue (B.source (low.buffer_of reader.old)).told → IfErr result (λ s.
-        steps.StopsAt (low.state_of (λ (o : Outer B). B.source o.buf) E.order reader.old) s
-        (low.state_of (λ (o : Outer B). B.source o.buf) E.order reader.new)) }
-    ensures between { IsTrue (B.source (low.buffer_of reader.old)).told →
-        IsTrue (B.source (low.buffer_of reader.old)).whole → IfErr result (λ s.
-        steps.StopsBetween (low.state_of (λ (o : Outer B). B.source o.buf) E.order reader.old) s
-        (low.state_of (λ (o : Outer B). B.source o.buf) E.order reader.new)) }
-    ensures keeps { (start : low.ReaderState) →
-        runs.KeepsRun start (runs.refused_count frames.old.items) None
-        (low.state_of (λ (o : Outer B). B.source o.buf) E.order reader.old) →
-        runs.KeepsRun start (runs.refused_count frames.new.items + steps.one_if_stopped result)
-        (steps.stopped_by result)
-        (low.state_of (λ (o : Outer B). B.source o.buf) E.order reader.new) }
-{
-    match make_room(reader, frames, limit) {
-        Ok(()) => {}
-        Err(stop) => return Err(stop),
-    }
-    match list_next(reader, frames) {
-        Ok(()) => Ok(()),
-        Err(stop) => Err(stop),
-    }
 }
 
-// How a run ends that was stopped in this way.
-pub(crate) fn end_of<'p, B: ParseBuf<'p>, E: Endian>(
-    reader: &mut Reader<Outer<B>, E>,
-    stop: Stop,
-) -> RunEnd
-    ensures end { steps.IsEndOf stop result }
-    ensures buf { low.buffer_of reader.new ≡ low.buffer_of reader.old }
-    ensures config { low.config_of reader.new ≡ low.config_of reader.old }
-    ensures reads { low.reads_of reader.new ≡ low.reads_of reader.old }
-{
-    match stop {
-        Stop::Done => RunEnd::Done,
-        Stop::CutHeader => RunEnd::CutHeader,
-        Stop::Refused(refusal) => RunEnd::Fault(reader.answer(refusal)),
+impl<'p, B: ParseBuf<'p>, E: Endian> Step<'p, B, E, Frames<'p>> for Listing {
+    ghost kind = { record {
+      refusals = λ frames. runs.refused_count frames.items;
+      reads = runs.listed_reads;
+      so_far = λ start first k go now. steps.ListsFirst start k go now.items;
+      allocates = Unit {0};
+    } };
+
+    #[inline]
+    fn step(
+        &self,
+        reader: &mut Reader<Outer<B>, E>,
+        frames: &mut Frames<'p>,
+    ) -> Result<bool, Stop> {
+        match make_room(reader, frames, self.limit) {
+            Ok(()) => {}
+            Err(stop) => return Err(stop),
+        }
+        let header = match reader.next_header() {
+            Ok(header) => header,
+            Err(stop) => return Err(stop),
+        };
+        match list_frame(reader, frames, header) {
+            Ok(()) => Ok(true),
+            Err(refusal) => Err(Stop::Refused(refusal)),
+        }
     }
 }
 
@@ -386,18 +335,10 @@ pub fn read_records<'p, B: ParseBuf<'p>, E: Endian>(
     ensures borrowed { IsTrue (B.source (buffer_of parser.old)).whole →
         runs.AllBorrowed result.frames.items }
 {
-    let mut frames = Vec::new(parser.reader.alloc());
-    for _ in 0..limit {
-        match read_next(&mut parser.reader, &mut frames, limit) {
-            Ok(()) => {}
-            Err(stop) => {
-                let end = end_of(&mut parser.reader, stop);
-                return Run { frames, end };
-            }
-        }
-    }
+    let mut frames: Frames<'p> = Vec::new(parser.reader.alloc());
+    let run = run_steps(&mut parser.reader, limit, &Listing { limit }, &mut frames);
     Run {
         frames,
-        end: RunEnd::Limit,
+        end: run.end.unwrap_or(RunEnd::Limit),
     }
 }
