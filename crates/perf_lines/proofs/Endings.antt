@@ -199,12 +199,6 @@ made_refused f o limit stream start kind read can r now refused fault =
           (λ outcome h. as_faulted f o limit stream start kind outcome now (ends_early f kind other can) h) (fault other)
     ]
 
-pub not_of_layout : (kind : ErrorKind) → kind ≡ OutOfMemory → IsTrue (of_layout kind) → ⊥
-not_of_layout kind e h = grind (arith, e, h)
-
-pub no_fault : (kind : ErrorKind) → kind ≡ OutOfMemory → kind ≡ External → ⊥
-no_fault kind e h = grind (arith, e, h)
-
 pub framed_as : (c d : Configuration) → c ≡ d → (xs ys : List ℕ) → xs ≡ ys → framed c xs ≡ framed d ys
 framed_as c d e xs ys h = ap (λ x. framed x xs) e ∙ ap (λ zs. framed d zs) h
 

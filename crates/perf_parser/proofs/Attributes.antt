@@ -1,5 +1,5 @@
 -- What reading the attribute in front keeps.
-use Rattle.std.proofs.Common.{◌≡◌, ℕ, ◌+◌, ◌≤◌, length, true, sym, subst, ap}
+use Rattle.std.proofs.Common.{◌≡◌, ℕ, ◌+◌, ◌≤◌, length, true, sym, subst, ap, arith}
 use Rattle.std.specs.Prelude.{None, Some, IsTrue}
 use Rattle.perf_base.specs.declared.error.ErrorKind.{ErrorKind}
 use Rattle.perf_base.specs.declared.error.ErrorKind.TheVariants.{External, OutOfMemory}
