@@ -14,6 +14,7 @@ use Rattle.perf_base.specs.declared.error.ErrorKind.{ErrorKind}
 use Rattle.perf_base.specs.declared.error.ErrorKind.TheVariants.{Eof, InvalidRecord}
 use Rattle.perf_buffers.specs.Buffer.{Source}
 use Rattle.perf_buffers.specs.Cursor.{cursor_left}
+use Rattle.perf_buffers.specs.Taking.{MovesWithin}
 use Rattle.perf_buffers.specs.declared.cursor.ParseBufCursor.{ParseBufCursor}
 use Rattle.perf_reader.specs.Reading.{Transition, of_layout, is_external}
 use Rattle.perf_records.specs.Bodies.{body, wants_memory}
