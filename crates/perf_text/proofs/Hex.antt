@@ -8,7 +8,7 @@ use Rattle.std.proofs.lemmas.Bool.Decides.{nat_tests}
 use Rattle.std.proofs.lemmas.Str.Ascii.{IsAscii-nil, IsAscii-cons}
 use Rattle.std.proofs.lemmas.Fmt.{hex_one_digit, hex_two_digits}
 use lib.Ieee.Fits.{and_l, and_r}
-use Rattle.perf_text.specs.Numbers.{hex_byte}
+use Rattle.perf_text.specs.Numbers.{hex, hex_byte}
 use Rattle.perf_text.specs.declared.hexadecimal.TheConstants.{PAIRS}
 
 abbrev pub pair : ℕ → List ℕ
@@ -118,11 +118,11 @@ spelled_in_ascii (suc k) n xs h = either (eqb (n / 16) 0) _ _ more (spelled_in_a
     either true us vs p q = p
     either false us vs p q = q
 
-pub IsAscii-digits : (n : ℕ) → IsAscii (digits 16 false n)
+IsAscii-digits : (n : ℕ) → IsAscii (digits 16 false n)
 IsAscii-digits n = rw (as_spelled n) (spelled_in_ascii 64 n [] IsAscii-nil)
 
-pub IsUtf8-digits : (n : ℕ) → IsUtf8 (digits 16 false n)
-IsUtf8-digits n = IsUtf8-from_ascii _ (IsAscii-digits n)
+pub IsUtf8-hex : (n : ℕ) → IsUtf8 (hex n)
+IsUtf8-hex n = IsUtf8-from_ascii _ (IsAscii-cons _ (120 ∷ digits 16 false n) (omega arith) (IsAscii-cons _ (digits 16 false n) (omega arith) (IsAscii-digits n)))
 
 pub IsUtf8-pair : (b : ℕ) → b < 256 → IsUtf8 (pair b)
 IsUtf8-pair b small = IsUtf8-from_ascii _ (IsAscii-cons _ (digit_glyph false (b % 16) ∷ []) (glyph_is_ascii (b / 16) (omega arith)) (IsAscii-cons _ [] (glyph_is_ascii (b % 16) (omega arith)) IsAscii-nil))

@@ -49,7 +49,15 @@ pub(crate) fn put_pair(bytes: &mut [u8; ROOM], end: usize, byte: u64)
         ≡ digit_glyph false (byte / 16) ∷ digit_glyph false (byte % 16) ∷ drop end bytes.old }
 {
     let from = 2 * byte as usize;
-    let (high, low) = (PAIRS[from], PAIRS[from + 1]);
-    bytes[end - 2] = high;
-    bytes[end - 1] = low;
+    put_two(bytes, end, PAIRS[from], PAIRS[from + 1]);
+}
+
+// Writes two bytes before `end`.
+#[inline(always)]
+pub(crate) fn put_two(bytes: &mut [u8; ROOM], end: usize, first: u8, second: u8)
+    requires { (2 ≤ end) × (end ≤ ROOM) }
+    ensures { drop (end - 2) bytes.new ≡ first ∷ second ∷ drop end bytes.old }
+{
+    bytes[end - 2] = first;
+    bytes[end - 1] = second;
 }

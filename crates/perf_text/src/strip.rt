@@ -5,7 +5,7 @@ ghost use Rattle.std.specs.List.{flat_map};
 ghost use Rattle.std.specs.Str.{IsUtf8};
 ghost use Rattle.perf_text.specs.Numbers.{hex, hex_byte, present};
 
-use crate::hexadecimal::{put_digits, put_pair};
+use crate::hexadecimal::{put_digits, put_pair, put_two};
 
 /// The capacity of a strip, in bytes.
 pub const ROOM: usize = 256;
@@ -110,8 +110,9 @@ impl Strip {
         ensures text { text_of self.new ≡ hex number ++ text_of self.old }
         ensures room { room_of self.old ≤ room_of self.new + MOST_HEX }
     {
-        self.start = put_digits(&mut self.bytes, self.start, number);
-        self.put("0x");
+        let digits = put_digits(&mut self.bytes, self.start, number);
+        put_two(&mut self.bytes, digits, b'0', b'x');
+        self.start = digits - 2;
     }
 
     /// Writes the two hexadecimal digits of a byte before the text.
