@@ -101,8 +101,8 @@ def owner_of(header):
 def trait_of(trait):
     """A trait's part of such a name. A parameter, which is one letter, adds nothing."""
     name, _, of = re.sub(r"'\w+,?\s*", "", trait).replace("()", "Unit").partition("<")
-    of = re.match(r"&?[\w:]*", of)[0].replace("::", "").replace("&", "Ref")
-    return name.split("::")[-1] + (of if len(of) > 1 else "")
+    of = next((it for it in re.findall(r"&?[\w:]+", of) if len(it) > 1), "")
+    return name.split("::")[-1] + of.replace("::", "").replace("&", "Ref")
 
 
 def other_owners(header):
