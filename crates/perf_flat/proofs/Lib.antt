@@ -1,5 +1,0 @@
-pub mod Steps
-pub mod Names
-pub mod Spans
-pub mod Holding
-pub mod Framing
