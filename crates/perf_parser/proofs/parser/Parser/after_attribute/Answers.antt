@@ -4,6 +4,7 @@ use Rattle.perf_base.specs.Attribute.{attribute}
 use Rattle.perf_base.specs.Configured.{configuration_of, endian_of}
 use Rattle.perf_base.specs.Errors.{kind_of}
 use Rattle.perf_base.specs.Took.{took}
+use Rattle.perf_base.specs.declared.config.ParseConfig.{ParseConfig}
 use Rattle.perf_reader.proofs.Paying.{keeps_none}
 use Rattle.perf_records.proofs.Saying.{quit_says}
 use Rattle.perf_parser.specs.ReaderState.{buffer_of, reads_of, state_of}
@@ -32,7 +33,9 @@ pub returns-in-Err-duplicate-clause-fault : goal.returns-in-Err-duplicate-clause
 returns-in-Err-duplicate-clause-fault g c = λ external. absurd (no_fault (kind_of c.in-Err-duplicate.error) c.in-Err-duplicate.ensures.refused.0 external)
 
 pub returns-in-Err-duplicate-clause-memory : goal.returns-in-Err-duplicate-clause-memory
-returns-in-Err-duplicate-clause-memory g c = λ told is. subst (λ k. IsTrue (g.E.Endian.may_refuse (endian_of k))) c.in-Ok.ensures.call.config c.in-Err-duplicate.ensures.refused.1
+returns-in-Err-duplicate-clause-memory g c = λ told is.
+    let order = subst (λ (x : g.row.E.Denot). IsTrue (g.E.Endian.may_refuse x)) c.endian.ensures c.in-Err-duplicate.ensures.refused.1 in
+    subst (λ (k : ParseConfig g.row.E.Denot). IsTrue (g.E.Endian.may_refuse (endian_of k))) c.in-Ok.ensures.call.config order
 
 pub returns-clause-read : goal.returns-clause-read
 returns-clause-read g c = λ told.
