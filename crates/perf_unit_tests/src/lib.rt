@@ -30,6 +30,8 @@ mod failing;
 #[cfg(test)]
 mod faults;
 #[cfg(test)]
+mod flat;
+#[cfg(test)]
 mod generated;
 #[cfg(test)]
 mod groups;

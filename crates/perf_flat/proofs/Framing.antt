@@ -1,0 +1,287 @@
+-- What a flat frame states, by how it was made.
+use Rattle.std.proofs.Common.{◌≡◌, ℕ, ◌+◌, ◌-◌, ◌≤◌, ◌<◌, ◌^◌, Bool, true, false, List, [], ◌∷◌, length, take, drop, Option, Some, None, Result, Ok, Err, refl, sym, ◌∙◌, ap, subst, inl, inr, arith}
+use Rattle.std.specs.Prelude.{IsTrue, IfOk, ◌⊎◌, ◌≢◌, nat_lt}
+use Rattle.std.proofs.lemmas.Bool.{cases_lt, lt-ltb, le-ltb}
+use Rattle.std.proofs.lemmas.List.{length-drop, length-take, length-take-le, take-take, drop-take}
+use Rattle.perf_base.specs.Configuration.{Configuration, plain, under_misc}
+use Rattle.perf_base.specs.Header.{header_of}
+use Rattle.perf_base.specs.Layout.{layout}
+use Rattle.perf_base.specs.Order.{Order}
+use Rattle.perf_base.specs.Refusals.{refusal_kind, kinds}
+use Rattle.perf_base.specs.declared.error.ErrorKind.{ErrorKind}
+use Rattle.perf_base.specs.declared.error.ErrorKind.TheVariants.{Eof, InvalidRecord, UnsupportedConfig, UnsupportedData, External, OutOfMemory}
+use Rattle.perf_base.specs.declared.refusal.Refusal.{Refusal}
+use Rattle.perf_base.specs.declared.refusal.Refusal.TheVariants as why
+use Rattle.perf_base.specs.declared.sys.perf_event_header.{perf_event_header}
+use Rattle.perf_buffers.specs.Buffer.{chunk_bytes, is_borrowed}
+use Rattle.perf_reader.specs.Reading.{of_layout, is_external}
+use Rattle.perf_records.specs.Answers.{FrameParts, body_length, parts_of, split_after, record_in, answer_after, split_of_frame, answer_of_frame}
+use Rattle.perf_records.specs.Bodies.{body, wants_memory}
+use Rattle.perf_records.specs.FrameReadings.{HasNoRoom}
+use Rattle.perf_records.specs.Frames.{frame_length}
+use Rattle.perf_records.specs.FrameList.{sights}
+use Rattle.perf_records.specs.Metadata.{MetadataValue, id_length}
+use Rattle.perf_records.specs.Records.{RecordValue}
+use Rattle.perf_records.specs.RecordTypes.{type_of}
+use Rattle.perf_records.specs.Shown.{GivesFrameBytes}
+use Rattle.perf_records.specs.Sights.{Sight, whole, bad, sight_of, sight_after, sight_in}
+use Rattle.perf_records.specs.declared.frame.Frame.{Frame}
+use Rattle.perf_records.specs.declared.frame_handler.BadFrame.{BadFrame}
+use Rattle.perf_records.proofs.FrameList.{next_sight, no_sight, some_sight}
+use Rattle.perf_records.proofs.Handing.{finished}
+use Rattle.perf_records.proofs.Headers.{frame_whole, frame_body, header_alone}
+use Rattle.perf_records.proofs.Splitting.{split_small, split_short, split_no_room, split_whole}
+use Rattle.perf_flat.specs.Contents.{GivesContents}
+use Rattle.perf_flat.specs.Filled.{filled}
+use Rattle.perf_flat.specs.Flat.{CarriesNumbers, StatesId, StatesRecord, StatesRefusal, StatesAnswer, HasHeader, IsFlat, IsFlatAfter, IsBad, is_unread, empty_frame, refused_frame, unread_number, first_frame}
+use Rattle.perf_flat.specs.Strings.{HasSpans}
+use Rattle.perf_flat.specs.declared.contents.Contents.{Contents}
+use Rattle.perf_flat.specs.declared.flat_frame.FlatFrame.{FlatFrame}
+use Rattle.perf_flat.proofs.Holding.{contents_hold}
+use Rattle.perf_flat.proofs.Spans.{IsBodyOf}
+
+-- ---- the body of a frame
+
+ok_is : {A : Type 0} {x y : A} → ◌≡◌ {A = Result A ErrorKind} (Ok x) (Ok y) → x ≡ y
+ok_is e = cc
+
+-- it is a front of the bytes after the header
+body_front : (c : Configuration) (o : Order) (h : perf_event_header) (bytes : List ℕ) (parts : FrameParts) → split_after c o h bytes ≡ Ok parts →
+    (k : ℕ) × (parts.body ≡ take k bytes)
+body_front c o h bytes parts e = elim (cases_lt h.size 8) [
+  | inl small ↦ let no = sym (split_small c o h bytes small) ∙ e in absurd (cc)
+  | inr sized ↦ elim (cases_lt (length bytes) (body_length h)) [
+    | inl short ↦ let no = sym (split_short c o h bytes sized short) ∙ e in absurd (cc)
+    | inr fits ↦ elim (cases_lt (body_length h) (id_length c h.type_)) [
+      | inl little ↦ let no = sym (split_no_room c o h bytes sized fits little) ∙ e in absurd (cc)
+      | inr room ↦
+          let j : ℕ = body_length h in
+          let all : List ℕ = take j bytes in
+          let k : ℕ = length all - id_length c h.type_ in
+          let long : length all ≡ j = length-take-le j bytes fits in
+          let are : parts_of c o h all ≡ parts = ok_is (sym (split_whole c o h bytes sized fits room) ∙ e) in
+          (k, sym (ap (λ (p : FrameParts). p.body) are) ∙ take-take k j bytes (omega arith))
+    ]
+  ]
+]
+
+-- ---- by the bytes of a frame
+
+-- a flat frame of these parts of a frame
+transition_after : (c : Configuration) (o : Order) (h : perf_event_header) (bytes : List ℕ) (f : FlatFrame) (frame : List ℕ) → 8 ≤ length frame → header_of o frame ≡ h → drop 8 frame ≡ bytes →
+    HasHeader h f → (is_unread h.type_ ≡ false → StatesAnswer c o frame (split_after c o h bytes) (answer_after c o h bytes) f) → (is_unread h.type_ ≡ true → f ≡ empty_frame h unread_number 0) →
+    IsFlat c o frame f
+transition_after c o h bytes f frame fits is rest headed says unread =
+    let split : split_of_frame c o frame ≡ split_after c o h bytes =
+    frame_whole (split_after c o) o frame fits ∙ ap (λ k. split_after c o k (drop 8 frame)) is ∙ ap (split_after c o h) rest in
+    let answer : answer_of_frame c o frame ≡ answer_after c o h bytes =
+    frame_whole (answer_after c o) o frame fits ∙ ap (λ k. answer_after c o k (drop 8 frame)) is ∙ ap (answer_after c o h) rest in
+    record {
+      header = subst (λ k. HasHeader k f) (sym is) headed;
+      answer = λ known.
+          let said = says (subst (λ (k : perf_event_header). is_unread k.type_ ≡ false) is known) in
+          subst (λ a. StatesAnswer c o frame (split_of_frame c o frame) a f) (sym answer)
+          (subst (λ s. StatesAnswer c o frame s (answer_after c o h bytes) f) (sym split) said);
+      unread = λ none. subst (λ (k : perf_event_header). f ≡ empty_frame k unread_number 0) (sym is) (unread (subst (λ (k : perf_event_header). is_unread k.type_ ≡ true) is none));
+    }
+
+refuses : (c : Configuration) (o : Order) (frame : List ℕ) (s : Result FrameParts ErrorKind) (e : ErrorKind) (f : FlatFrame) → StatesRefusal c (header_of o frame) (length frame) e f → StatesAnswer c o frame s (Err e) f
+refuses c o frame (Ok parts) e f says = says
+refuses c o frame (Err x) e f says = says
+
+-- ---- a frame that was visited
+
+layout_kind : (e : ErrorKind) → e ≢ OutOfMemory → is_external (Some e) ≡ false → IsTrue (of_layout e)
+layout_kind Eof memory inside = refl
+layout_kind InvalidRecord memory inside = refl
+layout_kind UnsupportedConfig memory inside = refl
+layout_kind UnsupportedData memory inside = refl
+layout_kind External memory inside = absurd (cc)
+layout_kind OutOfMemory memory inside = absurd (memory refl)
+
+pub visited : (c : Configuration) (o : Order) (h : perf_event_header) (bytes : List ℕ) (result : Result Contents Refusal) (k : ℕ) (made : Contents) (f : FlatFrame) →
+    length bytes + 8 < 2 ^ 32 → is_unread h.type_ ≡ false → GivesFrameBytes GivesContents h c o bytes true result k → result ≡ Ok made →
+    HasHeader h f → CarriesNumbers c made.metadata.sample_id made.numbers f → f.spans ≡ made.spans → IsFlatAfter c o h bytes f
+visited c o h bytes result k made f short known visits is headed carries spans = λ frame fits header rest.
+    let v = subst (λ r. GivesFrameBytes GivesContents h c o bytes true r k) is visits in
+    let value : RecordValue = v.0.0 in
+    let parts : FrameParts = v.0.2 in
+    let gives = v.0.3 in
+    let split : split_after c o h bytes ≡ Ok parts = v.0.4 in
+    let answer : answer_after c o h bytes ≡ Ok value = v.0.6.0 in
+    let front = body_front c o h bytes parts split in
+    let made_of : layout o (body (under_misc h.misc c) h.type_) parts.body ≡ Ok value = sym (ap (record_in c o h) split) ∙ answer in
+    let long : length (drop 8 frame) ≡ length frame - 8 = length-drop 8 frame in
+    let many : length (drop 8 frame) ≡ length bytes = ap length rest in
+    let is_body : IsBodyOf frame parts.body = record {
+      headed = fits;
+      short = omega arith;
+      count = front.0;
+      is = front.1 ∙ ap (take front.0) (sym rest);
+    } in
+    let holds = contents_hold o (under_misc h.misc c) h.type_ (type_of h.type_) frame parts.body value made is_body known made_of gives.1 in
+    let says : StatesRecord c o frame parts.metadata.sample_id value f = (
+      record {
+        read = carries.read;
+        refusal = carries.refusal;
+        reason = carries.reason;
+        present = carries.present;
+        read_format = carries.read_format;
+        id = subst (λ m. StatesId m f) (ap (λ (m : MetadataValue). m.sample_id) gives.0) carries.id;
+        numbers = carries.numbers ∙ holds.0;
+      },
+      subst (λ xs. HasSpans o frame xs value) (sym spans) holds.1,
+    ) in
+    transition_after c o h bytes f frame fits header rest headed
+    (λ _. subst (λ a. StatesAnswer c o frame (split_after c o h bytes) a f) (sym answer) (subst (λ s. StatesAnswer c o frame s (Ok value) f) (sym split) says))
+    (λ none. let no = sym known ∙ none in absurd (cc))
+
+-- ---- a frame that was refused
+
+-- the flat frame of a refusal that the answer has
+refused : (c : Configuration) (o : Order) (h : perf_event_header) (bytes : List ℕ) (told : Refusal) (f : FlatFrame) → f ≡ refused_frame h told → is_unread h.type_ ≡ false →
+    answer_after c o h bytes ≡ Err (refusal_kind told) → (h.size < 8 → told ≡ why.SmallHeader) →
+    (8 ≤ h.size → h.size ≤ 8 + length bytes → HasNoRoom h c → told ≡ why.NoRoomForId) → IsFlatAfter c o h bytes f
+refused c o h bytes told f is known answer small no_room = λ frame fits header rest.
+    let long : length (drop 8 frame) ≡ length frame - 8 = length-drop 8 frame in
+    let many : length (drop 8 frame) ≡ length bytes = ap length rest in
+    let says : StatesRefusal c h (length frame) (refusal_kind told) f = record {
+      told = told;
+      of_kind = refl;
+      is = is;
+      small = small;
+      no_room = λ sized whole lacks. no_room sized (omega arith) lacks;
+    } in
+    let headed : HasHeader h f = record {
+      type_ = ap (λ (x : FlatFrame). x.type_) is;
+      misc = ap (λ (x : FlatFrame). x.misc) is;
+      size = ap (λ (x : FlatFrame). x.size) is;
+    } in
+    transition_after c o h bytes f frame fits header rest headed
+    (λ _. subst (λ a. StatesAnswer c o frame (split_after c o h bytes) a f) (sym answer)
+    (refuses c o frame (split_after c o h bytes) (refusal_kind told) f (subst (λ k. StatesRefusal c k (length frame) (refusal_kind told) f) (sym header) says)))
+    (λ none. let no = sym known ∙ none in absurd (cc))
+
+pub visit_refused : (c : Configuration) (o : Order) (h : perf_event_header) (bytes : List ℕ) (result : Result Contents Refusal) (k : ℕ) (e : Refusal) (f : FlatFrame) →
+    8 ≤ h.size → is_unread h.type_ ≡ false → GivesFrameBytes GivesContents h c o bytes true result k → result ≡ Err e →
+    (HasNoRoom h c → e ≡ why.NoRoomForId) → f ≡ refused_frame h e → IsFlatAfter c o h bytes f
+visit_refused c o h bytes result k e f sized known visits is no_room made =
+    let v = subst (λ r. GivesFrameBytes GivesContents h c o bytes true r k) is visits in
+    let kind : IsTrue (of_layout (refusal_kind e)) = layout_kind (refusal_kind e) (v.2 refl known) v.3 in
+    refused c o h bytes e f made known (v.0 kind).0 (λ small. absurd (omega arith)) (λ _ _ lacks. no_room lacks)
+
+pub bad_refused : (c : Configuration) (o : Order) (h : perf_event_header) (bytes : List ℕ) (f : FlatFrame) → is_unread h.type_ ≡ false → IsBad h bytes →
+    (h.size < 8 → f ≡ refused_frame h why.SmallHeader) → (8 ≤ h.size → f ≡ refused_frame h why.Eof) → IsFlatAfter c o h bytes f
+bad_refused c o h bytes f known (inl small) is_small is_short =
+    refused c o h bytes why.SmallHeader f (is_small small) known (ap (record_in c o h) (split_small c o h bytes small)) (λ _. refl) (λ sized _ _. absurd (omega arith))
+bad_refused c o h bytes f known (inr short) is_small is_short =
+    let sized : 8 ≤ h.size = short.0 in
+    let lacks : length bytes < body_length h = short.1 in
+    refused c o h bytes why.Eof f (is_short sized) known (ap (record_in c o h) (split_short c o h bytes sized lacks)) (λ small. absurd (omega arith)) (λ _ all _. absurd (omega arith))
+
+pub unread : (c : Configuration) (o : Order) (h : perf_event_header) (bytes : List ℕ) (f : FlatFrame) → is_unread h.type_ ≡ true → f ≡ empty_frame h unread_number 0 → IsFlatAfter c o h bytes f
+unread c o h bytes f none is = λ frame fits header rest.
+    let headed : HasHeader h f = record {
+      type_ = ap (λ (x : FlatFrame). x.type_) is;
+      misc = ap (λ (x : FlatFrame). x.misc) is;
+      size = ap (λ (x : FlatFrame). x.size) is;
+    } in
+    transition_after c o h bytes f frame fits header rest headed (λ known. let no = sym known ∙ none in absurd (cc)) (λ _. is)
+
+-- ---- the first frame of bytes
+
+-- its header, and the bytes after that
+first_rest : (o : Order) (bytes : List ℕ) → drop 8 (first_frame o bytes) ≡ take (body_length (header_of o bytes)) (drop 8 bytes)
+first_rest o bytes =
+    let h : perf_event_header = header_of o bytes in
+    ap (λ n. drop 8 (take n bytes)) (frame_body h) ∙ drop-take 8 (body_length h) bytes
+
+first_headed : (o : Order) (bytes : List ℕ) → 8 ≤ length bytes → 8 ≤ length (first_frame o bytes)
+first_headed o bytes fits = omega (arith, length-take (frame_length o bytes) bytes)
+
+-- what is there, by the header and the bytes after that
+sight_small : (h : perf_event_header) (bytes : List ℕ) → h.size < 8 → sight_after h bytes true ≡ bad h InvalidRecord
+sight_small h bytes small = let a : nat_lt h.size 8 ≡ true = lt-ltb h.size 8 small in rw a refl
+
+sight_short : (h : perf_event_header) (bytes : List ℕ) → 8 ≤ h.size → length bytes < body_length h → sight_after h bytes true ≡ bad h Eof
+sight_short h bytes sized short =
+    let a : nat_lt h.size 8 ≡ false = le-ltb h.size 8 sized in
+    let b : nat_lt (length bytes) (body_length h) ≡ true = lt-ltb (length bytes) (body_length h) short in
+    rw (a, b) refl
+
+-- what is at the first frame
+pub first_sight : (o : Order) (bytes : List ℕ) (x : Sight) (xs : List Sight) → sights o bytes ≡ x ∷ xs → (8 ≤ length bytes) × (sight_in o bytes true ≡ x)
+first_sight o bytes x xs e = elim (cases_lt (length bytes) 8) [
+  | inl short ↦ let no = sym (no_sight o bytes short) ∙ e in absurd (cc)
+  | inr fits ↦
+      let all = sym (next_sight o bytes (drop (frame_length o bytes) bytes) (sight_in o bytes true) fits refl refl) ∙ e in
+      let same : sight_in o bytes true ≡ x = cc in
+      (fits, same)
+]
+
+pub no_first : (o : Order) (bytes : List ℕ) → sights o bytes ≡ [] → length bytes < 8
+no_first o bytes e = elim (cases_lt (length bytes) 8) [
+  | inl short ↦ short
+  | inr fits ↦ absurd (some_sight o bytes fits e)
+]
+
+-- a whole frame is there
+pub record WholeFirst (c : Configuration) (o : Order) (bytes rest : List ℕ) (h : perf_event_header) (borrowed : Bool) : Type 0 where
+  pub is_borrowed : IsTrue borrowed
+  pub flat : (f : FlatFrame) → IsFlatAfter c o h rest f → IsFlat c o (first_frame o bytes) f
+
+pub whole_first : (c : Configuration) (o : Order) (bytes rest : List ℕ) (h : perf_event_header) (borrowed : Bool) → 8 ≤ length bytes → sight_in o bytes true ≡ whole h rest borrowed →
+    WholeFirst c o bytes rest h borrowed
+whole_first c o bytes rest h borrowed fits seen =
+    let k : perf_event_header = header_of o bytes in
+    let after : List ℕ = drop 8 bytes in
+    elim (cases_lt k.size 8) [
+      | inl small ↦ let no = sym (sight_small k after small) ∙ seen in absurd (cc)
+      | inr sized ↦ elim (cases_lt (length after) (body_length k)) [
+        | inl short ↦ let no = sym (sight_short k after sized short) ∙ seen in absurd (cc)
+        | inr whole_there ↦
+            let e = sym (finished k after true sized whole_there) ∙ seen in
+            let header : k ≡ h = cc in
+            let bytes_are : take (body_length k) after ≡ rest = cc in
+            let lent : true ≡ borrowed = cc in
+            record {
+              is_borrowed = sym lent;
+              flat = λ f flat. flat (first_frame o bytes) (first_headed o bytes fits) (header_alone o bytes ∙ header) (first_rest o bytes ∙ bytes_are);
+            }
+      ]
+    ]
+
+-- no whole frame is there
+pub bad_first : (c : Configuration) (o : Order) (bytes : List ℕ) (h : perf_event_header) (e : ErrorKind) (f : FlatFrame) → 8 ≤ length bytes → sight_in o bytes true ≡ bad h e →
+    ((rest : List ℕ) → IsBad h rest → IsFlatAfter c o h rest f) → IsFlat c o (first_frame o bytes) f
+bad_first c o bytes h e f fits seen flat =
+    let k : perf_event_header = header_of o bytes in
+    let after : List ℕ = drop 8 bytes in
+    let frame : List ℕ = first_frame o bytes in
+    elim (cases_lt k.size 8) [
+      | inl small ↦
+          let e' = sym (sight_small k after small) ∙ seen in
+          let header : k ≡ h = cc in
+          flat (drop 8 frame) (inl (subst (λ (x : perf_event_header). x.size < 8) header small)) frame (first_headed o bytes fits) (header_alone o bytes ∙ header) refl
+      | inr sized ↦ elim (cases_lt (length after) (body_length k)) [
+        | inl short ↦
+            let e' = sym (sight_short k after sized short) ∙ seen in
+            let header : k ≡ h = cc in
+            let less : length (drop 8 frame) < body_length k = omega (arith, ap length (first_rest o bytes), length-take (body_length k) after) in
+            flat (drop 8 frame) (inr (subst (λ (x : perf_event_header). (8 ≤ x.size) × (length (drop 8 frame) < body_length x)) header (sized, less))) frame (first_headed o bytes fits) (header_alone o bytes ∙ header) refl
+        | inr whole_there ↦ let no = sym (finished k after true sized whole_there) ∙ seen in absurd (cc)
+      ]
+    ]
+
+-- ---- what the iterator returns
+
+-- it is at the front of the bytes, which are those of the iterator
+pub at_front : (o p : Order) (bytes left : List ℕ) (x : Sight) (xs : List Sight) → p ≡ o → left ≡ bytes → sights p left ≡ x ∷ xs → (8 ≤ length bytes) × (sight_in o bytes true ≡ x)
+at_front o p bytes left x xs same front e = first_sight o bytes x xs (sym (ap (λ q. sights q bytes) same) ∙ sym (ap (sights p) front) ∙ e)
+
+pub nothing_there : (o p : Order) (bytes left : List ℕ) → p ≡ o → left ≡ bytes → sights p left ≡ [] → length bytes < 8
+nothing_there o p bytes left same front e = no_first o bytes (sym (ap (λ q. sights q bytes) same) ∙ sym (ap (sights p) front) ∙ e)
+
+pub first_lasts : (o : Order) (bytes : List ℕ) (first : Result Frame BadFrame) → 8 ≤ length bytes → sight_in o bytes true ≡ sight_of first → IfOk first (λ frame. IsTrue (is_borrowed frame.rest))
+first_lasts o bytes (Ok frame) fits seen = (whole_first plain o bytes (chunk_bytes frame.rest) frame.header (is_borrowed frame.rest) fits seen).is_borrowed
+first_lasts o bytes (Err b) fits seen = tt

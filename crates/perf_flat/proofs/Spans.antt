@@ -1,0 +1,78 @@
+-- Spans of a flat frame, and what is at them.
+use Rattle.std.proofs.Common.{◌≡◌, ℕ, zero, suc, ◌+◌, ◌-◌, ◌*◌, ◌%◌, ◌^◌, ◌≤◌, ◌<◌, List, [], ◌∷◌, ◌++◌, length, take, drop, get_or, refl, sym, ◌∙◌, ap, subst, inl, inr, arith}
+use Rattle.std.specs.Prelude.{replicate, min}
+use Rattle.std.proofs.lemmas.Bool.{cases_lt}
+use Rattle.std.proofs.lemmas.List.{length-drop, length-take, drop-drop, drop-replicate, get_or-append_right}
+use Rattle.perf_reader.proofs.AtOnce.{in_front}
+use Rattle.perf_flat.specs.Contents.{low, standing}
+use Rattle.perf_flat.specs.Filled.{span, no_span, filled_spans}
+use Rattle.perf_flat.specs.Strings.{span_at, HasBytes, NoSpansFrom, HasStrings}
+use Rattle.perf_flat.specs.declared.flat_frame.Span.{Span}
+use Rattle.perf_flat.proofs.Steps.{Stands}
+
+-- ---- spans of no bytes
+
+empty_at : (n i : ℕ) → get_or (replicate n no_span) i no_span ≡ no_span
+empty_at zero i = refl
+empty_at (suc n) zero = refl
+empty_at (suc n) (suc i) = empty_at n i
+
+pub none_after : (spans : List Span) (n : ℕ) → length spans ≡ n → NoSpansFrom (filled_spans spans) n
+unfolding filled_spans
+none_after spans n many = λ i from.
+    let m : ℕ = 8 - length spans in
+    let back : drop (length spans) (replicate 8 no_span) ≡ replicate m no_span = drop-replicate (length spans) 8 no_span in
+    get_or-append_right spans (drop (length spans) (replicate 8 no_span)) n i no_span many from
+    ∙ ap (λ xs. get_or xs (i - n) no_span) back ∙ empty_at m (i - n)
+
+-- ---- strings of a frame, at the first spans
+
+pub no_strings : (frame : List ℕ) → HasStrings frame (filled_spans []) 0 []
+no_strings frame = none_after [] 0 refl
+
+first_of_one : (s : Span) → span_at (filled_spans (s ∷ [])) 0 ≡ s
+unfolding filled_spans
+first_of_one s = refl
+
+first_of_two : (s t : Span) → span_at (filled_spans (s ∷ t ∷ [])) 0 ≡ s
+unfolding filled_spans
+first_of_two s t = refl
+
+second_of_two : (s t : Span) → span_at (filled_spans (s ∷ t ∷ [])) 1 ≡ t
+unfolding filled_spans
+second_of_two s t = refl
+
+pub one_string : (frame : List ℕ) (s : Span) (bytes : List ℕ) → HasBytes frame s bytes → HasStrings frame (filled_spans (s ∷ [])) 0 (bytes ∷ [])
+one_string frame s bytes has = (subst (λ x. HasBytes frame x bytes) (sym (first_of_one s)) has, none_after (s ∷ []) 1 refl)
+
+pub two_strings : (frame : List ℕ) (s t : Span) (bytes more : List ℕ) → HasBytes frame s bytes → HasBytes frame t more →
+    HasStrings frame (filled_spans (s ∷ t ∷ [])) 0 (bytes ∷ more ∷ [])
+two_strings frame s t bytes more has also =
+    (subst (λ x. HasBytes frame x bytes) (sym (first_of_two s t)) has, (subst (λ x. HasBytes frame x more) (sym (second_of_two s t)) also, none_after (s ∷ t ∷ []) 2 refl))
+
+-- ---- from a body to its frame
+
+-- the bytes of a frame after its header, of which a body is the front
+pub record IsBodyOf (frame body : List ℕ) : Type 0 where
+  pub headed : 8 ≤ length frame
+  pub short : length frame < 2 ^ 32
+  pub count : ℕ
+  pub is : body ≡ take count (drop 8 frame)
+
+pub stands_there : (frame body : List ℕ) → IsBodyOf frame body → (s : ℕ) (bytes : List ℕ) → Stands body s bytes → HasBytes frame (standing (8 + s) bytes) bytes
+stands_there frame body is s bytes stands =
+    let n : ℕ = length bytes in
+    let k : ℕ = is.count in
+    let headed : 8 ≤ length frame = is.headed in
+    let short : length frame < 2 ^ 32 = is.short in
+    let inside : s + n ≤ length body = stands.inside in
+    let rest : length (drop 8 frame) ≡ length frame - 8 = length-drop 8 frame in
+    let front : length body ≡ min k (length (drop 8 frame)) = ap length is.is ∙ length-take k (drop 8 frame) in
+    let place : low (8 + s) ≡ 8 + s = omega arith in
+    let long : low n ≡ n = omega arith in
+    let same : take n (drop (8 + s) frame) ≡ bytes =
+    sym (ap (take n) (drop-drop s 8 frame)) ∙ sym (in_front s n k (drop 8 frame) (omega arith)) ∙ sym (ap (λ b. take n (drop s b)) is.is) ∙ stands.there in
+    record {
+      inside = omega arith;
+      there = ap (λ m. take m (drop (low (8 + s)) frame)) long ∙ ap (λ m. take n (drop m frame)) place ∙ same;
+    }

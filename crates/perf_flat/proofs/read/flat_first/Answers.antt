@@ -1,0 +1,29 @@
+use Rattle.std.proofs.Common.{sym, ap, subst, ◌∙◌}
+use Rattle.std.specs.Prelude.{IfOk, IsTrue}
+use Rattle.perf_base.specs.Configured.{configuration_of, endian_of}
+use Rattle.perf_base.specs.declared.sys.perf_event_header.{perf_event_header}
+use Rattle.perf_buffers.specs.Buffer.{chunk_bytes, chunk_is_borrowed}
+use Rattle.perf_records.specs.Sights.{sight_of}
+use Rattle.perf_flat.specs.Flat.{IsBad, IsFlatAfter}
+use Rattle.perf_flat.proofs.Framing.{whole_first, bad_first}
+use Rattle.perf_flat.proofs.read.flat_first.Goals as goal
+
+pub flat_frame-requires : goal.flat_frame-requires
+flat_frame-requires g c = subst (λ x. IfOk x (λ frame. IsTrue (chunk_is_borrowed frame.rest))) c.in-Ok.is c.requires
+
+pub returns-in-Ok : goal.returns-in-Ok
+returns-in-Ok g c = λ bytes fits seen.
+    let f = c.in-Ok.frame in
+    let settings = configuration_of c.args.config.now in
+    let order = g.E.Endian.order (endian_of c.args.config.now) in
+    (whole_first settings order bytes (chunk_bytes f.rest) f.header (chunk_is_borrowed f.rest) fits (seen ∙ ap sight_of c.in-Ok.is)).flat _ c.flat_frame.ensures
+
+pub returns-in-Err : goal.returns-in-Err
+returns-in-Err g c = λ bytes fits seen.
+    let b = c.in-Err.bad in
+    let settings = configuration_of c.args.config.now in
+    let order = g.E.Endian.order (endian_of c.args.config.now) in
+    bad_first settings order bytes b.header _ c.bad_frame.result fits (seen ∙ ap sight_of c.in-Err.is)
+    (λ rest bad.
+    subst (λ h. IsFlatAfter settings order h rest c.bad_frame.result) c.header.ensures
+    (c.bad_frame.ensures settings order rest (subst (λ h. IsBad h rest) (sym c.header.ensures) bad)))

@@ -1,0 +1,183 @@
+-- What a flat frame states of the bytes of a frame: what the answer to them is, in numbers, and where
+-- its byte strings and lists are in the frame.
+use Rattle.std.specs.Prelude.{◌≡◌, ◌⊎◌, ◌<◌, ◌≤◌, ℕ, Bool, true, false, List, length, Option, Some, None, Result, Ok, Err}
+use Rattle.std.specs.Prelude.{take, drop, [], ◌+◌, ◌==◌, ◌&&◌, if◌then◌else◌}
+use Rattle.std.specs.Int.RustNames.{bit_and}
+use Rattle.perf_base.specs.Configuration.{Configuration}
+use Rattle.perf_base.specs.Header.{header_of}
+use Rattle.perf_base.specs.Order.{Order}
+use Rattle.perf_base.specs.Refusals.{refusal_kind}
+use Rattle.perf_base.specs.declared.error.ErrorKind.{ErrorKind}
+use Rattle.perf_base.specs.declared.error.ErrorKind.TheVariants as kind
+use Rattle.perf_base.specs.declared.refusal.Refusal.{Refusal}
+use Rattle.perf_base.specs.declared.refusal.Refusal.TheVariants as why
+use Rattle.perf_base.specs.declared.sys.perf_event_header.{perf_event_header}
+use Rattle.perf_records.specs.Answers.{FrameParts, body_length, split_of_frame, answer_of_frame}
+use Rattle.perf_records.specs.Bodies.{wants_memory}
+use Rattle.perf_records.specs.Frames.{frame_length}
+use Rattle.perf_records.specs.Metadata.{carries_sample_id, id_length}
+use Rattle.perf_records.specs.Records.{RecordValue}
+use Rattle.perf_records.specs.RecordTypes.{type_of}
+use Rattle.perf_sample_types.specs.SampleId.{SampleIdValue}
+use Rattle.perf_flat.specs.Filled.{filled, filled_spans}
+use Rattle.perf_flat.specs.Numbers.{numbers_of, or_zero}
+use Rattle.perf_flat.specs.Strings.{HasSpans}
+use Rattle.perf_flat.specs.declared.flat_frame.FlatFrame.{FlatFrame}
+
+-- ---- the parts of a flat frame that are numbers by themselves
+
+-- the type that was read: that of the header, if the kernel has one of that number, else 0
+abbrev pub read_type : ℕ → ℕ
+read_type ty = elim (type_of ty) [ Some known ↦ ty | None ↦ 0 ]
+
+-- the flags of a sample id: TID, TIME, ID, STREAM_ID, CPU, IDENTIFIER
+abbrev pub id_flags : ℕ
+id_flags = 2 + 4 + 64 + 512 + 128 + 65536
+
+-- which of them a frame has, by its type: none if it has no sample id
+abbrev pub present_of : Configuration → ℕ → ℕ
+present_of c ty =
+    if carries_sample_id ty && c.sample_id_all then bit_and c.sample_type id_flags else 0
+
+-- the format of the counters that it has: of a READ
+abbrev pub format_of : Configuration → ℕ → ℕ
+format_of c ty = if ty == 8 then c.read_format else 0
+
+-- the kind of a refusal as a number
+abbrev pub kind_number : ErrorKind → ℕ
+kind_number kind.Eof = 1
+kind_number kind.InvalidRecord = 2
+kind_number kind.UnsupportedConfig = 3
+kind_number kind.UnsupportedData = 4
+kind_number kind.External = 5
+kind_number kind.OutOfMemory = 6
+
+-- the reason of a refusal, as a number: 0 for its kind alone
+abbrev pub reason_number : Refusal → ℕ
+reason_number why.Eof = 0
+reason_number why.SmallHeader = 1
+reason_number why.NoRoomForId = 2
+reason_number why.BuildIdLength = 3
+reason_number why.UsedStack = 4
+reason_number why.SingleRead = 5
+reason_number why.GroupRead = 6
+reason_number why.ReadFormat = 7
+reason_number why.GroupLength = 8
+reason_number why.AttributeSize = 9
+reason_number why.AttributeTail = 10
+reason_number why.OutOfMemory = 0
+reason_number (why.Kept kind) = 0
+
+-- ---- a record
+
+-- its task, time, event and processor are those of a sample id, and 0 if it does not have them
+pub record StatesId (ids : SampleIdValue) (f : FlatFrame) : Type 0 where
+  pub pid : f.pid ≡ or_zero ids.pid
+  pub tid : f.tid ≡ or_zero ids.tid
+  pub time : f.time ≡ or_zero ids.time
+  pub id : f.id ≡ or_zero ids.id
+  pub stream_id : f.stream_id ≡ or_zero ids.stream_id
+  pub cpu : f.cpu ≡ or_zero ids.cpu
+
+-- What it states besides its spans: that there is a record, of which type, which fields and which
+-- format it has, its sample id and its numbers.
+pub record CarriesNumbers (c : Configuration) (ids : SampleIdValue) (all : List ℕ)
+    (f : FlatFrame) : Type 0 where
+  pub read : f.read ≡ read_type f.type_
+  pub refusal : f.refusal ≡ 0
+  pub reason : f.reason ≡ 0
+  pub present : f.present ≡ present_of c f.type_
+  pub read_format : f.read_format ≡ format_of c f.type_
+  pub id : StatesId ids f
+  pub numbers : f.numbers ≡ all
+
+-- It states what a record with this sample id contains, and its spans are in the frame.
+abbrev pub StatesRecord : Configuration → Order → (frame : List ℕ) → SampleIdValue → RecordValue →
+    FlatFrame → Type 0
+StatesRecord c o frame ids value f =
+    CarriesNumbers c ids (filled (numbers_of value)) f × HasSpans o frame f.spans value
+
+-- ---- a refusal
+
+-- the flat frame of a header alone, with a refusal and a reason: all else is 0
+abbrev pub empty_frame : perf_event_header → (refusal reason : ℕ) → FlatFrame
+empty_frame h refusal reason = record {
+  type_ = h.type_;
+  misc = h.misc;
+  size = h.size;
+  read = 0;
+  refusal = refusal;
+  reason = reason;
+  present = 0;
+  pid = 0;
+  tid = 0;
+  time = 0;
+  id = 0;
+  stream_id = 0;
+  cpu = 0;
+  read_format = 0;
+  numbers = filled [];
+  spans = filled_spans [];
+}
+
+-- the flat frame of a header without a record, and why there is none
+abbrev pub refused_frame : perf_event_header → Refusal → FlatFrame
+refused_frame h told =
+    empty_frame h (kind_number (refusal_kind told)) (reason_number told)
+
+-- the number of a type that has no flat frame so far, in place of a refusal
+abbrev pub unread_number : ℕ
+unread_number = 7
+
+-- It is refused with a kind, and has a reason of that kind. A size below 8, and a whole frame without
+-- space for its sample id, have reasons of their own.
+pub record StatesRefusal (c : Configuration) (h : perf_event_header) (len : ℕ) (e : ErrorKind)
+    (f : FlatFrame) : Type 0 where
+  pub told : Refusal
+  pub of_kind : refusal_kind told ≡ e
+  pub is : f ≡ refused_frame h told
+  pub small : h.size < 8 → told ≡ why.SmallHeader
+  pub no_room : 8 ≤ h.size → h.size ≤ len → body_length h < id_length c h.type_ →
+      told ≡ why.NoRoomForId
+
+-- ---- a frame
+
+-- its type, its misc and its size are those of the header
+pub record HasHeader (h : perf_event_header) (f : FlatFrame) : Type 0 where
+  pub type_ : f.type_ ≡ h.type_
+  pub misc : f.misc ≡ h.misc
+  pub size : f.size ≡ h.size
+
+-- It states what the answer to the frame is: the record, or why there is none.
+abbrev pub StatesAnswer : Configuration → Order → (frame : List ℕ) →
+    Result FrameParts ErrorKind → Result RecordValue ErrorKind → FlatFrame → Type 0
+StatesAnswer c o frame (Ok parts) (Ok value) f =
+    StatesRecord c o frame parts.metadata.sample_id value f
+StatesAnswer c o frame (Err e) (Ok value) f = ⊥
+StatesAnswer c o frame _ (Err e) f = StatesRefusal c (header_of o frame) (length frame) e f
+
+-- A type that has no flat frame so far: SAMPLE, and NAMESPACES.
+abbrev pub is_unread : ℕ → Bool
+is_unread ty = wants_memory ty
+
+-- A flat frame states what the bytes of a frame contain, or the header alone for a type without one.
+pub record IsFlat (c : Configuration) (o : Order) (frame : List ℕ) (f : FlatFrame) : Type 0 where
+  pub header : HasHeader (header_of o frame) f
+  pub answer : is_unread (header_of o frame).type_ ≡ false →
+      StatesAnswer c o frame (split_of_frame c o frame) (answer_of_frame c o frame) f
+  pub unread : is_unread (header_of o frame).type_ ≡ true →
+      f ≡ empty_frame (header_of o frame) unread_number 0
+
+-- the bytes of the frame at the front of bytes
+abbrev pub first_frame : Order → List ℕ → List ℕ
+first_frame o bytes = take (frame_length o bytes) bytes
+
+-- What a flat frame states of a frame by its header and the bytes after that: it states so of each
+-- frame that has them.
+abbrev pub IsFlatAfter : Configuration → Order → perf_event_header → List ℕ → FlatFrame → Type 0
+IsFlatAfter c o h bytes f = (frame : List ℕ) → 8 ≤ length frame → header_of o frame ≡ h →
+    drop 8 frame ≡ bytes → IsFlat c o frame f
+
+-- no whole frame follows the header: its size is below 8, or bytes are missing
+abbrev pub IsBad : perf_event_header → List ℕ → Type 0
+IsBad h bytes = (h.size < 8) ⊎ ((8 ≤ h.size) × (length bytes < body_length h))

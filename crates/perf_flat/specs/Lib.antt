@@ -1,0 +1,5 @@
+pub mod Filled
+pub mod Numbers
+pub mod Strings
+pub mod Flat
+pub mod Contents

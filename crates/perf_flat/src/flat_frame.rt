@@ -1,0 +1,83 @@
+//! A frame as plain numbers.
+
+ghost use Rattle.std.specs.Prelude.{◌≡◌, ◌≤◌, length};
+ghost use Rattle.perf_flat.specs.Filled.{filled, filled_spans};
+
+/// How many numbers a flat frame has.
+pub const NUMBERS: usize = 24;
+
+/// How many spans a flat frame has.
+pub const SPANS: usize = 8;
+
+/// A place in a frame.
+#[repr(C)]
+#[derive(Copy, Clone, Debug)]
+pub struct Span {
+    /// Its offset in the frame, in bytes: at least the eight of the header.
+    pub at: u32,
+    /// Its length in bytes.
+    pub len: u32,
+}
+
+/// A frame as numbers alone, in 320 bytes. What the record does not have is 0.
+#[repr(C)]
+#[derive(Copy, Clone, Debug)]
+pub struct FlatFrame {
+    /// The type in the frame's header, `PERF_RECORD_*`.
+    pub type_: u32,
+    /// The bits in its header that depend on the type, `PERF_RECORD_MISC_*`.
+    pub misc: u16,
+    /// The size in its header, in bytes.
+    pub size: u16,
+    /// The type if this library knows it, else 0.
+    pub read: u32,
+    /// Why there is no record, or 0: 1 for too few bytes, 2 for an invalid record, 3 for a configuration
+    /// that is not supported.
+    pub refusal: u16,
+    /// The reason for that, or 0.
+    pub reason: u16,
+    /// Which fields of the sample type are present, `PERF_SAMPLE_*`: those of the sample id.
+    pub present: u64,
+    /// The process in which it happened.
+    pub pid: u32,
+    /// The thread in which it happened.
+    pub tid: u32,
+    /// When it happened, in nanoseconds of the event's clock.
+    pub time: u64,
+    /// The kernel's own number of the event, or of its group's leader.
+    pub id: u64,
+    /// The kernel's own number of the event itself.
+    pub stream_id: u64,
+    /// The processor on which it happened.
+    pub cpu: u32,
+    /// What the read of a counter has besides its value, `PERF_FORMAT_*`: of a READ.
+    pub read_format: u32,
+    /// The numbers of the record, in the order of its fields.
+    pub numbers: [u64; NUMBERS],
+    /// Where its byte strings and its lists are.
+    pub spans: [Span; SPANS],
+}
+
+// These numbers, and zeros after them.
+#[inline]
+#[tactic(auto, unfolding(crate::specs::Filled::filled))]
+pub(crate) fn fill_numbers(numbers: &[u64]) -> [u64; NUMBERS]
+    requires { length numbers.now ≤ 24 }
+    ensures { result ≡ filled numbers.now }
+{
+    let mut all = [0; NUMBERS];
+    all[..numbers.len()].copy_from_slice(numbers);
+    all
+}
+
+// These spans, and spans of no bytes after them.
+#[inline]
+#[tactic(auto, unfolding(crate::specs::Filled::filled_spans))]
+pub(crate) fn fill_spans(spans: &[Span]) -> [Span; SPANS]
+    requires { length spans.now ≤ 8 }
+    ensures { result ≡ filled_spans spans.now }
+{
+    let mut all = [Span { at: 0, len: 0 }; SPANS];
+    all[..spans.len()].copy_from_slice(spans);
+    all
+}

@@ -1,0 +1,122 @@
+//! The flat frame at the front of bytes.
+
+ghost use Rattle.std.specs.Prelude.{◌≡◌, ◌<◌, ◌≤◌, false, true, length, List, ℕ, IsTrue, IfOk, MatchOption};
+ghost use Rattle.perf_base.specs.Configuration.{Configuration};
+ghost use Rattle.perf_base.specs.Order.{Order};
+ghost use Rattle.perf_base.specs.declared.refusal.Refusal.TheVariants.{Eof, SmallHeader};
+ghost use Rattle.perf_buffers.specs.Prelude.{chunk_bytes, chunk_is_borrowed};
+ghost use Rattle.perf_flat.specs.Flat.{IsFlat, IsFlatAfter, IsBad, first_frame, is_unread};
+ghost use Rattle.perf_records.specs.Sights.{sight_in, sight_of};
+ghost use Rattle.perf_records.specs.Prelude.{configuration_of, endian_of};
+
+use crate::accepted::accepted_frame;
+use crate::contents::ContentsVisitor;
+use crate::flat_frame::FlatFrame;
+use crate::refusals::{is_unread, refused_frame, unread_frame};
+use perf_base::config::ParseConfig;
+use perf_base::endian::Endian;
+use perf_base::refusal::Refusal;
+use perf_base::sys::perf_event_header;
+use perf_records::body_reader::ByVisitor;
+use perf_records::frame::Frame;
+use perf_records::frame_handler::BadFrame;
+use perf_records::frame_list::frames;
+use std::alloc::Global;
+
+// Why no whole frame follows a header.
+#[inline]
+fn why_bad(header: perf_event_header) -> Refusal
+    ensures small { header.size < 8 → result ≡ SmallHeader }
+    ensures short { 8 ≤ header.size → result ≡ Eof }
+{
+    if header.size < 8 {
+        Refusal::SmallHeader
+    } else {
+        Refusal::Eof
+    }
+}
+
+// The flat frame of a header without a whole frame.
+fn bad_frame(header: perf_event_header) -> FlatFrame
+    ensures { (c : Configuration) (o : Order) (bytes : List ℕ) → IsBad header bytes →
+        IsFlatAfter c o header bytes result }
+{
+    if is_unread(header.type_) {
+        return unread_frame(header);
+    }
+    refused_frame(header, why_bad(header))
+}
+
+// The flat frame of a whole frame, whose type needs no memory as the bytes are borrowed.
+fn visited_frame<'p, E: Endian>(
+    alloc: Global,
+    config: &ParseConfig<E>,
+    frame: Frame<'_, 'p>,
+) -> FlatFrame
+    requires borrowed { IsTrue (chunk_is_borrowed frame.rest) }
+    requires known { is_unread frame.header.type_ ≡ false }
+    ensures { IsFlatAfter (configuration_of config.now) (E.order (endian_of config.now))
+        frame.entry.header (chunk_bytes frame.entry.rest) result }
+{
+    let header = frame.header();
+    let visitor = ByVisitor {
+        visitor: ContentsVisitor,
+    };
+    let (answer, _reads) = frame.read(alloc, config, visitor, &mut ());
+    match answer {
+        Ok(made) => accepted_frame(config, header, &made),
+        Err(refusal) => refused_frame(header, refusal),
+    }
+}
+
+// The flat frame of a whole frame whose bytes are borrowed.
+fn flat_frame<'p, E: Endian>(
+    alloc: Global,
+    config: &ParseConfig<E>,
+    frame: Frame<'_, 'p>,
+) -> FlatFrame
+    requires { IsTrue (chunk_is_borrowed frame.rest) }
+    ensures { IsFlatAfter (configuration_of config.now) (E.order (endian_of config.now))
+        frame.entry.header (chunk_bytes frame.entry.rest) result }
+{
+    let header = frame.header();
+    if is_unread(header.type_) {
+        return unread_frame(header);
+    }
+    visited_frame(alloc, config, frame)
+}
+
+// The flat frame of what is at the front of bytes.
+fn flat_first<'p, E: Endian>(
+    alloc: Global,
+    config: &ParseConfig<E>,
+    first: Result<Frame<'p, 'p>, BadFrame>,
+) -> FlatFrame
+    requires { IfOk first (λ frame. IsTrue (chunk_is_borrowed frame.rest)) }
+    ensures { (bytes : List ℕ) → 8 ≤ length bytes →
+        sight_in (E.order (endian_of config.now)) bytes true ≡ sight_of first.entry →
+        IsFlat (configuration_of config.now) (E.order (endian_of config.now))
+        (first_frame (E.order (endian_of config.now)) bytes) result }
+{
+    match first {
+        Ok(frame) => flat_frame(alloc, config, frame),
+        Err(bad) => bad_frame(bad.header()),
+    }
+}
+
+/// The frame at the front of bytes as plain numbers, or `None` if there are fewer bytes than a header
+/// has. A refused frame has its header and the reason. No memory is needed.
+///
+/// A SAMPLE and a NAMESPACES record have no flat frame so far: theirs has the header alone, and 7 for
+/// its refusal.
+pub fn read<E: Endian>(alloc: Global, config: &ParseConfig<E>, bytes: &[u8]) -> Option<FlatFrame>
+    ensures { MatchOption result (length bytes.now < 8) (λ f. (8 ≤ length bytes.now)
+        × IsFlat (configuration_of config.now) (E.order (endian_of config.now))
+        (first_frame (E.order (endian_of config.now)) bytes.now) f) }
+{
+    let mut all = frames(bytes, config.endian());
+    match all.next() {
+        Some(first) => Some(flat_first(alloc, config, first)),
+        None => None,
+    }
+}

@@ -1,0 +1,93 @@
+//! Frames that have no record.
+
+ghost use Rattle.std.specs.Prelude.{◌≡◌};
+ghost use Rattle.perf_flat.specs.Flat as flat;
+
+use crate::flat_frame::{FlatFrame, fill_numbers, fill_spans};
+use perf_base::error::ErrorKind;
+use perf_base::refusal::Refusal;
+use perf_base::sys::{PERF_RECORD_NAMESPACES, PERF_RECORD_SAMPLE, perf_event_header};
+
+// The kind of a refusal as a number.
+#[inline]
+fn kind_number(kind: ErrorKind) -> u16
+    ensures { result ≡ flat.kind_number kind }
+{
+    match kind {
+        ErrorKind::Eof => 1,
+        ErrorKind::InvalidRecord => 2,
+        ErrorKind::UnsupportedConfig => 3,
+        ErrorKind::UnsupportedData => 4,
+        ErrorKind::External => 5,
+        ErrorKind::OutOfMemory => 6,
+    }
+}
+
+// The reason of a refusal, as a number.
+#[inline]
+fn reason_number(refusal: Refusal) -> u16
+    ensures { result ≡ flat.reason_number refusal }
+{
+    match refusal {
+        Refusal::Eof | Refusal::OutOfMemory | Refusal::Kept(_) => 0,
+        Refusal::SmallHeader => 1,
+        Refusal::NoRoomForId => 2,
+        Refusal::BuildIdLength => 3,
+        Refusal::UsedStack => 4,
+        Refusal::SingleRead => 5,
+        Refusal::GroupRead => 6,
+        Refusal::ReadFormat => 7,
+        Refusal::GroupLength => 8,
+        Refusal::AttributeSize => 9,
+        Refusal::AttributeTail => 10,
+    }
+}
+
+// The flat frame of a header alone.
+fn empty_frame(header: perf_event_header, refusal: u16, reason: u16) -> FlatFrame
+    ensures { result ≡ flat.empty_frame header refusal reason }
+{
+    FlatFrame {
+        type_: header.type_,
+        misc: header.misc,
+        size: header.size,
+        read: 0,
+        refusal,
+        reason,
+        present: 0,
+        pid: 0,
+        tid: 0,
+        time: 0,
+        id: 0,
+        stream_id: 0,
+        cpu: 0,
+        read_format: 0,
+        numbers: fill_numbers(&[]),
+        spans: fill_spans(&[]),
+    }
+}
+
+// The flat frame of a header without a record.
+pub(crate) fn refused_frame(header: perf_event_header, refusal: Refusal) -> FlatFrame
+    ensures { result ≡ flat.refused_frame header refusal }
+{
+    empty_frame(header, kind_number(refusal.kind()), reason_number(refusal))
+}
+
+// In place of a refusal, the number of a type that has no flat frame so far.
+const UNREAD: u16 = 7;
+
+// Whether a type has no flat frame so far.
+#[inline]
+pub(crate) fn is_unread(ty: u32) -> bool
+    ensures { result ≡ flat.is_unread ty }
+{
+    ty == PERF_RECORD_SAMPLE || ty == PERF_RECORD_NAMESPACES
+}
+
+// The flat frame of such a type.
+pub(crate) fn unread_frame(header: perf_event_header) -> FlatFrame
+    ensures { result ≡ flat.empty_frame header flat.unread_number 0 }
+{
+    empty_frame(header, UNREAD, 0)
+}
