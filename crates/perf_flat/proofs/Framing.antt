@@ -1,22 +1,22 @@
 -- What a flat frame states, by how it was made.
-use Rattle.std.proofs.Common.{◌≡◌, ℕ, ◌+◌, ◌-◌, ◌≤◌, ◌<◌, ◌^◌, Bool, true, false, List, [], ◌∷◌, length, take, drop, Option, Some, None, Result, Ok, Err, refl, sym, ◌∙◌, ap, subst, inl, inr, arith}
-use Rattle.std.specs.Prelude.{IsTrue, IfOk, ◌⊎◌, ◌≢◌, nat_lt}
+use Rattle.std.proofs.Common.{◌≡◌, ℕ, ◌+◌, ◌-◌, ◌≤◌, ◌<◌, ◌^◌, Bool, true, false, List, [], ◌∷◌, length, take, drop, Some, Result, Ok, Err, refl, sym, ◌∙◌, ap, subst, inl, inr, arith}
+use Rattle.std.specs.Prelude.{IsTrue, IfOk, ◌≢◌, nat_lt}
 use Rattle.std.proofs.lemmas.Bool.{cases_lt, lt-ltb, le-ltb}
 use Rattle.std.proofs.lemmas.List.{length-drop, length-take, length-take-le, take-take, drop-take}
 use Rattle.perf_base.specs.Configuration.{Configuration, plain, under_misc}
 use Rattle.perf_base.specs.Header.{header_of}
 use Rattle.perf_base.specs.Layout.{layout}
 use Rattle.perf_base.specs.Order.{Order}
-use Rattle.perf_base.specs.Refusals.{refusal_kind, kinds}
+use Rattle.perf_base.specs.Refusals.{refusal_kind}
 use Rattle.perf_base.specs.declared.error.ErrorKind.{ErrorKind}
 use Rattle.perf_base.specs.declared.error.ErrorKind.TheVariants.{Eof, InvalidRecord, UnsupportedConfig, UnsupportedData, External, OutOfMemory}
 use Rattle.perf_base.specs.declared.refusal.Refusal.{Refusal}
 use Rattle.perf_base.specs.declared.refusal.Refusal.TheVariants as why
 use Rattle.perf_base.specs.declared.sys.perf_event_header.{perf_event_header}
-use Rattle.perf_buffers.specs.Buffer.{chunk_bytes, is_borrowed}
+use Rattle.perf_buffers.specs.Buffer.{chunk_bytes, chunk_is_borrowed}
 use Rattle.perf_reader.specs.Reading.{of_layout, is_external}
 use Rattle.perf_records.specs.Answers.{FrameParts, body_length, parts_of, split_after, record_in, answer_after, split_of_frame, answer_of_frame}
-use Rattle.perf_records.specs.Bodies.{body, wants_memory}
+use Rattle.perf_records.specs.Bodies.{body}
 use Rattle.perf_records.specs.FrameReadings.{HasNoRoom}
 use Rattle.perf_records.specs.Frames.{frame_length}
 use Rattle.perf_records.specs.FrameList.{sights}
@@ -32,7 +32,6 @@ use Rattle.perf_records.proofs.Handing.{finished}
 use Rattle.perf_records.proofs.Headers.{frame_whole, frame_body, header_alone}
 use Rattle.perf_records.proofs.Splitting.{split_small, split_short, split_no_room, split_whole}
 use Rattle.perf_flat.specs.Contents.{GivesContents}
-use Rattle.perf_flat.specs.Filled.{filled}
 use Rattle.perf_flat.specs.Flat.{CarriesNumbers, StatesId, StatesRecord, StatesRefusal, StatesAnswer, HasHeader, IsFlat, IsFlatAfter, IsBad, is_unread, empty_frame, refused_frame, unread_number, first_frame}
 use Rattle.perf_flat.specs.Strings.{HasSpans}
 use Rattle.perf_flat.specs.declared.contents.Contents.{Contents}
@@ -227,7 +226,7 @@ no_first o bytes e = elim (cases_lt (length bytes) 8) [
 
 -- a whole frame is there
 pub record WholeFirst (c : Configuration) (o : Order) (bytes rest : List ℕ) (h : perf_event_header) (borrowed : Bool) : Type 0 where
-  pub is_borrowed : IsTrue borrowed
+  pub chunk_is_borrowed : IsTrue borrowed
   pub flat : (f : FlatFrame) → IsFlatAfter c o h rest f → IsFlat c o (first_frame o bytes) f
 
 pub whole_first : (c : Configuration) (o : Order) (bytes rest : List ℕ) (h : perf_event_header) (borrowed : Bool) → 8 ≤ length bytes → sight_in o bytes true ≡ whole h rest borrowed →
@@ -245,7 +244,7 @@ whole_first c o bytes rest h borrowed fits seen =
             let bytes_are : take (body_length k) after ≡ rest = cc in
             let lent : true ≡ borrowed = cc in
             record {
-              is_borrowed = sym lent;
+              chunk_is_borrowed = sym lent;
               flat = λ f flat. flat (first_frame o bytes) (first_headed o bytes fits) (header_alone o bytes ∙ header) (first_rest o bytes ∙ bytes_are);
             }
       ]
@@ -282,6 +281,6 @@ at_front o p bytes left x xs same front e = first_sight o bytes x xs (sym (ap (�
 pub nothing_there : (o p : Order) (bytes left : List ℕ) → p ≡ o → left ≡ bytes → sights p left ≡ [] → length bytes < 8
 nothing_there o p bytes left same front e = no_first o bytes (sym (ap (λ q. sights q bytes) same) ∙ sym (ap (sights p) front) ∙ e)
 
-pub first_lasts : (o : Order) (bytes : List ℕ) (first : Result Frame BadFrame) → 8 ≤ length bytes → sight_in o bytes true ≡ sight_of first → IfOk first (λ frame. IsTrue (is_borrowed frame.rest))
-first_lasts o bytes (Ok frame) fits seen = (whole_first plain o bytes (chunk_bytes frame.rest) frame.header (is_borrowed frame.rest) fits seen).is_borrowed
+pub first_lasts : (o : Order) (bytes : List ℕ) (first : Result Frame BadFrame) → 8 ≤ length bytes → sight_in o bytes true ≡ sight_of first → IfOk first (λ frame. IsTrue (chunk_is_borrowed frame.rest))
+first_lasts o bytes (Ok frame) fits seen = (whole_first plain o bytes (chunk_bytes frame.rest) frame.header (chunk_is_borrowed frame.rest) fits seen).chunk_is_borrowed
 first_lasts o bytes (Err b) fits seen = tt

@@ -1,9 +1,9 @@
 -- The contents of a record made from a body state what it contains, and its byte strings are at
 -- their spans in the frame.
-use Rattle.std.proofs.Common.{◌≡◌, ℕ, ◌+◌, ◌≤◌, Bool, true, false, List, [], ◌∷◌, length, take, drop, Option, Some, None, Result, Ok, refl, sym, ◌∙◌, ap, subst, arith}
+use Rattle.std.proofs.Common.{◌≡◌, ℕ, ◌+◌, false, List, [], ◌∷◌, length, Option, Some, None, Ok, sym, subst, arith}
 use Rattle.std.proofs.lemmas.List.{take_all}
 use Rattle.perf_base.specs.Configuration.{Configuration}
-use Rattle.perf_base.specs.Layout.{Parts, done, part, rest, layout, mapped}
+use Rattle.perf_base.specs.Layout.{Parts, done, layout, mapped}
 use Rattle.perf_base.specs.FieldWords.{all_left}
 use Rattle.perf_base.specs.Order.{Order}
 use Rattle.perf_base.specs.Run.{ran, run_parts}
@@ -19,7 +19,7 @@ use Rattle.perf_types.specs.KSymbol.{ksymbol}
 use Rattle.perf_types.specs.Lost.{lost}
 use Rattle.perf_types.specs.LostSamples.{lost_samples}
 use Rattle.perf_types.specs.Mmap.{mmap}
-use Rattle.perf_types.specs.Mmap2.{Mmap2Value, mmap2}
+use Rattle.perf_types.specs.Mmap2.{mmap2}
 use Rattle.perf_types.specs.MmapDetail.{DetailValue, inode_is, build_id_is, build_id_of}
 use Rattle.perf_types.specs.Read.{read}
 use Rattle.perf_types.specs.SwitchCpuWide.{switch_cpu_wide}
@@ -41,7 +41,7 @@ use Rattle.perf_flat.specs.declared.contents.Contents.{Contents}
 use Rattle.perf_flat.specs.declared.flat_frame.Span.{Span}
 use Rattle.perf_flat.proofs.Names.{comm_stands, cgroup_stands, ksymbol_stands, mmap_stands, mmap2_stands, bpf_event_stands, text_poke_stands, DetailStands}
 use Rattle.perf_flat.proofs.Spans.{no_strings, one_string, two_strings, IsBodyOf, stands_there}
-use Rattle.perf_flat.proofs.Steps.{ran_is, inner, first, rest_next, made, Stands, taken_stands}
+use Rattle.perf_flat.proofs.Steps.{ran_is, inner, first, rest_next, made, Stands}
 
 -- what contents hold of a value
 abbrev pub Holds : Order → List ℕ → Contents → RecordValue → Type 0

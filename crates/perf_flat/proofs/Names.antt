@@ -1,15 +1,14 @@
 -- The byte strings of each type of record are at their places in the body.
-use Rattle.std.proofs.Common.{◌≡◌, ℕ, ◌+◌, ◌-◌, ◌≤◌, ◌<◌, Bool, true, false, List, [], ◌∷◌, length, take, drop, get_or, refl, sym, ◌∙◌, ap, subst, inl, inr, arith, if◌then◌else◌}
-use Rattle.std.specs.Prelude.{◌⊎◌, nat_le}
+use Rattle.std.proofs.Common.{◌≡◌, ℕ, ◌+◌, ◌-◌, ◌≤◌, Bool, true, false, List, length, take, drop, get_or, sym, ◌∙◌, ap, subst, inl, inr, arith, if◌then◌else◌}
+use Rattle.std.specs.Prelude.{nat_le}
 use Rattle.std.proofs.lemmas.Bool.{cases_lt, le-leb, lt-leb}
 use Rattle.std.proofs.lemmas.List.{length-drop, length-take-le}
 use Rattle.perf_base.specs.Configuration.{Configuration}
-use Rattle.perf_base.specs.Layout.{Parts, done, part, check, byte_string, w1, w2, w4, w8, ◌>>=◌}
+use Rattle.perf_base.specs.Layout.{Parts, done, check, ◌>>=◌}
 use Rattle.perf_base.specs.FieldWords.{u32, name}
 use Rattle.perf_base.specs.Misc.{build_id_bit}
 use Rattle.perf_base.specs.Order.{Order}
-use Rattle.perf_base.specs.Run.{Ran, ran, run_parts}
-use Rattle.perf_base.specs.Zeros.{trimmed}
+use Rattle.perf_base.specs.Run.{ran, run_parts}
 use Rattle.perf_base.specs.declared.error.ErrorKind.TheVariants.{InvalidRecord}
 use Rattle.perf_base.proofs.Algebra.{then_inv}
 use Rattle.perf_words.specs.Bits.{has_bit}

@@ -1,11 +1,10 @@
 -- Spans of a flat frame, and what is at them.
-use Rattle.std.proofs.Common.{◌≡◌, ℕ, zero, suc, ◌+◌, ◌-◌, ◌*◌, ◌%◌, ◌^◌, ◌≤◌, ◌<◌, List, [], ◌∷◌, ◌++◌, length, take, drop, get_or, refl, sym, ◌∙◌, ap, subst, inl, inr, arith}
+use Rattle.std.proofs.Common.{◌≡◌, ℕ, zero, suc, ◌+◌, ◌-◌, ◌^◌, ◌≤◌, ◌<◌, List, [], ◌∷◌, length, take, drop, get_or, refl, sym, ◌∙◌, ap, subst, arith}
 use Rattle.std.specs.Prelude.{replicate, min}
-use Rattle.std.proofs.lemmas.Bool.{cases_lt}
 use Rattle.std.proofs.lemmas.List.{length-drop, length-take, drop-drop, drop-replicate, get_or-append_right}
 use Rattle.perf_reader.proofs.AtOnce.{in_front}
 use Rattle.perf_flat.specs.Contents.{low, standing}
-use Rattle.perf_flat.specs.Filled.{span, no_span, filled_spans}
+use Rattle.perf_flat.specs.Filled.{no_span, filled_spans}
 use Rattle.perf_flat.specs.Strings.{span_at, HasBytes, NoSpansFrom, HasStrings}
 use Rattle.perf_flat.specs.declared.flat_frame.Span.{Span}
 use Rattle.perf_flat.proofs.Steps.{Stands}

@@ -1,12 +1,11 @@
 -- Parts of a body, each at its place.
-use Rattle.std.proofs.Common.{◌≡◌, ℕ, ◌+◌, ◌-◌, ◌*◌, ◌≤◌, ◌<◌, Bool, true, false, List, [], ◌∷◌, length, take, drop, Result, Ok, refl, sym, ◌∙◌, ap, subst, inl, inr, arith, if◌then◌else◌}
+use Rattle.std.proofs.Common.{◌≡◌, ℕ, ◌+◌, ◌-◌, ◌≤◌, ◌<◌, Bool, true, false, List, [], ◌∷◌, length, take, drop, Ok, refl, sym, ◌∙◌, ap, subst, inl, inr, arith, if◌then◌else◌}
 use Rattle.std.proofs.lemmas.Bool.{cases_lt}
 use Rattle.std.proofs.lemmas.List.{length-drop, length-take-le, drop-drop, take_all}
-use Rattle.perf_base.specs.Layout.{Shape, Answer, answer_of, size, Parts, done, part, number, byte_string, padding, rest, Width, bytes_in, number_of, layout, mapped, ◌>>=◌}
+use Rattle.perf_base.specs.Layout.{Shape, Answer, answer_of, size, Parts, done, part, number, byte_string, padding, rest, Width, bytes_in, number_of, layout, mapped}
 use Rattle.perf_base.specs.Order.{Order}
-use Rattle.perf_base.specs.Run.{Ran, ran, stopped, run_parts}
+use Rattle.perf_base.specs.Run.{ran, run_parts}
 use Rattle.perf_base.specs.Zeros.{all_zero, trimmed}
-use Rattle.perf_base.specs.declared.error.ErrorKind.{ErrorKind}
 use Rattle.perf_base.proofs.Algebra.{then_inv}
 use Rattle.perf_base.proofs.Bridge.{run_yes, run_no}
 use Rattle.perf_base.proofs.Tables.{layout_run}

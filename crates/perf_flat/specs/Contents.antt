@@ -2,11 +2,10 @@
 -- are.
 use Rattle.std.specs.Prelude.{ℕ, ◌+◌, ◌%◌, ◌^◌, ◌≡◌, List, [], ◌∷◌, length}
 use Rattle.perf_types.specs.MmapDetail.{DetailValue, inode_is, build_id_is}
-use Rattle.perf_records.specs.Records.{RecordValue, mmap_is, lost_is, comm_is, exit_is, throttle_is}
-use Rattle.perf_records.specs.Records.{unthrottle_is, fork_is, read_is, sample_is, mmap2_is, aux_is}
-use Rattle.perf_records.specs.Records.{itrace_start_is, lost_samples_is, switch_is}
-use Rattle.perf_records.specs.Records.{switch_cpu_wide_is, namespaces_is, ksymbol_is, bpf_event_is}
-use Rattle.perf_records.specs.Records.{cgroup_is, text_poke_is, aux_output_hw_id_is, unknown_is}
+use Rattle.perf_records.specs.Records.{RecordValue, mmap_is, comm_is}
+use Rattle.perf_records.specs.Records.{sample_is, mmap2_is}
+use Rattle.perf_records.specs.Records.{namespaces_is, ksymbol_is, bpf_event_is}
+use Rattle.perf_records.specs.Records.{cgroup_is, text_poke_is, unknown_is}
 use Rattle.perf_records.specs.Gives.{Event}
 use Rattle.perf_flat.specs.Filled.{filled, filled_spans, span}
 use Rattle.perf_flat.specs.Numbers.{numbers_of}

@@ -4,11 +4,10 @@ use Rattle.perf_base.specs.Layout.{slice, words_of}
 use Rattle.perf_base.specs.Order.{Order}
 use Rattle.perf_types.specs.MmapDetail.{build_id_of}
 use Rattle.perf_types.specs.Namespaces.{entries_of}
-use Rattle.perf_records.specs.Records.{RecordValue, mmap_is, lost_is, comm_is, exit_is, throttle_is}
-use Rattle.perf_records.specs.Records.{unthrottle_is, fork_is, read_is, sample_is, mmap2_is, aux_is}
-use Rattle.perf_records.specs.Records.{itrace_start_is, lost_samples_is, switch_is}
-use Rattle.perf_records.specs.Records.{switch_cpu_wide_is, namespaces_is, ksymbol_is, bpf_event_is}
-use Rattle.perf_records.specs.Records.{cgroup_is, text_poke_is, aux_output_hw_id_is, unknown_is}
+use Rattle.perf_records.specs.Records.{RecordValue, mmap_is, comm_is}
+use Rattle.perf_records.specs.Records.{mmap2_is}
+use Rattle.perf_records.specs.Records.{namespaces_is, ksymbol_is, bpf_event_is}
+use Rattle.perf_records.specs.Records.{cgroup_is, text_poke_is, unknown_is}
 use Rattle.perf_flat.specs.Filled.{no_span}
 use Rattle.perf_flat.specs.declared.flat_frame.Span.{Span}
 

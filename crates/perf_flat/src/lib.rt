@@ -7,3 +7,5 @@ mod contents;
 pub mod flat_frame;
 pub mod read;
 mod refusals;
+#[cfg(test)]
+mod tests;

@@ -30,8 +30,6 @@ mod failing;
 #[cfg(test)]
 mod faults;
 #[cfg(test)]
-mod flat;
-#[cfg(test)]
 mod generated;
 #[cfg(test)]
 mod groups;

@@ -1,7 +1,6 @@
 use Rattle.std.proofs.Common.{sym, ap, subst, ◌∙◌}
 use Rattle.std.specs.Prelude.{IfOk, IsTrue}
 use Rattle.perf_base.specs.Configured.{configuration_of, endian_of}
-use Rattle.perf_base.specs.declared.sys.perf_event_header.{perf_event_header}
 use Rattle.perf_buffers.specs.Buffer.{chunk_bytes, chunk_is_borrowed}
 use Rattle.perf_records.specs.Sights.{sight_of}
 use Rattle.perf_flat.specs.Flat.{IsBad, IsFlatAfter}

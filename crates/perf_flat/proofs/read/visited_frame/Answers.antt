@@ -6,7 +6,7 @@ use Rattle.perf_base.specs.declared.sys.perf_event_header.{perf_event_header}
 use Rattle.perf_buffers.specs.Buffer.{chunk_bytes}
 use Rattle.perf_records.specs.Shown.{GivesFrameBytes}
 use Rattle.perf_flat.specs.Contents.{GivesContents}
-use Rattle.perf_flat.specs.Flat.{CarriesNumbers, HasHeader, refused_frame}
+use Rattle.perf_flat.specs.Flat.{HasHeader, refused_frame}
 use Rattle.perf_flat.proofs.Framing.{visited, visit_refused}
 use Rattle.perf_flat.proofs.read.visited_frame.Goals as goal
 
@@ -24,8 +24,8 @@ returns-in-Ok g c =
     visited settings order f.header bytes r.result.0 r.result.1 c.in-Ok.made made.result short c.requires.known visits c.in-Ok.is
     (subst (λ h. HasHeader h made.result) c.header-header.ensures made.ensures.header) made.ensures.numbers made.ensures.spans
 
-pub returns-in-Err : goal.returns-in-Err
-returns-in-Err g c =
+pub returns : goal.returns
+returns g c =
     let f = c.args.frame in
     let settings = configuration_of c.args.config.now in
     let order = g.E.Endian.order (endian_of c.args.config.now) in

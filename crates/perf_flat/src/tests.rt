@@ -1,18 +1,27 @@
 //! Flat frames.
 
-use crate::checks::check_debug;
-use perf_event_data::endian::Little;
-use perf_event_data::parse::ParseConfig;
-use perf_flat::flat_frame::FlatFrame;
-use perf_flat::read::read;
+use crate::flat_frame::FlatFrame;
+use crate::read::read;
+use perf_base::config::ParseConfig;
+use perf_base::endian::Little;
 use std::alloc::Global;
+use std::fmt::Debug;
 use std::mem::size_of;
+use std::process::Abort;
 
 // The thread 7 of the process 5 is called `sh`, as it executed that.
 const COMM: &[u8] = b"\x03\0\0\0\0\x20\x18\0\x05\0\0\0\x07\0\0\0sh\0\0\0\0\0\0";
 
 // A header whose size is below its own.
 const SMALL: &[u8] = b"\x03\0\0\0\0\0\x07\0";
+
+// Asserts the `{:?}` of a value.
+fn check_debug<T: Debug>(rt: &(impl AllocGlobal + Abort), value: &T, want: &str) {
+    match format!(in rt.alloc(); "{value:?}") {
+        Ok(text) => assert_eq!(rt; text.as_str(), want),
+        Err(_) => panic!(rt; "no memory"),
+    }
+}
 
 // The header, what was read or why nothing was, the first two numbers and the first span.
 fn parts_of(frame: FlatFrame) -> ([u32; 3], [u32; 3], [u64; 2], [u32; 2]) {
