@@ -3,7 +3,7 @@ use Rattle.std.proofs.Common.{◌≡◌, ℕ, ◌≤◌, true, false, List, [], 
 use Rattle.std.proofs.lemmas.List.{length-append, length-take-le, take-append-le, drop-append-le, take-append-drop, append_assoc, take_at, drop_at}
 use Rattle.std.proofs.lemmas.Bool.{cases_lt}
 use Rattle.perf_base.specs.Order.{Order}
-use Rattle.perf_base.specs.Layout.{Shape, number, optional, byte_string, words, padding, rest, answer_of, size, Parts, done, part, check, ◌>>=◌}
+use Rattle.perf_base.specs.Layout.{Shape, number, optional, byte_string, words, padding, rest, shape_value, size, Parts, done, part, check, ◌>>=◌}
 use Rattle.perf_base.specs.Run.{ran, run_parts}
 use Rattle.perf_base.specs.Splice.{IsBounded, Closed}
 use Rattle.perf_base.proofs.Bridge.{run_yes, run_no}
@@ -23,7 +23,7 @@ then_ok o (part shape k) f bytes v left e =
       | inl short ↦ cc (run_no o shape k bytes short)
       | inr fits ↦
           run_yes o shape (λ a. k a >>= f) bytes n refl fits
-          ∙ then_ok o (k (answer_of o shape (take n bytes))) f (drop n bytes) v left (sym (run_yes o shape k bytes n refl fits) ∙ e)
+          ∙ then_ok o (k (shape_value o shape (take n bytes))) f (drop n bytes) v left (sym (run_yes o shape k bytes n refl fits) ∙ e)
     ]
 
 pub then_inv : {A B : Type 0} (o : Order) (p : Parts A) (f : A → Parts B) (bytes : List ℕ) (y : B) (left : List ℕ) →
@@ -37,7 +37,7 @@ then_inv o (part shape k) f bytes y left e =
     elim (cases_lt (length bytes) n) [
       | inl short ↦ absurd (cc (run_no o shape (λ a. k a >>= f) bytes short))
       | inr fits ↦
-          let again = then_inv o (k (answer_of o shape (take n bytes))) f (drop n bytes) y left (sym (run_yes o shape (λ a. k a >>= f) bytes n refl fits) ∙ e) in
+          let again = then_inv o (k (shape_value o shape (take n bytes))) f (drop n bytes) y left (sym (run_yes o shape (λ a. k a >>= f) bytes n refl fits) ∙ e) in
           (again.0, again.1, run_yes o shape k bytes n refl fits ∙ again.2, again.3)
     ]
 
@@ -67,7 +67,7 @@ run_more o (part shape k) w v left more closed e =
           let more_fits : n ≤ length (w ++ more) = omega (arith, length-append w more) in
           run_yes o shape k (w ++ more) n (bounded shape closed.0 _ _) more_fits
           ∙ rw (take-append-le n w more fits, drop-append-le n w more fits)
-          (run_more o (k (answer_of o shape (take n w))) (drop n w) v left more (closed.1 _) (sym (run_yes o shape k w n refl fits) ∙ e))
+          (run_more o (k (shape_value o shape (take n w))) (drop n w) v left more (closed.1 _) (sym (run_yes o shape k w n refl fits) ∙ e))
     ]
 
 -- only the bytes that are read
@@ -84,7 +84,7 @@ run_front o (part shape k) bytes v left closed e =
     elim (cases_lt (length bytes) n) [
       | inl short ↦ absurd (cc (run_no o shape k bytes short))
       | inr fits ↦
-          let again = run_front o (k (answer_of o shape (take n bytes))) (drop n bytes) v left (closed.1 _) (sym (run_yes o shape k bytes n refl fits) ∙ e) in
+          let again = run_front o (k (shape_value o shape (take n bytes))) (drop n bytes) v left (closed.1 _) (sym (run_yes o shape k bytes n refl fits) ∙ e) in
           let exactly : length (take n bytes) ≡ n = length-take-le n bytes fits in
           let whole : take n bytes ++ drop n bytes ≡ bytes = take-append-drop n bytes in (
             take n bytes ++ again.0,

@@ -3,8 +3,8 @@ use Rattle.std.proofs.Common.{◌≡◌, ℕ, zero, suc, ◌+◌, ◌-◌, ◌*�
 use Rattle.perf_base.specs.Order.{little}
 use Rattle.perf_base.specs.Layout.{layout, ending, mapped}
 use Rattle.perf_base.specs.Attribute.{attribute}
-use Rattle.perf_base.specs.Configuration.{unpacked, kept_read_format}
-use Rattle.perf_base.specs.Zeros.{trimmed}
+use Rattle.perf_base.specs.Configuration.{unpack, kept_read_format}
+use Rattle.perf_base.specs.Zeros.{trim_zeros}
 use Rattle.perf_base.specs.declared.error.ErrorKind.TheVariants.{Eof, InvalidRecord, UnsupportedData}
 
 abbrev zeros : ℕ → List ℕ
@@ -61,14 +61,14 @@ bit_six_of_a_read_format = refl
 every_read_format_bit : kept_read_format (2 ^ 64 - 1) ≡ 0x3f
 every_read_format_bit = refl
 
-a_packed_word : unpacked (0x21 + 0x30007 * 2 ^ 6 + 2 ^ 46 + 0x2000 * 2 ^ 48) 3 4 ≡
+a_packed_word : unpack (0x21 + 0x30007 * 2 ^ 6 + 2 ^ 46 + 0x2000 * 2 ^ 48) 3 4 ≡
     record { read_format = 0x21; sample_type = 0x30007; sample_id_all = true; branch_hw_index = false; misc = 0x2000; regs_user = 3; regs_intr = 4 }
 a_packed_word = refl
 
 -- ---- names
 
-a_name : trimmed (47 ∷ 47 ∷ 0 ∷ 97 ∷ 0 ∷ 0 ∷ []) ≡ 47 ∷ 47 ∷ 0 ∷ 97 ∷ []
+a_name : trim_zeros (47 ∷ 47 ∷ 0 ∷ 97 ∷ 0 ∷ 0 ∷ []) ≡ 47 ∷ 47 ∷ 0 ∷ 97 ∷ []
 a_name = refl
 
-no_name : trimmed (0 ∷ 0 ∷ []) ≡ []
+no_name : trim_zeros (0 ∷ 0 ∷ []) ≡ []
 no_name = refl

@@ -20,8 +20,8 @@ pub record Configuration : Type 0 where
 
 -- The packed word: bits 0 to 5 are the read format, 6 to 45 the sample type, 46 sample_id_all, 47
 -- branch_hw_index and 48 to 63 misc.
-abbrev pub unpacked : (word regs_user regs_intr : ℕ) → Configuration
-unpacked word regs_user regs_intr = record {
+abbrev pub unpack : (word regs_user regs_intr : ℕ) → Configuration
+unpack word regs_user regs_intr = record {
   read_format = word % 2 ^ 6;
   sample_type = word / 2 ^ 6 % 2 ^ 40;
   sample_id_all = has_bit word 46;
@@ -33,7 +33,7 @@ unpacked word regs_user regs_intr = record {
 
 -- the configuration of an event without flags
 abbrev pub plain : Configuration
-plain = unpacked 0 0 0
+plain = unpack 0 0 0
 
 -- What is kept of a read format: its lowest six bits, with bit 5 also set if it has any higher bit.
 abbrev pub kept_read_format : ℕ → ℕ

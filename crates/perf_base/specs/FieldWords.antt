@@ -3,7 +3,7 @@
 use Rattle.std.specs.Prelude.{ℕ, Bool, List, Option, if◌then◌else◌}
 use Rattle.perf_base.specs.Layout.{w1, w2, w4, w8, number, optional, byte_string, words, padding, rest}
 use Rattle.perf_base.specs.Layout.{Parts, done, part, check, mapped}
-use Rattle.perf_base.specs.Zeros.{trimmed}
+use Rattle.perf_base.specs.Zeros.{trim_zeros}
 use Rattle.perf_base.specs.declared.error.ErrorKind.{ErrorKind}
 
 -- a number of one byte
@@ -56,7 +56,7 @@ all_left = part rest done
 
 -- a name: all remaining bytes, without the zero bytes at the end
 abbrev pub name : Parts (List ℕ)
-name = mapped trimmed all_left
+name = mapped trim_zeros all_left
 
 -- a check, which refuses with its kind if it is false
 abbrev pub require : Bool → ErrorKind → Parts (Unit {0})

@@ -37,13 +37,13 @@ pub data Shape : Type 0 where
   rest : Shape
 
 -- the type of the value of a part
-abbrev pub Answer : Shape → Type 0
-Answer (number w) = ℕ
-Answer (optional b w) = Option ℕ
-Answer (byte_string k) = List ℕ
-Answer (words k) = List ℕ
-Answer (padding k) = Unit {0}
-Answer rest = List ℕ
+abbrev pub ShapeValue : Shape → Type 0
+ShapeValue (number w) = ℕ
+ShapeValue (optional b w) = Option ℕ
+ShapeValue (byte_string k) = List ℕ
+ShapeValue (words k) = List ℕ
+ShapeValue (padding k) = Unit {0}
+ShapeValue rest = List ℕ
 
 -- the number that an order makes of bytes; one byte is the same number in every order
 abbrev pub number_of : Order → Width → List ℕ → ℕ
@@ -58,14 +58,14 @@ words_of o zero bytes = []
 words_of o (suc k) bytes = o.eight (take 8 bytes) ∷ words_of o k (drop 8 bytes)
 
 -- the value of a part, from its bytes
-abbrev pub answer_of : Order → (shape : Shape) → List ℕ → Answer shape
-answer_of o (number w) bytes = number_of o w bytes
-answer_of o (optional true w) bytes = Some (number_of o w bytes)
-answer_of o (optional false w) bytes = None
-answer_of o (byte_string k) bytes = bytes
-answer_of o (words k) bytes = words_of o k bytes
-answer_of o (padding k) bytes = tt
-answer_of o rest bytes = bytes
+abbrev pub shape_value : Order → (shape : Shape) → List ℕ → ShapeValue shape
+shape_value o (number w) bytes = number_of o w bytes
+shape_value o (optional true w) bytes = Some (number_of o w bytes)
+shape_value o (optional false w) bytes = None
+shape_value o (byte_string k) bytes = bytes
+shape_value o (words k) bytes = words_of o k bytes
+shape_value o (padding k) bytes = tt
+shape_value o rest bytes = bytes
 
 -- the size of a part, with `left` bytes between its offset and the end
 abbrev pub size : Shape → ℕ → ℕ
@@ -83,7 +83,7 @@ size rest left = left
 -- and refuses with its kind if it is false.
 pub data Parts (A : Type 0) : Type 0 where
   done : A → Parts A
-  part : (shape : Shape) → (Answer shape → Parts A) → Parts A
+  part : (shape : Shape) → (ShapeValue shape → Parts A) → Parts A
   check : Bool → ErrorKind → Parts A → Parts A
 
 infixl 10 ◌>>=◌
@@ -118,7 +118,7 @@ abbrev pub spots : {A : Type 0} → Order → List ℕ → ℕ → Parts A → L
 spots o body s (done v) = []
 spots o body s (part shape k) =
     let n = size shape (length body - s) in
-    takes s n shape ∷ spots o body (s + n) (k (answer_of o shape (slice body s n)))
+    takes s n shape ∷ spots o body (s + n) (k (shape_value o shape (slice body s n)))
 spots o body s (check t e p) = holds s t e ∷ spots o body s p
 
 -- the offset after them
@@ -126,7 +126,7 @@ abbrev pub ending : {A : Type 0} → Order → List ℕ → ℕ → Parts A → 
 ending o body s (done v) = s
 ending o body s (part shape k) =
     let n = size shape (length body - s) in
-    ending o body (s + n) (k (answer_of o shape (slice body s n)))
+    ending o body (s + n) (k (shape_value o shape (slice body s n)))
 ending o body s (check t e p) = ending o body s p
 
 -- the value made of the slices at the offsets
@@ -134,7 +134,7 @@ abbrev pub value : {A : Type 0} → Order → List ℕ → ℕ → Parts A → A
 value o body s (done v) = v
 value o body s (part shape k) =
     let n = size shape (length body - s) in
-    value o body (s + n) (k (answer_of o shape (slice body s n)))
+    value o body (s + n) (k (shape_value o shape (slice body s n)))
 value o body s (check t e p) = value o body s p
 
 -- ---- success and refusal

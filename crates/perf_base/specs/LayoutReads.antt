@@ -3,7 +3,7 @@
 use Rattle.std.specs.Prelude.{ℕ, zero, suc, ◌+◌, ◌-◌, ◌/◌, true, false, List, [], ◌∷◌, length, take}
 use Rattle.std.specs.Prelude.{drop, Option, Some, None, nat_le}
 use Rattle.perf_base.specs.Order.{Order}
-use Rattle.perf_base.specs.Layout.{Shape, number, optional, byte_string, words, padding, rest, answer_of}
+use Rattle.perf_base.specs.Layout.{Shape, number, optional, byte_string, words, padding, rest, shape_value}
 use Rattle.perf_base.specs.Layout.{size, Parts, done, part, check, Spot, takes, holds, spots}
 use Rattle.perf_base.specs.declared.error.ErrorKind.{ErrorKind}
 
@@ -36,11 +36,11 @@ reads len (takes s n shape ∷ xs) =
 reads len (holds s t e ∷ xs) = elim t [ true ↦ reads len xs | false ↦ 0 ]
 
 -- The bytes consumed: all of them, if there are too few; those before a check that is false.
-abbrev pub consumed : ℕ → ℕ → List Spot → ℕ
-consumed len at [] = at
-consumed len at (takes s n shape ∷ xs) =
-    elim (nat_le (s + n) len) [ true ↦ consumed len (s + n) xs | false ↦ len ]
-consumed len at (holds s t e ∷ xs) = elim t [ true ↦ consumed len s xs | false ↦ s ]
+abbrev pub bytes_consumed : ℕ → ℕ → List Spot → ℕ
+bytes_consumed len at [] = at
+bytes_consumed len at (takes s n shape ∷ xs) =
+    elim (nat_le (s + n) len) [ true ↦ bytes_consumed len (s + n) xs | false ↦ len ]
+bytes_consumed len at (holds s t e ∷ xs) = elim t [ true ↦ bytes_consumed len s xs | false ↦ s ]
 
 -- one if there was a refusal
 abbrev pub one_if_refused : Option ErrorKind → ℕ
@@ -53,7 +53,7 @@ layout_reads o p body = reads (length body) (spots o body 0 p)
 
 -- how many bytes a layout consumes
 abbrev pub layout_consumed : {A : Type 0} → Order → Parts A → List ℕ → ℕ
-layout_consumed o p body = consumed (length body) 0 (spots o body 0 p)
+layout_consumed o p body = bytes_consumed (length body) 0 (spots o body 0 p)
 
 -- the reads of a run over the remaining bytes
 abbrev pub run_reads : {A : Type 0} → Order → Parts A → List ℕ → ℕ
@@ -61,7 +61,7 @@ run_reads o (done v) bytes = 0
 run_reads o (part shape k) bytes =
     let n = size shape (length bytes) in
     elim (nat_le n (length bytes)) [
-      | true ↦ reads_of shape n + run_reads o (k (answer_of o shape (take n bytes))) (drop n bytes)
+      | true ↦ reads_of shape n + run_reads o (k (shape_value o shape (take n bytes))) (drop n bytes)
       | false ↦ failed_reads shape (length bytes)
     ]
 run_reads o (check t e p) bytes = elim t [ true ↦ run_reads o p bytes | false ↦ 0 ]

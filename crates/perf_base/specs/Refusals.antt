@@ -52,7 +52,7 @@ Own (why.Kept kind) P = Unit {0}
 Own _ P = P
 
 -- the error that a refusal becomes: of its kind and, if it was made here, with its message
-pub record IsAnswerOf (e : ParseError) (r : Refusal) : Type 0 where
+pub record IsErrorOf (e : ParseError) (r : Refusal) : Type 0 where
   pub kind_is : kind_of e ≡ refusal_kind r
   pub made_is : Own r ((message_of e ≡ refusal_text r) × (cause_of e ≡ None))
 
@@ -69,10 +69,10 @@ error_kinds (Ok x) = Ok x
 error_kinds (Err e) = Err (kind_of e)
 
 -- the kind with which a call was refused, if it was
-abbrev pub refused : {A : Type 0} → Result A ErrorKind → Option ErrorKind
-refused (Ok x) = None
-refused (Err e) = Some e
+abbrev pub kind_if_refused : {A : Type 0} → Result A ErrorKind → Option ErrorKind
+kind_if_refused (Ok x) = None
+kind_if_refused (Err e) = Some e
 
 -- the call needs no memory, so it is never out of memory
-abbrev pub TakesNoMemory : {A : Type 0} → Result A ErrorKind → Type 0
-TakesNoMemory r = IfErr r (λ e. e ≢ OutOfMemory)
+abbrev pub NeedsNoMemory : {A : Type 0} → Result A ErrorKind → Type 0
+NeedsNoMemory r = IfErr r (λ e. e ≢ OutOfMemory)

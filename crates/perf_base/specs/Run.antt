@@ -4,7 +4,7 @@
 use Rattle.std.specs.Prelude.{ℕ, true, false, List, [], ◌∷◌, length, take, drop, Some, None}
 use Rattle.std.specs.Prelude.{Result, Ok, Err, nat_le}
 use Rattle.perf_base.specs.Order.{Order}
-use Rattle.perf_base.specs.Layout.{Shape, Answer, answer_of, Parts, done, part, check, size, Spot}
+use Rattle.perf_base.specs.Layout.{Shape, ShapeValue, shape_value, Parts, done, part, check, size, Spot}
 use Rattle.perf_base.specs.Layout.{takes, holds, stands, spots, ending, value, first_refusal}
 use Rattle.perf_base.specs.declared.error.ErrorKind.{ErrorKind}
 use Rattle.perf_base.specs.declared.error.ErrorKind.TheVariants.{Eof}
@@ -23,11 +23,11 @@ answer (stopped e left) = Err e
 
 -- One part over the remaining bytes. It is unfolded only on request, so that a proof steps through
 -- the parts of a value one after another.
-unfoldable pub one : (o : Order) (shape : Shape) → List ℕ → Ran (Answer shape)
+unfoldable pub one : (o : Order) (shape : Shape) → List ℕ → Ran (ShapeValue shape)
 one o shape bytes =
     let n = size shape (length bytes) in
     elim (nat_le n (length bytes))
-    [ true ↦ ran (answer_of o shape (take n bytes)) (drop n bytes) | false ↦ stopped Eof [] ]
+    [ true ↦ ran (shape_value o shape (take n bytes)) (drop n bytes) | false ↦ stopped Eof [] ]
 
 -- the parts one after another, over the remaining bytes
 abbrev pub run_parts : {A : Type 0} → Order → Parts A → List ℕ → Ran A
@@ -51,8 +51,8 @@ left_at body (x ∷ xs) =
     elim (stands (length body) x) [ true ↦ left_at body xs | false ↦ after body x ]
 
 -- the layout from offset s on, and what it leaves
-abbrev pub judged : {A : Type 0} → Order → List ℕ → ℕ → Parts A → Ran A
-judged o body s p =
+abbrev pub run_by_spots : {A : Type 0} → Order → List ℕ → ℕ → Parts A → Ran A
+run_by_spots o body s p =
     elim (first_refusal (length body) (spots o body s p)) [
       | None ↦ ran (value o body s p) (drop (ending o body s p) body)
       | Some e ↦ stopped e (left_at body (spots o body s p))
@@ -60,4 +60,4 @@ judged o body s p =
 
 -- The layout and what it leaves, stated by offsets alone. It is unfolded only on request.
 unfoldable pub by_places : {A : Type 0} → Order → Parts A → List ℕ → Ran A
-by_places o p body = judged o body 0 p
+by_places o p body = run_by_spots o body 0 p

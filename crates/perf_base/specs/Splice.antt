@@ -2,7 +2,7 @@
 -- flag more, or one less.
 use Rattle.std.specs.Prelude.{◌≡◌, ℕ, List, [], ◌∷◌, ◌++◌, length, take, drop, Option, Some, None}
 use Rattle.perf_base.specs.Order.{Order}
-use Rattle.perf_base.specs.Layout.{Shape, number, optional, byte_string, words, padding, rest, Answer}
+use Rattle.perf_base.specs.Layout.{Shape, number, optional, byte_string, words, padding, rest, ShapeValue}
 use Rattle.perf_base.specs.Layout.{Parts, done, part, check, ending, spots, first_refusal}
 
 -- a shape that does not take all remaining bytes
@@ -17,7 +17,7 @@ IsBounded rest = ⊥
 -- Parts are closed if none takes all remaining bytes, so that more bytes may follow them.
 abbrev pub Closed : {A : Type 0} → Parts A → Type 0
 Closed (done v) = Unit {0}
-Closed (part shape k) = IsBounded shape × ((a : Answer shape) → Closed (k a))
+Closed (part shape k) = IsBounded shape × ((a : ShapeValue shape) → Closed (k a))
 Closed (check t e p) = Closed p
 
 -- a field is closed if it is absent, or if its parts are

@@ -7,6 +7,6 @@ abbrev pub all_zero : List ℕ → Bool
 all_zero bytes = list_all (λ byte. byte == 0) bytes
 
 -- Bytes without the zero bytes at the end; earlier zero bytes stay.
-abbrev pub trimmed : List ℕ → List ℕ
-trimmed [] = []
-trimmed (byte ∷ bytes) = if all_zero (byte ∷ bytes) then [] else byte ∷ trimmed bytes
+abbrev pub trim_zeros : List ℕ → List ℕ
+trim_zeros [] = []
+trim_zeros (byte ∷ bytes) = if all_zero (byte ∷ bytes) then [] else byte ∷ trim_zeros bytes

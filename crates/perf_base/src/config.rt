@@ -233,8 +233,8 @@ impl<E: Default> Default for ParseConfig<E> {
 }
 
 // The flags of an attribute, packed. There is no frame yet, so misc is 0.
-fn packed(attr: &perf_event_attr) -> u64
-    ensures { config.unpacked result attr.now.sample_regs_user attr.now.sample_regs_intr ≡
+fn pack(attr: &perf_event_attr) -> u64
+    ensures { config.unpack result attr.now.sample_regs_user attr.now.sample_regs_intr ≡
         config.configured_by attr.now }
 {
     let sample_id_all = (attr.flags >> 18) % 2;
@@ -253,7 +253,7 @@ impl<E: Default> From<perf_event_attr> for ParseConfig<E> {
 
     fn from(attr: perf_event_attr) -> ParseConfig<E> {
         ParseConfig {
-            word: packed(&attr),
+            word: pack(&attr),
             regs_user: attr.sample_regs_user,
             regs_intr: attr.sample_regs_intr,
             endian: E::default(),

@@ -3,7 +3,7 @@
 
 ghost use Rattle.std.specs.Prelude.{◌≡◌, option_map};
 ghost use Rattle.perf_base.specs.Errors.{kind_of};
-ghost use Rattle.perf_base.specs.Refusals.{refusal_kind, refusal_text, IsAnswerOf};
+ghost use Rattle.perf_base.specs.Refusals.{refusal_kind, refusal_text, IsErrorOf};
 
 use crate::error::{ErrorKind, ParseError};
 
@@ -96,7 +96,7 @@ impl Refusal {
 
     // The error with its kind and its message.
     fn error(self) -> ParseError
-        ensures { IsAnswerOf result self }
+        ensures { IsErrorOf result self }
     {
         match self.message() {
             Some(message) => ParseError::custom(self.kind(), message),
@@ -142,8 +142,8 @@ impl Kept {
     /// The error that a refusal becomes.
     #[cold]
     #[inline(never)]
-    pub fn answer(&mut self, refusal: Refusal) -> ParseError
-        ensures { IsAnswerOf result refusal }
+    pub fn error_of(&mut self, refusal: Refusal) -> ParseError
+        ensures { IsErrorOf result refusal }
     {
         match refusal {
             Refusal::Kept(kind) => self.take(kind),

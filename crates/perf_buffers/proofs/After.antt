@@ -6,7 +6,7 @@ use Rattle.perf_base.specs.declared.error.ErrorKind.{ErrorKind}
 use Rattle.perf_base.specs.declared.error.ErrorKind.TheVariants.{Eof, InvalidRecord, UnsupportedConfig, UnsupportedData, External, OutOfMemory}
 use Rattle.perf_buffers.specs.Buffer.{Source, faults_after}
 use Rattle.perf_buffers.specs.Room.{falls_short, is_made_beforehand, makes_all_room, room_made}
-use Rattle.perf_buffers.specs.Taking.{Moves, MovesWithin, Takes, FailsToTake, FailsToKeep, FailsInRest, FailsAfter, CanFail, consumed}
+use Rattle.perf_buffers.specs.Taking.{Moves, MovesWithin, Takes, FailsToTake, FailsToKeep, FailsInRest, FailsAfter, CanFail, bytes_between}
 use Rattle.perf_buffers.proofs.Chunks.{within_none}
 use Rattle.perf_buffers.proofs.Taking.{takes_moves, moves_more}
 
@@ -41,8 +41,8 @@ fails_to_keep_on a b c m n OutOfMemory le p q = within_on a b c m n le p q
 moves_same : (a b c : Source) → b.left ≡ a.left → Moves b c → Moves a c
 moves_same a b c same q =
     let long : length b.left ≡ length a.left = ap length same in
-    let taken : consumed b c ≡ consumed a c = ap (λ k. k - length c.left) long in
-    (omega arith, q.1 ∙ ap (λ k. drop k b.left) taken ∙ ap (λ xs. drop (consumed a c) xs) same)
+    let taken : bytes_between b c ≡ bytes_between a c = ap (λ k. k - length c.left) long in
+    (omega arith, q.1 ∙ ap (λ k. drop k b.left) taken ∙ ap (λ xs. drop (bytes_between a c) xs) same)
 
 -- nothing was taken, and then fewer than requested
 within_same : (a b c : Source) (n : ℕ) → b.left ≡ a.left → MovesWithin b n c → MovesWithin a n c

@@ -9,7 +9,7 @@ use Rattle.perf_base.specs.declared.error.ErrorKind.{ErrorKind}
 use Rattle.perf_base.specs.declared.error.ErrorKind.TheVariants.{Eof, InvalidRecord, UnsupportedConfig, UnsupportedData, External, OutOfMemory}
 use Rattle.perf_base.specs.declared.error.ParseError.{ParseError}
 use Rattle.perf_buffers.specs.Buffer.{Source, Stays, Refuses, KeepsChunk, Shows, Advances, chunk_bytes, faults_after}
-use Rattle.perf_buffers.specs.Taking.{Moves, MovesWithin, Takes, FailsToTake, FailsToKeep, FailsInRest, CanFail, consumed}
+use Rattle.perf_buffers.specs.Taking.{Moves, MovesWithin, Takes, FailsToTake, FailsToKeep, FailsInRest, CanFail, bytes_between}
 use Rattle.perf_buffers.specs.declared.parsebuf.ParseBufChunk.{ParseBufChunk}
 
 -- calls that were not refused, and then another call
@@ -34,7 +34,7 @@ came_up (Err x) e h = ap Err h.1
 pub moves_none : (a b : Source) → b.left ≡ a.left → Moves a b
 moves_none a b same =
     let long : length b.left ≡ length a.left = ap length same in
-    let none : consumed a b ≡ 0 = omega arith in
+    let none : bytes_between a b ≡ 0 = omega arith in
     (omega arith, same ∙ sym (ap (λ k. drop k a.left) none))
 
 pub within_none : (a b : Source) (n : ℕ) → b.left ≡ a.left → MovesWithin a n b

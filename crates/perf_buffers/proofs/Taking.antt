@@ -8,7 +8,7 @@ use Rattle.std.proofs.lemmas.List.Folds.{list_all-append}
 use Rattle.std.specs.Prelude.{◌==◌, ◌&&◌}
 use Rattle.perf_base.specs.Zeros.{all_zero}
 use Rattle.perf_buffers.specs.Buffer.{Source}
-use Rattle.perf_buffers.specs.Taking.{Takes, Moves, consumed}
+use Rattle.perf_buffers.specs.Taking.{Takes, Moves, bytes_between}
 
 pub takes_more : (a b c : Source) (n k : ℕ) → Takes a n b → Takes b k c → Takes a (n + k) c
 takes_more a b c n k p q =
@@ -29,8 +29,8 @@ append_on start now out left rest a n p q r = r ∙ rw (p, q, take-add a n left)
 
 pub moves_more : (a b c : Source) → Moves a b → Moves b c → Moves a c
 moves_more a b c p q =
-    let e : consumed a b + consumed b c ≡ consumed a c = omega arith in
-    (omega arith, q.1 ∙ ap (λ xs. drop (consumed b c) xs) p.1 ∙ drop-drop (consumed b c) (consumed a b) a.left ∙ ap (λ n. drop n a.left) e)
+    let e : bytes_between a b + bytes_between b c ≡ bytes_between a c = omega arith in
+    (omega arith, q.1 ∙ ap (λ xs. drop (bytes_between b c) xs) p.1 ∙ drop-drop (bytes_between b c) (bytes_between a b) a.left ∙ ap (λ n. drop n a.left) e)
 
 pub took_all : (n : ℕ) (first xs left : List ℕ) → first ≡ take n xs → left ≡ drop n xs → left ≡ [] → first ≡ xs
 took_all n first xs left p q r =
@@ -43,7 +43,7 @@ append_all start now out left rest a p q r s = s ∙ p ∙ ap (λ xs. start ++ x
 pub takes_moves : (a b : Source) (n : ℕ) → Takes a n b → Moves a b
 takes_moves a b n p =
     let left : length b.left ≡ length a.left - n = ap length p.1 ∙ length-drop n a.left in
-    let taken : consumed a b ≡ n = omega arith in
+    let taken : bytes_between a b ≡ n = omega arith in
     (omega arith, p.1 ∙ sym (ap (λ k. drop k a.left) taken))
 
 -- some bytes, and then others

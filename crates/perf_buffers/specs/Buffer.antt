@@ -1,5 +1,4 @@
--- A buffer: the bytes left in it, and what its calls show, refuse and take. In the crates above,
--- only what a `FrameReader` is given is a chunk.
+-- A buffer: the bytes that are left in it, and what its calls show, refuse and take.
 use Rattle.std.specs.Prelude.{Option, Result, ◌≡◌, ℕ, ◌+◌, ◌<◌, Bool, true, false, IsTrue, List, []}
 use Rattle.std.specs.Prelude.{length, drop, Ok, Err, Some, None, IfOk, IfErr, IsOkAnd, ◌≢◌}
 use Rattle.std.specs.Io.{StartsWith}
@@ -59,13 +58,13 @@ Refuses old UnsupportedData = ⊥
 Refuses old OutOfMemory = ⊥
 
 -- the kind with which a call was refused, if it was
-abbrev pub refusal : {A : Type 0} → Result A ParseError → Option ErrorKind
-refusal (Ok x) = None
-refusal (Err e) = Some (kind_of e)
+abbrev pub kind_if_failed : {A : Type 0} → Result A ParseError → Option ErrorKind
+kind_if_failed (Ok x) = None
+kind_if_failed (Err e) = Some (kind_of e)
 
 -- the call needs no memory, so it is never out of memory
-abbrev pub NeedsNoMemory : {A : Type 0} → Result A ParseError → Type 0
-NeedsNoMemory r = IfErr r (λ e. kind_of e ≢ OutOfMemory)
+abbrev pub CallNeedsNoMemory : {A : Type 0} → Result A ParseError → Type 0
+CallNeedsNoMemory r = IfErr r (λ e. kind_of e ≢ OutOfMemory)
 
 -- ---- what it leaves
 
@@ -94,7 +93,7 @@ Stays old e new =
 -- `chunk` takes nothing, and the bytes that it showed are ready.
 abbrev pub KeepsChunk : Source → Result ParseBufChunk ParseError → Source → List ℕ → Type 0
 KeepsChunk old r new ready =
-    Stays old (refusal r) new × (IsTrue old.told → new.left ≡ old.left)
+    Stays old (kind_if_failed r) new × (IsTrue old.told → new.left ≡ old.left)
     × IfOk r (λ c. ready ≡ chunk_bytes c)
 
 -- `advance` takes n bytes.

@@ -8,12 +8,12 @@ use Rattle.perf_base.specs.declared.error.ErrorKind.TheVariants.{UnsupportedConf
 use Rattle.perf_base.specs.declared.error.ErrorKind.TheVariants.{External, OutOfMemory}
 
 -- the number of bytes between the two states
-abbrev pub consumed : Source → Source → ℕ
-consumed old new = length old.left - length new.left
+abbrev pub bytes_between : Source → Source → ℕ
+bytes_between old new = length old.left - length new.left
 
 -- some bytes were taken from the front
 abbrev pub Moves : Source → Source → Type 0
-Moves old new = (length new.left ≤ length old.left) × (new.left ≡ drop (consumed old new) old.left)
+Moves old new = (length new.left ≤ length old.left) × (new.left ≡ drop (bytes_between old new) old.left)
 
 -- a prefix of the next n bytes was taken
 abbrev pub MovesWithin : Source → ℕ → Source → Type 0

@@ -2,9 +2,9 @@
 
 ghost use Rattle.std.specs.Prelude.{◌≡◌, ◌-◌, ◌≤◌, ◌↔◌, true, false, None, Some, [], length};
 ghost use Rattle.std.specs.Prelude.{take, drop, IsTrue, IsOk, IfOk, IfErr, MatchOption};
-ghost use Rattle.perf_buffers.specs.Prelude.{cow_items, is_borrowed, kind_of, refusal, Stays};
-ghost use Rattle.perf_buffers.specs.Prelude.{CanFail, Takes, FailsToKeep, NeedsNoMemory};
-ghost use Rattle.perf_buffers.specs.Prelude as words;
+ghost use Rattle.perf_buffers.specs.Prelude.{cow_items, is_borrowed, kind_of, kind_if_failed, Stays};
+ghost use Rattle.perf_buffers.specs.Prelude.{CanFail, Takes, FailsToKeep, CallNeedsNoMemory};
+ghost use Rattle.perf_buffers.specs.Prelude as prelude;
 
 use crate::cut::cut;
 use crate::frame_input::after;
@@ -31,9 +31,9 @@ impl<'p> ParseBufCursor<'p> {
     // Borrowed bytes.
     #[inline]
     pub(crate) fn lent(bytes: &'p [u8]) -> ParseBufCursor<'p>
-        ensures left { words.cursor_left result ≡ bytes.now }
-        ensures form { words.cursor_is_borrowed result ≡ true }
-        ensures start { words.IsAtStart result }
+        ensures left { prelude.cursor_left result ≡ bytes.now }
+        ensures form { prelude.cursor_is_borrowed result ≡ true }
+        ensures start { prelude.IsAtStart result }
     {
         ParseBufCursor {
             content: Content::Borrowed(bytes),
@@ -42,7 +42,7 @@ impl<'p> ParseBufCursor<'p> {
 
     #[inline]
     pub(crate) fn rest(&self) -> &[u8]
-        ensures { result.now ≡ words.content_left self.now.content }
+        ensures { result.now ≡ prelude.content_left self.now.content }
     {
         match &self.content {
             Content::Borrowed(bytes) => bytes,
@@ -53,7 +53,7 @@ impl<'p> ParseBufCursor<'p> {
     /// The number of bytes left.
     #[inline]
     pub fn len(&self) -> usize
-        ensures { result ≡ length (words.content_left self.now.content) }
+        ensures { result ≡ length (prelude.content_left self.now.content) }
     {
         self.rest().len()
     }
@@ -61,7 +61,7 @@ impl<'p> ParseBufCursor<'p> {
     /// Whether no bytes are left.
     #[inline]
     pub fn is_empty(&self) -> bool
-        ensures { IsTrue result ↔ (words.content_left self.now.content ≡ []) }
+        ensures { IsTrue result ↔ (prelude.content_left self.now.content ≡ []) }
     {
         self.rest().is_empty()
     }
@@ -69,9 +69,9 @@ impl<'p> ParseBufCursor<'p> {
     /// The last `count` bytes that are left.
     #[inline]
     pub fn last(&self, count: usize) -> &[u8]
-        requires { count ≤ length (words.content_left self.now.content) }
+        requires { count ≤ length (prelude.content_left self.now.content) }
         ensures { result.now ≡
-            drop (length (words.content_left self.now.content) - count) (words.content_left self.now.content) }
+            drop (length (prelude.content_left self.now.content) - count) (prelude.content_left self.now.content) }
     {
         let bytes = self.rest();
         &bytes[bytes.len() - count..]
@@ -80,10 +80,10 @@ impl<'p> ParseBufCursor<'p> {
     /// Drops the last `count` bytes that are left.
     #[inline]
     pub fn drop_last(&mut self, count: usize)
-        requires { count ≤ length (words.content_left self.old.content) }
-        ensures left { words.content_left self.new.content ≡
-            take (length (words.content_left self.old.content) - count) (words.content_left self.old.content) }
-        ensures form { words.content_is_borrowed self.new.content ≡ words.content_is_borrowed self.old.content }
+        requires { count ≤ length (prelude.content_left self.old.content) }
+        ensures left { prelude.content_left self.new.content ≡
+            take (length (prelude.content_left self.old.content) - count) (prelude.content_left self.old.content) }
+        ensures form { prelude.content_is_borrowed self.new.content ≡ prelude.content_is_borrowed self.old.content }
     {
         match &mut self.content {
             Content::Borrowed(bytes) => *bytes = &bytes[..bytes.len() - count],
@@ -94,9 +94,9 @@ impl<'p> ParseBufCursor<'p> {
     /// The bytes. None of them has been taken yet.
     #[inline]
     pub fn into_bytes(self) -> CowSlice<'p, u8>
-        requires { words.ContentIsAtStart self.content }
-        ensures items { cow_items result ≡ words.content_left self.entry.content }
-        ensures form { is_borrowed result ≡ words.content_is_borrowed self.entry.content }
+        requires { prelude.ContentIsAtStart self.content }
+        ensures items { cow_items result ≡ prelude.content_left self.entry.content }
+        ensures form { is_borrowed result ≡ prelude.content_is_borrowed self.entry.content }
     {
         match self.content {
             Content::Borrowed(bytes) => CowSlice::Borrowed(bytes),
@@ -107,8 +107,8 @@ impl<'p> ParseBufCursor<'p> {
     /// The bytes that are left, if they are borrowed.
     #[inline]
     pub fn as_slice(&self) -> Option<&'p [u8]>
-        ensures { MatchOption result (words.cursor_is_borrowed self.now ≡ false)
-            (λ s. IsTrue (words.cursor_is_borrowed self.now) × (s.now ≡ words.cursor_left self.now)) }
+        ensures { MatchOption result (prelude.cursor_is_borrowed self.now ≡ false)
+            (λ s. IsTrue (prelude.cursor_is_borrowed self.now) × (s.now ≡ prelude.cursor_left self.now)) }
     {
         match &self.content {
             Content::Borrowed(bytes) => Some(*bytes),
@@ -119,16 +119,16 @@ impl<'p> ParseBufCursor<'p> {
 
 impl<'p> ParseBuf<'p> for ParseBufCursor<'p> {
     ghost source = { λ c. record {
-      left = words.content_left c.content;
+      left = prelude.content_left c.content;
       told = true;
-      whole = words.content_is_borrowed c.content;
+      whole = prelude.content_is_borrowed c.content;
       can_fault = false;
       faults = None;
     } };
 
-    ghost ready = { λ c. words.content_left c.content };
+    ghost ready = { λ c. prelude.content_left c.content };
 
-    ghost hint = { λ c. Some (length (words.content_left c.content)) };
+    ghost hint = { λ c. Some (length (prelude.content_left c.content)) };
 
     #[inline]
     fn chunk(&mut self) -> ParseResult<ParseBufChunk<'_, 'p>> {
@@ -169,37 +169,37 @@ impl<'p> ParseBufCursor<'p> {
         buf: &mut B,
         len: usize,
     ) -> ParseResult<ParseBufCursor<'p>>
-        ensures stays { Stays (B.source buf.old) (refusal result) (B.source buf.new) }
-        ensures can_fail { CanFail (B.source buf.old) (refusal result) }
+        ensures stays { Stays (B.source buf.old) (kind_if_failed result) (B.source buf.new) }
+        ensures can_fail { CanFail (B.source buf.old) (kind_if_failed result) }
 
         // Bytes of a whole buffer are borrowed, and zero bytes never fail: neither needs memory.
         ensures whole { IsTrue (B.source buf.old).whole →
-            IfOk result (λ c. IsTrue (words.cursor_is_borrowed c)) }
-        ensures whole_memory { IsTrue (B.source buf.old).whole → NeedsNoMemory result }
-        ensures nothing { len ≡ 0 → IfOk result (λ c. IsTrue (words.cursor_is_borrowed c)) × IsOk result
+            IfOk result (λ c. IsTrue (prelude.cursor_is_borrowed c)) }
+        ensures whole_memory { IsTrue (B.source buf.old).whole → CallNeedsNoMemory result }
+        ensures nothing { len ≡ 0 → IfOk result (λ c. IsTrue (prelude.cursor_is_borrowed c)) × IsOk result
             × (B.source buf.new ≡ B.source buf.old) }
 
         // Nothing is allocated if the buffer reports that it has too few bytes. Otherwise all
         // capacity is allocated first, if that is little.
-        ensures short { words.falls_short (B.hint buf.old) len ≡ true →
-            NeedsNoMemory result × IfOk result (λ c. ⊥) }
+        ensures short { prelude.falls_short (B.hint buf.old) len ≡ true →
+            CallNeedsNoMemory result × IfOk result (λ c. ⊥) }
         ensures beforehand { IsTrue (B.source buf.old).told →
-            words.is_made_beforehand (B.hint buf.old) len ≡ true →
+            prelude.is_made_beforehand (B.hint buf.old) len ≡ true →
             IfErr result (λ e. kind_of e ≡ ErrorKind.OutOfMemory →
             (B.source buf.new).left ≡ (B.source buf.old).left) }
 
         ensures ok { IsTrue (B.source buf.old).told →
             IfOk result (λ c. Takes (B.source buf.old) len (B.source buf.new)
-            × (words.cursor_left c ≡ take len (B.source buf.old).left)) }
-        ensures start { IfOk result (λ c. words.IsAtStart c) }
-        ensures count { IfOk result (λ c. length (words.cursor_left c) ≡ len) }
+            × (prelude.cursor_left c ≡ take len (B.source buf.old).left)) }
+        ensures start { IfOk result (λ c. prelude.IsAtStart c) }
+        ensures count { IfOk result (λ c. length (prelude.cursor_left c) ≡ len) }
         ensures err { IsTrue (B.source buf.old).told →
             IfErr result (λ e. FailsToKeep (B.source buf.old) len (kind_of e) (B.source buf.new)) }
     {
         let mut kept = Kept::none();
         match cut(alloc, buf, &mut kept, len) {
             Ok(cursor) => Ok(cursor),
-            Err(refusal) => Err(kept.answer(refusal)),
+            Err(refusal) => Err(kept.error_of(refusal)),
         }
     }
 }

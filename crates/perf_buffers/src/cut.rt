@@ -2,9 +2,9 @@
 
 ghost use Rattle.std.specs.Prelude.{◌≡◌, ◌≢◌, ◌<◌, ◌≤◌, true, Some, length, take};
 ghost use Rattle.std.specs.Prelude.{IsTrue, IsOk, OnOk, IfOk, IfErr, IfSome, MatchOption};
-ghost use Rattle.perf_buffers.specs.Prelude.{kind_of, refusal_kind, refused, kinds, refusal, Stays};
+ghost use Rattle.perf_buffers.specs.Prelude.{kind_of, refusal_kind, kind_if_refused, kinds, kind_if_failed, Stays};
 ghost use Rattle.perf_buffers.specs.Prelude.{CanFail, Takes, FailsToTake, FailsToKeep};
-ghost use Rattle.perf_buffers.specs.Prelude as words;
+ghost use Rattle.perf_buffers.specs.Prelude as prelude;
 
 use crate::cursor::{Content, ParseBufCursor};
 use crate::fill::append;
@@ -26,21 +26,21 @@ fn cut_at_once<'p, B: ParseBuf<'p>>(
     len: usize,
 ) -> ReadResult<Option<Content<'p>>>
     requires { 0 < len }
-    ensures stays { Stays (B.source buf.old) (refused (kinds result)) (B.source buf.new) }
-    ensures can_fail { CanFail (B.source buf.old) (refused (kinds result)) }
+    ensures stays { Stays (B.source buf.old) (kind_if_refused (kinds result)) (B.source buf.new) }
+    ensures can_fail { CanFail (B.source buf.old) (kind_if_refused (kinds result)) }
     ensures whole { IsTrue (B.source buf.old).whole → IfOk result (λ o. MatchOption o
         (IsTrue (B.source buf.old).told × (length (B.source buf.old).left < len))
-        (λ content. IsTrue (words.content_is_borrowed content))) }
-    ensures whole_memory { IsTrue (B.source buf.old).whole → words.TakesNoMemory (kinds result) }
+        (λ content. IsTrue (prelude.content_is_borrowed content))) }
+    ensures whole_memory { IsTrue (B.source buf.old).whole → prelude.NeedsNoMemory (kinds result) }
     ensures beforehand { IsTrue (B.source buf.old).told → IfErr result (λ e.
         refusal_kind e ≡ ErrorKind.OutOfMemory →
         (B.source buf.new).left ≡ (B.source buf.old).left) }
-    ensures count { IfOk result (λ o. IfSome o (λ content. length (words.content_left content) ≡ len)) }
-    ensures start { IfOk result (λ o. IfSome o (λ content. words.ContentIsAtStart content)) }
+    ensures count { IfOk result (λ o. IfSome o (λ content. length (prelude.content_left content) ≡ len)) }
+    ensures start { IfOk result (λ o. IfSome o (λ content. prelude.ContentIsAtStart content)) }
     ensures ok { IsTrue (B.source buf.old).told → IfOk result (λ o. MatchOption o
         ((B.source buf.new).left ≡ (B.source buf.old).left)
         (λ content. Takes (B.source buf.old) len (B.source buf.new)
-        × (words.content_left content ≡ take len (B.source buf.old).left))) }
+        × (prelude.content_left content ≡ take len (B.source buf.old).left))) }
     ensures err { IsTrue (B.source buf.old).told → IfErr result (λ e.
         FailsToKeep (B.source buf.old) len (refusal_kind e) (B.source buf.new)) }
 {
@@ -65,9 +65,9 @@ fn cut_at_once<'p, B: ParseBuf<'p>>(
 // Takes what one chunk has, at most `len` bytes, and keeps none of them.
 fn skip_some<'p, B: ParseBuf<'p>>(buf: &mut B, len: usize) -> ParseResult<usize>
     requires { 0 < len }
-    ensures stays { Stays (B.source buf.old) (refusal result) (B.source buf.new) }
-    ensures can_fail { CanFail (B.source buf.old) (refusal result) }
-    ensures memory { words.NeedsNoMemory result }
+    ensures stays { Stays (B.source buf.old) (kind_if_failed result) (B.source buf.new) }
+    ensures can_fail { CanFail (B.source buf.old) (kind_if_failed result) }
+    ensures memory { prelude.CallNeedsNoMemory result }
     ensures count { IfOk result (λ n. (0 < n) × (n ≤ len)) }
     ensures ok { IsTrue (B.source buf.old).told →
         IfOk result (λ n. Takes (B.source buf.old) n (B.source buf.new)) }
@@ -82,9 +82,9 @@ fn skip_some<'p, B: ParseBuf<'p>>(buf: &mut B, len: usize) -> ParseResult<usize>
 
 /// Takes `len` bytes and keeps none of them.
 pub fn skip<'p, B: ParseBuf<'p>>(buf: &mut B, len: usize) -> ParseResult<()>
-    ensures stays { Stays (B.source buf.old) (refusal result) (B.source buf.new) }
-    ensures can_fail { CanFail (B.source buf.old) (refusal result) }
-    ensures memory { words.NeedsNoMemory result }
+    ensures stays { Stays (B.source buf.old) (kind_if_failed result) (B.source buf.new) }
+    ensures can_fail { CanFail (B.source buf.old) (kind_if_failed result) }
+    ensures memory { prelude.CallNeedsNoMemory result }
     ensures ok { IsTrue (B.source buf.old).told →
         OnOk result (Takes (B.source buf.old) len (B.source buf.new)) }
     ensures err { IsTrue (B.source buf.old).told →
@@ -117,7 +117,7 @@ pub(crate) fn shortage<'p, B: ParseBuf<'p>>(buf: &mut B, kept: &mut Kept, len: u
 // The capacity that is allocated before the first byte is taken.
 #[inline]
 fn first_room(hinted: bool, len: usize) -> usize
-    ensures { result ≡ words.room_made hinted len }
+    ensures { result ≡ prelude.room_made hinted len }
 {
     if hinted { len } else { len.min(UNHINTED_ROOM) }
 }
@@ -129,9 +129,9 @@ pub(crate) fn assemble<'p, B: ParseBuf<'p>>(
     len: usize,
     hinted: bool,
 ) -> ParseResult<()>
-    ensures stays { Stays (B.source buf.old) (refusal result) (B.source buf.new) }
-    ensures can_fail { CanFail (B.source buf.old) (refusal result) }
-    ensures beforehand { IsTrue (B.source buf.old).told → words.makes_all_room hinted len ≡ true →
+    ensures stays { Stays (B.source buf.old) (kind_if_failed result) (B.source buf.new) }
+    ensures can_fail { CanFail (B.source buf.old) (kind_if_failed result) }
+    ensures beforehand { IsTrue (B.source buf.old).told → prelude.makes_all_room hinted len ≡ true →
         IfErr result (λ e. kind_of e ≡ ErrorKind.OutOfMemory →
         (B.source buf.new).left ≡ (B.source buf.old).left) }
     ensures count { OnOk result (length bytes.new.items ≡ len) }
@@ -158,9 +158,9 @@ fn copy<'p, B: ParseBuf<'p>>(
     len: usize,
     hinted: bool,
 ) -> ParseResult<Vec<u8>>
-    ensures stays { Stays (B.source buf.old) (refusal result) (B.source buf.new) }
-    ensures can_fail { CanFail (B.source buf.old) (refusal result) }
-    ensures beforehand { IsTrue (B.source buf.old).told → words.makes_all_room hinted len ≡ true →
+    ensures stays { Stays (B.source buf.old) (kind_if_failed result) (B.source buf.new) }
+    ensures can_fail { CanFail (B.source buf.old) (kind_if_failed result) }
+    ensures beforehand { IsTrue (B.source buf.old).told → prelude.makes_all_room hinted len ≡ true →
         IfErr result (λ e. kind_of e ≡ ErrorKind.OutOfMemory →
         (B.source buf.new).left ≡ (B.source buf.old).left) }
     ensures count { IfOk result (λ v. length v.items ≡ len) }
@@ -180,7 +180,7 @@ fn copy<'p, B: ParseBuf<'p>>(
 // Whether the buffer reports that it has fewer than `len` bytes.
 #[inline]
 pub(crate) fn says_too_few(hint: Option<usize>, len: usize) -> bool
-    ensures { result ≡ words.falls_short hint len }
+    ensures { result ≡ prelude.falls_short hint len }
 {
     match hint {
         Some(left) => left < len,
@@ -199,16 +199,16 @@ fn cut_slowly<'p, B: ParseBuf<'p>>(
     len: usize,
     hinted: bool,
 ) -> ReadResult<ParseBufCursor<'p>>
-    ensures stays { Stays (B.source buf.old) (refused (kinds result)) (B.source buf.new) }
-    ensures can_fail { CanFail (B.source buf.old) (refused (kinds result)) }
-    ensures beforehand { IsTrue (B.source buf.old).told → words.makes_all_room hinted len ≡ true →
+    ensures stays { Stays (B.source buf.old) (kind_if_refused (kinds result)) (B.source buf.new) }
+    ensures can_fail { CanFail (B.source buf.old) (kind_if_refused (kinds result)) }
+    ensures beforehand { IsTrue (B.source buf.old).told → prelude.makes_all_room hinted len ≡ true →
         IfErr result (λ e. refusal_kind e ≡ ErrorKind.OutOfMemory →
         (B.source buf.new).left ≡ (B.source buf.old).left) }
-    ensures count { IfOk result (λ c. length (words.content_left c.content) ≡ len) }
-    ensures start { IfOk result (λ c. words.ContentIsAtStart c.content) }
+    ensures count { IfOk result (λ c. length (prelude.content_left c.content) ≡ len) }
+    ensures start { IfOk result (λ c. prelude.ContentIsAtStart c.content) }
     ensures ok { IsTrue (B.source buf.old).told → IfOk result (λ c.
         Takes (B.source buf.old) len (B.source buf.new)
-        × (words.content_left c.content ≡ take len (B.source buf.old).left)) }
+        × (prelude.content_left c.content ≡ take len (B.source buf.old).left)) }
     ensures err { IsTrue (B.source buf.old).told → IfErr result (λ e.
         FailsToKeep (B.source buf.old) len (refusal_kind e) (B.source buf.new)) }
 {
@@ -228,24 +228,24 @@ pub(crate) fn cut<'p, B: ParseBuf<'p>>(
     kept: &mut Kept,
     len: usize,
 ) -> ReadResult<ParseBufCursor<'p>>
-    ensures stays { Stays (B.source buf.old) (refused (kinds result)) (B.source buf.new) }
-    ensures can_fail { CanFail (B.source buf.old) (refused (kinds result)) }
+    ensures stays { Stays (B.source buf.old) (kind_if_refused (kinds result)) (B.source buf.new) }
+    ensures can_fail { CanFail (B.source buf.old) (kind_if_refused (kinds result)) }
     ensures whole { IsTrue (B.source buf.old).whole →
-        IfOk result (λ c. IsTrue (words.content_is_borrowed c.content)) }
-    ensures whole_memory { IsTrue (B.source buf.old).whole → words.TakesNoMemory (kinds result) }
-    ensures nothing { len ≡ 0 → IfOk result (λ c. IsTrue (words.content_is_borrowed c.content)) × IsOk result
+        IfOk result (λ c. IsTrue (prelude.content_is_borrowed c.content)) }
+    ensures whole_memory { IsTrue (B.source buf.old).whole → prelude.NeedsNoMemory (kinds result) }
+    ensures nothing { len ≡ 0 → IfOk result (λ c. IsTrue (prelude.content_is_borrowed c.content)) × IsOk result
         × (B.source buf.new ≡ B.source buf.old) }
-    ensures short { words.falls_short (B.hint buf.old) len ≡ true →
-        words.TakesNoMemory (kinds result) × IfOk result (λ c. ⊥) }
+    ensures short { prelude.falls_short (B.hint buf.old) len ≡ true →
+        prelude.NeedsNoMemory (kinds result) × IfOk result (λ c. ⊥) }
     ensures beforehand { IsTrue (B.source buf.old).told →
-        words.is_made_beforehand (B.hint buf.old) len ≡ true →
+        prelude.is_made_beforehand (B.hint buf.old) len ≡ true →
         IfErr result (λ e. refusal_kind e ≡ ErrorKind.OutOfMemory →
         (B.source buf.new).left ≡ (B.source buf.old).left) }
     ensures ok { IsTrue (B.source buf.old).told → IfOk result (λ c.
         Takes (B.source buf.old) len (B.source buf.new)
-        × (words.content_left c.content ≡ take len (B.source buf.old).left)) }
-    ensures start { IfOk result (λ c. words.ContentIsAtStart c.content) }
-    ensures count { IfOk result (λ c. length (words.content_left c.content) ≡ len) }
+        × (prelude.content_left c.content ≡ take len (B.source buf.old).left)) }
+    ensures start { IfOk result (λ c. prelude.ContentIsAtStart c.content) }
+    ensures count { IfOk result (λ c. length (prelude.content_left c.content) ≡ len) }
     ensures err { IsTrue (B.source buf.old).told → IfErr result (λ e.
         FailsToKeep (B.source buf.old) len (refusal_kind e) (B.source buf.new)) }
 {

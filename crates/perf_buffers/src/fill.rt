@@ -3,9 +3,9 @@
 
 ghost use Rattle.std.specs.Prelude.{◌≡◌, ◌+◌, ◌<◌, ◌≤◌, [], ◌++◌, length, take, OnOk, IfOk, IfErr};
 ghost use Rattle.std.specs.Prelude.{IsTrue, vec_len, vec_capacity};
-ghost use Rattle.perf_buffers.specs.Prelude.{kind_of, refusal_kind, kinds, refused, refusal, Stays};
+ghost use Rattle.perf_buffers.specs.Prelude.{kind_of, refusal_kind, kinds, kind_if_refused, kind_if_failed, Stays};
 ghost use Rattle.perf_buffers.specs.Prelude.{CanFail, Takes, TakesAtOnce, FailsToTake, FailsToKeep};
-ghost use Rattle.perf_buffers.specs.Prelude.{NeedsNoMemory, TakesNoMemory};
+ghost use Rattle.perf_buffers.specs.Prelude.{CallNeedsNoMemory, NeedsNoMemory};
 
 use crate::parsebuf::ParseBuf;
 use perf_base::error::{ErrorKind, ParseError, ParseResult};
@@ -19,9 +19,9 @@ fn fill_at_once<'p, B: ParseBuf<'p>>(
     out: &mut [u8],
 ) -> ReadResult<bool>
     requires { 0 < length out.old }
-    ensures stays { Stays (B.source buf.old) (refused (kinds result)) (B.source buf.new) }
-    ensures can_fail { CanFail (B.source buf.old) (refused (kinds result)) }
-    ensures memory { TakesNoMemory (kinds result) }
+    ensures stays { Stays (B.source buf.old) (kind_if_refused (kinds result)) (B.source buf.new) }
+    ensures can_fail { CanFail (B.source buf.old) (kind_if_refused (kinds result)) }
+    ensures memory { NeedsNoMemory (kinds result) }
     ensures ok { IsTrue (B.source buf.old).told → IfOk result (λ all.
         TakesAtOnce (B.source buf.old) (length out.old) all out.new (B.source buf.new)) }
     ensures err { IsTrue (B.source buf.old).told → IfErr result (λ e.
@@ -45,9 +45,9 @@ fn fill_at_once<'p, B: ParseBuf<'p>>(
 fn take_some<'p, B: ParseBuf<'p>>(buf: &mut B, out: &mut [u8]) -> ParseResult<usize>
     requires { 0 < length out.old }
     ensures count { IfOk result (λ n. (0 < n) × (n ≤ length out.old)) }
-    ensures stays { Stays (B.source buf.old) (refusal result) (B.source buf.new) }
-    ensures can_fail { CanFail (B.source buf.old) (refusal result) }
-    ensures memory { NeedsNoMemory result }
+    ensures stays { Stays (B.source buf.old) (kind_if_failed result) (B.source buf.new) }
+    ensures can_fail { CanFail (B.source buf.old) (kind_if_failed result) }
+    ensures memory { CallNeedsNoMemory result }
     ensures ok { IsTrue (B.source buf.old).told →
         IfOk result (λ n. Takes (B.source buf.old) n (B.source buf.new)
         × (take n out.new ≡ take n (B.source buf.old).left)) }
@@ -65,9 +65,9 @@ fn take_some<'p, B: ParseBuf<'p>>(buf: &mut B, out: &mut [u8]) -> ParseResult<us
 
 // Fills `out` from as many chunks as needed.
 fn fill_on<'p, B: ParseBuf<'p>>(buf: &mut B, out: &mut [u8]) -> ParseResult<()>
-    ensures stays { Stays (B.source buf.old) (refusal result) (B.source buf.new) }
-    ensures can_fail { CanFail (B.source buf.old) (refusal result) }
-    ensures memory { NeedsNoMemory result }
+    ensures stays { Stays (B.source buf.old) (kind_if_failed result) (B.source buf.new) }
+    ensures can_fail { CanFail (B.source buf.old) (kind_if_failed result) }
+    ensures memory { CallNeedsNoMemory result }
     ensures ok { IsTrue (B.source buf.old).told →
         OnOk result (Takes (B.source buf.old) (length out.old) (B.source buf.new)
         × (out.new ≡ take (length out.old) (B.source buf.old).left)) }
@@ -89,9 +89,9 @@ fn append_some<'p, B: ParseBuf<'p>>(
     len: usize,
 ) -> ParseResult<usize>
     requires { 0 < len }
-    ensures stays { Stays (B.source buf.old) (refusal result) (B.source buf.new) }
-    ensures can_fail { CanFail (B.source buf.old) (refusal result) }
-    ensures room { vec_len out.old + len ≤ vec_capacity out.old → NeedsNoMemory result }
+    ensures stays { Stays (B.source buf.old) (kind_if_failed result) (B.source buf.new) }
+    ensures can_fail { CanFail (B.source buf.old) (kind_if_failed result) }
+    ensures room { vec_len out.old + len ≤ vec_capacity out.old → CallNeedsNoMemory result }
     ensures capacity { vec_capacity out.old ≤ vec_capacity out.new }
     ensures count { IfOk result (λ n. (0 < n) × (n ≤ len)
         × (vec_len out.new ≡ vec_len out.old + n)) }
@@ -120,9 +120,9 @@ pub(crate) fn append<'p, B: ParseBuf<'p>>(
     out: &mut Vec<u8>,
     len: usize,
 ) -> ParseResult<()>
-    ensures stays { Stays (B.source buf.old) (refusal result) (B.source buf.new) }
-    ensures can_fail { CanFail (B.source buf.old) (refusal result) }
-    ensures room { vec_len out.old + len ≤ vec_capacity out.old → NeedsNoMemory result }
+    ensures stays { Stays (B.source buf.old) (kind_if_failed result) (B.source buf.new) }
+    ensures can_fail { CanFail (B.source buf.old) (kind_if_failed result) }
+    ensures room { vec_len out.old + len ≤ vec_capacity out.old → CallNeedsNoMemory result }
     ensures count { OnOk result (vec_len out.new ≡ vec_len out.old + len) }
     ensures ok { IsTrue (B.source buf.old).told →
         OnOk result (Takes (B.source buf.old) len (B.source buf.new)
@@ -148,9 +148,9 @@ pub(crate) fn append<'p, B: ParseBuf<'p>>(
 #[cold]
 #[inline(never)]
 fn fill_slowly<'p, B: ParseBuf<'p>>(buf: &mut B, kept: &mut Kept, out: &mut [u8]) -> ReadResult<()>
-    ensures stays { Stays (B.source buf.old) (refused (kinds result)) (B.source buf.new) }
-    ensures can_fail { CanFail (B.source buf.old) (refused (kinds result)) }
-    ensures memory { TakesNoMemory (kinds result) }
+    ensures stays { Stays (B.source buf.old) (kind_if_refused (kinds result)) (B.source buf.new) }
+    ensures can_fail { CanFail (B.source buf.old) (kind_if_refused (kinds result)) }
+    ensures memory { NeedsNoMemory (kinds result) }
     ensures ok { IsTrue (B.source buf.old).told → OnOk result (
         Takes (B.source buf.old) (length out.old) (B.source buf.new)
         × (out.new ≡ take (length out.old) (B.source buf.old).left)) }
@@ -171,9 +171,9 @@ pub(crate) fn fill<'p, B: ParseBuf<'p>>(
     out: &mut [u8],
 ) -> ReadResult<()>
     requires { 0 < length out.old }
-    ensures stays { Stays (B.source buf.old) (refused (kinds result)) (B.source buf.new) }
-    ensures can_fail { CanFail (B.source buf.old) (refused (kinds result)) }
-    ensures memory { TakesNoMemory (kinds result) }
+    ensures stays { Stays (B.source buf.old) (kind_if_refused (kinds result)) (B.source buf.new) }
+    ensures can_fail { CanFail (B.source buf.old) (kind_if_refused (kinds result)) }
+    ensures memory { NeedsNoMemory (kinds result) }
     ensures ok { IsTrue (B.source buf.old).told → OnOk result (
         Takes (B.source buf.old) (length out.old) (B.source buf.new)
         × (out.new ≡ take (length out.old) (B.source buf.old).left)) }

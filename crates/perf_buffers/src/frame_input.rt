@@ -2,7 +2,7 @@
 
 ghost use Rattle.std.specs.Prelude.{◌≡◌, ◌<◌, ◌≤◌, [], length, take, drop, true, false, Some, None};
 ghost use Rattle.std.specs.Prelude.{IfOk, IfErr};
-ghost use Rattle.perf_buffers.specs.Prelude.{refusal_kind, kinds, TakesNoMemory, Eof, OutOfMemory};
+ghost use Rattle.perf_buffers.specs.Prelude.{refusal_kind, kinds, NeedsNoMemory, Eof, OutOfMemory};
 ghost use Rattle.perf_buffers.specs.Prelude.{content_left, content_is_borrowed, FailsAfter};
 
 use crate::cursor::{Content, ParseBufCursor};
@@ -45,7 +45,7 @@ fn take_after<'a>(bytes: &'a [u8], place: &mut usize, len: usize) -> ReadResult<
 
 // The same, copied. If out of memory, nothing is taken.
 fn copy_after(alloc: Global, bytes: &[u8], place: &mut usize, len: usize) -> ReadResult<Vec<u8>>
-    ensures short { length (drop place.old bytes.now) < len → TakesNoMemory (kinds result) }
+    ensures short { length (drop place.old bytes.now) < len → NeedsNoMemory (kinds result) }
     ensures ok { IfOk result (λ next. (len ≤ length (drop place.old bytes.now))
         × (next.items ≡ take len (drop place.old bytes.now))
         × (drop place.new bytes.now ≡ drop len (drop place.old bytes.now))) }
@@ -158,7 +158,7 @@ impl<'p> Input<'p> for ParseBufCursor<'p> {
     }
 
     #[inline]
-    fn shown(&self) -> &[u8] {
+    fn shown_bytes(&self) -> &[u8] {
         self.rest()
     }
 

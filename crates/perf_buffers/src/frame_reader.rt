@@ -3,8 +3,8 @@
 ghost use Rattle.std.specs.Prelude.{◌≡◌, ◌<◌, ◌≤◌, ◌*◌, ℕ, Bool, List, length, true, IsTrue};
 ghost use Rattle.std.specs.Prelude.{IfOk, IfErr, OnErr};
 ghost use Rattle.perf_buffers.specs.FrameBytes.{GivesNextBytes, FindsFrame};
-ghost use Rattle.perf_buffers.specs.Prelude.{chunk_bytes, chunk_is_borrowed, kinds, refused, refusal_kind, Stays};
-ghost use Rattle.perf_buffers.specs.Prelude.{CanFail, TakesNoMemory, FailsToKeep, makes_all_room};
+ghost use Rattle.perf_buffers.specs.Prelude.{chunk_bytes, chunk_is_borrowed, kinds, kind_if_refused, refusal_kind, Stays};
+ghost use Rattle.perf_buffers.specs.Prelude.{CanFail, NeedsNoMemory, FailsToKeep, makes_all_room};
 
 use crate::cut::assemble;
 use crate::parsebuf::{ParseBuf, ParseBufChunk};
@@ -50,9 +50,9 @@ pub(crate) fn read_in_place<'p, S, B: ParseBuf<'p>, F: FrameReader<'p, S>>(
 ) -> ReadResult<Found<F::Output, F>>
     requires some { 0 < len }
     requires len { F.len reader ≡ len }
-    ensures stays { Stays (B.source buf.old) (refused (kinds result)) (B.source buf.new) }
-    ensures can_fail { CanFail (B.source buf.old) (refused (kinds result)) }
-    ensures memory { TakesNoMemory (kinds result) }
+    ensures stays { Stays (B.source buf.old) (kind_if_refused (kinds result)) (B.source buf.new) }
+    ensures can_fail { CanFail (B.source buf.old) (kind_if_refused (kinds result)) }
+    ensures memory { NeedsNoMemory (kinds result) }
     ensures ok { IfOk result (λ found. FindsFrame (F.gives reader) reader (B.source buf.old) len
         state.old found (B.source buf.new) state.new) }
     ensures same { OnErr result (state.new ≡ state.old) }
@@ -88,8 +88,8 @@ pub(crate) fn read_assembled<'p, S, B: ParseBuf<'p>, F: FrameReader<'p, S>>(
     state: &mut S,
 ) -> ReadResult<F::Output>
     requires { F.len reader ≡ len }
-    ensures stays { Stays (B.source buf.old) (refused (kinds result)) (B.source buf.new) }
-    ensures can_fail { CanFail (B.source buf.old) (refused (kinds result)) }
+    ensures stays { Stays (B.source buf.old) (kind_if_refused (kinds result)) (B.source buf.new) }
+    ensures can_fail { CanFail (B.source buf.old) (kind_if_refused (kinds result)) }
     ensures beforehand { IsTrue (B.source buf.old).told → makes_all_room hinted len ≡ true →
         IfErr result (λ e. refusal_kind e ≡ ErrorKind.OutOfMemory →
         (B.source buf.new).left ≡ (B.source buf.old).left) }

@@ -6,9 +6,9 @@
 
 ghost use Rattle.std.specs.Prelude.{◌≡◌, ℕ, ◌<◌, ◌≤◌, [], length, take, drop, true, false, Some};
 ghost use Rattle.std.specs.Prelude.{None, Option, IsTrue, IsOk, OnOk, IfOk, IfErr, IfSome};
-ghost use Rattle.perf_buffers.specs.Prelude.{refusal_kind, kinds, refused, Eof, OutOfMemory, Stays};
-ghost use Rattle.perf_buffers.specs.Prelude.{CanFail, Takes, FailsToTake, FailsToKeep, TakesNoMemory};
-ghost use Rattle.perf_buffers.specs.Prelude as words;
+ghost use Rattle.perf_buffers.specs.Prelude.{refusal_kind, kinds, kind_if_refused, Eof, OutOfMemory, Stays};
+ghost use Rattle.perf_buffers.specs.Prelude.{CanFail, Takes, FailsToTake, FailsToKeep, NeedsNoMemory};
+ghost use Rattle.perf_buffers.specs.Prelude as prelude;
 
 use crate::cursor::ParseBufCursor;
 use crate::zeros::is_zero;
@@ -18,7 +18,7 @@ use std::alloc::Global;
 
 /// Bytes that are taken as they are needed.
 pub trait Input<'p> {
-    ghost source: { Self → words.Source };
+    ghost source: { Self → prelude.Source };
 
     // how many bytes are left, if known
     ghost hint: { Self → Option ℕ };
@@ -26,9 +26,9 @@ pub trait Input<'p> {
     /// Fills `out`, which has at least one byte.
     fn fill(&mut self, out: &mut [u8]) -> ReadResult<()>
         requires { 0 < length out.old }
-        ensures stays { Stays (source self.old) (refused (kinds result)) (source self.new) }
-        ensures can_fail { CanFail (source self.old) (refused (kinds result)) }
-        ensures memory { TakesNoMemory (kinds result) }
+        ensures stays { Stays (source self.old) (kind_if_refused (kinds result)) (source self.new) }
+        ensures can_fail { CanFail (source self.old) (kind_if_refused (kinds result)) }
+        ensures memory { NeedsNoMemory (kinds result) }
         ensures ok { IsTrue (source self.old).told → OnOk result (
             Takes (source self.old) (length out.old) (source self.new)
             × (out.new ≡ take (length out.old) (source self.old).left)) }
@@ -38,9 +38,9 @@ pub trait Input<'p> {
     /// Takes `len` bytes, at least one, and keeps none of them.
     fn skip(&mut self, len: usize) -> ReadResult<()>
         requires { 0 < len }
-        ensures stays { Stays (source self.old) (refused (kinds result)) (source self.new) }
-        ensures can_fail { CanFail (source self.old) (refused (kinds result)) }
-        ensures memory { TakesNoMemory (kinds result) }
+        ensures stays { Stays (source self.old) (kind_if_refused (kinds result)) (source self.new) }
+        ensures can_fail { CanFail (source self.old) (kind_if_refused (kinds result)) }
+        ensures memory { NeedsNoMemory (kinds result) }
         ensures ok { IsTrue (source self.old).told →
             OnOk result (Takes (source self.old) len (source self.new)) }
         ensures err { IsTrue (source self.old).told → IfErr result (λ e.
@@ -49,55 +49,55 @@ pub trait Input<'p> {
     /// The same. Returns whether all of them are zero.
     fn take_zeros(&mut self, len: usize) -> ReadResult<bool>
         requires { 0 < len }
-        ensures stays { Stays (source self.old) (refused (kinds result)) (source self.new) }
-        ensures can_fail { CanFail (source self.old) (refused (kinds result)) }
-        ensures memory { TakesNoMemory (kinds result) }
+        ensures stays { Stays (source self.old) (kind_if_refused (kinds result)) (source self.new) }
+        ensures can_fail { CanFail (source self.old) (kind_if_refused (kinds result)) }
+        ensures memory { NeedsNoMemory (kinds result) }
         ensures ok { IsTrue (source self.old).told → IfOk result (λ zero.
             Takes (source self.old) len (source self.new)
-            × (zero ≡ words.all_zero (take len (source self.old).left))) }
+            × (zero ≡ prelude.all_zero (take len (source self.old).left))) }
         ensures err { IsTrue (source self.old).told → IfErr result (λ e.
             FailsToTake (source self.old) len (refusal_kind e) (source self.new)) };
 
     /// All that is left, borrowed if the input is whole or nothing is left.
     fn take_rest(&mut self, alloc: Global) -> ReadResult<CowSlice<'p, u8>>
-        ensures stays { Stays (source self.old) (refused (kinds result)) (source self.new) }
-        ensures can_fail { CanFail (source self.old) (refused (kinds result)) }
+        ensures stays { Stays (source self.old) (kind_if_refused (kinds result)) (source self.new) }
+        ensures can_fail { CanFail (source self.old) (kind_if_refused (kinds result)) }
         ensures whole { IsTrue (source self.old).whole →
-            IfOk result (λ c. IsTrue (words.is_borrowed c)) }
-        ensures whole_memory { IsTrue (source self.old).whole → TakesNoMemory (kinds result) }
+            IfOk result (λ c. IsTrue (prelude.is_borrowed c)) }
+        ensures whole_memory { IsTrue (source self.old).whole → NeedsNoMemory (kinds result) }
         ensures nothing { IsTrue (source self.old).told → (source self.old).left ≡ [] →
-            TakesNoMemory (kinds result) × IfOk result (λ c. IsTrue (words.is_borrowed c)) }
+            NeedsNoMemory (kinds result) × IfOk result (λ c. IsTrue (prelude.is_borrowed c)) }
         ensures ok { IsTrue (source self.old).told → IfOk result (λ c.
-            (words.cow_items c ≡ (source self.old).left) × ((source self.new).left ≡ [])) }
+            (prelude.cow_items c ≡ (source self.old).left) × ((source self.new).left ≡ [])) }
         ensures err { IsTrue (source self.old).told → IfErr result (λ e.
-            words.FailsInRest (source self.old) (refusal_kind e) (source self.new)) };
+            prelude.FailsInRest (source self.old) (refusal_kind e) (source self.new)) };
 
     /// Cuts off the next `len` bytes. They are borrowed if one chunk contains them all and lives as
     /// long as the input, and otherwise copied, into capacity allocated by the rules of
     /// [`ParseBufCursor::new`].
     fn cut(&mut self, alloc: Global, len: usize) -> ReadResult<ParseBufCursor<'p>>
-        ensures stays { Stays (source self.old) (refused (kinds result)) (source self.new) }
-        ensures can_fail { CanFail (source self.old) (refused (kinds result)) }
+        ensures stays { Stays (source self.old) (kind_if_refused (kinds result)) (source self.new) }
+        ensures can_fail { CanFail (source self.old) (kind_if_refused (kinds result)) }
         ensures whole { IsTrue (source self.old).whole →
-            IfOk result (λ c. IsTrue (words.cursor_is_borrowed c)) }
-        ensures whole_memory { IsTrue (source self.old).whole → TakesNoMemory (kinds result) }
-        ensures nothing { len ≡ 0 → IfOk result (λ c. IsTrue (words.cursor_is_borrowed c)) × IsOk result
+            IfOk result (λ c. IsTrue (prelude.cursor_is_borrowed c)) }
+        ensures whole_memory { IsTrue (source self.old).whole → NeedsNoMemory (kinds result) }
+        ensures nothing { len ≡ 0 → IfOk result (λ c. IsTrue (prelude.cursor_is_borrowed c)) × IsOk result
             × (source self.new ≡ source self.old) }
-        ensures short { words.falls_short (hint self.old) len ≡ true →
-            TakesNoMemory (kinds result) × IfOk result (λ c. ⊥) }
+        ensures short { prelude.falls_short (hint self.old) len ≡ true →
+            NeedsNoMemory (kinds result) × IfOk result (λ c. ⊥) }
         ensures beforehand { IsTrue (source self.old).told →
-            words.is_made_beforehand (hint self.old) len ≡ true → IfErr result (λ e.
+            prelude.is_made_beforehand (hint self.old) len ≡ true → IfErr result (λ e.
             refusal_kind e ≡ OutOfMemory → (source self.new).left ≡ (source self.old).left) }
         ensures ok { IsTrue (source self.old).told → IfOk result (λ c.
             Takes (source self.old) len (source self.new)
-            × (words.cursor_left c ≡ take len (source self.old).left)) }
-        ensures start { IfOk result (λ c. words.IsAtStart c) }
-        ensures count { IfOk result (λ c. length (words.cursor_left c) ≡ len) }
+            × (prelude.cursor_left c ≡ take len (source self.old).left)) }
+        ensures start { IfOk result (λ c. prelude.IsAtStart c) }
+        ensures count { IfOk result (λ c. length (prelude.cursor_left c) ≡ len) }
         ensures err { IsTrue (source self.old).told → IfErr result (λ e.
             FailsToKeep (source self.old) len (refusal_kind e) (source self.new)) };
 
     /// Bytes at hand, none of which is taken: the first of those that are left. There may be none.
-    fn shown(&self) -> &[u8]
+    fn shown_bytes(&self) -> &[u8]
         ensures { IsTrue (source self.now).told →
             (length result.now ≤ length (source self.now).left)
             × (result.now ≡ take (length result.now) (source self.now).left) };
@@ -113,9 +113,9 @@ pub trait Input<'p> {
 #[inline]
 pub fn take_array<'p, I: Input<'p>, const N: usize>(input: &mut I) -> ReadResult<[u8; N]>
     requires { 0 < N }
-    ensures stays { Stays (I.source input.old) (refused (kinds result)) (I.source input.new) }
-    ensures can_fail { CanFail (I.source input.old) (refused (kinds result)) }
-    ensures memory { TakesNoMemory (kinds result) }
+    ensures stays { Stays (I.source input.old) (kind_if_refused (kinds result)) (I.source input.new) }
+    ensures can_fail { CanFail (I.source input.old) (kind_if_refused (kinds result)) }
+    ensures memory { NeedsNoMemory (kinds result) }
     ensures ok { IsTrue (I.source input.old).told → IfOk result (λ bytes.
         Takes (I.source input.old) N (I.source input.new)
         × (bytes ≡ take N (I.source input.old).left)) }
@@ -184,7 +184,7 @@ impl<'p> Input<'p> for &'p [u8] {
     }
 
     #[inline]
-    fn shown(&self) -> &[u8] {
+    fn shown_bytes(&self) -> &[u8] {
         self
     }
 

@@ -1,9 +1,9 @@
 //! Any kind of buffer as an input.
 
 ghost use Rattle.std.specs.Prelude.{◌≡◌, ◌≤◌, ◌*◌, [], length, true, IsTrue, IsOk, IfOk, IfErr, OnErr};
-ghost use Rattle.perf_base.specs.Refusals.{IsAnswerOf, refusal_kind};
+ghost use Rattle.perf_base.specs.Refusals.{IsErrorOf, refusal_kind};
 ghost use Rattle.perf_buffers.specs.FrameBytes.{GivesNextBytes, TakesOrLeaves};
-ghost use Rattle.perf_buffers.specs.Prelude.{kinds, refused, Stays, Refuses, CanFail, TakesNoMemory};
+ghost use Rattle.perf_buffers.specs.Prelude.{kinds, kind_if_refused, Stays, Refuses, CanFail, NeedsNoMemory};
 ghost use Rattle.perf_buffers.specs.Prelude.{FailsToKeep, falls_short, is_made_beforehand};
 
 use crate::cursor::ParseBufCursor;
@@ -55,11 +55,11 @@ impl<B> Outer<B> {
 
     /// The error that a refusal becomes: the buffer's own, if the buffer refused.
     #[inline]
-    pub fn answer(&mut self, refusal: Refusal) -> ParseError
-        ensures error { IsAnswerOf result refusal }
+    pub fn error_of(&mut self, refusal: Refusal) -> ParseError
+        ensures error { IsErrorOf result refusal }
         ensures buf { self.new.buf ≡ self.old.buf }
     {
-        self.kept.answer(refusal)
+        self.kept.error_of(refusal)
     }
 }
 
@@ -68,7 +68,7 @@ impl<'p, B: ParseBuf<'p>> Outer<B> {
     /// that of the chunk.
     #[inline]
     pub fn take_shown<const N: usize>(&mut self) -> ReadResult<Option<[u8; N]>>
-        ensures stays { Stays (B.source self.old.buf) (refused (kinds result))
+        ensures stays { Stays (B.source self.old.buf) (kind_if_refused (kinds result))
             (B.source self.new.buf) }
         ensures ok { IfOk result (λ taken. IsTrue (B.source self.old.buf).told →
             TakesOrLeaves (B.source self.old.buf) N taken (B.source self.new.buf)) }
@@ -97,7 +97,7 @@ impl<'p, B: ParseBuf<'p>> Outer<B> {
         most: usize,
         counted: bool,
     ) -> ReadResult<usize>
-        ensures stays { Stays (B.source self.old.buf) (refused (kinds result))
+        ensures stays { Stays (B.source self.old.buf) (kind_if_refused (kinds result))
             (B.source self.new.buf) }
         ensures same { IsTrue (B.source self.old.buf).told →
             (B.source self.new.buf).left ≡ (B.source self.old.buf).left }
@@ -128,16 +128,16 @@ impl<'p, B: ParseBuf<'p>> Outer<B> {
         state: &mut S,
     ) -> ReadResult<F::Output>
         requires { F.len reader ≡ len }
-        ensures stays { Stays (B.source self.old.buf) (refused (kinds result))
+        ensures stays { Stays (B.source self.old.buf) (kind_if_refused (kinds result))
             (B.source self.new.buf) }
-        ensures can_fail { CanFail (B.source self.old.buf) (refused (kinds result)) }
+        ensures can_fail { CanFail (B.source self.old.buf) (kind_if_refused (kinds result)) }
         ensures whole_memory { IsTrue (B.source self.old.buf).whole →
-            TakesNoMemory (kinds result) }
+            NeedsNoMemory (kinds result) }
         ensures nothing { len ≡ 0 → IsOk result
             × (B.source self.new.buf ≡ B.source self.old.buf)
             × IfOk result (λ output. F.gives reader [] true state.old output state.new) }
         ensures short { falls_short (B.hint self.old.buf) len ≡ true →
-            TakesNoMemory (kinds result) × IfOk result (λ output. ⊥) }
+            NeedsNoMemory (kinds result) × IfOk result (λ output. ⊥) }
         ensures beforehand { IsTrue (B.source self.old.buf).told →
             is_made_beforehand (B.hint self.old.buf) len ≡ true → IfErr result (λ e.
             refusal_kind e ≡ ErrorKind.OutOfMemory →
@@ -212,7 +212,7 @@ impl<'p, B: ParseBuf<'p>> Input<'p> for Outer<B> {
     }
 
     #[inline]
-    fn shown(&self) -> &[u8] {
+    fn shown_bytes(&self) -> &[u8] {
         &[]
     }
 

@@ -2,8 +2,8 @@
 
 ghost use Rattle.std.specs.Prelude.{◌≡◌, ◌<◌, ◌↔◌, length, take, [], ◌++◌, IsTrue};
 ghost use Rattle.std.specs.Prelude.{IfOk, IfErr, IfSome, OnOk, MatchOption};
-ghost use Rattle.perf_buffers.specs.Prelude.{cow_items, is_borrowed, kind_of, NeedsNoMemory};
-ghost use Rattle.perf_buffers.specs.Prelude.{refusal, Stays, Takes, FailsInRest, CanFail};
+ghost use Rattle.perf_buffers.specs.Prelude.{cow_items, is_borrowed, kind_of, CallNeedsNoMemory};
+ghost use Rattle.perf_buffers.specs.Prelude.{kind_if_failed, Stays, Takes, FailsInRest, CanFail};
 
 use crate::fill::append;
 use crate::parsebuf::{ParseBuf, ParseBufChunk};
@@ -15,11 +15,11 @@ use std::alloc::Global;
 // left.
 #[inline]
 fn lend_first<'p, B: ParseBuf<'p>>(buf: &mut B) -> ParseResult<Option<&'p [u8]>>
-    ensures stays { Stays (B.source buf.old) (refusal result) (B.source buf.new) }
-    ensures can_fail { CanFail (B.source buf.old) (refusal result) }
+    ensures stays { Stays (B.source buf.old) (kind_if_failed result) (B.source buf.new) }
+    ensures can_fail { CanFail (B.source buf.old) (kind_if_failed result) }
     ensures whole { IsTrue (B.source buf.old).whole → IfOk result (λ o. IfSome o (λ s.
         IsTrue (B.source buf.old).told × (s.now ≡ (B.source buf.old).left))) }
-    ensures memory { NeedsNoMemory result }
+    ensures memory { CallNeedsNoMemory result }
     ensures ok { IsTrue (B.source buf.old).told → IfOk result (λ o. MatchOption o
         (((B.source buf.old).left ≡ []) × ((B.source buf.new).left ≡ []))
         (λ s. Takes (B.source buf.old) (length s.now) (B.source buf.new)
@@ -40,9 +40,9 @@ fn lend_first<'p, B: ParseBuf<'p>>(buf: &mut B) -> ParseResult<Option<&'p [u8]>>
 
 // Whether nothing is left.
 fn is_at_end<'p, B: ParseBuf<'p>>(buf: &mut B) -> ParseResult<bool>
-    ensures stays { Stays (B.source buf.old) (refusal result) (B.source buf.new) }
-    ensures can_fail { CanFail (B.source buf.old) (refusal result) }
-    ensures memory { NeedsNoMemory result }
+    ensures stays { Stays (B.source buf.old) (kind_if_failed result) (B.source buf.new) }
+    ensures can_fail { CanFail (B.source buf.old) (kind_if_failed result) }
+    ensures memory { CallNeedsNoMemory result }
     ensures kept { IsTrue (B.source buf.old).told →
         (B.source buf.new).left ≡ (B.source buf.old).left }
     ensures ok { IsTrue (B.source buf.old).told →
@@ -59,8 +59,8 @@ fn is_at_end<'p, B: ParseBuf<'p>>(buf: &mut B) -> ParseResult<bool>
 
 // Appends all that is left. A buffer that never ends runs out of memory.
 fn append_rest<'p, B: ParseBuf<'p>>(buf: &mut B, out: &mut Vec<u8>) -> ParseResult<()>
-    ensures stays { Stays (B.source buf.old) (refusal result) (B.source buf.new) }
-    ensures can_fail { CanFail (B.source buf.old) (refusal result) }
+    ensures stays { Stays (B.source buf.old) (kind_if_failed result) (B.source buf.new) }
+    ensures can_fail { CanFail (B.source buf.old) (kind_if_failed result) }
     ensures ok { IsTrue (B.source buf.old).told →
         OnOk result ((out.new.items ≡ out.old.items ++ (B.source buf.old).left)
         × ((B.source buf.new).left ≡ [])) }
@@ -78,8 +78,8 @@ fn append_rest<'p, B: ParseBuf<'p>>(buf: &mut B, out: &mut Vec<u8>) -> ParseResu
 #[cold]
 #[inline(never)]
 fn copy_rest<'p, B: ParseBuf<'p>>(alloc: Global, buf: &mut B, first: &[u8]) -> ParseResult<Vec<u8>>
-    ensures stays { Stays (B.source buf.old) (refusal result) (B.source buf.new) }
-    ensures can_fail { CanFail (B.source buf.old) (refusal result) }
+    ensures stays { Stays (B.source buf.old) (kind_if_failed result) (B.source buf.new) }
+    ensures can_fail { CanFail (B.source buf.old) (kind_if_failed result) }
     ensures ok { IsTrue (B.source buf.old).told →
         IfOk result (λ v. (v.items ≡ first.now ++ (B.source buf.old).left)
         × ((B.source buf.new).left ≡ [])) }
@@ -99,12 +99,12 @@ fn copy_rest<'p, B: ParseBuf<'p>>(alloc: Global, buf: &mut B, first: &[u8]) -> P
 /// All that is left, borrowed if the buffer is whole or nothing is left.
 #[inline]
 pub fn take_rest<'p, B: ParseBuf<'p>>(alloc: Global, buf: &mut B) -> ParseResult<CowSlice<'p, u8>>
-    ensures stays { Stays (B.source buf.old) (refusal result) (B.source buf.new) }
-    ensures can_fail { CanFail (B.source buf.old) (refusal result) }
+    ensures stays { Stays (B.source buf.old) (kind_if_failed result) (B.source buf.new) }
+    ensures can_fail { CanFail (B.source buf.old) (kind_if_failed result) }
     ensures whole { IsTrue (B.source buf.old).whole → IfOk result (λ c. IsTrue (is_borrowed c)) }
-    ensures whole_memory { IsTrue (B.source buf.old).whole → NeedsNoMemory result }
+    ensures whole_memory { IsTrue (B.source buf.old).whole → CallNeedsNoMemory result }
     ensures nothing { IsTrue (B.source buf.old).told → (B.source buf.old).left ≡ [] →
-        NeedsNoMemory result × IfOk result (λ c. IsTrue (is_borrowed c)) }
+        CallNeedsNoMemory result × IfOk result (λ c. IsTrue (is_borrowed c)) }
     ensures ok { IsTrue (B.source buf.old).told →
         IfOk result (λ c. (cow_items c ≡ (B.source buf.old).left)
         × ((B.source buf.new).left ≡ [])) }

@@ -85,7 +85,7 @@ impl<'a, 'p> Input<'p> for TransientBytes<'a> {
     }
 
     #[inline]
-    fn shown(&self) -> &[u8] {
+    fn shown_bytes(&self) -> &[u8] {
         self.bytes
     }
 

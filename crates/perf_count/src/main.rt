@@ -19,14 +19,12 @@
 //! standard error. `--help` alone prints the usage, with the status 0.
 #![tactic(auto)]
 
-mod args;
-mod command;
-
-use crate::command::{Command, OrderName};
 use anyhow::{Result, bail};
 use perf_event_data::RunEnd;
 use perf_event_data::endian::{Big, Little, Native};
 use perf_event_data::parse::{ErrorKind, ParseError, ParseResult};
+use perf_lines::args::unlimited_command;
+use perf_lines::command::{Command, OrderName};
 use perf_reports::counts::Counts;
 use perf_reports::streams::count_stream;
 use perf_text::usage::print_usage;
@@ -47,7 +45,7 @@ const INPUT_ROOM: usize = 1 << 20;
 
 fn main(rt: HostRuntime) -> Result<ExitCode> {
     let words: Vec<String> = env::args(&rt)?.skip(1).collect(rt.alloc())?;
-    let Some(command) = args::command(&words) else {
+    let Some(command) = unlimited_command(&words) else {
         return Ok(ExitCode::from(print_usage(&rt, &words, USAGE)?));
     };
     let input = BufReader::with_capacity(rt.alloc(), INPUT_ROOM, rt.stdin())?;

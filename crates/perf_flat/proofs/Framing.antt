@@ -15,7 +15,7 @@ use Rattle.perf_base.specs.declared.refusal.Refusal.TheVariants as why
 use Rattle.perf_base.specs.declared.sys.perf_event_header.{perf_event_header}
 use Rattle.perf_buffers.specs.Buffer.{chunk_bytes, chunk_is_borrowed}
 use Rattle.perf_reader.specs.Reading.{of_layout, is_external}
-use Rattle.perf_records.specs.Answers.{FrameParts, body_length, parts_of, split_after, record_in, answer_after, split_of_frame, answer_of_frame}
+use Rattle.perf_records.specs.Answers.{FrameParts, length_after, parts_of, split_after, record_in, answer_after, split_of_frame, answer_of_frame}
 use Rattle.perf_records.specs.Bodies.{body}
 use Rattle.perf_records.specs.FrameReadings.{HasNoRoom}
 use Rattle.perf_records.specs.Frames.{frame_length}
@@ -49,12 +49,12 @@ body_front : (c : Configuration) (o : Order) (h : perf_event_header) (bytes : Li
     (k : ℕ) × (parts.body ≡ take k bytes)
 body_front c o h bytes parts e = elim (cases_lt h.size 8) [
   | inl small ↦ let no = sym (split_small c o h bytes small) ∙ e in absurd (cc)
-  | inr sized ↦ elim (cases_lt (length bytes) (body_length h)) [
+  | inr sized ↦ elim (cases_lt (length bytes) (length_after h)) [
     | inl short ↦ let no = sym (split_short c o h bytes sized short) ∙ e in absurd (cc)
-    | inr fits ↦ elim (cases_lt (body_length h) (id_length c h.type_)) [
+    | inr fits ↦ elim (cases_lt (length_after h) (id_length c h.type_)) [
       | inl little ↦ let no = sym (split_no_room c o h bytes sized fits little) ∙ e in absurd (cc)
       | inr room ↦
-          let j : ℕ = body_length h in
+          let j : ℕ = length_after h in
           let all : List ℕ = take j bytes in
           let k : ℕ = length all - id_length c h.type_ in
           let long : length all ≡ j = length-take-le j bytes fits in
@@ -175,7 +175,7 @@ bad_refused c o h bytes f known (inl small) is_small is_short =
     refused c o h bytes why.SmallHeader f (is_small small) known (ap (record_in c o h) (split_small c o h bytes small)) (λ _. refl) (λ sized _ _. absurd (omega arith))
 bad_refused c o h bytes f known (inr short) is_small is_short =
     let sized : 8 ≤ h.size = short.0 in
-    let lacks : length bytes < body_length h = short.1 in
+    let lacks : length bytes < length_after h = short.1 in
     refused c o h bytes why.Eof f (is_short sized) known (ap (record_in c o h) (split_short c o h bytes sized lacks)) (λ small. absurd (omega arith)) (λ _ all _. absurd (omega arith))
 
 pub unread : (c : Configuration) (o : Order) (h : perf_event_header) (bytes : List ℕ) (f : FlatFrame) → is_unread h.type_ ≡ true → f ≡ empty_frame h unread_number 0 → IsFlatAfter c o h bytes f
@@ -190,10 +190,10 @@ unread c o h bytes f none is = λ frame fits header rest.
 -- ---- the first frame of bytes
 
 -- its header, and the bytes after that
-first_rest : (o : Order) (bytes : List ℕ) → drop 8 (first_frame o bytes) ≡ take (body_length (header_of o bytes)) (drop 8 bytes)
+first_rest : (o : Order) (bytes : List ℕ) → drop 8 (first_frame o bytes) ≡ take (length_after (header_of o bytes)) (drop 8 bytes)
 first_rest o bytes =
     let h : perf_event_header = header_of o bytes in
-    ap (λ n. drop 8 (take n bytes)) (frame_body h) ∙ drop-take 8 (body_length h) bytes
+    ap (λ n. drop 8 (take n bytes)) (frame_body h) ∙ drop-take 8 (length_after h) bytes
 
 first_headed : (o : Order) (bytes : List ℕ) → 8 ≤ length bytes → 8 ≤ length (first_frame o bytes)
 first_headed o bytes fits = omega (arith, length-take (frame_length o bytes) bytes)
@@ -202,10 +202,10 @@ first_headed o bytes fits = omega (arith, length-take (frame_length o bytes) byt
 sight_small : (h : perf_event_header) (bytes : List ℕ) → h.size < 8 → sight_after h bytes true ≡ bad h InvalidRecord
 sight_small h bytes small = let a : nat_lt h.size 8 ≡ true = lt-ltb h.size 8 small in rw a refl
 
-sight_short : (h : perf_event_header) (bytes : List ℕ) → 8 ≤ h.size → length bytes < body_length h → sight_after h bytes true ≡ bad h Eof
+sight_short : (h : perf_event_header) (bytes : List ℕ) → 8 ≤ h.size → length bytes < length_after h → sight_after h bytes true ≡ bad h Eof
 sight_short h bytes sized short =
     let a : nat_lt h.size 8 ≡ false = le-ltb h.size 8 sized in
-    let b : nat_lt (length bytes) (body_length h) ≡ true = lt-ltb (length bytes) (body_length h) short in
+    let b : nat_lt (length bytes) (length_after h) ≡ true = lt-ltb (length bytes) (length_after h) short in
     rw (a, b) refl
 
 -- what is at the first frame
@@ -236,12 +236,12 @@ whole_first c o bytes rest h borrowed fits seen =
     let after : List ℕ = drop 8 bytes in
     elim (cases_lt k.size 8) [
       | inl small ↦ let no = sym (sight_small k after small) ∙ seen in absurd (cc)
-      | inr sized ↦ elim (cases_lt (length after) (body_length k)) [
+      | inr sized ↦ elim (cases_lt (length after) (length_after k)) [
         | inl short ↦ let no = sym (sight_short k after sized short) ∙ seen in absurd (cc)
         | inr whole_there ↦
             let e = sym (finished k after true sized whole_there) ∙ seen in
             let header : k ≡ h = cc in
-            let bytes_are : take (body_length k) after ≡ rest = cc in
+            let bytes_are : take (length_after k) after ≡ rest = cc in
             let lent : true ≡ borrowed = cc in
             record {
               chunk_is_borrowed = sym lent;
@@ -262,12 +262,12 @@ bad_first c o bytes h e f fits seen flat =
           let e' = sym (sight_small k after small) ∙ seen in
           let header : k ≡ h = cc in
           flat (drop 8 frame) (inl (subst (λ (x : perf_event_header). x.size < 8) header small)) frame (first_headed o bytes fits) (header_alone o bytes ∙ header) refl
-      | inr sized ↦ elim (cases_lt (length after) (body_length k)) [
+      | inr sized ↦ elim (cases_lt (length after) (length_after k)) [
         | inl short ↦
             let e' = sym (sight_short k after sized short) ∙ seen in
             let header : k ≡ h = cc in
-            let less : length (drop 8 frame) < body_length k = omega (arith, ap length (first_rest o bytes), length-take (body_length k) after) in
-            flat (drop 8 frame) (inr (subst (λ (x : perf_event_header). (8 ≤ x.size) × (length (drop 8 frame) < body_length x)) header (sized, less))) frame (first_headed o bytes fits) (header_alone o bytes ∙ header) refl
+            let less : length (drop 8 frame) < length_after k = omega (arith, ap length (first_rest o bytes), length-take (length_after k) after) in
+            flat (drop 8 frame) (inr (subst (λ (x : perf_event_header). (8 ≤ x.size) × (length (drop 8 frame) < length_after x)) header (sized, less))) frame (first_headed o bytes fits) (header_alone o bytes ∙ header) refl
         | inr whole_there ↦ let no = sym (finished k after true sized whole_there) ∙ seen in absurd (cc)
       ]
     ]

@@ -25,7 +25,7 @@ use Rattle.perf_types.specs.Read.{read}
 use Rattle.perf_types.specs.SwitchCpuWide.{switch_cpu_wide}
 use Rattle.perf_types.specs.TextPoke.{text_poke}
 use Rattle.perf_types.specs.Throttle.{throttle}
-use Rattle.perf_records.specs.Bodies.{body_of_type, wants_memory_of_type}
+use Rattle.perf_records.specs.Bodies.{body_of_type, needs_memory_of_type}
 use Rattle.perf_records.specs.Records.{RecordValue, mmap_is, lost_is, comm_is, exit_is, throttle_is}
 use Rattle.perf_records.specs.Records.{unthrottle_is, fork_is, read_is, mmap2_is, aux_is}
 use Rattle.perf_records.specs.Records.{itrace_start_is, lost_samples_is, switch_is}
@@ -91,7 +91,7 @@ of_type : {A : Type 0} (o : Order) (frame body : List ℕ) (c : Contents) (p : P
 of_type o frame body c p f value holds e =
     let w = inner o p f body value e in subst (Content o frame c) w.3 (holds w.0 w.1 w.2)
 
-pub contents_hold : (o : Order) (settings : Configuration) (ty : ℕ) (t : Option RecordType) (frame body : List ℕ) (value : RecordValue) (c : Contents) → IsBodyOf frame body → wants_memory_of_type t ≡ false →
+pub contents_hold : (o : Order) (settings : Configuration) (ty : ℕ) (t : Option RecordType) (frame body : List ℕ) (value : RecordValue) (c : Contents) → IsBodyOf frame body → needs_memory_of_type t ≡ false →
     layout o (body_of_type settings ty t) body ≡ Ok value → Content o frame c value
 contents_hold o settings ty (Some type.Mmap) frame body value c is plain e =
     of_type o frame body c mmap mmap_is value (λ w left run. single frame body c _ 32 w.filename is (mmap_stands o body w left run)) e

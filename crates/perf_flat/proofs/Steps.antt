@@ -2,10 +2,10 @@
 use Rattle.std.proofs.Common.{◌≡◌, ℕ, ◌+◌, ◌-◌, ◌≤◌, ◌<◌, Bool, true, false, List, [], ◌∷◌, length, take, drop, Ok, refl, sym, ◌∙◌, ap, subst, inl, inr, arith, if◌then◌else◌}
 use Rattle.std.proofs.lemmas.Bool.{cases_lt}
 use Rattle.std.proofs.lemmas.List.{length-drop, length-take-le, drop-drop, take_all}
-use Rattle.perf_base.specs.Layout.{Shape, Answer, answer_of, size, Parts, done, part, number, byte_string, padding, rest, Width, bytes_in, number_of, layout, mapped}
+use Rattle.perf_base.specs.Layout.{Shape, ShapeValue, shape_value, size, Parts, done, part, number, byte_string, padding, rest, Width, bytes_in, number_of, layout, mapped}
 use Rattle.perf_base.specs.Order.{Order}
 use Rattle.perf_base.specs.Run.{ran, run_parts}
-use Rattle.perf_base.specs.Zeros.{all_zero, trimmed}
+use Rattle.perf_base.specs.Zeros.{all_zero, trim_zeros}
 use Rattle.perf_base.proofs.Algebra.{then_inv}
 use Rattle.perf_base.proofs.Bridge.{run_yes, run_no}
 use Rattle.perf_base.proofs.Tables.{layout_run}
@@ -36,8 +36,8 @@ pub record At {A : Type 0} (o : Order) (body : List ℕ) (s : ℕ) (p : Parts A)
 pub first : {A : Type 0} {o : Order} {body : List ℕ} {y : A} {left : List ℕ} (p : Parts A) → run_parts o p body ≡ ran y left → At o body 0 p y left
 first p e = record { within = omega arith; run = e }
 
-shape_next : {A : Type 0} (o : Order) (shape : Shape) (n : ℕ) (k : Answer shape → Parts A) (body : List ℕ) (s : ℕ) (y : A) (left : List ℕ) →
-    size shape (length (drop s body)) ≡ n → At o body s (part shape k) y left → At o body (s + n) (k (answer_of o shape (take n (drop s body)))) y left
+shape_next : {A : Type 0} (o : Order) (shape : Shape) (n : ℕ) (k : ShapeValue shape → Parts A) (body : List ℕ) (s : ℕ) (y : A) (left : List ℕ) →
+    size shape (length (drop s body)) ≡ n → At o body s (part shape k) y left → At o body (s + n) (k (shape_value o shape (take n (drop s body)))) y left
 shape_next o shape n k body s y left sized here =
     let long : length (drop s body) ≡ length body - s = length-drop s body in
     let within : s ≤ length body = here.within in
@@ -45,7 +45,7 @@ shape_next o shape n k body s y left sized here =
       | inl short ↦ let no = sym here.run ∙ run_no o shape k (drop s body) (subst (λ m. length (drop s body) < m) (sym sized) short) in absurd (cc)
       | inr fits ↦ record {
         within = omega arith;
-        run = ap (λ z. run_parts o (k (answer_of o shape (take n (drop s body)))) z) (sym (drop-drop n s body)) ∙ sym (run_yes o shape k (drop s body) n sized fits) ∙ here.run;
+        run = ap (λ z. run_parts o (k (shape_value o shape (take n (drop s body)))) z) (sym (drop-drop n s body)) ∙ sym (run_yes o shape k (drop s body) n sized fits) ∙ here.run;
       }
     ]
 
@@ -110,16 +110,16 @@ taken_stands body s n within =
     }
 
 -- a name without the zero bytes at its end is a front of it
-pub trimmed_front : (xs : List ℕ) → (take (length (trimmed xs)) xs ≡ trimmed xs) × (length (trimmed xs) ≤ length xs)
+pub trimmed_front : (xs : List ℕ) → (take (length (trim_zeros xs)) xs ≡ trim_zeros xs) × (length (trim_zeros xs) ≤ length xs)
 trimmed_front [] = (refl, omega arith)
 trimmed_front (x ∷ xs) = go (all_zero (x ∷ xs)) (trimmed_front xs)
   where
-    go : (b : Bool) → (take (length (trimmed xs)) xs ≡ trimmed xs) × (length (trimmed xs) ≤ length xs) →
-        let ys : List ℕ = if b then [] else x ∷ trimmed xs in (take (length ys) (x ∷ xs) ≡ ys) × (length ys ≤ length (x ∷ xs))
+    go : (b : Bool) → (take (length (trim_zeros xs)) xs ≡ trim_zeros xs) × (length (trim_zeros xs) ≤ length xs) →
+        let ys : List ℕ = if b then [] else x ∷ trim_zeros xs in (take (length ys) (x ∷ xs) ≡ ys) × (length ys ≤ length (x ∷ xs))
     go true h = (refl, omega arith)
     go false h = (ap (λ ys. x ∷ ys) h.0, omega (arith, h.1))
 
-pub name_stands : (body : List ℕ) (s : ℕ) (bytes : List ℕ) → s ≤ length body → trimmed (drop s body) ≡ bytes → Stands body s bytes
+pub name_stands : (body : List ℕ) (s : ℕ) (bytes : List ℕ) → s ≤ length body → trim_zeros (drop s body) ≡ bytes → Stands body s bytes
 name_stands body s bytes within is =
     let front = trimmed_front (drop s body) in
     let left : length (drop s body) ≡ length body - s = length-drop s body in

@@ -12,8 +12,8 @@ use Rattle.perf_base.specs.declared.error.ErrorKind.TheVariants as kind
 use Rattle.perf_base.specs.declared.refusal.Refusal.{Refusal}
 use Rattle.perf_base.specs.declared.refusal.Refusal.TheVariants as why
 use Rattle.perf_base.specs.declared.sys.perf_event_header.{perf_event_header}
-use Rattle.perf_records.specs.Answers.{FrameParts, body_length, split_of_frame, answer_of_frame}
-use Rattle.perf_records.specs.Bodies.{wants_memory}
+use Rattle.perf_records.specs.Answers.{FrameParts, length_after, split_of_frame, answer_of_frame}
+use Rattle.perf_records.specs.Bodies.{needs_memory}
 use Rattle.perf_records.specs.Frames.{frame_length}
 use Rattle.perf_records.specs.Metadata.{carries_sample_id, id_length}
 use Rattle.perf_records.specs.Records.{RecordValue}
@@ -137,7 +137,7 @@ pub record StatesRefusal (c : Configuration) (h : perf_event_header) (len : ℕ)
   pub of_kind : refusal_kind told ≡ e
   pub is : f ≡ refused_frame h told
   pub small : h.size < 8 → told ≡ why.SmallHeader
-  pub no_room : 8 ≤ h.size → h.size ≤ len → body_length h < id_length c h.type_ →
+  pub no_room : 8 ≤ h.size → h.size ≤ len → length_after h < id_length c h.type_ →
       told ≡ why.NoRoomForId
 
 -- ---- a frame
@@ -158,7 +158,7 @@ StatesAnswer c o frame _ (Err e) f = StatesRefusal c (header_of o frame) (length
 
 -- A type that has no flat frame so far: SAMPLE, and NAMESPACES.
 abbrev pub is_unread : ℕ → Bool
-is_unread ty = wants_memory ty
+is_unread ty = needs_memory ty
 
 -- A flat frame states what the bytes of a frame contain, or the header alone for a type without one.
 pub record IsFlat (c : Configuration) (o : Order) (frame : List ℕ) (f : FlatFrame) : Type 0 where
@@ -180,4 +180,4 @@ IsFlatAfter c o h bytes f = (frame : List ℕ) → 8 ≤ length frame → header
 
 -- no whole frame follows the header: its size is below 8, or bytes are missing
 abbrev pub IsBad : perf_event_header → List ℕ → Type 0
-IsBad h bytes = (h.size < 8) ⊎ ((8 ≤ h.size) × (length bytes < body_length h))
+IsBad h bytes = (h.size < 8) ⊎ ((8 ≤ h.size) × (length bytes < length_after h))

@@ -17,7 +17,7 @@ use Rattle.perf_records.specs.Answers.{answers}
 use Rattle.perf_reader.specs.Reading.{of_layout, is_external}
 use Rattle.perf_lines.specs.declared.outcome.Outcome.{Outcome}
 use Rattle.perf_lines.specs.declared.outcome.Outcome.TheVariants.{Clean, Refused, BadAttr, Faulted, Stopped}
-use Rattle.perf_lines.specs.Text.{lines_from, end_line, printed, is_at_limit, text, end_name, kind_name, Stream, framed, without_frames, stream_after_attribute, stream_text, attr_line}
+use Rattle.perf_lines.specs.Text.{lines_from, end_line, first_answers, is_at_limit, text, end_name, kind_name, Stream, framed, without_frames, stream_after_attribute, stream_text, attr_line}
 use Rattle.perf_lines.specs.Outcomes.{is_cut, prints_refusal, ends_cut, EndsEarly, IsFaultText, IsText, IsWritten}
 use Rattle.perf_lines.proofs.Progress.{Listed}
 
@@ -52,9 +52,9 @@ says_as f c o limit bytes true e = (refl, ap (λ b. if b then Refused else Clean
 says_as f c o limit bytes false e = (refl, ap (λ b. if b then Refused else Clean) e)
 
 -- the whole text is written, if n answers are all that is printed
-whole : (f : Bool) (c : Configuration) (o : Order) (limit : ℕ) (bytes start : List ℕ) (n : ℕ) (made : List ℕ) (refused : Bool) → Listed c o bytes start n made refused → take n (answers c o bytes) ≡ printed c o limit bytes → (how : List ℕ) → (if is_at_limit c o limit bytes then codes "limit" else end_name (stream_end o bytes)) ≡ how → (cut : Bool) → ends_cut c o limit bytes ≡ cut → (now : List ℕ) → now ≡ made ++ end_line how → (outcome : Outcome) → outcome ≡ (if refused || cut then Refused else Clean) → Made f c o limit bytes start outcome now
+whole : (f : Bool) (c : Configuration) (o : Order) (limit : ℕ) (bytes start : List ℕ) (n : ℕ) (made : List ℕ) (refused : Bool) → Listed c o bytes start n made refused → take n (answers c o bytes) ≡ first_answers c o limit bytes → (how : List ℕ) → (if is_at_limit c o limit bytes then codes "limit" else end_name (stream_end o bytes)) ≡ how → (cut : Bool) → ends_cut c o limit bytes ≡ cut → (now : List ℕ) → now ≡ made ++ end_line how → (outcome : Outcome) → outcome ≡ (if refused || cut then Refused else Clean) → Made f c o limit bytes start outcome now
 whole f c o limit bytes start n made refused before all how ends cut cuts now grown outcome is =
-    let lines : List ℕ = lines_from 0 (printed c o limit bytes) in
+    let lines : List ℕ = lines_from 0 (first_answers c o limit bytes) in
     let same : text c o limit bytes ≡ lines ++ end_line how = ap (λ word. lines ++ end_line word) ends in
     let test : (prints_refusal c o limit bytes || ends_cut c o limit bytes) ≡ (refused || cut) =
     ap (λ b. prints_refusal c o limit bytes || b) cuts
@@ -80,7 +80,7 @@ all_made : (f : Bool) (c : Configuration) (o : Order) (limit : ℕ) (bytes start
 all_made f c o limit bytes start n made refused before count below end ends now grown outcome is =
     let all = answers c o bytes in
     let at : is_at_limit c o limit bytes ≡ false = grind (arith, nat_tests) in
-    let printed_all : take n all ≡ printed c o limit bytes = take_all n all (omega arith) ∙ sym (take_all limit all (omega arith)) in
+    let printed_all : take n all ≡ first_answers c o limit bytes = take_all n all (omega arith) ∙ sym (take_all limit all (omega arith)) in
     whole f c o limit bytes start n made refused before printed_all (end_name end)
     (ap (λ b. if b then codes "limit" else end_name (stream_end o bytes)) at ∙ ap end_name ends)
     (is_cut end) (ap (λ b. not b && is_cut (stream_end o bytes)) at ∙ ap is_cut ends)

@@ -1,5 +1,4 @@
 pub mod Lines
-pub mod Batches
 pub mod Known
 pub mod Progress
 pub mod Endings

@@ -19,7 +19,7 @@ use Rattle.perf_parser.specs.Runs.{seen_answers}
 use Rattle.perf_base.specs.Header.{header_of}
 use Rattle.perf_lines.specs.Text.{lines_from}
 use Rattle.perf_lines.proofs.Lines.{lines_append}
-use Rattle.perf_lines.proofs.Batches.{frames_after, answers_after, end_after}
+use Rattle.perf_records.proofs.FramesAfter.{frames_after, answers_after, end_after}
 
 abbrev Pair : Type 0
 Pair = perf_event_header × Result RecordValue ErrorKind

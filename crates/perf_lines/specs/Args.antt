@@ -16,8 +16,8 @@ limit_named word =
     else None
 
 -- what the name of an order and a limit ask for
-abbrev pub asked : Bool → List ℕ → List ℕ → Option Command
-asked with_attr order limit =
+abbrev pub command_with_limit : Bool → List ℕ → List ℕ → Option Command
+command_with_limit with_attr order limit =
     option_and_then
     (λ name. option_map (λ most. record { order = name; limit = most; with_attr = with_attr })
     (limit_named limit)) (order_named order)
@@ -26,21 +26,21 @@ asked with_attr order limit =
 abbrev pub command_of : List (List ℕ) → Option Command
 command_of [] = None
 command_of (order ∷ []) = None
-command_of (order ∷ limit ∷ []) = asked false order limit
+command_of (order ∷ limit ∷ []) = command_with_limit false order limit
 command_of (order ∷ limit ∷ third ∷ []) =
-    if bytes_eq third (codes "attr") then asked true order limit else None
+    if bytes_eq third (codes "attr") then command_with_limit true order limit else None
 command_of (order ∷ limit ∷ third ∷ fourth ∷ more) = None
 
 -- what an order's name alone asks for: no limit but the greatest number of 64 bits
-abbrev pub unlimited : Bool → List ℕ → Option Command
-unlimited with_attr order =
+abbrev pub command_without_limit : Bool → List ℕ → Option Command
+command_without_limit with_attr order =
     option_map (λ name. record { order = name; limit = 2 ^ 64 - 1; with_attr = with_attr })
     (order_named order)
 
 -- what the words after the program's name ask for if they name no limit
 abbrev pub unlimited_command_of : List (List ℕ) → Option Command
 unlimited_command_of [] = None
-unlimited_command_of (order ∷ []) = unlimited false order
+unlimited_command_of (order ∷ []) = command_without_limit false order
 unlimited_command_of (order ∷ second ∷ []) =
-    if bytes_eq second (codes "attr") then unlimited true order else None
+    if bytes_eq second (codes "attr") then command_without_limit true order else None
 unlimited_command_of (order ∷ second ∷ third ∷ more) = None

@@ -38,10 +38,10 @@ abbrev pub words_of : List (List ℕ × Option ℕ) → List (List ℕ)
 words_of numbers = flat_map (λ number. word_of number.0 number.1) numbers
 
 -- items separated by commas
-abbrev pub listed : {X : Type 0} → (X → List ℕ) → List X → List ℕ
-listed item [] = []
-listed item (x ∷ xs) = item x ++ flat_map (λ other. codes "," ++ item other) xs
+abbrev pub with_commas : {X : Type 0} → (X → List ℕ) → List X → List ℕ
+with_commas item [] = []
+with_commas item (x ∷ xs) = item x ++ flat_map (λ other. codes "," ++ item other) xs
 
 -- each word with a space before it
-abbrev pub spaced : List (List ℕ) → List ℕ
-spaced words = flat_map (λ word. codes " " ++ word) words
+abbrev pub with_spaces : List (List ℕ) → List ℕ
+with_spaces words = flat_map (λ word. codes " " ++ word) words

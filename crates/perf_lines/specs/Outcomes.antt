@@ -15,7 +15,7 @@ use Rattle.perf_records.specs.Frames.{StreamEnd, done, cut_header, stream_end}
 use Rattle.perf_lines.specs.declared.outcome.Outcome.{Outcome}
 use Rattle.perf_lines.specs.declared.outcome.Outcome.TheVariants.{Clean, Refused, BadAttr, Faulted}
 use Rattle.perf_lines.specs.declared.outcome.Outcome.TheVariants.{Stopped}
-use Rattle.perf_lines.specs.Text.{printed, is_at_limit, lines_from, end_line, kind_name, Stream}
+use Rattle.perf_lines.specs.Text.{first_answers, is_at_limit, lines_from, end_line, kind_name, Stream}
 use Rattle.perf_lines.specs.Text.{framed, without_frames, stream_answers, stream_text}
 
 -- the exit status of an outcome
@@ -35,7 +35,7 @@ is_cut cut_header = true
 
 -- a printed result is a refusal
 abbrev pub prints_refusal : Configuration → Order → ℕ → List ℕ → Bool
-prints_refusal c o limit bytes = list_any (λ pair. is_err pair.1) (printed c o limit bytes)
+prints_refusal c o limit bytes = list_any (λ pair. is_err pair.1) (first_answers c o limit bytes)
 
 -- the text ends inside a header
 abbrev pub ends_cut : Configuration → Order → ℕ → List ℕ → Bool

@@ -8,7 +8,7 @@ use Rattle.perf_sample_types.specs.Registers.{RegistersValue}
 use Rattle.perf_sample_types.specs.SampleGetters.{Getters}
 use Rattle.perf_words.specs.Branch.{Branch, mispred_of, predicted_of, in_tx_of, abort_of}
 use Rattle.perf_words.specs.Branch.{cycles_of, type_of}
-use Rattle.perf_lines.specs.Fields.{number, field, present, word_as, word_of, words_of, hex, listed}
+use Rattle.perf_lines.specs.Fields.{number, field, present, word_as, word_of, words_of, hex, with_commas}
 
 -- ---- items of lists
 
@@ -43,13 +43,13 @@ branch_item b =
 abbrev pub group_words : Option GroupRead → List (List ℕ)
 group_words (Some g) =
     words_of ((codes "time_enabled", g.time_enabled) ∷ (codes "time_running", g.time_running) ∷ [])
-    ++ (field (codes "values") (listed counter_item g.entries) ∷ [])
+    ++ (field (codes "values") (with_commas counter_item g.entries) ∷ [])
 group_words None = []
 
 -- registers: the ABI under a first name, and the values under a second
 abbrev pub register_words : (abi regs : List ℕ) → Option RegistersValue → List (List ℕ)
 register_words abi regs (Some r) =
-    number abi r.abi ∷ field regs (listed decimal r.regs) ∷ []
+    number abi r.abi ∷ field regs (with_commas decimal r.regs) ∷ []
 register_words abi regs None = []
 
 -- ---- groups of fields
@@ -65,14 +65,14 @@ abbrev pub count_words : Getters → List (List ℕ)
 count_words g =
     words_of ((codes "stream_id", g.stream_id) ∷ (codes "cpu", g.cpu)
     ∷ (codes "period", g.period) ∷ [])
-    ++ (group_words g.values ++ word_as (codes "callchain") (listed decimal) g.callchain)
+    ++ (group_words g.values ++ word_as (codes "callchain") (with_commas decimal) g.callchain)
 
 -- the raw bytes, the branches, and the registers and the stack of user space
 abbrev pub state_words : Getters → List (List ℕ)
 state_words g =
     word_as (codes "raw") hex g.raw
     ++ (word_of (codes "lbr_hw_index") g.lbr_hw_index
-    ++ (word_as (codes "lbr") (listed branch_item) g.lbr
+    ++ (word_as (codes "lbr") (with_commas branch_item) g.lbr
     ++ (register_words (codes "regs_user_abi") (codes "regs_user") g.regs_user
     ++ word_as (codes "stack_user") hex g.stack_user)))
 

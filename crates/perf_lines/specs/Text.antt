@@ -42,7 +42,7 @@ use Rattle.perf_records.specs.Records.{namespaces_is, ksymbol_is, bpf_event_is, 
 use Rattle.perf_records.specs.Records.{text_poke_is, aux_output_hw_id_is, unknown_is}
 use Rattle.perf_records.specs.Frames.{StreamEnd, done, cut_header, stream_end}
 use Rattle.perf_records.specs.Answers.{answers}
-use Rattle.perf_lines.specs.Fields.{field, number, word_of, hex, listed, spaced}
+use Rattle.perf_lines.specs.Fields.{field, number, word_of, hex, with_commas, with_spaces}
 use Rattle.perf_lines.specs.SampleText.{sample_words}
 
 -- ---- records
@@ -135,7 +135,7 @@ namespace_item e = decimal e.dev ++ (codes ":" ++ decimal e.inode)
 abbrev pub namespaces_words : NamespacesValue → List (List ℕ)
 namespaces_words r =
     codes "Namespaces" ∷ number (codes "pid") r.pid ∷ number (codes "tid") r.tid
-    ∷ field (codes "namespaces") (listed namespace_item r.namespaces) ∷ []
+    ∷ field (codes "namespaces") (with_commas namespace_item r.namespaces) ∷ []
 
 -- a symbol of the kernel: its address, its length, its type, flags and name
 abbrev pub ksymbol_words : KSymbolValue → List (List ℕ)
@@ -215,29 +215,29 @@ answer_words (Err e) = codes "refused" ∷ kind_name e ∷ []
 abbrev pub line : ℕ → perf_event_header → Result RecordValue ErrorKind → List ℕ
 line index h answer =
     decimal index
-    ++ (spaced (decimal h.type_ ∷ decimal h.misc ∷ decimal h.size ∷ [])
-    ++ spaced (answer_words answer))
+    ++ (with_spaces (decimal h.type_ ∷ decimal h.misc ∷ decimal h.size ∷ [])
+    ++ with_spaces (answer_words answer))
 
 -- a line with the line feed that ends it
-abbrev pub ended : List ℕ → List ℕ
-ended text = text ++ codes "\n"
+abbrev pub with_line_feed : List ℕ → List ℕ
+with_line_feed text = text ++ codes "\n"
 
 -- the lines of results, numbered from a first number
 abbrev pub lines_from : ℕ → List (perf_event_header × Result RecordValue ErrorKind) → List ℕ
 lines_from first pairs =
-    flat_map (λ numbered. ended (line numbered.0 numbered.1.0 numbered.1.1))
+    flat_map (λ numbered. with_line_feed (line numbered.0 numbered.1.0 numbered.1.1))
     (enumerate_from first pairs)
 
 -- the line that states how reading ended
 abbrev pub end_line : List ℕ → List ℕ
-end_line how = ended (codes "end " ++ how)
+end_line how = with_line_feed (codes "end " ++ how)
 
 -- ---- the text
 
 -- the results that are printed: the first ones, at most limit of them
-abbrev pub printed : Configuration → Order → ℕ → List ℕ →
+abbrev pub first_answers : Configuration → Order → ℕ → List ℕ →
     List (perf_event_header × Result RecordValue ErrorKind)
-printed c o limit bytes = take limit (answers c o bytes)
+first_answers c o limit bytes = take limit (answers c o bytes)
 
 -- whether the text ends because of the limit
 abbrev pub is_at_limit : Configuration → Order → ℕ → List ℕ → Bool
@@ -251,7 +251,7 @@ end_name cut_header = codes "cut"
 -- The text of a stream for a limit: a line for each printed result, and then the end.
 abbrev pub text : Configuration → Order → ℕ → List ℕ → List ℕ
 text c o limit bytes =
-    lines_from 0 (printed c o limit bytes)
+    lines_from 0 (first_answers c o limit bytes)
     ++ end_line
     (if is_at_limit c o limit bytes then codes "limit" else end_name (stream_end o bytes))
 
@@ -278,7 +278,7 @@ stream_of true o bytes = stream_after_attribute o bytes
 
 -- the line of a refused attribute
 abbrev pub attr_line : ErrorKind → List ℕ
-attr_line kind = ended (codes "attr refused " ++ kind_name kind)
+attr_line kind = with_line_feed (codes "attr refused " ++ kind_name kind)
 
 -- the results of the frames of a stream
 abbrev pub stream_answers : Order → Stream → List (perf_event_header × Result RecordValue ErrorKind)

@@ -3,8 +3,8 @@
 ghost use Rattle.std.specs.Prelude.{◌≡◌, map, string_bytes};
 ghost use Rattle.std.specs.Char.{is_ascii_digit};
 ghost use Rattle.std.specs.List.{list_all};
-ghost use Rattle.perf_lines.specs.Args.{limit_named, asked, command_of};
-ghost use Rattle.perf_lines.specs.Args.{unlimited, unlimited_command_of};
+ghost use Rattle.perf_lines.specs.Args.{limit_named, command_with_limit, command_of};
+ghost use Rattle.perf_lines.specs.Args.{command_without_limit, unlimited_command_of};
 
 use crate::command::{Command, OrderName};
 
@@ -14,9 +14,9 @@ pub fn command(words: &[String]) -> Option<Command>
     ensures { result ≡ command_of (map string_bytes words.now) }
 {
     match words {
-        [order, limit] => asked(order.as_str(), limit.as_str(), false),
+        [order, limit] => command_with_limit(order.as_str(), limit.as_str(), false),
         [order, limit, third] if third.as_str() == "attr" => {
-            asked(order.as_str(), limit.as_str(), true)
+            command_with_limit(order.as_str(), limit.as_str(), true)
         }
         _ => None,
     }
@@ -28,14 +28,14 @@ pub fn unlimited_command(words: &[String]) -> Option<Command>
     ensures { result ≡ unlimited_command_of (map string_bytes words.now) }
 {
     match words {
-        [order] => unlimited(order.as_str(), false),
-        [order, second] if second.as_str() == "attr" => unlimited(order.as_str(), true),
+        [order] => command_without_limit(order.as_str(), false),
+        [order, second] if second.as_str() == "attr" => command_without_limit(order.as_str(), true),
         _ => None,
     }
 }
 
-fn asked(order: &str, limit: &str, with_attr: bool) -> Option<Command>
-    ensures { result ≡ asked with_attr order.now limit.now }
+fn command_with_limit(order: &str, limit: &str, with_attr: bool) -> Option<Command>
+    ensures { result ≡ command_with_limit with_attr order.now limit.now }
 {
     Some(Command {
         order: OrderName::of(order)?,
@@ -44,8 +44,8 @@ fn asked(order: &str, limit: &str, with_attr: bool) -> Option<Command>
     })
 }
 
-fn unlimited(order: &str, with_attr: bool) -> Option<Command>
-    ensures { result ≡ unlimited with_attr order.now }
+fn command_without_limit(order: &str, with_attr: bool) -> Option<Command>
+    ensures { result ≡ command_without_limit with_attr order.now }
 {
     Some(Command {
         order: OrderName::of(order)?,

@@ -3,7 +3,7 @@
 ghost use Rattle.std.specs.Prelude.{◌≡◌, ◌*◌, ◌<◌, ◌≤◌, ◌++◌, length, take, decimal, string_bytes};
 ghost use Rattle.std.specs.Prelude.{OnOk, option_map, codes, IsTrue, nat_le};
 ghost use Rattle.std.specs.List.{flat_map, list_all};
-ghost use Rattle.perf_lines.specs.Fields.{hex_digit, hex, listed, present};
+ghost use Rattle.perf_lines.specs.Fields.{hex_digit, hex, with_commas, present};
 
 use perf_text::strip::{MOST_DIGITS, ROOM, Strip};
 use std::alloc::AllocError;
@@ -111,7 +111,7 @@ pub(crate) fn push_list(
 ) -> Result<(), AllocError>
     ensures { OnOk result (string_bytes text.new
         ≡ string_bytes text.old
-        ++ present (λ items. before.now ++ listed decimal items)
+        ++ present (λ items. before.now ++ with_commas decimal items)
         (option_map (λ items. items.now) numbers.entry)) }
 {
     match numbers {
@@ -123,7 +123,7 @@ pub(crate) fn push_list(
 // Appends `before` and comma-separated numbers.
 pub(crate) fn push_items(text: &mut String, before: &str, numbers: &[u64]) -> Result<(), AllocError>
     ensures { OnOk result (string_bytes text.new
-        ≡ string_bytes text.old ++ (before.now ++ listed decimal numbers.now)) }
+        ≡ string_bytes text.old ++ (before.now ++ with_commas decimal numbers.now)) }
 {
     text.push_str(before)?;
     let Some((first, rest)) = numbers.split_first() else {

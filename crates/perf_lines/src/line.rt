@@ -4,8 +4,8 @@ ghost use Rattle.std.specs.Prelude.{◌≡◌, ◌+◌, ◌<◌, ◌^◌, ◌++�
 ghost use Rattle.std.specs.Prelude.{IfOk, IfErr};
 ghost use Rattle.perf_base.specs.Errors.{kind_of};
 ghost use Rattle.perf_parser.specs.Runs.{seen_answer, seen_answers};
-ghost use Rattle.perf_lines.specs.Fields.{spaced};
-ghost use Rattle.perf_lines.specs.Text as shown;
+ghost use Rattle.perf_lines.specs.Fields.{with_spaces};
+ghost use Rattle.perf_lines.specs.Text as lines;
 
 use crate::records::push_record;
 use perf_event_data::Record;
@@ -22,7 +22,7 @@ pub fn line_of(
     answer: &ParseResult<Record>,
 ) -> ParseResult<String>
     ensures ok { IfOk result (λ text.
-        string_bytes text ≡ shown.line index header.now (seen_answer answer.now)) }
+        string_bytes text ≡ lines.line index header.now (seen_answer answer.now)) }
     ensures err { IfErr result (λ e. kind_of e ≡ ErrorKind.OutOfMemory) }
 {
     let mut text = String::new(alloc);
@@ -38,7 +38,7 @@ pub fn push_lines(
 ) -> Result<(), AllocError>
     ensures { first + length frames.now < 2 ^ 64 → OnOk result
         (string_bytes text.new
-        ≡ string_bytes text.old ++ shown.lines_from first (seen_answers frames.now)) }
+        ≡ string_bytes text.old ++ lines.lines_from first (seen_answers frames.now)) }
 {
     let mut index = first;
     for (header, answer) in frames {
@@ -52,7 +52,7 @@ pub fn push_lines(
 /// Appends the line that states how reading ended.
 pub fn push_end(text: &mut String, how: &str) -> Result<(), AllocError>
     ensures { OnOk result (string_bytes text.new
-        ≡ string_bytes text.old ++ shown.end_line how.now) }
+        ≡ string_bytes text.old ++ lines.end_line how.now) }
 {
     text.push_str("end ")?;
     text.push_str(how)?;
@@ -62,14 +62,14 @@ pub fn push_end(text: &mut String, how: &str) -> Result<(), AllocError>
 /// Appends the last line of a run that ended with a fault.
 pub fn push_fault(text: &mut String, kind: ErrorKind) -> Result<(), AllocError>
     ensures { OnOk result (string_bytes text.new
-        ≡ string_bytes text.old ++ shown.end_line (codes "fault " ++ shown.kind_name kind)) }
+        ≡ string_bytes text.old ++ lines.end_line (codes "fault " ++ lines.kind_name kind)) }
 {
     push_kind(text, "end fault ", kind)
 }
 
 /// Appends the line for a refused attribute.
 pub fn push_attr_refused(text: &mut String, kind: ErrorKind) -> Result<(), AllocError>
-    ensures { OnOk result (string_bytes text.new ≡ string_bytes text.old ++ shown.attr_line kind) }
+    ensures { OnOk result (string_bytes text.new ≡ string_bytes text.old ++ lines.attr_line kind) }
 {
     push_kind(text, "attr refused ", kind)
 }
@@ -77,7 +77,7 @@ pub fn push_attr_refused(text: &mut String, kind: ErrorKind) -> Result<(), Alloc
 // Appends a line that ends with the name of a kind of error.
 fn push_kind(text: &mut String, before: &str, kind: ErrorKind) -> Result<(), AllocError>
     ensures { OnOk result (string_bytes text.new
-        ≡ string_bytes text.old ++ shown.ended (before.now ++ shown.kind_name kind)) }
+        ≡ string_bytes text.old ++ lines.with_line_feed (before.now ++ lines.kind_name kind)) }
 {
     text.push_str(before)?;
     text.push_str(kind_name(kind))?;
@@ -91,7 +91,7 @@ fn push_line(
     answer: &ParseResult<Record>,
 ) -> Result<(), AllocError>
     ensures { OnOk result (string_bytes text.new
-        ≡ string_bytes text.old ++ shown.line index header.now (seen_answer answer.now)) }
+        ≡ string_bytes text.old ++ lines.line index header.now (seen_answer answer.now)) }
 {
     let mut strip = Strip::new();
     strip.put_number(u64::from(header.size));
@@ -107,7 +107,7 @@ fn push_line(
 
 fn push_answer(text: &mut String, answer: &ParseResult<Record>) -> Result<(), AllocError>
     ensures { OnOk result (string_bytes text.new
-        ≡ string_bytes text.old ++ spaced (shown.answer_words (seen_answer answer.now))) }
+        ≡ string_bytes text.old ++ with_spaces (lines.answer_words (seen_answer answer.now))) }
 {
     match answer {
         Ok(record) => push_record(text, record),
@@ -119,7 +119,7 @@ fn push_answer(text: &mut String, answer: &ParseResult<Record>) -> Result<(), Al
 }
 
 fn kind_name(kind: ErrorKind) -> &'static str
-    ensures { result.now ≡ shown.kind_name kind }
+    ensures { result.now ≡ lines.kind_name kind }
 {
     match kind {
         ErrorKind::Eof => "Eof",

@@ -2,9 +2,9 @@
 
 ghost use Rattle.std.specs.Prelude.{◌≡◌, ◌≤◌, ◌++◌, length, string_bytes, OnOk};
 ghost use Rattle.perf_records.specs.Records as value;
-ghost use Rattle.perf_lines.specs.Text as shown;
+ghost use Rattle.perf_lines.specs.Text as lines;
 ghost use Rattle.perf_lines.specs.Text.{namespace_item};
-ghost use Rattle.perf_lines.specs.Fields.{spaced, listed};
+ghost use Rattle.perf_lines.specs.Fields.{with_spaces, with_commas};
 
 use crate::fields::{push_fields, push_hex, push_numbers};
 use crate::sample::push_sample;
@@ -18,7 +18,7 @@ use std::alloc::AllocError;
 
 pub(crate) fn push_record(text: &mut String, found: &Record) -> Result<(), AllocError>
     ensures { OnOk result (string_bytes text.new
-        ≡ string_bytes text.old ++ spaced (shown.record_words (value.record_value found.now))) }
+        ≡ string_bytes text.old ++ with_spaces (lines.record_words (value.record_value found.now))) }
 {
     match found {
         Record::Mmap(mapped) => push_mmap(text, mapped),
@@ -48,7 +48,7 @@ pub(crate) fn push_record(text: &mut String, found: &Record) -> Result<(), Alloc
 
 fn push_mmap(text: &mut String, mapped: &Mmap) -> Result<(), AllocError>
     ensures { OnOk result (string_bytes text.new
-        ≡ string_bytes text.old ++ spaced (shown.mmap_words (value.mmap_value mapped.now))) }
+        ≡ string_bytes text.old ++ with_spaces (lines.mmap_words (value.mmap_value mapped.now))) }
 {
     let fields = [
         (" pid=", u64::from(mapped.pid)),
@@ -63,14 +63,14 @@ fn push_mmap(text: &mut String, mapped: &Mmap) -> Result<(), AllocError>
 
 fn push_lost(text: &mut String, lost: &Lost) -> Result<(), AllocError>
     ensures { OnOk result (string_bytes text.new
-        ≡ string_bytes text.old ++ spaced (shown.lost_words lost.now)) }
+        ≡ string_bytes text.old ++ with_spaces (lines.lost_words lost.now)) }
 {
     push_fields(text, " Lost", &[(" id=", lost.id), (" lost=", lost.lost)])
 }
 
 fn push_comm(text: &mut String, comm: &Comm) -> Result<(), AllocError>
     ensures { OnOk result (string_bytes text.new
-        ≡ string_bytes text.old ++ spaced (shown.comm_words (value.comm_value comm.now))) }
+        ≡ string_bytes text.old ++ with_spaces (lines.comm_words (value.comm_value comm.now))) }
 {
     let fields = [
         (" pid=", u64::from(comm.pid)),
@@ -84,7 +84,7 @@ fn push_comm(text: &mut String, comm: &Comm) -> Result<(), AllocError>
 fn push_exit(text: &mut String, name: &str, exit: &Exit) -> Result<(), AllocError>
     requires { length name.now ≤ 16 }
     ensures { OnOk result (string_bytes text.new
-        ≡ string_bytes text.old ++ (name.now ++ spaced (shown.exit_fields exit.now))) }
+        ≡ string_bytes text.old ++ (name.now ++ with_spaces (lines.exit_fields exit.now))) }
 {
     let fields = [
         (" pid=", u64::from(exit.pid)),
@@ -100,7 +100,7 @@ fn push_exit(text: &mut String, name: &str, exit: &Exit) -> Result<(), AllocErro
 fn push_throttle(text: &mut String, name: &str, throttle: &Throttle) -> Result<(), AllocError>
     requires { length name.now ≤ 16 }
     ensures { OnOk result (string_bytes text.new
-        ≡ string_bytes text.old ++ (name.now ++ spaced (shown.throttle_fields throttle.now))) }
+        ≡ string_bytes text.old ++ (name.now ++ with_spaces (lines.throttle_fields throttle.now))) }
 {
     let fields = [
         (" time=", throttle.time),
@@ -112,7 +112,7 @@ fn push_throttle(text: &mut String, name: &str, throttle: &Throttle) -> Result<(
 
 fn push_read(text: &mut String, read: &Read) -> Result<(), AllocError>
     ensures { OnOk result (string_bytes text.new
-        ≡ string_bytes text.old ++ spaced (shown.read_words (value.task_read read.now))) }
+        ≡ string_bytes text.old ++ with_spaces (lines.read_words (value.task_read read.now))) }
 {
     let fields = [
         (" pid=", u64::from(read.pid)),
@@ -131,7 +131,7 @@ fn push_read(text: &mut String, read: &Read) -> Result<(), AllocError>
 
 fn push_mmap2(text: &mut String, mapped: &Mmap2) -> Result<(), AllocError>
     ensures { OnOk result (string_bytes text.new
-        ≡ string_bytes text.old ++ spaced (shown.mmap2_words (value.mmap2_value mapped.now))) }
+        ≡ string_bytes text.old ++ with_spaces (lines.mmap2_words (value.mmap2_value mapped.now))) }
 {
     let fields = [
         (" pid=", u64::from(mapped.pid)),
@@ -154,7 +154,7 @@ fn push_mmap2(text: &mut String, mapped: &Mmap2) -> Result<(), AllocError>
 fn push_detail(text: &mut String, mapped: &Mmap2) -> Result<(), AllocError>
     ensures { OnOk result (string_bytes text.new
         ≡ string_bytes text.old
-        ++ spaced (shown.detail_words (value.mmap2_value mapped.now).detail)) }
+        ++ with_spaces (lines.detail_words (value.mmap2_value mapped.now).detail)) }
 {
     let numbers = [
         (" maj=", mapped.maj().map(u64::from)),
@@ -171,7 +171,7 @@ fn push_detail(text: &mut String, mapped: &Mmap2) -> Result<(), AllocError>
 
 fn push_aux(text: &mut String, aux: &Aux) -> Result<(), AllocError>
     ensures { OnOk result (string_bytes text.new
-        ≡ string_bytes text.old ++ spaced (shown.aux_words (value.aux_value aux.now))) }
+        ≡ string_bytes text.old ++ with_spaces (lines.aux_words (value.aux_value aux.now))) }
 {
     let fields = [
         (" aux_offset=", aux.aux_offset),
@@ -183,7 +183,7 @@ fn push_aux(text: &mut String, aux: &Aux) -> Result<(), AllocError>
 
 fn push_itrace_start(text: &mut String, start: &ITraceStart) -> Result<(), AllocError>
     ensures { OnOk result (string_bytes text.new
-        ≡ string_bytes text.old ++ spaced (shown.itrace_start_words start.now)) }
+        ≡ string_bytes text.old ++ with_spaces (lines.itrace_start_words start.now)) }
 {
     let fields = [
         (" pid=", u64::from(start.pid)),
@@ -194,14 +194,14 @@ fn push_itrace_start(text: &mut String, start: &ITraceStart) -> Result<(), Alloc
 
 fn push_lost_samples(text: &mut String, lost: &LostSamples) -> Result<(), AllocError>
     ensures { OnOk result (string_bytes text.new
-        ≡ string_bytes text.old ++ spaced (shown.lost_samples_words lost.now)) }
+        ≡ string_bytes text.old ++ with_spaces (lines.lost_samples_words lost.now)) }
 {
     push_fields(text, " LostSamples", &[(" lost=", lost.lost)])
 }
 
 fn push_switch_cpu_wide(text: &mut String, switch: &SwitchCpuWide) -> Result<(), AllocError>
     ensures { OnOk result (string_bytes text.new
-        ≡ string_bytes text.old ++ spaced (shown.switch_cpu_wide_words switch.now)) }
+        ≡ string_bytes text.old ++ with_spaces (lines.switch_cpu_wide_words switch.now)) }
 {
     let fields = [
         (" pid=", u64::from(switch.pid())),
@@ -212,7 +212,7 @@ fn push_switch_cpu_wide(text: &mut String, switch: &SwitchCpuWide) -> Result<(),
 }
 
 fn out_of(switch: &SwitchCpuWide) -> u64
-    ensures { result ≡ shown.out_of switch.now }
+    ensures { result ≡ lines.out_of switch.now }
 {
     match switch {
         SwitchCpuWide::In { .. } => 0,
@@ -223,7 +223,7 @@ fn out_of(switch: &SwitchCpuWide) -> u64
 fn push_namespaces(text: &mut String, found: &Namespaces) -> Result<(), AllocError>
     ensures { OnOk result (string_bytes text.new
         ≡ string_bytes text.old
-        ++ spaced (shown.namespaces_words (value.namespaces_value found.now))) }
+        ++ with_spaces (lines.namespaces_words (value.namespaces_value found.now))) }
 {
     let fields = [
         (" pid=", u64::from(found.pid)),
@@ -240,7 +240,7 @@ fn push_entries(
     entries: &[NamespaceEntry],
 ) -> Result<(), AllocError>
     ensures { OnOk result (string_bytes text.new
-        ≡ string_bytes text.old ++ (before.now ++ listed namespace_item entries.now)) }
+        ≡ string_bytes text.old ++ (before.now ++ with_commas namespace_item entries.now)) }
 {
     text.push_str(before)?;
     let Some((first, rest)) = entries.split_first() else {
@@ -269,7 +269,7 @@ fn push_entry(text: &mut String, before: &str, entry: &NamespaceEntry) -> Result
 
 fn push_ksymbol(text: &mut String, symbol: &KSymbol) -> Result<(), AllocError>
     ensures { OnOk result (string_bytes text.new
-        ≡ string_bytes text.old ++ spaced (shown.ksymbol_words (value.ksymbol_value symbol.now))) }
+        ≡ string_bytes text.old ++ with_spaces (lines.ksymbol_words (value.ksymbol_value symbol.now))) }
 {
     let fields = [
         (" addr=", symbol.addr),
@@ -284,7 +284,7 @@ fn push_ksymbol(text: &mut String, symbol: &KSymbol) -> Result<(), AllocError>
 fn push_bpf_event(text: &mut String, event: &BpfEvent) -> Result<(), AllocError>
     ensures { OnOk result (string_bytes text.new
         ≡ string_bytes text.old
-        ++ spaced (shown.bpf_event_words (value.bpf_event_value event.now))) }
+        ++ with_spaces (lines.bpf_event_words (value.bpf_event_value event.now))) }
 {
     let fields = [
         (" ty=", u64::from(event.ty.get())),
@@ -297,7 +297,7 @@ fn push_bpf_event(text: &mut String, event: &BpfEvent) -> Result<(), AllocError>
 
 fn push_cgroup(text: &mut String, group: &CGroup) -> Result<(), AllocError>
     ensures { OnOk result (string_bytes text.new
-        ≡ string_bytes text.old ++ spaced (shown.cgroup_words (value.cgroup_value group.now))) }
+        ≡ string_bytes text.old ++ with_spaces (lines.cgroup_words (value.cgroup_value group.now))) }
 {
     push_fields(text, " CGroup", &[(" id=", group.id)])?;
     push_hex(text, " path=", group.path.as_slice())
@@ -306,7 +306,7 @@ fn push_cgroup(text: &mut String, group: &CGroup) -> Result<(), AllocError>
 fn push_text_poke(text: &mut String, poke: &TextPoke) -> Result<(), AllocError>
     ensures { OnOk result (string_bytes text.new
         ≡ string_bytes text.old
-        ++ spaced (shown.text_poke_words (value.text_poke_value poke.now))) }
+        ++ with_spaces (lines.text_poke_words (value.text_poke_value poke.now))) }
 {
     push_fields(text, " TextPoke", &[(" addr=", poke.addr)])?;
     push_hex(text, " old_bytes=", poke.old_bytes.as_slice())?;
@@ -315,14 +315,14 @@ fn push_text_poke(text: &mut String, poke: &TextPoke) -> Result<(), AllocError>
 
 fn push_aux_output_hw_id(text: &mut String, output: &AuxOutputHwId) -> Result<(), AllocError>
     ensures { OnOk result (string_bytes text.new
-        ≡ string_bytes text.old ++ spaced (shown.aux_output_hw_id_words output.now)) }
+        ≡ string_bytes text.old ++ with_spaces (lines.aux_output_hw_id_words output.now)) }
 {
     push_fields(text, " AuxOutputHwId", &[(" hw_id=", output.hw_id)])
 }
 
 fn push_unknown(text: &mut String, bytes: &[u8]) -> Result<(), AllocError>
     ensures { OnOk result (string_bytes text.new
-        ≡ string_bytes text.old ++ spaced (shown.unknown_words bytes.now)) }
+        ≡ string_bytes text.old ++ with_spaces (lines.unknown_words bytes.now)) }
 {
     push_hex(text, " Unknown data=", bytes)
 }

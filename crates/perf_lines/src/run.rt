@@ -5,7 +5,7 @@ ghost use Rattle.std.specs.Prelude.{codes, string_bytes, if◌then◌else◌, tr
 ghost use Rattle.perf_lines.specs.RunWords.{configuration_of, endian_of, buffer_of};
 ghost use Rattle.perf_lines.specs.RunWords.{config_of, of_layout, list_any, IsWritten, Writes};
 ghost use Rattle.perf_lines.specs.RunWords.{plain, ending_line, ending_outcome};
-ghost use Rattle.perf_lines.specs.Text as shown;
+ghost use Rattle.perf_lines.specs.Text as lines;
 
 use crate::line::{push_attr_refused, push_end, push_fault, push_lines};
 use crate::outcome::Outcome;
@@ -40,7 +40,7 @@ pub fn run<R: Read + Drop, W: Write, E: Endian>(
     // If the bytes of the reader are known, what is written is their text, as the outcome
     // specifies.
     ensures { IfSome (R.remaining reader) (λ bytes.
-        Writes (E.order order) limit (shown.stream_of with_attr (E.order order) bytes) result
+        Writes (E.order order) limit (lines.stream_of with_attr (E.order order) bytes) result
         (W.contents writer.old) (W.contents writer.new)) }
 {
     let Ok((text, outcome)) = text_of(alloc, reader, order, limit, with_attr, piece) else {
@@ -64,7 +64,7 @@ fn text_of<R: Read + Drop, E: Endian>(
 ) -> Result<(String, Outcome), AllocError>
     requires { 0 < piece }
     ensures { IfSome (R.remaining reader) (λ bytes. IfOk result (λ made.
-        IsWritten true (E.order order) limit (shown.stream_of with_attr (E.order order) bytes)
+        IsWritten true (E.order order) limit (lines.stream_of with_attr (E.order order) bytes)
         made.1 (string_bytes made.0))) }
 {
     let mut text = String::new(alloc);
@@ -90,7 +90,7 @@ fn push_stream<'p, B: ParseBuf<'p> + Drop, E: Endian>(
     ensures { IsTrue (B.source (buffer_of parser)).told → IfOk result (λ outcome. (written : List ℕ)
         × (string_bytes text.new ≡ string_bytes text.old ++ written)
         × IsWritten (B.source (buffer_of parser)).can_fault (E.order (endian_of (config_of parser)))
-        limit (shown.stream_of with_attr (E.order (endian_of (config_of parser)))
+        limit (lines.stream_of with_attr (E.order (endian_of (config_of parser)))
         (B.source (buffer_of parser)).left) outcome written) }
 {
     if with_attr {
@@ -109,7 +109,7 @@ fn push_run_with_attr<'p, B: ParseBuf<'p> + Drop, E: Endian>(
     ensures { IsTrue (B.source (buffer_of parser)).told → IfOk result (λ outcome. (written : List ℕ)
         × (string_bytes text.new ≡ string_bytes text.old ++ written)
         × IsWritten (B.source (buffer_of parser)).can_fault (E.order (endian_of (config_of parser)))
-        limit (shown.stream_after_attribute (E.order (endian_of (config_of parser)))
+        limit (lines.stream_after_attribute (E.order (endian_of (config_of parser)))
         (B.source (buffer_of parser)).left) outcome written) }
 {
     match parser.after_attribute() {
@@ -121,11 +121,11 @@ fn push_run_with_attr<'p, B: ParseBuf<'p> + Drop, E: Endian>(
 // Appends the only line of a run whose attribute could not be read.
 fn push_refusal(text: &mut String, kind: ErrorKind) -> Result<Outcome, AllocError>
     ensures refused { IsTrue (of_layout kind) → IfOk result (λ outcome.
-        (string_bytes text.new ≡ string_bytes text.old ++ shown.attr_line kind)
+        (string_bytes text.new ≡ string_bytes text.old ++ lines.attr_line kind)
         × (outcome ≡ Outcome.BadAttr)) }
     ensures fault { (IsTrue (of_layout kind) → ⊥) → IfOk result (λ outcome.
         (string_bytes text.new
-        ≡ string_bytes text.old ++ shown.end_line (codes "fault " ++ shown.kind_name kind))
+        ≡ string_bytes text.old ++ lines.end_line (codes "fault " ++ lines.kind_name kind))
         × (outcome ≡ Outcome.Faulted)) }
 {
     match kind {
@@ -154,7 +154,7 @@ fn push_run<'p, B: ParseBuf<'p>, E: Endian>(
         × (string_bytes text.new ≡ string_bytes text.old ++ written)
         × IsWritten (B.source (buffer_of parser.old)).can_fault
         (E.order (endian_of (config_of parser.old))) limit
-        (shown.framed (configuration_of (config_of parser.old))
+        (lines.framed (configuration_of (config_of parser.old))
         (B.source (buffer_of parser.old)).left)
         outcome written) }
 {
@@ -198,7 +198,7 @@ fn has_refusal(frames: &[(perf_event_header, ParseResult<Record>)]) -> bool
 
 fn push_last(text: &mut String, how: &str, refused: bool) -> Result<Outcome, AllocError>
     ensures { IfOk result (λ outcome.
-        (string_bytes text.new ≡ string_bytes text.old ++ shown.end_line how.now)
+        (string_bytes text.new ≡ string_bytes text.old ++ lines.end_line how.now)
         × (outcome ≡ (if refused then Outcome.Refused else Outcome.Clean))) }
 {
     push_end(text, how)?;

@@ -4,8 +4,8 @@ ghost use Rattle.std.specs.Prelude.{◌≡◌, ◌≤◌, ◌++◌, length, stri
 ghost use Rattle.std.specs.Prelude.{codes, decimal};
 ghost use Rattle.perf_sample_types.specs.SampleWords.{getters_of, sample_value, group_read};
 ghost use Rattle.perf_sample_types.specs.SampleWords.{registers_value, txn_bits};
-ghost use Rattle.perf_lines.specs.Fields.{spaced, listed, present};
-ghost use Rattle.perf_lines.specs.SampleText as shown;
+ghost use Rattle.perf_lines.specs.Fields.{with_spaces, with_commas, present};
+ghost use Rattle.perf_lines.specs.SampleText as lines;
 
 use crate::fields::{push_bytes, push_items, push_list, push_number, push_numbers, push_present};
 use bitflags::Flags;
@@ -16,7 +16,7 @@ use std::alloc::AllocError;
 pub(crate) fn push_sample(text: &mut String, sample: &Sample) -> Result<(), AllocError>
     ensures { OnOk result (string_bytes text.new
         ≡ string_bytes text.old
-        ++ spaced (shown.sample_words (getters_of (sample_value sample.now)))) }
+        ++ with_spaces (lines.sample_words (getters_of (sample_value sample.now)))) }
 {
     text.push_str(" Sample")?;
     push_moment(text, sample)?;
@@ -29,7 +29,7 @@ pub(crate) fn push_sample(text: &mut String, sample: &Sample) -> Result<(), Allo
 fn push_moment(text: &mut String, sample: &Sample) -> Result<(), AllocError>
     ensures { OnOk result (string_bytes text.new
         ≡ string_bytes text.old
-        ++ spaced (shown.moment_words (getters_of (sample_value sample.now)))) }
+        ++ with_spaces (lines.moment_words (getters_of (sample_value sample.now)))) }
 {
     let fields = [
         (" ip=", sample.ip()),
@@ -45,7 +45,7 @@ fn push_moment(text: &mut String, sample: &Sample) -> Result<(), AllocError>
 fn push_counts(text: &mut String, sample: &Sample) -> Result<(), AllocError>
     ensures { OnOk result (string_bytes text.new
         ≡ string_bytes text.old
-        ++ spaced (shown.count_words (getters_of (sample_value sample.now)))) }
+        ++ with_spaces (lines.count_words (getters_of (sample_value sample.now)))) }
 {
     let fields = [
         (" stream_id=", sample.stream_id()),
@@ -60,7 +60,7 @@ fn push_counts(text: &mut String, sample: &Sample) -> Result<(), AllocError>
 fn push_state(text: &mut String, sample: &Sample) -> Result<(), AllocError>
     ensures { OnOk result (string_bytes text.new
         ≡ string_bytes text.old
-        ++ spaced (shown.state_words (getters_of (sample_value sample.now)))) }
+        ++ with_spaces (lines.state_words (getters_of (sample_value sample.now)))) }
 {
     push_bytes(text, " raw=", sample.raw())?;
     push_present(text, " lbr_hw_index=", sample.lbr_hw_index())?;
@@ -72,7 +72,7 @@ fn push_state(text: &mut String, sample: &Sample) -> Result<(), AllocError>
 fn push_costs(text: &mut String, sample: &Sample) -> Result<(), AllocError>
     ensures { OnOk result (string_bytes text.new
         ≡ string_bytes text.old
-        ++ spaced (shown.cost_words (getters_of (sample_value sample.now)))) }
+        ++ with_spaces (lines.cost_words (getters_of (sample_value sample.now)))) }
 {
     let fields = [
         (" weight=", sample.weight()),
@@ -86,7 +86,7 @@ fn push_costs(text: &mut String, sample: &Sample) -> Result<(), AllocError>
 fn push_memory(text: &mut String, sample: &Sample) -> Result<(), AllocError>
     ensures { OnOk result (string_bytes text.new
         ≡ string_bytes text.old
-        ++ spaced (shown.memory_words (getters_of (sample_value sample.now)))) }
+        ++ with_spaces (lines.memory_words (getters_of (sample_value sample.now)))) }
 {
     push_present(text, " phys_addr=", sample.phys_addr())?;
     push_bytes(text, " aux=", sample.aux())?;
@@ -129,7 +129,7 @@ fn transaction_bits(transaction: Option<Txn>) -> Option<u64>
 fn push_group(text: &mut String, group: Option<&ReadGroup>) -> Result<(), AllocError>
     ensures { OnOk result (string_bytes text.new
         ≡ string_bytes text.old
-        ++ spaced (shown.group_words (option_map (λ group. group_read group.now) group.entry))) }
+        ++ with_spaces (lines.group_words (option_map (λ group. group_read group.now) group.entry))) }
 {
     let Some(group) = group else {
         return Ok(());
@@ -146,7 +146,7 @@ fn push_group(text: &mut String, group: Option<&ReadGroup>) -> Result<(), AllocE
 fn push_counters(text: &mut String, before: &str, group: &ReadGroup) -> Result<(), AllocError>
     ensures { OnOk result (string_bytes text.new
         ≡ string_bytes text.old
-        ++ (before.now ++ listed shown.counter_item (group_read group.now).entries)) }
+        ++ (before.now ++ with_commas lines.counter_item (group_read group.now).entries)) }
 {
     text.push_str(before)?;
     let mut entries = group.entries();
@@ -164,7 +164,7 @@ fn push_counters(text: &mut String, before: &str, group: &ReadGroup) -> Result<(
 fn push_counter(text: &mut String, before: &str, entry: &GroupEntry) -> Result<(), AllocError>
     requires { length before.now ≤ 1 }
     ensures { OnOk result (string_bytes text.new
-        ≡ string_bytes text.old ++ (before.now ++ shown.counter_item entry.now)) }
+        ≡ string_bytes text.old ++ (before.now ++ lines.counter_item entry.now)) }
 {
     let mut strip = Strip::new();
     strip.put_present(":", entry.lost());
@@ -178,7 +178,7 @@ fn push_counter(text: &mut String, before: &str, entry: &GroupEntry) -> Result<(
 fn push_branches(text: &mut String, branches: Option<&[BranchEntry]>) -> Result<(), AllocError>
     ensures { OnOk result (string_bytes text.new
         ≡ string_bytes text.old
-        ++ present (λ items. codes " lbr=" ++ listed shown.branch_item items)
+        ++ present (λ items. codes " lbr=" ++ with_commas lines.branch_item items)
         (option_map (λ items. items.now) branches.entry)) }
 {
     let Some(branches) = branches else {
@@ -199,7 +199,7 @@ fn push_branches(text: &mut String, branches: Option<&[BranchEntry]>) -> Result<
 fn push_branch(text: &mut String, before: &str, branch: &BranchEntry) -> Result<(), AllocError>
     requires { length before.now ≤ 1 }
     ensures { OnOk result (string_bytes text.new
-        ≡ string_bytes text.old ++ (before.now ++ shown.branch_item branch.now)) }
+        ≡ string_bytes text.old ++ (before.now ++ lines.branch_item branch.now)) }
 {
     let others = [
         branch.to(),
@@ -226,7 +226,7 @@ fn push_registers(
 ) -> Result<(), AllocError>
     ensures { OnOk result (string_bytes text.new
         ≡ string_bytes text.old
-        ++ present (λ r. abi.now ++ (decimal r.abi ++ (regs.now ++ listed decimal r.regs)))
+        ++ present (λ r. abi.now ++ (decimal r.abi ++ (regs.now ++ with_commas decimal r.regs)))
         (option_map (λ registers. registers_value registers.now) registers.entry)) }
 {
     let Some(registers) = registers else {

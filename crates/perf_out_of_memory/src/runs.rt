@@ -4,21 +4,17 @@
 
 ghost use Rattle.std.specs.Prelude.{◌≤◌};
 
+use bitflags::Flags;
 use perf_event_data::endian::Little;
 use perf_event_data::parse::{ErrorKind, ParseConfig, ParseResult, Parser};
 use perf_event_data::sys::{perf_event_attr, perf_event_header};
-use perf_event_data::{Record, Run, RunEnd, read_records};
+use perf_event_data::{Record, Run, RunEnd, SampleFlags, read_records};
 use perf_lines::line::line_of;
 use perf_lines::outcome::Outcome;
 use perf_lines::run::run;
 use std::alloc::Global;
 use std::io::{self, BufReader, Write};
 use std::process::Abort;
-
-// CALLCHAIN and RAW of a sample type.
-const CALLCHAIN: u64 = 1 << 5;
-
-const RAW: u64 = 1 << 10;
 
 // Whether a request for memory is granted, and whether the next one is.
 fn are_granted(alloc: Global) -> [bool; 2] {
@@ -125,7 +121,7 @@ fn a_call_chain(rt: HostRuntime) {
         "0 13 0 16 LostSamples lost=5",
         "1 9 0 32 Sample callchain=1,2",
     ];
-    let of_chains = (bytes.as_slice(), CALLCHAIN);
+    let of_chains = (bytes.as_slice(), SampleFlags::CALLCHAIN.bits());
     check_run(&rt, "a call chain", of_chains, 10, (&lines, "done"));
 }
 
@@ -135,7 +131,7 @@ fn a_call_chain(rt: HostRuntime) {
 fn a_call_chain_that_is_too_short(rt: HostRuntime) {
     let bytes = b"\x09\0\0\0\0\0\x18\0\x04\0\0\0\0\0\0\0\x01\0\0\0\0\0\0\0";
     let lines = ["0 9 0 24 refused Eof"];
-    let of_chains = (bytes.as_slice(), CALLCHAIN);
+    let of_chains = (bytes.as_slice(), SampleFlags::CALLCHAIN.bits());
     check_run(&rt, "a short chain", of_chains, 10, (&lines, "done"));
 }
 
@@ -146,7 +142,10 @@ fn a_call_chain_that_is_too_short(rt: HostRuntime) {
 fn a_call_chain_without_raw_bytes(rt: HostRuntime) {
     let bytes = b"\x09\0\0\0\0\0\x18\0\x01\0\0\0\0\0\0\0\x07\0\0\0\0\0\0\0";
     let lines = ["0 9 0 24 refused Eof"];
-    let of_both = (bytes.as_slice(), CALLCHAIN | RAW);
+    let of_both = (
+        bytes.as_slice(),
+        SampleFlags::CALLCHAIN.bits() | SampleFlags::RAW.bits(),
+    );
     check_run(&rt, "a chain alone", of_both, 10, (&lines, "done"));
 }
 

@@ -1,20 +1,13 @@
 //! Records that are parsed over a slice.
 
-use perf_event_data::Record;
+use bitflags::Flags;
 use perf_event_data::endian::Little;
 use perf_event_data::parse::{Parse, ParseConfig, ParseResult, Parser};
 use perf_event_data::sys::{perf_event_attr, perf_event_header};
+use perf_event_data::{Record, SampleFlags};
 use perf_lines::line::line_of;
 use std::alloc::Global;
 use std::process::Abort;
-
-// TID and TIME of a sample type.
-const TID: u64 = 1 << 1;
-
-const TIME: u64 = 1 << 2;
-
-// RAW of a sample type.
-const RAW: u64 = 1 << 10;
 
 // The attribute of an event whose frames end with a sample id of this sample type.
 fn with_ids(sample_type: u64) -> perf_event_attr {
@@ -105,7 +98,7 @@ fn a_switch(rt: HostRuntime) {
 fn a_switch_without_its_sample_id(rt: HostRuntime) {
     let bytes = b"\x0E\0\0\0\0\0\x08\0";
     let want = "0 14 0 8 refused InvalidRecord";
-    check_line(&rt, bytes, with_ids(TID), want);
+    check_line(&rt, bytes, with_ids(SampleFlags::TID.bits()), want);
 }
 
 #[test]
@@ -169,7 +162,12 @@ fn lost_events_with_a_sample_id(rt: HostRuntime) {
     let bytes = b"\x02\0\0\0\0\0\x28\0\x01\0\0\0\0\0\0\0\x02\0\0\0\0\0\0\0\x03\0\0\0\x04\0\0\0\x05\
         \0\0\0\0\0\0\0";
     let want = "0 2 0 40 Lost id=1 lost=2";
-    check_line(&rt, bytes, with_ids(TID | TIME), want);
+    check_line(
+        &rt,
+        bytes,
+        with_ids(SampleFlags::TID.bits() | SampleFlags::TIME.bits()),
+        want,
+    );
 }
 
 #[test]
@@ -205,13 +203,10 @@ fn longer_changed_code(rt: HostRuntime) {
     check_plain(&rt, bytes, want);
 }
 
-// STACK_USER of a sample type.
-const STACK_USER: u64 = 1 << 13;
-
 // The attribute of an event whose samples are stacks alone.
 fn with_stacks() -> perf_event_attr {
     perf_event_attr {
-        sample_type: STACK_USER,
+        sample_type: SampleFlags::STACK_USER.bits(),
         ..Default::default()
     }
 }
@@ -235,7 +230,7 @@ const RAW_BYTES: &[u8] = b"\x09\0\0\0\0\0\x10\0\x02\0\0\0\xAA\xBB\0\0";
 // The attribute of an event whose samples are that.
 fn with_raw_bytes() -> perf_event_attr {
     perf_event_attr {
-        sample_type: RAW,
+        sample_type: SampleFlags::RAW.bits(),
         ..Default::default()
     }
 }

@@ -17,14 +17,14 @@ use Rattle.perf_reader.specs.Reading.{of_layout}
 use Rattle.perf_reader.specs.declared.reader.Reader.{Reader}
 use Rattle.perf_records.specs.Records.{IsBorrowed}
 use Rattle.perf_records.specs.declared.record.Record.{Record}
-use Rattle.perf_parser.specs.Runs.{Pairs, ReadsFrameAfter, body_length}
+use Rattle.perf_parser.specs.Runs.{Pairs, ReadsFrameAfter, length_after}
 use Rattle.perf_parser.specs.Steps.{ListsFrame, ListsRefused}
 use Rattle.perf_parser.proofs.Ending.{same_call}
 
 module _ {B E : Type 0} (source : B → Source) (hint : B → Option ℕ) (order : E → Order) (h : perf_event_header) (old mid : Reader (Outer B) E) (was now : Pairs)
-    (within : IsTrue (source (buffer_of old)).told → MovesWithin (source (buffer_of old)) (body_length h) (source (buffer_of mid))) where
+    (within : IsTrue (source (buffer_of old)).told → MovesWithin (source (buffer_of old)) (length_after h) (source (buffer_of mid))) where
   -- a record
-  pub lists_record : (x : Record) → (falls_short (hint (buffer_of old)) (body_length h) ≡ true → ⊥) → now ≡ was ++ (h, Ok x) ∷ [] → (IsTrue (source (buffer_of old)).whole → IsBorrowed x) →
+  pub lists_record : (x : Record) → (falls_short (hint (buffer_of old)) (length_after h) ≡ true → ⊥) → now ≡ was ++ (h, Ok x) ∷ [] → (IsTrue (source (buffer_of old)).whole → IsBorrowed x) →
       Call (λ (o : Outer B). source o.buf) order (ReadsFrameAfter h) old (Ok x) mid → ListsFrame source hint order h old mid was now (Ok tt)
   lists_record x enough pushed borrowed call = record {
     within = within;
@@ -38,8 +38,8 @@ module _ {B E : Type 0} (source : B → Source) (hint : B → Option ℕ) (order
   -- a frame that was refused, since when nothing but what the buffer keeps has changed
   module _ (new : Reader (Outer B) E) (r : Refusal) (call : Call (λ (o : Outer B). source o.buf) order (ReadsFrameAfter h) old (Err (refusal_kind r)) mid)
       (buf : buffer_of new ≡ buffer_of mid) (config : config_of new ≡ config_of mid) (reads : reads_of new ≡ reads_of mid) where
-    still : IsTrue (source (buffer_of old)).told → MovesWithin (source (buffer_of old)) (body_length h) (source (buffer_of new))
-    still = λ told. subst (λ b. MovesWithin (source (buffer_of old)) (body_length h) (source b)) (sym buf) (within told)
+    still : IsTrue (source (buffer_of old)).told → MovesWithin (source (buffer_of old)) (length_after h) (source (buffer_of new))
+    still = λ told. subst (λ b. MovesWithin (source (buffer_of old)) (length_after h) (source b)) (sym buf) (within told)
 
     called : Call (λ (o : Outer B). source o.buf) order (ReadsFrameAfter h) old (Err (refusal_kind r)) new
     called = same_call source order (ReadsFrameAfter h) old mid new (Err (refusal_kind r)) buf config reads call
@@ -58,7 +58,7 @@ module _ {B E : Type 0} (source : B → Source) (hint : B → Option ℕ) (order
 
     -- otherwise
     pub lists_none : (e : Refusal) → (e ≡ r) × (IsTrue (of_layout (refusal_kind r)) → ⊥) → now ≡ was →
-        (IsTrue (source (buffer_of old)).told → IsTrue (source (buffer_of old)).whole → refusal_kind r ≡ OutOfMemory → (source (buffer_of mid)).left ≡ drop (body_length h) (source (buffer_of old)).left) →
+        (IsTrue (source (buffer_of old)).told → IsTrue (source (buffer_of old)).whole → refusal_kind r ≡ OutOfMemory → (source (buffer_of mid)).left ≡ drop (length_after h) (source (buffer_of old)).left) →
         ListsFrame source hint order h old new was now (Err e)
     lists_none e stops kept spent = subst (λ x. ListsFrame source hint order h old new was now (Err x)) (sym stops.0) (record {
       within = still;
@@ -66,5 +66,5 @@ module _ {B E : Type 0} (source : B → Source) (hint : B → Option ℕ) (order
       short = λ lacks. tt;
       kept = kept;
       stops = (stops.1, called);
-      spent = λ told whole kind. subst (λ b. (source b).left ≡ drop (body_length h) (source (buffer_of old)).left) (sym buf) (spent told whole kind);
+      spent = λ told whole kind. subst (λ b. (source b).left ≡ drop (length_after h) (source (buffer_of old)).left) (sym buf) (spent told whole kind);
     })

@@ -5,7 +5,7 @@ use Rattle.perf_base.specs.Configuration.{Configuration}
 use Rattle.perf_base.specs.Errors.{kind_of}
 use Rattle.perf_base.specs.Header.{header_of}
 use Rattle.perf_base.specs.Order.{Order}
-use Rattle.perf_base.specs.Refusals.{refusal_kind, refused, error_kinds}
+use Rattle.perf_base.specs.Refusals.{refusal_kind, kind_if_refused, error_kinds}
 use Rattle.perf_base.specs.declared.error.ErrorKind.{ErrorKind}
 use Rattle.perf_base.specs.declared.error.ErrorKind.TheVariants.{Eof, InvalidRecord, UnsupportedConfig, UnsupportedData, External, OutOfMemory}
 use Rattle.perf_base.specs.declared.error.ParseError.{ParseError}
@@ -21,7 +21,7 @@ use Rattle.perf_reader.specs.Calls.{Call}
 use Rattle.perf_reader.specs.Reading.{Transition, Keeps, of_layout, one_if_refused, last_of}
 use Rattle.perf_reader.proofs.Paying.{last_all, last_last}
 use Rattle.perf_reader.proofs.Stopping.{leaves, within_more}
-use Rattle.perf_records.specs.Answers.{ReadsFrameAfter, body_length, answer_after, answer_of_frame, reads_after}
+use Rattle.perf_records.specs.Answers.{ReadsFrameAfter, length_after, answer_after, answer_of_frame, reads_after}
 use Rattle.perf_records.specs.Frames.{frame_length}
 use Rattle.perf_records.specs.declared.record.Record.{Record}
 use Rattle.perf_records.proofs.Headers.{frame_body, after_frame, answer_whole}
@@ -35,13 +35,13 @@ use Rattle.perf_reader.specs.declared.header.Stop.TheVariants as stop
 
 -- ---- answers that are refusals are counted
 one_more_refused : (pairs : Pairs) (h : perf_event_header) (r : Result Record ParseError) →
-    refused_count (pairs ++ (h, r) ∷ []) ≡ refused_count pairs + one_if_refused (refused (error_kinds r))
+    refused_count (pairs ++ (h, r) ∷ []) ≡ refused_count pairs + one_if_refused (kind_if_refused (error_kinds r))
 one_more_refused [] h (Ok r) = refl
 one_more_refused [] h (Err e) = refl
 one_more_refused (pair ∷ pairs) h r = go (one_more_refused pairs h r) (pair.1)
   where
-    go : refused_count (pairs ++ (h, r) ∷ []) ≡ refused_count pairs + one_if_refused (refused (error_kinds r)) → (s : Result Record ParseError) →
-        refused_count ((pair.0, s) ∷ (pairs ++ (h, r) ∷ [])) ≡ refused_count ((pair.0, s) ∷ pairs) + one_if_refused (refused (error_kinds r))
+    go : refused_count (pairs ++ (h, r) ∷ []) ≡ refused_count pairs + one_if_refused (kind_if_refused (error_kinds r)) → (s : Result Record ParseError) →
+        refused_count ((pair.0, s) ∷ (pairs ++ (h, r) ∷ [])) ≡ refused_count ((pair.0, s) ∷ pairs) + one_if_refused (kind_if_refused (error_kinds r))
     go again (Ok s) = again
     go again (Err e) = omega (arith, again)
 
@@ -49,16 +49,16 @@ one_more_refused (pair ∷ pairs) h r = go (one_more_refused pairs h r) (pair.1)
 
 -- if the header was read, and the rest was not
 pub stops_after : (old mid new : ReaderState) (h : perf_event_header) (r : Refusal) → (IsTrue (of_layout (refusal_kind r)) → ⊥) → 8 ≤ length old.source.left → h ≡ header_of old.order old.source.left →
-    mid.source.left ≡ drop 8 old.source.left → MovesWithin mid.source (body_length h) new.source → StopsAt old (stop.Refused r) new
+    mid.source.left ≡ drop 8 old.source.left → MovesWithin mid.source (length_after h) new.source → StopsAt old (stop.Refused r) new
 stops_after old mid new h r none fits e m within =
-    let whole : frame_length old.order old.source.left ≡ 8 + body_length h = ap (λ (q : perf_event_header). max 8 q.size) (sym e) ∙ frame_body h in
-    (none, leaves old.order old.source new.source (8 + body_length h) (omega arith) (within_more old.source mid.source new.source 8 (body_length h) (fits, m) within))
+    let whole : frame_length old.order old.source.left ≡ 8 + length_after h = ap (λ (q : perf_event_header). max 8 q.size) (sym e) ∙ frame_body h in
+    (none, leaves old.order old.source new.source (8 + length_after h) (omega arith) (within_more old.source mid.source new.source 8 (length_after h) (fits, m) within))
 
 -- ---- if an allocation failed
 
 -- after the header, exactly the frame was taken
 pub stops_spent : (old mid new : ReaderState) (h : perf_event_header) (r : Refusal) → h ≡ header_of old.order old.source.left → mid.source.left ≡ drop 8 old.source.left →
-    (refusal_kind r ≡ OutOfMemory → new.source.left ≡ drop (body_length h) mid.source.left) → StopsBetween old (stop.Refused r) new
+    (refusal_kind r ≡ OutOfMemory → new.source.left ≡ drop (length_after h) mid.source.left) → StopsBetween old (stop.Refused r) new
 stops_spent old mid new h r e m spent = λ kind. inr (after_frame old.order old.source.left mid.source.left new.source.left h e m (spent kind))
 
 -- the kind of the end of a run is that of what stopped it
@@ -124,7 +124,7 @@ run_stops start old new n (stop.Refused r) p q = run_more start old new n (Some 
 
 -- an answer that was listed
 pub run_lists : (start old new : ReaderState) (pairs now : Pairs) (h : perf_event_header) (r : Result Record ParseError) → now ≡ pairs ++ (h, r) ∷ [] → IsListed r →
-    KeepsRun start (refused_count pairs) None old → Keeps old (refused (error_kinds r)) new → KeepsRun start (refused_count now + 0) None new
+    KeepsRun start (refused_count pairs) None old → Keeps old (kind_if_refused (error_kinds r)) new → KeepsRun start (refused_count now + 0) None new
 run_lists start old new pairs now h (Ok r) e listed p q =
     let sum : refused_count now + 0 ≡ refused_count pairs + 0 = omega (arith, ap refused_count e ∙ one_more_refused pairs h (Ok r)) in
     subst (λ (n : ℕ). KeepsRun start n None new) (sym sum) (run_more start old new (refused_count pairs) None p q)
@@ -151,7 +151,7 @@ said_frame old mid new h r fits e same_settings same_order m count listed p =
     (sym transition.0 ∙ answer, after_frame o bytes mid.source.left new.source.left h e m transition.1, omega (arith, transition.2, count, reads))
   where
     told_listed : (h : perf_event_header) (mid new : ReaderState) (r : Result Record ParseError) → IsListed r → ReadsFrameAfter h mid (error_kinds r) new →
-        (answer_after mid.settings mid.order h mid.source.left ≡ seen_answer r) × (new.source.left ≡ drop (body_length h) mid.source.left)
+        (answer_after mid.settings mid.order h mid.source.left ≡ seen_answer r) × (new.source.left ≡ drop (length_after h) mid.source.left)
         × (new.reads ≡ mid.reads + reads_after mid.settings mid.order h mid.source.left)
     told_listed h mid new (Ok r) listed p = p
     told_listed h mid new (Err x) listed p = p listed
@@ -173,7 +173,7 @@ same_call source order transition old mid new outcome buffer config reads call =
       whole = ap (λ b. (source b).whole) buffer ∙ call.whole;
       told = λ told. subst (λ b. IsTrue (source b).told) (sym buffer) (call.told told);
       answer = λ told. subst (λ m. transition (reader.state_of (λ o. source o.buf) order old) outcome m) (sym same) (call.answer told);
-      keeps = λ start kept. subst (λ m. Keeps start (refused outcome) m) (sym same) (call.keeps start kept);
+      keeps = λ start kept. subst (λ m. Keeps start (kind_if_refused outcome) m) (sym same) (call.keeps start kept);
     }
 
 pub run_ends : (start new : ReaderState) (n : ℕ) (s : Stop) (e : RunEnd) → IsEndOf s e → KeepsRun start (n + 1) (stopped_by {A = Unit {0}} (Err s)) new → KeepsRun start (n + one_if_ended e) (end_refusal e) new

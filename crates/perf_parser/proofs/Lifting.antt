@@ -2,7 +2,7 @@
 use Rattle.std.proofs.Common.{◌≡◌, refl, sym, ◌∙◌, ap, subst}
 use Rattle.std.specs.Prelude.{Option, Some, Result, Err, IsTrue}
 use Rattle.perf_base.specs.Order.{Order}
-use Rattle.perf_base.specs.Refusals.{refused}
+use Rattle.perf_base.specs.Refusals.{kind_if_refused}
 use Rattle.perf_base.specs.declared.error.ErrorKind.{ErrorKind}
 use Rattle.perf_buffers.specs.Buffer.{Source}
 use Rattle.perf_buffers.specs.declared.outer.Outer.{Outer}
@@ -37,7 +37,7 @@ lifted source order transition old new outcome c =
       told = c.told;
       answer = c.answer;
       counted = c.keeps;
-      follows = λ start p. follows_more start a b p (keeps_follows a b (refused outcome) (c.keeps a (keeps_none a)));
+      follows = λ start p. follows_more start a b p (keeps_follows a b (kind_if_refused outcome) (c.keeps a (keeps_none a)));
     }
 
 -- the same of a call whose refusal became an error

@@ -1,7 +1,7 @@
 -- A run's list against the answers of all bytes.
-use Rattle.std.proofs.Common.{◌≡◌, ℕ, zero, suc, ◌+◌, ◌<◌, ◌≤◌, List, [], ◌∷◌, ◌++◌, length, take, drop, map, arith, refl, sym, ◌∙◌, ap, subst, true, false, nat_lt, inl, inr}
+use Rattle.std.proofs.Common.{◌≡◌, ℕ, zero, suc, ◌+◌, ◌<◌, ◌≤◌, List, [], ◌∷◌, ◌++◌, length, take, drop, map, arith, refl, sym, ◌∙◌, ap, subst, true, false, inl, inr}
 use Rattle.std.specs.Prelude.{Result, IsTrue, Bool}
-use Rattle.std.proofs.lemmas.Bool.{cases_lt, lt-ltb, le-ltb}
+use Rattle.std.proofs.lemmas.Bool.{cases_lt}
 use Rattle.std.proofs.lemmas.List.{length-append, length-drop, take-map}
 use Rattle.perf_base.specs.Configuration.{Configuration}
 use Rattle.perf_base.specs.Header.{header_of}
@@ -16,9 +16,10 @@ use Rattle.perf_records.specs.Frames.{frame_length, first_frames, frames, drop_f
 use Rattle.perf_records.specs.Frames.{cut_header, end_with, stream_end}
 use Rattle.perf_records.specs.Records.{RecordValue}
 use Rattle.perf_records.specs.declared.record.Record.{Record}
+use Rattle.perf_records.proofs.FrameList.{frames_first, frames_short}
 use Rattle.perf_records.proofs.Headers.{header_alone, answer_alone, reads_alone}
 use Rattle.perf_parser.specs.Runs.{Pairs, seen_answer, seen_answers, listed_reads, CountsMore}
-use Rattle.perf_parser.specs.Runs.{IsBorrowedAnswer, AllBorrowed, LeavesWithin, EndsWith, EndsBetween}
+use Rattle.perf_parser.specs.Runs.{IsBorrowedAnswer, AllBorrowed, MovesWithinFrame, EndsWith, EndsBetween}
 use Rattle.perf_parser.specs.Steps.{StopsAt, StopsBetween, IsEndOf, IsAfter, StepKind, HasTaken, ListsFirst}
 use Rattle.perf_parser.specs.declared.runs.RunEnd.{RunEnd}
 use Rattle.perf_reader.specs.declared.header.Stop.{Stop}
@@ -30,13 +31,6 @@ one_more_borrowed [] h r p q = (q, tt)
 one_more_borrowed (pair ∷ pairs) h r p q = (p.0, one_more_borrowed pairs h r p.1 q)
 
 -- ---- frames in a row
--- the first frame, and those after it
-pub frames_next : (o : Order) (n : ℕ) (bytes : List ℕ) → 8 ≤ length bytes → first_frames o (suc n) bytes ≡ take (frame_length o bytes) bytes ∷ first_frames o n (drop (frame_length o bytes) bytes)
-frames_next o n bytes fits = let a : nat_lt (length bytes) 8 ≡ false = le-ltb (length bytes) 8 fits in rw a refl
-
-frames_none : (o : Order) (n : ℕ) (bytes : List ℕ) → length bytes < 8 → first_frames o n bytes ≡ []
-frames_none o zero bytes short = refl
-frames_none o (suc n) bytes short = let a : nat_lt (length bytes) 8 ≡ true = lt-ltb (length bytes) 8 short in rw a refl
 
 -- the first k frames are all present
 abbrev pub AreThere : Order → ℕ → List ℕ → Type 0
@@ -46,28 +40,28 @@ AreThere o k bytes = length (first_frames o k bytes) ≡ k
 pub there_fits : (o : Order) (k : ℕ) (bytes : List ℕ) → AreThere o (suc k) bytes → 8 ≤ length bytes
 there_fits o k bytes h = elim (cases_lt (length bytes) 8) [
   | inr fits ↦ fits
-  | inl short ↦ absurd (omega (arith, h, ap length (frames_none o (suc k) bytes short)))
+  | inl short ↦ absurd (omega (arith, h, ap length (frames_short o (suc k) bytes short)))
 ]
 
 pub there_next : (o : Order) (k : ℕ) (bytes : List ℕ) → AreThere o (suc k) bytes → AreThere o k (drop (frame_length o bytes) bytes)
 there_next o k bytes h =
-    let e = ap length (frames_next o k bytes (there_fits o k bytes h)) in
+    let e = ap length (frames_first o k bytes (there_fits o k bytes h)) in
     omega (arith, h, e)
 
 -- one frame more after the first k
 pub frames_on : (o : Order) (k : ℕ) (bytes : List ℕ) → AreThere o k bytes → 8 ≤ length (drop_frames o k bytes) →
     first_frames o (k + 1) bytes ≡ first_frames o k bytes ++ take (frame_length o (drop_frames o k bytes)) (drop_frames o k bytes) ∷ []
-frames_on o zero bytes h fits = frames_next o 0 bytes fits
+frames_on o zero bytes h fits = frames_first o 0 bytes fits
 frames_on o (suc k) bytes h fits =
     let rest : List ℕ = drop (frame_length o bytes) bytes in
     let eight : 8 ≤ length bytes = there_fits o k bytes h in
     let more : k + 1 ≡ suc k = omega arith in
     let sum : suc k + 1 ≡ suc (suc k) = omega arith in
     ap (λ n. first_frames o n bytes) sum
-    ∙ frames_next o (suc k) bytes eight
+    ∙ frames_first o (suc k) bytes eight
     ∙ ap (λ n. take (frame_length o bytes) bytes ∷ first_frames o n rest) (sym more)
     ∙ ap (λ fs. take (frame_length o bytes) bytes ∷ fs) (frames_on o k rest (there_next o k bytes h) fits)
-    ∙ ap (λ fs. fs ++ take (frame_length o (drop_frames o k rest)) (drop_frames o k rest) ∷ []) (sym (frames_next o k bytes eight))
+    ∙ ap (λ fs. fs ++ take (frame_length o (drop_frames o k rest)) (drop_frames o k rest) ∷ []) (sym (frames_first o k bytes eight))
 
 pub after_on : (o : Order) (k : ℕ) (bytes : List ℕ) → drop_frames o (k + 1) bytes ≡ drop (frame_length o (drop_frames o k bytes)) (drop_frames o k bytes)
 after_on o zero bytes = refl
@@ -89,19 +83,19 @@ frames_take o zero n bytes h le = refl
 frames_take o (suc k) zero bytes h le = absurd (omega arith)
 frames_take o (suc k) (suc n) bytes h le =
     let eight : 8 ≤ length bytes = there_fits o k bytes h in
-    ap (take (suc k)) (frames_next o n bytes eight)
+    ap (take (suc k)) (frames_first o n bytes eight)
     ∙ ap (λ fs. take (frame_length o bytes) bytes ∷ fs) (frames_take o k n (drop (frame_length o bytes) bytes) (there_next o k bytes h) (omega arith))
-    ∙ sym (frames_next o k bytes eight)
+    ∙ sym (frames_first o k bytes eight)
 
 -- no more frames than k, if fewer than eight bytes are left after them
 frames_all : (o : Order) (k n : ℕ) (bytes : List ℕ) → AreThere o k bytes → k ≤ n → length (drop_frames o k bytes) < 8 → first_frames o n bytes ≡ first_frames o k bytes
-frames_all o zero n bytes h le short = frames_none o n bytes short
+frames_all o zero n bytes h le short = frames_short o n bytes short
 frames_all o (suc k) zero bytes h le short = absurd (omega arith)
 frames_all o (suc k) (suc n) bytes h le short =
     let eight : 8 ≤ length bytes = there_fits o k bytes h in
-    frames_next o n bytes eight
+    frames_first o n bytes eight
     ∙ ap (λ fs. take (frame_length o bytes) bytes ∷ fs) (frames_all o k n (drop (frame_length o bytes) bytes) (there_next o k bytes h) (omega arith) short)
-    ∙ sym (frames_next o k bytes eight)
+    ∙ sym (frames_first o k bytes eight)
 
 -- ---- the list so far
 -- the next frame after the first k
@@ -185,8 +179,8 @@ ends_with start here new limit k stop.CutHeader e so_far below same p is =
     let all = all_listed start here k so_far p.1 in
     subst (λ (x : RunEnd). EndsWith start.order limit start.source.left k x new.source.left) (sym is) (below, all.0, all.1 ∙ cut_off (length here.source.left) p.0, p.2)
 ends_with start here new limit k (stop.Refused r) e so_far below same p is =
-    let within : LeavesWithin start.order (drop_frames start.order k start.source.left) new.source.left =
-    subst (λ (xs : List ℕ). LeavesWithin start.order xs new.source.left) so_far.left_is (subst (λ (o : Order). LeavesWithin o here.source.left new.source.left) same p.1) in
+    let within : MovesWithinFrame start.order (drop_frames start.order k start.source.left) new.source.left =
+    subst (λ (xs : List ℕ). MovesWithinFrame start.order xs new.source.left) so_far.left_is (subst (λ (o : Order). MovesWithinFrame o here.source.left new.source.left) same p.1) in
     subst (λ (x : RunEnd). EndsWith start.order limit start.source.left k x new.source.left) (sym is.1) (below, not_of_layout is.2.kind_is p.0, within)
 
 -- if a failed allocation ended it

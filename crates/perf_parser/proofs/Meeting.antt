@@ -14,7 +14,7 @@ use Rattle.perf_reader.specs.ReaderState.{ReaderState, state_of}
 use Rattle.perf_reader.specs.Reading.{last_of}
 use Rattle.perf_reader.specs.declared.reader.Reader.{Reader}
 use Rattle.perf_reader.proofs.Paying.{last_all}
-use Rattle.perf_parser.specs.Runs.{LeavesWithin}
+use Rattle.perf_parser.specs.Runs.{MovesWithinFrame}
 use Rattle.perf_parser.specs.Steps.{ReadsHeader, StopsAt, TakesNothing}
 use Rattle.perf_reader.specs.declared.header.Stop.{Stop}
 use Rattle.perf_reader.specs.declared.header.Stop.TheVariants as stop
@@ -24,7 +24,7 @@ module _ (old mid new : ReaderState) (order : mid.order ≡ old.order) (left : m
   pub looked_stops : (s : Stop) → StopsAt mid s new → StopsAt old s new
   looked_stops stop.Done p = (sym left ∙ p.0, p.1, omega (arith, p.2, reads))
   looked_stops stop.CutHeader p = let long : length mid.source.left ≡ length old.source.left = ap length left in (omega (arith, p.0, long), omega (arith, p.1, long), p.2, omega (arith, p.3, reads))
-  looked_stops (stop.Refused r) p = (p.0, subst (λ (o : Order). LeavesWithin o old.source.left new.source.left) order (subst (λ (xs : List ℕ). LeavesWithin mid.order xs new.source.left) left p.1))
+  looked_stops (stop.Refused r) p = (p.0, subst (λ (o : Order). MovesWithinFrame o old.source.left new.source.left) order (subst (λ (xs : List ℕ). MovesWithinFrame mid.order xs new.source.left) left p.1))
 
   -- the header that it reads
   pub looked_reads : (outcome : Result perf_event_header ErrorKind) → ReadsHeader mid outcome new → ReadsHeader old outcome new

@@ -1,7 +1,7 @@
 -- A call of a parser, in one clause: what it returns, what it counts, and what every call keeps.
 use Rattle.std.specs.Prelude.{Option, None, Result, ◌≡◌, ◌≤◌, length, IsTrue, ⊤}
 use Rattle.perf_base.specs.Order.{Order}
-use Rattle.perf_base.specs.Refusals.{refused}
+use Rattle.perf_base.specs.Refusals.{kind_if_refused}
 use Rattle.perf_base.specs.declared.error.ErrorKind.{ErrorKind}
 use Rattle.perf_buffers.specs.Buffer.{Source}
 use Rattle.perf_reader.specs.ReaderState.{ReaderState}
@@ -43,7 +43,7 @@ module _ {B E X : Type 0} (source : B → Source) (order : E → Order)
     pub answer : IsTrue (source (buffer_of old)).told →
         transition (state_of source order old) outcome (state_of source order new)
     -- faults and reads
-    pub counted : counts (state_of source order old) (refused outcome) (state_of source order new)
+    pub counted : counts (state_of source order old) (kind_if_refused outcome) (state_of source order new)
     -- whatever moment it followed before the call, it follows after it
     pub follows : (start : ReaderState) → Follows start (state_of source order old) →
         Follows start (state_of source order new)

@@ -12,7 +12,7 @@ pub use Rattle.perf_base.specs.Header.{header_of}
 pub use Rattle.perf_base.specs.Layout.{Parts, number, optional, byte_string, padding, rest, words, w1, w2}
 pub use Rattle.perf_base.specs.Layout.{w4, w8}
 pub use Rattle.perf_base.specs.LayoutReads.{one_if_any}
-pub use Rattle.perf_base.specs.Refusals.{error_kinds, refused, TakesNoMemory, IsAnswerOf}
+pub use Rattle.perf_base.specs.Refusals.{error_kinds, kind_if_refused, NeedsNoMemory, IsErrorOf}
 pub use Rattle.perf_base.specs.declared.refusal.Refusal.TheVariants.{SmallHeader, NoRoomForId}
 pub use Rattle.perf_base.specs.declared.sys.perf_event_header.{perf_event_header}
 pub use Rattle.perf_buffers.specs.Cursor.{cursor_is_borrowed}
@@ -21,9 +21,9 @@ pub use Rattle.perf_buffers.specs.Taking.{MovesWithin}
 pub use Rattle.perf_reader.specs.ReaderState.{ReaderState}
 pub use Rattle.perf_reader.specs.Reading.{Transition, Reads, ReadsPlain, ReadsInPlace, ReadsOne, ReadsNumber}
 pub use Rattle.perf_reader.specs.Reading.{Keeps, of_layout}
-pub use Rattle.perf_records.specs.Answers.{ReadsFrameAfter, answers, body_length, LeavesAllOrRest}
+pub use Rattle.perf_records.specs.Answers.{ReadsFrameAfter, answers, length_after, LeavesAllOrRest}
 pub use Rattle.perf_records.specs.Answers.{RefusesHeader}
-pub use Rattle.perf_records.specs.Bodies.{wants_memory}
+pub use Rattle.perf_records.specs.Bodies.{needs_memory}
 pub use Rattle.perf_records.specs.Records.{IsBorrowed}
 pub use Rattle.perf_records.specs.Gives.{GivesFrameAfter, GivesFrame, BelongsTo}
 pub use Rattle.perf_sample_types.specs.Registers.{RegistersValue, registers_of, registers_value}

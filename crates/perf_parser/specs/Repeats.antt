@@ -1,7 +1,7 @@
 -- Several values parsed in order.
 use Rattle.std.specs.Prelude.{Option, Some, None, Result, Ok, Err, ◌≡◌, ◌⊎◌, IsTrue}
 use Rattle.std.specs.Prelude.{ℕ, ◌<◌, ◌≤◌, List, [], ◌∷◌, length}
-use Rattle.perf_base.specs.Refusals.{refused}
+use Rattle.perf_base.specs.Refusals.{kind_if_refused}
 use Rattle.perf_base.specs.declared.error.ErrorKind.{ErrorKind}
 use Rattle.perf_base.specs.declared.error.ErrorKind.TheVariants.{OutOfMemory}
 use Rattle.perf_reader.specs.ReaderState.{ReaderState}
@@ -13,7 +13,7 @@ module _ {T : Type 0} (parses : Transition T) (counts : Counts) where
   -- One call of its parse, under the configuration and the order of the state before.
   pub record Step (old : ReaderState) (outcome : Result T ErrorKind) (new : ReaderState) : Type 0 where
     pub answer : IsTrue old.source.told → parses old outcome new
-    pub counted : counts old (refused outcome) new
+    pub counted : counts old (kind_if_refused outcome) new
     pub follows : Follows old new
     pub settings : new.settings ≡ old.settings
     pub order : new.order ≡ old.order

@@ -12,11 +12,11 @@ use Rattle.perf_base.specs.declared.error.ErrorKind.TheVariants.{OutOfMemory}
 use Rattle.perf_base.specs.declared.error.ParseError.{ParseError}
 use Rattle.perf_base.specs.declared.sys.perf_event_header.{perf_event_header}
 use Rattle.perf_buffers.specs.Buffer.{Stays}
-pub use Rattle.perf_reader.specs.Headers.{LeavesWithin}
+pub use Rattle.perf_reader.specs.Headers.{MovesWithinFrame}
 use Rattle.perf_reader.specs.ReaderState.{ReaderState}
 use Rattle.perf_reader.specs.Reading.{of_layout, last_of, is_external}
 use Rattle.perf_records.specs.Answers.{reads_after}
-pub use Rattle.perf_records.specs.Answers.{ReadsFrameAfter, answers, body_length}
+pub use Rattle.perf_records.specs.Answers.{ReadsFrameAfter, answers, length_after}
 use Rattle.perf_records.specs.Frames.{first_frames, frames, drop_frames}
 use Rattle.perf_records.specs.Frames.{stream_end, done, cut_header}
 use Rattle.perf_records.specs.Records.{RecordValue, record_value, IsBorrowed}
@@ -41,12 +41,12 @@ abbrev pub seen_answers : Pairs → List (perf_event_header × Result RecordValu
 seen_answers pairs = map (λ pair. (pair.0, seen_answer pair.1)) pairs
 
 -- the same of a run
-abbrev pub listed : Run → List (perf_event_header × Result RecordValue ErrorKind)
-listed run = seen_answers run.frames.items
+abbrev pub answers_in : Run → List (perf_event_header × Result RecordValue ErrorKind)
+answers_in run = seen_answers run.frames.items
 
 -- how many frames it lists
-abbrev pub listed_count : Run → ℕ
-listed_count run = length run.frames.items
+abbrev pub answer_count : Run → ℕ
+answer_count run = length run.frames.items
 
 -- one for each answer that is a refusal
 abbrev pub refused_count : Pairs → ℕ
@@ -105,7 +105,7 @@ one_if_ended (end.Fault e) = 1
 -- How a run over these bytes ends that has listed k frames, and what it leaves: at its limit the
 -- bytes after those frames; with all frames listed nothing, if the stream is done or its last
 -- header is cut; and after a fault, which is none of the layout's refusals, the bytes after those
--- frames except a beginning of the next one.
+-- frames except a prefix of the next one.
 abbrev pub EndsWith : Order → (limit : ℕ) → List ℕ → (k : ℕ) → RunEnd → List ℕ → Type 0
 EndsWith o limit bytes k end.Limit left = (k ≡ limit) × (left ≡ drop_frames o k bytes)
 EndsWith o limit bytes k end.Done left =
@@ -114,7 +114,7 @@ EndsWith o limit bytes k end.CutHeader left =
     (k < limit) × (k ≡ length (frames o bytes)) × (stream_end o bytes ≡ cut_header) × (left ≡ [])
 EndsWith o limit bytes k (end.Fault e) left =
     (k < limit) × (IsTrue (of_layout (kind_of e)) → ⊥)
-    × LeavesWithin o (drop_frames o k bytes) left
+    × MovesWithinFrame o (drop_frames o k bytes) left
 
 -- A run that ended out of memory is between two frames: before the one that it did not list, or
 -- after it.

@@ -7,7 +7,7 @@ use Rattle.perf_base.specs.Configuration.{Configuration}
 use Rattle.perf_base.specs.Errors.{kind_of}
 use Rattle.perf_base.specs.Header.{header_of}
 use Rattle.perf_base.specs.Order.{Order}
-use Rattle.perf_base.specs.Refusals.{refusal_kind, error_kinds, IsAnswerOf}
+use Rattle.perf_base.specs.Refusals.{refusal_kind, error_kinds, IsErrorOf}
 use Rattle.perf_base.specs.declared.error.ErrorKind.{ErrorKind}
 use Rattle.perf_base.specs.declared.error.ErrorKind.TheVariants.{OutOfMemory}
 use Rattle.perf_base.specs.declared.error.ParseError.{ParseError}
@@ -24,7 +24,7 @@ use Rattle.perf_reader.specs.declared.header.Stop.{Stop}
 use Rattle.perf_reader.specs.declared.reader.Reader.{Reader}
 use Rattle.perf_reader.specs.declared.header.Stop.TheVariants as stop
 use Rattle.perf_records.specs.Answers.{answer_of_frame, LeavesAllOrRest}
-use Rattle.perf_records.specs.Answers.{ReadsFrameAfter, body_length}
+use Rattle.perf_records.specs.Answers.{ReadsFrameAfter, length_after}
 use Rattle.perf_records.specs.Frames.{frame_length, first_frames, drop_frames}
 use Rattle.perf_records.specs.declared.record.Record.{Record}
 use Rattle.perf_parser.specs.declared.runs.RunEnd.{RunEnd}
@@ -57,7 +57,7 @@ StopsBetween old s new = stop_kind s ≡ OutOfMemory →
 abbrev pub IsEndOf : Stop → RunEnd → Type 0
 IsEndOf stop.Done e = e ≡ end.Done
 IsEndOf stop.CutHeader e = e ≡ end.CutHeader
-IsEndOf (stop.Refused r) e = (x : ParseError) × (e ≡ end.Fault x) × IsAnswerOf x r
+IsEndOf (stop.Refused r) e = (x : ParseError) × (e ≡ end.Fault x) × IsErrorOf x r
 
 -- ---- one frame that is listed
 
@@ -76,7 +76,7 @@ ListsAnswer h was now whole of_result =
 -- the same of a refusal of the layout: the error that it becomes, with its message
 abbrev pub ListsRefused : perf_event_header → Refusal → (was now : Pairs) → Type 0
 ListsRefused h r was now =
-    (e : ParseError) × (now ≡ was ++ (h, Err e) ∷ []) × IsAnswerOf e r
+    (e : ParseError) × (now ≡ was ++ (h, Err e) ∷ []) × IsErrorOf e r
     × IsTrue (of_layout (refusal_kind r))
 
 -- the answer that was listed is no record
@@ -91,12 +91,12 @@ pub record ListsFrame {B E : Type 0} (source : B → Source) (hint : B → Optio
     (result : Result (Unit {0}) Refusal) : Type 0 where
   -- at most the frame's bytes are taken
   pub within : IsTrue (source (buffer_of old)).told →
-      MovesWithin (source (buffer_of old)) (body_length h) (source (buffer_of new))
+      MovesWithin (source (buffer_of old)) (length_after h) (source (buffer_of new))
   -- its answer is listed after the others
   pub listed : OnOk result (ListsAnswer h was now (IsTrue (source (buffer_of old)).whole)
       (λ outcome. Call (λ (o : Outer B). source o.buf) order (ReadsFrameAfter h) old outcome new))
   -- no record is listed if the buffer reports, after the header, that it has too few bytes
-  pub short : falls_short (hint (buffer_of old)) (body_length h) ≡ true →
+  pub short : falls_short (hint (buffer_of old)) (length_after h) ≡ true →
       OnOk result (ListsNoRecord was now)
   -- nothing is listed if the run stops
   pub kept : OnErr result (now ≡ was)
@@ -106,7 +106,7 @@ pub record ListsFrame {B E : Type 0} (source : B → Source) (hint : B → Optio
   -- if an allocation fails over a slice, exactly the frame is taken
   pub spent : IsTrue (source (buffer_of old)).told → IsTrue (source (buffer_of old)).whole →
       IfErr result (λ e. refusal_kind e ≡ OutOfMemory →
-      (source (buffer_of new)).left ≡ drop (body_length h) (source (buffer_of old)).left)
+      (source (buffer_of new)).left ≡ drop (length_after h) (source (buffer_of old)).left)
 
 -- ---- capacity for its answer
 

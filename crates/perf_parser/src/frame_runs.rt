@@ -4,7 +4,7 @@ ghost use Rattle.std.specs.Prelude.{◌≡◌, ◌≢◌, ◌≤◌, Some, IsTru
 ghost use Rattle.perf_parser.specs.FrameRuns as hands;
 ghost use Rattle.perf_parser.specs.Runs as runs;
 ghost use Rattle.perf_parser.specs.Prelude.{buffer_of, config_of, reads_of, state_of};
-ghost use Rattle.perf_reader.specs.Prelude as low;
+ghost use Rattle.perf_reader.specs.Prelude as prelude;
 ghost use Rattle.perf_records.specs.Frames.{first_frames};
 
 use crate::parser::Parser;
@@ -82,7 +82,7 @@ pub fn each_frame<'p, B: ParseBuf<'p>, E: Endian, H: FrameHandler<'p, E>>(
     // Over a slice it takes no memory, so no allocation can fail.
     ensures whole_memory { IsTrue (B.source (buffer_of parser.old)).told →
         IsTrue (B.source (buffer_of parser.old)).whole →
-        hands.frames_refusal result.end ≢ Some low.OutOfMemory }
+        hands.frames_refusal result.end ≢ Some prelude.OutOfMemory }
 
     // The number of elementary reads.
     ensures reads { IsTrue (B.source (buffer_of parser.old)).told → hands.CountsHeaders

@@ -2,8 +2,8 @@
 
 ghost use Rattle.std.specs.Prelude.{◌≡◌, ◌<◌, false, true, drop, Err, IsTrue, IfOk, IfErr};
 ghost use Rattle.perf_parser.specs.Prelude.{Call, ReadsFrameAfter, error_kinds, buffer_of};
-ghost use Rattle.perf_parser.specs.Prelude.{TakesNoMemory, body_length, kind_of};
-ghost use Rattle.perf_parser.specs.Prelude as words;
+ghost use Rattle.perf_parser.specs.Prelude.{NeedsNoMemory, length_after, kind_of};
+ghost use Rattle.perf_parser.specs.Prelude as prelude;
 
 use crate::parse::{FrameLayout, ParseRecord};
 use crate::parser::Parser;
@@ -26,43 +26,43 @@ impl<'p, B: ParseBuf<'p>> ParseRecord<'p, B> for Record<'p> {
         header: perf_event_header,
     ) -> ParseResult<Self>
         ensures within { IsTrue (B.source (buffer_of parser.old)).told →
-            words.MovesWithin (B.source (buffer_of parser.old)) (body_length header)
+            prelude.MovesWithin (B.source (buffer_of parser.old)) (length_after header)
             (B.source (buffer_of parser.new)) }
         ensures borrowed { IsTrue (B.source (buffer_of parser.old)).whole →
-            IfOk result (λ r. words.IsBorrowed r) }
+            IfOk result (λ r. prelude.IsBorrowed r) }
         ensures whole_memory { IsTrue (B.source (buffer_of parser.old)).whole →
-            words.wants_memory header.type_ ≡ false → TakesNoMemory (error_kinds result) }
+            prelude.needs_memory header.type_ ≡ false → NeedsNoMemory (error_kinds result) }
 
         // A size that does not include the header is refused before anything else.
         ensures small { header.size < 8 → (error_kinds result ≡ Err ErrorKind.InvalidRecord)
             × (B.source (buffer_of parser.new) ≡ B.source (buffer_of parser.old)) }
         ensures small_why { header.size < 8 →
-            IfErr result (λ e. words.IsAnswerOf e words.SmallHeader) }
+            IfErr result (λ e. prelude.IsErrorOf e prelude.SmallHeader) }
 
         // Memory is taken by the rules of a cut, and as the body needs it. If there is no memory
         // for the frame, nothing is taken if all of it was to be allocated first; if there is none
         // for the body, exactly the frame is taken.
-        ensures nothing { body_length header ≡ 0 → words.wants_memory header.type_ ≡ false →
-            TakesNoMemory (error_kinds result) }
-        ensures short { words.falls_short (B.hint (buffer_of parser.old))
-            (body_length header) ≡ true →
-            TakesNoMemory (error_kinds result) × IfOk result (λ r. ⊥) }
+        ensures nothing { length_after header ≡ 0 → prelude.needs_memory header.type_ ≡ false →
+            NeedsNoMemory (error_kinds result) }
+        ensures short { prelude.falls_short (B.hint (buffer_of parser.old))
+            (length_after header) ≡ true →
+            NeedsNoMemory (error_kinds result) × IfOk result (λ r. ⊥) }
         ensures beforehand { IsTrue (B.source (buffer_of parser.old)).told →
-            words.is_made_beforehand (B.hint (buffer_of parser.old)) (body_length header) ≡ true →
+            prelude.is_made_beforehand (B.hint (buffer_of parser.old)) (length_after header) ≡ true →
             IfErr result (λ e. kind_of e ≡ ErrorKind.OutOfMemory →
-            words.LeavesAllOrRest (B.source (buffer_of parser.old)) (body_length header)
+            prelude.LeavesAllOrRest (B.source (buffer_of parser.old)) (length_after header)
             (B.source (buffer_of parser.new))) }
         ensures spent { IsTrue (B.source (buffer_of parser.old)).told →
             IsTrue (B.source (buffer_of parser.old)).whole →
             IfErr result (λ e. kind_of e ≡ ErrorKind.OutOfMemory →
             (B.source (buffer_of parser.new)).left
-            ≡ drop (body_length header) (B.source (buffer_of parser.old)).left) }
+            ≡ drop (length_after header) (B.source (buffer_of parser.old)).left) }
         ensures call { Call B.source E.order (ReadsFrameAfter header)
             parser.old (error_kinds result) parser.new }
     {
         match read_after(&mut parser.reader, header, AsRecord, &mut ()) {
             Ok(record) => Ok(record),
-            Err(refusal) => Err(parser.reader.answer(refusal)),
+            Err(refusal) => Err(parser.reader.error_of(refusal)),
         }
     }
 }

@@ -3,7 +3,7 @@
 ghost use Rattle.std.specs.Prelude.{IsTrue};
 ghost use Rattle.perf_base.specs.declared.sys.perf_event_header.{perf_event_header};
 ghost use Rattle.perf_parser.specs.Prelude.{Transition, Counts, KeepsOn, Call, CallAs, buffer_of};
-ghost use Rattle.perf_parser.specs.Prelude.{error_kinds, body_length, MovesWithin, Reads};
+ghost use Rattle.perf_parser.specs.Prelude.{error_kinds, length_after, MovesWithin, Reads};
 ghost use Rattle.perf_parser.specs.Prelude.{RegistersValue, registers_of, registers_value};
 
 pub use crate::parser::Parser;
@@ -18,6 +18,42 @@ use perf_reader::read::{HasTransition, ReadFrom};
 use perf_sample_types::registers::Registers;
 
 /// The contract of parsing a type.
+///
+/// A type of your own gives its bytes a meaning by a layout, one line for each field, in a file of its
+/// crate's `specs`:
+///
+/// ```text
+/// -- the layout of a mark: an id, a value, and the rest of the body is its name
+/// abbrev pub mark_parts : Parts MarkValue
+/// mark_parts = do
+///   id ← u32
+///   value ← u64
+///   name ← name
+///   done (record { id = id; value = value; name = name })
+/// ```
+///
+/// and reads the same fields in the same order. The line `tactic` names the lemma by which reads one
+/// after another add up, so that no proof file is needed:
+///
+/// ```text
+/// impl Layout for Mark<'_> {
+///     ghost parses = { ReadsInPlace (λ _. mark_parts) mark_value IsBorrowedMark };
+/// }
+///
+/// impl<'p, B: ParseBuf<'p>> Parse<'p, B> for Mark<'p> {
+///     #[tactic(auto, using(perf_parser::proofs::Paying::chain))]
+///     fn parse<E: Endian>(parser: &mut Parser<B, E>) -> ParseResult<Self> {
+///         let id = parser.parse_u32()?;
+///         let value = parser.parse_u64()?;
+///         let name = parser.parse_rest_trim_nul()?;
+///         Ok(Mark { id, value, name })
+///     }
+/// }
+/// ```
+///
+/// `ReadsInPlace` states that the result is what the layout gives, and that no byte is copied from a
+/// slice; `ReadsPlain` is for numbers alone, and `Reads` for what always needs memory. The whole
+/// example, with other fields and checks, is in `docs/CALLING.md`.
 pub trait Layout: Sized {
     // What a call returns, from the state of the parser before it, and the state after it.
     ghost parses: { Transition Self };
@@ -28,7 +64,7 @@ pub trait Layout: Sized {
     ghost counts: { Counts } = { KeepsOn };
 }
 
-/// A type that can be parsed from a buffer.
+/// A type that can be parsed from a buffer. [`Layout`] has an example of one of your own.
 pub trait Parse<'p, B: ParseBuf<'p>>: Layout {
     /// Parses one value.
     fn parse<E: Endian>(parser: &mut Parser<B, E>) -> ParseResult<Self>
@@ -46,7 +82,7 @@ impl<'p, B: ParseBuf<'p>, T: ReadFrom<'p, Outer<B>> + HasTransition> Parse<'p, B
     fn parse<E: Endian>(parser: &mut Parser<B, E>) -> ParseResult<Self> {
         match T::read(&mut parser.reader) {
             Ok(value) => Ok(value),
-            Err(refusal) => Err(parser.reader.answer(refusal)),
+            Err(refusal) => Err(parser.reader.error_of(refusal)),
         }
     }
 }
@@ -60,13 +96,13 @@ pub trait FrameLayout: Sized {
 /// A type that is parsed from a frame whose header was read before.
 pub trait ParseRecord<'p, B: ParseBuf<'p>>: FrameLayout {
     /// Parses the rest of a frame. After a refusal exactly the frame is taken, or all that was left
-    /// if that is less; after a fault, or if there was no memory for the frame, a beginning of it.
+    /// if that is less; after a fault, or if there was no memory for the frame, a prefix of it.
     fn parse_with_header<E: Endian>(
         parser: &mut Parser<B, E>,
         header: perf_event_header,
     ) -> ParseResult<Self>
         ensures within { IsTrue (B.source (buffer_of parser.old)).told →
-            MovesWithin (B.source (buffer_of parser.old)) (body_length header)
+            MovesWithin (B.source (buffer_of parser.old)) (length_after header)
             (B.source (buffer_of parser.new)) }
         ensures call { Call B.source E.order (Self.transition_after header)
             parser.old (error_kinds result) parser.new };
@@ -101,7 +137,7 @@ impl<'p, B: ParseBuf<'p>> ParseRegisters<'p, B> for Registers<'p> {
         let mask = parser.config().regs_user();
         match Registers::read_by(&mut parser.reader, mask) {
             Ok(registers) => Ok(registers),
-            Err(refusal) => Err(parser.reader.answer(refusal)),
+            Err(refusal) => Err(parser.reader.error_of(refusal)),
         }
     }
 
@@ -110,7 +146,7 @@ impl<'p, B: ParseBuf<'p>> ParseRegisters<'p, B> for Registers<'p> {
         let mask = parser.config().regs_intr();
         match Registers::read_by(&mut parser.reader, mask) {
             Ok(registers) => Ok(registers),
-            Err(refusal) => Err(parser.reader.answer(refusal)),
+            Err(refusal) => Err(parser.reader.error_of(refusal)),
         }
     }
 }

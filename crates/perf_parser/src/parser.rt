@@ -5,13 +5,13 @@ ghost use Rattle.std.specs.Prelude.{◌≤◌, false, drop, Err, Ok, None};
 ghost use Rattle.std.specs.Fn.{FnOnceReturnsAtMut};
 ghost use Rattle.perf_parser.specs.Repeats.{ParsesInTurn, StopsShort, AsOption};
 ghost use Rattle.perf_parser.specs.Prelude.{name, one_if_any, falls_short, is_made_beforehand};
-ghost use Rattle.perf_parser.specs.Prelude.{Call, Reads, ReadsOne, TakesNoMemory, buffer_of};
+ghost use Rattle.perf_parser.specs.Prelude.{Call, Reads, ReadsOne, NeedsNoMemory, buffer_of};
 ghost use Rattle.perf_parser.specs.Prelude.{reads_of, error_kinds, kind_of, cow_items, is_borrowed};
 ghost use Rattle.perf_parser.specs.Prelude.{byte_string, rest, SplitsParser, SplitsFrame};
-ghost use Rattle.perf_parser.specs.Prelude.{config_of, configuration_of, endian_of, body_length};
+ghost use Rattle.perf_parser.specs.Prelude.{config_of, configuration_of, endian_of, length_after};
 ghost use Rattle.perf_parser.specs.Prelude.{CallAs, CallOnly, state_of, number, w1, w2, w4, w8};
 ghost use Rattle.perf_parser.specs.Prelude.{GivesFrameAfter, GivesFrame, BelongsTo};
-ghost use Rattle.perf_parser.specs.Prelude as words;
+ghost use Rattle.perf_parser.specs.Prelude as prelude;
 
 use crate::parse::Parse;
 use perf_base::config::ParseConfig;
@@ -123,13 +123,13 @@ impl<'p, B: ParseBuf<'p>, E: Endian> Parser<B, E> {
     #[inline]
     pub fn parse_u8(&mut self) -> ParseResult<u8>
         ensures counted { reads_of self.new ≡ reads_of self.old + 1 }
-        ensures memory { TakesNoMemory (error_kinds result) }
+        ensures memory { NeedsNoMemory (error_kinds result) }
         ensures call { Call B.source E.order (ReadsOne (number w1) (λ n. n))
             self.old (error_kinds result) self.new }
     {
         match self.reader.read_u8() {
             Ok(number) => Ok(number),
-            Err(refusal) => Err(self.reader.answer(refusal)),
+            Err(refusal) => Err(self.reader.error_of(refusal)),
         }
     }
 
@@ -137,13 +137,13 @@ impl<'p, B: ParseBuf<'p>, E: Endian> Parser<B, E> {
     #[inline]
     pub fn parse_u16(&mut self) -> ParseResult<u16>
         ensures counted { reads_of self.new ≡ reads_of self.old + 1 }
-        ensures memory { TakesNoMemory (error_kinds result) }
+        ensures memory { NeedsNoMemory (error_kinds result) }
         ensures call { Call B.source E.order (ReadsOne (number w2) (λ n. n))
             self.old (error_kinds result) self.new }
     {
         match self.reader.read_u16() {
             Ok(number) => Ok(number),
-            Err(refusal) => Err(self.reader.answer(refusal)),
+            Err(refusal) => Err(self.reader.error_of(refusal)),
         }
     }
 
@@ -151,13 +151,13 @@ impl<'p, B: ParseBuf<'p>, E: Endian> Parser<B, E> {
     #[inline]
     pub fn parse_u32(&mut self) -> ParseResult<u32>
         ensures counted { reads_of self.new ≡ reads_of self.old + 1 }
-        ensures memory { TakesNoMemory (error_kinds result) }
+        ensures memory { NeedsNoMemory (error_kinds result) }
         ensures call { Call B.source E.order (ReadsOne (number w4) (λ n. n))
             self.old (error_kinds result) self.new }
     {
         match self.reader.read_u32() {
             Ok(number) => Ok(number),
-            Err(refusal) => Err(self.reader.answer(refusal)),
+            Err(refusal) => Err(self.reader.error_of(refusal)),
         }
     }
 
@@ -165,13 +165,13 @@ impl<'p, B: ParseBuf<'p>, E: Endian> Parser<B, E> {
     #[inline]
     pub fn parse_u64(&mut self) -> ParseResult<u64>
         ensures counted { reads_of self.new ≡ reads_of self.old + 1 }
-        ensures memory { TakesNoMemory (error_kinds result) }
+        ensures memory { NeedsNoMemory (error_kinds result) }
         ensures call { Call B.source E.order (ReadsOne (number w8) (λ n. n))
             self.old (error_kinds result) self.new }
     {
         match self.reader.read_u64() {
             Ok(number) => Ok(number),
-            Err(refusal) => Err(self.reader.answer(refusal)),
+            Err(refusal) => Err(self.reader.error_of(refusal)),
         }
     }
 }
@@ -189,11 +189,11 @@ impl<'p, B: ParseBuf<'p>, E: Endian> Parser<B, E> {
         ensures whole { IsTrue (B.source (buffer_of self.old)).whole →
             IfOk result (λ c. IsTrue (is_borrowed c)) }
         ensures whole_memory { IsTrue (B.source (buffer_of self.old)).whole →
-            TakesNoMemory (error_kinds result) }
+            NeedsNoMemory (error_kinds result) }
         ensures nothing { len ≡ 0 → IsOk result × (buffer_of self.new ≡ buffer_of self.old)
             × IfOk result (λ c. IsTrue (is_borrowed c)) }
         ensures short { falls_short (B.hint (buffer_of self.old)) len ≡ true →
-            TakesNoMemory (error_kinds result) }
+            NeedsNoMemory (error_kinds result) }
         ensures beforehand { IsTrue (B.source (buffer_of self.old)).told →
             is_made_beforehand (B.hint (buffer_of self.old)) len ≡ true → IfErr result (λ e.
             kind_of e ≡ ErrorKind.OutOfMemory →
@@ -205,7 +205,7 @@ impl<'p, B: ParseBuf<'p>, E: Endian> Parser<B, E> {
     {
         match self.reader.read_bytes(len) {
             Ok(bytes) => Ok(bytes),
-            Err(refusal) => Err(self.reader.answer(refusal)),
+            Err(refusal) => Err(self.reader.error_of(refusal)),
         }
     }
 
@@ -215,10 +215,10 @@ impl<'p, B: ParseBuf<'p>, E: Endian> Parser<B, E> {
         ensures whole { IsTrue (B.source (buffer_of self.old)).whole →
             IfOk result (λ c. IsTrue (is_borrowed c)) }
         ensures whole_memory { IsTrue (B.source (buffer_of self.old)).whole →
-            TakesNoMemory (error_kinds result) }
+            NeedsNoMemory (error_kinds result) }
         ensures nothing { IsTrue (B.source (buffer_of self.old)).told →
             (B.source (buffer_of self.old)).left ≡ [] →
-            TakesNoMemory (error_kinds result) × IfOk result (λ c. IsTrue (is_borrowed c)) }
+            NeedsNoMemory (error_kinds result) × IfOk result (λ c. IsTrue (is_borrowed c)) }
         ensures counted { IfOk result (λ c.
             reads_of self.new ≡ reads_of self.old + one_if_any (length (cow_items c))) }
         ensures call { Call B.source E.order (ReadsOne rest cow_items)
@@ -226,7 +226,7 @@ impl<'p, B: ParseBuf<'p>, E: Endian> Parser<B, E> {
     {
         match self.reader.read_rest() {
             Ok(bytes) => Ok(bytes),
-            Err(refusal) => Err(self.reader.answer(refusal)),
+            Err(refusal) => Err(self.reader.error_of(refusal)),
         }
     }
 
@@ -237,16 +237,16 @@ impl<'p, B: ParseBuf<'p>, E: Endian> Parser<B, E> {
         ensures whole { IsTrue (B.source (buffer_of self.old)).whole →
             IfOk result (λ c. IsTrue (is_borrowed c)) }
         ensures whole_memory { IsTrue (B.source (buffer_of self.old)).whole →
-            TakesNoMemory (error_kinds result) }
+            NeedsNoMemory (error_kinds result) }
         ensures nothing { IsTrue (B.source (buffer_of self.old)).told →
             (B.source (buffer_of self.old)).left ≡ [] →
-            TakesNoMemory (error_kinds result) × IfOk result (λ c. IsTrue (is_borrowed c)) }
+            NeedsNoMemory (error_kinds result) × IfOk result (λ c. IsTrue (is_borrowed c)) }
         ensures call { Call B.source E.order (Reads (λ _. name) cow_items)
             self.old (error_kinds result) self.new }
     {
         match self.reader.read_rest_trim_nul() {
             Ok(bytes) => Ok(bytes),
-            Err(refusal) => Err(self.reader.answer(refusal)),
+            Err(refusal) => Err(self.reader.error_of(refusal)),
         }
     }
 }
@@ -364,7 +364,7 @@ impl<'p, B: ParseBuf<'p>, E: Endian> Parser<B, E> {
     /// The record is read under the header's `misc`. A record that is accepted is visited once, and
     /// one that is refused is not visited. After a refusal exactly the frame is taken, or all that
     /// was left if that is less; after a fault, or if there was no memory for the frame, a
-    /// beginning of it.
+    /// prefix of it.
     #[inline]
     pub fn parse_record_with_header<V: Visitor<'p>>(
         &mut self,
@@ -372,43 +372,43 @@ impl<'p, B: ParseBuf<'p>, E: Endian> Parser<B, E> {
         header: perf_event_header,
     ) -> ParseResult<V::Output>
         ensures within { IsTrue (B.source (buffer_of self.old)).told →
-            words.MovesWithin (B.source (buffer_of self.old)) (body_length header)
+            prelude.MovesWithin (B.source (buffer_of self.old)) (length_after header)
             (B.source (buffer_of self.new)) }
         ensures event { IfOk result (λ output. BelongsTo V.gives header
             (B.source (buffer_of self.old)).whole output) }
         ensures whole_memory { IsTrue (B.source (buffer_of self.old)).whole →
-            words.wants_memory header.type_ ≡ false → TakesNoMemory (error_kinds result) }
+            prelude.needs_memory header.type_ ≡ false → NeedsNoMemory (error_kinds result) }
 
         // A size that does not include the header is refused before anything else.
         ensures small { header.size < 8 → (error_kinds result ≡ Err ErrorKind.InvalidRecord)
             × (B.source (buffer_of self.new) ≡ B.source (buffer_of self.old)) }
         ensures small_why { header.size < 8 →
-            IfErr result (λ e. words.IsAnswerOf e words.SmallHeader) }
+            IfErr result (λ e. prelude.IsErrorOf e prelude.SmallHeader) }
 
         // Memory is taken by the rules of a cut, and as the body needs it. If there is no memory
         // for the frame, nothing is taken if all of it was to be allocated first; if there is none
         // for the body, exactly the frame is taken.
-        ensures nothing { body_length header ≡ 0 → words.wants_memory header.type_ ≡ false →
-            TakesNoMemory (error_kinds result) }
-        ensures short { words.falls_short (B.hint (buffer_of self.old))
-            (body_length header) ≡ true →
-            TakesNoMemory (error_kinds result) × IfOk result (λ output. ⊥) }
+        ensures nothing { length_after header ≡ 0 → prelude.needs_memory header.type_ ≡ false →
+            NeedsNoMemory (error_kinds result) }
+        ensures short { prelude.falls_short (B.hint (buffer_of self.old))
+            (length_after header) ≡ true →
+            NeedsNoMemory (error_kinds result) × IfOk result (λ output. ⊥) }
         ensures beforehand { IsTrue (B.source (buffer_of self.old)).told →
-            words.is_made_beforehand (B.hint (buffer_of self.old)) (body_length header) ≡ true →
+            prelude.is_made_beforehand (B.hint (buffer_of self.old)) (length_after header) ≡ true →
             IfErr result (λ e. kind_of e ≡ ErrorKind.OutOfMemory →
-            words.LeavesAllOrRest (B.source (buffer_of self.old)) (body_length header)
+            prelude.LeavesAllOrRest (B.source (buffer_of self.old)) (length_after header)
             (B.source (buffer_of self.new))) }
         ensures spent { IsTrue (B.source (buffer_of self.old)).told →
             IsTrue (B.source (buffer_of self.old)).whole →
             IfErr result (λ e. kind_of e ≡ ErrorKind.OutOfMemory →
             (B.source (buffer_of self.new)).left
-            ≡ drop (body_length header) (B.source (buffer_of self.old)).left) }
+            ≡ drop (length_after header) (B.source (buffer_of self.old)).left) }
         ensures call { Call B.source E.order (GivesFrameAfter V.gives header)
             self.old (error_kinds result) self.new }
     {
         match read_after(&mut self.reader, header, ByVisitor { visitor }, &mut ()) {
             Ok(output) => Ok(output),
-            Err(refusal) => Err(self.reader.answer(refusal)),
+            Err(refusal) => Err(self.reader.error_of(refusal)),
         }
     }
 
@@ -422,7 +422,7 @@ impl<'p, B: ParseBuf<'p>, E: Endian> Parser<B, E> {
         // A header that is missing, or whose size does not include it, is refused before any memory
         // is needed.
         ensures small { IsTrue (B.source (buffer_of self.old)).told →
-            words.RefusesHeader (E.order (words.endian_of (words.config_of self.old)))
+            prelude.RefusesHeader (E.order (prelude.endian_of (prelude.config_of self.old)))
             (B.source (buffer_of self.old)).left (error_kinds result) }
         ensures call { Call B.source E.order (GivesFrame V.gives)
             self.old (error_kinds result) self.new }
@@ -446,54 +446,54 @@ impl<'p, B: ParseBuf<'p>, E: Endian> Parser<B, E> {
     /// That parser has the same configuration, in which `misc` stays what it was, and has made no
     /// reads. A record that is too short for its sample id is `InvalidRecord`, and exactly its
     /// frame is taken. After a fault, or out of memory (for the frame, or for the duplicate of the
-    /// order), a beginning of it is taken.
+    /// order), a prefix of it is taken.
     #[inline]
     pub fn parse_metadata_with_header(
         &mut self,
         header: perf_event_header,
     ) -> ParseResult<(Parser<ParseBufCursor<'p>, E>, RecordMetadata)>
         ensures within { IsTrue (B.source (buffer_of self.old)).told →
-            words.MovesWithin (B.source (buffer_of self.old)) (body_length header)
+            prelude.MovesWithin (B.source (buffer_of self.old)) (length_after header)
             (B.source (buffer_of self.new)) }
         ensures inner { IfOk result (λ r.
             (configuration_of (config_of r.0) ≡ configuration_of (config_of self.old))
             × (E.order (endian_of (config_of r.0)) ≡ E.order (endian_of (config_of self.old)))
             × (reads_of r.0 ≡ 0)) }
         ensures whole { IsTrue (B.source (buffer_of self.old)).whole →
-            IfOk result (λ r. IsTrue (words.cursor_is_borrowed (buffer_of r.0))) }
+            IfOk result (λ r. IsTrue (prelude.cursor_is_borrowed (buffer_of r.0))) }
         ensures whole_memory { IsTrue (B.source (buffer_of self.old)).whole →
             E.may_refuse (endian_of (config_of self.old)) ≡ false →
-            TakesNoMemory (error_kinds result) }
+            NeedsNoMemory (error_kinds result) }
 
         // A size that does not include the header is refused before anything else.
         ensures small { header.size < 8 → (error_kinds result ≡ Err ErrorKind.InvalidRecord)
             × (B.source (buffer_of self.new) ≡ B.source (buffer_of self.old)) }
         ensures small_why { header.size < 8 →
-            IfErr result (λ e. words.IsAnswerOf e words.SmallHeader) }
+            IfErr result (λ e. prelude.IsErrorOf e prelude.SmallHeader) }
 
         // With any other size it is an invalid record only if it is too short for its sample id.
         ensures id_why { IsTrue (B.source (buffer_of self.old)).told → 8 ≤ header.size →
             IfErr result (λ e. kind_of e ≡ ErrorKind.InvalidRecord →
-            words.IsAnswerOf e words.NoRoomForId) }
+            prelude.IsErrorOf e prelude.NoRoomForId) }
 
         // Memory is taken by the rules of a cut, and for the duplicate of the order.
-        ensures nothing { body_length header ≡ 0 →
+        ensures nothing { length_after header ≡ 0 →
             E.may_refuse (endian_of (config_of self.old)) ≡ false →
-            TakesNoMemory (error_kinds result) }
-        ensures short { words.falls_short (B.hint (buffer_of self.old))
-            (body_length header) ≡ true →
-            TakesNoMemory (error_kinds result) × IfOk result (λ parts. ⊥) }
+            NeedsNoMemory (error_kinds result) }
+        ensures short { prelude.falls_short (B.hint (buffer_of self.old))
+            (length_after header) ≡ true →
+            NeedsNoMemory (error_kinds result) × IfOk result (λ parts. ⊥) }
         ensures beforehand { IsTrue (B.source (buffer_of self.old)).told →
-            words.is_made_beforehand (B.hint (buffer_of self.old)) (body_length header) ≡ true →
+            prelude.is_made_beforehand (B.hint (buffer_of self.old)) (length_after header) ≡ true →
             IfErr result (λ e. kind_of e ≡ ErrorKind.OutOfMemory →
-            words.LeavesAllOrRest (B.source (buffer_of self.old)) (body_length header)
+            prelude.LeavesAllOrRest (B.source (buffer_of self.old)) (length_after header)
             (B.source (buffer_of self.new))) }
         ensures call { Call B.source E.order (SplitsParser header)
             self.old (error_kinds result) self.new }
     {
         let (body, metadata) = match split(&mut self.reader, header) {
             Ok(parts) => parts,
-            Err(refusal) => return Err(self.reader.answer(refusal)),
+            Err(refusal) => return Err(self.reader.error_of(refusal)),
         };
         match self.config().duplicate() {
             Ok(config) => Ok((Parser::new(self.reader.alloc(), body, config), metadata)),
@@ -509,16 +509,16 @@ impl<'p, B: ParseBuf<'p>, E: Endian> Parser<B, E> {
             × (E.order (endian_of (config_of r.0)) ≡ E.order (endian_of (config_of self.old)))
             × (reads_of r.0 ≡ 0)) }
         ensures whole { IsTrue (B.source (buffer_of self.old)).whole →
-            IfOk result (λ r. IsTrue (words.cursor_is_borrowed (buffer_of r.0))) }
+            IfOk result (λ r. IsTrue (prelude.cursor_is_borrowed (buffer_of r.0))) }
         ensures whole_memory { IsTrue (B.source (buffer_of self.old)).told →
             IsTrue (B.source (buffer_of self.old)).whole →
             E.may_refuse (endian_of (config_of self.old)) ≡ false →
-            TakesNoMemory (error_kinds result) }
+            NeedsNoMemory (error_kinds result) }
 
         // A header that is missing, or whose size does not include it, is refused before any memory
         // is needed.
         ensures small { IsTrue (B.source (buffer_of self.old)).told →
-            words.RefusesHeader (E.order (endian_of (config_of self.old)))
+            prelude.RefusesHeader (E.order (endian_of (config_of self.old)))
             (B.source (buffer_of self.old)).left (error_kinds result) }
         ensures call { Call B.source E.order SplitsFrame self.old (error_kinds result) self.new }
     {
@@ -545,16 +545,16 @@ impl<'p, B: ParseBuf<'p> + Drop, E: Endian> Parser<B, E> {
 
         // The attribute is the layout of the first bytes, and takes as many as its size says.
         ensures read { let start = state_of B.source E.order self in
-            IsTrue start.source.told → IfOk result (λ after. (attr : words.perf_event_attr)
-            × (words.took_by_places start.order words.attribute start.source.left start.reads
-            ≡ words.took attr (B.source (buffer_of after)).left (reads_of after))
+            IsTrue start.source.told → IfOk result (λ after. (attr : prelude.perf_event_attr)
+            × (prelude.took_by_places start.order prelude.attribute start.source.left start.reads
+            ≡ prelude.took attr (B.source (buffer_of after)).left (reads_of after))
             × ((B.source (buffer_of after)).left ≡ drop attr.size start.source.left)
-            × (configuration_of (config_of after) ≡ words.configured_by attr)) }
+            × (configuration_of (config_of after) ≡ prelude.configured_by attr)) }
 
         // It fails as that layout does, or by a fault of the buffer, or out of memory for the order.
         ensures refused { let start = state_of B.source E.order self in
-            IsTrue start.source.told → IfErr result (λ e. IsTrue (words.of_layout (kind_of e)) →
-            words.layout start.order words.attribute start.source.left ≡ Err (kind_of e)) }
+            IsTrue start.source.told → IfErr result (λ e. IsTrue (prelude.of_layout (kind_of e)) →
+            prelude.layout start.order prelude.attribute start.source.left ≡ Err (kind_of e)) }
         ensures fault { IfErr result (λ e. kind_of e ≡ ErrorKind.External →
             IsTrue (B.source (buffer_of self)).can_fault) }
         ensures memory { IsTrue (B.source (buffer_of self)).told → IfErr result (λ e.
@@ -562,9 +562,9 @@ impl<'p, B: ParseBuf<'p> + Drop, E: Endian> Parser<B, E> {
             IsTrue (E.may_refuse (endian_of (config_of self)))) }
 
         // What was kept since any earlier state is kept.
-        ensures keeps { (start : words.ReaderState) →
-            words.Keeps start None (state_of B.source E.order self) →
-            IfOk result (λ after. words.Keeps start None (state_of B.source E.order after)) }
+        ensures keeps { (start : prelude.ReaderState) →
+            prelude.Keeps start None (state_of B.source E.order self) →
+            IfOk result (λ after. prelude.Keeps start None (state_of B.source E.order after)) }
     {
         let attr = match self.parse::<perf_event_attr>() {
             Ok(attr) => attr,

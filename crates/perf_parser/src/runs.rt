@@ -7,7 +7,7 @@ ghost use Rattle.std.specs.Prelude.{IsTrue, IfErr, OnOk, OnErr};
 ghost use Rattle.perf_parser.specs.Prelude.{buffer_of, config_of, reads_of, state_of};
 ghost use Rattle.perf_parser.specs.Runs as runs;
 ghost use Rattle.perf_parser.specs.Steps as steps;
-ghost use Rattle.perf_reader.specs.Prelude as low;
+ghost use Rattle.perf_reader.specs.Prelude as prelude;
 
 use crate::parser::Parser;
 use crate::steps::{Step, run_steps};
@@ -82,11 +82,11 @@ fn list_refused<'p, B: ParseBuf<'p>, E: Endian>(
     ensures listed { OnOk result (steps.ListsRefused header refusal
         frames.old.items frames.new.items) }
     ensures stops { IfErr result (λ e. (e ≡ refusal)
-        × (IsTrue (low.of_layout (low.refusal_kind refusal)) → ⊥)) }
+        × (IsTrue (prelude.of_layout (prelude.refusal_kind refusal)) → ⊥)) }
     ensures kept { OnErr result (frames.new.items ≡ frames.old.items) }
-    ensures buf { low.buffer_of reader.new ≡ low.buffer_of reader.old }
-    ensures config { low.config_of reader.new ≡ low.config_of reader.old }
-    ensures reads { low.reads_of reader.new ≡ low.reads_of reader.old }
+    ensures buf { prelude.buffer_of reader.new ≡ prelude.buffer_of reader.old }
+    ensures config { prelude.config_of reader.new ≡ prelude.config_of reader.old }
+    ensures reads { prelude.reads_of reader.new ≡ prelude.reads_of reader.old }
 {
     if refusal == Refusal::Eof {
         list_short(frames, header);
@@ -98,7 +98,7 @@ fn list_refused<'p, B: ParseBuf<'p>, E: Endian>(
         | ErrorKind::InvalidRecord
         | ErrorKind::UnsupportedConfig
         | ErrorKind::UnsupportedData => {
-            let error = reader.answer(refusal);
+            let error = reader.error_of(refusal);
             frames.push_reserved((header, Err(error)));
             Ok(())
         }
@@ -232,13 +232,13 @@ fn make_room<'p, B: ParseBuf<'p>, E: Endian>(
 ) -> Result<(), Stop>
     ensures room { OnOk result (vec_len frames.new < vec_capacity frames.new) }
     ensures items { frames.new.items ≡ frames.old.items }
-    ensures bound { IsTrue (B.source (low.buffer_of reader.old)).told →
-        steps.MakesRoom (length (B.source (low.buffer_of reader.old)).left) (vec_len frames.old)
+    ensures bound { IsTrue (B.source (prelude.buffer_of reader.old)).told →
+        steps.MakesRoom (length (B.source (prelude.buffer_of reader.old)).left) (vec_len frames.old)
         (vec_capacity frames.old) (vec_capacity frames.new) }
-    ensures stop { IsTrue (B.source (low.buffer_of reader.old)).told → IfErr result (λ s.
-        steps.StopsAt (low.state_of (λ (o : Outer B). B.source o.buf) E.order reader.old) s
-        (low.state_of (λ (o : Outer B). B.source o.buf) E.order reader.new)) }
-    ensures call { low.Call (λ (o : Outer B). B.source o.buf) E.order steps.TakesNothing
+    ensures stop { IsTrue (B.source (prelude.buffer_of reader.old)).told → IfErr result (λ s.
+        steps.StopsAt (prelude.state_of (λ (o : Outer B). B.source o.buf) E.order reader.old) s
+        (prelude.state_of (λ (o : Outer B). B.source o.buf) E.order reader.new)) }
+    ensures call { prelude.Call (λ (o : Outer B). B.source o.buf) E.order steps.TakesNothing
         reader.old (steps.stop_kinds result) reader.new }
 {
     if frames.len() < frames.capacity() {
@@ -302,27 +302,27 @@ pub fn read_records<'p, B: ParseBuf<'p>, E: Endian>(
 
     // The list is the first answers of the bytes.
     ensures answers { let start = state_of B.source E.order parser.old in
-        IsTrue start.source.told → runs.listed result ≡ take (runs.listed_count result)
+        IsTrue start.source.told → runs.answers_in result ≡ take (runs.answer_count result)
         (runs.answers start.settings start.order start.source.left) }
 
-    ensures count { runs.listed_count result ≤ limit }
+    ensures count { runs.answer_count result ≤ limit }
 
     // How it ends, and what it leaves.
     ensures end { let start = state_of B.source E.order parser.old in
         IsTrue start.source.told → runs.EndsWith start.order limit start.source.left
-        (runs.listed_count result) result.end (B.source (buffer_of parser.new)).left }
+        (runs.answer_count result) result.end (B.source (buffer_of parser.new)).left }
 
     // Over a slice, a run that a failed allocation ended is between two frames: the failure costs
     // at most the answer of the next one, and the run after it begins at a frame.
     ensures between { let start = state_of B.source E.order parser.old in
         IsTrue start.source.told → IsTrue start.source.whole →
-        runs.EndsBetween start.order start.source.left (runs.listed_count result) result.end
+        runs.EndsBetween start.order start.source.left (runs.answer_count result) result.end
         (B.source (buffer_of parser.new)).left }
 
     // The number of elementary reads: those of the frames that it lists, and those of its end.
     ensures reads { let start = state_of B.source E.order parser.old in
         IsTrue start.source.told → runs.CountsReads start.settings start.order start.source.left
-        (runs.listed_count result) result.end start.reads (reads_of parser.new) }
+        (runs.answer_count result) result.end start.reads (reads_of parser.new) }
 
     // There are at most as many of them as bytes taken, and one more for each refused answer and
     // for an end before the limit.

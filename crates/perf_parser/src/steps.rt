@@ -2,7 +2,7 @@
 
 ghost use Rattle.std.specs.Prelude.{◌≡◌, true};
 ghost use Rattle.perf_parser.specs.Steps as steps;
-ghost use Rattle.perf_reader.specs.Prelude as low;
+ghost use Rattle.perf_reader.specs.Prelude as prelude;
 
 use crate::frame_runs::FrameRun;
 use crate::runs::RunEnd;
@@ -19,23 +19,23 @@ pub(crate) trait Step<'p, B: ParseBuf<'p>, E: Endian, S> {
 
     // Takes the next frame and returns whether the run goes on, or why it stops.
     fn step(&self, reader: &mut Reader<Outer<B>, E>, state: &mut S) -> Result<bool, Stop>
-        ensures config { low.config_of reader.new ≡ low.config_of reader.old }
+        ensures config { prelude.config_of reader.new ≡ prelude.config_of reader.old }
         ensures step { steps.TakesStep kind
-            (low.state_of (λ (o : Outer B). B.source o.buf) E.order reader.old) state.old result
-            (low.state_of (λ (o : Outer B). B.source o.buf) E.order reader.new) state.new };
+            (prelude.state_of (λ (o : Outer B). B.source o.buf) E.order reader.old) state.old result
+            (prelude.state_of (λ (o : Outer B). B.source o.buf) E.order reader.new) state.new };
 }
 
 // How a run ends that was stopped in this way.
 fn end_of<'p, B: ParseBuf<'p>, E: Endian>(reader: &mut Reader<Outer<B>, E>, stop: Stop) -> RunEnd
     ensures end { steps.IsEndOf stop result }
-    ensures buf { low.buffer_of reader.new ≡ low.buffer_of reader.old }
-    ensures config { low.config_of reader.new ≡ low.config_of reader.old }
-    ensures reads { low.reads_of reader.new ≡ low.reads_of reader.old }
+    ensures buf { prelude.buffer_of reader.new ≡ prelude.buffer_of reader.old }
+    ensures config { prelude.config_of reader.new ≡ prelude.config_of reader.old }
+    ensures reads { prelude.reads_of reader.new ≡ prelude.reads_of reader.old }
 {
     match stop {
         Stop::Done => RunEnd::Done,
         Stop::CutHeader => RunEnd::CutHeader,
-        Stop::Refused(refusal) => RunEnd::Fault(reader.answer(refusal)),
+        Stop::Refused(refusal) => RunEnd::Fault(reader.error_of(refusal)),
     }
 }
 
@@ -47,13 +47,13 @@ pub(crate) fn run_steps<'p, S, B: ParseBuf<'p>, E: Endian, T: Step<'p, B, E, S>>
     step: &T,
     state: &mut S,
 ) -> FrameRun
-    requires { T.kind.so_far (low.state_of (λ (o : Outer B). B.source o.buf) E.order reader.old)
+    requires { T.kind.so_far (prelude.state_of (λ (o : Outer B). B.source o.buf) E.order reader.old)
         state.old 0 true state.old }
-    ensures config { low.config_of reader.new ≡ low.config_of reader.old }
+    ensures config { prelude.config_of reader.new ≡ prelude.config_of reader.old }
     ensures run { steps.TakesSteps T.kind
-        (low.state_of (λ (o : Outer B). B.source o.buf) E.order reader.old) state.old limit
+        (prelude.state_of (λ (o : Outer B). B.source o.buf) E.order reader.old) state.old limit
         result.count result.end
-        (low.state_of (λ (o : Outer B). B.source o.buf) E.order reader.new) state.new }
+        (prelude.state_of (λ (o : Outer B). B.source o.buf) E.order reader.new) state.new }
 {
     for count in 0..limit {
         match step.step(reader, state) {

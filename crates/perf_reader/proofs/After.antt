@@ -4,10 +4,10 @@ use Rattle.std.specs.Prelude.{Result, Ok, Err, IsTrue, IfOk, IsErr}
 use Rattle.std.specs.Result.{IsErrAnd}
 use Rattle.perf_base.specs.Configuration.{Configuration}
 use Rattle.perf_base.specs.Configured.{configuration_of, endian_of}
-use Rattle.perf_base.specs.Layout.{Answer, Shape, padding, Parts, done, part, check, ◌>>=◌}
+use Rattle.perf_base.specs.Layout.{ShapeValue, Shape, padding, Parts, done, part, check, ◌>>=◌}
 use Rattle.perf_base.specs.Order.{Order}
 use Rattle.perf_base.specs.Took.{Took, took, quit, one_took, take_parts, took_by_places}
-use Rattle.perf_base.specs.Refusals.{TakesNoMemory}
+use Rattle.perf_base.specs.Refusals.{NeedsNoMemory}
 use Rattle.perf_base.specs.declared.error.ErrorKind.{ErrorKind}
 use Rattle.perf_base.proofs.Took.{places_took, then_take}
 use Rattle.perf_buffers.specs.Buffer.{Source}
@@ -29,7 +29,7 @@ take_after o (check true e p) f bytes n = take_after o p f bytes n
 take_after o (check false e p) f bytes n = refl
 take_after {A} {B} o (part shape k) f bytes n = go (λ v left m. take_after o (k v) f left m) (one_took o shape bytes n)
   where
-    go : ((v : Answer shape) (left : List ℕ) (m : ℕ) → take_parts o (k v >>= f) left m ≡ then_take (λ v left m. take_parts o (f v) left m) (take_parts o (k v) left m)) → (r : Took (Answer shape)) →
+    go : ((v : ShapeValue shape) (left : List ℕ) (m : ℕ) → take_parts o (k v >>= f) left m ≡ then_take (λ v left m. take_parts o (f v) left m) (take_parts o (k v) left m)) → (r : Took (ShapeValue shape)) →
         ◌≡◌ {A = Took B} (elim r [ took v left m ↦ take_parts o (k v >>= f) left m | quit e left m ↦ quit e left m ])
         (then_take (λ v left m. take_parts o (f v) left m) (elim r as (λ r. Took A) [ took v left m ↦ take_parts o (k v) left m | quit e left m ↦ quit e left m ]))
     go again (took v left m) = again v left m
@@ -97,7 +97,7 @@ module _ {I E : Type 0} {source : I → Source} {order : E → Order} where
       }
 
   -- a part that was read, and the parts that follow from its value
-  pub part_after : {X Y B : Type 0} {show : Y → B} {a b c : Reader I E} {x : X} {outcome : Result Y ErrorKind} (shape : Shape) (view : X → Answer shape) (k : Configuration → Answer shape → Parts B) →
+  pub part_after : {X Y B : Type 0} {show : Y → B} {a b c : Reader I E} {x : X} {outcome : Result Y ErrorKind} (shape : Shape) (view : X → ShapeValue shape) (k : Configuration → ShapeValue shape → Parts B) →
       Call source order (ReadsOne shape view) a (Ok x) b → Call source order (Reads (λ s. k s (view x)) show) b outcome c → Call source order (Reads (λ s. part shape (k s)) show) a outcome c
   part_after {X} {Y} {B} {show} {a} {b} {c} {x} {outcome} shape view k first next =
       call_after {view = view} {show = show} {x = x} (λ _. part shape done) k (record {
@@ -111,7 +111,7 @@ module _ {I E : Type 0} {source : I → Source} {order : E → Order} where
       }) next
 
   -- one that was refused
-  pub part_stops : {X Y B : Type 0} {show : Y → B} {a b : Reader I E} {e : ErrorKind} (shape : Shape) (view : X → Answer shape) (k : Configuration → Answer shape → Parts B) →
+  pub part_stops : {X Y B : Type 0} {show : Y → B} {a b : Reader I E} {e : ErrorKind} (shape : Shape) (view : X → ShapeValue shape) (k : Configuration → ShapeValue shape → Parts B) →
       Call source order (ReadsOne shape view) a (Err e) b → Call source order (Reads (λ s. part shape (k s)) show) a (Err e) b
   part_stops {X} {Y} {B} {show} {a} {b} {e} shape view k first =
       call_stops {view = view} {show = show} (λ _. part shape done) k (record {
@@ -126,7 +126,7 @@ module _ {I E : Type 0} {source : I → Source} {order : E → Order} where
 
   -- a call for which no memory is taken, and one of which that is not stated
   pub plain : {Y B : Type 0} {a b : Reader I E} {outcome : Result Y ErrorKind} (p : Configuration → Parts B) (show : Y → B) →
-      (IsTrue (source a.input).told → TakesNoMemory outcome) → Call source order (Reads p show) a outcome b → Call source order (ReadsPlain p show) a outcome b
+      (IsTrue (source a.input).told → NeedsNoMemory outcome) → Call source order (Reads p show) a outcome b → Call source order (ReadsPlain p show) a outcome b
   plain {Y} {B} {a} {b} {outcome} p show none call = record {
     config = call.config;
     whole = call.whole;
@@ -146,7 +146,7 @@ module _ {I E : Type 0} {source : I → Source} {order : E → Order} where
 
   -- a call that copies nothing from a whole buffer
   pub lent : {Y B : Type 0} {a b : Reader I E} {outcome : Result Y ErrorKind} (p : Configuration → Parts B) (show : Y → B) (borrowed : Y → Type 0) →
-      (IsTrue (source a.input).told → IsTrue (source a.input).whole → IfOk outcome borrowed × TakesNoMemory outcome) → Call source order (Reads p show) a outcome b →
+      (IsTrue (source a.input).told → IsTrue (source a.input).whole → IfOk outcome borrowed × NeedsNoMemory outcome) → Call source order (Reads p show) a outcome b →
       Call source order (ReadsInPlace p show borrowed) a outcome b
   lent {Y} {B} {a} {b} {outcome} p show borrowed lends call = record {
     config = call.config;

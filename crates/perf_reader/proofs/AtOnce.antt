@@ -3,7 +3,7 @@ use Rattle.std.proofs.Common.{◌≡◌, ℕ, ◌+◌, ◌-◌, ◌≤◌, List,
 use Rattle.std.proofs.lemmas.List.{drop-drop, take-take, drop-take}
 use Rattle.std.specs.Prelude.{Ok, IfSome, IsTrue}
 use Rattle.perf_base.specs.Configured.{endian_of}
-use Rattle.perf_base.specs.Layout.{Shape, Answer, Parts, part, number, w4, w8}
+use Rattle.perf_base.specs.Layout.{Shape, ShapeValue, Parts, part, number, w4, w8}
 use Rattle.perf_base.specs.Order.{Order}
 use Rattle.perf_base.specs.Took.{Took, took, quit, one_took, take_parts, took_by_places}
 use Rattle.perf_base.specs.declared.error.ErrorKind.{ErrorKind}
@@ -42,11 +42,11 @@ at_once_keeps start old new n k few p count stays moves = keeps_more start old n
 -- ---- the numbers
 
 -- one part, and then the others
-part_step : {A : Type 0} (o : Order) (shape : Shape) (k : Answer shape → Parts A) (bytes : List ℕ) (n : ℕ) →
+part_step : {A : Type 0} (o : Order) (shape : Shape) (k : ShapeValue shape → Parts A) (bytes : List ℕ) (n : ℕ) →
     take_parts o (part shape k) bytes n ≡ then_take (λ v left m. take_parts o (k v) left m) (one_took o shape bytes n)
 part_step {A} o shape k bytes n = go (one_took o shape bytes n)
   where
-    go : (r : Took (Answer shape)) → ◌≡◌ {A = Took A} (elim r [ took v left m ↦ take_parts o (k v) left m | quit e left m ↦ quit e left m ]) (then_take (λ v left m. take_parts o (k v) left m) r)
+    go : (r : Took (ShapeValue shape)) → ◌≡◌ {A = Took A} (elim r [ took v left m ↦ take_parts o (k v) left m | quit e left m ↦ quit e left m ]) (then_take (λ v left m. take_parts o (k v) left m) r)
     go (took v left m) = refl
     go (quit e left m) = refl
 

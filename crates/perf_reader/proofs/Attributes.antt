@@ -4,7 +4,7 @@ use Rattle.std.specs.Prelude.{Result, Ok, Err}
 use Rattle.perf_base.specs.Attribute.{attribute, zero_tail}
 use Rattle.perf_base.specs.Layout.{Parts, done, ◌>>=◌}
 use Rattle.perf_base.specs.Order.{Order}
-use Rattle.perf_base.specs.Run.{Ran, ran, stopped, judged}
+use Rattle.perf_base.specs.Run.{Ran, ran, stopped, run_by_spots}
 use Rattle.perf_base.specs.Took.{took, with_reads, took_by_places}
 use Rattle.perf_base.specs.declared.error.ErrorKind.{ErrorKind}
 use Rattle.perf_base.specs.declared.sys.perf_event_attr.{perf_event_attr}
@@ -12,7 +12,7 @@ use Rattle.perf_base.proofs.AttributeSizes.{ends}
 use Rattle.perf_base.proofs.Bridge.{bridge}
 use Rattle.perf_base.proofs.Tables.{run_layout}
 use Rattle.perf_buffers.specs.Buffer.{Source}
-use Rattle.perf_reader.specs.AttributeGroups.{front, event_fields, wakeup_fields, register_fields, aux_fields, last_fields, assembled}
+use Rattle.perf_reader.specs.AttributeGroups.{front, event_fields, wakeup_fields, register_fields, aux_fields, last_fields, attribute_of}
 use Rattle.perf_reader.specs.Calls.{Call}
 use Rattle.perf_reader.specs.Reading.{Reads}
 use Rattle.perf_reader.specs.declared.attribute.Front.{Front}
@@ -26,7 +26,7 @@ use Rattle.perf_reader.proofs.After.{call_after, call_stops, call_none}
 
 -- what follows each group
 abbrev after_last : Front → EventFields → WakeupFields → RegisterFields → AuxFields → LastFields → Parts perf_event_attr
-after_last f a b c d e = zero_tail (f.size - 136) >>= λ _. done (assembled f a b c d e)
+after_last f a b c d e = zero_tail (f.size - 136) >>= λ _. done (attribute_of f a b c d e)
 
 abbrev after_aux : Front → EventFields → WakeupFields → RegisterFields → AuxFields → Parts perf_event_attr
 after_aux f a b c d = last_fields f.size >>= after_last f a b c d
@@ -47,7 +47,7 @@ after_front f = event_fields >>= after_event f
 pub takes_its_size : (o : Order) (bytes left : List ℕ) (n m : ℕ) (a : perf_event_attr) → took_by_places o attribute bytes n ≡ took a left m → left ≡ drop a.size bytes
 unfolding took_by_places
 takes_its_size o bytes left n m a h =
-    let run = go (judged o bytes 0 attribute) _ h in
+    let run = go (run_by_spots o bytes 0 attribute) _ h in
     let read = run_layout o attribute bytes a left (bridge o bytes 0 attribute (omega arith) ∙ run) in
     sym read.1 ∙ ap (λ k. drop k bytes) (ends o bytes a read.0)
   where
@@ -82,7 +82,7 @@ module _ {I E : Type 0} {source : I → Source} {order : E → Order} where
     pub tail_stops : (f : Front) (v : EventFields) (w : WakeupFields) (r : RegisterFields) (x : AuxFields) (y : LastFields) (n : ℕ) → n ≡ f.size - 136 →
         Call source order (Reads (λ _. zero_tail n) (λ (_ : Unit {0}). tt)) a (Err e) b → Made source order (after_last f v w r x y) a (Err e) b
     tail_stops f v w r x y n same call =
-        call_stops (λ _. zero_tail (f.size - 136)) (λ _ _. done (assembled f v w r x y))
+        call_stops (λ _. zero_tail (f.size - 136)) (λ _ _. done (attribute_of f v w r x y))
         (subst (λ k. Call source order (Reads (λ _. zero_tail k) (λ (_ : Unit {0}). tt)) a (Err e) b) same call)
 
   module _ {a b c : Reader I E} {outcome : Result perf_event_attr ErrorKind} where
@@ -108,7 +108,7 @@ module _ {I E : Type 0} {source : I → Source} {order : E → Order} where
     last_read f v w r x y = call_after (λ _. last_fields f.size) (λ _. after_last f v w r x)
 
   pub tail_read : {a b : Reader I E} {u : Unit {0}} (f : Front) (v : EventFields) (w : WakeupFields) (r : RegisterFields) (x : AuxFields) (y : LastFields) (n : ℕ) → n ≡ f.size - 136 →
-      Call source order (Reads (λ _. zero_tail n) (λ (_ : Unit {0}). tt)) a (Ok u) b → Made source order (after_last f v w r x y) a (Ok (assembled f v w r x y)) b
+      Call source order (Reads (λ _. zero_tail n) (λ (_ : Unit {0}). tt)) a (Ok u) b → Made source order (after_last f v w r x y) a (Ok (attribute_of f v w r x y)) b
   tail_read {a} {b} {u} f v w r x y n same call =
-      call_after (λ _. zero_tail (f.size - 136)) (λ _ _. done (assembled f v w r x y))
+      call_after (λ _. zero_tail (f.size - 136)) (λ _ _. done (attribute_of f v w r x y))
       (subst (λ k. Call source order (Reads (λ _. zero_tail k) (λ (_ : Unit {0}). tt)) a (Ok u) b) same call) (call_none {show = λ v. v})

@@ -4,7 +4,7 @@ use Rattle.std.proofs.lemmas.List.{drop-drop, take-take, drop-take}
 use Rattle.std.specs.Prelude.{IsTrue}
 use Rattle.perf_base.specs.Header.{header, header_of}
 use Rattle.perf_base.specs.FieldWords.{u16}
-use Rattle.perf_base.specs.Layout.{Shape, Answer, Parts, part, done, ◌>>=◌, number, w2, w4}
+use Rattle.perf_base.specs.Layout.{Shape, ShapeValue, Parts, part, done, ◌>>=◌, number, w2, w4}
 use Rattle.perf_base.specs.Order.{Order}
 use Rattle.perf_base.specs.Took.{Took, took, quit, one_took, take_parts, took_by_places}
 use Rattle.perf_base.specs.declared.error.ErrorKind.{ErrorKind}
@@ -18,11 +18,11 @@ use Rattle.perf_reader.specs.Reading.{of_layout, Keeps}
 use Rattle.perf_reader.proofs.Paying.{keeps_more, place_after}
 
 -- one part, and then the others
-take_step : {A : Type 0} (o : Order) (shape : Shape) (k : Answer shape → Parts A) (bytes : List ℕ) (n : ℕ) →
+take_step : {A : Type 0} (o : Order) (shape : Shape) (k : ShapeValue shape → Parts A) (bytes : List ℕ) (n : ℕ) →
     take_parts o (part shape k) bytes n ≡ then_take (λ v left m. take_parts o (k v) left m) (one_took o shape bytes n)
 take_step {A} o shape k bytes n = go (one_took o shape bytes n)
   where
-    go : (r : Took (Answer shape)) → ◌≡◌ {A = Took A} (elim r [ took v left m ↦ take_parts o (k v) left m | quit e left m ↦ quit e left m ]) (then_take (λ v left m. take_parts o (k v) left m) r)
+    go : (r : Took (ShapeValue shape)) → ◌≡◌ {A = Took A} (elim r [ took v left m ↦ take_parts o (k v) left m | quit e left m ↦ quit e left m ]) (then_take (λ v left m. take_parts o (k v) left m) r)
     go (took v left m) = refl
     go (quit e left m) = refl
 

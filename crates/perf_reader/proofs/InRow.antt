@@ -4,7 +4,7 @@ use Rattle.std.proofs.lemmas.Bool.{cases_lt}
 use Rattle.std.proofs.lemmas.List.{drop-drop, take_at, drop_at, length-take-le}
 use Rattle.std.proofs.Math.Seq.{take-add}
 use Rattle.std.specs.Prelude.{None, Some}
-use Rattle.perf_base.specs.Layout.{Shape, number, words, w8, Answer, answer_of, words_of, size}
+use Rattle.perf_base.specs.Layout.{Shape, number, words, w8, ShapeValue, shape_value, words_of, size}
 use Rattle.perf_base.specs.Configured.{endian_of}
 use Rattle.perf_base.specs.Order.{Order}
 use Rattle.perf_base.specs.LayoutReads.{reads_of}
@@ -20,17 +20,17 @@ use Rattle.perf_reader.specs.Reading.{ReadsOne, Keeps}
 use Rattle.perf_reader.specs.declared.reader.Reader.{Reader}
 
 -- what follows from a part that was read, and from one that was not
-record Stood (o : Order) (shape : Shape) (bytes : List ℕ) (n : ℕ) (v : Answer shape) (left : List ℕ) (m : ℕ) : Type 0 where
+record Stood (o : Order) (shape : Shape) (bytes : List ℕ) (n : ℕ) (v : ShapeValue shape) (left : List ℕ) (m : ℕ) : Type 0 where
   fits : size shape (length bytes) ≤ length bytes
-  value_is : v ≡ answer_of o shape (take (size shape (length bytes)) bytes)
+  value_is : v ≡ shape_value o shape (take (size shape (length bytes)) bytes)
   left_is : left ≡ drop (size shape (length bytes)) bytes
   reads_are : m ≡ n + reads_of shape (size shape (length bytes))
 
-stood : (o : Order) (shape : Shape) (bytes : List ℕ) (n : ℕ) (v : Answer shape) (left : List ℕ) (m : ℕ) → one_took o shape bytes n ≡ took v left m → Stood o shape bytes n v left m
+stood : (o : Order) (shape : Shape) (bytes : List ℕ) (n : ℕ) (v : ShapeValue shape) (left : List ℕ) (m : ℕ) → one_took o shape bytes n ≡ took v left m → Stood o shape bytes n v left m
 stood o shape bytes n v left m e = elim (cases_lt (length bytes) (size shape (length bytes))) [
   | inl short ↦ absurd (cc (took_no o shape bytes n short))
   | inr fits ↦
-      let both : took (answer_of o shape (take (size shape (length bytes)) bytes)) (drop (size shape (length bytes)) bytes) (n + reads_of shape (size shape (length bytes))) ≡ took v left m = sym (took_yes o shape bytes n fits) ∙ e in
+      let both : took (shape_value o shape (take (size shape (length bytes)) bytes)) (drop (size shape (length bytes)) bytes) (n + reads_of shape (size shape (length bytes))) ≡ took v left m = sym (took_yes o shape bytes n fits) ∙ e in
       record { fits = fits; value_is = cc; left_is = cc; reads_are = cc }
 ]
 

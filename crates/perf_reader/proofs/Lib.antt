@@ -1,5 +1,6 @@
 pub mod AtOnce
 pub mod InRow
+pub mod Lacking
 pub mod AtHand
 pub mod HeaderAtOnce
 pub mod Stopping

@@ -4,7 +4,7 @@ use Rattle.std.specs.Prelude.{Result, Ok, Err, Option, Some, None}
 use Rattle.perf_base.specs.Configured.{endian_of}
 use Rattle.perf_base.specs.Layout.{Width, number, optional, byte_string, bytes_in, number_of}
 use Rattle.perf_base.specs.Order.{Order}
-use Rattle.perf_base.specs.Refusals.{TakesNoMemory}
+use Rattle.perf_base.specs.Refusals.{NeedsNoMemory}
 use Rattle.perf_base.specs.Took.{took}
 use Rattle.perf_base.specs.declared.error.ErrorKind.{ErrorKind}
 use Rattle.perf_base.proofs.Took.{then_take}
@@ -50,7 +50,7 @@ module _ {I E : Type 0} {source : I → Source} {order : E → Order} where
       }
 
   -- a number for which no memory was taken
-  pub number_told : {a b : Reader I E} {outcome : Result ℕ ErrorKind} (w : Width) → TakesNoMemory outcome →
+  pub number_told : {a b : Reader I E} {outcome : Result ℕ ErrorKind} (w : Width) → NeedsNoMemory outcome →
       Call {X = ℕ} source order (ReadsOne (number w) (λ n. n)) a outcome b → Call source order (ReadsNumber w) a outcome b
   number_told {a} {b} {outcome} w none first = record {
     config = first.config;

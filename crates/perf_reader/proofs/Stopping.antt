@@ -16,7 +16,7 @@ use Rattle.perf_buffers.specs.Buffer.{Source, Refuses}
 use Rattle.perf_buffers.specs.Taking.{MovesWithin, Takes}
 use Rattle.perf_buffers.proofs.Taking.{moves_more}
 use Rattle.perf_reader.specs.Calls.{Call}
-use Rattle.perf_reader.specs.Headers.{frame_length, LeavesWithin, ReadsHeader, ReadsShownHeader, StopsAt}
+use Rattle.perf_reader.specs.Headers.{frame_length, MovesWithinFrame, ReadsHeader, ReadsShownHeader, StopsAt}
 use Rattle.perf_reader.specs.ReaderState.{ReaderState, state_of}
 use Rattle.perf_reader.specs.Reading.{of_layout, last_of}
 use Rattle.perf_reader.specs.declared.header.Stop.{Stop}
@@ -66,7 +66,7 @@ within_more a b c n k p q =
     (omega arith, moves_more a b c first.1 q.1)
 
 -- a beginning of the next frame
-pub leaves : (o : Order) (old new : Source) (n : ℕ) → n ≤ frame_length o old.left → MovesWithin old n new → LeavesWithin o old.left new.left
+pub leaves : (o : Order) (old new : Source) (n : ℕ) → n ≤ frame_length o old.left → MovesWithin old n new → MovesWithinFrame o old.left new.left
 leaves o old new n h p = (p.1.0, omega arith, last_moved old new p.1)
 
 -- a kind of the layout, or another
@@ -140,7 +140,7 @@ module _ (old mid new : ReaderState) (settings : mid.settings ≡ old.settings) 
   looked_stops stop.Done p = (sym left ∙ p.0, p.1, omega (arith, p.2, reads))
   looked_stops stop.CutHeader p =
       let long : length mid.source.left ≡ length old.source.left = ap length left in (omega (arith, p.0, long), omega (arith, p.1, long), p.2, omega (arith, p.3, reads))
-  looked_stops (stop.Refused r) p = (p.0, subst (λ o. LeavesWithin o old.source.left new.source.left) order (subst (λ xs. LeavesWithin mid.order xs new.source.left) left p.1))
+  looked_stops (stop.Refused r) p = (p.0, subst (λ o. MovesWithinFrame o old.source.left new.source.left) order (subst (λ xs. MovesWithinFrame mid.order xs new.source.left) left p.1))
 
   -- which header it reads
   pub looked_header : (outcome : Result perf_event_header ErrorKind) → ReadsHeader mid outcome new → ReadsHeader old outcome new

@@ -6,7 +6,7 @@ use Rattle.perf_base.specs.Table.{present_if, slot, table}
 use Rattle.perf_base.specs.Took.{Took, took, quit, take_parts, took_by_places}
 use Rattle.perf_base.proofs.Took.{places_took, then_take}
 use Rattle.perf_reader.proofs.After.{take_after}
-use Rattle.perf_reader.specs.TableRuns.{field_took, before, table_took, table_by_places, joined, ahead, groups_took, groups_by_places}
+use Rattle.perf_reader.specs.TableRuns.{field_took, before, table_took, table_by_places, join_groups, ahead, groups_took, groups_by_places}
 
 -- ---- one field
 pub field_there : {A : Type 0} (o : Order) (b : Bool) (p : Parts A) (bytes : List ℕ) (n : ℕ) → b ≡ true →
@@ -78,22 +78,22 @@ took_append {A} o (x ∷ xs) ys bytes n = go (λ left m. took_append o xs ys lef
     go again (took v left m) = ap (before v) (again left m) ∙ all v (table_took o xs left m)
     go again (quit e left m) = refl
 
-took_groups : {A : Type 0} (o : Order) (groups : List (List (Option (Parts A)))) (bytes : List ℕ) (n : ℕ) → table_took o (joined groups) bytes n ≡ groups_took o groups bytes n
+took_groups : {A : Type 0} (o : Order) (groups : List (List (Option (Parts A)))) (bytes : List ℕ) (n : ℕ) → table_took o (join_groups groups) bytes n ≡ groups_took o groups bytes n
 took_groups o [] bytes n = refl
 took_groups {A} o (fields ∷ groups) bytes n =
-    took_append o fields (joined groups) bytes n
-    ∙ ap (then_take (λ vs left m. ahead vs (table_took o (joined groups) left m))) (sym (places_table o fields bytes n))
+    took_append o fields (join_groups groups) bytes n
+    ∙ ap (then_take (λ vs left m. ahead vs (table_took o (join_groups groups) left m))) (sym (places_table o fields bytes n))
     ∙ go (λ left m. took_groups o groups left m) (table_by_places o fields bytes n)
   where
-    go : ((left : List ℕ) (m : ℕ) → table_took o (joined groups) left m ≡ groups_took o groups left m) → (r : Took (List (Option A))) →
-        ◌≡◌ {A = Took (List (Option A))} (then_take (λ vs left m. ahead vs (table_took o (joined groups) left m)) r)
+    go : ((left : List ℕ) (m : ℕ) → table_took o (join_groups groups) left m ≡ groups_took o groups left m) → (r : Took (List (Option A))) →
+        ◌≡◌ {A = Took (List (Option A))} (then_take (λ vs left m. ahead vs (table_took o (join_groups groups) left m)) r)
         (elim r [ took vs left m ↦ ahead vs (groups_took o groups left m) | quit e left m ↦ quit e left m ])
     go again (took vs left m) = ap (ahead vs) (again left m)
     go again (quit e left m) = refl
 
 pub places_groups : {A : Type 0} (o : Order) (groups : List (List (Option (Parts A)))) (body : List ℕ) (n : ℕ) → groups_by_places o groups body n ≡ groups_took o groups body n
 unfolding groups_by_places
-places_groups o groups body n = places_took o (table (joined groups)) body n ∙ take_table o (joined groups) body n ∙ took_groups o groups body n
+places_groups o groups body n = places_took o (table (join_groups groups)) body n ∙ take_table o (join_groups groups) body n ∙ took_groups o groups body n
 
 -- what reading a table, or groups of one, needs
 pub ruleset fields_in_row = (places_table, places_groups)

@@ -90,9 +90,9 @@ last_fields size = do
   done (record { sig_data = or_zero sig_data; config3 = or_zero config3 })
 
 -- the attribute of these fields
-abbrev pub assembled : Front → EventFields → WakeupFields → RegisterFields → AuxFields →
+abbrev pub attribute_of : Front → EventFields → WakeupFields → RegisterFields → AuxFields →
     LastFields → perf_event_attr
-assembled f a b c d e = record {
+attribute_of f a b c d e = record {
   type_ = f.type_;
   size = f.size;
   config = a.config;

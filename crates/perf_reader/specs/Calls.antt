@@ -1,7 +1,7 @@
 -- A call of a reader, in one clause: what it returns, and what every call keeps.
 use Rattle.std.specs.Prelude.{Result, ◌≡◌, IsTrue, None}
 use Rattle.perf_base.specs.Order.{Order}
-use Rattle.perf_base.specs.Refusals.{refused}
+use Rattle.perf_base.specs.Refusals.{kind_if_refused}
 use Rattle.perf_base.specs.declared.error.ErrorKind.{ErrorKind}
 use Rattle.perf_buffers.specs.Buffer.{Source}
 use Rattle.perf_reader.specs.ReaderState.{ReaderState, input_of, config_of, state_of}
@@ -21,4 +21,4 @@ module _ {I E X : Type 0} (source : I → Source) (order : E → Order) (transit
         transition (state_of source order old) outcome (state_of source order new)
     -- what was kept since any moment before is kept
     pub keeps : (start : ReaderState) → Keeps start None (state_of source order old) →
-        Keeps start (refused outcome) (state_of source order new)
+        Keeps start (kind_if_refused outcome) (state_of source order new)

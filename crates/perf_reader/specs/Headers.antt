@@ -20,13 +20,13 @@ use Rattle.perf_reader.specs.declared.header.Stop.TheVariants as stop
 abbrev pub frame_length : Order → List ℕ → ℕ
 frame_length o bytes = max 8 (header_of o bytes).size
 
--- the bytes of the next frame, or of a cut header
+-- the length of what is left of the next frame, or of a header that is cut short
 abbrev pub next_length : Order → List ℕ → ℕ
 next_length o bytes = min (frame_length o bytes) (length bytes)
 
--- what is left is what there was, except a beginning of the next frame
-abbrev pub LeavesWithin : Order → List ℕ → List ℕ → Type 0
-LeavesWithin o bytes left =
+-- a prefix of the next frame was taken
+abbrev pub MovesWithinFrame : Order → List ℕ → List ℕ → Type 0
+MovesWithinFrame o bytes left =
     (length left ≤ length bytes) × (length bytes ≤ length left + next_length o bytes)
     × (left ≡ last_of (length left) bytes)
 
@@ -52,7 +52,8 @@ ReadsShownHeader old (Err e) new =
 
 -- ---- if there is none
 
--- a header by its bytes, or by the kind of what stops a run there: the end, if bytes are missing
+-- The kind of what stops a run where it has no header: the end, if nothing is left or the header is
+-- cut short.
 abbrev pub stop_kind : Stop → ErrorKind
 stop_kind stop.Done = Eof
 stop_kind stop.CutHeader = Eof
@@ -73,4 +74,4 @@ StopsAt old stop.CutHeader new =
     × (new.reads ≡ old.reads + 2)
 StopsAt old (stop.Refused r) new =
     (IsTrue (of_layout (refusal_kind r)) → ⊥)
-    × LeavesWithin old.order old.source.left new.source.left
+    × MovesWithinFrame old.order old.source.left new.source.left

@@ -4,7 +4,7 @@ pub mod TableRuns
 pub mod BranchEntry
 pub mod AtOnce
 pub mod Calls
-pub mod Frames
+pub mod NextFrame
 pub mod Headers
 pub mod Room
 pub mod Prelude

@@ -3,7 +3,7 @@ pub use Rattle.perf_base.specs.Cow.{cow_items, is_borrowed}
 pub use Rattle.perf_base.specs.Layout.{Parts, number, optional, byte_string, padding, rest, words, w1, w2}
 pub use Rattle.perf_base.specs.Layout.{w4, w8}
 pub use Rattle.perf_base.specs.LayoutReads.{one_if_any}
-pub use Rattle.perf_base.specs.Refusals.{kinds, error_kinds, refusal_kind, refused, TakesNoMemory}
+pub use Rattle.perf_base.specs.Refusals.{kinds, error_kinds, refusal_kind, kind_if_refused, NeedsNoMemory}
 pub use Rattle.perf_base.specs.declared.error.ErrorKind.TheVariants.{OutOfMemory}
 pub use Rattle.perf_buffers.specs.Buffer.{Stays, Refuses}
 pub use Rattle.perf_buffers.specs.Cursor.{cursor_left, cursor_is_borrowed, IsAtStart}

@@ -3,9 +3,9 @@
 use Rattle.std.specs.Prelude.{Option, Result, Ok, Err, Some, None, Bool, true, false, IsTrue, IfOk}
 use Rattle.std.specs.Prelude.{◌≡◌, ℕ, ◌+◌, ◌-◌, ◌≤◌, List, length, drop}
 use Rattle.perf_base.specs.Configuration.{Configuration}
-use Rattle.perf_base.specs.Layout.{Width, Shape, number, Answer, Parts}
+use Rattle.perf_base.specs.Layout.{Width, Shape, number, ShapeValue, Parts}
 pub use Rattle.perf_base.specs.LayoutReads.{one_if_refused}
-use Rattle.perf_base.specs.Refusals.{TakesNoMemory}
+use Rattle.perf_base.specs.Refusals.{NeedsNoMemory}
 use Rattle.perf_base.specs.Took.{Took, took, quit, one_took, took_by_places}
 use Rattle.perf_base.specs.declared.error.ErrorKind.{ErrorKind}
 use Rattle.perf_base.specs.declared.error.ErrorKind.TheVariants.{Eof, InvalidRecord}
@@ -42,22 +42,22 @@ Reads parts view old outcome new =
 
 -- the same, for which no memory is taken
 abbrev pub ReadsPlain : {X A : Type 0} → (Configuration → Parts A) → (X → A) → Transition X
-ReadsPlain parts view old outcome new = Reads parts view old outcome new × TakesNoMemory outcome
+ReadsPlain parts view old outcome new = Reads parts view old outcome new × NeedsNoMemory outcome
 
 -- the same, if no byte is copied from a whole buffer, so that no memory is taken there
 abbrev pub ReadsInPlace : {X A : Type 0} → (Configuration → Parts A) → (X → A) → (X → Type 0) → Transition X
 ReadsInPlace parts view borrowed old outcome new =
     Reads parts view old outcome new
-    × (IsTrue old.source.whole → IfOk outcome borrowed × TakesNoMemory outcome)
+    × (IsTrue old.source.whole → IfOk outcome borrowed × NeedsNoMemory outcome)
 
 -- the same of a single part
-abbrev pub ReadsOne : {X : Type 0} → (shape : Shape) → (X → Answer shape) → Transition X
+abbrev pub ReadsOne : {X : Type 0} → (shape : Shape) → (X → ShapeValue shape) → Transition X
 ReadsOne shape view old outcome new =
     AnswersRun view (one_took old.order shape old.source.left old.reads) outcome new
 
 -- the same of a number, for which no memory is taken
 abbrev pub ReadsNumber : Width → Transition ℕ
-ReadsNumber w old outcome new = ReadsOne (number w) (λ n. n) old outcome new × TakesNoMemory outcome
+ReadsNumber w old outcome new = ReadsOne (number w) (λ n. n) old outcome new × NeedsNoMemory outcome
 
 -- ---- what is kept
 

@@ -35,9 +35,9 @@ table_by_places o fields body n = took_by_places o (table fields) body n
 -- ---- groups of fields
 
 -- the fields of groups in one list
-abbrev pub joined : {X : Type 0} → List (List X) → List X
-joined [] = []
-joined (xs ∷ xss) = xs ++ joined xss
+abbrev pub join_groups : {X : Type 0} → List (List X) → List X
+join_groups [] = []
+join_groups (xs ∷ xss) = xs ++ join_groups xss
 
 -- values before those that follow
 abbrev pub ahead : {X : Type 0} → List X → Took (List X) → Took (List X)
@@ -55,7 +55,7 @@ groups_took o (fields ∷ groups) bytes n =
 -- what the table of all groups takes, by places alone
 unfoldable pub groups_by_places : {A : Type 0} → Order → List (List (Option (Parts A))) → List ℕ →
     ℕ → Took (List (Option A))
-groups_by_places o groups body n = took_by_places o (table (joined groups)) body n
+groups_by_places o groups body n = took_by_places o (table (join_groups groups)) body n
 
 -- ---- what is returned
 

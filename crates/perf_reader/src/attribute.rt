@@ -3,9 +3,9 @@
 
 ghost use Rattle.std.specs.Prelude.{◌≡◌, drop, IfOk, if◌then◌else◌};
 ghost use Rattle.perf_base.specs.Attribute.{attribute, is_attribute_size};
-ghost use Rattle.perf_reader.specs.AttributeGroups.{assembled, aux_fields, event_fields, front};
+ghost use Rattle.perf_reader.specs.AttributeGroups.{attribute_of, aux_fields, event_fields, front};
 ghost use Rattle.perf_reader.specs.AttributeGroups.{last_fields, register_fields, wakeup_fields};
-ghost use Rattle.perf_reader.specs.Prelude.{Call, Reads, TakesNoMemory, kinds};
+ghost use Rattle.perf_reader.specs.Prelude.{Call, Reads, NeedsNoMemory, kinds};
 
 use crate::read::{HasTransition, ReadFrom};
 use crate::reader::Reader;
@@ -75,7 +75,7 @@ fn is_attribute_size(size: u32) -> bool
 
 // The type, and the size of the whole attribute.
 fn read_front<'p, I: Input<'p>, E: Endian>(reader: &mut Reader<I, E>) -> ReadResult<Front>
-    ensures memory { TakesNoMemory (kinds result) }
+    ensures memory { NeedsNoMemory (kinds result) }
     ensures call { Call I.source E.order (Reads (λ _. front) (λ f. f))
         reader.old (kinds result) reader.new }
 {
@@ -88,7 +88,7 @@ fn read_front<'p, I: Input<'p>, E: Endian>(reader: &mut Reader<I, E>) -> ReadRes
 }
 
 fn read_event<'p, I: Input<'p>, E: Endian>(reader: &mut Reader<I, E>) -> ReadResult<EventFields>
-    ensures memory { TakesNoMemory (kinds result) }
+    ensures memory { NeedsNoMemory (kinds result) }
     ensures call { Call I.source E.order (Reads (λ _. event_fields) (λ f. f))
         reader.old (kinds result) reader.new }
 {
@@ -105,7 +105,7 @@ fn read_wakeup<'p, I: Input<'p>, E: Endian>(
     reader: &mut Reader<I, E>,
     size: u32,
 ) -> ReadResult<WakeupFields>
-    ensures memory { TakesNoMemory (kinds result) }
+    ensures memory { NeedsNoMemory (kinds result) }
     ensures call { Call I.source E.order (Reads (λ _. wakeup_fields size) (λ f. f))
         reader.old (kinds result) reader.new }
 {
@@ -122,7 +122,7 @@ fn read_registers<'p, I: Input<'p>, E: Endian>(
     reader: &mut Reader<I, E>,
     size: u32,
 ) -> ReadResult<RegisterFields>
-    ensures memory { TakesNoMemory (kinds result) }
+    ensures memory { NeedsNoMemory (kinds result) }
     ensures call { Call I.source E.order (Reads (λ _. register_fields size) (λ f. f))
         reader.old (kinds result) reader.new }
 {
@@ -135,7 +135,7 @@ fn read_registers<'p, I: Input<'p>, E: Endian>(
 }
 
 // How many bytes of padding there are, if the size reaches them.
-fn skipped(reached: bool, len: usize) -> usize
+fn len_to_skip(reached: bool, len: usize) -> usize
     ensures { result ≡ (if reached then len else 0) }
 {
     if reached { len } else { 0 }
@@ -145,15 +145,15 @@ fn read_aux<'p, I: Input<'p>, E: Endian>(
     reader: &mut Reader<I, E>,
     size: u32,
 ) -> ReadResult<AuxFields>
-    ensures memory { TakesNoMemory (kinds result) }
+    ensures memory { NeedsNoMemory (kinds result) }
     ensures call { Call I.source E.order (Reads (λ _. aux_fields size) (λ f. f))
         reader.old (kinds result) reader.new }
 {
     let aux_watermark = reader.read_u32_if(112 <= size)?;
     let sample_max_stack = reader.read_u16_if(112 <= size)?;
-    reader.skip(skipped(112 <= size, 2))?;
+    reader.skip(len_to_skip(112 <= size, 2))?;
     let aux_sample_size = reader.read_u32_if(120 <= size)?;
-    reader.skip(skipped(120 <= size, 4))?;
+    reader.skip(len_to_skip(120 <= size, 4))?;
     Ok(AuxFields {
         aux_watermark: aux_watermark.unwrap_or(0),
         sample_max_stack: sample_max_stack.unwrap_or(0),
@@ -165,7 +165,7 @@ fn read_last<'p, I: Input<'p>, E: Endian>(
     reader: &mut Reader<I, E>,
     size: u32,
 ) -> ReadResult<LastFields>
-    ensures memory { TakesNoMemory (kinds result) }
+    ensures memory { NeedsNoMemory (kinds result) }
     ensures call { Call I.source E.order (Reads (λ _. last_fields size) (λ f. f))
         reader.old (kinds result) reader.new }
 {
@@ -183,7 +183,7 @@ fn assemble(
     aux: AuxFields,
     last: LastFields,
 ) -> perf_event_attr
-    ensures { result ≡ assembled front event wakeup registers aux last }
+    ensures { result ≡ attribute_of front event wakeup registers aux last }
 {
     perf_event_attr {
         type_: front.type_,
@@ -215,7 +215,7 @@ fn assemble(
 fn read_groups<'p, I: Input<'p>, E: Endian>(
     reader: &mut Reader<I, E>,
 ) -> ReadResult<perf_event_attr>
-    ensures memory { TakesNoMemory (kinds result) }
+    ensures memory { NeedsNoMemory (kinds result) }
     ensures call { Call I.source E.order (Reads (λ _. attribute) (λ a. a))
         reader.old (kinds result) reader.new }
 {
@@ -231,7 +231,7 @@ fn read_groups<'p, I: Input<'p>, E: Endian>(
 
 impl HasTransition for perf_event_attr {
     ghost transition = { λ old outcome new. Reads (λ _. attribute) (λ a. a) old outcome new
-        × TakesNoMemory outcome × IfOk outcome (λ a. new.source.left ≡ drop a.size old.source.left) };
+        × NeedsNoMemory outcome × IfOk outcome (λ a. new.source.left ≡ drop a.size old.source.left) };
 }
 
 /// The nine sizes that the kernel gave its attributes are read, and larger ones whose bytes after

@@ -5,6 +5,7 @@ mod attribute;
 pub mod blocks;
 mod flags;
 pub mod frame_reader;
+pub mod halves;
 pub mod header;
 mod names;
 pub mod read;

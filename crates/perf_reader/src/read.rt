@@ -1,6 +1,6 @@
 //! What the types of this library mean, and how they are read.
 
-ghost use Rattle.perf_reader.specs.Prelude.{Call, Transition, ReadsNumber, ReadsOne, TakesNoMemory};
+ghost use Rattle.perf_reader.specs.Prelude.{Call, Transition, ReadsNumber, ReadsOne, NeedsNoMemory};
 ghost use Rattle.perf_reader.specs.Prelude.{kinds, byte_string, w1, w2, w4, w8};
 
 use crate::reader::Reader;
@@ -79,7 +79,7 @@ impl<'p, I: Input<'p>> ReadFrom<'p, I> for u64 {
 
 impl<const N: usize> HasTransition for [u8; N] {
     ghost transition = { λ old outcome new.
-        ReadsOne (byte_string N) (λ bytes. bytes) old outcome new × TakesNoMemory outcome };
+        ReadsOne (byte_string N) (λ bytes. bytes) old outcome new × NeedsNoMemory outcome };
 }
 
 impl<'p, I: Input<'p>, const N: usize> ReadFrom<'p, I> for [u8; N] {

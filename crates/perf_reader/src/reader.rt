@@ -2,23 +2,23 @@
 
 ghost use Rattle.std.specs.Prelude.{◌≡◌, ◌≤◌, ◌<◌, length, Ok, Err, None, IsTrue, IfOk, IfErr};
 ghost use Rattle.std.specs.Prelude.{IfSome, ◌*◌, Bool, true, false, ◌+◌, IsOk, take, ℕ, []};
-ghost use Rattle.std.specs.Prelude.{OnErr, nat_le, option_map, vec_capacity};
+ghost use Rattle.std.specs.Prelude.{OnErr, nat_le, option_map, vec_capacity, ◌≢◌};
 ghost use Rattle.perf_base.specs.Attribute.{zero_tail};
 ghost use Rattle.perf_base.specs.Configured.{configuration_of, endian_of};
 ghost use Rattle.perf_base.specs.FieldWords.{name};
 ghost use Rattle.perf_base.specs.Header.{header};
-ghost use Rattle.perf_base.specs.Refusals.{IsAnswerOf};
+ghost use Rattle.perf_base.specs.Refusals.{IsErrorOf};
 ghost use Rattle.perf_buffers.specs.Taking.{MovesWithin};
 ghost use Rattle.perf_buffers.specs.declared.outer.Outer.{Outer};
-ghost use Rattle.perf_reader.specs.Frames.{GivesNextFrame, FailsToReadFrame};
+ghost use Rattle.perf_reader.specs.NextFrame.{GivesNextFrame, FailsToReadFrame};
 ghost use Rattle.perf_reader.specs.Headers.{ReadsHeader, ReadsShownHeader, StopsAt, stop_kinds};
 ghost use Rattle.perf_reader.specs.Room.{IsRoom};
-ghost use Rattle.perf_reader.specs.Prelude.{Call, ReadsAtOnce, TakesNoMemory, kinds, input_of};
+ghost use Rattle.perf_reader.specs.Prelude.{Call, ReadsAtOnce, NeedsNoMemory, kinds, input_of};
 ghost use Rattle.perf_reader.specs.Prelude.{refusal_kind, ReadsOne, words, one_if_any, OutOfMemory};
 ghost use Rattle.perf_reader.specs.Prelude.{falls_short, is_made_beforehand, reads_of, cow_items};
 ghost use Rattle.perf_reader.specs.Prelude.{is_borrowed, byte_string, Stays, cursor_left};
 ghost use Rattle.perf_reader.specs.Prelude.{cursor_is_borrowed, IsAtStart, Takes, FailsToKeep, CanFail};
-ghost use Rattle.perf_reader.specs.Prelude.{config_of, refused, Refuses, buffer_of, ReadsPlain};
+ghost use Rattle.perf_reader.specs.Prelude.{config_of, kind_if_refused, Refuses, buffer_of, ReadsPlain};
 ghost use Rattle.perf_reader.specs.Prelude.{state_of, Reads, number, w1, w2, w4, w8, optional};
 ghost use Rattle.perf_reader.specs.Prelude.{padding, rest, PassesOver};
 
@@ -117,13 +117,13 @@ impl<B, E: Endian> Reader<Outer<B>, E> {
 
     /// The error that a refusal becomes: the buffer's own error, if the buffer failed.
     #[inline]
-    pub fn answer(&mut self, refusal: Refusal) -> ParseError
-        ensures error { IsAnswerOf result refusal }
+    pub fn error_of(&mut self, refusal: Refusal) -> ParseError
+        ensures error { IsErrorOf result refusal }
         ensures buf { buffer_of self.new ≡ buffer_of self.old }
         ensures config { config_of self.new ≡ config_of self.old }
         ensures reads { reads_of self.new ≡ reads_of self.old }
     {
-        self.input.answer(refusal)
+        self.input.error_of(refusal)
     }
 
     /// A reader of the rest of the same buffer under another configuration.
@@ -150,17 +150,17 @@ impl<'p, I: Input<'p>, E: Endian> Reader<I, E> {
     pub fn cut(&mut self, len: usize) -> ReadResult<ParseBufCursor<'p>>
         ensures config { config_of self.new ≡ config_of self.old }
         ensures reads { reads_of self.new ≡ reads_of self.old }
-        ensures stays { Stays (I.source (input_of self.old)) (refused (kinds result))
+        ensures stays { Stays (I.source (input_of self.old)) (kind_if_refused (kinds result))
             (I.source (input_of self.new)) }
-        ensures can_fail { CanFail (I.source (input_of self.old)) (refused (kinds result)) }
+        ensures can_fail { CanFail (I.source (input_of self.old)) (kind_if_refused (kinds result)) }
         ensures whole { IsTrue (I.source (input_of self.old)).whole →
             IfOk result (λ c. IsTrue (cursor_is_borrowed c)) }
         ensures whole_memory { IsTrue (I.source (input_of self.old)).whole →
-            TakesNoMemory (kinds result) }
+            NeedsNoMemory (kinds result) }
         ensures nothing { len ≡ 0 → IfOk result (λ c. IsTrue (cursor_is_borrowed c)) × IsOk result
             × (I.source (input_of self.new) ≡ I.source (input_of self.old)) }
         ensures short { falls_short (I.hint (input_of self.old)) len ≡ true →
-            TakesNoMemory (kinds result) × IfOk result (λ c. ⊥) }
+            NeedsNoMemory (kinds result) × IfOk result (λ c. ⊥) }
         ensures beforehand { IsTrue (I.source (input_of self.old)).told →
             is_made_beforehand (I.hint (input_of self.old)) len ≡ true → IfErr result (λ e.
             refusal_kind e ≡ OutOfMemory →
@@ -273,7 +273,7 @@ impl<'p, I: Input<'p>, E: Endian> Reader<I, E> {
     pub fn read_array<const N: usize>(&mut self) -> ReadResult<[u8; N]>
         requires { 0 < N }
         ensures counted { reads_of self.new ≡ reads_of self.old + 1 }
-        ensures memory { TakesNoMemory (kinds result) }
+        ensures memory { NeedsNoMemory (kinds result) }
         ensures within { IsTrue (I.source (input_of self.old)).told →
             MovesWithin (I.source (input_of self.old)) N (I.source (input_of self.new)) }
         ensures call { Call I.source E.order (ReadsOne (byte_string N) (λ bytes. bytes))
@@ -291,7 +291,7 @@ impl<'p, I: Input<'p>, E: Endian> Reader<I, E> {
     #[tactic(auto, using(crate::proofs::Steps::number_run))]
     pub fn read_u8(&mut self) -> ReadResult<u8>
         ensures counted { reads_of self.new ≡ reads_of self.old + 1 }
-        ensures memory { TakesNoMemory (kinds result) }
+        ensures memory { NeedsNoMemory (kinds result) }
         ensures call { Call I.source E.order (ReadsOne (number w1) (λ n. n))
             self.old (kinds result) self.new }
     {
@@ -304,7 +304,7 @@ impl<'p, I: Input<'p>, E: Endian> Reader<I, E> {
     #[tactic(auto, using(crate::proofs::Steps::number_run))]
     pub fn read_u16(&mut self) -> ReadResult<u16>
         ensures counted { reads_of self.new ≡ reads_of self.old + 1 }
-        ensures memory { TakesNoMemory (kinds result) }
+        ensures memory { NeedsNoMemory (kinds result) }
         ensures call { Call I.source E.order (ReadsOne (number w2) (λ n. n))
             self.old (kinds result) self.new }
     {
@@ -317,7 +317,7 @@ impl<'p, I: Input<'p>, E: Endian> Reader<I, E> {
     #[tactic(auto, using(crate::proofs::Steps::number_run))]
     pub fn read_u32(&mut self) -> ReadResult<u32>
         ensures counted { reads_of self.new ≡ reads_of self.old + 1 }
-        ensures memory { TakesNoMemory (kinds result) }
+        ensures memory { NeedsNoMemory (kinds result) }
         ensures call { Call I.source E.order (ReadsOne (number w4) (λ n. n))
             self.old (kinds result) self.new }
     {
@@ -330,7 +330,7 @@ impl<'p, I: Input<'p>, E: Endian> Reader<I, E> {
     #[tactic(auto, using(crate::proofs::Steps::number_run))]
     pub fn read_u64(&mut self) -> ReadResult<u64>
         ensures counted { reads_of self.new ≡ reads_of self.old + 1 }
-        ensures memory { TakesNoMemory (kinds result) }
+        ensures memory { NeedsNoMemory (kinds result) }
         ensures call { Call I.source E.order (ReadsOne (number w8) (λ n. n))
             self.old (kinds result) self.new }
     {
@@ -345,7 +345,7 @@ impl<'p, I: Input<'p>, E: Endian> Reader<I, E> {
     #[inline]
     #[tactic(auto, using(crate::proofs::Steps::optionals))]
     pub fn read_u16_if(&mut self, present: bool) -> ReadResult<Option<u16>>
-        ensures memory { TakesNoMemory (kinds result) }
+        ensures memory { NeedsNoMemory (kinds result) }
         ensures call { Call I.source E.order (ReadsOne (optional present w2) (λ n. n))
             self.old (kinds result) self.new }
     {
@@ -362,7 +362,7 @@ impl<'p, I: Input<'p>, E: Endian> Reader<I, E> {
     #[inline]
     #[tactic(auto, using(crate::proofs::Steps::optionals))]
     pub fn read_u32_if(&mut self, present: bool) -> ReadResult<Option<u32>>
-        ensures memory { TakesNoMemory (kinds result) }
+        ensures memory { NeedsNoMemory (kinds result) }
         ensures call { Call I.source E.order (ReadsOne (optional present w4) (λ n. n))
             self.old (kinds result) self.new }
     {
@@ -379,7 +379,7 @@ impl<'p, I: Input<'p>, E: Endian> Reader<I, E> {
     #[inline]
     #[tactic(auto, using(crate::proofs::Steps::optionals))]
     pub fn read_u64_if(&mut self, present: bool) -> ReadResult<Option<u64>>
-        ensures memory { TakesNoMemory (kinds result) }
+        ensures memory { NeedsNoMemory (kinds result) }
         ensures call { Call I.source E.order (ReadsOne (optional present w8) (λ n. n))
             self.old (kinds result) self.new }
     {
@@ -396,7 +396,7 @@ impl<'p, I: Input<'p>, E: Endian> Reader<I, E> {
     #[inline]
     #[tactic(auto, using(crate::proofs::Steps::padding_none))]
     pub fn skip(&mut self, len: usize) -> ReadResult<()>
-        ensures memory { TakesNoMemory (kinds result) }
+        ensures memory { NeedsNoMemory (kinds result) }
         ensures call { Call I.source E.order (ReadsOne (padding len) (λ _. tt))
             self.old (kinds result) self.new }
     {
@@ -420,7 +420,7 @@ impl<'p, I: Input<'p>, E: Endian> Reader<I, E> {
     pub fn read_at_once<const N: usize>(&mut self, numbers: usize) -> ReadResult<Option<[u8; N]>>
         requires some { 0 < numbers }
         requires room { numbers ≤ N }
-        ensures memory { TakesNoMemory (kinds result) }
+        ensures memory { NeedsNoMemory (kinds result) }
         ensures taken { IfOk result (λ taken. IfSome taken (λ bytes.
             Call I.source E.order (ReadsAtOnce N numbers) self.old (Ok bytes) self.new)) }
         ensures nothing { result ≡ Ok None → self.new ≡ self.old }
@@ -445,7 +445,7 @@ impl<'p, I: Input<'p>, E: Endian> Reader<I, E> {
         requires room { numbers ≤ N }
         requires has { IsTrue (I.source (input_of self.old)).told →
             N ≤ length (I.source (input_of self.old)).left }
-        ensures memory { TakesNoMemory (kinds result) }
+        ensures memory { NeedsNoMemory (kinds result) }
         ensures call { Call I.source E.order (ReadsAtOnce N numbers)
             self.old (kinds result) self.new }
     {
@@ -464,7 +464,7 @@ impl<'p, I: Input<'p>, E: Endian> Reader<I, E> {
     /// Whether the input shows `count` more numbers of eight bytes.
     #[inline]
     pub fn shows_numbers(&self, count: usize) -> bool {
-        count <= self.input.shown().len() / NUMBER_SIZE
+        count <= self.input.shown_bytes().len() / NUMBER_SIZE
     }
 
     /// Fills a list, which is not empty, with the next numbers of eight bytes, if the input shows
@@ -472,7 +472,7 @@ impl<'p, I: Input<'p>, E: Endian> Reader<I, E> {
     #[inline]
     pub fn read_shown(&mut self, numbers: &mut [u64]) -> ReadResult<bool>
         requires { 0 < length numbers.old }
-        ensures memory { TakesNoMemory (kinds result) }
+        ensures memory { NeedsNoMemory (kinds result) }
         ensures shown { result ≡ Ok true → Call I.source E.order
             (ReadsOne (words (length numbers.old)) (λ (_ : Bool). numbers.new))
             self.old (Ok true) self.new }
@@ -481,7 +481,7 @@ impl<'p, I: Input<'p>, E: Endian> Reader<I, E> {
             (ReadsOne (words (length numbers.old)) (λ (_ : Bool). numbers.new))
             self.old (Err (refusal_kind e)) self.new) }
     {
-        let shown = self.input.shown();
+        let shown = self.input.shown_bytes();
         if shown.len() / NUMBER_SIZE < numbers.len() {
             return Ok(false);
         }
@@ -502,7 +502,7 @@ impl<'p, I: Input<'p>, E: Endian> Reader<I, E> {
     #[inline]
     pub fn read_block(&mut self, numbers: &mut [u64]) -> ReadResult<()>
         requires { 0 < length numbers.old }
-        ensures memory { TakesNoMemory (kinds result) }
+        ensures memory { NeedsNoMemory (kinds result) }
         ensures call { Call I.source E.order
             (ReadsOne (words (length numbers.old)) (λ _. numbers.new))
             self.old (kinds result) self.new }
@@ -518,7 +518,7 @@ impl<'p, I: Input<'p>, E: Endian> Reader<I, E> {
     #[inline(never)]
     fn read_unshown(&mut self, numbers: &mut [u64]) -> ReadResult<()>
         requires { 0 < length numbers.old }
-        ensures memory { TakesNoMemory (kinds result) }
+        ensures memory { NeedsNoMemory (kinds result) }
         ensures call { Call I.source E.order
             (ReadsOne (words (length numbers.old)) (λ _. numbers.new))
             self.old (kinds result) self.new }
@@ -543,7 +543,7 @@ impl<'p, I: Input<'p>, E: Endian> Reader<I, E> {
         requires most { length numbers.old ≤ 48 }
         requires there { IsTrue (I.source (input_of self.old)).told →
             8 * length numbers.old ≤ length (I.source (input_of self.old)).left }
-        ensures memory { TakesNoMemory (kinds result) }
+        ensures memory { NeedsNoMemory (kinds result) }
         ensures call { Call I.source E.order
             (ReadsOne (words (length numbers.old)) (λ _. numbers.new))
             self.old (kinds result) self.new }
@@ -558,6 +558,80 @@ impl<'p, I: Input<'p>, E: Endian> Reader<I, E> {
         self.reads.add(ReadCounter::of(numbers.len() as u64 - 1));
         convert(self.config.endian(), &bytes[..len], numbers);
         Ok(())
+    }
+}
+
+// ---- counted lists of numbers, for which nothing is allocated from a claimed count alone
+impl<'p, I: Input<'p>, E: Endian> Reader<I, E> {
+    /// Reads `count` items of `numbers` numbers each, up to the end of an input that has fewer, and
+    /// returns the refusal. None of them is kept, so no memory is needed.
+    pub fn read_to_the_end(&mut self, numbers: usize, count: usize) -> Refusal
+        requires { IsTrue (I.source (input_of self.old)).told →
+            length (I.source (input_of self.old)).left < 8 * (numbers * count) }
+        ensures memory { refusal_kind result ≢ OutOfMemory }
+        ensures call { Call I.source E.order
+            (ReadsOne (words (numbers * count)) (λ numbers. numbers))
+            self.old (Err (refusal_kind result)) self.new }
+    {
+        for _ in 0..count {
+            for _ in 0..numbers {
+                if let Err(refusal) = self.read_u64() {
+                    return refusal;
+                }
+            }
+        }
+        Refusal::Eof
+    }
+
+    // Reads `count` numbers in blocks. The list is empty.
+    #[inline(never)]
+    fn append_numbers(&mut self, mut numbers: Vec<u64>, count: usize) -> ReadResult<Vec<u64>>
+        requires { numbers.items ≡ [] }
+        ensures length { IfOk result (λ v. length v.items ≡ count) }
+        ensures call { Call I.source E.order (ReadsOne (words count) (λ v. v.items))
+            self.old (kinds result) self.new }
+    {
+        let mut block = [0; BLOCK_LEN];
+        while numbers.len() < count {
+            let more = BLOCK_LEN.min(count - numbers.len());
+            match self.read_block(&mut block[..more]) {
+                Ok(()) => (),
+                Err(refusal) => return Err(refusal),
+            }
+            if numbers.extend_from_slice(&block[..more]).is_err() {
+                return Err(Refusal::OutOfMemory);
+            }
+        }
+        Ok(numbers)
+    }
+
+    /// Reads `count` numbers, all at once if the input shows them. A list that does not fit needs no
+    /// memory if the input reports how much it has.
+    pub fn read_numbers(&mut self, count: usize) -> ReadResult<Vec<u64>>
+        ensures length { IfOk result (λ v. length v.items ≡ count) }
+        ensures short { falls_short (I.hint (input_of self.old)) (8 * count) ≡ true →
+            NeedsNoMemory (kinds result) × IfOk result (λ v. ⊥) }
+        ensures call { Call I.source E.order (ReadsOne (words count) (λ v. v.items))
+            self.old (kinds result) self.new }
+    {
+        if self.has_items(count, NUMBER_SIZE) == Some(false) {
+            return Err(self.read_to_the_end(1, count));
+        }
+        let mut numbers = match self.list_for(count) {
+            Ok(numbers) => numbers,
+            Err(refusal) => return Err(refusal),
+        };
+        if 0 < count && self.shows_numbers(count) {
+            if numbers.resize(count, 0).is_err() {
+                return Err(Refusal::OutOfMemory);
+            }
+            match self.read_shown(numbers.as_mut_slice()) {
+                Ok(true) => return Ok(numbers),
+                Ok(false) => numbers.clear(),
+                Err(refusal) => return Err(refusal),
+            }
+        }
+        self.append_numbers(numbers, count)
     }
 }
 
@@ -598,11 +672,11 @@ impl<'p, I: Input<'p>, E: Endian> Reader<I, E> {
         ensures whole { IsTrue (I.source (input_of self.old)).whole →
             IfOk result (λ c. IsTrue (is_borrowed c)) }
         ensures whole_memory { IsTrue (I.source (input_of self.old)).whole →
-            TakesNoMemory (kinds result) }
+            NeedsNoMemory (kinds result) }
         ensures nothing { len ≡ 0 → IsOk result × (input_of self.new ≡ input_of self.old)
             × IfOk result (λ c. IsTrue (is_borrowed c)) }
         ensures short { falls_short (I.hint (input_of self.old)) len ≡ true →
-            TakesNoMemory (kinds result) }
+            NeedsNoMemory (kinds result) }
         ensures beforehand { IsTrue (I.source (input_of self.old)).told →
             is_made_beforehand (I.hint (input_of self.old)) len ≡ true → IfErr result (λ e.
             refusal_kind e ≡ OutOfMemory →
@@ -630,10 +704,10 @@ impl<'p, I: Input<'p>, E: Endian> Reader<I, E> {
         ensures whole { IsTrue (I.source (input_of self.old)).whole →
             IfOk result (λ c. IsTrue (is_borrowed c)) }
         ensures whole_memory { IsTrue (I.source (input_of self.old)).whole →
-            TakesNoMemory (kinds result) }
+            NeedsNoMemory (kinds result) }
         ensures nothing { IsTrue (I.source (input_of self.old)).told →
             (I.source (input_of self.old)).left ≡ [] →
-            TakesNoMemory (kinds result) × IfOk result (λ c. IsTrue (is_borrowed c)) }
+            NeedsNoMemory (kinds result) × IfOk result (λ c. IsTrue (is_borrowed c)) }
         ensures counted { IfOk result (λ c.
             reads_of self.new ≡ reads_of self.old + one_if_any (length (cow_items c))) }
         ensures call { Call I.source E.order (ReadsOne rest cow_items)
@@ -661,10 +735,10 @@ impl<'p, I: Input<'p>, E: Endian> Reader<I, E> {
         ensures whole { IsTrue (I.source (input_of self.old)).whole →
             IfOk result (λ c. IsTrue (is_borrowed c)) }
         ensures whole_memory { IsTrue (I.source (input_of self.old)).whole →
-            TakesNoMemory (kinds result) }
+            NeedsNoMemory (kinds result) }
         ensures nothing { IsTrue (I.source (input_of self.old)).told →
             (I.source (input_of self.old)).left ≡ [] →
-            TakesNoMemory (kinds result) × IfOk result (λ c. IsTrue (is_borrowed c)) }
+            NeedsNoMemory (kinds result) × IfOk result (λ c. IsTrue (is_borrowed c)) }
         ensures call { Call I.source E.order (Reads (λ _. name) cow_items)
             self.old (kinds result) self.new }
     {
@@ -684,7 +758,7 @@ impl<'p, I: Input<'p>, E: Endian> Reader<I, E> {
     /// Takes the `len` bytes after the known fields of an attribute, all of which must be zero. If
     /// one is not, all of them are taken, and the refusal is [`Refusal::AttributeTail`].
     pub fn read_zero_tail(&mut self, len: usize) -> ReadResult<()>
-        ensures memory { TakesNoMemory (kinds result) }
+        ensures memory { NeedsNoMemory (kinds result) }
         ensures call { Call I.source E.order (Reads (λ _. zero_tail len) (λ _. tt))
             self.old (kinds result) self.new }
     {
@@ -744,7 +818,7 @@ impl<'p, I: Input<'p>, E: Endian> Reader<I, E> {
     fn read_header_in_two(&mut self) -> Result<perf_event_header, Stop>
         ensures stop { IsTrue (I.source (input_of self.old)).told → IfErr result (λ s.
             StopsAt (state_of I.source E.order self.old) s (state_of I.source E.order self.new)) }
-        ensures memory { TakesNoMemory (stop_kinds result) }
+        ensures memory { NeedsNoMemory (stop_kinds result) }
         ensures call { Call I.source E.order ReadsHeader self.old (stop_kinds result) self.new }
     {
         let first = match self.read_array::<1>() {
@@ -769,7 +843,7 @@ impl<'p, B: ParseBuf<'p>, E: Endian> Reader<Outer<B>, E> {
             StopsAt (state_of (λ (o : Outer B). B.source o.buf) E.order self.old) s
             (state_of (λ (o : Outer B). B.source o.buf) E.order self.new)) }
         ensures memory { IsTrue (B.source (buffer_of self.old)).told →
-            TakesNoMemory (stop_kinds result) }
+            NeedsNoMemory (stop_kinds result) }
         ensures call { Call (λ (o : Outer B). B.source o.buf) E.order ReadsHeader
             self.old (stop_kinds result) self.new }
     {
@@ -821,18 +895,18 @@ impl<'p, B: ParseBuf<'p>, E: Endian> Reader<Outer<B>, E> {
     ) -> ReadResult<F::Output>
         requires { F.len reader ≡ len }
         ensures config { config_of self.new ≡ config_of self.old }
-        ensures stays { Stays (B.source (buffer_of self.old)) (refused (kinds result))
+        ensures stays { Stays (B.source (buffer_of self.old)) (kind_if_refused (kinds result))
             (B.source (buffer_of self.new)) }
-        ensures can_fail { CanFail (B.source (buffer_of self.old)) (refused (kinds result)) }
+        ensures can_fail { CanFail (B.source (buffer_of self.old)) (kind_if_refused (kinds result)) }
         ensures whole_memory { IsTrue (B.source (buffer_of self.old)).whole →
-            TakesNoMemory (kinds result) }
+            NeedsNoMemory (kinds result) }
         ensures nothing { len ≡ 0 → IsOk result
             × (B.source (buffer_of self.new) ≡ B.source (buffer_of self.old))
             × IfOk result (λ output. (made : ℕ) × F.gives reader
             (configuration_of (config_of self.old)) (E.order (endian_of (config_of self.old)))
             [] true made state.old output state.new) }
         ensures short { falls_short (B.hint (buffer_of self.old)) len ≡ true →
-            TakesNoMemory (kinds result) × IfOk result (λ output. ⊥) }
+            NeedsNoMemory (kinds result) × IfOk result (λ output. ⊥) }
         ensures beforehand { IsTrue (B.source (buffer_of self.old)).told →
             is_made_beforehand (B.hint (buffer_of self.old)) len ≡ true → IfErr result (λ e.
             refusal_kind e ≡ OutOfMemory →
@@ -867,7 +941,7 @@ impl<'p, B: ParseBuf<'p>, E: Endian> Reader<Outer<B>, E> {
     pub fn frames_shown(&mut self, most: usize, counted: bool) -> ReadResult<usize>
         ensures config { config_of self.new ≡ config_of self.old }
         ensures reads { reads_of self.new ≡ reads_of self.old }
-        ensures stays { Stays (B.source (buffer_of self.old)) (refused (kinds result))
+        ensures stays { Stays (B.source (buffer_of self.old)) (kind_if_refused (kinds result))
             (B.source (buffer_of self.new)) }
         ensures same { IsTrue (B.source (buffer_of self.old)).told →
             (B.source (buffer_of self.new)).left ≡ (B.source (buffer_of self.old)).left }

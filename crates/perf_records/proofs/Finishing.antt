@@ -5,15 +5,15 @@ use Rattle.perf_base.specs.Configuration.{Configuration, under_misc}
 use Rattle.perf_base.specs.Layout.{Parts, layout}
 use Rattle.perf_base.specs.LayoutReads.{layout_reads}
 use Rattle.perf_base.specs.Order.{Order}
-use Rattle.perf_base.specs.Refusals.{kinds, TakesNoMemory}
+use Rattle.perf_base.specs.Refusals.{kinds, NeedsNoMemory}
 use Rattle.perf_base.specs.declared.error.ErrorKind.{ErrorKind}
 use Rattle.perf_base.specs.declared.refusal.Refusal.{Refusal}
 use Rattle.perf_base.specs.declared.sys.perf_event_header.{perf_event_header}
 use Rattle.perf_buffers.specs.Buffer.{Source, Stays}
 use Rattle.perf_reader.specs.ReaderState.{ReaderState}
 use Rattle.perf_reader.specs.Reading.{Keeps, is_external, one_if_refused, last_of}
-use Rattle.perf_records.specs.Answers.{FrameParts, body_length, split_after, split_reads, record_in, record_reads, SplitsAfter}
-use Rattle.perf_records.specs.Bodies.{body, wants_memory}
+use Rattle.perf_records.specs.Answers.{FrameParts, length_after, split_after, split_reads, record_in, record_reads, SplitsAfter}
+use Rattle.perf_records.specs.Bodies.{body, needs_memory}
 use Rattle.perf_records.specs.Metadata.{MetadataValue}
 use Rattle.perf_records.specs.Records.{RecordValue}
 use Rattle.perf_records.specs.Gives.{Event, event, GivesWholeBody, GivesFrameAfter, BelongsTo}
@@ -23,14 +23,14 @@ use Rattle.perf_records.proofs.Keeping.{no_fault, stays_refused}
 pub belongs : {O : Type 0} (gives : Event → O → Type 0) (h : perf_event_header) (whole from : Bool) (m : MetadataValue) (o : Order) (p : Parts RecordValue) (bytes : List ℕ) (k : ℕ) (result : Result O Refusal) →
     (m.ty ≡ h.type_) × (m.misc ≡ h.misc) → (IsTrue whole → IsTrue from) → GivesWholeBody gives m o p bytes from (kinds result) k → IfOk result (λ output. BelongsTo gives h whole output)
 belongs gives h whole from m o p bytes k (Ok output) named lends v =
-    (event v.0 v.1 m, v.2, named.0, named.1, (λ is. v.5 (lends is)), (λ is. ap wants_memory (sym named.0) ∙ v.6 is))
+    (event v.0 v.1 m, v.2, named.0, named.1, (λ is. v.5 (lends is)), (λ is. ap needs_memory (sym named.0) ∙ v.6 is))
 belongs gives h whole from m o p bytes k (Err e) named lends v = tt
 
 -- no memory is taken for a body of borrowed bytes whose type needs none
 pub spares : {O : Type 0} (gives : Event → O → Type 0) (h : perf_event_header) (from : Bool) (m : MetadataValue) (o : Order) (p : Parts RecordValue) (bytes : List ℕ) (k : ℕ) (result : Result O Refusal) →
-    m.ty ≡ h.type_ → IsTrue from → wants_memory h.type_ ≡ false → GivesWholeBody gives m o p bytes from (kinds result) k → TakesNoMemory (kinds result)
+    m.ty ≡ h.type_ → IsTrue from → needs_memory h.type_ ≡ false → GivesWholeBody gives m o p bytes from (kinds result) k → NeedsNoMemory (kinds result)
 spares gives h from m o p bytes k (Ok output) named lent none v = tt
-spares gives h from m o p bytes k (Err e) named lent none v = v.1 lent (ap wants_memory named ∙ none)
+spares gives h from m o p bytes k (Err e) named lent none v = v.1 lent (ap needs_memory named ∙ none)
 
 -- whatever the refusal is
 pub refused_so : {A E : Type 0} (result : Result A E) (X : E → Type 0) (P : Type 0) → P → IfErr result (λ e. X e → P)
@@ -47,7 +47,7 @@ unsplit_visits gives h old new e s = λ kind.
 -- the visit of a frame that was split, by that of its body
 pub visits_made : {O : Type 0} (gives : Event → O → Type 0) (h : perf_event_header) (old mid new : ReaderState) (parts : FrameParts) (o : Order) (c : Configuration) (from : Bool) (made : ℕ) (outcome : Result O ErrorKind) →
     o ≡ old.order → c ≡ under_misc h.misc old.settings → parts.metadata.ty ≡ h.type_ → (IsTrue old.source.whole → IsTrue from) → new.source ≡ mid.source → new.reads ≡ mid.reads + made →
-    (split_after old.settings old.order h old.source.left ≡ Ok parts) × (mid.source.left ≡ drop (body_length h) old.source.left) × (mid.reads ≡ old.reads + split_reads old.settings old.order h old.source.left) →
+    (split_after old.settings old.order h old.source.left ≡ Ok parts) × (mid.source.left ≡ drop (length_after h) old.source.left) × (mid.reads ≡ old.reads + split_reads old.settings old.order h old.source.left) →
     GivesWholeBody gives parts.metadata o (body c parts.metadata.ty) parts.body from outcome made → GivesFrameAfter gives h old outcome new
 visits_made {O} gives h old mid new parts o c from made outcome order config named lends same count s v = go outcome v
   where
@@ -60,7 +60,7 @@ visits_made {O} gives h old mid new parts o c from made outcome order config nam
     counted : layout_reads old.order inside parts.body ≡ layout_reads o (body c parts.metadata.ty) parts.body
     counted = ap (λ (x : Order). layout_reads x inside parts.body) (sym order) ∙ ap (λ (x : Configuration). layout_reads o (body x h.type_) parts.body) (sym config) ∙ ap (λ t. layout_reads o (body c t) parts.body) (sym named)
 
-    left : new.source.left ≡ drop (body_length h) old.source.left
+    left : new.source.left ≡ drop (length_after h) old.source.left
     left = ap (λ (x : Source). x.left) same ∙ s.1
 
     reads : made ≡ layout_reads o (body c parts.metadata.ty) parts.body → new.reads ≡ old.reads + (split_reads old.settings old.order h old.source.left + record_reads old.settings old.order h (split_after old.settings old.order h old.source.left))

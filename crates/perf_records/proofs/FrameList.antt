@@ -14,7 +14,8 @@ pub frames_short : (o : Order) (n : ℕ) (bytes : List ℕ) → length bytes < 8
 frames_short o zero bytes short = refl
 frames_short o (suc n) bytes short = let a : nat_lt (length bytes) 8 ≡ true = lt-ltb (length bytes) 8 short in rw a refl
 
-frames_first : (o : Order) (n : ℕ) (bytes : List ℕ) → 8 ≤ length bytes → first_frames o (suc n) bytes ≡ take (frame_length o bytes) bytes ∷ first_frames o n (drop (frame_length o bytes) bytes)
+-- a frame begins where a header is
+pub frames_first : (o : Order) (n : ℕ) (bytes : List ℕ) → 8 ≤ length bytes → first_frames o (suc n) bytes ≡ take (frame_length o bytes) bytes ∷ first_frames o n (drop (frame_length o bytes) bytes)
 frames_first o n bytes fits = let a : nat_lt (length bytes) 8 ≡ false = le-ltb (length bytes) 8 fits in rw a refl
 
 after_shorter : (o : Order) (bytes : List ℕ) (n : ℕ) → length bytes ≤ suc n → length (drop (frame_length o bytes) bytes) ≤ n
@@ -29,16 +30,20 @@ frames_enough o (suc n) (suc m) bytes a b =
     let same : first_frames o n rest ≡ first_frames o m rest = frames_enough o n m rest (after_shorter o bytes n a) (after_shorter o bytes m b) in
     ap (λ xs. if nat_lt (length bytes) 8 then [] else take (frame_length o bytes) bytes ∷ xs) same
 
--- the first, and the others
+-- the first frame, and those after it
+pub frames_some : (o : Order) (bytes : List ℕ) → 8 ≤ length bytes → frames o bytes ≡ take (frame_length o bytes) bytes ∷ frames o (drop (frame_length o bytes) bytes)
+frames_some o bytes fits =
+    let tail : List ℕ = drop (frame_length o bytes) bytes in
+    let less : length tail ≤ length bytes = omega (arith, length-drop (frame_length o bytes) bytes) in
+    frames_enough o (length bytes) (suc (length bytes)) bytes (omega arith) (omega arith) ∙ frames_first o (length bytes) bytes fits
+    ∙ ap (λ xs. take (frame_length o bytes) bytes ∷ xs) (frames_enough o (length bytes) (length tail) tail less (omega arith))
+
+-- the first of what is found, and the others
 pub next_sight : (o : Order) (bytes after : List ℕ) (x : Sight) → 8 ≤ length bytes → x ≡ sight_in o bytes true → after ≡ drop (frame_length o bytes) bytes → sights o bytes ≡ x ∷ sights o after
 next_sight o bytes after x fits is rest =
     let f : List ℕ → Sight = λ frame. sight_in o frame true in
     let tail : List ℕ = drop (frame_length o bytes) bytes in
-    let less : length tail ≤ length bytes = omega (arith, length-drop (frame_length o bytes) bytes) in
-    let all : frames o bytes ≡ take (frame_length o bytes) bytes ∷ frames o tail =
-    frames_enough o (length bytes) (suc (length bytes)) bytes (omega arith) (omega arith) ∙ frames_first o (length bytes) bytes fits
-    ∙ ap (λ xs. take (frame_length o bytes) bytes ∷ xs) (frames_enough o (length bytes) (length tail) tail less (omega arith)) in
-    ap (map f) all
+    ap (map f) (frames_some o bytes fits)
     ∙ ap (λ y. y ∷ sights o tail) (sight_alone o bytes true ∙ sym is)
     ∙ ap (λ xs. x ∷ sights o xs) (sym rest)
 

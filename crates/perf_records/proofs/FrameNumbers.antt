@@ -17,7 +17,7 @@ use Rattle.perf_sample_types.specs.Sample.{SampleValue, sample}
 use Rattle.perf_sample_types.specs.SampleGetters.{getters_of}
 use Rattle.perf_sample_types.specs.SampleId.{SampleIdValue, one_if, sample_id_flags, sample_id_length}
 use Rattle.perf_words.specs.Bits.{has_bit}
-use Rattle.perf_records.specs.Answers.{FrameParts, body_length, parts_of, split_after, record_in, answer_after, id_bytes}
+use Rattle.perf_records.specs.Answers.{FrameParts, length_after, parts_of, split_after, record_in, answer_after, id_bytes}
 use Rattle.perf_records.specs.Bodies.{body}
 use Rattle.perf_records.specs.FrameNumbers.{eight_at, bytes_of, time_field, task_field, id_field, cpu_field, identifier_field, event_field, place_of, bytes_at, field_bytes, first_half, second_half, time_in, pid_in, tid_in, cpu_in, id_in, identifier_bytes, identifier_in, IsRead, IsIdentifierRead}
 use Rattle.perf_records.specs.Metadata.{carries_sample_id, id_of_type, id_length}
@@ -47,14 +47,14 @@ pick_sample present false x y e = absurd (cc)
 not_sample : (ty : ℕ) → (ty ≡ 9 → ⊥) → (ty == 9) ≡ false
 not_sample ty other = grind (arith, nat_tests)
 
-split_all : (c : Configuration) (o : Order) (h : perf_event_header) (bytes : List ℕ) → 8 ≤ h.size → length bytes ≡ body_length h → id_length c h.type_ ≤ length bytes → split_after c o h bytes ≡ Ok (parts_of c o h bytes)
+split_all : (c : Configuration) (o : Order) (h : perf_event_header) (bytes : List ℕ) → 8 ≤ h.size → length bytes ≡ length_after h → id_length c h.type_ ≤ length bytes → split_after c o h bytes ≡ Ok (parts_of c o h bytes)
 split_all c o h bytes sized whole room =
-    let all : take (body_length h) bytes ≡ bytes = take_all (body_length h) bytes (omega arith) in
+    let all : take (length_after h) bytes ≡ bytes = take_all (length_after h) bytes (omega arith) in
     split_whole c o h bytes sized (omega arith) (omega arith) ∙ ap (λ b. Ok (parts_of c o h b)) all
 
 -- the number at its offset is that of the sample id, if the frame is long enough for it
 other : (of_id : SampleIdValue → Option ℕ) (read : List ℕ → ℕ) (c : Configuration) (o : Order) (place : Place) (h : perf_event_header) (bytes : List ℕ) →
-    8 ≤ h.size → length bytes ≡ body_length h → (h.type_ ≡ 9 → ⊥) →
+    8 ≤ h.size → length bytes ≡ length_after h → (h.type_ ≡ 9 → ⊥) →
     ((ids : List ℕ) → length ids ≡ id_length c h.type_ → of_id (value o ids 0 (id_of_type c h.type_)) ≡ option_map read (if place.present then eight_at ids place.in_id else None)) →
     MatchResult (split_after c o h bytes) (λ parts. option_map read (bytes_at c place h bytes) ≡ of_id parts.metadata.sample_id) (λ e. option_map read (bytes_at c place h bytes) ≡ None)
 other of_id read c o place h bytes sized whole sample transition = elim (cases_lt (length bytes) (id_length c h.type_)) [
@@ -75,7 +75,7 @@ other of_id read c o place h bytes sized whole sample transition = elim (cases_l
 -- ---- samples
 
 -- the sample of a frame is the run of its fields
-sample_run : (c : Configuration) (o : Order) (h : perf_event_header) (bytes : List ℕ) (s : SampleValue) → 8 ≤ h.size → length bytes ≡ body_length h → h.type_ ≡ 9 →
+sample_run : (c : Configuration) (o : Order) (h : perf_event_header) (bytes : List ℕ) (s : SampleValue) → 8 ≤ h.size → length bytes ≡ length_after h → h.type_ ≡ 9 →
     answer_after c o h bytes ≡ Ok (sample_is s) → (left : List ℕ) × (run_parts o (sample (under_misc h.misc c)) bytes ≡ ran s left)
 sample_run c o h bytes s sized whole is answer =
     let c' : Configuration = under_misc h.misc c in
@@ -92,14 +92,14 @@ sample_run c o h bytes s sized whole is answer =
 -- ---- both, as in the contracts
 
 sampled : (of_sample : SampleValue → Option ℕ) (read : List ℕ → ℕ) (c : Configuration) (o : Order) (place : Place) (h : perf_event_header) (bytes : List ℕ) →
-    8 ≤ h.size → length bytes ≡ body_length h →
+    8 ≤ h.size → length bytes ≡ length_after h →
     ((s : SampleValue) → Made o (under_misc h.misc c) bytes s → of_sample s ≡ option_map read (if place.present then eight_at bytes place.in_sample else None)) →
     h.type_ ≡ 9 → (s : SampleValue) → answer_after c o h bytes ≡ Ok (sample_is s) → option_map read (bytes_at c place h bytes) ≡ of_sample s
 sampled of_sample read c o place h bytes sized whole transition is s answer =
     let nine : (h.type_ == 9) ≡ true = ap (λ ty. ty == 9) is in
     ap (option_map read) (pick_sample place.present (h.type_ == 9) _ _ nine) ∙ sym (transition s (sample_run c o h bytes s sized whole is answer))
 
-pub time_read : (c : Configuration) (o : Order) (h : perf_event_header) (bytes : List ℕ) → 8 ≤ h.size → length bytes ≡ body_length h →
+pub time_read : (c : Configuration) (o : Order) (h : perf_event_header) (bytes : List ℕ) → 8 ≤ h.size → length bytes ≡ length_after h →
     IsRead (λ s. (getters_of s).time) (λ id. id.time) c o h bytes (time_in c o h bytes)
 time_read c o h bytes sized whole =
     let place : Place = place_of c.sample_type time_field in (
@@ -107,7 +107,7 @@ time_read c o h bytes sized whole =
       (λ sample. other (λ id. id.time) o.eight c o place h bytes sized whole sample (of_type (λ id. id.time) o.eight c o h.type_ place.present place.in_id refl (id_time o c.sample_type))),
     )
 
-pub pid_read : (c : Configuration) (o : Order) (h : perf_event_header) (bytes : List ℕ) → 8 ≤ h.size → length bytes ≡ body_length h →
+pub pid_read : (c : Configuration) (o : Order) (h : perf_event_header) (bytes : List ℕ) → 8 ≤ h.size → length bytes ≡ length_after h →
     IsRead (λ s. (getters_of s).pid) (λ id. id.pid) c o h bytes (pid_in c o h bytes)
 pid_read c o h bytes sized whole =
     let place : Place = place_of c.sample_type task_field in (
@@ -115,7 +115,7 @@ pid_read c o h bytes sized whole =
       (λ sample. other (λ id. id.pid) (first_half o) c o place h bytes sized whole sample (of_type (λ id. id.pid) (first_half o) c o h.type_ place.present place.in_id refl (id_pid o c.sample_type))),
     )
 
-pub tid_read : (c : Configuration) (o : Order) (h : perf_event_header) (bytes : List ℕ) → 8 ≤ h.size → length bytes ≡ body_length h →
+pub tid_read : (c : Configuration) (o : Order) (h : perf_event_header) (bytes : List ℕ) → 8 ≤ h.size → length bytes ≡ length_after h →
     IsRead (λ s. (getters_of s).tid) (λ id. id.tid) c o h bytes (tid_in c o h bytes)
 tid_read c o h bytes sized whole =
     let place : Place = place_of c.sample_type task_field in (
@@ -123,7 +123,7 @@ tid_read c o h bytes sized whole =
       (λ sample. other (λ id. id.tid) (second_half o) c o place h bytes sized whole sample (of_type (λ id. id.tid) (second_half o) c o h.type_ place.present place.in_id refl (id_tid o c.sample_type))),
     )
 
-pub cpu_read : (c : Configuration) (o : Order) (h : perf_event_header) (bytes : List ℕ) → 8 ≤ h.size → length bytes ≡ body_length h →
+pub cpu_read : (c : Configuration) (o : Order) (h : perf_event_header) (bytes : List ℕ) → 8 ≤ h.size → length bytes ≡ length_after h →
     IsRead (λ s. (getters_of s).cpu) (λ id. id.cpu) c o h bytes (cpu_in c o h bytes)
 cpu_read c o h bytes sized whole =
     let place : Place = place_of c.sample_type cpu_field in (
@@ -131,7 +131,7 @@ cpu_read c o h bytes sized whole =
       (λ sample. other (λ id. id.cpu) (first_half o) c o place h bytes sized whole sample (of_type (λ id. id.cpu) (first_half o) c o h.type_ place.present place.in_id refl (id_cpu o c.sample_type))),
     )
 
-pub id_read : (c : Configuration) (o : Order) (h : perf_event_header) (bytes : List ℕ) → 8 ≤ h.size → length bytes ≡ body_length h →
+pub id_read : (c : Configuration) (o : Order) (h : perf_event_header) (bytes : List ℕ) → 8 ≤ h.size → length bytes ≡ length_after h →
     IsRead (λ s. (getters_of s).id) (λ id. id.id) c o h bytes (id_in c o h bytes)
 id_read c o h bytes sized whole =
     let t : ℕ = c.sample_type in
@@ -190,7 +190,7 @@ identifier_is_id c o h bytes none =
 first_of_sample : (ty : ℕ) (bytes : List ℕ) → ty ≡ 9 → identifier_bytes ty bytes ≡ eight_at bytes 0
 first_of_sample ty bytes is = ap (λ n. identifier_bytes n bytes) is
 
-pub identifier_read : (o : Order) (h : perf_event_header) (bytes : List ℕ) → 8 ≤ h.size → length bytes ≡ body_length h → IsIdentifierRead o h bytes (identifier_in o h bytes)
+pub identifier_read : (o : Order) (h : perf_event_header) (bytes : List ℕ) → 8 ≤ h.size → length bytes ≡ length_after h → IsIdentifierRead o h bytes (identifier_in o h bytes)
 identifier_read o h bytes sized whole = λ c set. (
   (λ is s answer.
       ap (option_map o.eight) (first_of_sample h.type_ bytes is)

@@ -22,7 +22,7 @@ use Rattle.perf_reader.specs.Reading.{of_layout, is_external}
 use Rattle.perf_reader.proofs.Paying.{within_taken}
 use Rattle.perf_records.proofs.Keeping.{within_all}
 use Rattle.perf_records.specs.Frames.{frame_length}
-use Rattle.perf_records.specs.Answers.{FrameParts, body_length, split_after, split_reads, id_reads, record_in, record_reads, answer_after, reads_after, of_frame, answer_of_frame, AnswersExactly, frame_reads, RefusesHeader}
+use Rattle.perf_records.specs.Answers.{FrameParts, length_after, split_after, split_reads, id_reads, record_in, record_reads, answer_after, reads_after, of_frame, answer_of_frame, AnswersExactly, frame_reads, RefusesHeader}
 
 -- ---- the header by places
 -- what follows the type, and what follows misc
@@ -91,24 +91,24 @@ header_take o n bytes =
     ap (λ k. take 2 (drop 6 (take k bytes))) (omega arith) ∙ ap (take 2) (drop-take 6 (2 + n) bytes) ∙ take-take 2 (2 + n) (drop 6 bytes) (omega arith) in
     rw (a, b, d) refl
 
-split_take : (c : Configuration) (o : Order) (h : perf_event_header) (bytes : List ℕ) → split_after c o h (take (body_length h) bytes) ≡ split_after c o h bytes
-split_take c o h bytes = elim (cases_lt (length bytes) (body_length h)) [
-  | inl short ↦ ap (split_after c o h) (take_all (body_length h) bytes (omega arith))
+split_take : (c : Configuration) (o : Order) (h : perf_event_header) (bytes : List ℕ) → split_after c o h (take (length_after h) bytes) ≡ split_after c o h bytes
+split_take c o h bytes = elim (cases_lt (length bytes) (length_after h)) [
+  | inl short ↦ ap (split_after c o h) (take_all (length_after h) bytes (omega arith))
   | inr fits ↦
-      let all : length (take (body_length h) bytes) ≡ body_length h = length-take-le (body_length h) bytes fits in
-      let a : nat_lt (length (take (body_length h) bytes)) (body_length h) ≡ false = le-ltb (length (take (body_length h) bytes)) (body_length h) (omega arith) in
-      let b : nat_lt (length bytes) (body_length h) ≡ false = le-ltb (length bytes) (body_length h) fits in
-      let t : take (body_length h) (take (body_length h) bytes) ≡ take (body_length h) bytes = take-take (body_length h) (body_length h) bytes (omega arith) in
+      let all : length (take (length_after h) bytes) ≡ length_after h = length-take-le (length_after h) bytes fits in
+      let a : nat_lt (length (take (length_after h) bytes)) (length_after h) ≡ false = le-ltb (length (take (length_after h) bytes)) (length_after h) (omega arith) in
+      let b : nat_lt (length bytes) (length_after h) ≡ false = le-ltb (length bytes) (length_after h) fits in
+      let t : take (length_after h) (take (length_after h) bytes) ≡ take (length_after h) bytes = take-take (length_after h) (length_after h) bytes (omega arith) in
       rw (a, b, t) refl
 ]
 
-after_take : (c : Configuration) (o : Order) (h : perf_event_header) (bytes : List ℕ) → answer_after c o h (take (body_length h) bytes) ≡ answer_after c o h bytes
+after_take : (c : Configuration) (o : Order) (h : perf_event_header) (bytes : List ℕ) → answer_after c o h (take (length_after h) bytes) ≡ answer_after c o h bytes
 after_take c o h bytes = ap (record_in c o h) (split_take c o h bytes)
 
 -- and takes as many reads
-reads_take : (c : Configuration) (o : Order) (h : perf_event_header) (bytes : List ℕ) → reads_after c o h (take (body_length h) bytes) ≡ reads_after c o h bytes
+reads_take : (c : Configuration) (o : Order) (h : perf_event_header) (bytes : List ℕ) → reads_after c o h (take (length_after h) bytes) ≡ reads_after c o h bytes
 reads_take c o h bytes =
-    let n : ℕ = body_length h in
+    let n : ℕ = length_after h in
     let same : split_after c o h (take n bytes) ≡ split_after c o h bytes = split_take c o h bytes in
     let once : take n (take n bytes) ≡ take n bytes = take-take n n bytes (omega arith) in
     let split : split_reads c o h (take n bytes) ≡ split_reads c o h bytes =
@@ -125,29 +125,29 @@ pub answer_whole : (c : Configuration) (o : Order) (bytes : List ℕ) → 8 ≤ 
 answer_whole c o bytes fits = frame_whole (answer_after c o) o bytes fits
 
 -- the frame's length, in terms of its body
-pub frame_body : (h : perf_event_header) → max 8 h.size ≡ 8 + body_length h
+pub frame_body : (h : perf_event_header) → max 8 h.size ≡ 8 + length_after h
 frame_body h = omega arith
 
 -- A frame has the same contents by its own bytes as with others after them.
 pub answer_alone : (c : Configuration) (o : Order) (bytes : List ℕ) → 8 ≤ length bytes → answer_of_frame c o (take (frame_length o bytes) bytes) ≡ answer_of_frame c o bytes
 answer_alone c o bytes fits =
     let h : perf_event_header = header_of o bytes in
-    let whole : frame_length o bytes ≡ 8 + body_length h = frame_body h in
-    let same : header_of o (take (8 + body_length h) bytes) ≡ h = header_take o (body_length h) bytes in
-    let enough : 8 ≤ length (take (8 + body_length h) bytes) = elim (cases_lt (length bytes) (8 + body_length h)) [
-      | inl short ↦ omega (arith, ap length (take_all (8 + body_length h) bytes (omega arith)))
-      | inr long ↦ omega (arith, length-take-le (8 + body_length h) bytes long)
+    let whole : frame_length o bytes ≡ 8 + length_after h = frame_body h in
+    let same : header_of o (take (8 + length_after h) bytes) ≡ h = header_take o (length_after h) bytes in
+    let enough : 8 ≤ length (take (8 + length_after h) bytes) = elim (cases_lt (length bytes) (8 + length_after h)) [
+      | inl short ↦ omega (arith, ap length (take_all (8 + length_after h) bytes (omega arith)))
+      | inr long ↦ omega (arith, length-take-le (8 + length_after h) bytes long)
     ] in
     ap (λ n. answer_of_frame c o (take n bytes)) whole
-    ∙ answer_whole c o (take (8 + body_length h) bytes) enough
-    ∙ ap (λ k. answer_after c o k (drop 8 (take (8 + body_length h) bytes))) same
-    ∙ ap (answer_after c o h) (drop-take 8 (body_length h) bytes)
+    ∙ answer_whole c o (take (8 + length_after h) bytes) enough
+    ∙ ap (λ k. answer_after c o k (drop 8 (take (8 + length_after h) bytes))) same
+    ∙ ap (answer_after c o h) (drop-take 8 (length_after h) bytes)
     ∙ after_take c o h (drop 8 bytes)
     ∙ sym (answer_whole c o bytes fits)
 
 -- the header of a frame's own bytes
 pub header_alone : (o : Order) (bytes : List ℕ) → header_of o (take (frame_length o bytes) bytes) ≡ header_of o bytes
-header_alone o bytes = ap (λ n. header_of o (take n bytes)) (frame_body (header_of o bytes)) ∙ header_take o (body_length (header_of o bytes)) bytes
+header_alone o bytes = ap (λ n. header_of o (take n bytes)) (frame_body (header_of o bytes)) ∙ header_take o (length_after (header_of o bytes)) bytes
 
 -- A frame takes the same reads after its header as with other bytes after it.
 pub reads_alone : (c : Configuration) (o : Order) (bytes : List ℕ) →
@@ -156,16 +156,16 @@ pub reads_alone : (c : Configuration) (o : Order) (bytes : List ℕ) →
 reads_alone c o bytes =
     let h : perf_event_header = header_of o bytes in
     let frame : List ℕ = take (frame_length o bytes) bytes in
-    let after : drop 8 frame ≡ take (body_length h) (drop 8 bytes) =
-    ap (λ n. drop 8 (take n bytes)) (frame_body h) ∙ drop-take 8 (body_length h) bytes in
+    let after : drop 8 frame ≡ take (length_after h) (drop 8 bytes) =
+    ap (λ n. drop 8 (take n bytes)) (frame_body h) ∙ drop-take 8 (length_after h) bytes in
     ap (λ k. reads_after c o k (drop 8 frame)) (header_alone o bytes)
     ∙ ap (reads_after c o h) after
     ∙ reads_take c o h (drop 8 bytes)
 
 -- ---- a frame, from its header and what comes after it
-pub after_frame : (o : Order) (bytes mid new : List ℕ) (h : perf_event_header) → h ≡ header_of o bytes → mid ≡ drop 8 bytes → new ≡ drop (body_length h) mid → new ≡ drop (frame_length o bytes) bytes
+pub after_frame : (o : Order) (bytes mid new : List ℕ) (h : perf_event_header) → h ≡ header_of o bytes → mid ≡ drop 8 bytes → new ≡ drop (length_after h) mid → new ≡ drop (frame_length o bytes) bytes
 after_frame o bytes mid new h e m n =
-    n ∙ ap (drop (body_length h)) m ∙ drop-drop (body_length h) 8 bytes ∙ ap (λ k. drop k bytes) (sym (ap (λ (q : perf_event_header). max 8 q.size) (sym e) ∙ frame_body h))
+    n ∙ ap (drop (length_after h)) m ∙ drop-drop (length_after h) 8 bytes ∙ ap (λ k. drop k bytes) (sym (ap (λ (q : perf_event_header). max 8 q.size) (sym e) ∙ frame_body h))
 
 -- the reads of a frame whose header is whole
 reads_whole : (after : perf_event_header → List ℕ → ℕ) (o : Order) (bytes : List ℕ) → 8 ≤ length bytes →
@@ -186,7 +186,7 @@ told_reads reads old mid h made fits e m n p =
 pub tells_frame : {X V : Type 0} (view : X → V) (transition : perf_event_header → List ℕ → Result V ErrorKind) (reads : perf_event_header → List ℕ → ℕ)
     (old mid new : ReaderState) (h : perf_event_header) (r : Result X ErrorKind) →
     8 ≤ length old.source.left → h ≡ header_of old.order old.source.left → mid.source.left ≡ drop 8 old.source.left → mid.reads ≡ old.reads + layout_reads old.order header old.source.left →
-    AnswersExactly view (transition h mid.source.left) (body_length h) (reads h mid.source.left) mid r new →
+    AnswersExactly view (transition h mid.source.left) (length_after h) (reads h mid.source.left) mid r new →
     AnswersExactly view (of_frame transition old.order old.source.left) (frame_length old.order old.source.left) (frame_reads reads old.order old.source.left) old r new
 tells_frame view transition reads old mid new h (Ok x) fits e m n p = (
   frame_whole transition old.order old.source.left fits ∙ ap (λ k. transition k (drop 8 old.source.left)) (sym e) ∙ ap (transition h) (sym m) ∙ p.0,
@@ -206,7 +206,7 @@ pub tells_no_header : {X V : Type 0} (view : X → V) (transition : perf_event_h
 tells_no_header view transition reads old new e short eof none n = λ kind.
     let bytes : List ℕ = old.source.left in
     let a : nat_lt (length bytes) 8 ≡ true = lt-ltb (length bytes) 8 short in
-    let whole : frame_length old.order bytes ≡ 8 + body_length (header_of old.order bytes) = frame_body (header_of old.order bytes) in
+    let whole : frame_length old.order bytes ≡ 8 + length_after (header_of old.order bytes) = frame_body (header_of old.order bytes) in
     (rw a (ap Err (sym eof)), none ∙ sym (drop_all (frame_length old.order bytes) bytes (omega arith)), omega (arith, n, reads_cut reads old.order bytes short))
 
 -- ---- how much of a frame is taken
@@ -219,10 +219,10 @@ no_header_within o old new UnsupportedData lacks memory inside = let p = lacks r
 no_header_within o old new External lacks memory inside = absurd (cc)
 no_header_within o old new OutOfMemory lacks memory inside = absurd (memory refl)
 
-pub frame_within : (o : Order) (old mid new : Source) (h : perf_event_header) → 8 ≤ length old.left → h ≡ header_of o old.left → mid.left ≡ drop 8 old.left → MovesWithin mid (body_length h) new →
+pub frame_within : (o : Order) (old mid new : Source) (h : perf_event_header) → 8 ≤ length old.left → h ≡ header_of o old.left → mid.left ≡ drop 8 old.left → MovesWithin mid (length_after h) new →
     MovesWithin old (frame_length o old.left) new
 frame_within o old mid new h fits e m p =
-    let whole : frame_length o old.left ≡ 8 + body_length h = ap (λ (q : perf_event_header). max 8 q.size) (sym e) ∙ frame_body h in
+    let whole : frame_length o old.left ≡ 8 + length_after h = ap (λ (q : perf_event_header). max 8 q.size) (sym e) ∙ frame_body h in
     let first : MovesWithin old 8 mid = within_taken old mid 8 (fits, m) in
     (omega (arith, whole, first.0, p.0), moves_more old mid new first.1 p.1)
 

@@ -4,7 +4,7 @@ use Rattle.std.specs.Prelude.{option_map, nat_le}
 use Rattle.std.proofs.lemmas.Bool.{le-leb, lt-leb}
 use Rattle.std.proofs.lemmas.List.{drop-drop}
 use Rattle.perf_base.specs.Configuration.{Configuration}
-use Rattle.perf_base.specs.Layout.{done, optional, w4, w8, size, answer_of, slice, value}
+use Rattle.perf_base.specs.Layout.{done, optional, w4, w8, size, shape_value, slice, value}
 use Rattle.perf_base.specs.Order.{Order}
 use Rattle.perf_reader.proofs.AtOnce.{in_front}
 use Rattle.perf_sample_types.specs.SampleId.{SampleIdValue, one_if, first_of, no_sample_id, sample_id_fields, sample_id_flags, has_tid, has_time, has_id, has_cpu, has_identifier}
@@ -29,7 +29,7 @@ pub there : (bytes : List ℕ) (p : ℕ) → p + 8 ≤ length bytes → eight_at
 there bytes p fits = let t : nat_le (p + 8) (length bytes) ≡ true = le-leb (p + 8) (length bytes) fits in rw t refl
 
 eight_answer : (o : Order) (present : Bool) (ids : List ℕ) (s p left : ℕ) → s ≡ p → p + 8 * one_if present ≤ length ids →
-    answer_of o (optional present w8) (slice ids s (size (optional present w8) left)) ≡ option_map o.eight (if present then eight_at ids p else None)
+    shape_value o (optional present w8) (slice ids s (size (optional present w8) left)) ≡ option_map o.eight (if present then eight_at ids p else None)
 eight_answer o false ids s p left e fits = refl
 eight_answer o true ids s p left e fits = ap (λ n. Some (o.eight (slice ids n 8))) e ∙ sym (ap (option_map o.eight) (there ids p fits))
 
@@ -38,7 +38,7 @@ half : (o : Order) (k p : ℕ) (bytes : List ℕ) → k + 4 ≤ 8 → o.four (sl
 half o k p bytes small = ap o.four (sym (in_front k 4 8 (drop p bytes) small ∙ ap (take 4) (drop-drop k p bytes)))
 
 four_answer : (o : Order) (present : Bool) (ids : List ℕ) (s p k left : ℕ) → (present ≡ true → s ≡ p + k) → k + 4 ≤ 8 → p + 8 * one_if present ≤ length ids →
-    answer_of o (optional present w4) (slice ids s (size (optional present w4) left)) ≡ option_map (λ bytes. o.four (slice bytes k 4)) (if present then eight_at ids p else None)
+    shape_value o (optional present w4) (slice ids s (size (optional present w4) left)) ≡ option_map (λ bytes. o.four (slice bytes k 4)) (if present then eight_at ids p else None)
 four_answer o false ids s p k left e small fits = refl
 four_answer o true ids s p k left e small fits =
     ap (λ n. Some (o.four (slice ids n 4))) (e refl) ∙ ap Some (half o k p ids small)
@@ -74,10 +74,10 @@ either o true second ids p q fits = rw (there ids p fits) refl
 either o false second ids p q fits = refl
 
 either_answer : (o : Order) (first second : Bool) (ids : List ℕ) (s p n u q m : ℕ) → s ≡ p → p + 8 * one_if first ≤ length ids → u ≡ q → q + 8 * one_if second ≤ length ids →
-    first_of (answer_of o (optional first w8) (slice ids s (size (optional first w8) n))) (answer_of o (optional second w8) (slice ids u (size (optional second w8) m)))
+    first_of (shape_value o (optional first w8) (slice ids s (size (optional first w8) n))) (shape_value o (optional second w8) (slice ids u (size (optional second w8) m)))
     ≡ option_map o.eight (if first then eight_at ids p else (if second then eight_at ids q else None))
 either_answer o first second ids s p n u q m e fits e' fits' =
-    ap (λ x. first_of x (answer_of o (optional second w8) (slice ids u (size (optional second w8) m)))) (eight_answer o first ids s p n e fits)
+    ap (λ x. first_of x (shape_value o (optional second w8) (slice ids u (size (optional second w8) m)))) (eight_answer o first ids s p n e fits)
     ∙ ap (first_of (option_map o.eight (if first then eight_at ids p else None))) (eight_answer o second ids u q m e' fits')
     ∙ either o first second ids p q fits
 

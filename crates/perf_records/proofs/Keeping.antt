@@ -5,7 +5,7 @@ use Rattle.std.specs.Prelude.{Option, None, Some, IsTrue, ◌≢◌}
 use Rattle.perf_base.specs.declared.error.ErrorKind.{ErrorKind}
 use Rattle.perf_base.specs.declared.error.ErrorKind.TheVariants.{Eof, InvalidRecord, UnsupportedConfig, UnsupportedData, External, OutOfMemory}
 use Rattle.perf_buffers.specs.Buffer.{Source, Stays}
-use Rattle.perf_buffers.specs.Taking.{consumed, Moves, MovesWithin, Takes, FailsToKeep}
+use Rattle.perf_buffers.specs.Taking.{bytes_between, Moves, MovesWithin, Takes, FailsToKeep}
 use Rattle.perf_reader.specs.ReaderState.{ReaderState}
 use Rattle.perf_reader.specs.Reading.{Keeps, is_external, of_layout, one_if_refused}
 use Rattle.perf_reader.proofs.Paying.{last_moved}
@@ -36,13 +36,13 @@ no_fault e P p q = absurd (cc)
 pub within_none : (old new : Source) (n : ℕ) → new.left ≡ old.left → MovesWithin old n new
 within_none old new n e =
     let same : length new.left ≡ length old.left = ap length e in
-    let none : consumed old new ≡ 0 = omega arith in
+    let none : bytes_between old new ≡ 0 = omega arith in
     (omega arith, (omega arith, e ∙ sym (ap (λ k. drop k old.left) none)))
 
 pub within_all : (old new : Source) (n : ℕ) → length old.left ≤ n → new.left ≡ [] → MovesWithin old n new
 within_all old new n short e =
     let nothing : length new.left ≡ 0 = ap length e in
-    (omega arith, (omega arith, e ∙ sym (drop_all (consumed old new) old.left (omega arith))))
+    (omega arith, (omega arith, e ∙ sym (drop_all (bytes_between old new) old.left (omega arith))))
 
 -- bytes that were to be kept
 pub within_kept : (old new : Source) (n : ℕ) (e : ErrorKind) → FailsToKeep old n e new → MovesWithin old n new

@@ -10,6 +10,7 @@ pub mod Making
 pub mod Shown
 pub mod Handing
 pub mod FrameList
+pub mod FramesAfter
 pub mod FrameFlags
 pub mod IdNumbers
 pub mod SampleNumbers

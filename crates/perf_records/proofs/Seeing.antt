@@ -33,11 +33,11 @@ module _ {I E : Type 0} {source : I → Source} {order : E → Order} where
 
 module _ {I E O : Type 0} {source : I → Source} {order : E → Order} (gives : Event → O → Type 0) (m : MetadataValue) where
   -- a value that was read, and visited
-  pub visited : {X A : Type 0} {a b : Reader I E} {content : X} {output : O} (p : Configuration → Parts A) (view : X → A) (is : A → RecordValue) (lent wants : Bool) →
+  pub visited : {X A : Type 0} {a b : Reader I E} {content : X} {output : O} (p : Configuration → Parts A) (view : X → A) (is : A → RecordValue) (lent needs : Bool) →
       gives (event (is (view content)) lent m) output → (IsTrue (source a.input).told → IsTrue (source a.input).whole → IsTrue lent) →
-      (IsSample (is (view content)) → wants ≡ true) → Call source order (Reads p view) a (Ok content) b →
-      Call source order (Gives gives m (λ c. mapped is (p c)) wants) a (Ok output) b
-  visited {X} {A} {a} {b} {content} {output} p view is lent wants given lends sample call =
+      (IsSample (is (view content)) → needs ≡ true) → Call source order (Reads p view) a (Ok content) b →
+      Call source order (Gives gives m (λ c. mapped is (p c)) needs) a (Ok output) b
+  visited {X} {A} {a} {b} {content} {output} p view is lent needs given lends sample call =
       let old : ReaderState = state_of source order a in
       let new : ReaderState = state_of source order b in record {
         config = call.config;
@@ -57,10 +57,10 @@ module _ {I E O : Type 0} {source : I → Source} {order : E → Order} (gives :
       }
 
   -- one that was refused, and is not visited
-  pub unvisited : {X A : Type 0} {a b : Reader I E} {e : ErrorKind} (p : Configuration → Parts A) (view : X → A) (is : A → RecordValue) (wants : Bool) →
-      (IsTrue (source a.input).told → IsTrue (source a.input).whole → wants ≡ false → e ≢ OutOfMemory) → Call source order (Reads p view) a (Err e) b →
-      Call source order (Gives gives m (λ c. mapped is (p c)) wants) a (Err e) b
-  unvisited {X} {A} {a} {b} {e} p view is wants none call =
+  pub unvisited : {X A : Type 0} {a b : Reader I E} {e : ErrorKind} (p : Configuration → Parts A) (view : X → A) (is : A → RecordValue) (needs : Bool) →
+      (IsTrue (source a.input).told → IsTrue (source a.input).whole → needs ≡ false → e ≢ OutOfMemory) → Call source order (Reads p view) a (Err e) b →
+      Call source order (Gives gives m (λ c. mapped is (p c)) needs) a (Err e) b
+  unvisited {X} {A} {a} {b} {e} p view is needs none call =
       let old : ReaderState = state_of source order a in record {
         config = call.config;
         whole = call.whole;

@@ -8,7 +8,7 @@ use Rattle.perf_base.specs.Order.{Order}
 use Rattle.perf_base.specs.declared.error.ErrorKind.{ErrorKind}
 use Rattle.perf_base.specs.declared.sys.perf_event_header.{perf_event_header}
 use Rattle.perf_reader.specs.ReaderState.{ReaderState}
-use Rattle.perf_records.specs.Answers.{split_after, body_length, answer_after, reads_after, split_of_frame, answer_of_frame, frame_reads}
+use Rattle.perf_records.specs.Answers.{split_after, length_after, answer_after, reads_after, split_of_frame, answer_of_frame, frame_reads}
 use Rattle.perf_records.specs.Bodies.{body}
 use Rattle.perf_records.specs.Frames.{frame_length}
 use Rattle.perf_records.specs.Metadata.{MetadataValue}
@@ -43,7 +43,7 @@ visits_all gives m (Err e) old new from none lends v = (
 pub visits_frame : {O : Type 0} (gives : Event → O → Type 0) (old mid new : ReaderState) (h : perf_event_header) (outcome : Result O ErrorKind) →
     8 ≤ length old.source.left → h ≡ header_of old.order old.source.left → mid.source.left ≡ drop 8 old.source.left → mid.reads ≡ old.reads + layout_reads old.order header old.source.left →
     mid.source.whole ≡ old.source.whole → (let c = old.settings in let o = old.order in let bytes = mid.source.left in
-    GivesExactly gives (split_after c o h bytes) (answer_after c o h bytes) (body_length h) (reads_after c o h bytes) mid outcome new) →
+    GivesExactly gives (split_after c o h bytes) (answer_after c o h bytes) (length_after h) (reads_after c o h bytes) mid outcome new) →
     (let c = old.settings in let o = old.order in let bytes = old.source.left in
     GivesExactly gives (split_of_frame c o bytes) (answer_of_frame c o bytes) (frame_length o bytes) (frame_reads (reads_after c o) o bytes) old outcome new)
 visits_frame gives old mid new h (Ok output) fits e m n whole v =

@@ -8,7 +8,7 @@ use Rattle.perf_base.specs.Header.{header, header_of}
 use Rattle.perf_base.specs.Layout.{layout, value}
 use Rattle.perf_base.specs.Order.{Order}
 use Rattle.perf_base.specs.LayoutReads.{layout_reads}
-use Rattle.perf_base.specs.Refusals.{refused, TakesNoMemory}
+use Rattle.perf_base.specs.Refusals.{kind_if_refused, NeedsNoMemory}
 use Rattle.perf_base.specs.declared.sys.perf_event_header.{perf_event_header}
 use Rattle.perf_base.specs.declared.error.ErrorKind.{ErrorKind}
 use Rattle.perf_base.specs.declared.error.ErrorKind.TheVariants.{Eof, InvalidRecord}
@@ -17,15 +17,15 @@ use Rattle.perf_buffers.specs.Cursor.{cursor_left}
 use Rattle.perf_buffers.specs.Taking.{MovesWithin}
 use Rattle.perf_buffers.specs.declared.cursor.ParseBufCursor.{ParseBufCursor}
 use Rattle.perf_reader.specs.Reading.{Transition, of_layout, is_external}
-use Rattle.perf_records.specs.Bodies.{body, wants_memory}
+use Rattle.perf_records.specs.Bodies.{body, needs_memory}
 use Rattle.perf_records.specs.Frames.{frame_length, frames}
 use Rattle.perf_records.specs.Metadata.{MetadataValue, id_of_type, id_length}
 use Rattle.perf_records.specs.Records.{RecordValue, record_value, IsBorrowed}
 use Rattle.perf_records.specs.declared.record.Record.{Record}
 
 -- how many bytes of a frame come after its header
-abbrev pub body_length : perf_event_header → ℕ
-body_length h = h.size - 8
+abbrev pub length_after : perf_event_header → ℕ
+length_after h = h.size - 8
 
 -- ---- how a frame is split
 
@@ -63,14 +63,14 @@ abbrev pub split_after : Configuration → Order → perf_event_header → List 
     Result FrameParts ErrorKind
 split_after c o h bytes =
     if nat_lt h.size 8 then Err InvalidRecord
-    else (if nat_lt (length bytes) (body_length h) then Err Eof
-    else (if nat_lt (body_length h) (id_length c h.type_) then Err InvalidRecord
-    else Ok (parts_of c o h (take (body_length h) bytes))))
+    else (if nat_lt (length bytes) (length_after h) then Err Eof
+    else (if nat_lt (length_after h) (id_length c h.type_) then Err InvalidRecord
+    else Ok (parts_of c o h (take (length_after h) bytes))))
 
 -- the number of reads for that: those of the sample id, if there is a whole frame
 abbrev pub split_reads : Configuration → Order → perf_event_header → List ℕ → ℕ
 split_reads c o h bytes = elim (split_after c o h bytes) [
-  | Ok parts ↦ id_reads c o h (take (body_length h) bytes)
+  | Ok parts ↦ id_reads c o h (take (length_after h) bytes)
   | Err e ↦ 0
 ]
 
@@ -141,14 +141,14 @@ answered_parts pair = record { metadata = pair.1; body = cursor_left pair.0 }
 abbrev pub SplitsAfter : perf_event_header → Transition (ParseBufCursor × MetadataValue)
 SplitsAfter h old outcome new =
     let c = old.settings in let o = old.order in let bytes = old.source.left in
-    AnswersExactly answered_parts (split_after c o h bytes) (body_length h) (split_reads c o h bytes)
+    AnswersExactly answered_parts (split_after c o h bytes) (length_after h) (split_reads c o h bytes)
     old outcome new
 
 -- the record in a frame after its header; exactly its body and its sample id are taken
 abbrev pub ReadsFrameAfter : perf_event_header → Transition Record
 ReadsFrameAfter h old outcome new =
     let c = old.settings in let o = old.order in let bytes = old.source.left in
-    AnswersExactly record_value (answer_after c o h bytes) (body_length h) (reads_after c o h bytes)
+    AnswersExactly record_value (answer_after c o h bytes) (length_after h) (reads_after c o h bytes)
     old outcome new
 
 -- What reading a frame with its header does: it returns what the frame's bytes contain, and takes
@@ -159,16 +159,16 @@ ReadsFrame old outcome new =
     let c = old.settings in let o = old.order in let bytes = old.source.left in
     AnswersExactly record_value (answer_of_frame c o bytes) (frame_length o bytes)
     (frame_reads (reads_after c o) o bytes) old outcome new
-    × (is_external (refused outcome) ≡ false →
+    × (is_external (kind_if_refused outcome) ≡ false →
     MovesWithin old.source (frame_length o bytes) new.source)
     × (IsTrue old.source.whole →
     IfOk outcome IsBorrowed
-    × (wants_memory (header_of o bytes).type_ ≡ false → TakesNoMemory outcome))
+    × (needs_memory (header_of o bytes).type_ ≡ false → NeedsNoMemory outcome))
 
 -- What the header of a frame refuses, before memory is needed: fewer than 8 bytes are `Eof`, and a
 -- size that does not count the header is `InvalidRecord`. Only a fault comes before that.
 abbrev pub RefusesHeader : {X : Type 0} → Order → List ℕ → Result X ErrorKind → Type 0
-RefusesHeader o bytes outcome = is_external (refused outcome) ≡ false →
+RefusesHeader o bytes outcome = is_external (kind_if_refused outcome) ≡ false →
     (length bytes < 8 → outcome ≡ Err Eof)
     × (8 ≤ length bytes → (header_of o bytes).size < 8 → outcome ≡ Err InvalidRecord)
 

@@ -3,7 +3,7 @@ use Rattle.std.specs.Prelude.{ℕ, Bool, false, Option, Some, None}
 use Rattle.perf_base.specs.Configuration.{Configuration}
 use Rattle.perf_base.specs.FieldWords.{all_left}
 use Rattle.perf_base.specs.Layout.{Parts, done, mapped}
-use Rattle.perf_records.specs.RecordTypes.{type_of, type_wants_memory}
+use Rattle.perf_records.specs.RecordTypes.{type_of, type_needs_memory}
 use Rattle.perf_records.specs.Records.{RecordValue, mmap_is, lost_is}
 use Rattle.perf_records.specs.Records.{comm_is, exit_is, throttle_is, unthrottle_is, fork_is}
 use Rattle.perf_records.specs.Records.{read_is, sample_is, mmap2_is, aux_is, itrace_start_is}
@@ -68,9 +68,9 @@ abbrev pub body : Configuration → ℕ → Parts RecordValue
 body c ty = body_of_type c ty (type_of ty)
 
 -- a type whose records need memory, even if a whole buffer lends its bytes
-abbrev pub wants_memory_of_type : Option RecordType → Bool
-wants_memory_of_type type = elim type [ Some type ↦ type_wants_memory type | None ↦ false ]
+abbrev pub needs_memory_of_type : Option RecordType → Bool
+needs_memory_of_type type = elim type [ Some type ↦ type_needs_memory type | None ↦ false ]
 
 -- the same by its number
-abbrev pub wants_memory : ℕ → Bool
-wants_memory ty = wants_memory_of_type (type_of ty)
+abbrev pub needs_memory : ℕ → Bool
+needs_memory ty = needs_memory_of_type (type_of ty)

@@ -4,15 +4,15 @@ use Rattle.std.specs.Prelude.{Result, Ok, Err, ◌≡◌, ◌≢◌, ◌<◌, Li
 use Rattle.perf_base.specs.Configuration.{Configuration}
 use Rattle.perf_base.specs.Errors.{kind_of}
 use Rattle.perf_base.specs.Order.{Order}
-use Rattle.perf_base.specs.Refusals.{IsAnswerOf}
+use Rattle.perf_base.specs.Refusals.{IsErrorOf}
 use Rattle.perf_base.specs.declared.error.ErrorKind.{ErrorKind}
 use Rattle.perf_base.specs.declared.error.ErrorKind.TheVariants.{External, OutOfMemory}
 use Rattle.perf_base.specs.declared.error.ParseError.{ParseError}
 use Rattle.perf_base.specs.declared.refusal.Refusal.TheVariants.{NoRoomForId}
 use Rattle.perf_base.specs.declared.sys.perf_event_header.{perf_event_header}
 use Rattle.perf_reader.specs.Reading.{of_layout}
-use Rattle.perf_records.specs.Answers.{FrameParts, body_length, split_after, answer_after}
-use Rattle.perf_records.specs.Bodies.{wants_memory}
+use Rattle.perf_records.specs.Answers.{FrameParts, length_after, split_after, answer_after}
+use Rattle.perf_records.specs.Bodies.{needs_memory}
 use Rattle.perf_records.specs.Metadata.{MetadataValue, id_length}
 use Rattle.perf_records.specs.Records.{RecordValue}
 use Rattle.perf_records.specs.Gives.{Event, event, IsSampleIn}
@@ -25,7 +25,7 @@ metadata_in (Err e) = Err e
 
 -- a frame is too short for its sample id
 abbrev pub HasNoRoom : perf_event_header → Configuration → Type 0
-HasNoRoom h c = body_length h < id_length c h.type_
+HasNoRoom h c = length_after h < id_length c h.type_
 
 -- What reading a whole frame returns. A value belongs to the event of the frame, which is its
 -- record and its metadata, with nothing copied if the bytes live as long as the input. An error is
@@ -41,9 +41,9 @@ FrameGives gives h c o bytes borrowed (Ok output) =
     × (IsTrue borrowed → IsTrue b)
 FrameGives gives h c o bytes borrowed (Err e) =
     (IsTrue (of_layout (kind_of e)) → answer_after c o h bytes ≡ Err (kind_of e))
-    × (HasNoRoom h c → IsAnswerOf e NoRoomForId)
+    × (HasNoRoom h c → IsErrorOf e NoRoomForId)
     × (kind_of e ≢ External)
-    × (IsTrue borrowed → wants_memory h.type_ ≡ false → kind_of e ≢ OutOfMemory)
+    × (IsTrue borrowed → needs_memory h.type_ ≡ false → kind_of e ≢ OutOfMemory)
 
 -- true was returned, and the place contains the event's sample
 abbrev pub PutsSample : Event → Bool → Sample → Type 0

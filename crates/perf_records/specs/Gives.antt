@@ -11,13 +11,13 @@ use Rattle.perf_base.specs.Took.{took, quit, took_by_places}
 use Rattle.perf_base.specs.declared.error.ErrorKind.{ErrorKind}
 use Rattle.perf_base.specs.declared.error.ErrorKind.TheVariants.{OutOfMemory}
 use Rattle.perf_base.specs.declared.sys.perf_event_header.{perf_event_header}
-use Rattle.perf_base.specs.Refusals.{refused, TakesNoMemory}
+use Rattle.perf_base.specs.Refusals.{kind_if_refused, NeedsNoMemory}
 use Rattle.perf_buffers.specs.Taking.{MovesWithin}
 use Rattle.perf_reader.specs.Reading.{Transition, of_layout, is_external}
 use Rattle.perf_records.specs.Answers.{FrameParts, AnswersExactly, split_after, answer_after}
-use Rattle.perf_records.specs.Answers.{reads_after, body_length, split_of_frame, answer_of_frame}
+use Rattle.perf_records.specs.Answers.{reads_after, length_after, split_of_frame, answer_of_frame}
 use Rattle.perf_records.specs.Answers.{frame_reads}
-use Rattle.perf_records.specs.Bodies.{body_of_type, wants_memory_of_type, wants_memory}
+use Rattle.perf_records.specs.Bodies.{body_of_type, needs_memory_of_type, needs_memory}
 use Rattle.perf_records.specs.Frames.{frame_length}
 use Rattle.perf_records.specs.Metadata.{MetadataValue}
 use Rattle.perf_records.specs.RecordTypes.{type_of}
@@ -111,21 +111,21 @@ GivesOrLeavesOut gives left_out e output =
 -- buffer is copied, and memory is needed only if the type takes it.
 abbrev pub Gives : {O : Type 0} → (Event → O → Type 0) → MetadataValue →
     (Configuration → Parts RecordValue) → Bool → Transition O
-Gives gives m parts wants old (Ok output) new =
+Gives gives m parts needs old (Ok output) new =
     (value : RecordValue) × (b : Bool) × gives (event value b m) output
     × (took_by_places old.order (parts old.settings) old.source.left old.reads
     ≡ took value new.source.left new.reads)
-    × (IsTrue old.source.whole → IsTrue b) × (IsSample value → wants ≡ true)
-Gives gives m parts wants old (Err e) new =
+    × (IsTrue old.source.whole → IsTrue b) × (IsSample value → needs ≡ true)
+Gives gives m parts needs old (Err e) new =
     (IsTrue (of_layout e) →
     took_by_places old.order (parts old.settings) old.source.left old.reads
     ≡ quit e new.source.left new.reads)
-    × (IsTrue old.source.whole → wants ≡ false → e ≢ OutOfMemory)
+    × (IsTrue old.source.whole → needs ≡ false → e ≢ OutOfMemory)
 
 -- the same for a known type, or for one that has no table
 abbrev pub GivesOf : {O : Type 0} → (Event → O → Type 0) → MetadataValue → Option RecordType →
     Transition O
-GivesOf gives m type = Gives gives m (λ c. body_of_type c m.ty type) (wants_memory_of_type type)
+GivesOf gives m type = Gives gives m (λ c. body_of_type c m.ty type) (needs_memory_of_type type)
 
 -- the same for a type
 abbrev pub GivesType : {O : Type 0} → (Event → O → Type 0) → MetadataValue → RecordType → Transition O
@@ -145,10 +145,10 @@ abbrev pub GivesWholeBody : {O : Type 0} → (Event → O → Type 0) → Metada
 GivesWholeBody gives m o p bytes from (Ok output) k =
     (value : RecordValue) × (b : Bool) × gives (event value b m) output
     × (layout o p bytes ≡ Ok value) × (k ≡ layout_reads o p bytes)
-    × (IsTrue from → IsTrue b) × (IsSample value → wants_memory m.ty ≡ true)
+    × (IsTrue from → IsTrue b) × (IsSample value → needs_memory m.ty ≡ true)
 GivesWholeBody gives m o p bytes from (Err e) k =
     (IsTrue (of_layout e) → (layout o p bytes ≡ Err e) × (k ≡ layout_reads o p bytes))
-    × (IsTrue from → wants_memory m.ty ≡ false → e ≢ OutOfMemory)
+    × (IsTrue from → needs_memory m.ty ≡ false → e ≢ OutOfMemory)
 
 -- ---- what a visit of a frame does
 
@@ -169,7 +169,7 @@ GivesExactly gives split answer n k old (Err e) new =
 abbrev pub GivesFrameAfter : {O : Type 0} → (Event → O → Type 0) → perf_event_header → Transition O
 GivesFrameAfter gives h old outcome new =
     let c = old.settings in let o = old.order in let bytes = old.source.left in
-    GivesExactly gives (split_after c o h bytes) (answer_after c o h bytes) (body_length h)
+    GivesExactly gives (split_after c o h bytes) (answer_after c o h bytes) (length_after h)
     (reads_after c o h bytes) old outcome new
 
 -- The same of a frame with its header. If it is refused in another way, except by a fault, a prefix
@@ -179,10 +179,10 @@ GivesFrame gives old outcome new =
     let c = old.settings in let o = old.order in let bytes = old.source.left in
     GivesExactly gives (split_of_frame c o bytes) (answer_of_frame c o bytes) (frame_length o bytes)
     (frame_reads (reads_after c o) o bytes) old outcome new
-    × (is_external (refused outcome) ≡ false →
+    × (is_external (kind_if_refused outcome) ≡ false →
     MovesWithin old.source (frame_length o bytes) new.source)
-    × (IsTrue old.source.whole → wants_memory (header_of o bytes).type_ ≡ false →
-    TakesNoMemory outcome)
+    × (IsTrue old.source.whole → needs_memory (header_of o bytes).type_ ≡ false →
+    NeedsNoMemory outcome)
 
 -- What is known of an output even if a buffer's bytes are not known: the type and the misc of its
 -- event are those of the header, and nothing of a whole buffer was copied.
@@ -190,4 +190,4 @@ abbrev pub BelongsTo : {O : Type 0} → (Event → O → Type 0) → perf_event_
 BelongsTo gives h whole output =
     (e : Event) × gives e output
     × (e.metadata.ty ≡ h.type_) × (e.metadata.misc ≡ h.misc)
-    × (IsTrue whole → IsTrue e.borrowed) × (IsSample e.value → wants_memory h.type_ ≡ true)
+    × (IsTrue whole → IsTrue e.borrowed) × (IsSample e.value → needs_memory h.type_ ≡ true)

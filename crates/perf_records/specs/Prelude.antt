@@ -9,12 +9,12 @@ pub use Rattle.perf_buffers.specs.Cursor.{cursor_left, cursor_is_borrowed}
 pub use Rattle.perf_buffers.specs.Room.{falls_short, is_made_beforehand}
 pub use Rattle.perf_buffers.specs.Taking.{MovesWithin}
 pub use Rattle.perf_reader.specs.Reading.{is_external, one_if_refused}
-pub use Rattle.perf_reader.specs.Prelude.{Call, kinds, error_kinds, TakesNoMemory, input_of, config_of}
-pub use Rattle.perf_reader.specs.Prelude.{reads_of, refused, refusal_kind}
+pub use Rattle.perf_reader.specs.Prelude.{Call, kinds, error_kinds, NeedsNoMemory, input_of, config_of}
+pub use Rattle.perf_reader.specs.Prelude.{reads_of, kind_if_refused, refusal_kind}
 pub use Rattle.perf_records.specs.Answers.{SplitsAfter, ReadsFrameAfter, ReadsFrame}
-pub use Rattle.perf_records.specs.Answers.{body_length, answered_parts, frame_parts, parts_of, id_reads}
+pub use Rattle.perf_records.specs.Answers.{length_after, answered_parts, frame_parts, parts_of, id_reads}
 pub use Rattle.perf_records.specs.Answers.{LeavesAllOrRest, RefusesHeader, ReadsRecord}
-pub use Rattle.perf_records.specs.Bodies.{body, wants_memory}
+pub use Rattle.perf_records.specs.Bodies.{body, needs_memory}
 pub use Rattle.perf_records.specs.Metadata.{MetadataValue, carries_sample_id, id_of_type, id_length}
 pub use Rattle.perf_records.specs.Records.{record_value, IsBorrowed, aux_is, aux_output_hw_id_is}
 pub use Rattle.perf_records.specs.Records.{bpf_event_is, cgroup_is, comm_is, exit_is, fork_is}

@@ -31,7 +31,7 @@ type_of ty =
     else None))))))))))))))))))))
 
 -- Records of this type need memory, even over a whole buffer: for a list, or for a box.
-abbrev pub type_wants_memory : RecordType → Bool
-type_wants_memory type.Sample = true
-type_wants_memory type.Namespaces = true
-type_wants_memory _ = false
+abbrev pub type_needs_memory : RecordType → Bool
+type_needs_memory type.Sample = true
+type_needs_memory type.Namespaces = true
+type_needs_memory _ = false

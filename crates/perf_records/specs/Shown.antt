@@ -3,13 +3,13 @@ use Rattle.std.specs.Prelude.{Result, ◌≡◌, ℕ, ◌+◌, ◌≤◌, Bool, 
 use Rattle.std.specs.Prelude.{drop, IsTrue}
 use Rattle.perf_base.specs.Configuration.{Configuration}
 use Rattle.perf_base.specs.Order.{Order}
-use Rattle.perf_base.specs.Refusals.{refused, kinds, TakesNoMemory}
+use Rattle.perf_base.specs.Refusals.{kind_if_refused, kinds, NeedsNoMemory}
 use Rattle.perf_base.specs.declared.refusal.Refusal.{Refusal}
 use Rattle.perf_base.specs.declared.sys.perf_event_header.{perf_event_header}
 use Rattle.perf_reader.specs.ReaderState.{ReaderState}
 use Rattle.perf_reader.specs.Reading.{is_external, one_if_refused}
-use Rattle.perf_records.specs.Answers.{body_length}
-use Rattle.perf_records.specs.Bodies.{wants_memory}
+use Rattle.perf_records.specs.Answers.{length_after}
+use Rattle.perf_records.specs.Bodies.{needs_memory}
 use Rattle.perf_records.specs.Gives.{Event, GivesFrameAfter, BelongsTo}
 
 -- the state of a reader of these bytes, which live as long as the input or not
@@ -26,8 +26,8 @@ abbrev pub GivesFrameBytes : {O : Type 0} → (Event → O → Type 0) → perf_
     Configuration → Order → List ℕ → Bool → Result O Refusal → (k : ℕ) → Type 0
 GivesFrameBytes gives h c o bytes borrowed result k =
     GivesFrameAfter gives h (slice_state c o bytes borrowed 0) (kinds result)
-    (slice_state c o (drop (body_length h) bytes) borrowed k)
+    (slice_state c o (drop (length_after h) bytes) borrowed k)
     × IfOk result (λ output. BelongsTo gives h borrowed output)
-    × (IsTrue borrowed → wants_memory h.type_ ≡ false → TakesNoMemory (kinds result))
-    × (is_external (refused (kinds result)) ≡ false)
-    × (k ≤ body_length h + one_if_refused (refused (kinds result)))
+    × (IsTrue borrowed → needs_memory h.type_ ≡ false → NeedsNoMemory (kinds result))
+    × (is_external (kind_if_refused (kinds result)) ≡ false)
+    × (k ≤ length_after h + one_if_refused (kind_if_refused (kinds result)))

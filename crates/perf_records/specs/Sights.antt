@@ -7,7 +7,7 @@ use Rattle.perf_base.specs.declared.error.ErrorKind.{ErrorKind}
 use Rattle.perf_base.specs.declared.error.ErrorKind.TheVariants.{Eof, InvalidRecord}
 use Rattle.perf_base.specs.declared.sys.perf_event_header.{perf_event_header}
 use Rattle.perf_buffers.specs.Buffer.{Source, chunk_bytes, chunk_is_borrowed}
-use Rattle.perf_records.specs.Answers.{body_length}
+use Rattle.perf_records.specs.Answers.{length_after}
 use Rattle.perf_records.specs.declared.frame.Frame.{Frame}
 use Rattle.perf_records.specs.declared.frame_handler.BadFrame.{BadFrame}
 
@@ -27,8 +27,8 @@ sight_of (Err b) = bad b.header (refusal_kind b.refusal)
 abbrev pub sight_after : perf_event_header → List ℕ → Bool → Sight
 sight_after h bytes borrowed =
     if nat_lt h.size 8 then bad h InvalidRecord
-    else (if nat_lt (length bytes) (body_length h) then bad h Eof
-    else whole h (take (body_length h) bytes) borrowed)
+    else (if nat_lt (length bytes) (length_after h) then bad h Eof
+    else whole h (take (length_after h) bytes) borrowed)
 
 -- the same by the bytes of a frame
 abbrev pub sight_in : Order → List ℕ → Bool → Sight
@@ -41,6 +41,6 @@ abbrev pub HandsAfter : {S : Type 0} → (S → Sight → Bool → S → Type 0)
     Bool → Source → S → Type 0
 HandsAfter gets h old was go new now =
     (bytes : List ℕ) × (borrowed : Bool) × gets was (sight_after h bytes borrowed) go now
-    × (IsTrue old.told → (bytes ≡ take (body_length h) old.left)
-    × (new.left ≡ drop (body_length h) old.left))
+    × (IsTrue old.told → (bytes ≡ take (length_after h) old.left)
+    × (new.left ≡ drop (length_after h) old.left))
     × (IsTrue old.whole → IsTrue borrowed)

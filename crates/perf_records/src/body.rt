@@ -5,7 +5,7 @@
 #![tactic(auto, using(perf_reader::proofs::Paying::chain))]
 
 ghost use Rattle.perf_records.specs.Prelude.{Call, GivesBody, GivesType, GivesUnknown, kinds};
-ghost use Rattle.perf_records.specs.Prelude as words;
+ghost use Rattle.perf_records.specs.Prelude as prelude;
 
 use crate::metadata::RecordMetadata;
 use crate::record_type::RecordType;

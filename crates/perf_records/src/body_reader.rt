@@ -3,7 +3,7 @@
 ghost use Rattle.std.specs.Prelude.{◌≡◌, ◌≤◌, ◌+◌, ℕ, ⊤, false, length, IsTrue};
 ghost use Rattle.perf_records.specs.Prelude.{Call, GivesBody, GivesWholeBody, IsRecordOf, IsSampleOf, IsSampleIn};
 ghost use Rattle.perf_records.specs.Prelude.{Event, kinds, input_of, body};
-ghost use Rattle.perf_records.specs.Prelude.{configuration_of, endian_of, refused, is_external};
+ghost use Rattle.perf_records.specs.Prelude.{configuration_of, endian_of, kind_if_refused, is_external};
 ghost use Rattle.perf_records.specs.Prelude.{one_if_refused};
 ghost use Rattle.perf_buffers.specs.Prelude.{chunk_bytes, chunk_is_borrowed};
 
@@ -54,9 +54,9 @@ pub trait BodyReader<'p, S>: OfBody<'p, S> {
             GivesWholeBody (λ e output. Self.gives e state.old output state.new) metadata
             (E.order (endian_of config)) (body (configuration_of config) metadata.ty)
             (chunk_bytes bytes.entry) (chunk_is_borrowed bytes.entry) (kinds result.0) result.1 }
-        ensures faults { Self.reads metadata.ty → is_external (refused (kinds result.0)) ≡ false }
+        ensures faults { Self.reads metadata.ty → is_external (kind_if_refused (kinds result.0)) ≡ false }
         ensures cost { Self.reads metadata.ty → result.1 ≤ length (chunk_bytes bytes.entry)
-            + one_if_refused (refused (kinds result.0)) };
+            + one_if_refused (kind_if_refused (kinds result.0)) };
 }
 
 /// The same, for one kind of input.
@@ -90,9 +90,9 @@ fn read_from<'p, S, I: Input<'p> + Drop, E: Endian, M: ReadBody<'p, S, I>>(
         GivesWholeBody (λ e output. M.gives e state.old output state.new) metadata
         (E.order (endian_of config)) (body (configuration_of config) metadata.ty)
         (I.source bytes).left (I.source bytes).whole (kinds result.0) result.1 }
-    ensures faults { M.reads metadata.ty → is_external (refused (kinds result.0)) ≡ false }
+    ensures faults { M.reads metadata.ty → is_external (kind_if_refused (kinds result.0)) ≡ false }
     ensures cost { M.reads metadata.ty → result.1 ≤ length (I.source bytes).left
-        + one_if_refused (refused (kinds result.0)) }
+        + one_if_refused (kind_if_refused (kinds result.0)) }
 {
     let mut reader = Reader::new(alloc, bytes, config);
     let output = made.read_body(&mut reader, metadata, state);

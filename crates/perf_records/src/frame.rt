@@ -2,7 +2,7 @@
 
 ghost use Rattle.std.specs.Prelude.{◌≡◌, ◌≤◌, length, IfErr};
 ghost use Rattle.perf_records.specs.FrameReadings.{HasNoRoom};
-ghost use Rattle.perf_records.specs.Prelude.{configuration_of, endian_of, body_length, GivesFrameBytes};
+ghost use Rattle.perf_records.specs.Prelude.{configuration_of, endian_of, length_after, GivesFrameBytes};
 ghost use Rattle.perf_records.specs.Prelude.{NoRoomForId};
 ghost use Rattle.perf_buffers.specs.Prelude.{chunk_bytes, chunk_is_borrowed};
 
@@ -24,7 +24,7 @@ pub struct Frame<'c, 'p> {
     header: perf_event_header,
     rest: ParseBufChunk<'c, 'p>,
     ghost sized: { 8 ≤ header.size },
-    ghost whole: { length (chunk_bytes rest) ≡ body_length header },
+    ghost whole: { length (chunk_bytes rest) ≡ length_after header },
 }
 
 impl<'c, 'p> Frame<'c, 'p> {
@@ -32,7 +32,7 @@ impl<'c, 'p> Frame<'c, 'p> {
     #[inline]
     pub(crate) fn new(header: perf_event_header, rest: ParseBufChunk<'c, 'p>) -> Frame<'c, 'p>
         requires sized { 8 ≤ header.size }
-        requires whole { length (chunk_bytes rest) ≡ body_length header }
+        requires whole { length (chunk_bytes rest) ≡ length_after header }
         ensures header { result.header ≡ header }
         ensures rest { chunk_bytes result.rest ≡ chunk_bytes rest.entry }
         ensures chunk_is_borrowed { chunk_is_borrowed result.rest ≡ chunk_is_borrowed rest.entry }

@@ -6,8 +6,8 @@ ghost use Rattle.perf_buffers.specs.declared.outer.Outer.{Outer};
 ghost use Rattle.perf_reader.specs.Prelude.{buffer_of, config_of, reads_of, of_layout, Stays, CanFail};
 ghost use Rattle.perf_records.specs.Sights.{whole, HandsAfter};
 ghost use Rattle.perf_records.specs.Prelude.{configuration_of, endian_of};
-ghost use Rattle.perf_records.specs.Prelude.{Call, kinds, refusal_kind, body_length};
-ghost use Rattle.perf_records.specs.Prelude as words;
+ghost use Rattle.perf_records.specs.Prelude.{Call, kinds, refusal_kind, length_after};
+ghost use Rattle.perf_records.specs.Prelude as prelude;
 
 use crate::body_reader::{AsRecord, BodyReader};
 use crate::frame::Frame;
@@ -37,10 +37,10 @@ struct FrameOf<M> {
 impl<'p, S, E: Endian, M: BodyReader<'p, S>> ConfiguredFrameReader<'p, E, S> for FrameOf<M> {
     type Output = ReadResult<M::Output>;
 
-    ghost len = { λ frame. body_length frame.header };
+    ghost len = { λ frame. length_after frame.header };
 
     ghost gives = { λ frame settings order bytes borrowed made was output now.
-        M.reads frame.header.type_ → words.GivesFrameBytes (λ e x. M.gives e was x now)
+        M.reads frame.header.type_ → prelude.GivesFrameBytes (λ e x. M.gives e was x now)
         frame.header settings order bytes borrowed output made };
 
     #[inline]
@@ -69,38 +69,38 @@ pub fn read_after<'p, S, B: ParseBuf<'p>, E: Endian, M: BodyReader<'p, S>>(
 ) -> ReadResult<M::Output>
     requires reads { M.reads header.type_ }
     ensures within { IsTrue (B.source (buffer_of reader.old)).told →
-        words.MovesWithin (B.source (buffer_of reader.old)) (body_length header)
+        prelude.MovesWithin (B.source (buffer_of reader.old)) (length_after header)
         (B.source (buffer_of reader.new)) }
-    ensures event { IfOk result (λ output. words.BelongsTo
+    ensures event { IfOk result (λ output. prelude.BelongsTo
         (λ e x. M.gives e state.old x state.new) header
         (B.source (buffer_of reader.old)).whole output) }
     ensures whole_memory { IsTrue (B.source (buffer_of reader.old)).whole →
-        words.wants_memory header.type_ ≡ false → words.TakesNoMemory (kinds result) }
+        prelude.needs_memory header.type_ ≡ false → prelude.NeedsNoMemory (kinds result) }
 
     // A size that does not count the header is refused before anything else.
-    ensures small { header.size < 8 → (kinds result ≡ Err words.InvalidRecord)
+    ensures small { header.size < 8 → (kinds result ≡ Err prelude.InvalidRecord)
         × (B.source (buffer_of reader.new) ≡ B.source (buffer_of reader.old)) }
-    ensures small_why { header.size < 8 → IfErr result (λ e. e ≡ words.SmallHeader) }
+    ensures small_why { header.size < 8 → IfErr result (λ e. e ≡ prelude.SmallHeader) }
 
     // Memory is allocated by the rules of a frame, and as the body needs it. If there is no memory
     // for the frame, nothing is taken if the full capacity is reserved first; if there is none for
     // the body, exactly the frame is taken.
-    ensures nothing { body_length header ≡ 0 → words.wants_memory header.type_ ≡ false →
-        words.TakesNoMemory (kinds result) }
-    ensures short { words.falls_short (B.hint (buffer_of reader.old)) (body_length header) ≡ true →
-        words.TakesNoMemory (kinds result) × IfOk result (λ output. ⊥) }
+    ensures nothing { length_after header ≡ 0 → prelude.needs_memory header.type_ ≡ false →
+        prelude.NeedsNoMemory (kinds result) }
+    ensures short { prelude.falls_short (B.hint (buffer_of reader.old)) (length_after header) ≡ true →
+        prelude.NeedsNoMemory (kinds result) × IfOk result (λ output. ⊥) }
     ensures beforehand { IsTrue (B.source (buffer_of reader.old)).told →
-        words.is_made_beforehand (B.hint (buffer_of reader.old)) (body_length header) ≡ true →
-        IfErr result (λ e. refusal_kind e ≡ words.OutOfMemory →
-        words.LeavesAllOrRest (B.source (buffer_of reader.old)) (body_length header)
+        prelude.is_made_beforehand (B.hint (buffer_of reader.old)) (length_after header) ≡ true →
+        IfErr result (λ e. refusal_kind e ≡ prelude.OutOfMemory →
+        prelude.LeavesAllOrRest (B.source (buffer_of reader.old)) (length_after header)
         (B.source (buffer_of reader.new))) }
     ensures spent { IsTrue (B.source (buffer_of reader.old)).told →
         IsTrue (B.source (buffer_of reader.old)).whole →
-        IfErr result (λ e. refusal_kind e ≡ words.OutOfMemory →
+        IfErr result (λ e. refusal_kind e ≡ prelude.OutOfMemory →
         (B.source (buffer_of reader.new)).left
-        ≡ drop (body_length header) (B.source (buffer_of reader.old)).left) }
+        ≡ drop (length_after header) (B.source (buffer_of reader.old)).left) }
     ensures call { Call (λ (o : Outer B). B.source o.buf) E.order
-        (words.GivesFrameAfter (λ e x. M.gives e state.old x state.new) header)
+        (prelude.GivesFrameAfter (λ e x. M.gives e state.old x state.new) header)
         reader.old (kinds result) reader.new }
 {
     if header.size < 8 {
@@ -123,7 +123,7 @@ struct Hand {
 impl<'p, E: Endian, H: FrameHandler<'p, E>> ConfiguredFrameReader<'p, E, H> for Hand {
     type Output = bool;
 
-    ghost len = { λ frame. body_length frame.header };
+    ghost len = { λ frame. length_after frame.header };
 
     ghost gives = { λ frame settings order bytes borrowed made was go now. (made ≡ 0)
         × H.gets was settings order (whole frame.header bytes borrowed) go now };
@@ -159,9 +159,9 @@ pub fn hand_after<'p, B: ParseBuf<'p>, E: Endian, H: FrameHandler<'p, E>>(
     handler: &mut H,
 ) -> ReadResult<bool>
     ensures config { config_of reader.new ≡ config_of reader.old }
-    ensures stays { Stays (B.source (buffer_of reader.old)) (words.refused (kinds result))
+    ensures stays { Stays (B.source (buffer_of reader.old)) (prelude.kind_if_refused (kinds result))
         (B.source (buffer_of reader.new)) }
-    ensures can_fail { CanFail (B.source (buffer_of reader.old)) (words.refused (kinds result)) }
+    ensures can_fail { CanFail (B.source (buffer_of reader.old)) (prelude.kind_if_refused (kinds result)) }
     ensures reads { reads_of reader.new ≡ reads_of reader.old }
     ensures handed { IfOk result (λ go. HandsAfter
         (λ s x. H.gets s (configuration_of (config_of reader.old))
@@ -172,10 +172,10 @@ pub fn hand_after<'p, B: ParseBuf<'p>, E: Endian, H: FrameHandler<'p, E>>(
     ensures stops { IsTrue (B.source (buffer_of reader.old)).told →
         IfErr result (λ e. IsTrue (of_layout (refusal_kind e)) → ⊥) }
     ensures left { IsTrue (B.source (buffer_of reader.old)).told → IfErr result (λ e.
-        words.MovesWithin (B.source (buffer_of reader.old)) (body_length header)
+        prelude.MovesWithin (B.source (buffer_of reader.old)) (length_after header)
         (B.source (buffer_of reader.new))) }
     ensures memory { IsTrue (B.source (buffer_of reader.old)).whole →
-        words.TakesNoMemory (kinds result) }
+        prelude.NeedsNoMemory (kinds result) }
 {
     if header.size < 8 {
         let bad = BadFrame::new(header, Refusal::SmallHeader);
@@ -194,7 +194,7 @@ pub fn hand_after<'p, B: ParseBuf<'p>, E: Endian, H: FrameHandler<'p, E>>(
 }
 
 impl HasTransition for Record<'_> {
-    ghost transition = { words.ReadsRecord };
+    ghost transition = { prelude.ReadsRecord };
 }
 
 /// A frame with its header, which is three elementary reads.

@@ -3,7 +3,7 @@
 ghost use Rattle.std.specs.Prelude.{◌≡◌, Bool};
 ghost use Rattle.perf_base.specs.Configuration.{Configuration};
 ghost use Rattle.perf_base.specs.Order.{Order};
-ghost use Rattle.perf_base.specs.Refusals.{IsAnswerOf};
+ghost use Rattle.perf_base.specs.Refusals.{IsErrorOf};
 ghost use Rattle.perf_records.specs.Sights.{Sight, sight_of};
 ghost use Rattle.perf_records.specs.Prelude.{configuration_of, endian_of, refusal_kind};
 
@@ -63,8 +63,8 @@ impl BadFrame {
 
     /// The error that `read_records` lists for it.
     pub fn error(&self) -> ParseError
-        ensures { IsAnswerOf result self.now.refusal }
+        ensures { IsErrorOf result self.now.refusal }
     {
-        Kept::none().answer(self.refusal)
+        Kept::none().error_of(self.refusal)
     }
 }

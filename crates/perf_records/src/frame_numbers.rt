@@ -16,6 +16,7 @@ use bitflags::Flags;
 use perf_base::config::ParseConfig;
 use perf_base::endian::Endian;
 use perf_base::sys::PERF_RECORD_SAMPLE;
+use perf_reader::halves::{first_half, second_half};
 use perf_words::SampleFlags;
 
 // The place of a field of eight bytes: whether the sample type has it, and how many bytes come
@@ -146,24 +147,6 @@ fn identifier_bytes(bytes: &[u8], ty: u32) -> Option<[u8; 8]>
     } else {
         None
     }
-}
-
-// The first four of eight bytes as a number.
-#[inline]
-fn first_half<E: Endian>(endian: &E, bytes: [u8; 8]) -> u32
-    ensures { result ≡ numbers.first_half (E.order endian.now) bytes }
-{
-    let [b0, b1, b2, b3, _, _, _, _] = bytes;
-    endian.convert_u32([b0, b1, b2, b3])
-}
-
-// The last four of eight bytes as a number.
-#[inline]
-fn second_half<E: Endian>(endian: &E, bytes: [u8; 8]) -> u32
-    ensures { result ≡ numbers.second_half (E.order endian.now) bytes }
-{
-    let [_, _, _, _, b4, b5, b6, b7] = bytes;
-    endian.convert_u32([b4, b5, b6, b7])
 }
 
 // Single numbers of a frame are read at their offsets, without looking at the rest of it.

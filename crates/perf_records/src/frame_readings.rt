@@ -1,7 +1,7 @@
 //! What one whole frame contains.
 
 ghost use Rattle.std.specs.Prelude.{◌≡◌, false, Ok, IfErr, OnErr};
-ghost use Rattle.perf_base.specs.Refusals.{IsAnswerOf, error_kinds};
+ghost use Rattle.perf_base.specs.Refusals.{IsErrorOf, error_kinds};
 ghost use Rattle.perf_buffers.specs.Prelude.{chunk_bytes, chunk_is_borrowed};
 ghost use Rattle.perf_records.specs.Answers.{split_after};
 ghost use Rattle.perf_records.specs.FrameReadings.{FrameGives, HasNoRoom, PutsSample, metadata_in};
@@ -28,9 +28,9 @@ use std::alloc::Global;
 #[cold]
 #[inline(never)]
 fn error_of(refusal: Refusal) -> ParseError
-    ensures { IsAnswerOf result refusal }
+    ensures { IsErrorOf result refusal }
 {
-    Kept::none().answer(refusal)
+    Kept::none().error_of(refusal)
 }
 
 impl<'c, 'p> Frame<'c, 'p> {
@@ -78,7 +78,7 @@ impl<'c, 'p> Frame<'c, 'p> {
     ) -> ParseResult<RecordMetadata>
         ensures parts { error_kinds result ≡ metadata_in (split_after (configuration_of config.now)
             (E.order (endian_of config.now)) self.now.header (chunk_bytes self.now.rest)) }
-        ensures no_room { IfErr result (λ e. IsAnswerOf e NoRoomForId) }
+        ensures no_room { IfErr result (λ e. IsErrorOf e NoRoomForId) }
         ensures room { OnErr result (HasNoRoom self.now.header (configuration_of config.now)) }
     {
         match id_in(alloc, self.rest(), config, self.header()) {

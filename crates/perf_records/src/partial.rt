@@ -1,7 +1,7 @@
 //! Visitors that handle only some types of records.
 
 ghost use Rattle.std.specs.Prelude.{true};
-ghost use Rattle.perf_records.specs.Prelude as words;
+ghost use Rattle.perf_records.specs.Prelude as prelude;
 ghost use Rattle.perf_records.specs.Prelude.{Event, event, GivesOrLeavesOut, MetadataValue};
 
 use crate::metadata::RecordMetadata;
@@ -48,8 +48,8 @@ pub trait PartialVisitor: Drop + Sized {
     #[inline]
     fn visit_mmap(self, content: Mmap<'_>, metadata: RecordMetadata) -> Self::Output
         ensures { GivesOrLeavesOut gives left_out
-            (event (words.mmap_is (words.mmap_value content.entry))
-            (words.is_borrowed content.entry.filename) metadata) result }
+            (event (prelude.mmap_is (prelude.mmap_value content.entry))
+            (prelude.is_borrowed content.entry.filename) metadata) result }
     {
         drop(content);
         self.visit_unimplemented(metadata)
@@ -59,7 +59,7 @@ pub trait PartialVisitor: Drop + Sized {
     #[inline]
     fn visit_lost(self, content: Lost, metadata: RecordMetadata) -> Self::Output
         ensures { GivesOrLeavesOut gives left_out
-            (event (words.lost_is content) true metadata) result }
+            (event (prelude.lost_is content) true metadata) result }
     {
         let _ = content;
         self.visit_unimplemented(metadata)
@@ -69,8 +69,8 @@ pub trait PartialVisitor: Drop + Sized {
     #[inline]
     fn visit_comm(self, content: Comm<'_>, metadata: RecordMetadata) -> Self::Output
         ensures { GivesOrLeavesOut gives left_out
-            (event (words.comm_is (words.comm_value content.entry))
-            (words.is_borrowed content.entry.comm) metadata) result }
+            (event (prelude.comm_is (prelude.comm_value content.entry))
+            (prelude.is_borrowed content.entry.comm) metadata) result }
     {
         drop(content);
         self.visit_unimplemented(metadata)
@@ -80,7 +80,7 @@ pub trait PartialVisitor: Drop + Sized {
     #[inline]
     fn visit_exit(self, content: Exit, metadata: RecordMetadata) -> Self::Output
         ensures { GivesOrLeavesOut gives left_out
-            (event (words.exit_is content) true metadata) result }
+            (event (prelude.exit_is content) true metadata) result }
     {
         drop(content);
         self.visit_unimplemented(metadata)
@@ -90,7 +90,7 @@ pub trait PartialVisitor: Drop + Sized {
     #[inline]
     fn visit_throttle(self, content: Throttle, metadata: RecordMetadata) -> Self::Output
         ensures { GivesOrLeavesOut gives left_out
-            (event (words.throttle_is content) true metadata) result }
+            (event (prelude.throttle_is content) true metadata) result }
     {
         drop(content);
         self.visit_unimplemented(metadata)
@@ -100,7 +100,7 @@ pub trait PartialVisitor: Drop + Sized {
     #[inline]
     fn visit_unthrottle(self, content: Throttle, metadata: RecordMetadata) -> Self::Output
         ensures { GivesOrLeavesOut gives left_out
-            (event (words.unthrottle_is content) true metadata) result }
+            (event (prelude.unthrottle_is content) true metadata) result }
     {
         drop(content);
         self.visit_unimplemented(metadata)
@@ -110,7 +110,7 @@ pub trait PartialVisitor: Drop + Sized {
     #[inline]
     fn visit_fork(self, content: Fork, metadata: RecordMetadata) -> Self::Output
         ensures { GivesOrLeavesOut gives left_out
-            (event (words.fork_is content) true metadata) result }
+            (event (prelude.fork_is content) true metadata) result }
     {
         drop(content);
         self.visit_unimplemented(metadata)
@@ -120,7 +120,7 @@ pub trait PartialVisitor: Drop + Sized {
     #[inline]
     fn visit_read(self, content: Read, metadata: RecordMetadata) -> Self::Output
         ensures { GivesOrLeavesOut gives left_out
-            (event (words.read_is (words.task_read content)) true metadata) result }
+            (event (prelude.read_is (prelude.task_read content)) true metadata) result }
     {
         drop(content);
         self.visit_unimplemented(metadata)
@@ -130,8 +130,8 @@ pub trait PartialVisitor: Drop + Sized {
     #[inline]
     fn visit_sample(self, content: Sample<'_>, metadata: RecordMetadata) -> Self::Output
         ensures { GivesOrLeavesOut gives left_out
-            (event (words.sample_is (words.sample_value content.entry))
-            (words.is_borrowed_sample content.entry) metadata) result }
+            (event (prelude.sample_is (prelude.sample_value content.entry))
+            (prelude.is_borrowed_sample content.entry) metadata) result }
     {
         drop(content);
         self.visit_unimplemented(metadata)
@@ -143,8 +143,8 @@ pub trait PartialVisitor: Drop + Sized {
     #[inline]
     fn visit_mmap2(self, content: Mmap2<'_>, metadata: RecordMetadata) -> Self::Output
         ensures { GivesOrLeavesOut gives left_out
-            (event (words.mmap2_is (words.mmap2_value content.entry))
-            (words.is_borrowed content.entry.filename) metadata) result }
+            (event (prelude.mmap2_is (prelude.mmap2_value content.entry))
+            (prelude.is_borrowed content.entry.filename) metadata) result }
     {
         self.visit_mmap(content.into_mmap(), metadata)
     }
@@ -153,7 +153,7 @@ pub trait PartialVisitor: Drop + Sized {
     #[inline]
     fn visit_aux(self, content: Aux, metadata: RecordMetadata) -> Self::Output
         ensures { GivesOrLeavesOut gives left_out
-            (event (words.aux_is (words.aux_value content)) true metadata) result }
+            (event (prelude.aux_is (prelude.aux_value content)) true metadata) result }
     {
         drop(content);
         self.visit_unimplemented(metadata)
@@ -163,7 +163,7 @@ pub trait PartialVisitor: Drop + Sized {
     #[inline]
     fn visit_itrace_start(self, content: ITraceStart, metadata: RecordMetadata) -> Self::Output
         ensures { GivesOrLeavesOut gives left_out
-            (event (words.itrace_start_is content) true metadata) result }
+            (event (prelude.itrace_start_is content) true metadata) result }
     {
         drop(content);
         self.visit_unimplemented(metadata)
@@ -173,7 +173,7 @@ pub trait PartialVisitor: Drop + Sized {
     #[inline]
     fn visit_lost_samples(self, content: LostSamples, metadata: RecordMetadata) -> Self::Output
         ensures { GivesOrLeavesOut gives left_out
-            (event (words.lost_samples_is content) true metadata) result }
+            (event (prelude.lost_samples_is content) true metadata) result }
     {
         drop(content);
         self.visit_unimplemented(metadata)
@@ -183,7 +183,7 @@ pub trait PartialVisitor: Drop + Sized {
     /// nothing else.
     #[inline]
     fn visit_switch(self, metadata: RecordMetadata) -> Self::Output
-        ensures { GivesOrLeavesOut gives left_out (event words.switch_is true metadata) result }
+        ensures { GivesOrLeavesOut gives left_out (event prelude.switch_is true metadata) result }
     {
         self.visit_unimplemented(metadata)
     }
@@ -192,7 +192,7 @@ pub trait PartialVisitor: Drop + Sized {
     #[inline]
     fn visit_switch_cpu_wide(self, content: SwitchCpuWide, metadata: RecordMetadata) -> Self::Output
         ensures { GivesOrLeavesOut gives left_out
-            (event (words.switch_cpu_wide_is content) true metadata) result }
+            (event (prelude.switch_cpu_wide_is content) true metadata) result }
     {
         let _ = content;
         self.visit_unimplemented(metadata)
@@ -202,7 +202,7 @@ pub trait PartialVisitor: Drop + Sized {
     #[inline]
     fn visit_namespaces(self, content: Namespaces<'_>, metadata: RecordMetadata) -> Self::Output
         ensures { GivesOrLeavesOut gives left_out
-            (event (words.namespaces_is (words.namespaces_value content.entry)) true metadata) result }
+            (event (prelude.namespaces_is (prelude.namespaces_value content.entry)) true metadata) result }
     {
         drop(content);
         self.visit_unimplemented(metadata)
@@ -212,8 +212,8 @@ pub trait PartialVisitor: Drop + Sized {
     #[inline]
     fn visit_ksymbol(self, content: KSymbol<'_>, metadata: RecordMetadata) -> Self::Output
         ensures { GivesOrLeavesOut gives left_out
-            (event (words.ksymbol_is (words.ksymbol_value content.entry))
-            (words.is_borrowed content.entry.name) metadata) result }
+            (event (prelude.ksymbol_is (prelude.ksymbol_value content.entry))
+            (prelude.is_borrowed content.entry.name) metadata) result }
     {
         drop(content);
         self.visit_unimplemented(metadata)
@@ -223,7 +223,7 @@ pub trait PartialVisitor: Drop + Sized {
     #[inline]
     fn visit_bpf_event(self, content: BpfEvent, metadata: RecordMetadata) -> Self::Output
         ensures { GivesOrLeavesOut gives left_out
-            (event (words.bpf_event_is (words.bpf_event_value content)) true metadata) result }
+            (event (prelude.bpf_event_is (prelude.bpf_event_value content)) true metadata) result }
     {
         let _ = content;
         self.visit_unimplemented(metadata)
@@ -233,8 +233,8 @@ pub trait PartialVisitor: Drop + Sized {
     #[inline]
     fn visit_cgroup(self, content: CGroup<'_>, metadata: RecordMetadata) -> Self::Output
         ensures { GivesOrLeavesOut gives left_out
-            (event (words.cgroup_is (words.cgroup_value content.entry))
-            (words.is_borrowed content.entry.path) metadata) result }
+            (event (prelude.cgroup_is (prelude.cgroup_value content.entry))
+            (prelude.is_borrowed content.entry.path) metadata) result }
     {
         drop(content);
         self.visit_unimplemented(metadata)
@@ -244,8 +244,8 @@ pub trait PartialVisitor: Drop + Sized {
     #[inline]
     fn visit_text_poke(self, content: TextPoke<'_>, metadata: RecordMetadata) -> Self::Output
         ensures { GivesOrLeavesOut gives left_out
-            (event (words.text_poke_is (words.text_poke_value content.entry))
-            (words.is_borrowed_text_poke content.entry) metadata) result }
+            (event (prelude.text_poke_is (prelude.text_poke_value content.entry))
+            (prelude.is_borrowed_text_poke content.entry) metadata) result }
     {
         drop(content);
         self.visit_unimplemented(metadata)
@@ -260,7 +260,7 @@ pub trait PartialVisitor: Drop + Sized {
         metadata: RecordMetadata,
     ) -> Self::Output
         ensures { GivesOrLeavesOut gives left_out
-            (event (words.aux_output_hw_id_is content) true metadata) result }
+            (event (prelude.aux_output_hw_id_is content) true metadata) result }
     {
         let _ = content;
         self.visit_unimplemented(metadata)
@@ -271,8 +271,8 @@ pub trait PartialVisitor: Drop + Sized {
     #[inline]
     fn visit_unknown(self, bytes: CowSlice<'_, u8>, metadata: RecordMetadata) -> Self::Output
         ensures { GivesOrLeavesOut gives left_out
-            (event (words.unknown_is metadata.ty (words.cow_items bytes.entry))
-            (words.is_borrowed bytes.entry) metadata) result }
+            (event (prelude.unknown_is metadata.ty (prelude.cow_items bytes.entry))
+            (prelude.is_borrowed bytes.entry) metadata) result }
     {
         drop(bytes);
         self.visit_unimplemented(metadata)

@@ -4,8 +4,8 @@ ghost use Rattle.std.specs.Prelude.{◌≡◌, ◌≤◌, ◌<◌, ◌+◌, true
 ghost use Rattle.std.specs.Prelude.{IsTrue, IfOk, IfErr};
 ghost use Rattle.perf_records.specs.Parts.{FindsId};
 ghost use Rattle.perf_records.specs.Prelude.{configuration_of, endian_of, input_of, config_of, Call};
-ghost use Rattle.perf_records.specs.Prelude.{reads_of, kinds, refusal_kind, cursor_left, body_length};
-ghost use Rattle.perf_records.specs.Prelude as words;
+ghost use Rattle.perf_records.specs.Prelude.{reads_of, kinds, refusal_kind, cursor_left, length_after};
+ghost use Rattle.perf_records.specs.Prelude as prelude;
 
 use crate::metadata::RecordMetadata;
 use perf_base::config::ParseConfig;
@@ -19,10 +19,11 @@ use perf_reader::reader::Reader;
 use perf_sample_types::sample_id::SampleId;
 use std::alloc::Global;
 
-// Whether records of a type end with a sample id: those of the kernel do, except SAMPLE.
+/// Whether records of a type end with a sample id if the event has `sample_id_all`: those of the
+/// kernel do, except SAMPLE.
 #[inline]
-fn carries_sample_id(ty: u32) -> bool
-    ensures { result ≡ words.carries_sample_id ty }
+pub fn carries_sample_id(ty: u32) -> bool
+    ensures { result ≡ prelude.carries_sample_id ty }
 {
     ty < 64 && ty != PERF_RECORD_SAMPLE
 }
@@ -30,7 +31,7 @@ fn carries_sample_id(ty: u32) -> bool
 // How many bytes of a frame are its sample id.
 #[inline]
 pub(crate) fn id_len<E>(config: &ParseConfig<E>, ty: u32) -> usize
-    ensures { result ≡ words.id_length (configuration_of config.now) ty }
+    ensures { result ≡ prelude.id_length (configuration_of config.now) ty }
 {
     if carries_sample_id(ty) {
         SampleId::estimate_len(config)
@@ -43,13 +44,13 @@ pub(crate) fn id_len<E>(config: &ParseConfig<E>, ty: u32) -> usize
 #[inline]
 fn read_id<'x, E: Endian>(reader: &mut Reader<&'x [u8], E>, ty: u32) -> SampleId
     requires { length (input_of reader.old).now
-        ≡ words.id_length (configuration_of (config_of reader.old)) ty }
-    ensures id { result ≡ words.value (E.order (endian_of (config_of reader.old)))
+        ≡ prelude.id_length (configuration_of (config_of reader.old)) ty }
+    ensures id { result ≡ prelude.value (E.order (endian_of (config_of reader.old)))
         (input_of reader.old).now 0
-        (words.id_of_type (configuration_of (config_of reader.old)) ty) }
+        (prelude.id_of_type (configuration_of (config_of reader.old)) ty) }
     ensures reads { reads_of reader.new ≡ reads_of reader.old
-        + words.layout_reads (E.order (endian_of (config_of reader.old)))
-        (words.id_of_type (configuration_of (config_of reader.old)) ty) (input_of reader.old).now }
+        + prelude.layout_reads (E.order (endian_of (config_of reader.old)))
+        (prelude.id_of_type (configuration_of (config_of reader.old)) ty) (input_of reader.old).now }
     ensures bound { reads_of reader.new ≤ reads_of reader.old + length (input_of reader.old).now }
 {
     if carries_sample_id(ty) {
@@ -138,33 +139,33 @@ pub fn split<'p, I: Input<'p>, E: Endian>(
     header: perf_event_header,
 ) -> ReadResult<(ParseBufCursor<'p>, RecordMetadata)>
     ensures within { IsTrue (I.source (input_of reader.old)).told →
-        words.MovesWithin (I.source (input_of reader.old)) (body_length header)
+        prelude.MovesWithin (I.source (input_of reader.old)) (length_after header)
         (I.source (input_of reader.new)) }
     ensures named { IfOk result (λ parts.
         (parts.1.ty ≡ header.type_) × (parts.1.misc ≡ header.misc)) }
     ensures whole { IsTrue (I.source (input_of reader.old)).whole →
-        IfOk result (λ parts. IsTrue (words.cursor_is_borrowed parts.0)) }
+        IfOk result (λ parts. IsTrue (prelude.cursor_is_borrowed parts.0)) }
     ensures whole_memory { IsTrue (I.source (input_of reader.old)).whole →
-        words.TakesNoMemory (kinds result) }
+        prelude.NeedsNoMemory (kinds result) }
 
     // A size that does not count the header is refused before anything else.
-    ensures small { header.size < 8 → (kinds result ≡ Err words.InvalidRecord)
+    ensures small { header.size < 8 → (kinds result ≡ Err prelude.InvalidRecord)
         × (I.source (input_of reader.new) ≡ I.source (input_of reader.old)) }
-    ensures small_why { header.size < 8 → IfErr result (λ e. e ≡ words.SmallHeader) }
+    ensures small_why { header.size < 8 → IfErr result (λ e. e ≡ prelude.SmallHeader) }
 
     // With another size it is no record only if it is too short for its sample id.
     ensures id_why { IsTrue (I.source (input_of reader.old)).told → 8 ≤ header.size →
-        IfErr result (λ e. refusal_kind e ≡ words.InvalidRecord → e ≡ words.NoRoomForId) }
+        IfErr result (λ e. refusal_kind e ≡ prelude.InvalidRecord → e ≡ prelude.NoRoomForId) }
 
     // Memory is allocated by the rules of a cut: none for an empty body, none if the input reports
     // too few bytes, and otherwise the full capacity first, if it is small.
-    ensures nothing { body_length header ≡ 0 → words.TakesNoMemory (kinds result)
-        × IfOk result (λ parts. IsTrue (words.cursor_is_borrowed parts.0)) }
-    ensures short { words.falls_short (I.hint (input_of reader.old)) (body_length header) ≡ true →
-        words.TakesNoMemory (kinds result) × IfOk result (λ parts. ⊥) }
+    ensures nothing { length_after header ≡ 0 → prelude.NeedsNoMemory (kinds result)
+        × IfOk result (λ parts. IsTrue (prelude.cursor_is_borrowed parts.0)) }
+    ensures short { prelude.falls_short (I.hint (input_of reader.old)) (length_after header) ≡ true →
+        prelude.NeedsNoMemory (kinds result) × IfOk result (λ parts. ⊥) }
     ensures beforehand { IsTrue (I.source (input_of reader.old)).told →
-        words.is_made_beforehand (I.hint (input_of reader.old)) (body_length header) ≡ true →
-        IfErr result (λ e. refusal_kind e ≡ words.OutOfMemory →
+        prelude.is_made_beforehand (I.hint (input_of reader.old)) (length_after header) ≡ true →
+        IfErr result (λ e. refusal_kind e ≡ prelude.OutOfMemory →
         (I.source (input_of reader.new)).left ≡ (I.source (input_of reader.old)).left) }
 
     // The body's bytes are paid for, and not read yet.
@@ -172,7 +173,7 @@ pub fn split<'p, I: Input<'p>, E: Endian>(
         reads_of reader.new + length (cursor_left parts.0)
         + length (I.source (input_of reader.new)).left
         ≤ reads_of reader.old + length (I.source (input_of reader.old)).left) }
-    ensures call { Call I.source E.order (words.SplitsAfter header)
+    ensures call { Call I.source E.order (prelude.SplitsAfter header)
         reader.old (kinds result) reader.new }
 {
     if header.size < 8 {

@@ -1,6 +1,6 @@
 //! The visitor that returns the record itself.
 
-ghost use Rattle.perf_records.specs.Prelude as words;
+ghost use Rattle.perf_records.specs.Prelude as prelude;
 ghost use Rattle.perf_records.specs.Prelude.{Event, event, MakesRecord, MakesNoSample};
 
 use crate::metadata::RecordMetadata;
@@ -31,7 +31,7 @@ use std::alloc::Global;
 use std::boxed::Box;
 
 /// How visited records are returned.
-pub trait Answer<'a>: Drop {
+pub trait RecordResult<'a>: Drop {
     /// What is returned.
     type Output;
 
@@ -51,10 +51,10 @@ pub trait Answer<'a>: Drop {
 #[derive(Copy, Clone)]
 pub struct OrError;
 
-impl<'a> Answer<'a> for OrError {
+impl<'a> RecordResult<'a> for OrError {
     type Output = ParseResult<Record<'a>>;
 
-    ghost gives = { λ e output. words.GivesRecord e (words.error_kinds output) };
+    ghost gives = { λ e output. prelude.GivesRecord e (prelude.error_kinds output) };
 
     #[inline]
     #[tactic(auto, unfolding(crate::specs::Gives::GivesRecord))]
@@ -73,10 +73,10 @@ impl<'a> Answer<'a> for OrError {
 #[derive(Copy, Clone)]
 pub struct OrRefusal;
 
-impl<'a> Answer<'a> for OrRefusal {
+impl<'a> RecordResult<'a> for OrRefusal {
     type Output = ReadResult<Record<'a>>;
 
-    ghost gives = { λ e output. words.GivesRecord e (words.kinds output) };
+    ghost gives = { λ e output. prelude.GivesRecord e (prelude.kinds output) };
 
     #[inline]
     #[tactic(auto, unfolding(crate::specs::Gives::GivesRecord))]
@@ -124,7 +124,7 @@ impl Recording<OrRefusal> {
     }
 }
 
-impl<'a, A: Answer<'a>> Visitor<'a> for Recording<A> {
+impl<'a, A: RecordResult<'a>> Visitor<'a> for Recording<A> {
     type Output = A::Output;
 
     ghost gives = { λ e output. A.gives e output };

@@ -115,7 +115,7 @@ impl<'a> Case<'a> {
     }
 
     /// The actual result.
-    pub fn told(&mut self) -> Result<String> {
+    pub fn tell(&mut self) -> Result<String> {
         self.is_told = true;
         match self.how {
             "ask" => self.told_answers(),
@@ -123,7 +123,7 @@ impl<'a> Case<'a> {
             "behind" => Ok(tell_after(self.alloc, &self.little, &self.limits()?)?),
             "shown" => Ok(tell_shown(self.alloc, &self.little)?),
             "sample" => self.told_sample(),
-            "perfrec" => perfrec::told(self.alloc, self.asked, &self.little),
+            "perfrec" => perfrec::text_of(self.alloc, self.asked, &self.little),
             _ => bail!("nothing is asked in {}", self.name),
         }
     }

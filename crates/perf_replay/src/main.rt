@@ -93,7 +93,7 @@ fn replay<'a>(
 // Prints a result that differs, and returns the number of differences.
 fn compare(rt: &HostRuntime, case: &mut Case, rest: &str) -> Result<u64> {
     let want = case.wanted(rest)?;
-    let told = case.told()?;
+    let told = case.tell()?;
     if told.as_str() == want.as_str() {
         return Ok(0);
     }

@@ -54,7 +54,7 @@ fn words(alloc: Global, line: &str) -> Result<Vec<String>, AllocError> {
 
 /// What it writes for these words, if the stream is read in pieces of 1, 7 and 8192 bytes: one text
 /// if all are the same, and otherwise the others after it.
-pub fn told(alloc: Global, line: &str, stream: &[u8]) -> Result<String> {
+pub fn text_of(alloc: Global, line: &str, stream: &[u8]) -> Result<String> {
     let asked = command(&words(alloc, line)?).context("no words of perfrec")?;
     let mut text = told_in_pieces(alloc, asked, stream, 1)?;
     for piece in [7, 8192] {

@@ -7,7 +7,7 @@ use Rattle.std.proofs.lemmas.List.Sums.{sum_by-append}
 use Rattle.perf_base.specs.Errors.{kind_of}
 use Rattle.perf_base.specs.Header.{header_of}
 use Rattle.perf_base.specs.Order.{Order}
-use Rattle.perf_base.specs.Refusals.{IsAnswerOf}
+use Rattle.perf_base.specs.Refusals.{IsErrorOf}
 use Rattle.perf_base.specs.declared.error.ErrorKind.{ErrorKind}
 use Rattle.perf_base.specs.declared.error.ErrorKind.TheVariants.{Eof, InvalidRecord}
 use Rattle.perf_base.specs.declared.error.ParseError.{ParseError}
@@ -34,19 +34,19 @@ use Rattle.perf_records.specs.Metadata.{MetadataValue, id_length}
 use Rattle.perf_records.specs.RecordTypes.{type_of}
 use Rattle.perf_records.specs.Shown.{GivesFrameBytes}
 use Rattle.perf_records.specs.Gives.{GivesWholeBody}
-use Rattle.perf_records.specs.Answers.{FrameParts, parts_of, body_length, split_after, record_in, answer_after, answer_of_frame, answers}
+use Rattle.perf_records.specs.Answers.{FrameParts, parts_of, length_after, split_after, record_in, answer_after, answer_of_frame, answers}
 use Rattle.perf_records.specs.Frames.{frame_length, first_frames, frames, drop_frames}
 use Rattle.perf_records.specs.Records.{RecordValue, sample_is}
 use Rattle.perf_records.specs.Sights.{Sight, whole, bad, sight_after, sight_in}
-use Rattle.perf_records.proofs.FrameList.{frames_short}
+use Rattle.perf_records.proofs.FrameList.{frames_first, frames_short}
 use Rattle.perf_records.proofs.Handing.{finished}
 use Rattle.perf_records.proofs.Headers.{answer_whole}
 use Rattle.perf_parser.specs.FrameRuns.{Handed, HandsFirst, EndsFrames}
-use Rattle.perf_parser.specs.Runs.{EndsWith, LeavesWithin}
+use Rattle.perf_parser.specs.Runs.{EndsWith, MovesWithinFrame}
 use Rattle.perf_parser.specs.declared.runs.RunEnd.{RunEnd}
 use Rattle.perf_parser.proofs.Handing.{moved_by}
-use Rattle.perf_parser.proofs.Listing.{AreThere, frames_next, there_fits, there_next, after_on, frames_fit}
-use Rattle.perf_reports.specs.Counting.{wrapped, frame_sum, counted, plus, sight_header, sight_answer, counted_sight, IsRefused, IsFault, EndsBy, CountsSight, CountsRun, RefusesSight, SumsAnswer, Adds, record_sum, attribute_in}
+use Rattle.perf_parser.proofs.Listing.{AreThere, there_fits, there_next, after_on, frames_fit}
+use Rattle.perf_reports.specs.Counting.{modulo_word, frame_sum, counts_of, plus, sight_header, sight_answer, counted_sight, IsRefused, IsFault, EndsBy, CountsSight, CountsRun, RefusesSight, SumsAnswer, Adds, record_sum, attribute_in}
 use Rattle.perf_reports.specs.declared.counting.FrameCounter.{FrameCounter}
 use Rattle.perf_reports.specs.declared.counts.Counts.{Counts}
 
@@ -55,27 +55,27 @@ use Rattle.perf_reports.specs.declared.counts.Counts.{Counts}
 split_small : (c : Configuration) (o : Order) (h : perf_event_header) (bytes : List ℕ) → h.size < 8 → split_after c o h bytes ≡ Err InvalidRecord
 split_small c o h bytes small = let a : nat_lt h.size 8 ≡ true = lt-ltb h.size 8 small in rw a refl
 
-split_short : (c : Configuration) (o : Order) (h : perf_event_header) (bytes : List ℕ) → 8 ≤ h.size → length bytes < body_length h → split_after c o h bytes ≡ Err Eof
+split_short : (c : Configuration) (o : Order) (h : perf_event_header) (bytes : List ℕ) → 8 ≤ h.size → length bytes < length_after h → split_after c o h bytes ≡ Err Eof
 split_short c o h bytes sized short =
     let a : nat_lt h.size 8 ≡ false = le-ltb h.size 8 sized in
-    let b : nat_lt (length bytes) (body_length h) ≡ true = lt-ltb (length bytes) (body_length h) short in
+    let b : nat_lt (length bytes) (length_after h) ≡ true = lt-ltb (length bytes) (length_after h) short in
     rw (a, b) refl
 
-split_take : (c : Configuration) (o : Order) (h : perf_event_header) (bytes : List ℕ) → body_length h ≤ length bytes → split_after c o h (take (body_length h) bytes) ≡ split_after c o h bytes
+split_take : (c : Configuration) (o : Order) (h : perf_event_header) (bytes : List ℕ) → length_after h ≤ length bytes → split_after c o h (take (length_after h) bytes) ≡ split_after c o h bytes
 split_take c o h bytes fits =
-    let all : length (take (body_length h) bytes) ≡ body_length h = length-take-le (body_length h) bytes fits in
-    let a : nat_lt (length (take (body_length h) bytes)) (body_length h) ≡ false = le-ltb (length (take (body_length h) bytes)) (body_length h) (omega (arith, all)) in
-    let b : nat_lt (length bytes) (body_length h) ≡ false = le-ltb (length bytes) (body_length h) fits in
-    let t : take (body_length h) (take (body_length h) bytes) ≡ take (body_length h) bytes = take-take (body_length h) (body_length h) bytes (omega arith) in
+    let all : length (take (length_after h) bytes) ≡ length_after h = length-take-le (length_after h) bytes fits in
+    let a : nat_lt (length (take (length_after h) bytes)) (length_after h) ≡ false = le-ltb (length (take (length_after h) bytes)) (length_after h) (omega (arith, all)) in
+    let b : nat_lt (length bytes) (length_after h) ≡ false = le-ltb (length bytes) (length_after h) fits in
+    let t : take (length_after h) (take (length_after h) bytes) ≡ take (length_after h) bytes = take-take (length_after h) (length_after h) bytes (omega arith) in
     rw (a, b, t) refl
 
 sight_small : (h : perf_event_header) (bytes : List ℕ) (borrowed : Bool) → h.size < 8 → sight_after h bytes borrowed ≡ bad h InvalidRecord
 sight_small h bytes borrowed small = let a : nat_lt h.size 8 ≡ true = lt-ltb h.size 8 small in rw a refl
 
-sight_short : (h : perf_event_header) (bytes : List ℕ) (borrowed : Bool) → 8 ≤ h.size → length bytes < body_length h → sight_after h bytes borrowed ≡ bad h Eof
+sight_short : (h : perf_event_header) (bytes : List ℕ) (borrowed : Bool) → 8 ≤ h.size → length bytes < length_after h → sight_after h bytes borrowed ≡ bad h Eof
 sight_short h bytes borrowed sized short =
     let a : nat_lt h.size 8 ≡ false = le-ltb h.size 8 sized in
-    let b : nat_lt (length bytes) (body_length h) ≡ true = lt-ltb (length bytes) (body_length h) short in
+    let b : nat_lt (length bytes) (length_after h) ≡ true = lt-ltb (length bytes) (length_after h) short in
     rw (a, b) refl
 
 -- the header and the result that are counted for what is seen
@@ -89,7 +89,7 @@ pair_of c o frame = (header_of o frame, answer_of_frame c o frame)
 after_pair : (c : Configuration) (o : Order) (h : perf_event_header) (bytes : List ℕ) (borrowed : Bool) → seen_pair c o (sight_after h bytes borrowed) ≡ (h, answer_after c o h bytes)
 after_pair c o h bytes borrowed = elim (cases_lt h.size 8) [
   | inl small ↦ ap (seen_pair c o) (sight_small h bytes borrowed small) ∙ ap (λ s. (h, record_in c o h s)) (sym (split_small c o h bytes small))
-  | inr sized ↦ elim (cases_lt (length bytes) (body_length h)) [
+  | inr sized ↦ elim (cases_lt (length bytes) (length_after h)) [
     | inl short ↦ ap (seen_pair c o) (sight_short h bytes borrowed sized short) ∙ ap (λ s. (h, record_in c o h s)) (sym (split_short c o h bytes sized short))
     | inr fits ↦ ap (seen_pair c o) (finished h bytes borrowed sized fits) ∙ ap (λ s. (h, record_in c o h s)) (split_take c o h bytes fits)
   ]
@@ -104,10 +104,10 @@ frame_pair c o frame borrowed fits =
 abbrev pub Answered : Type 0
 Answered = perf_event_header × Result RecordValue ErrorKind
 
-wrapped_sum : (m n : ℕ) → wrapped (wrapped m + wrapped n) ≡ wrapped (m + n)
+wrapped_sum : (m n : ℕ) → modulo_word (modulo_word m + modulo_word n) ≡ modulo_word (m + n)
 wrapped_sum m n = omega arith
 
-counted_more : (xs ys : List Answered) → plus (counted xs) (counted ys) ≡ counted (xs ++ ys)
+counted_more : (xs ys : List Answered) → plus (counts_of xs) (counts_of ys) ≡ counts_of (xs ++ ys)
 counted_more xs ys =
     let a : length (xs ++ ys) ≡ length xs + length ys = length-append xs ys in
     let b : count_by (λ (pair : Answered). is_err pair.1) (xs ++ ys) ≡ count_by (λ (pair : Answered). is_err pair.1) xs + count_by (λ (pair : Answered). is_err pair.1) ys = sum_by-append _ xs ys in
@@ -120,20 +120,20 @@ counted_more xs ys =
 -- ---- samples that are too short for their fields
 
 -- one refused frame is counted, whatever the refusal is
-pub refused_counts : (h : perf_event_header) (says : Result RecordValue ErrorKind) → IsRefused says → counted ((h, says) ∷ []) ≡ counted ((h, Err Eof) ∷ [])
+pub refused_counts : (h : perf_event_header) (says : Result RecordValue ErrorKind) → IsRefused says → counts_of ((h, says) ∷ []) ≡ counts_of ((h, Err Eof) ∷ [])
 refused_counts h (Ok value) refused = absurd refused
 refused_counts h (Err e) refused = refl
 
 -- they contain no record
-short_answer : (c : Configuration) (o : Order) (h : perf_event_header) (bytes : List ℕ) (v : RecordValue) → 8 ≤ h.size → length bytes ≡ body_length h → h.type_ ≡ 9 →
+short_answer : (c : Configuration) (o : Order) (h : perf_event_header) (bytes : List ℕ) (v : RecordValue) → 8 ≤ h.size → length bytes ≡ length_after h → h.type_ ≡ 9 →
     length bytes < 8 * count_ones (c.sample_type % 2 ^ 24) → answer_after c o h bytes ≡ Ok v → ⊥
 short_answer c o h bytes v sized all_there is short answer =
     let c' : Configuration = under_misc h.misc c in
     let none : id_length c h.type_ ≡ 0 = ap (id_length c) is in
     let small : nat_lt h.size 8 ≡ false = le-ltb h.size 8 sized in
-    let fits : nat_lt (length bytes) (body_length h) ≡ false = le-ltb (length bytes) (body_length h) (omega (arith, all_there)) in
-    let room : nat_lt (body_length h) (id_length c h.type_) ≡ false = le-ltb (body_length h) (id_length c h.type_) (omega (arith, none)) in
-    let all : take (body_length h) bytes ≡ bytes = take_all (body_length h) bytes (omega (arith, all_there)) in
+    let fits : nat_lt (length bytes) (length_after h) ≡ false = le-ltb (length bytes) (length_after h) (omega (arith, all_there)) in
+    let room : nat_lt (length_after h) (id_length c h.type_) ≡ false = le-ltb (length_after h) (id_length c h.type_) (omega (arith, none)) in
+    let all : take (length_after h) bytes ≡ bytes = take_all (length_after h) bytes (omega (arith, all_there)) in
     let own : take (length bytes - id_length c h.type_) bytes ≡ bytes = take_all (length bytes - id_length c h.type_) bytes (omega (arith, none)) in
     let split : split_after c o h bytes ≡ Ok (parts_of c o h bytes) = rw (small, fits, room, all) refl in
     let made : layout o (body c' 9) bytes ≡ Ok v =
@@ -141,7 +141,7 @@ short_answer c o h bytes v sized all_there is short answer =
     let first = then_inv o (sample c') (λ s. done (sample_is s)) bytes v _ (layout_run o (mapped sample_is (sample c')) bytes v made) in
     subst (λ (r : Result SampleValue ErrorKind). IfOk r (λ s. ⊥)) (run_layout o (sample c') bytes first.0 first.1 first.2).0 (short_sample c' o bytes short)
 
-pub short_refused : (c : Configuration) (o : Order) (h : perf_event_header) (bytes : List ℕ) → 8 ≤ h.size → length bytes ≡ body_length h → h.type_ ≡ 9 →
+pub short_refused : (c : Configuration) (o : Order) (h : perf_event_header) (bytes : List ℕ) → 8 ≤ h.size → length bytes ≡ length_after h → h.type_ ≡ 9 →
     length bytes < 8 * count_ones (c.sample_type % 2 ^ 24) → IsRefused (answer_after c o h bytes)
 short_refused c o h bytes sized all_there is short = go (answer_after c o h bytes) refl
   where
@@ -160,7 +160,7 @@ pub frames_headed : (o : Order) (n : ℕ) (bytes : List ℕ) → Headed (first_f
 frames_headed o zero bytes = tt
 frames_headed o (suc n) bytes = elim (cases_lt (length bytes) 8) [
   | inl short ↦ subst Headed (sym (frames_short o (suc n) bytes short)) tt
-  | inr fits ↦ subst Headed (sym (frames_next o n bytes fits)) (omega (arith, length-take (frame_length o bytes) bytes, fits), frames_headed o n (drop (frame_length o bytes) bytes))
+  | inr fits ↦ subst Headed (sym (frames_first o n bytes fits)) (omega (arith, length-take (frame_length o bytes) bytes, fits), frames_headed o n (drop (frame_length o bytes) bytes))
 ]
 
 module _ (c : Configuration) (o : Order) (all : Bool) where
@@ -168,34 +168,34 @@ module _ (c : Configuration) (o : Order) (all : Bool) where
   gets was seen go now = CountsSight was c o seen go now
 
   -- one more frame
-  one_more : (xs : List Answered) (frame : List ℕ) (borrowed : Bool) (was now : FrameCounter) → 8 ≤ length frame → was.counts ≡ counted xs →
-      now.counts ≡ plus was.counts (counted_sight c o (sight_in o frame borrowed)) → now.counts ≡ counted (xs ++ pair_of c o frame ∷ [])
+  one_more : (xs : List Answered) (frame : List ℕ) (borrowed : Bool) (was now : FrameCounter) → 8 ≤ length frame → was.counts ≡ counts_of xs →
+      now.counts ≡ plus was.counts (counted_sight c o (sight_in o frame borrowed)) → now.counts ≡ counts_of (xs ++ pair_of c o frame ∷ [])
   one_more xs frame borrowed was now fits so_far got =
       got ∙ ap (λ k. plus k (counted_sight c o (sight_in o frame borrowed))) so_far
-      ∙ ap (λ p. plus (counted xs) (counted (p ∷ []))) (frame_pair c o frame borrowed fits)
+      ∙ ap (λ p. plus (counts_of xs) (counts_of (p ∷ []))) (frame_pair c o frame borrowed fits)
       ∙ counted_more xs (pair_of c o frame ∷ [])
 
   regroup : (xs : List Answered) (frame : List ℕ) (more : List (List ℕ)) → (xs ++ pair_of c o frame ∷ []) ++ map (pair_of c o) more ≡ xs ++ map (pair_of c o) (frame ∷ more)
   regroup xs frame more = append_assoc xs (pair_of c o frame ∷ []) (map (pair_of c o) more)
 
   -- the run went on after each of them
-  all_counted : (xs : List Answered) (fs : List (List ℕ)) (was now : FrameCounter) → Headed fs → was.counts ≡ counted xs → Handed gets o all was fs true now →
-      now.counts ≡ counted (xs ++ map (pair_of c o) fs)
-  all_counted xs [] was now headed so_far p = ap (λ (k : FrameCounter). k.counts) p.0 ∙ so_far ∙ ap counted (sym (append-nil xs))
+  all_counted : (xs : List Answered) (fs : List (List ℕ)) (was now : FrameCounter) → Headed fs → was.counts ≡ counts_of xs → Handed gets o all was fs true now →
+      now.counts ≡ counts_of (xs ++ map (pair_of c o) fs)
+  all_counted xs [] was now headed so_far p = ap (λ (k : FrameCounter). k.counts) p.0 ∙ so_far ∙ ap counts_of (sym (append-nil xs))
   all_counted xs (frame ∷ fs) was now headed so_far p = elim p.2 [
-    | inl more ↦ all_counted (xs ++ pair_of c o frame ∷ []) fs more.0 now headed.1 (one_more xs frame p.0 was more.0 headed.0 so_far more.1) more.2 ∙ ap counted (regroup xs frame fs)
+    | inl more ↦ all_counted (xs ++ pair_of c o frame ∷ []) fs more.0 now headed.1 (one_more xs frame p.0 was more.0 headed.0 so_far more.1) more.2 ∙ ap counts_of (regroup xs frame fs)
     | inr last ↦ let never : true ≡ false = last.2 in absurd (cc)
   ]
 
   -- the counter ended the run at the last of them, and did not count that one
-  but_last_counted : (xs : List Answered) (fs : List (List ℕ)) (was now : FrameCounter) → Headed fs → was.counts ≡ counted xs → Handed gets o all was fs false now →
-      (k : ℕ) × (suc k ≡ length fs) × (now.counts ≡ counted (xs ++ map (pair_of c o) (take k fs))) × IsFault now.refusal
+  but_last_counted : (xs : List Answered) (fs : List (List ℕ)) (was now : FrameCounter) → Headed fs → was.counts ≡ counts_of xs → Handed gets o all was fs false now →
+      (k : ℕ) × (suc k ≡ length fs) × (now.counts ≡ counts_of (xs ++ map (pair_of c o) (take k fs))) × IsFault now.refusal
   but_last_counted xs [] was now headed so_far p = let never : false ≡ true = p.1 in absurd (cc)
   but_last_counted xs (frame ∷ fs) was now headed so_far p = elim p.2 [
     | inl more ↦
         let r = but_last_counted (xs ++ pair_of c o frame ∷ []) fs more.0 now headed.1 (one_more xs frame p.0 was more.0 headed.0 so_far more.1) more.2 in
-        (suc r.0, ap suc r.1, r.2 ∙ ap counted (regroup xs frame (take r.0 fs)), r.3)
-    | inr last ↦ (0, ap suc (sym (ap length last.1)), last.0.0 ∙ so_far ∙ ap counted (sym (append-nil xs)), last.0.1)
+        (suc r.0, ap suc r.1, r.2 ∙ ap counts_of (regroup xs frame (take r.0 fs)), r.3)
+    | inr last ↦ (0, ap suc (sym (ap length last.1)), last.0.0 ∙ so_far ∙ ap counts_of (sym (append-nil xs)), last.0.1)
   ]
 
 -- ---- the answers of a stream
@@ -206,9 +206,9 @@ frames_take o zero n bytes h le = refl
 frames_take o (suc k) zero bytes h le = absurd (omega arith)
 frames_take o (suc k) (suc n) bytes h le =
     let eight : 8 ≤ length bytes = there_fits o k bytes h in
-    ap (take (suc k)) (frames_next o n bytes eight)
+    ap (take (suc k)) (frames_first o n bytes eight)
     ∙ ap (λ fs. take (frame_length o bytes) bytes ∷ fs) (frames_take o k n (drop (frame_length o bytes) bytes) (there_next o k bytes h) (omega arith))
-    ∙ sym (frames_next o k bytes eight)
+    ∙ sym (frames_first o k bytes eight)
 
 pub first_answers : (c : Configuration) (o : Order) (n : ℕ) (bytes : List ℕ) → AreThere o n bytes → map (pair_of c o) (first_frames o n bytes) ≡ take n (answers c o bytes)
 first_answers c o n bytes there =
@@ -222,7 +222,7 @@ fewer_answers c o k n bytes le there =
 -- ---- how a run ends that its handler ended
 
 -- the bytes after one more frame are a suffix of those after the others
-taken_within : (o : Order) (bytes left : List ℕ) → left ≡ drop (frame_length o bytes) bytes → LeavesWithin o bytes left
+taken_within : (o : Order) (bytes left : List ℕ) → left ≡ drop (frame_length o bytes) bytes → MovesWithinFrame o bytes left
 taken_within o bytes left p =
     let old : Source = record { left = bytes; told = true; whole = false; can_fault = false; faults = None } in
     let new : Source = record { left = left; told = true; whole = false; can_fault = false; faults = None } in
@@ -245,14 +245,14 @@ abbrev pub IsRunEnd : Option RunEnd → FrameCounter → RunEnd → Type 0
 IsRunEnd (Some x) now e = e ≡ x
 IsRunEnd None now e = EndsBy now.refusal e
 
-pub run_counts : (old : ReaderState) (limit count : ℕ) (ended : Option RunEnd) (e : RunEnd) (was now : FrameCounter) (left : List ℕ) → was.counts ≡ counted [] →
+pub run_counts : (old : ReaderState) (limit count : ℕ) (ended : Option RunEnd) (e : RunEnd) (was now : FrameCounter) (left : List ℕ) → was.counts ≡ counts_of [] →
     HandsFirst (λ s x. CountsSight s old.settings old.order x) old count ended was now → EndsFrames old.order limit old.source.left count ended left → IsRunEnd ended now e →
     CountsRun old.settings old.order limit old.source.left now.counts e left
 run_counts old limit count (Some x) e was now left none handed ends is =
     let c : Configuration = old.settings in let o : Order = old.order in let bytes : List ℕ = old.source.left in
     let fs : List (List ℕ) = first_frames o count bytes in (
       count,
-      all_counted c o old.source.whole [] fs was now (frames_headed o count bytes) none handed.1 ∙ ap counted (first_answers c o count bytes handed.0),
+      all_counted c o old.source.whole [] fs was now (frames_headed o count bytes) none handed.1 ∙ ap counts_of (first_answers c o count bytes handed.0),
       subst (λ (y : RunEnd). EndsWith o limit bytes count y left) (sym is) ends,
     )
 run_counts old limit count None e was now left none handed ends is =
@@ -262,7 +262,7 @@ run_counts old limit count None e was now left none handed ends is =
     let k : ℕ = r.0 in
     let one_more : k + 1 ≡ count = omega (arith, r.1, handed.0) in (
       k,
-      r.2 ∙ ap counted (fewer_answers c o k count bytes (omega (arith, one_more)) handed.0),
+      r.2 ∙ ap counts_of (fewer_answers c o k count bytes (omega (arith, one_more)) handed.0),
       ended_by o limit k bytes left now.refusal e (omega (arith, one_more, ends.1)) r.3 is (ends.2 ∙ ap (λ n. drop_frames o n bytes) (sym one_more)),
     )
 
@@ -297,7 +297,7 @@ unknown_adds c o h bytes m none is = by (split_after c o h bytes) refl
     by (Ok parts) e = (value o parts.body 0 (unread h.type_), ap (record_in c o h) e ∙ unknown_says c o h parts none, refl)
     by (Err k) e = let never : Ok m ≡ metadata_in (Err k) = is ∙ ap metadata_in e in absurd (cc)
 
-pub unknown_refused : (c : Configuration) (o : Order) (h : perf_event_header) (bytes : List ℕ) (x : ParseError) → Err (kind_of x) ≡ metadata_in (split_after c o h bytes) → IsAnswerOf x NoRoomForId →
+pub unknown_refused : (c : Configuration) (o : Order) (h : perf_event_header) (bytes : List ℕ) (x : ParseError) → Err (kind_of x) ≡ metadata_in (split_after c o h bytes) → IsErrorOf x NoRoomForId →
     SumsAnswer (answer_after c o h bytes) (Err NoRoomForId)
 unknown_refused c o h bytes x is why = by (split_after c o h bytes) refl
   where
@@ -311,12 +311,12 @@ unknown_refused c o h bytes x is why = by (split_after c o h bytes) refl
 -- ---- what a counter counts of one frame
 
 pub sums_seen : (h : perf_event_header) (c : Configuration) (o : Order) (bytes : List ℕ) (borrowed : Bool) (sum : ℕ) (was now : FrameCounter) → SumsAnswer (answer_after c o h bytes) (Ok sum) →
-    ((r : RecordValue) → sum ≡ wrapped (record_sum r) → now.counts ≡ plus was.counts (counted ((h, Ok r) ∷ []))) → CountsSight was c o (whole h bytes borrowed) true now
-sums_seen h c o bytes borrowed sum was now says added = added says.0 says.2 ∙ ap (λ a. plus was.counts (counted ((h, a) ∷ []))) (sym says.1)
+    ((r : RecordValue) → sum ≡ modulo_word (record_sum r) → now.counts ≡ plus was.counts (counts_of ((h, Ok r) ∷ []))) → CountsSight was c o (whole h bytes borrowed) true now
+sums_seen h c o bytes borrowed sum was now says added = added says.0 says.2 ∙ ap (λ a. plus was.counts (counts_of ((h, a) ∷ []))) (sym says.1)
 
 pub refuses_seen : (h : perf_event_header) (c : Configuration) (o : Order) (bytes : List ℕ) (borrowed : Bool) (e : Refusal) (was now : FrameCounter) (go : Bool) → SumsAnswer (answer_after c o h bytes) (Err e) →
     RefusesSight e was go now → CountsSight was c o (whole h bytes borrowed) go now
-refuses_seen h c o bytes borrowed e was now true says p = p.1 h ∙ ap (λ a. plus was.counts (counted ((h, a) ∷ []))) (sym (says p.0))
+refuses_seen h c o bytes borrowed e was now true says p = p.1 h ∙ ap (λ a. plus was.counts (counts_of ((h, a) ∷ []))) (sym (says p.0))
 refuses_seen h c o bytes borrowed e was now false says p = p
 
 -- ---- the attribute of a stream

@@ -28,7 +28,7 @@ use Rattle.perf_parser.specs.FrameRuns.{Handed, HandsFirst, went_on}
 use Rattle.perf_parser.specs.declared.runs.RunEnd.{RunEnd}
 use Rattle.perf_reader.specs.ReaderState.{ReaderState}
 use Rattle.perf_reports.specs.FramePrinting.{Answered, by_kinds, TellsErrors, all_clean, Prints, StopsAt, PrintsAnswer, PrintsSight, PrintsFirst, answers_of}
-use Rattle.perf_reports.specs.Printing.{printed, printed_answer, printed_answers, error_line, error_lines, Grows, GrowsWithin, is_memory}
+use Rattle.perf_reports.specs.Printing.{text_of_record, printed_answer, printed_answers, error_line, error_lines, Grows, GrowsWithin, is_memory}
 use Rattle.perf_reports.specs.declared.frame_printer.FramePrinter.{FramePrinter}
 use Rattle.perf_reports.specs.declared.printing.Report.{Report}
 use Rattle.perf_reports.specs.declared.printing.Stopped.{Stopped}
@@ -96,20 +96,20 @@ module _ {W E : Type 0} (out : W → Option (List ℕ)) (err : E → Option (Lis
 
   -- a record's line was added
   pub prints_line : (was now : FramePrinter W E) (h : perf_event_header) (v : RecordValue) → now.report ≡ was.report → now.errors ≡ was.errors → now.clean ≡ was.clean →
-      Grows (out was.output) (out now.output) (waiting was) (waiting now) (printed was.report v) → GrowsWithin (out was.output) (out now.output) (waiting was ++ printed was.report v) → Prints out err was ((h, Ok v) ∷ []) now
+      Grows (out was.output) (out now.output) (waiting was) (waiting now) (text_of_record was.report v) → GrowsWithin (out was.output) (out now.output) (waiting was ++ text_of_record was.report v) → Prints out err was ((h, Ok v) ∷ []) now
   prints_line was now h v report errors clean g w = record {
     report = report;
-    grown = subst (λ s. Grows (out was.output) (out now.output) (waiting was) (waiting now) s) (sym (append-nil (printed was.report v))) g;
-    part = subst (λ s. GrowsWithin (out was.output) (out now.output) (waiting was ++ s)) (sym (append-nil (printed was.report v))) w;
+    grown = subst (λ s. Grows (out was.output) (out now.output) (waiting was) (waiting now) s) (sym (append-nil (text_of_record was.report v))) g;
+    part = subst (λ s. GrowsWithin (out was.output) (out now.output) (waiting was ++ s)) (sym (append-nil (text_of_record was.report v))) w;
     told = subst (λ (e : E). TellsErrors (err was.errors) (err e) ((h, Ok v) ∷ [])) (sym errors) (tells_ok (err was.errors) h v);
     clean = clean ∙ sym (and-true was.clean);
   }
 
   -- its line could not be added
-  pub stops_line : (was now : FramePrinter W E) (h : perf_event_header) (v : RecordValue) (why : Stopped) → now.errors ≡ was.errors → GrowsWithin (out was.output) (out now.output) (waiting was ++ printed was.report v) →
+  pub stops_line : (was now : FramePrinter W E) (h : perf_event_header) (v : RecordValue) (why : Stopped) → now.errors ≡ was.errors → GrowsWithin (out was.output) (out now.output) (waiting was ++ text_of_record was.report v) →
       (IsTrue (is_memory why) → Appends (out was.output) (out now.output) (waiting was)) → StopsAt out err was (h, Ok v) why now
   stops_line was now h v why errors w refused = record {
-    part = subst (λ s. GrowsWithin (out was.output) (out now.output) (waiting was ++ s)) (sym (append-nil (printed was.report v))) w;
+    part = subst (λ s. GrowsWithin (out was.output) (out now.output) (waiting was ++ s)) (sym (append-nil (text_of_record was.report v))) w;
     refused = λ memory. (refused memory, ap err errors);
   }
 
@@ -149,7 +149,7 @@ module _ {W E : Type 0} (out : W → Option (List ℕ)) (err : E → Option (Lis
 
   -- a line was added, or printing stopped
   pub adds_line : (was now : FramePrinter W E) (h : perf_event_header) (a : Result RecordValue ErrorKind) (v : RecordValue) (r : Result (Unit {0}) Stopped) → a ≡ Ok v → now.report ≡ was.report → now.errors ≡ was.errors → now.clean ≡ was.clean →
-      OnOk r (Grows (out was.output) (out now.output) (waiting was) (waiting now) (printed was.report v)) → GrowsWithin (out was.output) (out now.output) (waiting was ++ printed was.report v) →
+      OnOk r (Grows (out was.output) (out now.output) (waiting was) (waiting now) (text_of_record was.report v)) → GrowsWithin (out was.output) (out now.output) (waiting was ++ text_of_record was.report v) →
       IfErr r (λ stopped. IsTrue (is_memory stopped) → Appends (out was.output) (out now.output) (waiting was)) → PrintsAnswer out err was (h, a) r now
   adds_line was now h a v (Ok x) e report errors clean g w refused = prints_same was now h a (Ok v) (Ok x) e (prints_line was now h v report errors clean g w)
   adds_line was now h a v (Err why) e report errors clean g w refused = prints_same was now h a (Ok v) (Err why) e (stops_line was now h v why errors w refused)

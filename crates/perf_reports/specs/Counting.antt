@@ -6,7 +6,7 @@ use Rattle.perf_base.specs.Attribute.{attribute}
 use Rattle.perf_base.specs.Configuration.{Configuration, plain, configured_by}
 use Rattle.perf_base.specs.Layout.{layout}
 use Rattle.perf_base.specs.Order.{Order}
-use Rattle.perf_base.specs.Refusals.{refusal_kind, IsAnswerOf}
+use Rattle.perf_base.specs.Refusals.{refusal_kind, IsErrorOf}
 use Rattle.perf_base.specs.declared.error.ParseError.{ParseError}
 use Rattle.perf_base.specs.declared.refusal.Refusal.{Refusal}
 use Rattle.perf_base.specs.declared.sys.perf_event_attr.{perf_event_attr}
@@ -31,8 +31,8 @@ use Rattle.perf_reports.specs.declared.counting.FrameCounter.{FrameCounter}
 use Rattle.perf_reports.specs.declared.counts.Counts.{Counts}
 
 -- a number modulo 2^64
-abbrev pub wrapped : ℕ → ℕ
-wrapped n = n % 2 ^ 64
+abbrev pub modulo_word : ℕ → ℕ
+modulo_word n = n % 2 ^ 64
 
 -- ---- what a record adds to the checksum
 
@@ -84,7 +84,7 @@ record_sum _ = 0
 
 -- the number is what the record of an event adds
 abbrev pub Adds : Event → ℕ → Type 0
-Adds seen sum = sum ≡ wrapped (record_sum seen.value)
+Adds seen sum = sum ≡ modulo_word (record_sum seen.value)
 
 -- ---- what is counted of frames
 
@@ -95,19 +95,19 @@ frame_sum (h, Ok r) = record_sum r + h.type_ + h.size
 frame_sum (h, Err e) = 0
 
 -- the number of frames, the number of refused ones, and the checksum of the others
-abbrev pub counted : List (perf_event_header × Result RecordValue ErrorKind) → Counts
-counted pairs = record {
-  records = wrapped (length pairs);
-  refused = wrapped (count_by (λ pair. is_err pair.1) pairs);
-  checksum = wrapped (sum_by frame_sum pairs);
+abbrev pub counts_of : List (perf_event_header × Result RecordValue ErrorKind) → Counts
+counts_of pairs = record {
+  records = modulo_word (length pairs);
+  refused = modulo_word (count_by (λ pair. is_err pair.1) pairs);
+  checksum = modulo_word (sum_by frame_sum pairs);
 }
 
 -- the counts of two lists of frames together
 abbrev pub plus : Counts → Counts → Counts
 plus a b = record {
-  records = wrapped (a.records + b.records);
-  refused = wrapped (a.refused + b.refused);
-  checksum = wrapped (a.checksum + b.checksum);
+  records = modulo_word (a.records + b.records);
+  refused = modulo_word (a.refused + b.refused);
+  checksum = modulo_word (a.checksum + b.checksum);
 }
 
 -- ---- what a counter is handed
@@ -128,7 +128,7 @@ IsRefused says = IfOk says (λ value. ⊥)
 
 -- the counts of one frame
 abbrev pub counted_sight : Configuration → Order → Sight → Counts
-counted_sight c o seen = counted ((sight_header seen, sight_answer c o seen) ∷ [])
+counted_sight c o seen = counts_of ((sight_header seen, sight_answer c o seen) ∷ [])
 
 -- a run was ended by a refusal that is none of the layout's
 abbrev pub IsFault : Option Refusal → Type 0
@@ -138,7 +138,7 @@ IsFault (Some e) = IsTrue (of_layout (refusal_kind e)) → ⊥
 -- how a run ends that a refusal ended: with the error that it becomes
 abbrev pub EndsBy : Option Refusal → RunEnd → Type 0
 EndsBy None e = Unit {0}
-EndsBy (Some refusal) e = (x : ParseError) × (e ≡ Fault x) × IsAnswerOf x refusal
+EndsBy (Some refusal) e = (x : ParseError) × (e ≡ Fault x) × IsErrorOf x refusal
 
 -- A counter was handed a frame, and returned whether the run goes on. If so, the frame was counted,
 -- once; if not, a fault or a failed allocation ended the run, and the frame was not counted.
@@ -149,13 +149,13 @@ CountsSight was c o seen false now = (now.counts ≡ was.counts) × IsFault now.
 -- A refused frame was counted, whatever its header, or ended the run.
 abbrev pub RefusesSight : Refusal → FrameCounter → Bool → FrameCounter → Type 0
 RefusesSight refusal was true now = IsTrue (of_layout (refusal_kind refusal))
-    × ((h : perf_event_header) → now.counts ≡ plus was.counts (counted ((h, Err (refusal_kind refusal)) ∷ [])))
+    × ((h : perf_event_header) → now.counts ≡ plus was.counts (counts_of ((h, Err (refusal_kind refusal)) ∷ [])))
 RefusesSight refusal was false now = (now.counts ≡ was.counts) × IsFault now.refusal
 
 -- What a record adds was summed, if the result is a record; otherwise it was refused with the kind
 -- of the result, or for a fault or a failed allocation.
 abbrev pub SumsAnswer : Result RecordValue ErrorKind → Result ℕ Refusal → Type 0
-SumsAnswer says (Ok sum) = (value : RecordValue) × (says ≡ Ok value) × (sum ≡ wrapped (record_sum value))
+SumsAnswer says (Ok sum) = (value : RecordValue) × (says ≡ Ok value) × (sum ≡ modulo_word (record_sum value))
 SumsAnswer says (Err e) = IsTrue (of_layout (refusal_kind e)) → says ≡ Err (refusal_kind e)
 
 -- ---- what is counted of a stream
@@ -164,7 +164,7 @@ SumsAnswer says (Err e) = IsTrue (of_layout (refusal_kind e)) → says ≡ Err (
 -- many: after all of them if nothing is left or a header is cut.
 abbrev pub CountsRun : Configuration → Order → (limit : ℕ) → List ℕ → Counts → RunEnd → List ℕ → Type 0
 CountsRun c o limit bytes counts e left =
-    (k : ℕ) × (counts ≡ counted (take k (answers c o bytes))) × EndsWith o limit bytes k e left
+    (k : ℕ) × (counts ≡ counts_of (take k (answers c o bytes))) × EndsWith o limit bytes k e left
 
 -- The attribute at the start of the bytes, or why there is none. It is unfolded only if a proof
 -- asks for it.

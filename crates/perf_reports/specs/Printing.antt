@@ -33,12 +33,12 @@ with_feed (Some line) = line ++ codes "\n"
 with_feed None = []
 
 -- what is printed of a record
-abbrev pub printed : Report → RecordValue → List ℕ
-printed report r = with_feed (line_in report r)
+abbrev pub text_of_record : Report → RecordValue → List ℕ
+text_of_record report r = with_feed (line_in report r)
 
 -- what is printed of the result of a frame: nothing if it was refused
 abbrev pub printed_answer : Report → perf_event_header × Result RecordValue ErrorKind → List ℕ
-printed_answer report (header, Ok r) = printed report r
+printed_answer report (header, Ok r) = text_of_record report r
 printed_answer report (header, Err e) = []
 
 -- what is printed of results, in order

@@ -7,7 +7,7 @@ ghost use Rattle.perf_buffers.specs.Prelude.{chunk_bytes};
 ghost use Rattle.perf_reader.specs.Reading.{of_layout};
 ghost use Rattle.perf_records.specs.Answers.{answer_after};
 ghost use Rattle.perf_records.specs.RecordTypes.{type_of};
-ghost use Rattle.perf_reports.specs.Counting.{counted, CountsSight, EndsBy, IsRefused, RefusesSight};
+ghost use Rattle.perf_reports.specs.Counting.{counts_of, CountsSight, EndsBy, IsRefused, RefusesSight};
 ghost use Rattle.perf_reports.specs.Counting.{SumsAnswer};
 
 use crate::counts::Counts;
@@ -58,7 +58,7 @@ impl<'p> FrameCounter<'p> {
         ensures { EndsBy self.now.refusal result }
     {
         match self.refusal {
-            Some(refusal) => RunEnd::Fault(Kept::none().answer(refusal)),
+            Some(refusal) => RunEnd::Fault(Kept::none().error_of(refusal)),
             None => RunEnd::Limit,
         }
     }

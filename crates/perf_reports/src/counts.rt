@@ -3,7 +3,7 @@
 ghost use Rattle.std.specs.Prelude.{◌≡◌, [], ◌∷◌, Ok, Err};
 ghost use Rattle.perf_base.specs.declared.error.ErrorKind.{ErrorKind};
 ghost use Rattle.perf_records.specs.Records.{RecordValue};
-ghost use Rattle.perf_reports.specs.Counting.{plus, counted, wrapped, record_sum};
+ghost use Rattle.perf_reports.specs.Counting.{plus, counts_of, modulo_word, record_sum};
 
 use perf_event_data::sys::perf_event_header;
 
@@ -29,8 +29,8 @@ impl Counts {
     // Counts one more frame, whose record adds `sum` to the checksum.
     #[inline]
     pub(crate) fn add_record(&mut self, header: perf_event_header, sum: u64)
-        ensures { (value : RecordValue) → sum ≡ wrapped (record_sum value) →
-            self.new ≡ plus self.old (counted ((header, Ok value) ∷ [])) }
+        ensures { (value : RecordValue) → sum ≡ modulo_word (record_sum value) →
+            self.new ≡ plus self.old (counts_of ((header, Ok value) ∷ [])) }
     {
         let framed = sum.wrapping_add(u64::from(header.type_) + u64::from(header.size));
         *self = self.plus(Counts {
@@ -44,7 +44,7 @@ impl Counts {
     #[inline]
     pub(crate) fn add_refused(&mut self)
         ensures { (header : perf_event_header) → (kind : ErrorKind) →
-            self.new ≡ plus self.old (counted ((header, Err kind) ∷ [])) }
+            self.new ≡ plus self.old (counts_of ((header, Err kind) ∷ [])) }
     {
         *self = self.plus(Counts {
             records: 1,

@@ -127,7 +127,7 @@ impl<W: Write, E: Write> FramePrinter<W, E> {
             ErrorKind::Eof
             | ErrorKind::InvalidRecord
             | ErrorKind::UnsupportedConfig
-            | ErrorKind::UnsupportedData => self.print_error(&Kept::none().answer(refusal)),
+            | ErrorKind::UnsupportedData => self.print_error(&Kept::none().error_of(refusal)),
         }
     }
 

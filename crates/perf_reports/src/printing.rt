@@ -5,7 +5,7 @@ ghost use Rattle.std.specs.Prelude.{OnOk, IfOk, IfErr, if◌then◌else◌};
 ghost use Rattle.std.specs.Io.KnownBytes.{Appends};
 ghost use Rattle.perf_parser.specs.Prelude.{buffer_of, config_of, state_of};
 ghost use Rattle.perf_reports.specs.FramePrinting.{PrintsFirst, PrintsRun, answers_of};
-ghost use Rattle.perf_reports.specs.Printing.{found_value, printed, printed_answers, is_memory};
+ghost use Rattle.perf_reports.specs.Printing.{found_value, text_of_record, printed_answers, is_memory};
 ghost use Rattle.perf_reports.specs.Printing.{Grows, GrowsWithin};
 
 use crate::frame_printer::FramePrinter;
@@ -41,7 +41,7 @@ impl Report {
     // report.
     fn push_line(self, text: &mut String, found: Found<'_, '_>) -> Result<(), AllocError>
         ensures { OnOk result (string_bytes text.new
-            ≡ string_bytes text.old ++ printed self (found_value found.entry)) }
+            ≡ string_bytes text.old ++ text_of_record self (found_value found.entry)) }
     {
         let told = match (self, found) {
             (Report::Tasks, Found::Record(record)) => tasks::push_line(text, record)?,
@@ -83,7 +83,7 @@ impl fmt::Display for Stopped {
     fn fmt<W: fmt::Write>(&self, f: &mut fmt::Formatter<W>) -> fmt::Result {
         match self {
             Stopped::Memory(error) => write!(f, "{error}"),
-            Stopped::Frame(refusal) => write!(f, "{}", Kept::none().answer(*refusal)),
+            Stopped::Frame(refusal) => write!(f, "{}", Kept::none().error_of(*refusal)),
             Stopped::Output(error) => write!(f, "{error}"),
         }
     }
@@ -129,11 +129,11 @@ impl Lines {
     ) -> Result<(), Stopped>
         ensures grown { OnOk result (Grows (W.contents output.old) (W.contents output.new)
             (string_bytes self.old.gathered) (string_bytes self.new.gathered)
-            (printed report (found_value found.entry))) }
+            (text_of_record report (found_value found.entry))) }
         ensures bound { OnOk result ((length (string_bytes self.new.gathered) ≤ GATHERED)
-            ⊎ (string_bytes self.new.gathered ≡ printed report (found_value found.entry))) }
+            ⊎ (string_bytes self.new.gathered ≡ text_of_record report (found_value found.entry))) }
         ensures part { GrowsWithin (W.contents output.old) (W.contents output.new)
-            (string_bytes self.old.gathered ++ printed report (found_value found.entry)) }
+            (string_bytes self.old.gathered ++ text_of_record report (found_value found.entry)) }
         ensures refused { IfErr result (λ stopped. IsTrue (is_memory stopped) →
             Appends (W.contents output.old) (W.contents output.new)
             (string_bytes self.old.gathered)) }
@@ -244,7 +244,7 @@ fn print_records<'p, B: ParseBuf<'p>, O: Endian, W: Write, E: Write>(
     for _ in 0..u64::MAX {
         let end = match print_frames(parser, printer) {
             Ok(end) => end,
-            Err(Stopped::Frame(refusal)) => return Err(Kept::none().answer(refusal).into()),
+            Err(Stopped::Frame(refusal)) => return Err(Kept::none().error_of(refusal).into()),
             Err(stopped) => return Err(stopped.into()),
         };
         if !goes_on(end)? {

@@ -2,7 +2,7 @@
 
 ghost use Rattle.std.specs.Prelude.{◌≡◌, ◌≤◌, ◌+◌, ⊤, true, false, length};
 ghost use Rattle.perf_records.specs.Prelude.{Call, GivesWholeBody, GivesType, MetadataValue, kinds, body};
-ghost use Rattle.perf_records.specs.Prelude.{configuration_of, endian_of, refused, is_external};
+ghost use Rattle.perf_records.specs.Prelude.{configuration_of, endian_of, kind_if_refused, is_external};
 ghost use Rattle.perf_records.specs.Prelude.{one_if_refused};
 ghost use Rattle.perf_reports.specs.Counting.{Adds};
 
@@ -73,8 +73,8 @@ fn read_kept<'p, E: Endian>(
     requires { metadata.ty ≡ 9 }
     ensures answer { GivesWholeBody Adds metadata (E.order (endian_of config))
         (body (configuration_of config) metadata.ty) bytes.now true (kinds result.0) result.1 }
-    ensures faults { is_external (refused (kinds result.0)) ≡ false }
-    ensures cost { result.1 ≤ length bytes.now + one_if_refused (refused (kinds result.0)) }
+    ensures faults { is_external (kind_if_refused (kinds result.0)) ≡ false }
+    ensures cost { result.1 ≤ length bytes.now + one_if_refused (kind_if_refused (kinds result.0)) }
 {
     let (read, reads) = IntoSample.read(
         alloc,
@@ -100,8 +100,8 @@ fn read_sample<E: Endian>(
     requires { metadata.ty ≡ 9 }
     ensures answer { GivesWholeBody Adds metadata (E.order (endian_of config))
         (body (configuration_of config) metadata.ty) bytes.now true (kinds result.0) result.1 }
-    ensures faults { is_external (refused (kinds result.0)) ≡ false }
-    ensures cost { result.1 ≤ length bytes.now + one_if_refused (refused (kinds result.0)) }
+    ensures faults { is_external (kind_if_refused (kinds result.0)) ≡ false }
+    ensures cost { result.1 ≤ length bytes.now + one_if_refused (kind_if_refused (kinds result.0)) }
 {
     let mut reader = Reader::new(alloc, bytes, config);
     let sum = next_sample(&mut reader);

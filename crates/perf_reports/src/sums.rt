@@ -2,7 +2,7 @@
 
 ghost use Rattle.std.specs.Prelude.{◌≡◌, sum};
 ghost use Rattle.perf_records.specs.Records.{comm_value, mmap_value, mmap2_value};
-ghost use Rattle.perf_reports.specs.Counting.{wrapped, mmap_sum, mmap2_sum, comm_sum, task_sum};
+ghost use Rattle.perf_reports.specs.Counting.{modulo_word, mmap_sum, mmap2_sum, comm_sum, task_sum};
 ghost use Rattle.perf_reports.specs.Counting.{lost_sum, sample_sum};
 ghost use Rattle.perf_sample_types.specs.SampleGetters.{getters_of};
 ghost use Rattle.perf_sample_types.specs.SampleGroups.{sample_value};
@@ -10,7 +10,7 @@ ghost use Rattle.perf_sample_types.specs.SampleGroups.{sample_value};
 use perf_event_data::{Comm, Exit, Lost, Mmap, Mmap2, Sample};
 
 pub(crate) fn mmap_sum(mapped: &Mmap) -> u64
-    ensures { result ≡ wrapped (mmap_sum (mmap_value mapped.now)) }
+    ensures { result ≡ modulo_word (mmap_sum (mmap_value mapped.now)) }
 {
     wrapping_sum(&[
         u64::from(mapped.pid),
@@ -23,7 +23,7 @@ pub(crate) fn mmap_sum(mapped: &Mmap) -> u64
 }
 
 pub(crate) fn mmap2_sum(mapped: &Mmap2) -> u64
-    ensures { result ≡ wrapped (mmap2_sum (mmap2_value mapped.now)) }
+    ensures { result ≡ modulo_word (mmap2_sum (mmap2_value mapped.now)) }
 {
     wrapping_sum(&[
         u64::from(mapped.pid),
@@ -36,7 +36,7 @@ pub(crate) fn mmap2_sum(mapped: &Mmap2) -> u64
 }
 
 pub(crate) fn comm_sum(comm: &Comm) -> u64
-    ensures { result ≡ wrapped (comm_sum (comm_value comm.now)) }
+    ensures { result ≡ modulo_word (comm_sum (comm_value comm.now)) }
 {
     wrapping_sum(&[
         u64::from(comm.pid),
@@ -47,7 +47,7 @@ pub(crate) fn comm_sum(comm: &Comm) -> u64
 
 // The start or the end of a task.
 pub(crate) fn task_sum(task: &Exit) -> u64
-    ensures { result ≡ wrapped (task_sum task.now) }
+    ensures { result ≡ modulo_word (task_sum task.now) }
 {
     wrapping_sum(&[
         u64::from(task.pid),
@@ -59,13 +59,13 @@ pub(crate) fn task_sum(task: &Exit) -> u64
 }
 
 pub(crate) fn lost_sum(lost: &Lost) -> u64
-    ensures { result ≡ wrapped (lost_sum lost.now) }
+    ensures { result ≡ modulo_word (lost_sum lost.now) }
 {
     wrapping_sum(&[lost.id, lost.lost])
 }
 
 pub(crate) fn sample_sum(sample: &Sample) -> u64
-    ensures { result ≡ wrapped (sample_sum (getters_of (sample_value sample.now))) }
+    ensures { result ≡ modulo_word (sample_sum (getters_of (sample_value sample.now))) }
 {
     let chain = match sample.callchain() {
         Some(addresses) => wrapping_sum(addresses),
@@ -89,7 +89,7 @@ pub(crate) fn sample_sum(sample: &Sample) -> u64
 // The sum of numbers, modulo 2^64.
 #[inline]
 fn wrapping_sum(numbers: &[u64]) -> u64
-    ensures { result ≡ wrapped (sum numbers.now) }
+    ensures { result ≡ modulo_word (sum numbers.now) }
 {
     let mut total: u64 = 0;
     for number in numbers {

@@ -8,7 +8,7 @@ use Rattle.std.proofs.Math.Pow.{pow_pos}
 use Rattle.std.proofs.lemmas.Nat.{ones_le_self, shr-shr}
 use Rattle.std.specs.Int.Count.{ones_step}
 use Rattle.perf_base.specs.Configuration.{Configuration}
-use Rattle.perf_base.specs.Layout.{answer_of, size, Parts, done, part, check, ◌>>=◌, mapped, slice, spots, ending, value, first_refusal, layout}
+use Rattle.perf_base.specs.Layout.{shape_value, size, Parts, done, part, check, ◌>>=◌, mapped, slice, spots, ending, value, first_refusal, layout}
 use Rattle.perf_base.specs.LayoutReads.{layout_reads}
 use Rattle.perf_base.specs.Order.{Order}
 use Rattle.perf_base.specs.Run.{Ran, ran, stopped, left_at}
@@ -54,8 +54,8 @@ onwards : {A : Type 0} (o : Order) (body : List ℕ) (s : ℕ) (p : Parts A) →
 onwards o body s (done v) = omega arith
 onwards o body s (part shape k) =
     let n : ℕ = size shape (length body - s) in
-    let more : s + n ≤ ending o body (s + n) (k (answer_of o shape (slice body s n))) =
-    onwards o body (s + n) (k (answer_of o shape (slice body s n))) in
+    let more : s + n ≤ ending o body (s + n) (k (shape_value o shape (slice body s n))) =
+    onwards o body (s + n) (k (shape_value o shape (slice body s n))) in
     omega (arith, more)
 onwards o body s (check t e p) = onwards o body s p
 
@@ -64,7 +64,7 @@ ending-bind : {A B : Type 0} (o : Order) (body : List ℕ) (s : ℕ) (p : Parts 
 ending-bind o body s (done v) f = refl
 ending-bind o body s (part shape k) f =
     let n : ℕ = size shape (length body - s) in
-    ending-bind o body (s + n) (k (answer_of o shape (slice body s n))) f
+    ending-bind o body (s + n) (k (shape_value o shape (slice body s n))) f
 ending-bind o body s (check t e p) f = ending-bind o body s p f
 
 -- a body that is not refused contains the end of its parts
@@ -78,10 +78,10 @@ ends_within o body s (part shape k) within stands =
     elim (cases_lt (length body) (s + n)) [
       | inr fits ↦
           let t : nat_le (s + n) (length body) ≡ true = le-leb (s + n) (length body) fits in
-          ends_within o body (s + n) (k (answer_of o shape (slice body s n))) fits (sym (taken _ _ _ t) ∙ stands)
+          ends_within o body (s + n) (k (shape_value o shape (slice body s n))) fits (sym (taken _ _ _ t) ∙ stands)
       | inl short ↦
           let t : nat_le (s + n) (length body) ≡ false = lt-leb (s + n) (length body) short in
-          absurd (cc (not_taken {B = Option ErrorKind} (nat_le (s + n) (length body)) (first_refusal (length body) (spots o body (s + n) (k (answer_of o shape (slice body s n))))) (Some Eof) t))
+          absurd (cc (not_taken {B = Option ErrorKind} (nat_le (s + n) (length body)) (first_refusal (length body) (spots o body (s + n) (k (shape_value o shape (slice body s n))))) (Some Eof) t))
     ]
 
 -- eight bytes or more

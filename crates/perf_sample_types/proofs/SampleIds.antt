@@ -3,7 +3,7 @@ use Rattle.std.proofs.Common.{◌≡◌, ℕ, List, true, refl, sym, ◌∙◌, 
 use Rattle.perf_base.specs.Configuration.{Configuration}
 use Rattle.perf_base.specs.Layout.{Parts, done}
 use Rattle.perf_base.specs.Order.{Order}
-use Rattle.perf_base.specs.Run.{Ran, ran, stopped, judged, by_places}
+use Rattle.perf_base.specs.Run.{Ran, ran, stopped, run_by_spots, by_places}
 use Rattle.perf_base.specs.Took.{took, quit, with_reads, took_by_places}
 use Rattle.perf_base.specs.declared.error.ErrorKind.{ErrorKind}
 use Rattle.perf_sample_types.proofs.SampleIdLength.{sample_id_takes, sample_id_lacks}
@@ -37,11 +37,11 @@ stopped_reads (stopped d rest) n e left m h = cc
 
 places_ran : {A : Type 0} (o : Order) (p : Parts A) (bytes : List ℕ) (n : ℕ) (v : A) (left : List ℕ) (m : ℕ) → took_by_places o p bytes n ≡ took v left m → by_places o p bytes ≡ ran v left
 unfolding took_by_places by_places
-places_ran o p bytes n v left m h = ran_reads (judged o bytes 0 p) _ v left m h
+places_ran o p bytes n v left m h = ran_reads (run_by_spots o bytes 0 p) _ v left m h
 
 places_stopped : {A : Type 0} (o : Order) (p : Parts A) (bytes : List ℕ) (n : ℕ) (e : ErrorKind) (left : List ℕ) (m : ℕ) → took_by_places o p bytes n ≡ quit e left m → by_places o p bytes ≡ stopped e left
 unfolding took_by_places by_places
-places_stopped o p bytes n e left m h = stopped_reads (judged o bytes 0 p) _ e left m h
+places_stopped o p bytes n e left m h = stopped_reads (run_by_spots o bytes 0 p) _ e left m h
 
 -- it takes as many bytes as it has, or there are too few
 pub id_takes : (c : Configuration) (o : Order) (bytes : List ℕ) (n : ℕ) (v : SampleIdValue) (left : List ℕ) (m : ℕ) → took_by_places o (sample_id c) bytes n ≡ took v left m → left ≡ drop (sample_id_length c) bytes

@@ -14,7 +14,7 @@ use Rattle.perf_base.proofs.Tables.{splice_fields, cut_fields, tables_inv, cons_
 use Rattle.perf_sample_types.specs.Sample.{FieldValue, number_is, SampleValue, sample, sample_fields, settings_of, field_under, fields_under, plain}
 use Rattle.perf_sample_types.specs.SampleGetters.{field_at, number_in}
 use Rattle.perf_sample_types.specs.SampleId.{first_of}
-use Rattle.perf_sample_types.specs.SampleLaws.{no_field, table_field, id_field, flags_of, parts_of, is_there, with_flag, without_field, spliced, without_bytes, said_id, said_identifier, ChangesField, KeepsId, SpliceLaw, CutLaw}
+use Rattle.perf_sample_types.specs.SampleLaws.{no_field, table_field, id_field, flags_of, parts_of, is_there, with_flag, without_field, splice_field, without_bytes, said_id, said_identifier, ChangesField, KeepsId, SpliceLaw, CutLaw}
 use Rattle.perf_sample_types.proofs.Closed.{sample_ended, front_closed, one_closed}
 use Rattle.perf_sample_types.proofs.LawFlags.{with_fields, without_fields, under_true, under_false}
 
@@ -92,11 +92,11 @@ keeps c o body vs us there e same =
 
 spliced_layout : (c : Configuration) (o : Order) (f flag : ℕ) (body w : List ℕ) (vs : SampleValue) → f < 24 → is_there c f ≡ false →
     Contains (flags_of f) flag → Spells o (parts_of c f) w → layout o (sample c) body ≡ Ok vs →
-    layout o (sample (with_flag c flag)) (spliced c o body f w) ≡ Ok (set vs f (Some (value o w 0 (parts_of c f))))
+    layout o (sample (with_flag c flag)) (splice_field c o body f w) ≡ Ok (set vs f (Some (value o w 0 (parts_of c f))))
 unfolding sample
 spliced_layout c o f flag body w vs h absent has s e =
     let none : get_or (under c) f None ≡ None = field_there c f h ∙ under_false c (table_field f) absent in
-    ap (λ t. layout o (table t) (spliced c o body f w)) (with_fields sample_fields c f flag refl refl h has)
+    ap (λ t. layout o (table t) (splice_field c o body f w)) (with_fields sample_fields c f flag refl refl h has)
     ∙ splice_fields o (under c) f (parts_of c f) body w vs (within c f h) none (front_closed sample_fields c f sample_ended) (one_closed sample_fields f sample_ended (settings_of c)) e s
 
 cut_layout : (c : Configuration) (o : Order) (f : ℕ) (body : List ℕ) (vs : SampleValue) → f < 24 → layout o (sample c) body ≡ Ok vs →

@@ -6,7 +6,7 @@ use Rattle.perf_base.specs.Order.{little, big}
 use Rattle.perf_base.specs.Splice.{Spells}
 use Rattle.perf_sample_types.specs.Sample.{number_is, task_is, bytes_are, SampleValue, sample}
 use Rattle.perf_sample_types.specs.SampleGetters.{getters_of}
-use Rattle.perf_sample_types.specs.SampleLaws.{flags_of, parts_of, is_there, with_flag, without_field, spliced, without_bytes}
+use Rattle.perf_sample_types.specs.SampleLaws.{flags_of, parts_of, is_there, with_flag, without_field, splice_field, without_bytes}
 
 -- ---- the fields by their numbers
 
@@ -64,17 +64,17 @@ time_is_absent = refl
 time_is_bit_2 : with_flag three 2 ≡ of_type 0x47
 time_is_bit_2 = refl
 
-time_is_put_in : spliced three little of_three 3 time ≡ ip ++ tid ++ time ++ id
+time_is_put_in : splice_field three little of_three 3 time ≡ ip ++ tid ++ time ++ id
 time_is_put_in = refl
 
-said_with_time : layout little (sample (with_flag three 2)) (spliced three little of_three 3 time) ≡
+said_with_time : layout little (sample (with_flag three 2)) (splice_field three little of_three 3 time) ≡
     Ok (None ∷ Some (number_is 0x2010) ∷ Some (task_is (Some 1) (Some 2)) ∷ Some (number_is 0x1000000000007) ∷ None ∷ Some (number_is 9) ∷ absent 18)
 unfolding sample
 said_with_time = refl
 
 -- the getters return the same except for the time
 calls_with_time : (before after : SampleValue) → layout little (sample three) of_three ≡ Ok before →
-    layout little (sample (with_flag three 2)) (spliced three little of_three 3 time) ≡ Ok after →
+    layout little (sample (with_flag three 2)) (splice_field three little of_three 3 time) ≡ Ok after →
     getters_of after ≡ record (getters_of before) { time = Some 0x1000000000007 }
 unfolding sample
 calls_with_time before after e f =
@@ -82,7 +82,7 @@ calls_with_time before after e f =
     let is : after ≡ None ∷ Some (number_is 0x2010) ∷ Some (task_is (Some 1) (Some 2)) ∷ Some (number_is 0x1000000000007) ∷ None ∷ Some (number_is 9) ∷ absent 18 = cc in
     rw (was, is) refl
 
-said_with_time_in_big : layout big (sample (with_flag three 2)) (spliced three big of_three 3 time) ≡
+said_with_time_in_big : layout big (sample (with_flag three 2)) (splice_field three big of_three 3 time) ≡
     Ok (None ∷ Some (number_is 0x1020000000000000) ∷ Some (task_is (Some 0x1000000) (Some 0x2000000)) ∷ Some (number_is 0x700000000000100) ∷ None ∷ Some (number_is 0x900000000000000) ∷ absent 18)
 unfolding sample
 said_with_time_in_big = refl
@@ -95,7 +95,7 @@ time_was_bit_2 : without_field (of_type 0x47) 3 ≡ three
 time_was_bit_2 = refl
 
 -- with the flag of the next field, ADDR, its bytes are that field's
-said_by_bit_3 : layout little (sample (with_flag three 3)) (spliced three little of_three 3 time) ≡
+said_by_bit_3 : layout little (sample (with_flag three 3)) (splice_field three little of_three 3 time) ≡
     Ok (None ∷ Some (number_is 0x2010) ∷ Some (task_is (Some 1) (Some 2)) ∷ None ∷ Some (number_is 0x1000000000007) ∷ Some (number_is 9) ∷ absent 18)
 unfolding sample
 said_by_bit_3 = refl
@@ -108,10 +108,10 @@ raw = 2 ∷ 0 ∷ 0 ∷ 0 ∷ 0xAA ∷ 0xBB ∷ 0 ∷ 0 ∷ []
 raw_is_spelled : Spells little (parts_of three 11) raw
 raw_is_spelled = record { stand = refl; whole = refl }
 
-raw_is_put_in : spliced three little of_three 11 raw ≡ ip ++ tid ++ id ++ raw
+raw_is_put_in : splice_field three little of_three 11 raw ≡ ip ++ tid ++ id ++ raw
 raw_is_put_in = refl
 
-said_with_raw : layout little (sample (with_flag three 10)) (spliced three little of_three 11 raw) ≡
+said_with_raw : layout little (sample (with_flag three 10)) (splice_field three little of_three 11 raw) ≡
     Ok (None ∷ Some (number_is 0x2010) ∷ Some (task_is (Some 1) (Some 2)) ∷ None ∷ None ∷ Some (number_is 9) ∷ None ∷ None ∷ None ∷ None ∷ None ∷ Some (bytes_are (0xAA ∷ 0xBB ∷ [])) ∷ absent 12)
 unfolding sample
 said_with_raw = refl
@@ -125,11 +125,11 @@ abbrev said_with_weight : SampleValue
 said_with_weight =
     None ∷ Some (number_is 0x2010) ∷ Some (task_is (Some 1) (Some 2)) ∷ None ∷ None ∷ Some (number_is 9) ∷ absent 9 ++ Some (number_is 0x7788556611223344) ∷ absent 8
 
-said_by_bit_14 : layout little (sample (with_flag three 14)) (spliced three little of_three 15 weight) ≡ Ok said_with_weight
+said_by_bit_14 : layout little (sample (with_flag three 14)) (splice_field three little of_three 15 weight) ≡ Ok said_with_weight
 unfolding sample
 said_by_bit_14 = refl
 
-said_by_bit_24 : layout little (sample (with_flag three 24)) (spliced three little of_three 15 weight) ≡ Ok said_with_weight
+said_by_bit_24 : layout little (sample (with_flag three 24)) (splice_field three little of_three 15 weight) ≡ Ok said_with_weight
 unfolding sample
 said_by_bit_24 = refl
 
@@ -161,13 +161,13 @@ said_with_tid_left = refl
 abbrev identifier : List ℕ
 identifier = 5 ∷ 0 ∷ 0 ∷ 0 ∷ 0 ∷ 0 ∷ 0 ∷ 0 ∷ []
 
-identifier_is_put_in : spliced three little of_three 0 identifier ≡ identifier ++ ip ++ tid ++ id
+identifier_is_put_in : splice_field three little of_three 0 identifier ≡ identifier ++ ip ++ tid ++ id
 identifier_is_put_in = refl
 
 abbrev said_with_both : SampleValue
 said_with_both = Some (number_is 5) ∷ Some (number_is 0x2010) ∷ Some (task_is (Some 1) (Some 2)) ∷ None ∷ None ∷ Some (number_is 9) ∷ absent 18
 
-said_by_both : layout little (sample (with_flag three 16)) (spliced three little of_three 0 identifier) ≡ Ok said_with_both
+said_by_both : layout little (sample (with_flag three 16)) (splice_field three little of_three 0 identifier) ≡ Ok said_with_both
 unfolding sample
 said_by_both = refl
 

@@ -7,7 +7,7 @@ use Rattle.perf_base.specs.FieldWords.{u32, u64, u64_if, bytes, numbers, ignored
 use Rattle.perf_base.specs.Layout.{Parts, done, mapped, ◌>>=◌, ◌>>◌}
 use Rattle.perf_base.specs.Table.{present_if, table}
 use Rattle.perf_base.specs.declared.error.ErrorKind.TheVariants.{InvalidRecord}
-use Rattle.perf_reader.specs.TableRuns.{joined}
+use Rattle.perf_reader.specs.TableRuns.{join_groups}
 use Rattle.perf_sample_types.specs.Branches.{branches_of}
 use Rattle.perf_types.specs.ReadFormat.{has_group}
 use Rattle.perf_types.specs.ReadGroup.{GroupRead, read_group, group_of}
@@ -185,7 +185,7 @@ sample_groups =
 
 -- the fields in their order
 abbrev pub sample_fields : List Field
-sample_fields = joined sample_groups
+sample_fields = join_groups sample_groups
 
 -- ---- the table
 

@@ -9,9 +9,9 @@ use Rattle.perf_sample_types.specs.declared.sample_groups.Memory.{Memory}
 use Rattle.perf_sample_types.specs.declared.sample.Sample.{Sample}
 
 -- what a call read that filled a place: the value in the place, or its refusal
-abbrev pub filled : {X Y : Type 0} → Result Y ErrorKind → X → Result X ErrorKind
-filled (Ok y) x = Ok x
-filled (Err e) x = Err e
+abbrev pub fill_result : {X Y : Type 0} → Result Y ErrorKind → X → Result X ErrorKind
+fill_result (Ok y) x = Ok x
+fill_result (Err e) x = Err e
 
 -- ---- groups without fields
 

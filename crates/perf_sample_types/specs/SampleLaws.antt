@@ -71,8 +71,8 @@ without_field c f = under_sample_type (without_bits c.sample_type (flags_of f)) 
 -- ---- bodies
 
 -- the body with w inserted at the place of field f
-abbrev pub spliced : Configuration → Order → List ℕ → ℕ → List ℕ → List ℕ
-spliced c o body f w = put_in body (field_place c o body f) w
+abbrev pub splice_field : Configuration → Order → List ℕ → ℕ → List ℕ → List ℕ
+splice_field c o body f w = put_in body (field_place c o body f) w
 
 -- the body without the bytes of field f, which end where the next field begins
 abbrev pub without_bytes : Configuration → Order → List ℕ → ℕ → List ℕ
@@ -109,7 +109,7 @@ SpliceLaw c body f w =
     is_there c f ≡ false → Contains (flags_of f) flag → Spells o (parts_of c f) w →
     layout o (sample c) body ≡ Ok before →
     (after : SampleValue)
-    × (layout o (sample (with_flag c flag)) (spliced c o body f w) ≡ Ok after)
+    × (layout o (sample (with_flag c flag)) (splice_field c o body f w) ≡ Ok after)
     × ChangesField before after f (Some (value o w 0 (parts_of c f)))
     × (is_there c id_field ≡ true → KeepsId before after)
 

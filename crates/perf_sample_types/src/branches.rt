@@ -6,14 +6,13 @@ ghost use Rattle.perf_base.specs.Layout.{words_of};
 ghost use Rattle.perf_buffers.specs.Room.{falls_short};
 ghost use Rattle.perf_reader.specs.Prelude.{input_of, refusal_kind};
 ghost use Rattle.perf_sample_types.specs.Branches.{branch_numbers, branch_of};
-ghost use Rattle.perf_types.specs.Prelude.{Call, ReadsOne, TakesNoMemory, flat_map, kinds, words};
+ghost use Rattle.perf_types.specs.Prelude.{Call, ReadsOne, NeedsNoMemory, flat_map, kinds, words};
 
 use perf_base::endian::Endian;
 use perf_base::reads::ReadCounter;
 use perf_base::refusal::{ReadResult, Refusal};
 use perf_buffers::input::Input;
 use perf_reader::reader::Reader;
-use perf_types::numbers::read_to_the_end;
 use perf_words::BranchEntry;
 
 // How many numbers a branch has, and how many bytes.
@@ -61,7 +60,7 @@ fn read_shown<'p, I: Input<'p>, E: Endian>(
         (ReadsOne (words (3 * length branches.old)) (λ (_ : Bool). flat_map branch_numbers branches.new))
         reader.old (Err (refusal_kind e)) reader.new) }
 {
-    let shown = reader.input().shown();
+    let shown = reader.input().shown_bytes();
     let count = branches.len();
     if shown.len() / SIZE < count {
         return Ok(false);
@@ -110,19 +109,19 @@ pub(crate) fn read_branches<'p, I: Input<'p>, E: Endian>(
     count: usize,
 ) -> ReadResult<Vec<BranchEntry>>
     ensures short { falls_short (I.hint (input_of reader.old)) (24 * count) ≡ true →
-        TakesNoMemory (kinds result) × IfOk result (λ v. ⊥) }
+        NeedsNoMemory (kinds result) × IfOk result (λ v. ⊥) }
     ensures call { Call I.source E.order
         (ReadsOne (words (3 * count)) (λ v. flat_map branch_numbers v.items))
         reader.old (kinds result) reader.new }
 {
     if reader.has_items(count, SIZE) == Some(false) {
-        return Err(read_to_the_end(reader, NUMBERS, count));
+        return Err(reader.read_to_the_end(NUMBERS, count));
     }
     let mut entries = match reader.list_for(count) {
         Ok(entries) => entries,
         Err(refusal) => return Err(refusal),
     };
-    if 0 < count && count <= reader.input().shown().len() / SIZE {
+    if 0 < count && count <= reader.input().shown_bytes().len() / SIZE {
         let none = BranchEntry::from_words(0, 0, 0);
         if entries.resize(count, none).is_err() {
             return Err(Refusal::OutOfMemory);

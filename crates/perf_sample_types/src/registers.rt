@@ -1,7 +1,7 @@
 //! The registers of a task.
 
 ghost use Rattle.std.specs.Prelude.{◌≡◌};
-ghost use Rattle.perf_sample_types.specs.Registers as shown;
+ghost use Rattle.perf_sample_types.specs.Registers as registers;
 
 use perf_base::cow::CowSlice;
 use perf_base::endian::Endian;
@@ -9,7 +9,6 @@ use perf_base::error::ParseResult;
 use perf_base::refusal::ReadResult;
 use perf_buffers::input::Input;
 use perf_reader::reader::Reader;
-use perf_types::numbers::read_numbers;
 use perf_words::SampleRegsAbi;
 use std::alloc::Global;
 
@@ -46,7 +45,7 @@ impl<'p> Registers<'p> {
     {
         let abi = reader.read_u64()?;
         let count = register_count(mask, abi);
-        let regs = read_numbers(reader, count)?;
+        let regs = reader.read_numbers(count)?;
         Ok(Registers {
             abi: SampleRegsAbi::new(abi),
             mask,
@@ -69,7 +68,7 @@ impl<'p> Registers<'p> {
 // How many registers a mask has.
 #[inline]
 fn register_count(mask: u64, abi: u64) -> usize
-    ensures { result ≡ shown.register_count mask abi }
+    ensures { result ≡ registers.register_count mask abi }
 {
     if abi == 0 {
         0

@@ -5,8 +5,8 @@ ghost use Rattle.std.specs.Prelude.{option_map, OnErr};
 ghost use Rattle.perf_base.specs.Configured.{configuration_of};
 ghost use Rattle.perf_base.specs.Layout.{layout};
 ghost use Rattle.perf_base.specs.Order.{Order};
-ghost use Rattle.perf_sample_types.specs.SampleEmpty.{filled, no_sample};
-ghost use Rattle.perf_sample_types.specs.SampleWords as shown;
+ghost use Rattle.perf_sample_types.specs.SampleEmpty.{fill_result, no_sample};
+ghost use Rattle.perf_sample_types.specs.SampleWords as samples;
 ghost use Rattle.perf_sample_types.specs.SampleWords.{Call, ReadsBorrowed, kinds, group_read};
 ghost use Rattle.perf_sample_types.specs.SampleWords.{registers_value, txn_bits};
 
@@ -47,10 +47,10 @@ impl<'a> Sample<'a> {
     /// lists is borrowed or owned like the one given.
     #[tactic(auto, using(crate::proofs::SampleGetters::kept, crate::proofs::Forms::lists_of_groups))]
     pub fn from_fields(fields: SampleFields<'a>) -> Sample<'a>
-        ensures fields { shown.getters_of (shown.sample_value result) ≡
-            shown.fields_getters fields.entry }
-        ensures form { shown.IsBorrowedFields fields.entry → shown.IsBorrowedSample result }
-        ensures lists { shown.sample_form result ≡ shown.fields_form fields.entry }
+        ensures fields { samples.getters_of (samples.sample_value result) ≡
+            samples.fields_getters fields.entry }
+        ensures form { samples.IsBorrowedFields fields.entry → samples.IsBorrowedSample result }
+        ensures lists { samples.sample_form result ≡ samples.fields_form fields.entry }
     {
         Sample {
             moment: Moment {
@@ -95,7 +95,7 @@ impl<'a> Sample<'a> {
     #[tactic(auto, using(crate::proofs::SampleGetters::kept))]
     pub fn ip(&self) -> Option<u64>
         ensures { result ≡
-            (shown.getters_of (shown.sample_value self.now)).ip }
+            (samples.getters_of (samples.sample_value self.now)).ip }
     {
         self.moment.ip
     }
@@ -104,7 +104,7 @@ impl<'a> Sample<'a> {
     #[inline]
     pub fn pid(&self) -> Option<u32>
         ensures { result ≡
-            (shown.getters_of (shown.sample_value self.now)).pid }
+            (samples.getters_of (samples.sample_value self.now)).pid }
     {
         match &self.moment.task {
             Some(task) => task.pid,
@@ -116,7 +116,7 @@ impl<'a> Sample<'a> {
     #[inline]
     pub fn tid(&self) -> Option<u32>
         ensures { result ≡
-            (shown.getters_of (shown.sample_value self.now)).tid }
+            (samples.getters_of (samples.sample_value self.now)).tid }
     {
         match &self.moment.task {
             Some(task) => task.tid,
@@ -129,7 +129,7 @@ impl<'a> Sample<'a> {
     #[tactic(auto, using(crate::proofs::SampleGetters::kept))]
     pub fn time(&self) -> Option<u64>
         ensures { result ≡
-            (shown.getters_of (shown.sample_value self.now)).time }
+            (samples.getters_of (samples.sample_value self.now)).time }
     {
         self.moment.time
     }
@@ -139,7 +139,7 @@ impl<'a> Sample<'a> {
     #[tactic(auto, using(crate::proofs::SampleGetters::kept))]
     pub fn addr(&self) -> Option<u64>
         ensures { result ≡
-            (shown.getters_of (shown.sample_value self.now)).addr }
+            (samples.getters_of (samples.sample_value self.now)).addr }
     {
         self.moment.addr
     }
@@ -150,7 +150,7 @@ impl<'a> Sample<'a> {
     #[tactic(auto, using(crate::proofs::SampleGetters::kept))]
     pub fn id(&self) -> Option<u64>
         ensures { result ≡
-            (shown.getters_of (shown.sample_value self.now)).id }
+            (samples.getters_of (samples.sample_value self.now)).id }
     {
         self.moment.id.or(self.moment.identifier)
     }
@@ -160,7 +160,7 @@ impl<'a> Sample<'a> {
     #[tactic(auto, using(crate::proofs::SampleGetters::kept))]
     pub fn stream_id(&self) -> Option<u64>
         ensures { result ≡
-            (shown.getters_of (shown.sample_value self.now)).stream_id }
+            (samples.getters_of (samples.sample_value self.now)).stream_id }
     {
         self.moment.stream_id
     }
@@ -169,7 +169,7 @@ impl<'a> Sample<'a> {
     #[inline]
     pub fn cpu(&self) -> Option<u32>
         ensures { result ≡
-            (shown.getters_of (shown.sample_value self.now)).cpu }
+            (samples.getters_of (samples.sample_value self.now)).cpu }
     {
         match &self.moment.cpu {
             Some(cpu) => Some(cpu.0),
@@ -182,7 +182,7 @@ impl<'a> Sample<'a> {
     #[tactic(auto, using(crate::proofs::SampleGetters::kept))]
     pub fn period(&self) -> Option<u64>
         ensures { result ≡
-            (shown.getters_of (shown.sample_value self.now)).period }
+            (samples.getters_of (samples.sample_value self.now)).period }
     {
         self.moment.period
     }
@@ -192,7 +192,7 @@ impl<'a> Sample<'a> {
     #[inline]
     pub fn values(&self) -> Option<&ReadGroup<'a>>
         ensures { option_map (λ group. group_read group.now) result ≡
-            (shown.getters_of (shown.sample_value self.now)).values }
+            (samples.getters_of (samples.sample_value self.now)).values }
     {
         self.counts.values.as_ref()
     }
@@ -203,7 +203,7 @@ impl<'a> Sample<'a> {
     #[inline]
     pub fn callchain(&self) -> Option<&[u64]>
         ensures { option_map (λ items. items.now) result ≡
-            (shown.getters_of (shown.sample_value self.now)).callchain }
+            (samples.getters_of (samples.sample_value self.now)).callchain }
     {
         match &self.counts.call_chain {
             Some(chain) => Some(chain.0.as_slice()),
@@ -215,7 +215,7 @@ impl<'a> Sample<'a> {
     #[inline]
     pub fn raw(&self) -> Option<&[u8]>
         ensures { option_map (λ bytes. bytes.now) result ≡
-            (shown.getters_of (shown.sample_value self.now)).raw }
+            (samples.getters_of (samples.sample_value self.now)).raw }
     {
         match &self.state.raw {
             Some(bytes) => Some(bytes.0.as_slice()),
@@ -228,7 +228,7 @@ impl<'a> Sample<'a> {
     #[inline]
     pub fn lbr_hw_index(&self) -> Option<u64>
         ensures { result ≡
-            (shown.getters_of (shown.sample_value self.now)).lbr_hw_index }
+            (samples.getters_of (samples.sample_value self.now)).lbr_hw_index }
     {
         match &self.state.branches {
             Some(branches) => branches.hw_index,
@@ -240,7 +240,7 @@ impl<'a> Sample<'a> {
     #[inline]
     pub fn lbr(&self) -> Option<&[BranchEntry]>
         ensures { option_map (λ entries. entries.now) result ≡
-            (shown.getters_of (shown.sample_value self.now)).lbr }
+            (samples.getters_of (samples.sample_value self.now)).lbr }
     {
         match &self.state.branches {
             Some(
@@ -257,7 +257,7 @@ impl<'a> Sample<'a> {
     #[inline]
     pub fn regs_user(&self) -> Option<&Registers<'a>>
         ensures { option_map (λ regs. registers_value regs.now) result ≡
-            (shown.getters_of (shown.sample_value self.now)).regs_user }
+            (samples.getters_of (samples.sample_value self.now)).regs_user }
     {
         match &self.state.regs_user {
             Some(registers) => Some(&registers.0),
@@ -270,7 +270,7 @@ impl<'a> Sample<'a> {
     #[inline]
     pub fn stack_user(&self) -> Option<&[u8]>
         ensures { option_map (λ bytes. bytes.now) result ≡
-            (shown.getters_of (shown.sample_value self.now)).stack_user }
+            (samples.getters_of (samples.sample_value self.now)).stack_user }
     {
         match &self.state.stack_user {
             Some(bytes) => Some(bytes.0.as_slice()),
@@ -284,7 +284,7 @@ impl<'a> Sample<'a> {
     #[tactic(auto, using(crate::proofs::SampleGetters::kept))]
     pub fn weight(&self) -> Option<u64>
         ensures { result ≡
-            (shown.getters_of (shown.sample_value self.now)).weight }
+            (samples.getters_of (samples.sample_value self.now)).weight }
     {
         self.costs.weight
     }
@@ -293,7 +293,7 @@ impl<'a> Sample<'a> {
     #[inline]
     pub fn data_src(&self) -> Option<DataSource>
         ensures { result ≡
-            (shown.getters_of (shown.sample_value self.now)).data_src }
+            (samples.getters_of (samples.sample_value self.now)).data_src }
     {
         self.costs.data_src
     }
@@ -302,7 +302,7 @@ impl<'a> Sample<'a> {
     #[inline]
     pub fn transaction(&self) -> Option<Txn>
         ensures { option_map txn_bits result ≡
-            (shown.getters_of (shown.sample_value self.now)).transaction }
+            (samples.getters_of (samples.sample_value self.now)).transaction }
     {
         self.costs.transaction
     }
@@ -311,7 +311,7 @@ impl<'a> Sample<'a> {
     #[inline]
     pub fn regs_intr(&self) -> Option<&Registers<'a>>
         ensures { option_map (λ regs. registers_value regs.now) result ≡
-            (shown.getters_of (shown.sample_value self.now)).regs_intr }
+            (samples.getters_of (samples.sample_value self.now)).regs_intr }
     {
         match &self.costs.regs_intr {
             Some(registers) => Some(&registers.0),
@@ -324,7 +324,7 @@ impl<'a> Sample<'a> {
     #[tactic(auto, using(crate::proofs::SampleGetters::kept))]
     pub fn phys_addr(&self) -> Option<u64>
         ensures { result ≡
-            (shown.getters_of (shown.sample_value self.now)).phys_addr }
+            (samples.getters_of (samples.sample_value self.now)).phys_addr }
     {
         self.memory.phys_addr
     }
@@ -333,7 +333,7 @@ impl<'a> Sample<'a> {
     #[inline]
     pub fn aux(&self) -> Option<&[u8]>
         ensures { option_map (λ bytes. bytes.now) result ≡
-            (shown.getters_of (shown.sample_value self.now)).aux }
+            (samples.getters_of (samples.sample_value self.now)).aux }
     {
         match &self.memory.aux {
             Some(bytes) => Some(bytes.0.as_slice()),
@@ -346,7 +346,7 @@ impl<'a> Sample<'a> {
     #[tactic(auto, using(crate::proofs::SampleGetters::kept))]
     pub fn cgroup(&self) -> Option<u64>
         ensures { result ≡
-            (shown.getters_of (shown.sample_value self.now)).cgroup }
+            (samples.getters_of (samples.sample_value self.now)).cgroup }
     {
         self.memory.cgroup
     }
@@ -356,7 +356,7 @@ impl<'a> Sample<'a> {
     #[tactic(auto, using(crate::proofs::SampleGetters::kept))]
     pub fn data_page_size(&self) -> Option<u64>
         ensures { result ≡
-            (shown.getters_of (shown.sample_value self.now)).data_page_size }
+            (samples.getters_of (samples.sample_value self.now)).data_page_size }
     {
         self.memory.data_page_size
     }
@@ -366,7 +366,7 @@ impl<'a> Sample<'a> {
     #[tactic(auto, using(crate::proofs::SampleGetters::kept))]
     pub fn code_page_size(&self) -> Option<u64>
         ensures { result ≡
-            (shown.getters_of (shown.sample_value self.now)).code_page_size }
+            (samples.getters_of (samples.sample_value self.now)).code_page_size }
     {
         self.memory.code_page_size
     }
@@ -374,14 +374,14 @@ impl<'a> Sample<'a> {
     /// The same sample. Allocates nothing if it owns no list.
     #[tactic(auto, using(crate::proofs::Forms::parts_of_a_form))]
     pub fn clone(&self, alloc: Global) -> ParseResult<Sample<'a>>
-        ensures { shown.IsClone shown.sample_value shown.sample_form self.now result }
+        ensures { samples.IsClone samples.sample_value samples.sample_form self.now result }
     {
         let memory = self.memory.clone(alloc)?;
         let costs = self.costs.clone(alloc)?;
         let counts = self.counts.clone(alloc)?;
         let state = self.state.clone(alloc)?;
         Ok(Sample {
-            moment: self.moment.copied(),
+            moment: self.moment.copy(),
             counts,
             state,
             costs,
@@ -391,7 +391,7 @@ impl<'a> Sample<'a> {
 }
 
 impl HasTransition for Sample<'_> {
-    ghost transition = { ReadsBorrowed shown.sample shown.sample_value shown.IsBorrowedSample };
+    ghost transition = { ReadsBorrowed samples.sample samples.sample_value samples.IsBorrowedSample };
 }
 
 /// Registers of [`SampleRegsAbi::NONE`](perf_words::SampleRegsAbi::NONE) have no values. A user
@@ -421,7 +421,7 @@ const FIELDS: u64 = (1 << 24) - 1;
 pub fn least_len<E>(config: &ParseConfig<E>) -> usize
     ensures value { result ≡ 8 * count_ones ((configuration_of config.now).sample_type % 2 ^ 24) }
     ensures least { (o : Order) → (bytes : List ℕ) → length bytes < result →
-        IfOk (layout o (shown.sample (configuration_of config.now)) bytes) (λ v. ⊥) }
+        IfOk (layout o (samples.sample (configuration_of config.now)) bytes) (λ v. ⊥) }
 {
     8 * (config.sample_type().bits() & FIELDS).count_ones() as usize
 }
@@ -461,8 +461,8 @@ pub fn fill_sample<'p, I: Input<'p>, E: Endian>(
 ) -> ReadResult<()>
     requires { sample.old ≡ no_sample }
     ensures call { Call I.source E.order
-        (ReadsBorrowed shown.sample shown.sample_value shown.IsBorrowedSample)
-        reader.old (filled (kinds result) sample.new) reader.new }
+        (ReadsBorrowed samples.sample samples.sample_value samples.IsBorrowedSample)
+        reader.old (fill_result (kinds result) sample.new) reader.new }
 {
     match sample.moment.fill(reader) {
         Ok(()) => {}
@@ -495,8 +495,8 @@ pub fn refill_sample<'p, I: Input<'p>, E: Endian>(
 ) -> ReadResult<()>
     ensures empty { OnErr result (sample.new ≡ no_sample) }
     ensures call { Call I.source E.order
-        (ReadsBorrowed shown.sample shown.sample_value shown.IsBorrowedSample)
-        reader.old (filled (kinds result) sample.new) reader.new }
+        (ReadsBorrowed samples.sample samples.sample_value samples.IsBorrowedSample)
+        reader.old (fill_result (kinds result) sample.new) reader.new }
 {
     clear_sample(sample);
     match fill_sample(sample, reader) {

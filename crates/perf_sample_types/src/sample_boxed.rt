@@ -6,9 +6,9 @@ ghost use Rattle.perf_base.specs.Configured.{configuration_of};
 ghost use Rattle.perf_buffers.specs.Room.{falls_short};
 ghost use Rattle.perf_reader.specs.Prelude.{input_of, config_of, refusal_kind};
 ghost use Rattle.perf_sample_types.specs.Sample as sample;
-ghost use Rattle.perf_sample_types.specs.SampleEmpty.{filled};
+ghost use Rattle.perf_sample_types.specs.SampleEmpty.{fill_result};
 ghost use Rattle.perf_sample_types.specs.SampleGroups as groups;
-ghost use Rattle.perf_sample_types.specs.SampleWords as shown;
+ghost use Rattle.perf_sample_types.specs.SampleWords as samples;
 ghost use Rattle.perf_sample_types.specs.SampleWords.{Call, ReadsBorrowed, ReadsTable, kinds};
 
 use crate::sample::{Sample, empty_sample, fill_sample, least_len};
@@ -23,7 +23,7 @@ use std::boxed::Box;
 fn pass_moment<'p, I: Input<'p>, E: Endian>(reader: &mut Reader<I, E>) -> ReadResult<()>
     ensures { (read : Moment) × Call I.source E.order
         (ReadsTable (λ c. sample.fields_under c sample.moment_fields) groups.moment_value (λ _. ⊤))
-        reader.old (filled (kinds result) read) reader.new }
+        reader.old (fill_result (kinds result) read) reader.new }
 {
     let mut read = Moment::none();
     match read.fill_by_field(reader) {
@@ -37,7 +37,7 @@ fn pass_moment<'p, I: Input<'p>, E: Endian>(reader: &mut Reader<I, E>) -> ReadRe
 fn pass_counts<'p, I: Input<'p>, E: Endian>(reader: &mut Reader<I, E>) -> ReadResult<()>
     ensures { (read : Counts) × Call I.source E.order
         (ReadsTable (λ c. sample.fields_under c sample.count_fields) groups.counts_value (λ _. ⊤))
-        reader.old (filled (kinds result) read) reader.new }
+        reader.old (fill_result (kinds result) read) reader.new }
 {
     let mut read = Counts::none();
     match read.fill(reader) {
@@ -52,7 +52,7 @@ fn pass_state<'p, I: Input<'p>, E: Endian>(reader: &mut Reader<I, E>) -> ReadRes
     ensures { (read : State) × Call I.source E.order
         (ReadsTable (λ c. sample.fields_under c sample.state_fields) groups.state_value
         groups.IsBorrowedState)
-        reader.old (filled (kinds result) read) reader.new }
+        reader.old (fill_result (kinds result) read) reader.new }
 {
     let mut read = State::none();
     match read.fill(reader) {
@@ -66,7 +66,7 @@ fn pass_state<'p, I: Input<'p>, E: Endian>(reader: &mut Reader<I, E>) -> ReadRes
 fn pass_costs<'p, I: Input<'p>, E: Endian>(reader: &mut Reader<I, E>) -> ReadResult<()>
     ensures { (read : Costs) × Call I.source E.order
         (ReadsTable (λ c. sample.fields_under c sample.cost_fields) groups.costs_value (λ _. ⊤))
-        reader.old (filled (kinds result) read) reader.new }
+        reader.old (fill_result (kinds result) read) reader.new }
 {
     let mut read = Costs::none();
     match read.fill(reader) {
@@ -81,7 +81,7 @@ fn pass_memory<'p, I: Input<'p>, E: Endian>(reader: &mut Reader<I, E>) -> ReadRe
     ensures { (read : Memory) × Call I.source E.order
         (ReadsTable (λ c. sample.fields_under c sample.memory_fields) groups.memory_value
         groups.IsBorrowedMemory)
-        reader.old (filled (kinds result) read) reader.new }
+        reader.old (fill_result (kinds result) read) reader.new }
 {
     let mut read = Memory::none();
     match read.fill(reader) {
@@ -97,7 +97,7 @@ fn pass_memory<'p, I: Input<'p>, E: Endian>(reader: &mut Reader<I, E>) -> ReadRe
 #[inline(never)]
 fn refuse_sample<'p, I: Input<'p>, E: Endian>(reader: &mut Reader<I, E>) -> Refusal
     ensures call { Call I.source E.order
-        (ReadsBorrowed shown.sample shown.boxed_value shown.IsBorrowedBox)
+        (ReadsBorrowed samples.sample samples.boxed_value samples.IsBorrowedBox)
         reader.old (Err (refusal_kind result)) reader.new }
 {
     match pass_moment(reader) {
@@ -132,7 +132,7 @@ pub fn read_boxed_sample<'p, I: Input<'p>, E: Endian>(
         (8 * count_ones ((configuration_of (config_of reader.old)).sample_type % 2 ^ 24)) ≡ true →
         IfOk result (λ content. ⊥) }
     ensures call { Call I.source E.order
-        (ReadsBorrowed shown.sample shown.boxed_value shown.IsBorrowedBox)
+        (ReadsBorrowed samples.sample samples.boxed_value samples.IsBorrowedBox)
         reader.old (kinds result) reader.new }
 {
     if reader.has_bytes(least_len(reader.config())) == Some(false) {

@@ -169,7 +169,7 @@ pub(crate) fn clone_registers<'a>(
 
 impl Moment {
     // The same moment.
-    pub(crate) fn copied(&self) -> Moment
+    pub(crate) fn copy(&self) -> Moment
         ensures { groups.moment_value result ≡ groups.moment_value self.now }
     {
         Moment {

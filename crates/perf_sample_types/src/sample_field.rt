@@ -1,7 +1,7 @@
 //! Fields of a sample, each present or absent.
 
 ghost use Rattle.std.specs.Prelude.{◌≡◌, ◌==◌, ⊤, IfSome, None, option_map};
-ghost use Rattle.perf_sample_types.specs.SampleEmpty.{filled};
+ghost use Rattle.perf_sample_types.specs.SampleEmpty.{fill_result};
 ghost use Rattle.std.specs.Int.RustNames.{bit_and};
 ghost use Rattle.perf_base.specs.Configuration.{Configuration};
 ghost use Rattle.perf_base.specs.Table.{present_if};
@@ -49,7 +49,7 @@ pub(crate) fn fill_field_if<'p, I: Input<'p>, E: Endian, T: ReadField<'p, I> + D
     ensures call { Call I.source E.order
         (ReadsField (λ c. present_if present (T.parts (sample.settings_of c)))
         (option_map T.value) (λ x. IfSome x T.borrowed))
-        reader.old (filled (kinds result) place.new) reader.new }
+        reader.old (fill_result (kinds result) place.new) reader.new }
 {
     if !present {
         return Ok(());
@@ -78,7 +78,7 @@ pub(crate) fn fill_flagged<'p, I: Input<'p>, E: Endian, T: ReadField<'p, I> + Dr
         (bit_and (sample_flags_bits flags) (sample_flags_bits flag) == sample_flags_bits flag)
         (T.parts (sample.settings_of c)))
         (option_map T.value) (λ x. IfSome x T.borrowed))
-        reader.old (filled (kinds result) place.new) reader.new }
+        reader.old (fill_result (kinds result) place.new) reader.new }
 {
     fill_field_if(place, reader, flags.contains(flag))
 }

@@ -3,7 +3,7 @@
 ghost use Rattle.std.specs.Prelude.{◌≡◌, ◌==◌, ⊤, [], ◌∷◌, None, true, false, Ok, Err, OnSome, IfErr};
 ghost use Rattle.std.specs.Int.RustNames.{bit_and};
 ghost use Rattle.perf_sample_types.specs.SampleEmpty as empty;
-ghost use Rattle.perf_sample_types.specs.SampleEmpty.{filled};
+ghost use Rattle.perf_sample_types.specs.SampleEmpty.{fill_result};
 ghost use Rattle.perf_sample_types.specs.Sample as sample;
 ghost use Rattle.perf_sample_types.specs.SampleGroups as groups;
 ghost use Rattle.perf_base.specs.Configuration.{Configuration};
@@ -94,7 +94,7 @@ impl Moment {
         ensures call { Call I.source E.order
             (ReadsTable (λ c. sample.fields_under c sample.moment_fields) groups.moment_value
             (λ _. ⊤))
-            reader.old (filled (kinds result) self.new) reader.new }
+            reader.old (fill_result (kinds result) self.new) reader.new }
     {
         match self.fill_shown(reader) {
             Ok(true) => Ok(()),
@@ -121,7 +121,7 @@ impl Moment {
             (λ _. ⊤))
             reader.old (Err (refusal_kind e)) reader.new) }
     {
-        let shown = reader.input().shown();
+        let shown = reader.input().shown_bytes();
         let mut row = Row::new(shown);
         match self.take_fields(&mut row, reader.endian(), reader.config().sample_type()) {
             Some(()) => (),
@@ -181,7 +181,7 @@ impl Moment {
         ensures call { Call I.source E.order
             (ReadsTable (λ c. sample.fields_under c sample.moment_fields) groups.moment_value
             (λ _. ⊤))
-            reader.old (filled (kinds result) self.new) reader.new }
+            reader.old (fill_result (kinds result) self.new) reader.new }
     {
         *self = Moment::none();
         let flags = reader.config().sample_type();
@@ -235,7 +235,7 @@ impl<'p> Counts<'p> {
         ensures call { Call I.source E.order
             (ReadsTable (λ c. sample.fields_under c sample.count_fields) groups.counts_value
             (λ _. ⊤))
-            reader.old (filled (kinds result) self.new) reader.new }
+            reader.old (fill_result (kinds result) self.new) reader.new }
     {
         let flags = reader.config().sample_type();
         fill_flagged(&mut self.values, reader, flags, SampleFlags::READ)?;
@@ -287,7 +287,7 @@ impl<'p> State<'p> {
         ensures call { Call I.source E.order
             (ReadsTable (λ c. sample.fields_under c sample.state_fields) groups.state_value
             groups.IsBorrowedState)
-            reader.old (filled (kinds result) self.new) reader.new }
+            reader.old (fill_result (kinds result) self.new) reader.new }
     {
         let flags = reader.config().sample_type();
         if lacks_all(flags, STATE) {
@@ -352,7 +352,7 @@ impl<'p> Costs<'p> {
         ensures call { Call I.source E.order
             (ReadsTable (λ c. sample.fields_under c sample.cost_fields) groups.costs_value
             (λ _. ⊤))
-            reader.old (filled (kinds result) self.new) reader.new }
+            reader.old (fill_result (kinds result) self.new) reader.new }
     {
         let flags = reader.config().sample_type();
         if lacks_all(flags, COSTS) {
@@ -417,7 +417,7 @@ impl<'p> Memory<'p> {
         ensures call { Call I.source E.order
             (ReadsTable (λ c. sample.fields_under c sample.memory_fields) groups.memory_value
             groups.IsBorrowedMemory)
-            reader.old (filled (kinds result) self.new) reader.new }
+            reader.old (fill_result (kinds result) self.new) reader.new }
     {
         let flags = reader.config().sample_type();
         if lacks_all(flags, MEMORY) {

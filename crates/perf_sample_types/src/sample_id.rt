@@ -4,7 +4,7 @@
 ghost use Rattle.std.specs.Prelude.{◌≡◌, ◌*◌, if◌then◌else◌};
 ghost use Rattle.perf_sample_types.specs.SampleId as ids;
 ghost use Rattle.perf_sample_types.specs.SampleIdFields.{fields_of, origin, after_origin, TakesOrLacks};
-ghost use Rattle.perf_sample_types.specs.SampleWords as shown;
+ghost use Rattle.perf_sample_types.specs.SampleWords as samples;
 ghost use Rattle.perf_types.specs.Prelude.{Call, ReadsPlain, kinds, configuration_of};
 ghost use Rattle.perf_types.specs.Prelude.{sample_flags_bits};
 
@@ -71,7 +71,7 @@ impl Default for SampleId {
 }
 
 impl From<Sample<'_>> for SampleId {
-    ghost from_gives = { λ sample id. id ≡ shown.sample_id_of (shown.sample_value sample) };
+    ghost from_gives = { λ sample id. id ≡ samples.sample_id_of (samples.sample_value sample) };
 
     fn from(sample: Sample<'_>) -> SampleId {
         SampleId::from_sample(&sample)
@@ -79,7 +79,7 @@ impl From<Sample<'_>> for SampleId {
 }
 
 impl From<&Sample<'_>> for SampleId {
-    ghost from_gives = { λ sample id. id ≡ shown.sample_id_of (shown.sample_value sample.now) };
+    ghost from_gives = { λ sample id. id ≡ samples.sample_id_of (samples.sample_value sample.now) };
 
     fn from(sample: &Sample<'_>) -> SampleId {
         SampleId::from_sample(sample)
@@ -125,7 +125,7 @@ impl SampleId {
 
     /// The sample id with the values of a sample. It allocates nothing.
     pub fn from_sample(sample: &Sample<'_>) -> SampleId
-        ensures { result ≡ shown.sample_id_of (shown.sample_value sample.now) }
+        ensures { result ≡ samples.sample_id_of (samples.sample_value sample.now) }
     {
         SampleId {
             pid: sample.pid(),

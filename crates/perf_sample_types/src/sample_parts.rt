@@ -16,7 +16,6 @@ use perf_base::refusal::{ReadResult, Refusal};
 use perf_buffers::input::Input;
 use perf_reader::read::ReadFrom;
 use perf_reader::reader::Reader;
-use perf_types::numbers::read_numbers;
 use perf_types::read_group::ReadGroup;
 use perf_types::read_value::ReadValue;
 use perf_words::{BranchEntry, DataSource, ReadFormat, Txn};
@@ -139,7 +138,7 @@ impl<'p, I: Input<'p>> ReadField<'p, I> for CallChain<'p> {
     #[inline]
     fn read_field<E: Endian>(reader: &mut Reader<I, E>) -> ReadResult<Self> {
         let count = reader.read_u64()?;
-        let addresses = read_numbers(reader, count as usize)?;
+        let addresses = reader.read_numbers(count as usize)?;
         Ok(CallChain(CowSlice::Owned(addresses)))
     }
 }

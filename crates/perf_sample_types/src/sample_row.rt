@@ -15,6 +15,7 @@ use crate::sample_parts::{Cpu, Task};
 use bitflags::Flags;
 use perf_base::endian::Endian;
 use perf_base::reads::ReadCounter;
+use perf_reader::halves::{first_half, second_half};
 use perf_words::SampleFlags;
 
 // Bytes from which fields are taken one after another, and how many elementary reads were made.
@@ -109,24 +110,6 @@ impl WordField for Cpu {
     fn reads() -> ReadCounter {
         ReadCounter::of(2)
     }
-}
-
-// The first four of eight bytes as a number.
-#[inline(always)]
-fn first_half<E: Endian>(order: &E, word: [u8; 8]) -> u32
-    ensures { result ≡ (E.order order.now).four (take 4 word) }
-{
-    let [b0, b1, b2, b3, _, _, _, _] = word;
-    order.convert_u32([b0, b1, b2, b3])
-}
-
-// The last four of eight bytes as a number.
-#[inline(always)]
-fn second_half<E: Endian>(order: &E, word: [u8; 8]) -> u32
-    ensures { result ≡ (E.order order.now).four (drop 4 word) }
-{
-    let [_, _, _, _, b4, b5, b6, b7] = word;
-    order.convert_u32([b4, b5, b6, b7])
 }
 
 // Puts a field into its place, which is empty, if the sample type has its flag. `None` if there are

@@ -1,5 +1,7 @@
 //! Attributes that several tests use.
 
+use bitflags::Flags;
+use perf_event_data::SampleFlags;
 use perf_event_data::sys::perf_event_attr;
 
 // The user registers that the attributes of samples ask for.
@@ -7,6 +9,15 @@ const USER_MASK: u64 = 0x3;
 
 // The registers at an interrupt.
 const INTERRUPT_MASK: u64 = 0x15;
+
+/// The sample type with these flags.
+pub fn bits_of(flags: &[SampleFlags]) -> u64 {
+    let mut bits = 0;
+    for flag in flags {
+        bits |= flag.bits();
+    }
+    bits
+}
 
 /// The attribute of an event with this sample type and this read format.
 pub fn attribute(sample_type: u64, read_format: u64) -> perf_event_attr {

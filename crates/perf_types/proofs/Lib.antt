@@ -3,7 +3,6 @@ pub mod Blocks
 mod Copies
 pub mod Entries
 pub mod Flags
-pub mod Lacking
 pub mod Nth
 mod Places
 mod Poked

@@ -4,7 +4,7 @@ use Rattle.std.specs.Prelude.{Result, Ok, Err, IsTrue}
 use Rattle.perf_base.specs.Configuration.{Configuration}
 use Rattle.perf_base.specs.Layout.{◌>>=◌}
 use Rattle.perf_base.specs.Order.{Order}
-use Rattle.perf_base.specs.Refusals.{TakesNoMemory}
+use Rattle.perf_base.specs.Refusals.{NeedsNoMemory}
 use Rattle.perf_base.specs.declared.error.ErrorKind.{ErrorKind}
 use Rattle.perf_buffers.specs.Buffer.{Source}
 use Rattle.perf_reader.proofs.After.{call_after, call_stops}
@@ -49,7 +49,7 @@ module _ {I E : Type 0} {source : I → Source} {order : E → Order} where
 
   -- the first was refused
   pub place_stops : {a b : Reader I E} {e : ErrorKind} →
-      TakesNoMemory {A = Place} (Err e) →
+      NeedsNoMemory {A = Place} (Err e) →
       Call source order (Reads (λ _. place) (λ p. p)) a (Err e) b →
       Call source order (ReadsInPlace mmap2 mmap2_value IsBorrowedMmap2) a (Err e) b
   place_stops {a} {b} {e} memory first =
@@ -89,7 +89,7 @@ module _ {I E : Type 0} {source : I → Source} {order : E → Order} where
 
   -- the detail was refused
   pub detail_stops : (p : Place) {a b : Reader I E} {e : ErrorKind} →
-      TakesNoMemory {A = MmapDetail} (Err e) →
+      NeedsNoMemory {A = MmapDetail} (Err e) →
       Call source order (Reads mmap_detail detail_value) a (Err e) b →
       Call source order (ReadsInPlace (after_place p) mmap2_value IsBorrowedMmap2) a (Err e) b
   detail_stops p {a} {b} {e} memory first =

@@ -6,11 +6,11 @@ use Rattle.perf_types.specs.declared.group_laws.EntryCall.{EntryCall}
 use Rattle.perf_types.specs.declared.group_laws.EntryCall.TheVariants.{Next, NextBack, Nth, NthBack}
 
 -- what a call returns; the back is the front of the reversed list
-abbrev pub answer_of : EntryCall → List GroupEntry → Option GroupEntry
-answer_of Next left = slice_get left 0
-answer_of NextBack left = slice_get (reverse left) 0
-answer_of (Nth n) left = slice_get left n
-answer_of (NthBack n) left = slice_get (reverse left) n
+abbrev pub entry_of_call : EntryCall → List GroupEntry → Option GroupEntry
+entry_of_call Next left = slice_get left 0
+entry_of_call NextBack left = slice_get (reverse left) 0
+entry_of_call (Nth n) left = slice_get left n
+entry_of_call (NthBack n) left = slice_get (reverse left) n
 
 -- what it leaves: all except the entry that it returns, and those that it skips
 abbrev pub left_by : EntryCall → List GroupEntry → List GroupEntry
@@ -22,7 +22,7 @@ left_by (NthBack n) left = reverse (drop (n + 1) (reverse left))
 -- what calls return, one after another
 abbrev pub answers_of : List EntryCall → List GroupEntry → List (Option GroupEntry)
 answers_of [] left = []
-answers_of (call ∷ calls) left = answer_of call left ∷ answers_of calls (left_by call left)
+answers_of (call ∷ calls) left = entry_of_call call left ∷ answers_of calls (left_by call left)
 
 -- what they leave
 abbrev pub left_by_all : List EntryCall → List GroupEntry → List GroupEntry

@@ -72,9 +72,9 @@ group_of r = record {
 }
 
 -- a number if requested, or 0 if it is missing
-abbrev pub wanted : Bool → Option ℕ → Option ℕ
-wanted true number = Some (unwrap_or number 0)
-wanted false number = None
+abbrev pub if_requested : Bool → Option ℕ → Option ℕ
+if_requested true number = Some (unwrap_or number 0)
+if_requested false number = None
 
 -- an entry, possibly of another group, as a single read with the times of a group and the numbers
 -- that the group's entries have
@@ -83,8 +83,8 @@ single_of g e = record {
   value = e.value;
   time_enabled = g.time_enabled;
   time_running = g.time_running;
-  id = wanted g.with_id e.id;
-  lost = wanted g.with_lost e.lost;
+  id = if_requested g.with_id e.id;
+  lost = if_requested g.with_lost e.lost;
 }
 
 -- the entry of a list that has exactly one

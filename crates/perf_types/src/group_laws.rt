@@ -2,7 +2,7 @@
 //! one counter is unchanged when it goes through a group.
 
 ghost use Rattle.std.specs.Prelude.{◌≡◌, IfOk, IfErr, Some, option_map};
-ghost use Rattle.perf_types.specs.EntryCalls.{answer_of, left_by, answers_of, left_by_all};
+ghost use Rattle.perf_types.specs.EntryCalls.{entry_of_call, left_by, answers_of, left_by_all};
 ghost use Rattle.perf_types.specs.GroupIter.{entries_left};
 ghost use Rattle.perf_types.specs.ReadValue.{single_read};
 ghost use Rattle.perf_types.specs.Prelude.{kind_of, result_ok};
@@ -29,7 +29,7 @@ pub enum EntryCall {
 
 /// The result of one call: an entry from an end of those that are left, or `None` past the last.
 pub fn entry_call(entries: &mut GroupIter<'_>, call: EntryCall) -> Option<GroupEntry>
-    ensures answer { result ≡ answer_of call (entries_left entries.old) }
+    ensures answer { result ≡ entry_of_call call (entries_left entries.old) }
     ensures left { entries_left entries.new ≡ left_by call (entries_left entries.old) }
 {
     match call {

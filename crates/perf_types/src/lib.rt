@@ -19,7 +19,6 @@ pub mod lost_samples;
 pub mod mmap;
 pub mod mmap2;
 pub mod namespaces;
-pub mod numbers;
 mod pair;
 pub mod read;
 mod read_format;

@@ -5,7 +5,7 @@ ghost use Rattle.std.specs.Prelude.{◌≡◌, IsTrue, IfOk, option_map};
 ghost use Rattle.perf_base.specs.Layout.{value};
 ghost use Rattle.perf_base.specs.Misc.{build_id_bit};
 ghost use Rattle.perf_types.specs.MmapDetail as file;
-ghost use Rattle.perf_types.specs.Prelude.{Call, Reads, ReadsPlain, ReadsInPlace, TakesNoMemory, kinds};
+ghost use Rattle.perf_types.specs.Prelude.{Call, Reads, ReadsPlain, ReadsInPlace, NeedsNoMemory, kinds};
 ghost use Rattle.perf_types.specs.Prelude.{cow_items, is_borrowed, text_of, has_bit};
 
 use crate::hex::Hex;
@@ -249,7 +249,7 @@ impl<'a> Mmap2<'a> {
             prot: self.prot,
             flags: self.flags,
             filename,
-            detail: self.detail.copied(),
+            detail: self.detail.copy(),
         })
     }
 
@@ -277,7 +277,7 @@ impl<'a> Mmap2<'a> {
 
 impl MmapDetail {
     // The same detail. Unlike `clone` it cannot be refused.
-    fn copied(&self) -> MmapDetail
+    fn copy(&self) -> MmapDetail
         ensures { result ≡ self.now }
     {
         match self {
@@ -346,7 +346,7 @@ fn inode_in<E: Endian>(endian: &E, bytes: [u8; INODE_SIZE]) -> MmapDetail
 
 #[inline]
 fn read_inode<'p, I: Input<'p>, E: Endian>(reader: &mut Reader<I, E>) -> ReadResult<MmapDetail>
-    ensures memory { TakesNoMemory (kinds result) }
+    ensures memory { NeedsNoMemory (kinds result) }
     ensures fitting { IfOk result (λ d. IsTrue (file.has_fitting_id d)) }
     ensures call { Call I.source E.order (Reads (λ _. file.inode) file.detail_value)
         reader.old (kinds result) reader.new }
@@ -364,7 +364,7 @@ fn read_inode<'p, I: Input<'p>, E: Endian>(reader: &mut Reader<I, E>) -> ReadRes
 
 #[inline]
 fn read_build_id<'p, I: Input<'p>, E: Endian>(reader: &mut Reader<I, E>) -> ReadResult<MmapDetail>
-    ensures memory { TakesNoMemory (kinds result) }
+    ensures memory { NeedsNoMemory (kinds result) }
     ensures fitting { IfOk result (λ d. IsTrue (file.has_fitting_id d)) }
     ensures call { Call I.source E.order (Reads (λ _. file.build_id) file.detail_value)
         reader.old (kinds result) reader.new }
@@ -380,7 +380,7 @@ fn read_build_id<'p, I: Input<'p>, E: Endian>(reader: &mut Reader<I, E>) -> Read
 
 #[inline]
 fn read_detail<'p, I: Input<'p>, E: Endian>(reader: &mut Reader<I, E>) -> ReadResult<MmapDetail>
-    ensures memory { TakesNoMemory (kinds result) }
+    ensures memory { NeedsNoMemory (kinds result) }
     ensures fitting { IfOk result (λ d. IsTrue (file.has_fitting_id d)) }
     ensures call { Call I.source E.order (Reads file.mmap_detail file.detail_value)
         reader.old (kinds result) reader.new }
@@ -444,7 +444,7 @@ impl Place {
 
     #[inline]
     pub(crate) fn read<'p, I: Input<'p>, E: Endian>(reader: &mut Reader<I, E>) -> ReadResult<Place>
-        ensures memory { TakesNoMemory (kinds result) }
+        ensures memory { NeedsNoMemory (kinds result) }
         ensures call { Call I.source E.order (Reads (λ _. place) (λ p. p))
             reader.old (kinds result) reader.new }
     {

@@ -5,10 +5,9 @@ ghost use Rattle.std.specs.Prelude.{◌≡◌, ◌*◌, true, IfOk, slice_get};
 ghost use Rattle.perf_buffers.specs.Room.{falls_short};
 ghost use Rattle.perf_reader.specs.Prelude.{input_of};
 ghost use Rattle.perf_types.specs.Namespaces as spaces;
-ghost use Rattle.perf_types.specs.Prelude.{Call, Reads, ReadsOne, ReadsPlain, TakesNoMemory, kinds, words};
+ghost use Rattle.perf_types.specs.Prelude.{Call, Reads, ReadsOne, ReadsPlain, NeedsNoMemory, kinds, words};
 ghost use Rattle.perf_types.specs.Prelude.{cow_items, IsClone, flat_map, option_copied};
 
-use crate::numbers::read_to_the_end;
 use perf_base::cow::CowSlice;
 use perf_base::endian::Endian;
 use perf_base::error::ParseResult;
@@ -144,13 +143,13 @@ fn read_entries<'p, I: Input<'p>, E: Endian>(
     count: usize,
 ) -> ReadResult<Vec<NamespaceEntry>>
     ensures short { falls_short (I.hint (input_of reader.old)) (16 * count) ≡ true →
-        TakesNoMemory (kinds result) × IfOk result (λ v. ⊥) }
+        NeedsNoMemory (kinds result) × IfOk result (λ v. ⊥) }
     ensures call { Call I.source E.order
         (ReadsOne (words (2 * count)) (λ v. flat_map spaces.entry_numbers v.items))
         reader.old (kinds result) reader.new }
 {
     if reader.has_items(count, SIZE) == Some(false) {
-        return Err(read_to_the_end(reader, NUMBERS, count));
+        return Err(reader.read_to_the_end(NUMBERS, count));
     }
     let mut entries = match reader.list_for(count) {
         Ok(entries) => entries,

@@ -3,7 +3,7 @@
 ghost use Rattle.std.specs.Prelude.{◌≡◌};
 ghost use Rattle.perf_base.specs.Layout.{value};
 ghost use Rattle.perf_types.specs.Pair.{pair};
-ghost use Rattle.perf_types.specs.Prelude.{Call, Reads, TakesNoMemory, kinds};
+ghost use Rattle.perf_types.specs.Prelude.{Call, Reads, NeedsNoMemory, kinds};
 
 use perf_base::endian::Endian;
 use perf_base::refusal::ReadResult;
@@ -31,7 +31,7 @@ pub(crate) fn pair_in<E: Endian>(endian: &E, bytes: [u8; SIZE]) -> (u32, u32)
 pub(crate) fn read_pair<'p, I: Input<'p>, E: Endian>(
     reader: &mut Reader<I, E>,
 ) -> ReadResult<(u32, u32)>
-    ensures memory { TakesNoMemory (kinds result) }
+    ensures memory { NeedsNoMemory (kinds result) }
     ensures call { Call I.source E.order (Reads (λ _. pair) (λ p. p))
         reader.old (kinds result) reader.new }
 {

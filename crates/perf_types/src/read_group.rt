@@ -6,7 +6,6 @@ ghost use Rattle.perf_types.specs.GroupEntry.{block_len};
 
 use crate::group_entry::{GroupEntry, block_len};
 use crate::group_iter::GroupIter;
-use crate::numbers::read_numbers;
 use crate::read_format::is_known;
 use crate::read_value::ReadValue;
 use bitflags::Flags;
@@ -247,7 +246,7 @@ impl<'p, I: Input<'p>> ReadFrom<'p, I> for ReadGroup<'p> {
             Some(len) => len,
             None => return Err(Refusal::GroupLength),
         };
-        let words = read_numbers(reader, len)?;
+        let words = reader.read_numbers(len)?;
         Ok(ReadGroup {
             time_enabled,
             time_running,

@@ -4,7 +4,7 @@ ghost use Rattle.std.specs.Prelude.{◌≡◌, option_map, Some};
 ghost use Rattle.std.specs.Result.{result_ok};
 ghost use Rattle.perf_words.specs.SetBits.{read_format_bits};
 ghost use Rattle.perf_types.specs.ReadValue.{single_read, read_with, read_value, not_one_text};
-ghost use Rattle.perf_types.specs.ReadGroup.{group_read, single_of, only_entry, wanted};
+ghost use Rattle.perf_types.specs.ReadGroup.{group_read, single_of, only_entry, if_requested};
 
 use crate::group_entry::GroupEntry;
 use crate::read_format::is_known;
@@ -31,8 +31,8 @@ pub struct ReadValue {
 
 // A number if requested, or 0 if it is missing.
 #[inline]
-fn wanted(number: Option<u64>, with: bool) -> Option<u64>
-    ensures { result ≡ wanted with number }
+fn if_requested(number: Option<u64>, with: bool) -> Option<u64>
+    ensures { result ≡ if_requested with number }
 {
     with.then_some(number.unwrap_or(0))
 }
@@ -73,8 +73,8 @@ impl ReadValue {
             value: entry.value(),
             time_enabled: group.time_enabled(),
             time_running: group.time_running(),
-            id: wanted(entry.id(), group.with_id()),
-            lost: wanted(entry.lost(), group.with_lost()),
+            id: if_requested(entry.id(), group.with_id()),
+            lost: if_requested(entry.lost(), group.with_lost()),
         }
     }
 

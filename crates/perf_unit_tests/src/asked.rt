@@ -35,7 +35,7 @@ pub struct Case<'a> {
 }
 
 // The result of a parser over a buffer, in little endian if the case has no order of its own.
-fn told<'p, B: ParseBuf<'p> + Drop>(alloc: Global, buf: B, asked: Asked) -> ParseResult<String> {
+fn tell<'p, B: ParseBuf<'p> + Drop>(alloc: Global, buf: B, asked: Asked) -> ParseResult<String> {
     match asked {
         Asked::Own(own) => told_own(alloc, &mut little(alloc, buf), own),
         Asked::Body(body) => told_frame(alloc, &mut little(alloc, buf), body),
@@ -53,7 +53,7 @@ fn check_over<'p, B: ParseBuf<'p> + Drop>(
     buf: B,
     case: &Case<'_>,
 ) {
-    check_answer(rt, case.name, told(rt.alloc(), buf, case.asked), case.want);
+    check_answer(rt, case.name, tell(rt.alloc(), buf, case.asked), case.want);
 }
 
 /// Asserts the result over a slice, buffered readers and pieces.

@@ -3,14 +3,14 @@
 ghost use Rattle.std.specs.Prelude.{true, false, None, []};
 
 use crate::checks::check_text;
-use crate::errors::told;
+use crate::errors::text_of_error;
 use anyhow::anyhow;
 use bitflags::Flags;
 use perf_event_data::endian::Little;
 use perf_event_data::parse::{ErrorKind, ParseBuf, ParseBufChunk, ParseError, ParseResult};
 use perf_event_data::sys::perf_event_attr;
 use perf_event_data::{RunEnd, SampleFlags, read_records};
-use perf_test_helpers::attributes::attribute;
+use perf_test_helpers::attributes::{attribute, bits_of};
 use perf_test_helpers::everywhere::{Says, parser_of, say_everywhere};
 use std::alloc::{AllocError, Global};
 use std::io;
@@ -24,7 +24,7 @@ use std::test::Fail;
 fn told_fault<'p, B: ParseBuf<'p> + Drop>(alloc: Global, buf: B) -> Result<String, AllocError> {
     let mut parser = parser_of(alloc, buf, Little, &attribute(SampleFlags::IP.bits(), 0));
     match read_records(&mut parser, 10).end {
-        RunEnd::Fault(error) => told(alloc, &error),
+        RunEnd::Fault(error) => text_of_error(alloc, &error),
         _ => String::from_str(alloc, "no fault"),
     }
 }
@@ -149,7 +149,7 @@ impl<'p, B: ParseBuf<'p> + Drop> Says<'p, B> for FirstRefusal<'_> {
     fn say(&self, alloc: Global, buf: B) -> Result<String, AllocError> {
         let mut parser = parser_of(alloc, buf, Little, self.attr);
         match read_records(&mut parser, 1).frames.first() {
-            Some((_, Err(error))) => told(alloc, error),
+            Some((_, Err(error))) => text_of_error(alloc, error),
             _ => String::from_str(alloc, "no refusal"),
         }
     }
@@ -159,7 +159,7 @@ impl<'p, B: ParseBuf<'p> + Drop> Says<'p, B> for FirstRefusal<'_> {
 // the name and the text of its kind, and its message.
 struct Refused<'a> {
     bytes: &'a [u8],
-    under: (u64, u64, u64),
+    under: (&'a [SampleFlags], u64, u64),
     kind: (&'a str, &'a str),
     message: &'a str,
 }
@@ -173,13 +173,7 @@ const SMALL: &str = "header size was too small to be valid";
 const NO_ROOM: &str =
     "config has sample_id_all bit set but record does not have enough data to store the sample_id";
 
-// TID, READ and STACK_USER of a sample type, and `sample_id_all` of the flags.
-const TID: u64 = 1 << 1;
-
-const READ: u64 = 1 << 4;
-
-const STACK_USER: u64 = 1 << 13;
-
+// `sample_id_all` of the flags.
 const ALL_IDS: u64 = 1 << 18;
 
 // GROUP and ID of a read format, and a bit that no read format has.
@@ -193,25 +187,25 @@ const NO_FORMAT: u64 = 1 << 5;
 const REFUSED: [Refused<'static>; 9] = [
     Refused {
         bytes: b"\x03\0\0\0\0\0\x07\0",
-        under: (0, 0, 0),
+        under: (&[], 0, 0),
         kind: INVALID,
         message: SMALL,
     },
     Refused {
         bytes: b"\x09\0\0\0\0\0\0\0",
-        under: (0, 0, 0),
+        under: (&[], 0, 0),
         kind: INVALID,
         message: SMALL,
     },
     Refused {
         bytes: b"\x0E\0\0\0\0\0\x08\0",
-        under: (TID, 0, ALL_IDS),
+        under: (&[SampleFlags::TID], 0, ALL_IDS),
         kind: INVALID,
         message: NO_ROOM,
     },
     Refused {
         bytes: b"\x03\0\0\0\0\0\x0C\0\x01\0\0\0",
-        under: (TID, 0, ALL_IDS),
+        under: (&[SampleFlags::TID], 0, ALL_IDS),
         kind: INVALID,
         message: NO_ROOM,
     },
@@ -219,31 +213,31 @@ const REFUSED: [Refused<'static>; 9] = [
         bytes: b"\x0A\0\0\0\0\x40\x40\0\x01\0\0\0\x02\0\0\0\0\x10\0\0\0\0\0\0\
             \0\x20\0\0\0\0\0\0\0\0\0\0\0\0\0\0\x15\0\0\0\x01\x02\x03\x04\x05\x06\x07\x08\x09\
             \x0A\x0B\x0C\x0D\x0E\x0F\x10\x11\x12\x13\x14",
-        under: (0, 0, 0),
+        under: (&[], 0, 0),
         kind: INVALID,
         message: "build_id had invalid length",
     },
     Refused {
         bytes: b"\x09\0\0\0\0\0\x20\0\x08\0\0\0\0\0\0\0abcdefgh\x09\0\0\0\0\0\0\0",
-        under: (STACK_USER, 0, 0),
+        under: (&[SampleFlags::STACK_USER], 0, 0),
         kind: INVALID,
         message: "stack dyn_size was greater than the record size",
     },
     Refused {
         bytes: b"\x08\0\0\0\0\0\x18\0\x01\0\0\0\x02\0\0\0\x03\0\0\0\0\0\0\0",
-        under: (0, GROUP, 0),
+        under: (&[], GROUP, 0),
         kind: UNSUPPORTED,
         message: "attempted to parse a SingleRead with a config that has GROUP set in read_format",
     },
     Refused {
         bytes: b"\x08\0\0\0\0\0\x18\0\x01\0\0\0\x02\0\0\0\x03\0\0\0\0\0\0\0",
-        under: (0, NO_FORMAT, 0),
+        under: (&[], NO_FORMAT, 0),
         kind: UNSUPPORTED,
         message: "read_format contains unsupported flags",
     },
     Refused {
         bytes: b"\x09\0\0\0\0\0\x10\0\0\0\0\0\0\0\0\x80",
-        under: (READ, GROUP | ID, 0),
+        under: (&[SampleFlags::READ], GROUP | ID, 0),
         kind: INVALID,
         message: "number of elements in group read was too large for data type",
     },
@@ -252,7 +246,7 @@ const REFUSED: [Refused<'static>; 9] = [
 // The text of such an error, and the expected one.
 fn told_refused(alloc: Global, refused: &Refused) -> Result<(String, String), AllocError> {
     let (sample_type, read_format, flags) = refused.under;
-    let mut attr = attribute(sample_type, read_format);
+    let mut attr = attribute(bits_of(sample_type), read_format);
     attr.flags = flags;
     let text = say_everywhere(alloc, refused.bytes, &FirstRefusal { attr: &attr })?;
     let ((kind, text_of_kind), message) = (refused.kind, refused.message);

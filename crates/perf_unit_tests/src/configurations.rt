@@ -28,14 +28,14 @@ const FULL: &str = "([65543, 13], [true, true], [17, 34], 0)";
 
 const NOTHING: &str = "([0, 0], [false, false], [0, 0], 0)";
 
-fn told<E>(alloc: Global, config: &ParseConfig<E>) -> Result<String, AllocError> {
+fn text_of<E>(alloc: Global, config: &ParseConfig<E>) -> Result<String, AllocError> {
     let mut text = String::new(alloc);
     tell_config(&mut text, config)?;
     Ok(text)
 }
 
 fn check_said<E>(rt: &(impl AllocGlobal + Abort), config: &ParseConfig<E>, want: &str) {
-    check_text(rt, told(rt.alloc(), config), want);
+    check_text(rt, text_of(rt.alloc(), config), want);
 }
 
 #[test]

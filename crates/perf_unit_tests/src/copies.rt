@@ -34,7 +34,7 @@ trait Cloned: Debug + Sized + Drop {
 
 // A value with owned copies.
 trait Owning: Cloned {
-    fn owned(self, alloc: Global) -> ParseResult<Self>;
+    fn into_owned_copy(self, alloc: Global) -> ParseResult<Self>;
 }
 
 impl Cloned for CowSlice<'_, u64> {
@@ -52,7 +52,7 @@ impl Cloned for CowSlice<'_, u64> {
 }
 
 impl Owning for CowSlice<'_, u64> {
-    fn owned(self, alloc: Global) -> ParseResult<Self> {
+    fn into_owned_copy(self, alloc: Global) -> ParseResult<Self> {
         self.into_owned(alloc)
     }
 }
@@ -68,7 +68,7 @@ impl Cloned for Comm<'_> {
 }
 
 impl Owning for Comm<'_> {
-    fn owned(self, alloc: Global) -> ParseResult<Self> {
+    fn into_owned_copy(self, alloc: Global) -> ParseResult<Self> {
         self.into_owned(alloc)
     }
 }
@@ -84,7 +84,7 @@ impl Cloned for CGroup<'_> {
 }
 
 impl Owning for CGroup<'_> {
-    fn owned(self, alloc: Global) -> ParseResult<Self> {
+    fn into_owned_copy(self, alloc: Global) -> ParseResult<Self> {
         self.into_owned(alloc)
     }
 }
@@ -96,7 +96,7 @@ impl Cloned for KSymbol<'_> {
 }
 
 impl Owning for KSymbol<'_> {
-    fn owned(self, alloc: Global) -> ParseResult<Self> {
+    fn into_owned_copy(self, alloc: Global) -> ParseResult<Self> {
         self.into_owned(alloc)
     }
 }
@@ -112,7 +112,7 @@ impl Cloned for Mmap<'_> {
 }
 
 impl Owning for Mmap<'_> {
-    fn owned(self, alloc: Global) -> ParseResult<Self> {
+    fn into_owned_copy(self, alloc: Global) -> ParseResult<Self> {
         self.into_owned(alloc)
     }
 }
@@ -129,7 +129,7 @@ impl Cloned for Mmap2<'_> {
 }
 
 impl Owning for Mmap2<'_> {
-    fn owned(self, alloc: Global) -> ParseResult<Self> {
+    fn into_owned_copy(self, alloc: Global) -> ParseResult<Self> {
         self.into_owned(alloc)
     }
 }
@@ -141,7 +141,7 @@ impl Cloned for TextPoke<'_> {
 }
 
 impl Owning for TextPoke<'_> {
-    fn owned(self, alloc: Global) -> ParseResult<Self> {
+    fn into_owned_copy(self, alloc: Global) -> ParseResult<Self> {
         self.to_owned(alloc)
     }
 }
@@ -164,7 +164,7 @@ impl Cloned for ReadGroup<'_> {
 }
 
 impl Owning for ReadGroup<'_> {
-    fn owned(self, alloc: Global) -> ParseResult<Self> {
+    fn into_owned_copy(self, alloc: Global) -> ParseResult<Self> {
         self.into_owned(alloc)
     }
 }
@@ -210,9 +210,9 @@ fn told_with_copies<T: Owning>(alloc: Global, value: ParseResult<T>) -> ParseRes
     let mut text = String::new(alloc);
     let value = value?;
     tell_with_clone(&mut text, alloc, &value)?;
-    let owned = value.owned(alloc)?;
+    let owned = value.into_owned_copy(alloc)?;
     tell_with_clone(&mut text, alloc, &owned)?;
-    let again = owned.owned(alloc)?;
+    let again = owned.into_owned_copy(alloc)?;
     tell(&mut text, &again)?;
     Ok(text)
 }

@@ -50,7 +50,7 @@ fn tell_after<'p, B: ParseBuf<'p>>(
 
 // What a cursor over the first three bytes of a buffer gives and shows, and what the buffer does
 // after it.
-fn told<'p, B: ParseBuf<'p> + Drop>(alloc: Global, buf: B) -> ParseResult<String> {
+fn tell<'p, B: ParseBuf<'p> + Drop>(alloc: Global, buf: B) -> ParseResult<String> {
     let (mut buf, mut text) = (buf, String::new(alloc));
     let mut cursor = ParseBufCursor::new(alloc, &mut buf, 3)?;
     write!(text, "{:?}: ", cursor.as_slice())?;
@@ -70,7 +70,7 @@ const OF_A_READER: &str = "None: Temporary([97, 98, 99]) Some(3); Temporary([99]
 
 #[test]
 fn a_cursor_over_a_slice_lends_it(rt: HostRuntime) -> Result<(), Fail> {
-    check_told(&rt, told(rt.alloc(), BYTES), LENT);
+    check_told(&rt, tell(rt.alloc(), BYTES), LENT);
     let mut bytes = BYTES;
     ParseBufCursor::new(rt.alloc(), &mut bytes, 3)?;
     check!(rt; bytes, b"de".as_slice());
@@ -80,11 +80,11 @@ fn a_cursor_over_a_slice_lends_it(rt: HostRuntime) -> Result<(), Fail> {
 #[test]
 fn a_cursor_over_bytes_that_do_not_last_keeps_its_own(rt: HostRuntime) -> Result<(), Fail> {
     for n in [1, 3, 64] {
-        check_told(&rt, told(rt.alloc(), PieceBuf::new(BYTES, n, false)), OWN);
+        check_told(&rt, tell(rt.alloc(), PieceBuf::new(BYTES, n, false)), OWN);
     }
     for n in [1, 7, 8192] {
         let reader = BufReader::with_capacity(rt.alloc(), n, BYTES)?;
-        check_told(&rt, told(rt.alloc(), reader), OF_A_READER);
+        check_told(&rt, tell(rt.alloc(), reader), OF_A_READER);
     }
     Ok(())
 }
@@ -92,7 +92,7 @@ fn a_cursor_over_bytes_that_do_not_last_keeps_its_own(rt: HostRuntime) -> Result
 #[test]
 fn a_cursor_lends_what_one_lasting_piece_has(rt: HostRuntime) {
     for (n, want) in [(1, OWN), (3, LENT), (64, LENT)] {
-        check_told(&rt, told(rt.alloc(), PieceBuf::new(BYTES, n, true)), want);
+        check_told(&rt, tell(rt.alloc(), PieceBuf::new(BYTES, n, true)), want);
     }
 }
 

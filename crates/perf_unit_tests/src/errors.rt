@@ -15,7 +15,7 @@ use std::process::Abort;
 use std::test::Fail;
 
 /// Writes the kind of an error, its message, its cause if it has one, and its text.
-pub fn told(alloc: Global, error: &ParseError) -> Result<String, AllocError> {
+pub fn text_of_error(alloc: Global, error: &ParseError) -> Result<String, AllocError> {
     let mut text = String::new(alloc);
     write!(text, "{:?}, {:?}, ", error.kind(), error.message())?;
     match error.cause() {
@@ -27,7 +27,7 @@ pub fn told(alloc: Global, error: &ParseError) -> Result<String, AllocError> {
 }
 
 fn check_told(rt: &(impl AllocGlobal + Abort), error: ParseError, want: &str) {
-    check_text(rt, told(rt.alloc(), &error), want);
+    check_text(rt, text_of_error(rt.alloc(), &error), want);
 }
 
 const KINDS: [(ErrorKind, &str); 6] = [

@@ -6,7 +6,7 @@ ghost use Rattle.std.specs.Int.{w16, w32, w64, from_le_bytes};
 use crate::checks::check_same;
 use crate::runs::{
     FIVE_LOST, PLAIN_64, PLAIN_72, PLAIN_100, REFUSED, REFUSED_TEXT, TEXT, TWO, Told, check_run,
-    joined,
+    join,
 };
 use perf_event_data::endian::{Endian, Little};
 use perf_event_data::parse::{ParseError, ParseResult};
@@ -116,7 +116,7 @@ const INSIDE: [(usize, io::ErrorKind, &str); 9] = [
 
 #[test]
 fn a_fault_inside_the_attribute_is_no_refusal(rt: HostRuntime) -> Result<(), AllocError> {
-    let input = joined(rt.alloc(), &PLAIN_72, &FIVE_LOST)?;
+    let input = join(rt.alloc(), &PLAIN_72, &FIVE_LOST)?;
     for (count, kind, text) in INSIDE {
         let bytes = &input[..count.min(input.len())];
         check_reads(&rt, true, bytes, Some(kind), text, Outcome::Faulted);
@@ -136,7 +136,7 @@ fn a_reader_may_give_one_byte_a_read(rt: HostRuntime) -> Result<(), AllocError> 
     for (bytes, text, outcome) in ENDING {
         check_reads(&rt, false, bytes, None, text, outcome);
     }
-    let input = joined(rt.alloc(), &PLAIN_72, &TWO)?;
+    let input = join(rt.alloc(), &PLAIN_72, &TWO)?;
     check_reads(&rt, true, &input, None, TEXT, Outcome::Clean);
     Ok(())
 }
@@ -396,7 +396,7 @@ const WITHOUT_MEMORY: &str = "end fault OutOfMemory\n";
 // limit and what is written. The configuration after the attribute has a byte order of its own.
 #[test]
 fn a_refused_order_ends_the_text_for_want_of_memory(rt: HostRuntime) -> Result<(), AllocError> {
-    let input = joined(rt.alloc(), &PLAIN_64, &FIVE_LOST)?;
+    let input = join(rt.alloc(), &PLAIN_64, &FIVE_LOST)?;
     for (limit, bytes, text, outcome) in [
         (10, PLAIN_64.as_slice(), WITHOUT_MEMORY, Outcome::Faulted),
         (10, input.as_slice(), WITHOUT_MEMORY, Outcome::Faulted),

@@ -3,7 +3,7 @@
 ghost use Rattle.std.specs.Prelude.{◌<◌};
 
 use crate::checks::check_same;
-use crate::runs::{PLAIN_72, TEXT, TWO, joined};
+use crate::runs::{PLAIN_72, TEXT, TWO, join};
 use perf_event_data::endian::Little;
 use perf_lines::outcome::Outcome;
 use perf_lines::run::run;
@@ -53,7 +53,7 @@ fn check_piece(rt: &(impl AllocGlobal + Abort), bytes: &[u8], with_attr: bool, p
 
 #[test]
 fn a_reader_is_handed_a_piece_at_a_time(rt: HostRuntime) -> Result<(), AllocError> {
-    let with_attr = joined(rt.alloc(), &PLAIN_72, &TWO)?;
+    let with_attr = join(rt.alloc(), &PLAIN_72, &TWO)?;
     for piece in [1usize, 7, 8192] {
         check_piece(&rt, &TWO, false, piece.max(1));
         check_piece(&rt, &with_attr, true, piece.max(1));

@@ -150,7 +150,7 @@ impl Tell for Moment {
 }
 
 impl Mappings<'_> {
-    fn visited(self, call: &'static str, metadata: &RecordMetadata) -> Moment {
+    fn moment_of(self, call: &'static str, metadata: &RecordMetadata) -> Moment {
         self.visits.set(self.visits.get().wrapping_add(1));
         let id = metadata.sample_id();
         Moment {
@@ -171,11 +171,11 @@ impl PartialVisitor for Mappings<'_> {
     ghost left_out = { λ metadata output. ⊤ };
 
     fn visit_unimplemented(self, metadata: RecordMetadata) -> Self::Output {
-        self.visited("unimplemented", &metadata)
+        self.moment_of("unimplemented", &metadata)
     }
 
     fn visit_mmap(self, _content: Mmap<'_>, metadata: RecordMetadata) -> Self::Output {
-        self.visited("mmap", &metadata)
+        self.moment_of("mmap", &metadata)
     }
 }
 

@@ -2,7 +2,7 @@
 //! and when lines are written.
 
 use crate::checks::{check_same, check_that};
-use crate::runs::{PLAIN_64, PLAIN_100, joined};
+use crate::runs::{PLAIN_64, PLAIN_100, join};
 use anyhow::{Result as AnyResult, bail};
 use perf_event_data::endian::Little;
 use perf_event_data::parse::{ParseConfig, Parser};
@@ -124,7 +124,7 @@ fn growing(alloc: Global, count: usize, refused: usize) -> Result<Vec<u8>, Alloc
 
 // An attribute, a COMM record, one with a name of `len` bytes, and one more.
 fn long_name(alloc: Global, len: usize) -> Result<Vec<u8>, AllocError> {
-    let mut bytes = joined(alloc, &PLAIN_64, COMM)?;
+    let mut bytes = join(alloc, &PLAIN_64, COMM)?;
     let mut name = Vec::new(alloc);
     name.resize(len, b'n')?;
     push_named(&mut bytes, name.as_slice())?;
@@ -133,7 +133,7 @@ fn long_name(alloc: Global, len: usize) -> Result<Vec<u8>, AllocError> {
 }
 
 // An attribute that asks for call chains, and samples with these numbers of addresses.
-fn chained(alloc: Global, counts: &[u16]) -> Result<Vec<u8>, AllocError> {
+fn with_chains(alloc: Global, counts: &[u16]) -> Result<Vec<u8>, AllocError> {
     let mut bytes = Vec::from_slice(alloc, CHAINS)?;
     for count in counts {
         let size = count.saturating_mul(8).saturating_add(16);
@@ -267,7 +267,7 @@ const PRINTED: [Printed; 10] = [
 ];
 
 // The text of how it ended.
-fn ended(alloc: Global, printed: AnyResult<bool>) -> Result<String, AllocError> {
+fn text_of_end(alloc: Global, printed: AnyResult<bool>) -> Result<String, AllocError> {
     match printed {
         Ok(true) => String::from_str(alloc, "clean"),
         Ok(false) => String::from_str(alloc, "refused"),
@@ -277,7 +277,7 @@ fn ended(alloc: Global, printed: AnyResult<bool>) -> Result<String, AllocError> 
 
 // Asserts what is printed of a recording, however many bytes a read gives.
 fn check_printed(rt: &(impl AllocGlobal + Abort), case: Printed<'_>) -> Result<(), AllocError> {
-    let bytes = joined(rt.alloc(), case.attr, case.after)?;
+    let bytes = join(rt.alloc(), case.attr, case.after)?;
     for most in [1, 7, 8192] {
         let log = Cell::new(1);
         let input = Input {
@@ -289,7 +289,7 @@ fn check_printed(rt: &(impl AllocGlobal + Abort), case: Printed<'_>) -> Result<(
         };
         let (mut output, mut errors) = (Vec::new(rt.alloc()), Vec::new(rt.alloc()));
         let printed = print_recording(rt.alloc(), input, &mut output, &mut errors, case.report);
-        let ended = ended(rt.alloc(), printed)?;
+        let ended = text_of_end(rt.alloc(), printed)?;
         let told = (output.as_slice(), errors.as_slice(), ended.as_str());
         check_same(rt, case.name, told, (case.output, case.errors, case.ended));
     }
@@ -410,7 +410,7 @@ fn a_write_is_of_whole_lines(rt: HostRuntime) -> Result<(), AllocError> {
         );
     }
 
-    let input = chained(rt.alloc(), &[1, 8000, 0, 300])?;
+    let input = with_chains(rt.alloc(), &[1, 8000, 0, 300])?;
     check_same(
         &rt,
         "samples",
@@ -545,7 +545,12 @@ fn told_of(
     } else {
         print_by_lines(alloc, input, &mut output, &mut errors, case.report)
     };
-    Ok((log.get(), output.room, errors.room, ended(alloc, printed)?))
+    Ok((
+        log.get(),
+        output.room,
+        errors.room,
+        text_of_end(alloc, printed)?,
+    ))
 }
 
 // Asserts that lines that are written together are written as if each were alone: the same bytes in
@@ -613,7 +618,7 @@ fn long_lines_go_out_in_order(rt: HostRuntime) -> Result<(), AllocError> {
         let input = long_name(rt.alloc(), len)?;
         check_orders(&rt, input.as_slice(), Report::Tasks)?;
     }
-    let input = chained(rt.alloc(), &[1, 8000, 0, 300])?;
+    let input = with_chains(rt.alloc(), &[1, 8000, 0, 300])?;
     check_orders(&rt, input.as_slice(), Report::Samples)
 }
 

@@ -52,7 +52,7 @@ pub const PLAIN_100: [u8; 100] = [
 ];
 
 /// Some bytes and others after them.
-pub fn joined(alloc: Global, first: &[u8], second: &[u8]) -> Result<Vec<u8>, AllocError> {
+pub fn join(alloc: Global, first: &[u8], second: &[u8]) -> Result<Vec<u8>, AllocError> {
     let mut bytes = Vec::from_slice(alloc, first)?;
     bytes.extend_from_slice(second)?;
     Ok(bytes)

@@ -1,9 +1,10 @@
 //! Samples that claim more than there is.
 
 use crate::checks::check_that;
-use perf_event_data::PieceBuf;
+use bitflags::Flags;
 use perf_event_data::parse::ParseBuf;
 use perf_event_data::sys::perf_event_attr;
+use perf_event_data::{PieceBuf, SampleFlags};
 use perf_test_helpers::attributes::attribute;
 use perf_test_helpers::orders::Counting;
 use perf_test_helpers::runs::tell_under;
@@ -12,18 +13,6 @@ use perf_test_helpers::sample_bytes::frames_of;
 use std::cell::Cell;
 use std::io::BufReader;
 use std::process::Abort;
-
-const READ: u64 = 1 << 4;
-
-const CALLCHAIN: u64 = 1 << 5;
-
-const RAW: u64 = 1 << 10;
-
-const BRANCH_STACK: u64 = 1 << 11;
-
-const STACK_USER: u64 = 1 << 13;
-
-const AUX: u64 = 1 << 20;
 
 // Branch stacks have the hardware's index.
 const HW_INDEX: u64 = 1 << 17;
@@ -96,20 +85,20 @@ const FOUR_NUMBERS: &[Part] = &[U64(1), U64(2), U64(3), U32(4)];
 
 // A sample type, a read format, which branches are asked for, what comes after a count, and how
 // many 64-bit numbers there may be with it. Bytes are no numbers.
-const BODIES: [(u64, u64, u64, &[Part], u64); 8] = [
-    (CALLCHAIN, 0, 0, &[U64(1)], 2),
-    (BRANCH_STACK, 0, 0, &[U64(1)], 2),
-    (BRANCH_STACK, 0, HW_INDEX, &[U64(1)], 2),
-    (READ, 0x08, 0, &[U64(1)], 2),
-    (STACK_USER, 0, 0, THREE_BYTES, 1),
-    (AUX, 0, 0, THREE_BYTES, 1),
-    (CALLCHAIN, 0, 0, FOUR_NUMBERS, 4),
-    (BRANCH_STACK, 0, 0, FOUR_NUMBERS, 4),
+const BODIES: [(SampleFlags, u64, u64, &[Part], u64); 8] = [
+    (SampleFlags::CALLCHAIN, 0, 0, &[U64(1)], 2),
+    (SampleFlags::BRANCH_STACK, 0, 0, &[U64(1)], 2),
+    (SampleFlags::BRANCH_STACK, 0, HW_INDEX, &[U64(1)], 2),
+    (SampleFlags::READ, 0x08, 0, &[U64(1)], 2),
+    (SampleFlags::STACK_USER, 0, 0, THREE_BYTES, 1),
+    (SampleFlags::AUX, 0, 0, THREE_BYTES, 1),
+    (SampleFlags::CALLCHAIN, 0, 0, FOUR_NUMBERS, 4),
+    (SampleFlags::BRANCH_STACK, 0, 0, FOUR_NUMBERS, 4),
 ];
 
 fn check_count(rt: &(impl AllocGlobal + Abort), count: u64) {
     for (sample_type, read_format, branch_sample_type, rest, most) in BODIES {
-        let mut attr = attribute(sample_type, read_format);
+        let mut attr = attribute(sample_type.bits(), read_format);
         attr.branch_sample_type = branch_sample_type;
         check_most(rt, attr, U64(count), rest, most);
     }
@@ -121,5 +110,11 @@ fn a_hostile_count_converts_no_more_than_the_numbers_of_its_body(rt: HostRuntime
         check_count(&rt, count);
     }
     let rest = [U64(1), U64(2)];
-    check_most(&rt, attribute(RAW, 0), U32(u32::MAX), &rest, 0);
+    check_most(
+        &rt,
+        attribute(SampleFlags::RAW.bits(), 0),
+        U32(u32::MAX),
+        &rest,
+        0,
+    );
 }

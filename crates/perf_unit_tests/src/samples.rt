@@ -197,7 +197,7 @@ fn a_sample_answers_each_of_its_fields(rt: HostRuntime) {
 }
 
 // An owned list.
-fn owned<'a, T: Copy>(alloc: Global, items: &'a [T]) -> ParseResult<Option<CowSlice<'a, T>>> {
+fn owned_list<'a, T: Copy>(alloc: Global, items: &'a [T]) -> ParseResult<Option<CowSlice<'a, T>>> {
     Ok(Some(CowSlice::Borrowed(items).into_owned(alloc)?))
 }
 
@@ -226,16 +226,16 @@ fn own_calls<'a>(
     fields: &mut SampleFields<'a>,
     branches: &'a [BranchEntry],
 ) -> ParseResult<()> {
-    fields.callchain = owned(alloc, &[111, 112])?;
-    fields.lbr = owned(alloc, branches)?;
+    fields.callchain = owned_list(alloc, &[111, 112])?;
+    fields.lbr = owned_list(alloc, branches)?;
     Ok(())
 }
 
 // The same of the bytes.
 fn own_bytes(alloc: Global, fields: &mut SampleFields<'_>) -> ParseResult<()> {
-    fields.raw = owned(alloc, &[113])?;
-    fields.stack_user = owned(alloc, &[120, 121])?;
-    fields.aux = owned(alloc, &[128, 129, 130])?;
+    fields.raw = owned_list(alloc, &[113])?;
+    fields.stack_user = owned_list(alloc, &[120, 121])?;
+    fields.aux = owned_list(alloc, &[128, 129, 130])?;
     Ok(())
 }
 

@@ -116,7 +116,7 @@ impl Tells for Readings {
         text.push_str("; ")?;
         tell_shown_record(text, frame.record(alloc, &config()))?;
         text.push_str(" ")?;
-        tell_shown_record(text, visited(alloc, frame))?;
+        tell_shown_record(text, visit_record(alloc, frame))?;
         Ok(())
     }
 }
@@ -140,7 +140,7 @@ fn tell_known(text: &mut String, known: &RecordMetadata) -> Result<(), AllocErro
 }
 
 // The record that a visit makes.
-fn visited<'p>(alloc: Global, frame: &Frame<'_, 'p>) -> ParseResult<Record<'p>> {
+fn visit_record<'p>(alloc: Global, frame: &Frame<'_, 'p>) -> ParseResult<Record<'p>> {
     match frame.visit(alloc, &config(), RecordVisitor::new(alloc)) {
         Ok(made) => made,
         Err(error) => Err(error),

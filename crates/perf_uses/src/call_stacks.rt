@@ -14,7 +14,7 @@ use std::collections::BTreeMap;
 const CONTEXT_MAX: u64 = u64::MAX - 4094;
 
 // The addresses of a call chain as one text, the outermost call first.
-fn folded(alloc: Global, chain: &[u64]) -> Result<String, AllocError> {
+fn fold_chain(alloc: Global, chain: &[u64]) -> Result<String, AllocError> {
     let mut stack = String::new(alloc);
     for address in chain.iter().rev().filter(|address| **address < CONTEXT_MAX) {
         if !stack.is_empty() {
@@ -47,7 +47,7 @@ impl PartialVisitor for Folding {
 
     fn visit_sample(self, sample: Sample<'_>, _metadata: RecordMetadata) -> Self::Output {
         match sample.callchain() {
-            Some(chain) => Ok(Some(folded(self.alloc, chain)?)),
+            Some(chain) => Ok(Some(fold_chain(self.alloc, chain)?)),
             None => Ok(None),
         }
     }

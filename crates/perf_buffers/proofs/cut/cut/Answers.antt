@@ -1,7 +1,7 @@
 use Rattle.std.proofs.Common.{length, ◌≡◌, ◌≤◌, ◌∙◌, sym, subst, refl, true, take, drop, ap, arith}
 use Rattle.std.specs.Prelude.{IfOk, IfErr, IsTrue}
 use Rattle.perf_base.specs.declared.error.ErrorKind.TheVariants.{OutOfMemory}
-use Rattle.perf_base.specs.Refusals.{refusal_kind, refused, kinds}
+use Rattle.perf_base.specs.Refusals.{refusal_kind, kind_if_refused, kinds}
 use Rattle.perf_buffers.specs.Buffer.{Source}
 use Rattle.perf_buffers.specs.Cursor.{content_left}
 use Rattle.perf_buffers.specs.Room.{falls_short, is_made_beforehand, makes_all_room}
@@ -77,8 +77,8 @@ returns-in-Ok-None g c =
     let not_whole : IsTrue old.whole → ⊥ = λ w.
     let h = none_matches _ c.in-Ok-None.field-0 c.in-Ok-None.field-0-is (a.whole w) in
     let never = c.if-says_too_few.ensures ∙ hint_falls_short hint.result (length old.left) n (hint.ensures.whole w) hint.ensures.exact h.0 h.1 in cc in record {
-      stays = stays_then old mid new (refused (kinds r)) a.stays e.stays;
-      can_fail = can_fail_then old mid (refused (kinds r)) a.stays e.can_fail;
+      stays = stays_then old mid new (kind_if_refused (kinds r)) a.stays e.stays;
+      can_fail = can_fail_then old mid (kind_if_refused (kinds r)) a.stays e.can_fail;
       whole = λ w. absurd (not_whole w);
       whole_memory = λ w. absurd (not_whole w);
       nothing = λ z. absurd (c.if-len-eq0.false z);

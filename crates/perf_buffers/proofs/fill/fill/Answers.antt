@@ -1,6 +1,6 @@
 use Rattle.std.proofs.Common.{◌≡◌, ◌≤◌, ℕ, List, length, take, drop, subst}
 use Rattle.std.specs.Prelude.{IsTrue, OnOk, IfErr}
-use Rattle.perf_base.specs.Refusals.{refusal_kind, refused, kinds}
+use Rattle.perf_base.specs.Refusals.{refusal_kind, kind_if_refused, kinds}
 use Rattle.perf_buffers.specs.Buffer.{Source}
 use Rattle.perf_buffers.specs.Taking.{FailsToTake, TakesAtOnce}
 use Rattle.perf_buffers.proofs.After.{if_err, takes_same}
@@ -29,8 +29,8 @@ returns-in-Ok-false g c =
     let r = c.fill_slowly.result in
     let len = c.fill_at_once.auto.out in
     let same : IsTrue old.told → mid.left ≡ old.left = λ told. subst (λ all. TakesAtOnce old (length c.args.out.now) all c.fill_at_once.new.out mid) c.in-Ok-false.field-0-test (e.ok told) in record {
-      stays = stays_then old mid new (refused (kinds r)) e.stays s.stays;
-      can_fail = can_fail_then old mid (refused (kinds r)) e.stays s.can_fail;
+      stays = stays_then old mid new (kind_if_refused (kinds r)) e.stays s.stays;
+      can_fail = can_fail_then old mid (kind_if_refused (kinds r)) e.stays s.can_fail;
       memory = s.memory;
       ok = λ told.
           let Q : ℕ → List ℕ → Type 0 = λ n xs. OnOk r (((n ≤ length xs) × (new.left ≡ drop n xs)) × (c.fill_slowly.new.out ≡ take n xs)) in

@@ -1,5 +1,5 @@
 use Rattle.std.proofs.Common.{◌≡◌, ◌++◌, ◌∙◌, ◌∷◌, [], List, ℕ, codes, string_bytes, refl}
-use Rattle.perf_lines.specs.Fields.{spaced, number, field, listed}
+use Rattle.perf_lines.specs.Fields.{with_spaces, number, field, with_commas}
 use Rattle.perf_lines.specs.Text.{namespace_item}
 use Rattle.perf_lines.proofs.Spaced.{last_word}
 use Rattle.perf_lines.proofs.records.push_namespaces.Goals as goal
@@ -8,6 +8,6 @@ pub returns : goal.returns
 returns c =
     let r = c.args.found.now in
     let words : List (List ℕ) = codes "Namespaces" ∷ number (codes "pid") r.pid ∷ number (codes "tid") r.tid ∷ [] in
-    let first : string_bytes c.push_fields.new.text ≡ string_bytes c.args.text.now ++ spaced words =
+    let first : string_bytes c.push_fields.new.text ≡ string_bytes c.args.text.now ++ with_spaces words =
     c.in_ok-push_fields.ensures ∙ rw (c.from.ensures, c.from-2.ensures) refl in
-    rw c.as_slice.ensures at (last_word c.push_entries.result words (field (codes "namespaces") (listed namespace_item c.as_slice.result.now)) _ _ _ first c.push_entries.ensures)
+    rw c.as_slice.ensures at (last_word c.push_entries.result words (field (codes "namespaces") (with_commas namespace_item c.as_slice.result.now)) _ _ _ first c.push_entries.ensures)

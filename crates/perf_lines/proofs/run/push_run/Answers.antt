@@ -4,7 +4,7 @@ use Rattle.perf_records.specs.Frames.{drop_frames}
 use Rattle.perf_base.specs.Configured.{configuration_of, endian_of}
 use Rattle.perf_records.specs.Answers.{answers}
 use Rattle.perf_parser.specs.Runs.{seen_answers, EndsWith}
-use Rattle.perf_lines.proofs.Batches.{after_more}
+use Rattle.perf_records.proofs.FramesAfter.{after_more}
 use Rattle.perf_lines.proofs.Progress.{Listed, batch_more}
 use Rattle.perf_lines.proofs.Endings.{Made, if_ok_map}
 use Rattle.perf_lines.proofs.Ended.{made_to_ending}

@@ -2,7 +2,7 @@ use Rattle.std.proofs.Common.{◌≡◌, ◌++◌, ◌∙◌, ◌∷◌, [], Lis
 use Rattle.std.proofs.lemmas.Result.{on_ok_weaker}
 use Rattle.perf_sample_types.specs.SampleGetters.{Getters, getters_of}
 use Rattle.perf_sample_types.specs.SampleGroups.{sample_value}
-use Rattle.perf_lines.specs.Fields.{spaced, present, words_of, word_as, word_of, hex}
+use Rattle.perf_lines.specs.Fields.{with_spaces, present, words_of, word_as, word_of, hex}
 use Rattle.perf_lines.proofs.Spaced.{words_more, spaced-words_of, spaced-word_as}
 use Rattle.perf_lines.proofs.sample.push_memory.Goals as goal
 
@@ -12,11 +12,11 @@ returns c =
     let address : List (List ℕ) = word_of (codes "phys_addr") g.phys_addr in
     let aux : List (List ℕ) = word_as (codes "aux") hex g.aux in
     let fields : List (List ℕ × Option ℕ) = (codes "cgroup", g.cgroup) ∷ (codes "data_page_size", g.data_page_size) ∷ (codes "code_page_size", g.code_page_size) ∷ [] in
-    let first : string_bytes c.push_present.new.text ≡ string_bytes c.args.text.now ++ spaced address =
+    let first : string_bytes c.push_present.new.text ≡ string_bytes c.args.text.now ++ with_spaces address =
     c.in_ok-push_present.ensures
     ∙ ap (λ v. string_bytes c.args.text.now ++ present (λ n. codes " phys_addr=" ++ decimal n) v) c.phys_addr.ensures
     ∙ ap (λ rest. string_bytes c.args.text.now ++ rest) (spaced-word_as (codes "phys_addr") decimal g.phys_addr) in
-    let second : string_bytes c.push_bytes.new.text ≡ string_bytes c.push_present.new.text ++ spaced aux =
+    let second : string_bytes c.push_bytes.new.text ≡ string_bytes c.push_present.new.text ++ with_spaces aux =
     c.in_ok-push_bytes.ensures
     ∙ ap (λ v. string_bytes c.push_present.new.text ++ present (λ items. codes " aux=" ++ hex items) v) c.aux.ensures
     ∙ ap (λ rest. string_bytes c.push_present.new.text ++ rest) (spaced-word_as (codes "aux") hex g.aux) in

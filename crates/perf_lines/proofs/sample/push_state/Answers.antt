@@ -3,7 +3,7 @@ use Rattle.std.proofs.lemmas.Result.{on_ok_weaker}
 use Rattle.perf_sample_types.specs.Registers.{RegistersValue}
 use Rattle.perf_sample_types.specs.SampleGetters.{Getters, getters_of}
 use Rattle.perf_sample_types.specs.SampleGroups.{sample_value}
-use Rattle.perf_lines.specs.Fields.{spaced, present, word_as, word_of, hex, listed}
+use Rattle.perf_lines.specs.Fields.{with_spaces, present, word_as, word_of, hex, with_commas}
 use Rattle.perf_lines.specs.SampleText.{branch_item, register_words}
 use Rattle.perf_lines.proofs.Spaced.{words_more, spaced-word_as, spaced-registers}
 use Rattle.perf_lines.proofs.sample.push_state.Goals as goal
@@ -13,24 +13,24 @@ returns c =
     let g : Getters = getters_of (sample_value c.args.sample.now) in
     let raw : List (List ℕ) = word_as (codes "raw") hex g.raw in
     let index : List (List ℕ) = word_of (codes "lbr_hw_index") g.lbr_hw_index in
-    let branches : List (List ℕ) = word_as (codes "lbr") (listed branch_item) g.lbr in
+    let branches : List (List ℕ) = word_as (codes "lbr") (with_commas branch_item) g.lbr in
     let regs : List (List ℕ) = register_words (codes "regs_user_abi") (codes "regs_user") g.regs_user in
     let stack : List (List ℕ) = word_as (codes "stack_user") hex g.stack_user in
-    let first : string_bytes c.push_bytes.new.text ≡ string_bytes c.args.text.now ++ spaced raw =
+    let first : string_bytes c.push_bytes.new.text ≡ string_bytes c.args.text.now ++ with_spaces raw =
     c.in_ok-push_bytes.ensures
     ∙ ap (λ v. string_bytes c.args.text.now ++ present (λ items. codes " raw=" ++ hex items) v) c.raw.ensures
     ∙ ap (λ rest. string_bytes c.args.text.now ++ rest) (spaced-word_as (codes "raw") hex g.raw) in
-    let second : string_bytes c.push_present.new.text ≡ string_bytes c.push_bytes.new.text ++ spaced index =
+    let second : string_bytes c.push_present.new.text ≡ string_bytes c.push_bytes.new.text ++ with_spaces index =
     c.in_ok-push_present.ensures
     ∙ ap (λ v. string_bytes c.push_bytes.new.text ++ present (λ n. codes " lbr_hw_index=" ++ decimal n) v) c.lbr_hw_index.ensures
     ∙ ap (λ rest. string_bytes c.push_bytes.new.text ++ rest) (spaced-word_as (codes "lbr_hw_index") decimal g.lbr_hw_index) in
-    let third : string_bytes c.push_branches.new.text ≡ string_bytes c.push_present.new.text ++ spaced branches =
+    let third : string_bytes c.push_branches.new.text ≡ string_bytes c.push_present.new.text ++ with_spaces branches =
     c.in_ok-push_branches.ensures
-    ∙ ap (λ v. string_bytes c.push_present.new.text ++ present (λ items. codes " lbr=" ++ listed branch_item items) v) c.lbr.ensures
-    ∙ ap (λ rest. string_bytes c.push_present.new.text ++ rest) (spaced-word_as (codes "lbr") (listed branch_item) g.lbr) in
-    let fourth : string_bytes c.push_registers.new.text ≡ string_bytes c.push_branches.new.text ++ spaced regs =
+    ∙ ap (λ v. string_bytes c.push_present.new.text ++ present (λ items. codes " lbr=" ++ with_commas branch_item items) v) c.lbr.ensures
+    ∙ ap (λ rest. string_bytes c.push_present.new.text ++ rest) (spaced-word_as (codes "lbr") (with_commas branch_item) g.lbr) in
+    let fourth : string_bytes c.push_registers.new.text ≡ string_bytes c.push_branches.new.text ++ with_spaces regs =
     c.in_ok-push_registers.ensures
-    ∙ ap (λ (v : Option RegistersValue). string_bytes c.push_branches.new.text ++ present (λ r. codes " regs_user_abi=" ++ (decimal r.abi ++ (codes " regs_user=" ++ listed decimal r.regs))) v) c.regs_user.ensures
+    ∙ ap (λ (v : Option RegistersValue). string_bytes c.push_branches.new.text ++ present (λ r. codes " regs_user_abi=" ++ (decimal r.abi ++ (codes " regs_user=" ++ with_commas decimal r.regs))) v) c.regs_user.ensures
     ∙ ap (λ rest. string_bytes c.push_branches.new.text ++ rest) (spaced-registers (codes "regs_user_abi") (codes "regs_user") g.regs_user) in
     on_ok_weaker c.push_bytes-2.result
     (λ last. words_more raw (index ++ (branches ++ (regs ++ stack))) _ _ _ first

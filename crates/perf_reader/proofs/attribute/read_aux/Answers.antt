@@ -20,14 +20,14 @@ returns-in_err-skip-clause-call g c =
     let up : c.from_residual-in_err-skip.result ≡ Err c.in_err-skip.field-0.0 = came_up _ _ c.from_residual-in_err-skip.ensures in rw up (
     part_after _ _ _ c.in_ok-aux_watermark.ensures.call (
     part_after _ _ _ c.in_ok-sample_max_stack.ensures.call (
-    part_stops _ _ _ (padded _ _ c.skipped.ensures c.in_err-skip.ensures.call))))
+    part_stops _ _ _ (padded _ _ c.len_to_skip.ensures c.in_err-skip.ensures.call))))
 
 pub returns-in_err-aux_sample_size-clause-call : goal.returns-in_err-aux_sample_size-clause-call
 returns-in_err-aux_sample_size-clause-call g c =
     let up : c.from_residual-in_err-aux_sample_size.result ≡ Err c.in_err-aux_sample_size.field-0.0 = came_up _ _ c.from_residual-in_err-aux_sample_size.ensures in rw up (
     part_after _ _ _ c.in_ok-aux_watermark.ensures.call (
     part_after _ _ _ c.in_ok-sample_max_stack.ensures.call (
-    part_after _ _ _ (padded _ _ c.skipped.ensures c.in_ok-skip.ensures.call) (
+    part_after _ _ _ (padded _ _ c.len_to_skip.ensures c.in_ok-skip.ensures.call) (
     part_stops _ _ _ c.in_err-aux_sample_size.ensures.call))))
 
 pub returns-in_err-skip-2-clause-call : goal.returns-in_err-skip-2-clause-call
@@ -35,9 +35,9 @@ returns-in_err-skip-2-clause-call g c =
     let up : c.from_residual-in_err-skip-2.result ≡ Err c.in_err-skip-2.field-0.0 = came_up _ _ c.from_residual-in_err-skip-2.ensures in rw up (
     part_after _ _ _ c.in_ok-aux_watermark.ensures.call (
     part_after _ _ _ c.in_ok-sample_max_stack.ensures.call (
-    part_after _ _ _ (padded _ _ c.skipped.ensures c.in_ok-skip.ensures.call) (
+    part_after _ _ _ (padded _ _ c.len_to_skip.ensures c.in_ok-skip.ensures.call) (
     part_after _ _ _ c.in_ok-aux_sample_size.ensures.call (
-    part_stops _ _ _ (padded _ _ c.skipped-2.ensures c.in_err-skip-2.ensures.call))))))
+    part_stops _ _ _ (padded _ _ c.len_to_skip-2.ensures c.in_err-skip-2.ensures.call))))))
 
 pub returns-clause-call : goal.returns-clause-call
 returns-clause-call g c =
@@ -46,9 +46,9 @@ returns-clause-call g c =
     let v3 : c.unwrap_or-3.result ≡ or_zero c.in_ok-aux_sample_size.aux_sample_size = c.unwrap_or-3.ensures in rw (v1, v2, v3) (
     part_after _ _ _ c.in_ok-aux_watermark.ensures.call (
     part_after _ _ _ c.in_ok-sample_max_stack.ensures.call (
-    part_after _ _ _ (padded _ _ c.skipped.ensures c.in_ok-skip.ensures.call) (
+    part_after _ _ _ (padded _ _ c.len_to_skip.ensures c.in_ok-skip.ensures.call) (
     part_after _ _ _ c.in_ok-aux_sample_size.ensures.call (
-    part_after _ _ _ (padded _ _ c.skipped-2.ensures c.in_ok-skip-2.ensures.call) (
+    part_after _ _ _ (padded _ _ c.len_to_skip-2.ensures c.in_ok-skip-2.ensures.call) (
     call_none {show = λ v. v}))))))
 
 pub returns-in_err-aux_watermark-clause-memory : goal.returns-in_err-aux_watermark-clause-memory

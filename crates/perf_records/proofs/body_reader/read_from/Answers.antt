@@ -1,7 +1,7 @@
 use Rattle.std.proofs.Common.{◌≡◌, length, subst, sym, ◌∙◌, ap}
 use Rattle.std.specs.Prelude.{IsTrue}
 use Rattle.perf_base.specs.Configured.{configuration_of, endian_of}
-use Rattle.perf_base.specs.Refusals.{kinds, refused}
+use Rattle.perf_base.specs.Refusals.{kinds, kind_if_refused}
 use Rattle.perf_base.specs.declared.config.ParseConfig.{ParseConfig}
 use Rattle.perf_buffers.specs.Buffer.{Source}
 use Rattle.perf_reader.specs.ReaderState.{ReaderState, state_of}
@@ -34,7 +34,7 @@ returns-clause-faults g c = λ reads.
     let n = c.new-reader.ensures in
     let old : ReaderState = state_of g.I.Input.source g.E.Endian.order c.new-reader.result in
     let inside : old.source.can_fault ≡ _ = ap (λ i. (g.I.Input.source i).can_fault) n.input ∙ c.requires.inside in
-    inside_cannot_fault (refused (kinds c.read_body-output.result)) (λ e. subst IsTrue inside (((c.read_body-output.ensures.call reads).keeps old (keeps_none old)).fault e))
+    inside_cannot_fault (kind_if_refused (kinds c.read_body-output.result)) (λ e. subst IsTrue inside (((c.read_body-output.ensures.call reads).keeps old (keeps_none old)).fault e))
 
 pub returns-clause-cost : goal.returns-clause-cost
 returns-clause-cost g c = λ reads.

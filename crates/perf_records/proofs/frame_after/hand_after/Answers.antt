@@ -7,7 +7,7 @@ use Rattle.perf_base.specs.declared.error.ErrorKind.TheVariants.{Eof}
 use Rattle.perf_base.specs.declared.config.ParseConfig.{ParseConfig}
 use Rattle.perf_buffers.specs.Buffer.{Source}
 use Rattle.perf_buffers.specs.Taking.{FailsToKeep}
-use Rattle.perf_records.specs.Answers.{body_length}
+use Rattle.perf_records.specs.Answers.{length_after}
 use Rattle.perf_records.specs.Sights.{Sight, bad}
 use Rattle.perf_records.proofs.Handing.{hands_unfinished}
 use Rattle.perf_records.proofs.frame_after.hand_after.Goals as goal
@@ -31,4 +31,4 @@ returns-else-not-is_eof-clause-handed g c =
     let outcome : bad c.new-bad-in-Err.result.header (refusal_kind c.new-bad-in-Err.result.refusal) ≡ bad h Eof = ap (λ k. bad k (refusal_kind c.new-bad-in-Err.result.refusal)) b.header ∙ ap (λ r. bad h (refusal_kind r)) b.refusal ∙ ap (bad h) kind in
     let got : gets c.args.handler.now (bad h Eof) go now = subst P config (subst (λ x. g.H.FrameHandler.gets c.args.handler.now (configuration_of c.config-in-Err.result.now) (g.E.Endian.order (endian_of c.config-in-Err.result.now)) x go now) outcome as-refused) in
     hands_unfinished gets h old new c.args.handler.now now go sized (λ none. let never : false ≡ true = (e.nothing none).0 in absurd (cc))
-    (λ told. subst (λ (k : ErrorKind). FailsToKeep old (body_length h) k new) kind (e.err.1 told)) got
+    (λ told. subst (λ (k : ErrorKind). FailsToKeep old (length_after h) k new) kind (e.err.1 told)) got

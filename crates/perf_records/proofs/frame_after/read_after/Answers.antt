@@ -4,7 +4,7 @@ use Rattle.perf_base.specs.Refusals.{refusal_kind}
 use Rattle.perf_buffers.specs.Buffer.{Source}
 use Rattle.perf_buffers.specs.declared.outer.Outer.{Outer}
 use Rattle.perf_buffers.proofs.Taking.{takes_moves}
-use Rattle.perf_records.specs.Answers.{body_length}
+use Rattle.perf_records.specs.Answers.{length_after}
 use Rattle.perf_records.specs.Gives.{Event}
 use Rattle.perf_records.proofs.Keeping.{taken_within}
 use Rattle.perf_records.proofs.Shown.{Read, frame_call, unread_call}
@@ -14,7 +14,7 @@ pub returns-in-Ok-clause-within : goal.returns-in-Ok-clause-within
 returns-in-Ok-clause-within g c = λ told.
     let old : Source = g.B.ParseBuf.source c.args.reader.now.input.buf in
     let new : Source = g.B.ParseBuf.source c.with_frame.new.self.input.buf in
-    let n = body_length c.args.header in
+    let n = length_after c.args.header in
     let t = (c.in-Ok.ensures.ok.2.4 told).0 in
     let m = takes_moves old new n t in
     (taken_within old new n t, m)

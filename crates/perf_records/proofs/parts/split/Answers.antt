@@ -15,7 +15,7 @@ use Rattle.perf_reader.specs.Calls.{Call}
 use Rattle.perf_reader.specs.ReaderState.{ReaderState, state_of}
 use Rattle.perf_reader.specs.Reading.{Keeps}
 use Rattle.perf_reader.proofs.Paying.{keeps_none, keeps_more, can_fault, within_taken}
-use Rattle.perf_records.specs.Answers.{body_length, FrameParts, answered_parts, frame_parts, parts_of, SplitsAfter}
+use Rattle.perf_records.specs.Answers.{length_after, FrameParts, answered_parts, frame_parts, parts_of, SplitsAfter}
 use Rattle.perf_records.specs.Parts.{FindsId}
 use Rattle.perf_records.specs.Metadata.{id_length}
 use Rattle.perf_records.proofs.Keeping.{moved_keeps, stays_refused, within_none, within_kept, taken_pays}
@@ -40,7 +40,7 @@ returns-in-Err-clause-call g c =
     let e = c.in-Err.ensures in
     let sized : 8 ≤ h.size = grind (arith, nat_tests) in
     let kept : Keeps old (Some kind) new = moved_keeps old new (Some kind) 0 (omega (arith, e.reads)) e.stays (can_fault old.source (Some kind) e.can_fail) (λ told.
-    let w = within_kept old.source new.source (body_length h) kind (e.err told) in (w.1, omega (arith, w.1.0))) in record {
+    let w = within_kept old.source new.source (length_after h) kind (e.err told) in (w.1, omega (arith, w.1.0))) in record {
       config = e.config;
       whole = e.stays.0;
       told = e.stays.3;
@@ -69,13 +69,13 @@ returns-clause-call g c =
     let P : ParseConfig g.row.E.Denot → Type 0 = λ k. FindsId (configuration_of k) (g.E.Endian.order (endian_of k)) h frame (Ok id) in
     let finds = subst P config (subst (λ xs. FindsId (configuration_of c.config.result.now) (g.E.Endian.order (endian_of c.config.result.now)) h xs (Ok id)) all t) in
     let are : parts ≡ parts_of old.settings old.order h frame = ap (frame_parts id.metadata) cut ∙ finds.parts.1 in
-    let less : id.reads ≤ body_length h = omega (arith, finds.bound, finds.parts.0, e.count) in
+    let less : id.reads ≤ length_after h = omega (arith, finds.bound, finds.parts.0, e.count) in
     let count : new.reads ≡ old.reads + id.reads = c.count.ensures.reads ∙ ap (λ n. n + id.reads) e.reads in
     let stays : Stays old.source None new.source = subst (λ s. Stays old.source None s) (sym same) e.stays in
     let kept : Keeps old None new = moved_keeps old new None id.reads count stays (λ x. cc) (λ told.
     let o = e.ok told in
-    let paid : id.reads + length mid.source.left ≤ length old.source.left = taken_pays old.source mid.source (body_length h) id.reads o.0 less in
-    subst (λ (s : Source). Moves old.source s × (id.reads + length s.left ≤ length old.source.left + 0)) (sym same) (takes_moves old.source mid.source (body_length h) o.0, omega (arith, paid))) in record {
+    let paid : id.reads + length mid.source.left ≤ length old.source.left = taken_pays old.source mid.source (length_after h) id.reads o.0 less in
+    subst (λ (s : Source). Moves old.source s × (id.reads + length s.left ≤ length old.source.left + 0)) (sym same) (takes_moves old.source mid.source (length_after h) o.0, omega (arith, paid))) in record {
       config = c.count.ensures.config ∙ e.config;
       whole = stays.0;
       told = stays.3;
@@ -102,7 +102,7 @@ returns-in-Err-id_in-clause-call g c =
     subst (λ (k : ParseConfig g.row.E.Denot). length frame < id_length (configuration_of k) h.type_) config (omega (arith, t.refused.1, ap length all)) in
     let stays : Stays old.source (Some InvalidRecord) new.source = stays_refused old.source new.source InvalidRecord refl e.stays in
     let kept : Keeps old (Some InvalidRecord) new = moved_keeps old new (Some InvalidRecord) 0 (omega (arith, e.reads)) stays (λ x. cc) (λ told.
-    let m = takes_moves old.source new.source (body_length h) (e.ok told).0 in (m, omega (arith, m.0))) in
+    let m = takes_moves old.source new.source (length_after h) (e.ok told).0 in (m, omega (arith, m.0))) in
     subst (λ k. Call g.I.Input.source g.E.Endian.order (SplitsAfter h) c.args.reader.now (Err k) c.cut.new.self) (sym (ap refusal_kind t.refused.0)) (record {
       config = e.config;
       whole = stays.0;
@@ -117,7 +117,7 @@ returns-in-Err-id_in-clause-call g c =
 -- ---- the other clauses if the cut was refused
 pub returns-in-Err-clause-within : goal.returns-in-Err-clause-within
 returns-in-Err-clause-within g c = λ told.
-    within_kept (g.I.Input.source c.args.reader.now.input) (g.I.Input.source c.cut.new.self.input) (body_length c.args.header) (refusal_kind c.in-Err.refusal) (c.in-Err.ensures.err told)
+    within_kept (g.I.Input.source c.args.reader.now.input) (g.I.Input.source c.cut.new.self.input) (length_after c.args.header) (refusal_kind c.in-Err.refusal) (c.in-Err.ensures.err told)
 
 pub returns-in-Err-clause-named : goal.returns-in-Err-clause-named
 returns-in-Err-clause-named g c = tt
@@ -136,7 +136,7 @@ returns-in-Err-clause-small_why g c = λ small. absurd (omega arith)
 
 pub returns-in-Err-clause-id_why : goal.returns-in-Err-clause-id_why
 returns-in-Err-clause-id_why g c = λ told sized no.
-    absurd (subst (λ k. FailsToKeep (g.I.Input.source c.args.reader.now.input) (body_length c.args.header) k (g.I.Input.source c.cut.new.self.input)) no (c.in-Err.ensures.err told))
+    absurd (subst (λ k. FailsToKeep (g.I.Input.source c.args.reader.now.input) (length_after c.args.header) k (g.I.Input.source c.cut.new.self.input)) no (c.in-Err.ensures.err told))
 
 pub returns-in-Err-clause-nothing : goal.returns-in-Err-clause-nothing
 returns-in-Err-clause-nothing g c = λ empty. let no = (c.in-Err.ensures.nothing empty).1 in absurd (cc)
@@ -153,8 +153,8 @@ returns-in-Err-clause-paid g c = λ told. tt
 -- ---- and if the frame was split
 pub returns-clause-within : goal.returns-clause-within
 returns-clause-within g c = λ told.
-    subst (λ (s : Source). MovesWithin (g.I.Input.source c.args.reader.now.input) (body_length c.args.header) s) (sym (ap g.I.Input.source c.count.ensures.input))
-    (within_taken (g.I.Input.source c.args.reader.now.input) (g.I.Input.source c.cut.new.self.input) (body_length c.args.header) (c.in-Ok.ensures.ok told).0)
+    subst (λ (s : Source). MovesWithin (g.I.Input.source c.args.reader.now.input) (length_after c.args.header) s) (sym (ap g.I.Input.source c.count.ensures.input))
+    (within_taken (g.I.Input.source c.args.reader.now.input) (g.I.Input.source c.cut.new.self.input) (length_after c.args.header) (c.in-Ok.ensures.ok told).0)
 
 pub returns-clause-named : goal.returns-clause-named
 returns-clause-named g c =
@@ -189,7 +189,7 @@ returns-clause-paid g c = λ told.
     let old : Source = g.I.Input.source c.args.reader.now.input in
     let mid : Source = g.I.Input.source c.cut.new.self.input in
     let new : Source = g.I.Input.source c.count.new.self.input in
-    let n : ℕ = body_length c.args.header in
+    let n : ℕ = length_after c.args.header in
     let frame : ℕ = length (cursor_left c.in-Ok.frame) in
     let id : ℕ = id_length (configuration_of c.config.result.now) c.args.header.type_ in
     let e = c.in-Ok.ensures in
@@ -205,7 +205,7 @@ returns-clause-paid g c = λ told.
 -- ---- and if it is too short for its sample id
 pub returns-in-Err-id_in-clause-within : goal.returns-in-Err-id_in-clause-within
 returns-in-Err-id_in-clause-within g c = λ told.
-    within_taken (g.I.Input.source c.args.reader.now.input) (g.I.Input.source c.cut.new.self.input) (body_length c.args.header) (c.in-Ok.ensures.ok told).0
+    within_taken (g.I.Input.source c.args.reader.now.input) (g.I.Input.source c.cut.new.self.input) (length_after c.args.header) (c.in-Ok.ensures.ok told).0
 
 pub returns-in-Err-id_in-clause-named : goal.returns-in-Err-id_in-clause-named
 returns-in-Err-id_in-clause-named g c = tt
@@ -240,7 +240,7 @@ returns-in-Err-id_in-clause-paid g c = λ told. tt
 -- ---- and if the size does not count the header
 pub returns-then-header-lt8-clause-within : goal.returns-then-header-lt8-clause-within
 returns-then-header-lt8-clause-within g c = λ told.
-    within_none (g.I.Input.source c.args.reader.now.input) (g.I.Input.source c.args.reader.now.input) (body_length c.args.header) refl
+    within_none (g.I.Input.source c.args.reader.now.input) (g.I.Input.source c.args.reader.now.input) (length_after c.args.header) refl
 
 pub returns-then-header-lt8-clause-named : goal.returns-then-header-lt8-clause-named
 returns-then-header-lt8-clause-named g c = tt

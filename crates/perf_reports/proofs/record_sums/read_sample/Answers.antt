@@ -1,6 +1,6 @@
 use Rattle.std.proofs.Common.{ℕ, List, Bor, None, true, false, length, subst, sym, refl, ap}
 use Rattle.perf_base.specs.Configured.{configuration_of, endian_of}
-use Rattle.perf_base.specs.Refusals.{kinds, refused}
+use Rattle.perf_base.specs.Refusals.{kinds, kind_if_refused}
 use Rattle.perf_base.specs.declared.config.ParseConfig.{ParseConfig}
 use Rattle.perf_buffers.specs.Buffer.{Source}
 use Rattle.perf_reader.specs.Calls.{Call}
@@ -34,7 +34,7 @@ pub returns-clause-faults : goal.returns-clause-faults
 returns-clause-faults g c =
     let source : Bor (List ℕ) → Source = λ s. record { left = s.now; told = true; whole = true; can_fault = false; faults = None } in
     let old : ReaderState = state_of source g.E.Endian.order c.new-reader.result in
-    inside_cannot_fault (refused (kinds c.next_sample-sum.result)) (λ e. ((c.next_sample-sum.ensures c.args.metadata).keeps old (keeps_none old)).fault e)
+    inside_cannot_fault (kind_if_refused (kinds c.next_sample-sum.result)) (λ e. ((c.next_sample-sum.ensures c.args.metadata).keeps old (keeps_none old)).fault e)
 
 pub returns-clause-cost : goal.returns-clause-cost
 returns-clause-cost g c =

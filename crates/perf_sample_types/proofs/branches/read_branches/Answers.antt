@@ -1,5 +1,5 @@
 use Rattle.std.proofs.Common.{◌*◌, arith}
-use Rattle.perf_types.proofs.Lacking.{not_short}
+use Rattle.perf_reader.proofs.Lacking.{not_short}
 use Rattle.perf_sample_types.proofs.branches.read_branches.Goals as goal
 
 pub returns-in-Err-clause-short : goal.returns-in-Err-clause-short

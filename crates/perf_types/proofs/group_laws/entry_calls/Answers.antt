@@ -6,7 +6,7 @@ use Rattle.std.proofs.lemmas.List.{append-nil, drop_all}
 use Rattle.perf_base.specs.Errors.{kind_of, IsMadeOf}
 use Rattle.perf_base.specs.declared.error.ErrorKind.TheVariants.{OutOfMemory}
 use Rattle.perf_base.specs.declared.error.ParseError.{ParseError}
-use Rattle.perf_types.specs.EntryCalls.{answer_of, left_by, answers_of, left_by_all}
+use Rattle.perf_types.specs.EntryCalls.{entry_of_call, left_by, answers_of, left_by_all}
 use Rattle.perf_types.specs.GroupIter.{entries_left}
 use Rattle.perf_types.specs.declared.group_entry.GroupEntry.{GroupEntry}
 use Rattle.perf_types.specs.declared.group_laws.EntryCall.{EntryCall}
@@ -15,10 +15,10 @@ use Rattle.perf_types.proofs.group_laws.entry_calls.Goals as goal
 
 -- one more call
 further : (calls others : List EntryCall) (call : EntryCall) (given : List (Option GroupEntry)) (one : Option GroupEntry) (before after : List GroupEntry) →
-    calls ≡ call ∷ others → one ≡ answer_of call before → after ≡ left_by call before →
+    calls ≡ call ∷ others → one ≡ entry_of_call call before → after ≡ left_by call before →
     ((given ++ one ∷ []) ++ answers_of others after ≡ given ++ answers_of calls before) × (left_by_all others after ≡ left_by_all calls before)
 further calls others call given one before after is answered left =
-    rw (is, answered, left) (append_assoc given (answer_of call before ∷ []) (answers_of others (left_by call before)), refl)
+    rw (is, answered, left) (append_assoc given (entry_of_call call before ∷ []) (answers_of others (left_by call before)), refl)
 
 -- what a clause on the value states of an error
 no_answer : {X E : Type 0} (r : Result X E) (P : X → Type 0) → IsErr r → IfOk r P

@@ -11,7 +11,7 @@ use Rattle.perf_buffers.specs.declared.outer.Outer.{Outer}
 use Rattle.perf_reader.specs.ReaderState.{ReaderState, state_of}
 use Rattle.perf_reader.specs.Reading.{Keeps}
 use Rattle.perf_reader.proofs.Paying.{can_fault, keeps_none, keeps_more}
-use Rattle.perf_records.specs.Answers.{body_length}
+use Rattle.perf_records.specs.Answers.{length_after}
 use Rattle.perf_records.specs.Sights.{Sight, sight_after, sight_in}
 use Rattle.perf_records.proofs.Headers.{after_frame}
 use Rattle.perf_records.proofs.Keeping.{moved_keeps}
@@ -65,7 +65,7 @@ returns-in-Ok-hand_after-clause-step g c =
       keeps = λ start k.
           let first : Keeps old None mid = call.keeps old (keeps_none old) in
           let second : Keeps mid None new = moved_keeps mid new None 0 (omega (arith, e.reads)) e.stays (λ x. cc)
-          (λ told. let m = moved_by (body_length h) mid.source new.source (f.3 told).1 in (m, omega (arith, m.0))) in
+          (λ told. let m = moved_by (length_after h) mid.source new.source (f.3 told).1 in (m, omega (arith, m.0))) in
           run_more start old new 0 None k (keeps_more old mid new None first second);
     }
 

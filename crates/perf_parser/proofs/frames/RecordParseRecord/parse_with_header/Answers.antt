@@ -1,5 +1,5 @@
 use Rattle.std.proofs.Common.{◌∙◌, sym, ap, subst, Err}
-use Rattle.perf_base.specs.Refusals.{IsAnswerOf}
+use Rattle.perf_base.specs.Refusals.{IsErrorOf}
 use Rattle.perf_records.proofs.Making.{body_borrows}
 use Rattle.perf_records.proofs.Shown.{transition_call}
 use Rattle.perf_parser.proofs.Lifting.{lifted, answered}
@@ -40,37 +40,37 @@ returns-in-Ok-clause-call g c = lifted _ _ _ _ _ _ (transition_call c.args.heade
 -- a refusal that becomes an error leaves the buffer as it is, and keeps its kind
 
 pub returns-in-Err-clause-within : goal.returns-in-Err-clause-within
-returns-in-Err-clause-within g c = λ told. rw c.answer.ensures.buf (c.in-Err.ensures.within told)
+returns-in-Err-clause-within g c = λ told. rw c.error_of.ensures.buf (c.in-Err.ensures.within told)
 
 pub returns-in-Err-clause-borrowed : goal.returns-in-Err-clause-borrowed
 returns-in-Err-clause-borrowed g c = λ whole. tt
 
 pub returns-in-Err-clause-whole_memory : goal.returns-in-Err-clause-whole_memory
-returns-in-Err-clause-whole_memory g c = λ whole wants. rw c.answer.ensures.error.kind_is (c.in-Err.ensures.whole_memory whole wants)
+returns-in-Err-clause-whole_memory g c = λ whole needs. rw c.error_of.ensures.error.kind_is (c.in-Err.ensures.whole_memory whole needs)
 
 pub returns-in-Err-clause-small : goal.returns-in-Err-clause-small
 returns-in-Err-clause-small g c = λ small.
     let said = c.in-Err.ensures.small small in
-    (ap (λ k. Err k) c.answer.ensures.error.kind_is ∙ said.0, ap g.B.ParseBuf.source c.answer.ensures.buf ∙ said.1)
+    (ap (λ k. Err k) c.error_of.ensures.error.kind_is ∙ said.0, ap g.B.ParseBuf.source c.error_of.ensures.buf ∙ said.1)
 
 pub returns-in-Err-clause-small_why : goal.returns-in-Err-clause-small_why
-returns-in-Err-clause-small_why g c = λ small. subst (IsAnswerOf c.answer.result) (c.in-Err.ensures.small_why small) c.answer.ensures.error
+returns-in-Err-clause-small_why g c = λ small. subst (IsErrorOf c.error_of.result) (c.in-Err.ensures.small_why small) c.error_of.ensures.error
 
 pub returns-in-Err-clause-nothing : goal.returns-in-Err-clause-nothing
-returns-in-Err-clause-nothing g c = λ none wants. rw c.answer.ensures.error.kind_is (c.in-Err.ensures.nothing none wants)
+returns-in-Err-clause-nothing g c = λ none needs. rw c.error_of.ensures.error.kind_is (c.in-Err.ensures.nothing none needs)
 
 pub returns-in-Err-clause-short : goal.returns-in-Err-clause-short
-returns-in-Err-clause-short g c = λ short. (rw c.answer.ensures.error.kind_is (c.in-Err.ensures.short short).0, tt)
+returns-in-Err-clause-short g c = λ short. (rw c.error_of.ensures.error.kind_is (c.in-Err.ensures.short short).0, tt)
 
 pub returns-in-Err-clause-beforehand : goal.returns-in-Err-clause-beforehand
 returns-in-Err-clause-beforehand g c = λ told made out.
-    rw c.answer.ensures.buf (c.in-Err.ensures.beforehand told made (sym c.answer.ensures.error.kind_is ∙ out))
+    rw c.error_of.ensures.buf (c.in-Err.ensures.beforehand told made (sym c.error_of.ensures.error.kind_is ∙ out))
 
 pub returns-in-Err-clause-spent : goal.returns-in-Err-clause-spent
 returns-in-Err-clause-spent g c = λ told whole out.
-    ap (λ b. (g.B.ParseBuf.source b).left) c.answer.ensures.buf ∙ c.in-Err.ensures.spent told whole (sym c.answer.ensures.error.kind_is ∙ out)
+    ap (λ b. (g.B.ParseBuf.source b).left) c.error_of.ensures.buf ∙ c.in-Err.ensures.spent told whole (sym c.error_of.ensures.error.kind_is ∙ out)
 
 pub returns-in-Err-clause-call : goal.returns-in-Err-clause-call
 returns-in-Err-clause-call g c =
-    let same = c.answer.ensures in
+    let same = c.error_of.ensures in
     answered _ _ _ _ _ c.read_after.new.reader _ _ (transition_call c.args.header c.in-Err.ensures.call) same.error.kind_is same.buf same.config same.reads

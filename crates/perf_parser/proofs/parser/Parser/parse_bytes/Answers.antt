@@ -24,24 +24,24 @@ returns-in-Ok-clause-call g c = lifted _ _ _ _ _ _ c.in-Ok.ensures.call
 -- a refusal that becomes an error leaves the buffer as it is, and keeps its kind
 
 pub returns-in-Err-clause-whole_memory : goal.returns-in-Err-clause-whole_memory
-returns-in-Err-clause-whole_memory g c = λ whole. rw c.answer.ensures.error.kind_is (c.in-Err.ensures.whole_memory whole)
+returns-in-Err-clause-whole_memory g c = λ whole. rw c.error_of.ensures.error.kind_is (c.in-Err.ensures.whole_memory whole)
 
 pub returns-in-Err-clause-nothing : goal.returns-in-Err-clause-nothing
 returns-in-Err-clause-nothing g c = λ none.
     let said = c.in-Err.ensures.nothing none in
-    (said.0, c.answer.ensures.buf ∙ ap (λ o. o.buf) said.1, tt)
+    (said.0, c.error_of.ensures.buf ∙ ap (λ o. o.buf) said.1, tt)
 
 pub returns-in-Err-clause-short : goal.returns-in-Err-clause-short
-returns-in-Err-clause-short g c = λ short. rw c.answer.ensures.error.kind_is (c.in-Err.ensures.short short)
+returns-in-Err-clause-short g c = λ short. rw c.error_of.ensures.error.kind_is (c.in-Err.ensures.short short)
 
 pub returns-in-Err-clause-beforehand : goal.returns-in-Err-clause-beforehand
 returns-in-Err-clause-beforehand g c = λ told made out.
-    ap (λ b. (g.B.ParseBuf.source b).left) c.answer.ensures.buf ∙ c.in-Err.ensures.beforehand told made (sym c.answer.ensures.error.kind_is ∙ out)
+    ap (λ b. (g.B.ParseBuf.source b).left) c.error_of.ensures.buf ∙ c.in-Err.ensures.beforehand told made (sym c.error_of.ensures.error.kind_is ∙ out)
 
 pub returns-in-Err-clause-counted : goal.returns-in-Err-clause-counted
-returns-in-Err-clause-counted g c = c.answer.ensures.reads ∙ c.in-Err.ensures.counted
+returns-in-Err-clause-counted g c = c.error_of.ensures.reads ∙ c.in-Err.ensures.counted
 
 pub returns-in-Err-clause-call : goal.returns-in-Err-clause-call
 returns-in-Err-clause-call g c =
-    let same = c.answer.ensures in
+    let same = c.error_of.ensures in
     answered _ _ _ _ _ c.read_bytes.new.self _ _ c.in-Err.ensures.call same.error.kind_is same.buf same.config same.reads

@@ -7,7 +7,7 @@ use Rattle.perf_base.specs.declared.config.ParseConfig.{ParseConfig}
 use Rattle.perf_base.specs.declared.error.ErrorKind.{ErrorKind}
 use Rattle.perf_buffers.specs.declared.cursor.ParseBufCursor.{ParseBufCursor}
 use Rattle.perf_reader.specs.ReaderState.{ReaderState}
-use Rattle.perf_records.specs.Answers.{AnswersExactly, body_length, split_after, split_reads}
+use Rattle.perf_records.specs.Answers.{AnswersExactly, length_after, split_after, split_reads}
 use Rattle.perf_records.specs.Metadata.{MetadataValue}
 use Rattle.perf_records.proofs.Headers.{header_read, header_unread, tells_frame, tells_no_header, no_header_within, frame_within, refuses_read, refuses_unread}
 use Rattle.perf_records.proofs.Saying.{took_ran, quit_stopped}
@@ -51,7 +51,7 @@ returns-in-Ok-parse_metadata_with_header-clause-call g c =
     let read = c.in-Ok.ensures.call in
     let after = c.in-Ok-parse_metadata_with_header.ensures in
     let rest = after.call in
-    let P : ParseConfig g.row.E.Denot → Type 0 = λ k. AnswersExactly parsed_parts (split_after (configuration_of k) (g.E.Endian.order (endian_of k)) header mid.source.left) (body_length header)
+    let P : ParseConfig g.row.E.Denot → Type 0 = λ k. AnswersExactly parsed_parts (split_after (configuration_of k) (g.E.Endian.order (endian_of k)) header mid.source.left) (length_after header)
     (split_reads (configuration_of k) (g.E.Endian.order (endian_of k)) header mid.source.left) mid outcome new in record {
       config = rest.config ∙ read.config;
       whole = rest.whole ∙ read.whole;
@@ -77,7 +77,7 @@ returns-in-Err-parse_metadata_with_header-clause-call g c =
     let read = c.in-Ok.ensures.call in
     let after = c.in-Err-parse_metadata_with_header.ensures in
     let rest = after.call in
-    let P : ParseConfig g.row.E.Denot → Type 0 = λ k. AnswersExactly parsed_parts (split_after (configuration_of k) (g.E.Endian.order (endian_of k)) header mid.source.left) (body_length header)
+    let P : ParseConfig g.row.E.Denot → Type 0 = λ k. AnswersExactly parsed_parts (split_after (configuration_of k) (g.E.Endian.order (endian_of k)) header mid.source.left) (length_after header)
     (split_reads (configuration_of k) (g.E.Endian.order (endian_of k)) header mid.source.left) mid outcome new in record {
       config = rest.config ∙ read.config;
       whole = rest.whole ∙ read.whole;

@@ -1,6 +1,6 @@
 use Rattle.std.proofs.Common.{◌≡◌, Err, None, sym, ◌∙◌, subst}
 use Rattle.perf_base.specs.Errors.{kind_of}
-use Rattle.perf_base.specs.Refusals.{IsAnswerOf}
+use Rattle.perf_base.specs.Refusals.{IsErrorOf}
 use Rattle.perf_base.specs.declared.error.ErrorKind.TheVariants.{OutOfMemory}
 use Rattle.perf_reader.specs.ReaderState.{ReaderState}
 use Rattle.perf_reader.proofs.Paying.{keeps_none}
@@ -15,9 +15,9 @@ use Rattle.perf_parser.proofs.parser.Parser.parse_metadata_with_header.Goals as 
 -- the frame cannot be split
 pub returns-in-Err-clause-call : goal.returns-in-Err-clause-call
 returns-in-Err-clause-call g c =
-    let same = c.answer.ensures in
+    let same = c.error_of.ensures in
     let read = c.in-Err.ensures.call in
-    answered g.B.ParseBuf.source g.E.Endian.order (SplitsParser c.args.header) c.args.self.now (record { reader = c.answer.new.self }) c.split.new.reader _ _
+    answered g.B.ParseBuf.source g.E.Endian.order (SplitsParser c.args.header) c.args.self.now (record { reader = c.error_of.new.self }) c.split.new.reader _ _
     (record {
       config = read.config;
       whole = read.whole;
@@ -59,7 +59,7 @@ returns-clause-call g c =
 -- how much it takes
 
 pub returns-in-Err-clause-within : goal.returns-in-Err-clause-within
-returns-in-Err-clause-within g c = λ told. rw c.answer.ensures.buf (c.in-Err.ensures.within told)
+returns-in-Err-clause-within g c = λ told. rw c.error_of.ensures.buf (c.in-Err.ensures.within told)
 
 pub returns-in-Ok-duplicate-clause-within : goal.returns-in-Ok-duplicate-clause-within
 returns-in-Ok-duplicate-clause-within g c = c.in-Ok.ensures.within
@@ -70,7 +70,7 @@ returns-clause-within g c = c.in-Ok.ensures.within
 -- with what message it is refused
 
 pub returns-in-Err-clause-small_why : goal.returns-in-Err-clause-small_why
-returns-in-Err-clause-small_why g c = λ small. subst (IsAnswerOf c.answer.result) (c.in-Err.ensures.small_why small) c.answer.ensures.error
+returns-in-Err-clause-small_why g c = λ small. subst (IsErrorOf c.error_of.result) (c.in-Err.ensures.small_why small) c.error_of.ensures.error
 
 pub returns-in-Ok-duplicate-clause-small_why : goal.returns-in-Ok-duplicate-clause-small_why
 returns-in-Ok-duplicate-clause-small_why g c = λ small. tt
@@ -79,7 +79,7 @@ pub returns-clause-small_why : goal.returns-clause-small_why
 returns-clause-small_why g c = λ small. let is = c.in-Ok.ensures.small small in absurd (cc)
 
 pub returns-in-Err-clause-id_why : goal.returns-in-Err-clause-id_why
-returns-in-Err-clause-id_why g c = λ told sized no. subst (IsAnswerOf c.answer.result) (c.in-Err.ensures.id_why told sized (sym c.answer.ensures.error.kind_is ∙ no)) c.answer.ensures.error
+returns-in-Err-clause-id_why g c = λ told sized no. subst (IsErrorOf c.error_of.result) (c.in-Err.ensures.id_why told sized (sym c.error_of.ensures.error.kind_is ∙ no)) c.error_of.ensures.error
 
 pub returns-in-Ok-duplicate-clause-id_why : goal.returns-in-Ok-duplicate-clause-id_why
 returns-in-Ok-duplicate-clause-id_why g c = λ told sized. tt

@@ -7,8 +7,8 @@ use Rattle.perf_base.specs.declared.config.ParseConfig.{ParseConfig}
 use Rattle.perf_base.specs.declared.error.ErrorKind.{ErrorKind}
 use Rattle.perf_base.specs.declared.sys.perf_event_header.{perf_event_header}
 use Rattle.perf_reader.specs.ReaderState.{ReaderState}
-use Rattle.perf_records.specs.Answers.{body_length, split_after, answer_after, reads_after}
-use Rattle.perf_records.specs.Bodies.{wants_memory}
+use Rattle.perf_records.specs.Answers.{length_after, split_after, answer_after, reads_after}
+use Rattle.perf_records.specs.Bodies.{needs_memory}
 use Rattle.perf_records.specs.Records.{RecordValue}
 use Rattle.perf_records.specs.Gives.{GivesExactly}
 use Rattle.perf_records.proofs.Headers.{header_read, header_unread, tells_no_header, no_header_within, frame_within, refuses_read, refuses_unread}
@@ -62,7 +62,7 @@ returns-in-Ok-parse_record_with_header g c =
     let after = c.in-Ok-parse_record_with_header.ensures in
     let rest = after.call in
     let P : ParseConfig g.row.E.Denot → Type 0 = λ k. GivesExactly gives (split_after (configuration_of k) (g.E.Endian.order (endian_of k)) header mid.source.left) (answer_after (configuration_of k) (g.E.Endian.order (endian_of k)) header mid.source.left)
-    (body_length header) (reads_after (configuration_of k) (g.E.Endian.order (endian_of k)) header mid.source.left) mid outcome new in record {
+    (length_after header) (reads_after (configuration_of k) (g.E.Endian.order (endian_of k)) header mid.source.left) mid outcome new in record {
       small = λ told.
           let q = took_ran old.order header_parts old.source.left mid.source.left old.reads mid.reads header (read.answer told).0 in
           let h = header_read old.order old.source.left mid.source.left header q.0 in
@@ -77,7 +77,7 @@ returns-in-Ok-parse_record_with_header g c =
               visits_frame gives old mid new header outcome h.0 h.1 h.2 q.1 read.whole (subst P read.config (rest.answer (read.told told))),
               (λ inside. frame_within old.order old.source mid.source new.source header h.0 h.1 h.2 (after.within (read.told told))),
               (λ whole none. after.whole_memory (subst IsTrue (sym read.whole) whole)
-                  (ap (λ (k : perf_event_header). wants_memory k.type_) h.1 ∙ none)),
+                  (ap (λ (k : perf_event_header). needs_memory k.type_) h.1 ∙ none)),
             );
         counted = λ start p. rest.counted start (read.counted start p);
         follows = λ start p. rest.follows start (read.follows start p);
@@ -97,7 +97,7 @@ returns-in-Err-parse_record_with_header g c =
     let after = c.in-Err-parse_record_with_header.ensures in
     let rest = after.call in
     let P : ParseConfig g.row.E.Denot → Type 0 = λ k. GivesExactly gives (split_after (configuration_of k) (g.E.Endian.order (endian_of k)) header mid.source.left) (answer_after (configuration_of k) (g.E.Endian.order (endian_of k)) header mid.source.left)
-    (body_length header) (reads_after (configuration_of k) (g.E.Endian.order (endian_of k)) header mid.source.left) mid outcome new in record {
+    (length_after header) (reads_after (configuration_of k) (g.E.Endian.order (endian_of k)) header mid.source.left) mid outcome new in record {
       small = λ told.
           let q = took_ran old.order header_parts old.source.left mid.source.left old.reads mid.reads header (read.answer told).0 in
           let h = header_read old.order old.source.left mid.source.left header q.0 in
@@ -112,7 +112,7 @@ returns-in-Err-parse_record_with_header g c =
               visits_frame gives old mid new header outcome h.0 h.1 h.2 q.1 read.whole (subst P read.config (rest.answer (read.told told))),
               (λ inside. frame_within old.order old.source mid.source new.source header h.0 h.1 h.2 (after.within (read.told told))),
               (λ whole none. after.whole_memory (subst IsTrue (sym read.whole) whole)
-                  (ap (λ (k : perf_event_header). wants_memory k.type_) h.1 ∙ none)),
+                  (ap (λ (k : perf_event_header). needs_memory k.type_) h.1 ∙ none)),
             );
         counted = λ start p. rest.counted start (read.counted start p);
         follows = λ start p. rest.follows start (read.follows start p);

@@ -6,5 +6,5 @@ returns-in-Ok-clause-call g c = lifted _ _ _ _ _ _ c.in-Ok.ensures.call
 
 pub returns-in-Err-clause-call : goal.returns-in-Err-clause-call
 returns-in-Err-clause-call g c =
-    let same = c.answer.ensures in
+    let same = c.error_of.ensures in
     answered _ _ _ _ _ c.read_rest.new.self _ _ c.in-Err.ensures.call same.error.kind_is same.buf same.config same.reads

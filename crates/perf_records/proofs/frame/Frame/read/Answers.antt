@@ -3,7 +3,7 @@ use Rattle.std.proofs.lemmas.List.{length-take-le}
 use Rattle.perf_base.specs.Configuration.{Configuration, under_misc}
 use Rattle.perf_base.specs.Configured.{configuration_of, endian_of}
 use Rattle.perf_base.specs.Order.{Order}
-use Rattle.perf_base.specs.Refusals.{kinds, refused}
+use Rattle.perf_base.specs.Refusals.{kinds, kind_if_refused}
 use Rattle.perf_buffers.specs.Buffer.{chunk_bytes, chunk_is_borrowed}
 use Rattle.perf_reader.specs.Reading.{one_if_refused}
 use Rattle.perf_records.specs.Answers.{FrameParts, frame_parts, parts_of, id_reads}
@@ -35,7 +35,7 @@ returns-clause-answer g c = λ reads.
     subst (λ b. GivesWholeBody gives id.metadata (g.E.Endian.order (endian_of under).now) (body (configuration_of under) id.metadata.ty) (take id.len frame) b (kinds output) made) c.first.ensures.borrowed
     (subst (λ xs. GivesWholeBody gives id.metadata (g.E.Endian.order (endian_of under).now) (body (configuration_of under) id.metadata.ty) xs (chunk_is_borrowed c.first.result) (kinds output) made) c.first.ensures.bytes (r.answer mine)) in
     let long : length (take id.len frame) ≡ id.len = length-take-le id.len frame (omega (arith, i.len, ap length same)) in
-    let cost : made ≤ length (take id.len frame) + one_if_refused (refused (kinds output)) = omega (arith, r.cost mine, ap length c.first.ensures.bytes) in
+    let cost : made ≤ length (take id.len frame) + one_if_refused (kind_if_refused (kinds output)) = omega (arith, r.cost mine, ap length c.first.ensures.bytes) in
     bytes_visited gives h settings (configuration_of under) order (g.E.Endian.order (endian_of under).now) frame borrowed parts id.reads made c.add.new.self output
     c.args.self.sized c.args.self.whole (omega (arith, i.parts.0, ap length same)) are (subst (λ (xs : List ℕ). id.reads ≡ id_reads settings order h xs) same i.reads) i.bound
     (c.set_misc.ensures.changed ∙ ap (under_misc h.misc) c.lent-under.ensures.same) (ap (λ e. g.E.Endian.order e.now) c.set_misc.ensures.endian ∙ ap g.E.Endian.order c.lent-under.ensures.order) visits (r.faults mine) cost c.add.ensures

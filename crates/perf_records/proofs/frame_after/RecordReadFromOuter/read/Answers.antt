@@ -9,8 +9,8 @@ use Rattle.perf_base.specs.declared.sys.perf_event_header.{perf_event_header}
 use Rattle.perf_base.specs.declared.error.ErrorKind.TheVariants.{Eof}
 use Rattle.perf_reader.specs.ReaderState.{ReaderState, state_of}
 use Rattle.perf_reader.specs.Reading.{of_layout}
-use Rattle.perf_records.specs.Answers.{AnswersExactly, body_length, answer_after, reads_after}
-use Rattle.perf_records.specs.Bodies.{wants_memory}
+use Rattle.perf_records.specs.Answers.{AnswersExactly, length_after, answer_after, reads_after}
+use Rattle.perf_records.specs.Bodies.{needs_memory}
 use Rattle.perf_records.specs.Records.{record_value}
 use Rattle.perf_records.specs.declared.record.Record.{Record}
 use Rattle.perf_buffers.specs.declared.outer.Outer.{Outer}
@@ -58,7 +58,7 @@ returns-in-Ok-read_after g c =
     let read = c.in-Ok.ensures.call in
     let rest = c.in-Ok-read_after.ensures.call in
     let after = c.in-Ok-read_after.ensures in
-    let P : ParseConfig g.row.E.Denot → Type 0 = λ k. AnswersExactly record_value (answer_after (configuration_of k) (g.E.Endian.order (endian_of k)) header mid.source.left) (body_length header)
+    let P : ParseConfig g.row.E.Denot → Type 0 = λ k. AnswersExactly record_value (answer_after (configuration_of k) (g.E.Endian.order (endian_of k)) header mid.source.left) (length_after header)
     (reads_after (configuration_of k) (g.E.Endian.order (endian_of k)) header mid.source.left) mid outcome new in record {
       call = record {
         config = rest.config ∙ read.config;
@@ -70,7 +70,7 @@ returns-in-Ok-read_after g c =
               (
                 tells_frame record_value (answer_after old.settings old.order) (reads_after old.settings old.order) old mid new header outcome h.0 h.1 h.2 q.1 (subst P read.config (body_transition header mid new outcome (rest.answer (read.told told)))),
                 (λ inside. frame_within old.order old.source mid.source new.source header h.0 h.1 h.2 (after.within (read.told told))),
-                (λ whole. let still = subst IsTrue (sym read.whole) whole in (body_borrows header mid.source.whole c.in-Ok-read_after.record after.event still, (λ none. after.whole_memory still (ap (λ (k : perf_event_header). wants_memory k.type_) h.1 ∙ none)))),
+                (λ whole. let still = subst IsTrue (sym read.whole) whole in (body_borrows header mid.source.whole c.in-Ok-read_after.record after.event still, (λ none. after.whole_memory still (ap (λ (k : perf_event_header). needs_memory k.type_) h.1 ∙ none)))),
               ),
               refuses_read old.order old.source.left header outcome h.0 h.1 (λ small. (after.small small).0),
             );
@@ -89,7 +89,7 @@ returns-in-Err-read_after g c =
     let read = c.in-Ok.ensures.call in
     let rest = c.in-Err-read_after.ensures.call in
     let after = c.in-Err-read_after.ensures in
-    let P : ParseConfig g.row.E.Denot → Type 0 = λ k. AnswersExactly record_value (answer_after (configuration_of k) (g.E.Endian.order (endian_of k)) header mid.source.left) (body_length header)
+    let P : ParseConfig g.row.E.Denot → Type 0 = λ k. AnswersExactly record_value (answer_after (configuration_of k) (g.E.Endian.order (endian_of k)) header mid.source.left) (length_after header)
     (reads_after (configuration_of k) (g.E.Endian.order (endian_of k)) header mid.source.left) mid outcome new in record {
       call = record {
         config = rest.config ∙ read.config;
@@ -101,7 +101,7 @@ returns-in-Err-read_after g c =
               (
                 tells_frame record_value (answer_after old.settings old.order) (reads_after old.settings old.order) old mid new header outcome h.0 h.1 h.2 q.1 (subst P read.config (body_transition header mid new outcome (rest.answer (read.told told)))),
                 (λ inside. frame_within old.order old.source mid.source new.source header h.0 h.1 h.2 (after.within (read.told told))),
-                (λ whole. let still = subst IsTrue (sym read.whole) whole in (tt, (λ none. after.whole_memory still (ap (λ (k : perf_event_header). wants_memory k.type_) h.1 ∙ none)))),
+                (λ whole. let still = subst IsTrue (sym read.whole) whole in (tt, (λ none. after.whole_memory still (ap (λ (k : perf_event_header). needs_memory k.type_) h.1 ∙ none)))),
               ),
               refuses_read old.order old.source.left header outcome h.0 h.1 (λ small. (after.small small).0),
             );

@@ -9,8 +9,8 @@ use Rattle.perf_reports.proofs.frame_printer.FramePrinter.refuse.Goals as goal
 pub returns-in-Eof : goal.returns-in-Eof
 returns-in-Eof g c = λ h answer same.
     let kind : IsTrue (of_layout (refusal_kind c.args.refusal)) = search rules in
-    let told : kind_of c.answer.result ≡ refusal_kind c.args.refusal = c.answer.ensures.kind_is in
-    prints_same g.W.Write.contents g.E.Write.contents c.args.self.now c.print_error.new.self h answer (Err (kind_of c.answer.result)) c.print_error.result (same kind ∙ ap Err (sym told)) (c.print_error.ensures h)
+    let told : kind_of c.error_of.result ≡ refusal_kind c.args.refusal = c.error_of.ensures.kind_is in
+    prints_same g.W.Write.contents g.E.Write.contents c.args.self.now c.print_error.new.self h answer (Err (kind_of c.error_of.result)) c.print_error.result (same kind ∙ ap Err (sym told)) (c.print_error.ensures h)
 
 pub returns-in-External : goal.returns-in-External
 returns-in-External g c = λ h answer same.

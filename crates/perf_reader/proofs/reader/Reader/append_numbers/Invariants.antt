@@ -1,12 +1,12 @@
 use Rattle.std.proofs.Common.{◌≡◌, ◌-◌, ◌≤◌, length}
 use Rattle.perf_reader.proofs.InRow.{InRow}
-use Rattle.perf_types.proofs.numbers.append_numbers.Given as goal
+use Rattle.perf_reader.proofs.reader.Reader.append_numbers.Given as goal
 
 -- numbers were read one after another, and all of them are kept; the block has its length
 abbrev pub invariant-loop-block : goal.invariant-loop-block
 invariant-loop-block g l =
     (length l.numbers.items ≤ l.count)
-    × InRow g.I.Input.source g.E.Endian.order (length l.numbers.items) l.initial.reader l.numbers.items l.reader
+    × InRow g.I.Input.source g.E.Endian.order (length l.numbers.items) l.initial.self l.numbers.items l.self
     × (length l.block ≡ 48)
 
 abbrev pub decreases-loop-block : goal.decreases-loop-block

@@ -1,20 +1,20 @@
 use Rattle.std.proofs.Common.{rules, ◌≡◌, ◌+◌, ◌*◌, ◌++◌, ◌∷◌, [], refl, ap, arith}
 use Rattle.perf_base.specs.Refusals.{refusal_kind}
 use Rattle.perf_reader.proofs.InRow.{row_none, row_cast, row_more, row_further, row_stops}
-use Rattle.perf_types.proofs.Lacking.{row_lacks, within_items}
-use Rattle.perf_types.proofs.numbers.read_to_the_end.Goals as goal
+use Rattle.perf_reader.proofs.Lacking.{row_lacks, within_items}
+use Rattle.perf_reader.proofs.reader.Reader.read_to_the_end.Goals as goal
 
 pub loop-init : goal.loop-init
 loop-init g c =
     let s = g.I.Input.source in let o = g.E.Endian.order in
     let none : 0 ≡ c.args.numbers * 0 = omega arith in (
       [],
-      row_cast s o 0 (c.args.numbers * 0) c.args.reader.now c.args.reader.now [] [] none refl
-          (row_none s o c.args.reader.now),
+      row_cast s o 0 (c.args.numbers * 0) c.args.self.now c.args.self.now [] [] none refl
+          (row_none s o c.args.self.now),
     )
 
 pub loop-2-init : goal.loop-2-init
-loop-2-init g c = ([], row_none g.I.Input.source g.E.Endian.order c.loop.reader)
+loop-2-init g c = ([], row_none g.I.Input.source g.E.Endian.order c.loop.self)
 
 pub returns-in-Err-clause-call : goal.returns-in-Err-clause-call
 returns-in-Err-clause-call g c =
@@ -22,9 +22,9 @@ returns-in-Err-clause-call g c =
     let n = c.args.numbers in
     let ys = c.loop.invariant.0 in
     let zs = c.loop-2.invariant.0 in
-    let before = row_further s o (n * c.loop.counter) c.loop-2.counter c.args.reader.now c.loop.reader c.loop-2.reader ys zs
+    let before = row_further s o (n * c.loop.counter) c.loop-2.counter c.args.self.now c.loop.self c.loop-2.self ys zs
     c.loop.invariant.1 c.loop-2.invariant.1 in
-    row_stops s o (λ ys. ys) (n * c.loop.counter + c.loop-2.counter) (n * c.args.count) c.args.reader.now c.loop-2.reader
+    row_stops s o (λ ys. ys) (n * c.loop.counter + c.loop-2.counter) (n * c.args.count) c.args.self.now c.loop-2.self
     c.read_u64.new.self (ys ++ zs) (refusal_kind c.in-Err.refusal)
     (within_items n c.args.count c.loop.counter c.loop-2.counter c.loop-test.true c.loop-2-test.true)
     before c.in-Err.ensures.call
@@ -35,8 +35,8 @@ loop-2-preserved g c =
     let ys = c.loop-2.invariant.0 in
     let zs = ys ++ c.in_default.field-0 ∷ [] in (
       zs,
-      row_cast s o _ (c.loop-2.counter + 1) c.loop.reader c.read_u64.new.self zs zs (omega arith) refl
-          (row_more s o c.loop-2.counter c.loop.reader c.loop-2.reader c.read_u64.new.self ys
+      row_cast s o _ (c.loop-2.counter + 1) c.loop.self c.read_u64.new.self zs zs (omega arith) refl
+          (row_more s o c.loop-2.counter c.loop.self c.loop-2.self c.read_u64.new.self ys
           c.in_default.field-0 c.loop-2.invariant.1 c.in_default.ensures.call),
     )
 
@@ -49,8 +49,8 @@ loop-preserved g c =
     let all : c.loop-2.counter ≡ n = search rules in
     let more : n * c.loop.counter + c.loop-2.counter ≡ n * (c.loop.counter + 1) = grind (arith, all) in (
       ys ++ zs,
-      row_cast s o _ (n * (c.loop.counter + 1)) c.args.reader.now c.loop-2.reader (ys ++ zs) (ys ++ zs) more refl
-          (row_further s o (n * c.loop.counter) c.loop-2.counter c.args.reader.now c.loop.reader c.loop-2.reader ys zs
+      row_cast s o _ (n * (c.loop.counter + 1)) c.args.self.now c.loop-2.self (ys ++ zs) (ys ++ zs) more refl
+          (row_further s o (n * c.loop.counter) c.loop-2.counter c.args.self.now c.loop.self c.loop-2.self ys zs
           c.loop.invariant.1 c.loop-2.invariant.1),
     )
 
@@ -60,6 +60,6 @@ returns-clause-call g c =
     let n = c.args.numbers in
     let ys = c.loop.invariant.0 in
     let all : n * c.loop.counter ≡ n * c.args.count = ap (λ k. n * k) (search rules) in
-    row_lacks s o (n * c.args.count) c.args.reader.now c.loop.reader ys c.requires
-    (row_cast s o (n * c.loop.counter) (n * c.args.count) c.args.reader.now c.loop.reader ys ys all refl
+    row_lacks s o (n * c.args.count) c.args.self.now c.loop.self ys c.requires
+    (row_cast s o (n * c.loop.counter) (n * c.args.count) c.args.self.now c.loop.self ys ys all refl
     c.loop.invariant.1)
