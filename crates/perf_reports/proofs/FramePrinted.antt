@@ -62,14 +62,14 @@ and_false false = refl
 
 -- ---- lines of several answers
 
-lines_append : (report : Report) (xs ys : List Answered) → printed_answers report (xs ++ ys) ≡ printed_answers report xs ++ printed_answers report ys
+pub lines_append : (report : Report) (xs ys : List Answered) → printed_answers report (xs ++ ys) ≡ printed_answers report xs ++ printed_answers report ys
 lines_append report xs ys = flat_map-append (printed_answer report) xs ys
 
 module _ {W E : Type 0} (out : W → Option (List ℕ)) (err : E → Option (List ℕ)) where
-  abbrev waiting : FramePrinter W E → List ℕ
+  abbrev pub waiting : FramePrinter W E → List ℕ
   waiting p = string_bytes p.lines.gathered
 
-  prints_none : (p : FramePrinter W E) → Prints out err p [] p
+  pub prints_none : (p : FramePrinter W E) → Prints out err p [] p
   prints_none p = record {
     report = refl;
     grown = none_sent (out p.output) (waiting p);
@@ -78,7 +78,7 @@ module _ {W E : Type 0} (out : W → Option (List ℕ)) (err : E → Option (Lis
     clean = sym (and-true p.clean);
   }
 
-  prints_more : (was mid now : FramePrinter W E) (xs ys : List Answered) → Prints out err was xs mid → Prints out err mid ys now → Prints out err was (xs ++ ys) now
+  pub prints_more : (was mid now : FramePrinter W E) (xs ys : List Answered) → Prints out err was xs mid → Prints out err mid ys now → Prints out err was (xs ++ ys) now
   prints_more was mid now xs ys p q =
       let first = printed_answers was.report xs in
       let second = printed_answers was.report ys in

@@ -6,3 +6,5 @@ mod Escaped
 mod FramePrinted
 mod Inode
 mod Printed
+mod RecordsPrinted
+mod RecordingPrinted

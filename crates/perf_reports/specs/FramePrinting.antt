@@ -1,25 +1,29 @@
 -- What a printer prints of the frames that are handed to it.
-use Rattle.std.specs.Prelude.{◌≡◌, ◌&&◌, ℕ, Bool, true, false, List, [], ◌∷◌, ◌++◌, map, take, Option, Some}
-use Rattle.std.specs.Prelude.{IsTrue, Result, Ok, Err, is_ok, string_bytes}
+use Rattle.std.specs.Prelude.{◌≡◌, ◌≤◌, ◌&&◌, ℕ, Bool, true, false, List, [], ◌∷◌, ◌++◌, length, map, take}
+use Rattle.std.specs.Prelude.{Option, Some}
+use Rattle.std.specs.Prelude.{IsTrue, Result, Ok, Err, is_ok, string_bytes, drop}
 use Rattle.std.specs.List.{list_all}
 use Rattle.std.specs.Io.KnownBytes.{Appends}
-use Rattle.perf_base.specs.Configuration.{Configuration}
-use Rattle.perf_base.specs.Order.{Order}
+use Rattle.perf_base.specs.Configuration.{Configuration, configured_by}
+use Rattle.perf_base.specs.Order.{Order, little}
 use Rattle.perf_base.specs.Refusals.{error_kinds}
 use Rattle.perf_base.specs.declared.error.ErrorKind.{ErrorKind}
 use Rattle.perf_base.specs.declared.error.ParseError.{ParseError}
+use Rattle.perf_base.specs.declared.sys.perf_event_attr.{perf_event_attr}
 use Rattle.perf_base.specs.declared.sys.perf_event_header.{perf_event_header}
 use Rattle.perf_reader.specs.ReaderState.{ReaderState}
 use Rattle.perf_buffers.specs.Buffer.{chunk_bytes}
 use Rattle.perf_records.specs.Answers.{answer_after, answers}
+use Rattle.perf_records.specs.Frames.{stream_end, done}
 use Rattle.perf_records.specs.Records.{RecordValue}
 use Rattle.perf_records.specs.Sights.{Sight}
 use Rattle.perf_records.specs.declared.frame.Frame.{Frame}
 use Rattle.perf_parser.specs.Runs.{EndsWith}
 use Rattle.perf_parser.specs.declared.runs.RunEnd.{RunEnd}
-use Rattle.perf_reports.specs.Counting.{sight_header, sight_answer}
+use Rattle.perf_reports.specs.Counting.{attribute_in, sight_header, sight_answer}
 use Rattle.perf_reports.specs.Printing.{printed_answers, error_lines, Grows, GrowsWithin, is_memory}
 use Rattle.perf_reports.specs.declared.frame_printer.FramePrinter.{FramePrinter}
+use Rattle.perf_reports.specs.declared.printing.Report.{Report}
 use Rattle.perf_reports.specs.declared.printing.Stopped.{Stopped}
 
 -- the header of a frame, and its result
@@ -112,3 +116,35 @@ PrintsRun out err was old limit e left now =
     × (now.report ≡ was.report)
     × (now.clean ≡ (was.clean && all_clean (take k (answers_of old))))
     × EndsWith old.order limit old.source.left k e left
+    × (k ≤ length (answers_of old))
+
+-- All that a parser has not read yet was printed, and the bytes end after a frame: every line and
+-- every error was written, and it is known whether no frame was refused.
+pub record PrintsAll {W E : Type 0} (out : W → Option (List ℕ)) (err : E → Option (List ℕ))
+    (was : FramePrinter W E) (old : ReaderState) (result : Bool) (now : FramePrinter W E)
+    : Type 0 where
+  pub lines : Appends (out was.output) (out now.output)
+      (string_bytes was.lines.gathered ++ printed_answers was.report (answers_of old))
+  pub told : TellsErrors (err was.errors) (err now.errors) (answers_of old)
+  pub clean : result ≡ (was.clean && all_clean (answers_of old))
+  pub end : stream_end old.order old.source.left ≡ done
+
+-- ---- a recording
+
+-- the results of a recording's frames: those after its attribute, under the configuration of that
+abbrev pub recording_answers : List ℕ → List Answered
+recording_answers bytes = elim (attribute_in little bytes) [
+  | Ok attr ↦ answers (configured_by attr) little (drop attr.size bytes)
+  | Err e ↦ []
+]
+
+-- A recording was printed: it begins with an attribute and ends after a frame, its lines and its
+-- errors were written, and it is known whether no frame was refused.
+abbrev pub PrintsRecording : Report → (bytes : List ℕ) → (output errors : Option (List ℕ)) →
+    Bool → (output_after errors_after : Option (List ℕ)) → Type 0
+PrintsRecording report bytes output errors clean output_after errors_after =
+    (attr : perf_event_attr) × (attribute_in little bytes ≡ Ok attr)
+    × (stream_end little (drop attr.size bytes) ≡ done)
+    × Appends output output_after (printed_answers report (recording_answers bytes))
+    × TellsErrors errors errors_after (recording_answers bytes)
+    × (clean ≡ all_clean (recording_answers bytes))

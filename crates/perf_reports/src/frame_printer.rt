@@ -60,6 +60,14 @@ impl<W: Write, E: Write> FramePrinter<W, E> {
         }
     }
 
+    /// Its outputs. Lines that have not been written yet are dropped.
+    pub(crate) fn into_outputs(self) -> (W, E)
+        ensures output { result.0 ≡ self.output }
+        ensures errors { result.1 ≡ self.errors }
+    {
+        (self.output, self.errors)
+    }
+
     /// Whether no frame was refused so far.
     pub(crate) fn is_clean(&self) -> bool
         ensures { result ≡ self.now.clean }

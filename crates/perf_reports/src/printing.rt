@@ -4,7 +4,7 @@ ghost use Rattle.std.specs.Prelude.{◌≡◌, ◌≤◌, ◌⊎◌, ◌++◌, �
 ghost use Rattle.std.specs.Prelude.{OnOk, IfOk, IfErr, if◌then◌else◌};
 ghost use Rattle.std.specs.Io.KnownBytes.{Appends};
 ghost use Rattle.perf_parser.specs.Prelude.{buffer_of, config_of, state_of};
-ghost use Rattle.perf_reports.specs.FramePrinting.{PrintsFirst, PrintsRun, answers_of};
+ghost use Rattle.perf_reports.specs.FramePrinting.{PrintsAll, PrintsFirst, PrintsRecording, PrintsRun, answers_of, recording_answers};
 ghost use Rattle.perf_reports.specs.Printing.{found_value, text_of_record, printed_answers, is_memory};
 ghost use Rattle.perf_reports.specs.Printing.{Grows, GrowsWithin};
 
@@ -229,10 +229,35 @@ pub fn print_recording<R: Read + Drop, W: Write, E: Write>(
     report: Report,
 ) -> Result<bool> {
     let input = BufReader::new(alloc, input)?;
-    let parser = Parser::new(alloc, input, ParseConfig::<Little>::default());
-    let mut parser = parser.after_attribute()?;
+    let (clean, _, _) = print_buffer(alloc, input, output, errors, report);
+    clean
+}
+
+/// The same of a recording in any buffer; the outputs are returned too. If the buffer's bytes are
+/// known, what was written is a prefix of the recording's lines, and all of them after an `Ok`.
+pub fn print_buffer<'p, B: ParseBuf<'p> + Drop, W: Write, E: Write>(
+    alloc: Global,
+    buf: B,
+    output: W,
+    errors: E,
+    report: Report,
+) -> (Result<bool>, W, E)
+    ensures all { IsTrue (B.source buf).told → IfOk result.0 (λ clean.
+        PrintsRecording report (B.source buf).left (W.contents output) (E.contents errors) clean
+        (W.contents result.1) (E.contents result.2)) }
+    ensures part { IsTrue (B.source buf).told →
+        GrowsWithin (W.contents output) (W.contents result.1)
+        (printed_answers report (recording_answers (B.source buf).left)) }
+{
+    let parser = Parser::new(alloc, buf, ParseConfig::<Little>::default());
+    let mut parser = match parser.after_attribute() {
+        Ok(parser) => parser,
+        Err(error) => return (Err(error.into()), output, errors),
+    };
     let mut printer = FramePrinter::new(alloc, output, errors, report);
-    print_records(&mut parser, &mut printer)
+    let clean = print_records(&mut parser, &mut printer);
+    let (output, errors) = printer.into_outputs();
+    (clean, output, errors)
 }
 
 // Prints the records that a parser reads up to the end of its buffer, and returns whether none was
@@ -240,7 +265,15 @@ pub fn print_recording<R: Read + Drop, W: Write, E: Write>(
 fn print_records<'p, B: ParseBuf<'p>, O: Endian, W: Write, E: Write>(
     parser: &mut Parser<B, O>,
     printer: &mut FramePrinter<W, E>,
-) -> Result<bool> {
+) -> Result<bool>
+    ensures all { IsTrue (B.source (buffer_of parser.old)).told → IfOk result (λ clean.
+        PrintsAll W.contents E.contents printer.old (state_of B.source O.order parser.old) clean
+        printer.new) }
+    ensures part { IsTrue (B.source (buffer_of parser.old)).told →
+        GrowsWithin (W.contents printer.old.output) (W.contents printer.new.output)
+        (string_bytes printer.old.lines.gathered ++ printed_answers printer.old.report
+        (answers_of (state_of B.source O.order parser.old))) }
+{
     for _ in 0..u64::MAX {
         let end = match print_frames(parser, printer) {
             Ok(end) => end,
@@ -248,10 +281,10 @@ fn print_records<'p, B: ParseBuf<'p>, O: Endian, W: Write, E: Write>(
             Err(stopped) => return Err(stopped.into()),
         };
         if !goes_on(end)? {
-            break;
+            return Ok(printer.is_clean());
         }
     }
-    Ok(printer.is_clean())
+    bail!("more frames than can be counted")
 }
 
 // Prints the next frames, at most `BATCH`, and returns how the run ended. All their lines are
@@ -261,6 +294,8 @@ fn print_frames<'p, B: ParseBuf<'p>, O: Endian, W: Write, E: Write>(
     printer: &mut FramePrinter<W, E>,
 ) -> Result<RunEnd, Stopped>
     ensures config { config_of parser.new ≡ config_of parser.old }
+    ensures told { IsTrue (B.source (buffer_of parser.old)).told →
+        IsTrue (B.source (buffer_of parser.new)).told }
     ensures sent { IsTrue (B.source (buffer_of parser.old)).told → IfOk result (λ end.
         PrintsRun W.contents E.contents printer.old (state_of B.source O.order parser.old) BATCH end
         (B.source (buffer_of parser.new)).left printer.new) }

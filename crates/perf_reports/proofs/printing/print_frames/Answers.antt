@@ -1,4 +1,5 @@
-use Rattle.std.proofs.Common.{ℕ, List, ◌∙◌, subst}
+use Rattle.std.proofs.Common.{◌≡◌, ℕ, ◌≤◌, List, length, take, ◌∙◌, arith, subst}
+use Rattle.std.proofs.lemmas.List.{length-take}
 use Rattle.std.specs.Prelude.{Option, IsTrue}
 use Rattle.perf_parser.specs.FrameRuns.{EndsFrames}
 use Rattle.perf_parser.specs.ReaderState.{buffer_of, state_of}
@@ -10,6 +11,9 @@ use Rattle.perf_reports.specs.declared.printing.TheConstants.{BATCH}
 use Rattle.perf_reports.specs.declared.printing.Stopped.{Stopped}
 use Rattle.perf_reports.proofs.FramePrinted.{went_on_prints, stopped_prints, there, run_sent, run_part, run_stopped_part, run_refused, ok_of_none, err_of_one}
 use Rattle.perf_reports.proofs.printing.print_frames.Goals as goal
+
+take_fits : {X : Type 0} (k : ℕ) (xs : List X) → length (take k xs) ≡ k → k ≤ length xs
+take_fits k xs all = omega (arith, all, length-take k xs)
 
 pub returns-in-Ok-clause-sent : goal.returns-in-Ok-clause-sent
 returns-in-Ok-clause-sent g c = λ told.
@@ -24,6 +28,7 @@ returns-in-Ok-clause-sent g c = λ told.
       same.0 ∙ p.report,
       same.2 ∙ p.clean,
       subst (λ (e : Option RunEnd). EndsFrames old.order BATCH old.source.left run.result.count e left) c.in-Some.is (run.ensures.end told),
+      take_fits run.result.count (answers_of old) (there out err old run.result.count run.result.end c.args.printer.now run.new.handler (run.ensures.handed told)),
     )
 
 pub returns-in-Ok-clause-part : goal.returns-in-Ok-clause-part
