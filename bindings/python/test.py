@@ -1,0 +1,450 @@
+#!/usr/bin/env python3
+"""Tests perf_event_data, the module beside this file, over a shared object of the library:
+
+    PERF_EVENT_DATA_SO=libperf_event_data.so python3 bindings/python/test.py [PERFREC]
+    python3 bindings/python/test.py perfrec little|big|native [LIMIT] [attr] < STREAM
+
+The first form compares: lines of `perfrec`, `perf_tasks` and `perf_samples` with those that the repository
+expects; with PERFREC, the program that `rt run` makes in crates/perfrec, also the lines of all recordings.
+Then it tries the calls, and measures. A line is what passed, failed or was skipped; the status is 0 if
+nothing failed. The second form prints what `perfrec` prints, and has its status.
+"""
+
+import array
+import ctypes
+import mmap
+import random
+import re
+import struct
+import subprocess
+import sys
+import tempfile
+import time
+import tracemalloc
+from pathlib import Path
+
+sys.dont_write_bytecode = True
+import perf_event_data as ped  # noqa: E402
+
+TOP = Path(__file__).resolve().parents[2]
+CRATES = TOP / "crates"
+RECORDINGS = [CRATES / "perf_tasks/stdin", CRATES / "perf_samples/stdin", *sorted(TOP.glob("examples/*.stream"))]
+NAMES = ("Unknown Mmap Lost Comm Exit Throttle Unthrottle Fork Read Sample Mmap2 Aux ITraceStart LostSamples Switch"
+         " SwitchCpuWide Namespaces KSymbol BpfEvent CGroup TextPoke AuxOutputHwId").split()
+ORDERS = {
+    "sample": "ip pid tid time addr id stream_id cpu period time_enabled time_running values callchain raw"
+              " lbr_hw_index lbr regs_user_abi regs_user stack_user weight data_src transaction regs_intr_abi"
+              " regs_intr phys_addr aux cgroup data_page_size code_page_size",
+    "mmap2": "pid tid addr len pgoff maj min ino ino_generation build_id prot flags filename",
+    "namespaces": "pid tid namespaces"}
+# The types of which the library has no flat frames yet, and what their lines begin with.
+unread_types = [number for number in range(1, 22) if ped.Frames(struct.pack("<IHH", number, 0, 8))[0].refusal == 7]
+unread_lines = rf"\d+ ({'|'.join(map(str, unread_types))}) " if unread_types else None
+results = {"passed": 0, "FAILED": 0, "skipped": 0}
+
+
+def tell(result, text):
+    results[result] += 1
+    print(f"{result}: {text}")
+
+
+def check(text, holds):
+    tell("passed" if holds else "FAILED", text)
+
+
+# ---- the lines of perfrec
+
+
+def item_text(item):
+    return ":".join(map(str, item)) if isinstance(item, tuple) else str(item)
+
+
+def branch(item):
+    """An item of `lbr` as its line has it: from, to, four bits, cycles and type."""
+    start, end, word = item
+    return (start, end, *(word >> bit & 1 for bit in range(4)), word >> 4 & 0xFFFF, word >> 20 & 15)
+
+
+def value_text(value):
+    if isinstance(value, memoryview):
+        return value.hex()
+    return ",".join(map(item_text, value)) if isinstance(value, list) else str(value)
+
+
+def line_fields(frame):
+    """The fields of a record's line, in their order."""
+    fields = frame.fields
+    if frame.name == "sample":
+        own = {name: getattr(frame, name) for name in ("pid", "tid", "time", "id", "stream_id", "cpu")}
+        fields.update({name: value for name, value in own.items() if value is not None})
+        if "value" in fields:
+            fields["values"] = [tuple(fields[name] for name in ("value", "value_id", "value_lost") if name in fields)]
+        if "lbr" in fields:
+            fields["lbr"] = [branch(item) for item in fields["lbr"]]
+    order = ORDERS[frame.name].split() if frame.name in ORDERS else fields
+    return {name: fields[name] for name in order if name in fields}
+
+
+def line(index, frame):
+    head = f"{index} {frame.type} {frame.misc} {frame.size} "
+    if frame.refusal:
+        return head + "refused " + ped.KINDS[frame.refusal]
+    words = [f"{name}={value_text(value)}" for name, value in line_fields(frame).items()]
+    return head + " ".join([NAMES[frame.read], *words])
+
+
+def perfrec(words, data):
+    """The lines that `perfrec` prints, and its status; None for words that it does not know."""
+    match = re.fullmatch(r"(little|big|native)( \d+)?( attr)?", " ".join(words))
+    if not match or int(match[2] or 0) >= 1 << 64:
+        return None
+    config, start = ped.Config(ped.BIG if match[1] == "big" else ped.LITTLE), 0
+    if match[3]:
+        try:
+            config, start = ped.read_attribute(data, config.order)
+        except ValueError as refusal:
+            return [f"attr refused {refusal}"], 2
+    frames = ped.Frames(data, config, start, int(match[2]) if match[2] else sys.maxsize)
+    lines = [line(index, frame) for index, frame in enumerate(frames)]
+    status = any(frames.column("refusal")) or frames.end == "cut header"
+    return [*lines, "end " + frames.end.removesuffix(" header")], int(status)
+
+
+# ---- the lines of perf_tasks and perf_samples
+
+
+def name_text(name):
+    return "".join(chr(byte) if 32 <= byte < 127 and byte != 92 else f"\\x{byte:02x}" for byte in name)
+
+
+def mmap2_text(fields):
+    device = "0x{maj:x}:0x{min:x} {ino} {ino_generation}"
+    detail = fields["build_id"].hex() if "build_id" in fields else device.format(**fields)
+    rights = "".join(letter if fields["prot"] & bit else "-" for letter, bit in (("r", 1), ("w", 2), ("x", 4)))
+    place = "{addr:#x} {len:#x} {pgoff:#x}".format(**fields)
+    return f"{place} {detail} {rights}{'ps'[fields['flags'] & 1]} {name_text(fields['filename'])}"
+
+
+def task_line(frame):
+    fields, name = frame.fields, frame.name
+    if name in ("fork", "exit"):
+        return "{0} {pid} {tid} {ppid} {ptid}".format(name, **fields)
+    texts = {
+        "mmap": lambda: "{addr:#x} {len:#x} {pgoff:#x} ".format(**fields) + name_text(fields["filename"]),
+        "mmap2": lambda: mmap2_text(fields),
+        "comm": lambda: name_text(fields["comm"]),
+        "namespaces": lambda: ",".join(f"{device}:{inode:#x}" for device, inode in fields["namespaces"])}
+    return f"{name} {fields['pid']} {fields['tid']} {texts[name]()}" if name in texts else None
+
+
+def or_dash(form, number):
+    return "-" if number is None else format(number, form)
+
+
+def sample_line(frame):
+    if frame.name != "sample":
+        return None
+    fields, marks = frame.fields, {2**64 - 128: "kernel", 2**64 - 512: "user"}
+    chain = "".join(f" {marks.get(entry) or hex(entry)}" for entry in fields.get("callchain", []))
+    task = or_dash("d", frame.pid) + "/" + or_dash("d", frame.tid)
+    numbers = [or_dash("d", frame.time), or_dash("d", frame.cpu), task, or_dash("d", fields.get("period")),
+               or_dash("#x", fields.get("addr")), or_dash("#x", fields.get("ip"))]
+    return " ".join(numbers) + ":" + chain
+
+
+# ---- comparisons
+
+
+def compare(text, expected, actual, unread):
+    """Compares lines. Those that match `unread`, of types without flat frames, are left out of both."""
+    if unread is not None:
+        expected, actual = ([entry for entry in lines if not re.match(unread, entry)] for lines in (expected, actual))
+        text += ", but for types without flat frames"
+    if not expected:
+        tell("skipped", text)
+        return
+    for here, there in zip(actual, expected):
+        if here != there:
+            print(f"    {here}\n    not {there}")
+            break
+    check(text, expected == actual)
+
+
+def compare_texts(program):
+    words = (CRATES / "perfrec/args").read_text().split()
+    lines, _status = perfrec(words, (CRATES / "perfrec/stdin").read_bytes())
+    compare("text of crates/perfrec", (CRATES / "perfrec/stdout").read_text().splitlines(), lines, unread_lines)
+    reports = (("perf_tasks", task_line, "namespaces " if 16 in unread_types else None),
+               ("perf_samples", sample_line, "" if 9 in unread_types else None))
+    for crate, line_of, unread in reports:
+        data = (CRATES / crate / "stdin").read_bytes()
+        found = [text for text in map(line_of, ped.Frames(data, *ped.read_attribute(data))) if text]
+        compare(f"lines of crates/{crate}", (CRATES / crate / "stdout").read_text().splitlines(), found, unread)
+    if not program:
+        tell("skipped", "text of the recordings: PERFREC is not given")
+        return
+    for path in RECORDINGS:
+        with path.open("rb") as stream:
+            theirs = subprocess.run([program, "little", "attr"], stdin=stream, capture_output=True, text=True).stdout
+        lines, _status = perfrec(["little", "attr"], path.read_bytes())
+        compare(f"text of {path.relative_to(TOP)}", theirs.splitlines(), lines, unread_lines)
+
+
+def case_bytes(word, items):
+    if word == "bytes":
+        return bytes.fromhex("".join(items))
+    if word == "zeros":
+        return bytes(sum(map(int, items)))
+    return b"".join(int(item, 0).to_bytes(int(word[1:]) // 8, "little") for item in items)
+
+
+def replay(path):
+    """The numbers of the runs of `perfrec` in a list, of those left out, and of those that differ."""
+    runs = left_out = differences = 0
+    data, words, expected, is_compared = b"", None, [], False
+    for text in path.read_text().splitlines():
+        word, _, rest = text.partition(" ")
+        if word == "case":
+            data, words, is_compared = b"", None, False
+        elif word in ("bytes", "zeros", "u16", "u32", "u64"):
+            data = (b"" if is_compared else data) + case_bytes(word, rest.split())
+            is_compared = False
+        elif word in (">", "~"):
+            expected.append(rest)
+        elif word == "=":
+            if words:
+                lines, status = perfrec(words, data)
+                actual, theirs = "; ".join([*lines, f"status {status}"]), "; ".join([*expected, rest])
+                runs += 1
+                if "refused Unread" in actual:
+                    left_out += 1
+                elif actual != theirs:
+                    differences += 1
+                    print(f"    {actual}\n    not {theirs}")
+            expected, is_compared = [], True
+        elif word and word[0] != "#":
+            words = rest.split() if word == "perfrec" else None
+    return runs, left_out, differences
+
+
+# ---- the header
+
+
+def header_fields(text, union):
+    """The names of the fields in each member of a union of the header."""
+    body = re.search(r"union " + union + r" \{\n(.*?)\n\};", text, re.S)[1]
+    members = re.findall(r"struct \{([^}]*)\} (\w+);", body)
+    return {name: re.findall(r"(\w+)[,;]", fields) for fields, name in members}
+
+
+def compare_header():
+    path = TOP / "bindings/c/perf_event_data.h"
+    if not path.exists():
+        tell("skipped", f"names of the fields: {path.relative_to(TOP)} is absent")
+        return
+    text = re.sub(r"/\*.*?\*/", "", path.read_text(), flags=re.S)
+    numbers, spans = header_fields(text, "ped_numbers"), header_fields(text, "ped_spans")
+    members = {"exit": "task", "fork": "task", "unthrottle": "throttle"}
+    here, there = {}, {name: (numbers.get(name, []), spans.get(name, [])) for name in {**numbers, **spans}}
+    for record, (own_numbers, own_spans) in ped.FIELDS.items():
+        here[members.get(record, record)] = own_numbers, [name.partition("*")[0] for name in own_spans]
+    del here["switch"]  # it has no field
+    for name in here:
+        if here[name] != there.get(name):
+            print(f"    {name}: {here[name]}\n    not {there.get(name)}")
+    check("the names of the fields are those of the header", here == there)
+
+
+# ---- the calls
+
+
+def address_of(view):
+    """Where the bytes of a view are: of one that may be written."""
+    return ctypes.addressof((ctypes.c_char * view.nbytes).from_buffer(view))
+
+
+def try_inputs():
+    data = (CRATES / "perf_tasks/stdin").read_bytes()
+    config, length = ped.read_attribute(data)
+    expected = [frame.fields for frame in ped.Frames(data, config, length)]
+    words = array.array("Q", data + bytes(-len(data) % 8))
+    inputs = {"a bytearray": bytearray(data), "a view in the middle of another": memoryview(b"abc" + data)[3:],
+              "an array of 64-bit numbers": words}
+    for text, given in inputs.items():
+        frames = ped.Frames(given, config, length)
+        check(f"frames of {text}", [frame.fields for frame in frames][:len(expected)] == expected)
+    with tempfile.TemporaryFile() as file:
+        file.write(data)
+        file.flush()
+        with mmap.mmap(file.fileno(), 0, access=mmap.ACCESS_READ) as mapped:
+            frames = ped.Frames(mapped, config, length)
+            same = [frame.fields for frame in frames] == expected
+            del frames
+        check("frames of a mapped file that may not be written", same)
+    array_of_bytes = bytearray(data)
+    frames = ped.Frames(array_of_bytes, config, length)
+    span = next(frame for frame in frames if frame.name == "comm").fields["comm"]
+    inside = address_of(span) - address_of(memoryview(array_of_bytes))
+    check("a span is a place in the input, not a copy", data[inside:inside + len(span)] == bytes(span))
+    try:
+        array_of_bytes.append(0)
+        check("an input in use does not move", False)
+    except BufferError:
+        check("an input in use does not move", True)
+
+
+def try_memory():
+    """Reading one frame of a large input must not take memory for the input."""
+    large = struct.pack("<IHHQ", 13, 0, 16, 5) * 1000000
+    tracemalloc.start()
+    ped.Frames(large, limit=1)
+    _now, peak = tracemalloc.get_traced_memory()
+    tracemalloc.stop()
+    check(f"an input of {len(large)} bytes is not copied: {peak} bytes of memory", peak < len(large) / 10)
+
+
+def spans_are_inside(frame):
+    row = frame._row
+    return all(row[place] + row[place + 1] <= len(frame.bytes) for place in range(38, 54, 2))
+
+
+def try_wrong_bytes():
+    """Recordings in which bytes are replaced, under their own configurations and under others."""
+    source = random.Random(1)
+    frames = wrong = 0
+    for number in range(400):
+        data = bytearray(RECORDINGS[number % 2].read_bytes())
+        config, length = ped.read_attribute(data)
+        if number % 4 > 1:
+            config = ped.Config(
+                number // 4 % 2, sample_type=source.getrandbits(25), read_format=source.getrandbits(5), flags=1 << 18,
+                branch_sample_type=source.getrandbits(18), sample_regs_user=source.getrandbits(64),
+                sample_regs_intr=source.getrandbits(64))
+        for _ in range(200):
+            data[source.randrange(length, len(data))] = source.choice((0, 1, 8, 16, 255))
+        for frame in ped.Frames(data, config, length):
+            frames += 1
+            wrong += not spans_are_inside(frame) or len(frame.fields) > 27
+    check(f"{frames} frames of changed bytes: {wrong} have a span outside their bytes", wrong == 0)
+
+
+def refuses(text, call):
+    try:
+        call()
+        check(text, False)
+    except (ValueError, IndexError, KeyError):
+        check(text, True)
+
+
+LOST = struct.pack("<IHHQ", 13, 0, 16, 5)
+
+
+def try_sequence():
+    frames = ped.Frames(LOST * 3000 + b"abc")
+    first, last = frames[0], frames[-1]
+    check("a frame by its index", (first.name, last.fields, bytes(last.bytes)) == ("lost_samples", {"lost": 5}, LOST))
+    check("how many, the end and the bytes that were taken",
+          (len(frames), frames.end, frames.taken) == (3000, "cut header", 48000))
+    check("a slice, and frames in reverse", [frame.fields["lost"] for frame in frames[1:3]] == [5, 5]
+          and len(list(reversed(frames))) == 3000)
+    check("columns", [frames.column(name) for name in ("lost_samples.lost", "size", "time", "comm.pid")]
+          == [[number] * 3000 for number in (5, 16, None, None)])
+    some = ped.Frames(LOST * 3, start=16, limit=1)
+    check("a start and a limit", (len(some), some.end, some.taken, list(some.starts)[0]) == (1, "limit", 32, 16))
+    none = ped.Frames(b""), ped.Frames(bytearray()), ped.Frames(LOST, limit=0)
+    check("no frames", [(len(frames), frames.end, frames.column("time")) for frames in none]
+          == [(0, "done", []), (0, "done", []), (0, "limit", [])])
+    refuses("a start before the bytes is refused", lambda: ped.Frames(LOST, start=-16))
+    refuses("a start after the bytes is refused", lambda: ped.Frames(LOST, start=17))
+    refuses("an index after the last is refused", lambda: frames[3000])
+    refuses("a column of no record is refused", lambda: frames.column("lots.lost"))
+    refuses("a column of no field is refused", lambda: frames.column("lost.ip"))
+
+
+def try_frames():
+    short = ped.Frames(struct.pack("<IHH", 13, 0, 4) + LOST)
+    check("a frame shorter than a header", [(frame.name, frame.message) for frame in short]
+          == [("refused", "header size was too small to be valid"), ("lost_samples", "")])
+    cut = ped.Frames(LOST[:12])[0]
+    check("a frame cut short", (cut.message, bytes(cut.bytes)) == ("unexpected EOF during parsing", LOST[:12]))
+    big = ped.Frames(struct.pack(">IHHIIQ", 8, 0, 24, 1, 2, 3), ped.Config(ped.BIG))
+    check("the other byte order", big[0].fields == {"pid": 1, "tid": 2, "value": 3})
+    config = ped.Config(sample_type=ped.FLAGS["TID"] | ped.FLAGS["TIME"], flags=1 << 18)
+    frames = ped.Frames(struct.pack("<IHHQIIQ", 13, 0, 32, 5, 7, 8, 9), config)
+    check("a sample id", [(frame.pid, frame.tid, frame.time, frame.cpu) for frame in frames] == [(7, 8, 9, None)])
+    check("columns of a sample id", [frames.column(name) for name in ("tid", "cpu")] == [[8], [None]])
+    other = ped.Config()
+    other.version += 1
+    attribute = struct.pack("<IIQQQQQ16x", 0, 64, 0, 0, 6, 0, 1 << 18)
+    config, length = ped.read_attribute(attribute + LOST)
+    check("an attribute", (config.version, config.sample_type, config.flags, length) == (1, 6, 1 << 18, 64))
+    refuses("an attribute cut short is refused", lambda: ped.read_attribute(attribute[:63]))
+    refuses("another version is refused", lambda: ped.Frames(LOST, other))
+    refuses("another order is refused", lambda: ped.Frames(LOST, ped.Config(2)))
+
+
+def try_numpy():
+    try:
+        import numpy  # noqa: F401
+    except ImportError:
+        tell("skipped", "numpy: not installed")
+        return
+    data = (CRATES / "perf_tasks/stdin").read_bytes()
+    frames = ped.Frames(data, *ped.read_attribute(data))
+    table = frames.numpy()
+    check("numpy: a row of 320 bytes for each frame", (table.shape, table.itemsize) == ((len(frames),), 320))
+    check("numpy: columns", table["size"].tolist() == frames.column("size"))
+    comm = next(index for index, frame in enumerate(frames) if frame.name == "comm")
+    check("numpy: numbers and spans", (table["numbers"][comm, 0], table["spans"]["len"][comm, 0])
+          == (frames[comm].fields["pid"], len(frames[comm].fields["comm"])))
+
+
+# ---- measurements
+
+LIMIT = 2
+
+
+def microseconds(count, call):
+    """The least time of the processor per frame, of many short runs: on a busy machine most are slower."""
+    times = []
+    for _ in range(60):
+        before = time.process_time()
+        call()
+        times.append(time.process_time() - before)
+    return min(times) / count * 1e6
+
+
+def measure():
+    for path in RECORDINGS[:2]:
+        data = path.read_bytes()
+        config, length = ped.read_attribute(data)
+        many = data[length:] * 20
+        frames = ped.Frames(many, config)
+        count = len(frames)
+        reading = microseconds(count, lambda: ped.Frames(many, config))
+        text = f"{path.relative_to(TOP)}, 20 times: {reading:.2f} microseconds to read a frame, at most {LIMIT}"
+        check(text, reading <= LIMIT)
+        fields = microseconds(count, lambda: [frame.fields for frame in frames])
+        column = microseconds(count, lambda: frames.column("time"))
+        print(f"    besides, {fields:.2f} for its fields, {column:.2f} for the column of times")
+
+
+def main():
+    if sys.argv[1:2] == ["perfrec"]:
+        answer = perfrec(sys.argv[2:], sys.stdin.buffer.read())
+        if answer is None:
+            print("usage: test.py perfrec little|big|native [LIMIT] [attr] < STREAM", file=sys.stderr)
+            return 2
+        print("\n".join(answer[0]))
+        return answer[1]
+    compare_texts(sys.argv[1] if len(sys.argv) > 1 else None)
+    runs, left_out, differences = replay(CRATES / "perf_replay/stdin")
+    text = f"runs of crates/perf_replay: {runs}, {left_out} left out, {differences} differ"
+    check(text, runs > left_out and differences == 0)
+    for call in (compare_header, try_inputs, try_memory, try_sequence, try_frames, try_wrong_bytes, try_numpy, measure):
+        call()
+    print(", ".join(f"{number} {result.lower()}" for result, number in results.items()))
+    return 1 if results["FAILED"] else 0
+
+
+sys.exit(main())

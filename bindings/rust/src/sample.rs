@@ -1,0 +1,449 @@
+//! Samples.
+
+use std::borrow::Cow;
+use std::fmt;
+
+use crate::data_source::DataSource;
+use crate::debug::{present, HexAddr};
+use crate::endian::Endian;
+use crate::flags::{BranchType, SampleFlags, SampleRegsAbi, Txn};
+use crate::flat::{Flat, Words};
+use crate::parse::{Extent, Parse, ParseBuf, ParseResult, Parser};
+use crate::read::ReadGroup;
+use crate::records::SampleId;
+use crate::sys;
+
+/// In `present` of a frame: the sample has the hardware's index of its branches.
+const HAS_LBR_HW_INDEX: u64 = 1 << 32;
+
+/// An event happened, and this was recorded with it (`PERF_RECORD_SAMPLE`).
+///
+/// The sample type determines which fields are present; the getter of another one returns `None`.
+#[derive(Clone)]
+pub struct Sample<'a> {
+    present: u64,
+    sample_id: SampleId,
+    numbers: [u64; 11],
+    values: Option<ReadGroup<'a>>,
+    callchain: Cow<'a, [u64]>,
+    raw: Cow<'a, [u8]>,
+    lbr: Cow<'a, [BranchEntry]>,
+    regs_user: Registers<'a>,
+    stack_user: Cow<'a, [u8]>,
+    regs_intr: Registers<'a>,
+    aux: Cow<'a, [u8]>,
+}
+
+macro_rules! numbers {
+    ($( $( #[$attr:meta] )* $name:ident at $at:expr, with $flags:expr; )*) => {
+        $(
+            $( #[$attr] )*
+            #[inline]
+            pub fn $name(&self) -> Option<u64> {
+                (self.present & $flags.bits() != 0).then_some(self.numbers[$at])
+            }
+        )*
+    };
+}
+
+impl<'a> Sample<'a> {
+    #[inline]
+    pub(crate) fn of(flat: &Flat<'_, 'a>) -> Self {
+        let mut numbers = [0; 11];
+        numbers.copy_from_slice(&flat.frame.numbers[..11]);
+        let present = flat.frame.present;
+        Self {
+            present,
+            sample_id: SampleId::of(flat.frame),
+            numbers,
+            values: (present & SampleFlags::READ.bits() != 0).then(|| ReadGroup::of(flat)),
+            callchain: flat.words(0),
+            raw: flat.part(5),
+            lbr: flat.words(1),
+            regs_user: Registers::of_user(flat),
+            stack_user: flat.part(6),
+            regs_intr: Registers::of_intr(flat),
+            aux: flat.part(7),
+        }
+    }
+
+    /// How many bytes the body has.
+    fn length(flat: &Flat<'_, '_>) -> usize {
+        let present = flat.frame.present;
+        let spans = &flat.frame.spans;
+        let has = |flags: SampleFlags| present & flags.bits() != 0;
+        let count = |flags: SampleFlags| (present & flags.bits()).count_ones() as usize;
+        let listed = |flag: SampleFlags, head: usize, span: usize| {
+            if has(flag) {
+                head + spans[span].len as usize
+            } else {
+                0
+            }
+        };
+        // in the order of the bytes
+        let mut length = 8 * count(
+            SampleFlags::IDENTIFIER
+                | SampleFlags::IP
+                | SampleFlags::TID
+                | SampleFlags::TIME
+                | SampleFlags::ADDR
+                | SampleFlags::ID
+                | SampleFlags::STREAM_ID
+                | SampleFlags::CPU
+                | SampleFlags::PERIOD,
+        );
+        if has(SampleFlags::READ) {
+            length += ReadGroup::length(flat);
+        }
+        length += listed(SampleFlags::CALLCHAIN, 8, 0);
+        length += listed(SampleFlags::RAW, 4, 5).next_multiple_of(8);
+        length += listed(SampleFlags::BRANCH_STACK, 8, 1);
+        if present & HAS_LBR_HW_INDEX != 0 {
+            length += 8;
+        }
+        length += listed(SampleFlags::REGS_USER, 8, 3);
+        if has(SampleFlags::STACK_USER) {
+            // the span is what was used of it; the whole size comes before it
+            let size = flat.stored(length) as usize;
+            length += 8 + size + if size == 0 { 0 } else { 8 };
+        }
+        length += 8 * has(SampleFlags::WEIGHT | SampleFlags::WEIGHT_STRUCT) as usize;
+        length += 8 * count(SampleFlags::DATA_SRC | SampleFlags::TRANSACTION);
+        length += listed(SampleFlags::REGS_INTR, 8, 4);
+        length += 8 * count(
+            SampleFlags::PHYS_ADDR
+                | SampleFlags::CGROUP
+                | SampleFlags::DATA_PAGE_SIZE
+                | SampleFlags::CODE_PAGE_SIZE,
+        );
+        length + listed(SampleFlags::AUX, 8, 7)
+    }
+
+    #[inline]
+    pub(crate) fn sample_id(&self) -> SampleId {
+        self.sample_id
+    }
+
+    #[inline]
+    fn has(&self, flag: SampleFlags) -> bool {
+        self.present & flag.bits() != 0
+    }
+
+    numbers! {
+        /// Returns the address of the instruction (`PERF_SAMPLE_IP`).
+        ip at 0, with SampleFlags::IP;
+        /// Returns an address that belongs to the event, such as that of a page fault
+        /// (`PERF_SAMPLE_ADDR`).
+        addr at 1, with SampleFlags::ADDR;
+        /// Returns how many events the sample stands for (`PERF_SAMPLE_PERIOD`).
+        period at 2, with SampleFlags::PERIOD;
+        /// Returns how costly the event was, such as a latency in cycles (`PERF_SAMPLE_WEIGHT` or
+        /// `PERF_SAMPLE_WEIGHT_STRUCT`).
+        weight at 3, with SampleFlags::WEIGHT.union(SampleFlags::WEIGHT_STRUCT);
+        /// Returns the physical address of [`addr`](Self::addr) (`PERF_SAMPLE_PHYS_ADDR`).
+        phys_addr at 6, with SampleFlags::PHYS_ADDR;
+        /// Returns the id of the task's control group (`PERF_SAMPLE_CGROUP`).
+        cgroup at 7, with SampleFlags::CGROUP;
+        /// Returns the size in bytes of the page of [`addr`](Self::addr)
+        /// (`PERF_SAMPLE_DATA_PAGE_SIZE`).
+        data_page_size at 8, with SampleFlags::DATA_PAGE_SIZE;
+        /// Returns the size in bytes of the page of [`ip`](Self::ip)
+        /// (`PERF_SAMPLE_CODE_PAGE_SIZE`).
+        code_page_size at 9, with SampleFlags::CODE_PAGE_SIZE;
+    }
+
+    /// Returns the process (`PERF_SAMPLE_TID`).
+    #[inline]
+    pub fn pid(&self) -> Option<u32> {
+        self.sample_id.pid()
+    }
+
+    /// Returns its thread (`PERF_SAMPLE_TID`).
+    #[inline]
+    pub fn tid(&self) -> Option<u32> {
+        self.sample_id.tid()
+    }
+
+    /// Returns when it happened, in nanoseconds of the event's clock (`PERF_SAMPLE_TIME`).
+    #[inline]
+    pub fn time(&self) -> Option<u64> {
+        self.sample_id.time()
+    }
+
+    /// Returns the kernel's id of the event, or of its group's leader (`PERF_SAMPLE_ID` or
+    /// `PERF_SAMPLE_IDENTIFIER`).
+    #[inline]
+    pub fn id(&self) -> Option<u64> {
+        self.sample_id.id()
+    }
+
+    /// Returns the kernel's id of the event itself (`PERF_SAMPLE_STREAM_ID`).
+    #[inline]
+    pub fn stream_id(&self) -> Option<u64> {
+        self.sample_id.stream_id()
+    }
+
+    /// Returns the processor on which it happened (`PERF_SAMPLE_CPU`).
+    #[inline]
+    pub fn cpu(&self) -> Option<u32> {
+        self.sample_id.cpu()
+    }
+
+    /// Returns what was read of the event's counters: those of its group, or its own as a group of
+    /// one (`PERF_SAMPLE_READ`).
+    #[inline]
+    pub fn values(&self) -> Option<&ReadGroup<'a>> {
+        self.values.as_ref()
+    }
+
+    /// Returns the addresses of a call chain, the innermost first (`PERF_SAMPLE_CALLCHAIN`).
+    #[inline]
+    pub fn callchain(&self) -> Option<&[u64]> {
+        self.has(SampleFlags::CALLCHAIN).then_some(&*self.callchain)
+    }
+
+    /// Returns bytes that the event wrote, such as the fields of a tracepoint (`PERF_SAMPLE_RAW`).
+    #[inline]
+    pub fn raw(&self) -> Option<&[u8]> {
+        self.has(SampleFlags::RAW).then_some(&*self.raw)
+    }
+
+    /// Returns the position of the newest branch in the hardware's own list
+    /// (`PERF_SAMPLE_BRANCH_HW_INDEX`).
+    #[inline]
+    pub fn lbr_hw_index(&self) -> Option<u64> {
+        (self.present & HAS_LBR_HW_INDEX != 0).then_some(self.numbers[10])
+    }
+
+    /// Returns branches, the newest first (`PERF_SAMPLE_BRANCH_STACK`).
+    #[inline]
+    pub fn lbr(&self) -> Option<&[BranchEntry]> {
+        self.has(SampleFlags::BRANCH_STACK).then_some(&*self.lbr)
+    }
+
+    /// Returns the registers of the task's user-space code (`PERF_SAMPLE_REGS_USER`).
+    #[inline]
+    pub fn regs_user(&self) -> Option<&Registers<'a>> {
+        self.has(SampleFlags::REGS_USER).then_some(&self.regs_user)
+    }
+
+    /// Returns what the kernel copied of the task's user stack, from its top on: as many bytes as
+    /// were used (`PERF_SAMPLE_STACK_USER`).
+    #[inline]
+    pub fn stack_user(&self) -> Option<&[u8]> {
+        self.has(SampleFlags::STACK_USER)
+            .then_some(&*self.stack_user)
+    }
+
+    /// Returns where the data came from (`PERF_SAMPLE_DATA_SRC`).
+    #[inline]
+    pub fn data_src(&self) -> Option<DataSource> {
+        self.has(SampleFlags::DATA_SRC)
+            .then(|| DataSource::from_word(self.numbers[4]))
+    }
+
+    /// Returns what a memory transaction did (`PERF_SAMPLE_TRANSACTION`).
+    #[inline]
+    pub fn transaction(&self) -> Option<Txn> {
+        self.has(SampleFlags::TRANSACTION)
+            .then(|| Txn::from_bits_retain(self.numbers[5]))
+    }
+
+    /// Returns the registers that the processor had at the interrupt (`PERF_SAMPLE_REGS_INTR`).
+    #[inline]
+    pub fn regs_intr(&self) -> Option<&Registers<'a>> {
+        self.has(SampleFlags::REGS_INTR).then_some(&self.regs_intr)
+    }
+
+    /// Returns bytes of the AUX area (`PERF_SAMPLE_AUX`).
+    #[inline]
+    pub fn aux(&self) -> Option<&[u8]> {
+        self.has(SampleFlags::AUX).then_some(&*self.aux)
+    }
+}
+
+impl fmt::Debug for Sample<'_> {
+    fn fmt(&self, f: &mut fmt::Formatter<'_>) -> fmt::Result {
+        let mut all = f.debug_struct("Sample");
+        present(&mut all, "ip", self.ip());
+        present(&mut all, "pid", self.pid());
+        present(&mut all, "tid", self.tid());
+        present(&mut all, "time", self.time());
+        present(&mut all, "addr", self.addr().map(HexAddr));
+        present(&mut all, "id", self.id());
+        present(&mut all, "stream_id", self.stream_id());
+        present(&mut all, "cpu", self.cpu());
+        present(&mut all, "period", self.period());
+        present(&mut all, "values", self.values());
+        present(&mut all, "callchain", self.callchain());
+        present(&mut all, "raw", self.raw());
+        present(&mut all, "lbr_hw_index", self.lbr_hw_index());
+        present(&mut all, "lbr", self.lbr());
+        present(&mut all, "regs_user", self.regs_user());
+        present(&mut all, "stack_user", self.stack_user());
+        present(&mut all, "weight", self.weight());
+        present(&mut all, "data_src", self.data_src());
+        present(&mut all, "transaction", self.transaction());
+        present(&mut all, "regs_intr", self.regs_intr());
+        present(&mut all, "phys_addr", self.phys_addr().map(HexAddr));
+        present(&mut all, "aux", self.aux());
+        present(&mut all, "cgroup", self.cgroup());
+        present(&mut all, "data_page_size", self.data_page_size());
+        present(&mut all, "code_page_size", self.code_page_size());
+        all.finish_non_exhaustive()
+    }
+}
+
+impl<'p> Parse<'p> for Sample<'p> {
+    fn parse<B, E>(p: &mut Parser<B, E>) -> ParseResult<Self>
+    where
+        E: Endian,
+        B: ParseBuf<'p>,
+    {
+        let extent = Extent::Until(Sample::length);
+        p.parse_body(sys::PERF_RECORD_SAMPLE, extent, Sample::of)
+    }
+}
+
+/// The registers of a task when an event happened: those of its user-space code, or those that the
+/// processor had at the interrupt.
+#[derive(Clone, Debug)]
+pub struct Registers<'a> {
+    /// The ABI of the task.
+    pub abi: SampleRegsAbi,
+    /// Which registers were recorded, one bit each: the mask of the configuration.
+    pub mask: u64,
+    /// Their values, in the order of the bits. There are none if the ABI is
+    /// [`SampleRegsAbi::NONE`].
+    pub regs: Cow<'a, [u64]>,
+}
+
+impl<'a> Registers<'a> {
+    #[inline]
+    fn of_user(flat: &Flat<'_, 'a>) -> Self {
+        Self {
+            abi: SampleRegsAbi(flat.number(11)),
+            mask: flat.config.sample_regs_user,
+            regs: flat.words(3),
+        }
+    }
+
+    #[inline]
+    fn of_intr(flat: &Flat<'_, 'a>) -> Self {
+        Self {
+            abi: SampleRegsAbi(flat.number(12)),
+            mask: flat.config.sample_regs_intr,
+            regs: flat.words(4),
+        }
+    }
+
+    /// Parses the user registers of the configuration.
+    pub fn parse_user<B, E>(p: &mut Parser<B, E>) -> ParseResult<Self>
+    where
+        E: Endian,
+        B: ParseBuf<'a>,
+    {
+        p.parse_part(
+            sys::PERF_RECORD_SAMPLE,
+            |config| config.sample_type = SampleFlags::REGS_USER.bits(),
+            &[],
+            Extent::Until(Sample::length),
+            Self::of_user,
+        )
+    }
+
+    /// Parses the registers at the interrupt of the configuration.
+    pub fn parse_intr<B, E>(p: &mut Parser<B, E>) -> ParseResult<Self>
+    where
+        E: Endian,
+        B: ParseBuf<'a>,
+    {
+        p.parse_part(
+            sys::PERF_RECORD_SAMPLE,
+            |config| config.sample_type = SampleFlags::REGS_INTR.bits(),
+            &[],
+            Extent::Until(Sample::length),
+            Self::of_intr,
+        )
+    }
+}
+
+/// A branch that was taken, `struct perf_branch_entry`: two addresses and a word of bit fields.
+#[derive(Copy, Clone, Debug, Eq, PartialEq, Hash)]
+#[repr(C)]
+pub struct BranchEntry {
+    from: u64,
+    to: u64,
+    word: u64,
+}
+
+// SAFETY: it consists of three numbers, with nothing between them.
+unsafe impl Words for BranchEntry {
+    const COUNT: usize = 3;
+
+    #[inline]
+    fn of(numbers: impl Fn(usize) -> u64) -> Self {
+        Self::from_words(numbers(0), numbers(1), numbers(2))
+    }
+}
+
+impl BranchEntry {
+    /// Makes a branch from its three words.
+    pub const fn from_words(from: u64, to: u64, word: u64) -> Self {
+        Self { from, to, word }
+    }
+
+    /// Returns the address of the source.
+    pub fn from(&self) -> u64 {
+        self.from
+    }
+
+    /// Returns the address of the target.
+    pub fn to(&self) -> u64 {
+        self.to
+    }
+
+    /// Returns whether it was mispredicted: bit 0 of the word.
+    pub fn mispred(&self) -> bool {
+        self.word & 1 != 0
+    }
+
+    /// Returns whether it was predicted correctly: bit 1.
+    pub fn predicted(&self) -> bool {
+        self.word & 2 != 0
+    }
+
+    /// Returns whether it happened in a memory transaction: bit 2.
+    pub fn in_tx(&self) -> bool {
+        self.word & 4 != 0
+    }
+
+    /// Returns whether it was the abort of a memory transaction: bit 3.
+    pub fn abort(&self) -> bool {
+        self.word & 8 != 0
+    }
+
+    /// Returns the cycles since the previous branch: bits 4 to 19.
+    pub fn cycles(&self) -> u16 {
+        (self.word >> 4) as u16
+    }
+
+    /// Returns the kind of branch: bits 20 to 23.
+    pub fn ty(&self) -> BranchType {
+        BranchType((self.word >> 20 & 0xf) as u8)
+    }
+}
+
+impl<'p> Parse<'p> for BranchEntry {
+    fn parse<B, E>(p: &mut Parser<B, E>) -> ParseResult<Self>
+    where
+        E: Endian,
+        B: ParseBuf<'p>,
+    {
+        Ok(Self {
+            from: p.parse()?,
+            to: p.parse()?,
+            word: p.parse()?,
+        })
+    }
+}

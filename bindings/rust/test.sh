@@ -1,0 +1,23 @@
+#!/bin/sh
+# Checks this crate over an archive, in a target folder of its own:
+#
+#     ./test.sh FOLDER [UPSTREAM]
+#
+# FOLDER contains the archive (README.md). With UPSTREAM, a folder with the texts of the original, its
+# public tests run too. Nothing is fetched. The status is 0 if nothing failed.
+set -eu
+if [ $# -lt 1 ] || [ ! -d "$1" ]; then
+    echo "usage: $0 FOLDER [UPSTREAM]" >&2
+    exit 2
+fi
+PERF_EVENT_DATA_LIB_DIR=$(realpath "$1")
+upstream=${2:+$(realpath "$2")}
+cd "$(dirname "$0")"
+CARGO_TARGET_DIR=$(mktemp -d)
+export PERF_EVENT_DATA_LIB_DIR CARGO_TARGET_DIR
+trap 'rm -rf "$CARGO_TARGET_DIR"' EXIT
+cargo fmt --check
+cargo clippy --offline --quiet --all-targets -- -D warnings
+RUSTDOCFLAGS="-D warnings" cargo doc --offline --quiet --no-deps --document-private-items
+cargo test --offline --quiet
+./upstream_tests.py ${upstream:+"$upstream"}
