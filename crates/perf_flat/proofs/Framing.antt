@@ -1,8 +1,8 @@
 -- What a flat frame states, by how it was made.
-use Rattle.std.proofs.Common.{◌≡◌, ℕ, ◌+◌, ◌-◌, ◌≤◌, ◌<◌, ◌^◌, Bool, true, false, List, [], ◌∷◌, length, take, drop, Some, Result, Ok, Err, refl, sym, ◌∙◌, ap, subst, inl, inr, arith}
+use Rattle.std.proofs.Common.{◌≡◌, ℕ, ◌+◌, ◌-◌, ◌≤◌, ◌<◌, ◌^◌, ◌==◌, ◌||◌, Bool, true, false, List, [], ◌∷◌, length, take, drop, Some, Result, Ok, Err, refl, sym, ◌∙◌, ap, subst, inl, inr, arith}
 use Rattle.std.specs.Prelude.{IsTrue, IfOk, ◌≢◌, nat_lt}
 use Rattle.std.proofs.lemmas.Bool.{cases_lt, lt-ltb, le-ltb}
-use Rattle.std.proofs.lemmas.List.{length-drop, length-take, length-take-le, take-take, drop-take}
+use Rattle.std.proofs.lemmas.List.{length-drop, length-take, length-take-le, take-take, drop-take, take_all}
 use Rattle.perf_base.specs.Configuration.{Configuration, plain, under_misc}
 use Rattle.perf_base.specs.Header.{header_of}
 use Rattle.perf_base.specs.Layout.{layout}
@@ -15,9 +15,9 @@ use Rattle.perf_base.specs.declared.refusal.Refusal.TheVariants as why
 use Rattle.perf_base.specs.declared.sys.perf_event_header.{perf_event_header}
 use Rattle.perf_buffers.specs.Buffer.{chunk_bytes, chunk_is_borrowed}
 use Rattle.perf_reader.specs.Reading.{of_layout, is_external}
-use Rattle.perf_records.specs.Answers.{FrameParts, length_after, parts_of, split_after, record_in, answer_after, split_of_frame, answer_of_frame}
-use Rattle.perf_records.specs.Bodies.{body}
-use Rattle.perf_records.specs.FrameReadings.{HasNoRoom}
+use Rattle.perf_records.specs.Answers.{FrameParts, frame_parts, length_after, parts_of, split_after, record_in, answer_after, split_of_frame, answer_of_frame}
+use Rattle.perf_records.specs.Bodies.{body, needs_memory}
+use Rattle.perf_records.specs.FrameReadings.{HasNoRoom, metadata_in}
 use Rattle.perf_records.specs.Frames.{frame_length}
 use Rattle.perf_records.specs.FrameList.{sights}
 use Rattle.perf_records.specs.Metadata.{MetadataValue, id_length}
@@ -32,12 +32,14 @@ use Rattle.perf_records.proofs.Handing.{finished}
 use Rattle.perf_records.proofs.Headers.{frame_whole, frame_body, header_alone}
 use Rattle.perf_records.proofs.Splitting.{split_small, split_short, split_no_room, split_whole}
 use Rattle.perf_flat.specs.Contents.{GivesContents}
-use Rattle.perf_flat.specs.Flat.{CarriesNumbers, StatesId, StatesRecord, StatesRefusal, StatesAnswer, HasHeader, IsFlat, IsFlatAfter, IsBad, is_unread, empty_frame, refused_frame, unread_number, first_frame}
-use Rattle.perf_flat.specs.Strings.{HasSpans}
+use Rattle.perf_flat.specs.Flat.{CarriesNumbers, StatesId, StatesRecord, StatesRefusal, StatesAnswer, HasHeader, IsFlat, IsFlatAfter, IsBad, refused_frame, first_frame}
+use Rattle.perf_flat.specs.Places.{IsBodyOf, PlacesRecord}
+use Rattle.perf_flat.specs.Spans.{HasSpans}
 use Rattle.perf_flat.specs.declared.contents.Contents.{Contents}
 use Rattle.perf_flat.specs.declared.flat_frame.FlatFrame.{FlatFrame}
-use Rattle.perf_flat.proofs.Holding.{contents_hold}
-use Rattle.perf_flat.proofs.Spans.{IsBodyOf}
+use Rattle.perf_flat.proofs.Holding.{contents_hold, ids_hold}
+use Rattle.perf_flat.proofs.Samples.{body_under}
+use Rattle.perf_sample_types.specs.SampleId.{SampleIdValue}
 
 -- ---- the body of a frame
 
@@ -68,20 +70,17 @@ body_front c o h bytes parts e = elim (cases_lt h.size 8) [
 
 -- a flat frame of these parts of a frame
 transition_after : (c : Configuration) (o : Order) (h : perf_event_header) (bytes : List ℕ) (f : FlatFrame) (frame : List ℕ) → 8 ≤ length frame → header_of o frame ≡ h → drop 8 frame ≡ bytes →
-    HasHeader h f → (is_unread h.type_ ≡ false → StatesAnswer c o frame (split_after c o h bytes) (answer_after c o h bytes) f) → (is_unread h.type_ ≡ true → f ≡ empty_frame h unread_number 0) →
+    HasHeader h f → StatesAnswer c o frame (split_after c o h bytes) (answer_after c o h bytes) f →
     IsFlat c o frame f
-transition_after c o h bytes f frame fits is rest headed says unread =
+transition_after c o h bytes f frame fits is rest headed says =
     let split : split_of_frame c o frame ≡ split_after c o h bytes =
     frame_whole (split_after c o) o frame fits ∙ ap (λ k. split_after c o k (drop 8 frame)) is ∙ ap (split_after c o h) rest in
     let answer : answer_of_frame c o frame ≡ answer_after c o h bytes =
     frame_whole (answer_after c o) o frame fits ∙ ap (λ k. answer_after c o k (drop 8 frame)) is ∙ ap (answer_after c o h) rest in
     record {
       header = subst (λ k. HasHeader k f) (sym is) headed;
-      answer = λ known.
-          let said = says (subst (λ (k : perf_event_header). is_unread k.type_ ≡ false) is known) in
-          subst (λ a. StatesAnswer c o frame (split_of_frame c o frame) a f) (sym answer)
-          (subst (λ s. StatesAnswer c o frame s (answer_after c o h bytes) f) (sym split) said);
-      unread = λ none. subst (λ (k : perf_event_header). f ≡ empty_frame k unread_number 0) (sym is) (unread (subst (λ (k : perf_event_header). is_unread k.type_ ≡ true) is none));
+      answer = subst (λ a. StatesAnswer c o frame (split_of_frame c o frame) a f) (sym answer)
+          (subst (λ s. StatesAnswer c o frame s (answer_after c o h bytes) f) (sym split) says);
     }
 
 refuses : (c : Configuration) (o : Order) (frame : List ℕ) (s : Result FrameParts ErrorKind) (e : ErrorKind) (f : FlatFrame) → StatesRefusal c (header_of o frame) (length frame) e f → StatesAnswer c o frame s (Err e) f
@@ -99,9 +98,9 @@ layout_kind External memory inside = absurd (cc)
 layout_kind OutOfMemory memory inside = absurd (memory refl)
 
 pub visited : (c : Configuration) (o : Order) (h : perf_event_header) (bytes : List ℕ) (result : Result Contents Refusal) (k : ℕ) (made : Contents) (f : FlatFrame) →
-    length bytes + 8 < 2 ^ 32 → is_unread h.type_ ≡ false → GivesFrameBytes GivesContents h c o bytes true result k → result ≡ Ok made →
+    length bytes + 8 < 2 ^ 32 → needs_memory h.type_ ≡ false → GivesFrameBytes GivesContents h c o bytes true result k → result ≡ Ok made →
     HasHeader h f → CarriesNumbers c made.metadata.sample_id made.numbers f → f.spans ≡ made.spans → IsFlatAfter c o h bytes f
-visited c o h bytes result k made f short known visits is headed carries spans = λ frame fits header rest.
+visited c o h bytes result k made f short plain visits is headed carries spans = λ frame fits header rest.
     let v = subst (λ r. GivesFrameBytes GivesContents h c o bytes true r k) is visits in
     let value : RecordValue = v.0.0 in
     let parts : FrameParts = v.0.2 in
@@ -118,7 +117,8 @@ visited c o h bytes result k made f short known visits is headed carries spans =
       count = front.0;
       is = front.1 ∙ ap (take front.0) (sym rest);
     } in
-    let holds = contents_hold o (under_misc h.misc c) h.type_ (type_of h.type_) frame parts.body value made is_body known made_of gives.1 in
+    let holds = contents_hold o (under_misc h.misc c) h.type_ (type_of h.type_) frame parts.body value made is_body plain made_of gives.1 in
+    let own = ids_hold o (under_misc h.misc c) h.type_ (type_of h.type_) parts.body value plain made_of in
     let says : StatesRecord c o frame parts.metadata.sample_id value f = (
       record {
         read = carries.read;
@@ -126,22 +126,21 @@ visited c o h bytes result k made f short known visits is headed carries spans =
         reason = carries.reason;
         present = carries.present;
         read_format = carries.read_format;
-        id = subst (λ m. StatesId m f) (ap (λ (m : MetadataValue). m.sample_id) gives.0) carries.id;
+        id = subst (λ m. StatesId m f) (ap (λ (m : MetadataValue). m.sample_id) gives.0 ∙ sym (own parts.metadata.sample_id)) carries.id;
         numbers = carries.numbers ∙ holds.0;
       },
-      subst (λ xs. HasSpans o frame xs value) (sym spans) holds.1,
+      subst (λ xs. HasSpans c.read_format o frame xs value) (sym spans) holds.1,
     ) in
     transition_after c o h bytes f frame fits header rest headed
-    (λ _. subst (λ a. StatesAnswer c o frame (split_after c o h bytes) a f) (sym answer) (subst (λ s. StatesAnswer c o frame s (Ok value) f) (sym split) says))
-    (λ none. let no = sym known ∙ none in absurd (cc))
+    (subst (λ a. StatesAnswer c o frame (split_after c o h bytes) a f) (sym answer) (subst (λ s. StatesAnswer c o frame s (Ok value) f) (sym split) says))
 
 -- ---- a frame that was refused
 
 -- the flat frame of a refusal that the answer has
-refused : (c : Configuration) (o : Order) (h : perf_event_header) (bytes : List ℕ) (told : Refusal) (f : FlatFrame) → f ≡ refused_frame h told → is_unread h.type_ ≡ false →
+refused : (c : Configuration) (o : Order) (h : perf_event_header) (bytes : List ℕ) (told : Refusal) (f : FlatFrame) → f ≡ refused_frame h told →
     answer_after c o h bytes ≡ Err (refusal_kind told) → (h.size < 8 → told ≡ why.SmallHeader) →
     (8 ≤ h.size → h.size ≤ 8 + length bytes → HasNoRoom h c → told ≡ why.NoRoomForId) → IsFlatAfter c o h bytes f
-refused c o h bytes told f is known answer small no_room = λ frame fits header rest.
+refused c o h bytes told f is answer small no_room = λ frame fits header rest.
     let long : length (drop 8 frame) ≡ length frame - 8 = length-drop 8 frame in
     let many : length (drop 8 frame) ≡ length bytes = ap length rest in
     let says : StatesRefusal c h (length frame) (refusal_kind told) f = record {
@@ -157,35 +156,103 @@ refused c o h bytes told f is known answer small no_room = λ frame fits header 
       size = ap (λ (x : FlatFrame). x.size) is;
     } in
     transition_after c o h bytes f frame fits header rest headed
-    (λ _. subst (λ a. StatesAnswer c o frame (split_after c o h bytes) a f) (sym answer)
+    (subst (λ a. StatesAnswer c o frame (split_after c o h bytes) a f) (sym answer)
     (refuses c o frame (split_after c o h bytes) (refusal_kind told) f (subst (λ k. StatesRefusal c k (length frame) (refusal_kind told) f) (sym header) says)))
-    (λ none. let no = sym known ∙ none in absurd (cc))
 
 pub visit_refused : (c : Configuration) (o : Order) (h : perf_event_header) (bytes : List ℕ) (result : Result Contents Refusal) (k : ℕ) (e : Refusal) (f : FlatFrame) →
-    8 ≤ h.size → is_unread h.type_ ≡ false → GivesFrameBytes GivesContents h c o bytes true result k → result ≡ Err e →
+    8 ≤ h.size → needs_memory h.type_ ≡ false → GivesFrameBytes GivesContents h c o bytes true result k → result ≡ Err e →
     (HasNoRoom h c → e ≡ why.NoRoomForId) → f ≡ refused_frame h e → IsFlatAfter c o h bytes f
-visit_refused c o h bytes result k e f sized known visits is no_room made =
+visit_refused c o h bytes result k e f sized plain visits is no_room made =
     let v = subst (λ r. GivesFrameBytes GivesContents h c o bytes true r k) is visits in
-    let kind : IsTrue (of_layout (refusal_kind e)) = layout_kind (refusal_kind e) (v.2 refl known) v.3 in
-    refused c o h bytes e f made known (v.0 kind).0 (λ small. absurd (omega arith)) (λ _ _ lacks. no_room lacks)
+    let kind : IsTrue (of_layout (refusal_kind e)) = layout_kind (refusal_kind e) (v.2 refl plain) v.3 in
+    refused c o h bytes e f made (v.0 kind).0 (λ small. absurd (omega arith)) (λ _ _ lacks. no_room lacks)
 
-pub bad_refused : (c : Configuration) (o : Order) (h : perf_event_header) (bytes : List ℕ) (f : FlatFrame) → is_unread h.type_ ≡ false → IsBad h bytes →
+pub bad_refused : (c : Configuration) (o : Order) (h : perf_event_header) (bytes : List ℕ) (f : FlatFrame) → IsBad h bytes →
     (h.size < 8 → f ≡ refused_frame h why.SmallHeader) → (8 ≤ h.size → f ≡ refused_frame h why.Eof) → IsFlatAfter c o h bytes f
-bad_refused c o h bytes f known (inl small) is_small is_short =
-    refused c o h bytes why.SmallHeader f (is_small small) known (ap (record_in c o h) (split_small c o h bytes small)) (λ _. refl) (λ sized _ _. absurd (omega arith))
-bad_refused c o h bytes f known (inr short) is_small is_short =
+bad_refused c o h bytes f (inl small) is_small is_short =
+    refused c o h bytes why.SmallHeader f (is_small small) (ap (record_in c o h) (split_small c o h bytes small)) (λ _. refl) (λ sized _ _. absurd (omega arith))
+bad_refused c o h bytes f (inr short) is_small is_short =
     let sized : 8 ≤ h.size = short.0 in
     let lacks : length bytes < length_after h = short.1 in
-    refused c o h bytes why.Eof f (is_short sized) known (ap (record_in c o h) (split_short c o h bytes sized lacks)) (λ small. absurd (omega arith)) (λ _ all _. absurd (omega arith))
+    refused c o h bytes why.Eof f (is_short sized) (ap (record_in c o h) (split_short c o h bytes sized lacks)) (λ small. absurd (omega arith)) (λ _ all _. absurd (omega arith))
 
-pub unread : (c : Configuration) (o : Order) (h : perf_event_header) (bytes : List ℕ) (f : FlatFrame) → is_unread h.type_ ≡ true → f ≡ empty_frame h unread_number 0 → IsFlatAfter c o h bytes f
-unread c o h bytes f none is = λ frame fits header rest.
-    let headed : HasHeader h f = record {
-      type_ = ap (λ (x : FlatFrame). x.type_) is;
-      misc = ap (λ (x : FlatFrame). x.misc) is;
-      size = ap (λ (x : FlatFrame). x.size) is;
+-- ---- a frame whose list was passed over
+
+-- a frame that has metadata, which is split
+pub metadata_split : (c : Configuration) (o : Order) (h : perf_event_header) (bytes : List ℕ) (m : MetadataValue) → 8 ≤ h.size → length bytes ≡ length_after h →
+    Ok m ≡ metadata_in (split_after c o h bytes) → (id_length c h.type_ ≤ length bytes) × (split_after c o h bytes ≡ Ok (frame_parts m (take (length bytes - id_length c h.type_) bytes)))
+metadata_split c o h bytes m sized long is = elim (cases_lt (length_after h) (id_length c h.type_)) [
+  | inl little ↦ let no = is ∙ ap metadata_in (split_no_room c o h bytes sized (omega arith) little) in absurd (cc)
+  | inr room ↦
+      let split = split_whole c o h bytes sized (omega arith) room in
+      let all : take (length_after h) bytes ≡ bytes = take_all (length_after h) bytes (omega arith) in
+      let parts : split_after c o h bytes ≡ Ok (parts_of c o h bytes) = split ∙ ap (λ xs. Ok (parts_of c o h xs)) all in
+      let same : m ≡ (parts_of c o h bytes).metadata = metadata_is (is ∙ ap metadata_in parts) in
+      (omega arith, parts ∙ ap (λ k. Ok (frame_parts k (take (length bytes - id_length c h.type_) bytes))) (sym same))
+]
+  where
+    metadata_is : {x y : MetadataValue} → ◌≡◌ {A = Result MetadataValue ErrorKind} (Ok x) (Ok y) → x ≡ y
+    metadata_is e = cc
+
+-- the same record under the frame's own misc
+pub places_under : (misc : ℕ) (c : Configuration) (o : Order) (ty : ℕ) (bytes : List ℕ) (own : SampleIdValue) (r : Result Contents Refusal) → (ty == 9 || ty == 16) ≡ true →
+    PlacesRecord c o (body c ty) bytes own r → PlacesRecord (under_misc misc c) o (body (under_misc misc c) ty) bytes own r
+unfolding PlacesRecord
+places_under misc c o ty bytes own r one places = go r places
+  where
+    same : body (under_misc misc c) ty ≡ body c ty
+    same = body_under misc c ty one
+
+    go : (r : Result Contents Refusal) → PlacesRecord c o (body c ty) bytes own r → PlacesRecord (under_misc misc c) o (body (under_misc misc c) ty) bytes own r
+    go (Ok made) p = (p.0, ap (λ q. layout o q bytes) same ∙ p.1, record { numbers = p.2.numbers; spans = p.2.spans; ids = p.2.ids })
+    go (Err e) p = ap (λ q. layout o q bytes) same ∙ p
+
+-- its record is in the body
+pub list_placed : (c : Configuration) (o : Order) (h : perf_event_header) (bytes : List ℕ) (parts : FrameParts) (made : Contents) (f : FlatFrame) → length bytes + 8 < 2 ^ 32 →
+    split_after c o h bytes ≡ Ok parts → PlacesRecord (under_misc h.misc c) o (body (under_misc h.misc c) h.type_) parts.body parts.metadata.sample_id (Ok made) →
+    HasHeader h f → CarriesNumbers c made.metadata.sample_id made.numbers f → f.spans ≡ made.spans → IsFlatAfter c o h bytes f
+unfolding PlacesRecord
+list_placed c o h bytes parts made f short split places headed carries spans = λ frame fits header rest.
+    let value : RecordValue = places.0 in
+    let holds = places.2 in
+    let answer : answer_after c o h bytes ≡ Ok value = ap (record_in c o h) split ∙ places.1 in
+    let front = body_front c o h bytes parts split in
+    let long : length (drop 8 frame) ≡ length frame - 8 = length-drop 8 frame in
+    let many : length (drop 8 frame) ≡ length bytes = ap length rest in
+    let is_body : IsBodyOf frame parts.body = record {
+      headed = fits;
+      short = omega arith;
+      count = front.0;
+      is = front.1 ∙ ap (take front.0) (sym rest);
     } in
-    transition_after c o h bytes f frame fits header rest headed (λ known. let no = sym known ∙ none in absurd (cc)) (λ _. is)
+    let says : StatesRecord c o frame parts.metadata.sample_id value f = (
+      record {
+        read = carries.read;
+        refusal = carries.refusal;
+        reason = carries.reason;
+        present = carries.present;
+        read_format = carries.read_format;
+        id = subst (λ m. StatesId m f) holds.ids carries.id;
+        numbers = carries.numbers ∙ holds.numbers;
+      },
+      subst (λ xs. HasSpans c.read_format o frame xs value) (sym spans) (holds.spans frame is_body),
+    ) in
+    transition_after c o h bytes f frame fits header rest headed
+    (subst (λ a. StatesAnswer c o frame (split_after c o h bytes) a f) (sym answer) (subst (λ s. StatesAnswer c o frame s (Ok value) f) (sym split) says))
+
+-- its record is refused
+pub list_refused : (c : Configuration) (o : Order) (h : perf_event_header) (bytes : List ℕ) (parts : FrameParts) (e : Refusal) (f : FlatFrame) → 8 ≤ h.size → length bytes ≡ length_after h →
+    split_after c o h bytes ≡ Ok parts → PlacesRecord (under_misc h.misc c) o (body (under_misc h.misc c) h.type_) parts.body parts.metadata.sample_id (Err e) →
+    id_length c h.type_ ≤ length bytes → f ≡ refused_frame h e → IsFlatAfter c o h bytes f
+unfolding PlacesRecord
+list_refused c o h bytes parts e f sized long split places room made =
+    refused c o h bytes e f made (ap (record_in c o h) split ∙ places) (λ small. absurd (omega arith)) (λ _ _ lacks. absurd (omega arith))
+
+-- it is too short for its sample id
+pub list_lacks : (c : Configuration) (o : Order) (h : perf_event_header) (bytes : List ℕ) (f : FlatFrame) → 8 ≤ h.size → length bytes ≡ length_after h →
+    HasNoRoom h c → f ≡ refused_frame h why.NoRoomForId → IsFlatAfter c o h bytes f
+list_lacks c o h bytes f sized long lacks made =
+    refused c o h bytes why.NoRoomForId f made (ap (record_in c o h) (split_no_room c o h bytes sized (omega arith) lacks)) (λ small. absurd (omega arith)) (λ _ _ _. refl)
 
 -- ---- the first frame of bytes
 

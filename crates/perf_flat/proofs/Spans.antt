@@ -3,8 +3,9 @@ use Rattle.std.proofs.Common.{◌≡◌, ℕ, zero, suc, ◌+◌, ◌-◌, ◌^�
 use Rattle.std.specs.Prelude.{replicate, min}
 use Rattle.std.proofs.lemmas.List.{length-drop, length-take, drop-drop, drop-replicate, get_or-append_right}
 use Rattle.perf_reader.proofs.AtOnce.{in_front}
-use Rattle.perf_flat.specs.Contents.{low, standing}
-use Rattle.perf_flat.specs.Filled.{no_span, filled_spans}
+use Rattle.perf_flat.specs.Contents.{span_of_bytes}
+use Rattle.perf_flat.specs.Filled.{low_word, no_span, filled_spans}
+use Rattle.perf_flat.specs.Places.{IsBodyOf}
 use Rattle.perf_flat.specs.Strings.{span_at, HasBytes, NoSpansFrom, HasStrings}
 use Rattle.perf_flat.specs.declared.flat_frame.Span.{Span}
 use Rattle.perf_flat.proofs.Steps.{Stands}
@@ -29,7 +30,7 @@ none_after spans n many = λ i from.
 pub no_strings : (frame : List ℕ) → HasStrings frame (filled_spans []) 0 []
 no_strings frame = none_after [] 0 refl
 
-first_of_one : (s : Span) → span_at (filled_spans (s ∷ [])) 0 ≡ s
+pub first_of_one : (s : Span) → span_at (filled_spans (s ∷ [])) 0 ≡ s
 unfolding filled_spans
 first_of_one s = refl
 
@@ -51,14 +52,7 @@ two_strings frame s t bytes more has also =
 
 -- ---- from a body to its frame
 
--- the bytes of a frame after its header, of which a body is the front
-pub record IsBodyOf (frame body : List ℕ) : Type 0 where
-  pub headed : 8 ≤ length frame
-  pub short : length frame < 2 ^ 32
-  pub count : ℕ
-  pub is : body ≡ take count (drop 8 frame)
-
-pub stands_there : (frame body : List ℕ) → IsBodyOf frame body → (s : ℕ) (bytes : List ℕ) → Stands body s bytes → HasBytes frame (standing (8 + s) bytes) bytes
+pub stands_there : (frame body : List ℕ) → IsBodyOf frame body → (s : ℕ) (bytes : List ℕ) → Stands body s bytes → HasBytes frame (span_of_bytes (8 + s) bytes) bytes
 stands_there frame body is s bytes stands =
     let n : ℕ = length bytes in
     let k : ℕ = is.count in
@@ -67,11 +61,11 @@ stands_there frame body is s bytes stands =
     let inside : s + n ≤ length body = stands.inside in
     let rest : length (drop 8 frame) ≡ length frame - 8 = length-drop 8 frame in
     let front : length body ≡ min k (length (drop 8 frame)) = ap length is.is ∙ length-take k (drop 8 frame) in
-    let place : low (8 + s) ≡ 8 + s = omega arith in
-    let long : low n ≡ n = omega arith in
+    let place : low_word (8 + s) ≡ 8 + s = omega arith in
+    let long : low_word n ≡ n = omega arith in
     let same : take n (drop (8 + s) frame) ≡ bytes =
     sym (ap (take n) (drop-drop s 8 frame)) ∙ sym (in_front s n k (drop 8 frame) (omega arith)) ∙ sym (ap (λ b. take n (drop s b)) is.is) ∙ stands.there in
     record {
       inside = omega arith;
-      there = ap (λ m. take m (drop (low (8 + s)) frame)) long ∙ ap (λ m. take n (drop m frame)) place ∙ same;
+      there = ap (λ m. take m (drop (low_word (8 + s)) frame)) long ∙ ap (λ m. take n (drop m frame)) place ∙ same;
     }

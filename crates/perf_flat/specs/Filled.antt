@@ -1,6 +1,10 @@
 -- The numbers and the spans of a flat frame: 24 and eight.
-use Rattle.std.specs.Prelude.{ℕ, List, ◌++◌, length, drop, replicate}
+use Rattle.std.specs.Prelude.{ℕ, ◌%◌, ◌^◌, List, ◌++◌, length, drop, replicate}
 use Rattle.perf_flat.specs.declared.flat_frame.Span.{Span}
+
+-- the lowest 32 bits of a number
+abbrev pub low_word : ℕ → ℕ
+low_word n = n % 2 ^ 32
 
 -- a span: its offset in the frame, and its length
 abbrev pub span : (place length : ℕ) → Span

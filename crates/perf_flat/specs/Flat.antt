@@ -1,7 +1,7 @@
 -- What a flat frame states of the bytes of a frame: what the answer to them is, in numbers, and where
 -- its byte strings and lists are in the frame.
-use Rattle.std.specs.Prelude.{◌≡◌, ◌⊎◌, ◌<◌, ◌≤◌, ℕ, Bool, true, false, List, length, Option, Some, None, Result, Ok, Err}
-use Rattle.std.specs.Prelude.{take, drop, [], ◌+◌, ◌==◌, ◌&&◌, if◌then◌else◌}
+use Rattle.std.specs.Prelude.{◌≡◌, ◌⊎◌, ◌<◌, ◌≤◌, ℕ, List, length, Some, None, Result, Ok, Err}
+use Rattle.std.specs.Prelude.{take, drop, [], ◌+◌, ◌==◌, ◌&&◌, ◌||◌, if◌then◌else◌}
 use Rattle.std.specs.Int.RustNames.{bit_and}
 use Rattle.perf_base.specs.Configuration.{Configuration}
 use Rattle.perf_base.specs.Header.{header_of}
@@ -13,15 +13,17 @@ use Rattle.perf_base.specs.declared.refusal.Refusal.{Refusal}
 use Rattle.perf_base.specs.declared.refusal.Refusal.TheVariants as why
 use Rattle.perf_base.specs.declared.sys.perf_event_header.{perf_event_header}
 use Rattle.perf_records.specs.Answers.{FrameParts, length_after, split_of_frame, answer_of_frame}
-use Rattle.perf_records.specs.Bodies.{needs_memory}
 use Rattle.perf_records.specs.Frames.{frame_length}
 use Rattle.perf_records.specs.Metadata.{carries_sample_id, id_length}
-use Rattle.perf_records.specs.Records.{RecordValue}
+use Rattle.perf_records.specs.Records.{RecordValue, sample_is}
 use Rattle.perf_records.specs.RecordTypes.{type_of}
+use Rattle.perf_sample_types.specs.SampleGetters.{sample_id_of}
 use Rattle.perf_sample_types.specs.SampleId.{SampleIdValue}
+use Rattle.perf_words.specs.Bits.{has_bit}
 use Rattle.perf_flat.specs.Filled.{filled, filled_spans}
 use Rattle.perf_flat.specs.Numbers.{numbers_of, or_zero}
-use Rattle.perf_flat.specs.Strings.{HasSpans}
+use Rattle.perf_flat.specs.Samples.{sample_numbers, sample_present}
+use Rattle.perf_flat.specs.Spans.{HasSpans}
 use Rattle.perf_flat.specs.declared.flat_frame.FlatFrame.{FlatFrame}
 
 -- ---- the parts of a flat frame that are numbers by themselves
@@ -34,14 +36,16 @@ read_type ty = elim (type_of ty) [ Some known ↦ ty | None ↦ 0 ]
 abbrev pub id_flags : ℕ
 id_flags = 2 + 4 + 64 + 512 + 128 + 65536
 
--- which of them a frame has, by its type: none if it has no sample id
+-- which fields a frame has, by its type: those of a sample, or of the sample id, if it has one
 abbrev pub present_of : Configuration → ℕ → ℕ
 present_of c ty =
-    if carries_sample_id ty && c.sample_id_all then bit_and c.sample_type id_flags else 0
+    if ty == 9 then sample_present c
+    else (if carries_sample_id ty && c.sample_id_all then bit_and c.sample_type id_flags else 0)
 
--- the format of the counters that it has: of a READ
+-- the format of the counters that it has: of a READ, or of a sample that has READ
 abbrev pub format_of : Configuration → ℕ → ℕ
-format_of c ty = if ty == 8 then c.read_format else 0
+format_of c ty =
+    if ty == 8 || (ty == 9 && has_bit c.sample_type 4) then c.read_format else 0
 
 -- the kind of a refusal as a number
 abbrev pub kind_number : ErrorKind → ℕ
@@ -91,11 +95,22 @@ pub record CarriesNumbers (c : Configuration) (ids : SampleIdValue) (all : List 
   pub id : StatesId ids f
   pub numbers : f.numbers ≡ all
 
+-- whose task and event it states: those of a sample, or of the sample id at the end of the frame
+abbrev pub ids_of : SampleIdValue → RecordValue → SampleIdValue
+ids_of ids (sample_is s) = sample_id_of s
+ids_of ids value = ids
+
+-- the numbers of a record under a read format
+abbrev pub numbers_under : (read_format : ℕ) → RecordValue → List ℕ
+numbers_under read_format (sample_is s) = sample_numbers read_format s
+numbers_under read_format value = numbers_of value
+
 -- It states what a record with this sample id contains, and its spans are in the frame.
 abbrev pub StatesRecord : Configuration → Order → (frame : List ℕ) → SampleIdValue → RecordValue →
     FlatFrame → Type 0
 StatesRecord c o frame ids value f =
-    CarriesNumbers c ids (filled (numbers_of value)) f × HasSpans o frame f.spans value
+    CarriesNumbers c (ids_of ids value) (filled (numbers_under c.read_format value)) f
+    × HasSpans c.read_format o frame f.spans value
 
 -- ---- a refusal
 
@@ -125,10 +140,6 @@ abbrev pub refused_frame : perf_event_header → Refusal → FlatFrame
 refused_frame h told =
     empty_frame h (kind_number (refusal_kind told)) (reason_number told)
 
--- the number of a type that has no flat frame so far, in place of a refusal
-abbrev pub unread_number : ℕ
-unread_number = 7
-
 -- It is refused with a kind, and has a reason of that kind. A size below 8, and a whole frame without
 -- space for its sample id, have reasons of their own.
 pub record StatesRefusal (c : Configuration) (h : perf_event_header) (len : ℕ) (e : ErrorKind)
@@ -156,17 +167,10 @@ StatesAnswer c o frame (Ok parts) (Ok value) f =
 StatesAnswer c o frame (Err e) (Ok value) f = ⊥
 StatesAnswer c o frame _ (Err e) f = StatesRefusal c (header_of o frame) (length frame) e f
 
--- A type that has no flat frame so far: SAMPLE, and NAMESPACES.
-abbrev pub is_unread : ℕ → Bool
-is_unread ty = needs_memory ty
-
--- A flat frame states what the bytes of a frame contain, or the header alone for a type without one.
+-- A flat frame states what the bytes of a frame contain.
 pub record IsFlat (c : Configuration) (o : Order) (frame : List ℕ) (f : FlatFrame) : Type 0 where
   pub header : HasHeader (header_of o frame) f
-  pub answer : is_unread (header_of o frame).type_ ≡ false →
-      StatesAnswer c o frame (split_of_frame c o frame) (answer_of_frame c o frame) f
-  pub unread : is_unread (header_of o frame).type_ ≡ true →
-      f ≡ empty_frame (header_of o frame) unread_number 0
+  pub answer : StatesAnswer c o frame (split_of_frame c o frame) (answer_of_frame c o frame) f
 
 -- the bytes of the frame at the front of bytes
 abbrev pub first_frame : Order → List ℕ → List ℕ

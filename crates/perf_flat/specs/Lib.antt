@@ -1,5 +1,15 @@
 pub mod Filled
 pub mod Numbers
 pub mod Strings
+pub mod Samples
+pub mod Spans
 pub mod Flat
 pub mod Contents
+pub mod Many
+pub mod Split
+pub mod Identifying
+pub mod Configs
+pub mod Bodies
+pub mod Places
+pub mod SamplePlaces
+pub mod SampleMade

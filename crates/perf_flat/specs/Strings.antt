@@ -3,10 +3,9 @@ use Rattle.std.specs.Prelude.{ℕ, suc, ◌+◌, ◌*◌, ◌≡◌, ◌≤◌, 
 use Rattle.perf_base.specs.Layout.{slice, words_of}
 use Rattle.perf_base.specs.Order.{Order}
 use Rattle.perf_types.specs.MmapDetail.{build_id_of}
-use Rattle.perf_types.specs.Namespaces.{entries_of}
 use Rattle.perf_records.specs.Records.{RecordValue, mmap_is, comm_is}
 use Rattle.perf_records.specs.Records.{mmap2_is}
-use Rattle.perf_records.specs.Records.{namespaces_is, ksymbol_is, bpf_event_is}
+use Rattle.perf_records.specs.Records.{ksymbol_is, bpf_event_is}
 use Rattle.perf_records.specs.Records.{cgroup_is, text_poke_is, unknown_is}
 use Rattle.perf_flat.specs.Filled.{no_span}
 use Rattle.perf_flat.specs.declared.flat_frame.Span.{Span}
@@ -53,11 +52,3 @@ strings_of (cgroup_is r) = r.path ∷ []
 strings_of (text_poke_is r) = r.old_bytes ∷ r.new_bytes ∷ []
 strings_of (unknown_is ty bytes) = bytes ∷ []
 strings_of _ = []
-
--- The spans of a record: those of its byte strings, or of its list.
-abbrev pub HasSpans : Order → (frame : List ℕ) → List Span → RecordValue → Type 0
-HasSpans o frame spans (namespaces_is r) =
-    HasNumbers o frame (span_at spans 0) (2 * length r.namespaces)
-    (λ words. entries_of words ≡ r.namespaces)
-    × NoSpansFrom spans 1
-HasSpans o frame spans value = HasStrings frame spans 0 (strings_of value)

@@ -1,13 +1,13 @@
 //! What is kept of records that borrow their byte strings.
 
 ghost use Rattle.std.specs.Prelude.{◌≡◌, ◌≤◌, [], length};
-ghost use Rattle.perf_flat.specs.Contents.{GivesContents, low, standing};
+ghost use Rattle.perf_flat.specs.Contents.{GivesContents, span_of_bytes};
 ghost use Rattle.perf_flat.specs.Contents.{spans_of};
 ghost use Rattle.perf_flat.specs.Filled.{filled, filled_spans};
 ghost use Rattle.perf_flat.specs.Numbers.{mmap2_numbers, task_numbers, throttle_numbers};
 ghost use Rattle.perf_records.specs.Records.{mmap2_is, mmap2_value};
 
-use crate::flat_frame::{NUMBERS, SPANS, Span, fill_numbers, fill_spans};
+use crate::flat_frame::{NUMBERS, SPANS, Span, fill_numbers, fill_spans, short_span};
 use bitflags::Flags;
 use perf_base::cow::CowSlice;
 use perf_records::metadata::RecordMetadata;
@@ -41,7 +41,7 @@ pub(crate) struct Contents {
 
 // The contents that these are.
 #[inline]
-fn contents_of(metadata: RecordMetadata, numbers: &[u64], spans: &[Span]) -> Contents
+pub(crate) fn contents_of(metadata: RecordMetadata, numbers: &[u64], spans: &[Span]) -> Contents
     requires numbers { length numbers.now ≤ 24 }
     requires spans { length spans.now ≤ 8 }
     ensures metadata { result.metadata ≡ metadata }
@@ -55,23 +55,12 @@ fn contents_of(metadata: RecordMetadata, numbers: &[u64], spans: &[Span]) -> Con
     }
 }
 
-// A number in 32 bits. No frame has so many bytes that any is lost.
-#[inline]
-fn low(number: usize) -> u32
-    ensures { result ≡ low number }
-{
-    (number % (1 << 32)) as u32
-}
-
 // A byte string at that offset of the frame.
 #[inline]
-fn standing(place: usize, bytes: &[u8]) -> Span
-    ensures { result ≡ standing place bytes.now }
+fn span_of_bytes(place: usize, bytes: &[u8]) -> Span
+    ensures { result ≡ span_of_bytes place bytes.now }
 {
-    Span {
-        at: low(place),
-        len: low(bytes.len()),
-    }
+    short_span(place, bytes.len())
 }
 
 // The header's bytes, and those of the body before a byte string.
@@ -144,9 +133,9 @@ fn mmap2_contents(content: &Mmap2<'_>, metadata: RecordMetadata) -> Contents
         content.ino().unwrap_or(0),
         content.ino_generation().unwrap_or(0),
     ];
-    let path = standing(MMAP2_PATH, content.filename.as_slice());
+    let path = span_of_bytes(MMAP2_PATH, content.filename.as_slice());
     match content.build_id() {
-        Some(id) => contents_of(metadata, &numbers, &[path, standing(BUILD_ID, id)]),
+        Some(id) => contents_of(metadata, &numbers, &[path, span_of_bytes(BUILD_ID, id)]),
         None => contents_of(metadata, &numbers, &[path]),
     }
 }
@@ -175,7 +164,7 @@ impl<'a> Visitor<'a> for ContentsVisitor {
             content.len,
             content.pgoff,
         ];
-        let path = standing(MMAP_PATH, content.filename.as_slice());
+        let path = span_of_bytes(MMAP_PATH, content.filename.as_slice());
         drop(content);
         contents_of(metadata, &numbers, &[path])
     }
@@ -188,7 +177,7 @@ impl<'a> Visitor<'a> for ContentsVisitor {
     #[inline]
     fn visit_comm(self, content: Comm<'a>, metadata: RecordMetadata) -> Contents {
         let numbers = [u64::from(content.pid), u64::from(content.tid)];
-        let name = standing(COMM_NAME, content.comm.as_slice());
+        let name = span_of_bytes(COMM_NAME, content.comm.as_slice());
         drop(content);
         contents_of(metadata, &numbers, &[name])
     }
@@ -290,7 +279,7 @@ impl<'a> Visitor<'a> for ContentsVisitor {
             u64::from(content.ksym_type.get()),
             u64::from(content.flags.bits()),
         ];
-        let name = standing(KSYMBOL_NAME, content.name.as_slice());
+        let name = span_of_bytes(KSYMBOL_NAME, content.name.as_slice());
         drop(content);
         contents_of(metadata, &numbers, &[name])
     }
@@ -302,13 +291,13 @@ impl<'a> Visitor<'a> for ContentsVisitor {
             u64::from(content.flags),
             u64::from(content.id),
         ];
-        contents_of(metadata, &numbers, &[standing(BPF_TAG, &content.tag)])
+        contents_of(metadata, &numbers, &[span_of_bytes(BPF_TAG, &content.tag)])
     }
 
     #[inline]
     fn visit_cgroup(self, content: CGroup<'a>, metadata: RecordMetadata) -> Contents {
         let numbers = [content.id];
-        let path = standing(CGROUP_PATH, content.path.as_slice());
+        let path = span_of_bytes(CGROUP_PATH, content.path.as_slice());
         drop(content);
         contents_of(metadata, &numbers, &[path])
     }
@@ -317,8 +306,8 @@ impl<'a> Visitor<'a> for ContentsVisitor {
     fn visit_text_poke(self, content: TextPoke<'a>, metadata: RecordMetadata) -> Contents {
         let numbers = [content.addr];
         let old_bytes = content.old_bytes.as_slice();
-        let old = standing(POKED_BYTES, old_bytes);
-        let new = standing(POKED_BYTES + old_bytes.len(), content.new_bytes.as_slice());
+        let old = span_of_bytes(POKED_BYTES, old_bytes);
+        let new = span_of_bytes(POKED_BYTES + old_bytes.len(), content.new_bytes.as_slice());
         drop(content);
         contents_of(metadata, &numbers, &[old, new])
     }
@@ -330,7 +319,7 @@ impl<'a> Visitor<'a> for ContentsVisitor {
 
     #[inline]
     fn visit_unknown(self, bytes: CowSlice<'a, u8>, metadata: RecordMetadata) -> Contents {
-        let all = standing(ALL_BYTES, bytes.as_slice());
+        let all = span_of_bytes(ALL_BYTES, bytes.as_slice());
         drop(bytes);
         contents_of(metadata, &[], &[all])
     }

@@ -1,7 +1,7 @@
 //! A frame as plain numbers.
 
 ghost use Rattle.std.specs.Prelude.{◌≡◌, ◌≤◌, length};
-ghost use Rattle.perf_flat.specs.Filled.{filled, filled_spans};
+ghost use Rattle.perf_flat.specs.Filled.{filled, filled_spans, low_word, span};
 
 /// How many numbers a flat frame has.
 pub const NUMBERS: usize = 24;
@@ -36,7 +36,8 @@ pub struct FlatFrame {
     pub refusal: u16,
     /// The reason for that, or 0.
     pub reason: u16,
-    /// Which fields of the sample type are present, `PERF_SAMPLE_*`: those of the sample id.
+    /// Which fields of the sample type are present, `PERF_SAMPLE_*`: those of a sample that this library
+    /// knows, and bit 32 if its branches have the hardware's index; else those of the sample id.
     pub present: u64,
     /// The process in which it happened.
     pub pid: u32,
@@ -50,12 +51,40 @@ pub struct FlatFrame {
     pub stream_id: u64,
     /// The processor on which it happened.
     pub cpu: u32,
-    /// What the read of a counter has besides its value, `PERF_FORMAT_*`: of a READ.
+    /// What the read of a counter has besides its value, `PERF_FORMAT_*`: of a READ, or of a sample that
+    /// has READ.
     pub read_format: u32,
-    /// The numbers of the record, in the order of its fields.
+    /// The numbers of the record, in the order of its fields. Those of a sample: address of the
+    /// instruction, address, period, weight, source of data, transaction, physical address, control group,
+    /// sizes of the pages of data and of code, the hardware's index of the branches, the ABI of the user
+    /// registers and of those at the interrupt, the times enabled and running, how many counters were
+    /// read, and without GROUP the counter's value, its id and its lost samples.
     pub numbers: [u64; NUMBERS],
-    /// Where its byte strings and its lists are.
+    /// Where its byte strings and its lists are. Those of a sample: call chain, branches (24 bytes each),
+    /// the entries of a group, user registers, registers at the interrupt, raw bytes, stack, AUX data.
     pub spans: [Span; SPANS],
+}
+
+// The span of what is absent.
+pub(crate) const NO_SPAN: Span = Span { at: 0, len: 0 };
+
+// A number in 32 bits. No frame has so many bytes that any is lost.
+#[inline]
+pub(crate) fn low_word(number: usize) -> u32
+    ensures { result ≡ low_word number }
+{
+    (number % (1 << 32)) as u32
+}
+
+// The span of so many bytes at that offset of the frame.
+#[inline]
+pub(crate) fn short_span(place: usize, len: usize) -> Span
+    ensures { result ≡ span (low_word place) (low_word len) }
+{
+    Span {
+        at: low_word(place),
+        len: low_word(len),
+    }
 }
 
 // These numbers, and zeros after them.

@@ -3,9 +3,23 @@
 #![tactic(auto)]
 
 mod accepted;
+pub mod attr;
+pub mod body;
+#[cfg(test)]
+mod call_tests;
 mod contents;
+pub mod flat_config;
 pub mod flat_frame;
+pub mod identifier;
+pub mod many;
+mod placed;
+mod places;
 pub mod read;
 mod refusals;
+mod sample_fields;
+mod sample_groups;
+mod sample_lists;
+mod sample_made;
+pub mod split;
 #[cfg(test)]
 mod tests;

@@ -1,22 +1,24 @@
 //! The flat frame at the front of bytes.
 
-ghost use Rattle.std.specs.Prelude.{◌≡◌, ◌<◌, ◌≤◌, false, true, length, List, ℕ, IsTrue, IfOk, MatchOption};
+ghost use Rattle.std.specs.Prelude.{◌≡◌, ◌<◌, ◌≤◌, ◌==◌, ◌||◌, false, true, length, List, ℕ, IsTrue, IfOk, MatchOption};
 ghost use Rattle.perf_base.specs.Configuration.{Configuration};
 ghost use Rattle.perf_base.specs.Order.{Order};
 ghost use Rattle.perf_base.specs.declared.refusal.Refusal.TheVariants.{Eof, SmallHeader};
 ghost use Rattle.perf_buffers.specs.Prelude.{chunk_bytes, chunk_is_borrowed};
-ghost use Rattle.perf_flat.specs.Flat.{IsFlat, IsFlatAfter, IsBad, first_frame, is_unread};
+ghost use Rattle.perf_flat.specs.Flat.{IsFlat, IsFlatAfter, IsBad, first_frame};
+ghost use Rattle.perf_records.specs.Bodies.{needs_memory};
 ghost use Rattle.perf_records.specs.Sights.{sight_in, sight_of};
 ghost use Rattle.perf_records.specs.Prelude.{configuration_of, endian_of};
 
 use crate::accepted::accepted_frame;
 use crate::contents::ContentsVisitor;
 use crate::flat_frame::FlatFrame;
-use crate::refusals::{is_unread, refused_frame, unread_frame};
+use crate::placed::{id_len, listed_contents};
+use crate::refusals::refused_frame;
 use perf_base::config::ParseConfig;
 use perf_base::endian::Endian;
 use perf_base::refusal::Refusal;
-use perf_base::sys::perf_event_header;
+use perf_base::sys::{PERF_RECORD_NAMESPACES, PERF_RECORD_SAMPLE, perf_event_header};
 use perf_records::body_reader::ByVisitor;
 use perf_records::frame::Frame;
 use perf_records::frame_handler::BadFrame;
@@ -41,10 +43,16 @@ fn bad_frame(header: perf_event_header) -> FlatFrame
     ensures { (c : Configuration) (o : Order) (bytes : List ℕ) → IsBad header bytes →
         IsFlatAfter c o header bytes result }
 {
-    if is_unread(header.type_) {
-        return unread_frame(header);
-    }
     refused_frame(header, why_bad(header))
+}
+
+// Whether records of a type have a list, so that a visit of one needs memory.
+#[inline]
+pub(crate) fn has_list(ty: u32) -> bool
+    ensures memory { result ≡ needs_memory ty }
+    ensures types { result ≡ (ty == 9 || ty == 16) }
+{
+    ty == PERF_RECORD_SAMPLE || ty == PERF_RECORD_NAMESPACES
 }
 
 // The flat frame of a whole frame, whose type needs no memory as the bytes are borrowed.
@@ -54,7 +62,7 @@ fn visited_frame<'p, E: Endian>(
     frame: Frame<'_, 'p>,
 ) -> FlatFrame
     requires borrowed { IsTrue (chunk_is_borrowed frame.rest) }
-    requires known { is_unread frame.header.type_ ≡ false }
+    requires plain { needs_memory frame.header.type_ ≡ false }
     ensures { IsFlatAfter (configuration_of config.now) (E.order (endian_of config.now))
         frame.entry.header (chunk_bytes frame.entry.rest) result }
 {
@@ -64,6 +72,29 @@ fn visited_frame<'p, E: Endian>(
     };
     let (answer, _reads) = frame.read(alloc, config, visitor, &mut ());
     match answer {
+        Ok(made) => accepted_frame(config, header, &made),
+        Err(refusal) => refused_frame(header, refusal),
+    }
+}
+
+// The flat frame of a whole frame whose type has a list, which is passed over.
+fn listed_frame<'p, E: Endian>(
+    alloc: Global,
+    config: &ParseConfig<E>,
+    frame: Frame<'_, 'p>,
+) -> FlatFrame
+    requires { (frame.header.type_ == 9 || frame.header.type_ == 16) ≡ true }
+    ensures { IsFlatAfter (configuration_of config.now) (E.order (endian_of config.now))
+        frame.entry.header (chunk_bytes frame.entry.rest) result }
+{
+    let header = frame.header();
+    let metadata = match frame.metadata(alloc, config) {
+        Ok(metadata) => metadata,
+        Err(_) => return refused_frame(header, Refusal::NoRoomForId),
+    };
+    let rest = frame.rest();
+    let body = &rest[..rest.len() - id_len(config, header.type_)];
+    match listed_contents(config, header.type_, metadata, body) {
         Ok(made) => accepted_frame(config, header, &made),
         Err(refusal) => refused_frame(header, refusal),
     }
@@ -80,10 +111,11 @@ fn flat_frame<'p, E: Endian>(
         frame.entry.header (chunk_bytes frame.entry.rest) result }
 {
     let header = frame.header();
-    if is_unread(header.type_) {
-        return unread_frame(header);
+    if has_list(header.type_) {
+        listed_frame(alloc, config, frame)
+    } else {
+        visited_frame(alloc, config, frame)
     }
-    visited_frame(alloc, config, frame)
 }
 
 // The flat frame of what is at the front of bytes.
@@ -105,10 +137,8 @@ fn flat_first<'p, E: Endian>(
 }
 
 /// The frame at the front of bytes as plain numbers, or `None` if there are fewer bytes than a header
-/// has. A refused frame has its header and the reason. No memory is needed.
-///
-/// A SAMPLE and a NAMESPACES record have no flat frame so far: theirs has the header alone, and 7 for
-/// its refusal.
+/// has. A refused frame has its header and the reason. No memory is needed, as lists are passed over:
+/// of each the flat frame has the place.
 pub fn read<E: Endian>(alloc: Global, config: &ParseConfig<E>, bytes: &[u8]) -> Option<FlatFrame>
     ensures { MatchOption result (length bytes.now < 8) (λ f. (8 ≤ length bytes.now)
         × IsFlat (configuration_of config.now) (E.order (endian_of config.now))

@@ -6,7 +6,7 @@ ghost use Rattle.perf_flat.specs.Flat as flat;
 use crate::flat_frame::{FlatFrame, fill_numbers, fill_spans};
 use perf_base::error::ErrorKind;
 use perf_base::refusal::Refusal;
-use perf_base::sys::{PERF_RECORD_NAMESPACES, PERF_RECORD_SAMPLE, perf_event_header};
+use perf_base::sys::perf_event_header;
 
 // The kind of a refusal as a number.
 #[inline]
@@ -72,22 +72,4 @@ pub(crate) fn refused_frame(header: perf_event_header, refusal: Refusal) -> Flat
     ensures { result ≡ flat.refused_frame header refusal }
 {
     empty_frame(header, kind_number(refusal.kind()), reason_number(refusal))
-}
-
-// In place of a refusal, the number of a type that has no flat frame so far.
-const UNREAD: u16 = 7;
-
-// Whether a type has no flat frame so far.
-#[inline]
-pub(crate) fn is_unread(ty: u32) -> bool
-    ensures { result ≡ flat.is_unread ty }
-{
-    ty == PERF_RECORD_SAMPLE || ty == PERF_RECORD_NAMESPACES
-}
-
-// The flat frame of such a type.
-pub(crate) fn unread_frame(header: perf_event_header) -> FlatFrame
-    ensures { result ≡ flat.empty_frame header flat.unread_number 0 }
-{
-    empty_frame(header, UNREAD, 0)
 }

@@ -2,8 +2,10 @@
 
 use crate::flat_frame::FlatFrame;
 use crate::read::read;
+use bitflags::Flags;
 use perf_base::config::ParseConfig;
 use perf_base::endian::Little;
+use perf_words::SampleFlags;
 use std::alloc::Global;
 use std::fmt::Debug;
 use std::mem::size_of;
@@ -11,6 +13,16 @@ use std::process::Abort;
 
 // The thread 7 of the process 5 is called `sh`, as it executed that.
 const COMM: &[u8] = b"\x03\0\0\0\0\x20\x18\0\x05\0\0\0\x07\0\0\0sh\0\0\0\0\0\0";
+
+// The thread 7 of the process 5 has two namespaces, of the device 4 and the inodes 21 and 22.
+const NAMESPACES: &[u8] = b"\x10\0\0\0\0\0\x38\0\x05\0\0\0\x07\0\0\0\x02\0\0\0\0\0\0\0\
+\x04\0\0\0\0\0\0\0\x15\0\0\0\0\0\0\0\x04\0\0\0\0\0\0\0\x16\0\0\0\0\0\0\0";
+
+// In the thread 7 of the process 5, at the address 4096 and the time 9: a call chain of 4096 and 8192, and
+// the raw bytes `abcd`.
+const SAMPLE: &[u8] =
+    b"\x09\0\0\0\0\0\x40\0\0\x10\0\0\0\0\0\0\x05\0\0\0\x07\0\0\0\x09\0\0\0\0\0\0\0\
+\x02\0\0\0\0\0\0\0\0\x10\0\0\0\0\0\0\0\x20\0\0\0\0\0\0\x04\0\0\0abcd";
 
 // A header whose size is below its own.
 const SMALL: &[u8] = b"\x03\0\0\0\0\0\x07\0";
@@ -23,21 +35,21 @@ fn check_debug<T: Debug>(rt: &(impl AllocGlobal + Abort), value: &T, want: &str)
     }
 }
 
-// The header, what was read or why nothing was, the first two numbers and the first span.
-fn parts_of(frame: FlatFrame) -> ([u32; 3], [u32; 3], [u64; 2], [u32; 2]) {
+// The header, what was read or why nothing was, the first three numbers and the first span.
+fn parts_of(frame: FlatFrame) -> ([u32; 3], [u32; 3], [u64; 3], [u32; 2]) {
     let header = [frame.type_, u32::from(frame.misc), u32::from(frame.size)];
     let answer = [
         frame.read,
         u32::from(frame.refusal),
         u32::from(frame.reason),
     ];
-    let [first, second, ..] = frame.numbers;
+    let [first, second, third, ..] = frame.numbers;
     let [span, ..] = frame.spans;
-    (header, answer, [first, second], [span.at, span.len])
+    (header, answer, [first, second, third], [span.at, span.len])
 }
 
 // The parts of the flat frame at the front of bytes.
-fn flat_parts(alloc: Global, bytes: &[u8]) -> Option<([u32; 3], [u32; 3], [u64; 2], [u32; 2])> {
+fn flat_parts(alloc: Global, bytes: &[u8]) -> Option<([u32; 3], [u32; 3], [u64; 3], [u32; 2])> {
     let config = ParseConfig::<Little>::default();
     Some(parts_of(read(alloc, &config, bytes)?))
 }
@@ -46,6 +58,7 @@ fn flat_parts(alloc: Global, bytes: &[u8]) -> Option<([u32; 3], [u32; 3], [u64; 
 fn a_flat_frame_has_numbers_and_spans(rt: HostRuntime) {
     let frames = (
         flat_parts(rt.alloc(), COMM),
+        flat_parts(rt.alloc(), NAMESPACES),
         flat_parts(rt.alloc(), &COMM[..20]),
         flat_parts(rt.alloc(), SMALL),
         flat_parts(rt.alloc(), &SMALL[..7]),
@@ -53,9 +66,46 @@ fn a_flat_frame_has_numbers_and_spans(rt: HostRuntime) {
     check_debug(
         &rt,
         &frames,
-        "(Some(([3, 8192, 24], [3, 0, 0], [5, 7], [16, 2])), \
-         Some(([3, 8192, 24], [0, 1, 0], [0, 0], [0, 0])), \
-         Some(([3, 0, 7], [0, 2, 1], [0, 0], [0, 0])), None)",
+        "(Some(([3, 8192, 24], [3, 0, 0], [5, 7, 0], [16, 2])), \
+         Some(([16, 0, 56], [16, 0, 0], [5, 7, 2], [24, 32])), \
+         Some(([3, 8192, 24], [0, 1, 0], [0, 0, 0], [0, 0])), \
+         Some(([3, 0, 7], [0, 2, 1], [0, 0, 0], [0, 0])), None)",
+    );
+}
+
+// Which fields a sample has, its task and its time, its address, and where its lists and raw bytes are.
+fn sample_parts(alloc: Global, bytes: &[u8]) -> Option<([u64; 5], [u32; 4])> {
+    let flags = [
+        SampleFlags::IP,
+        SampleFlags::TID,
+        SampleFlags::TIME,
+        SampleFlags::CALLCHAIN,
+        SampleFlags::RAW,
+    ];
+    let mut bits = 0;
+    for flag in flags {
+        bits |= flag.bits();
+    }
+    let config = ParseConfig::<Little>::default().with_sample_type(SampleFlags::from_bits_retain(
+        bits,
+    ));
+    let frame = read(alloc, &config, bytes)?;
+    let [ip, ..] = frame.numbers;
+    let [chain, _, _, _, _, raw, ..] = frame.spans;
+    let (pid, tid) = (u64::from(frame.pid), u64::from(frame.tid));
+    Some((
+        [frame.present, pid, tid, frame.time, ip],
+        [chain.at, chain.len, raw.at, raw.len],
+    ))
+}
+
+#[test]
+fn a_sample_has_its_lists_in_place(rt: HostRuntime) {
+    let parts = sample_parts(rt.alloc(), SAMPLE);
+    check_debug(
+        &rt,
+        &parts,
+        "Some(([1063, 5, 7, 9, 4096], [40, 16, 60, 4]))",
     );
 }
 

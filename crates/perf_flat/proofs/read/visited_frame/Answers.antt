@@ -21,7 +21,7 @@ returns-in-Ok g c =
     let size = ap (λ (k : perf_event_header). k.size) c.header-header.ensures in
     let short : length bytes + 8 < 2 ^ 32 = omega (arith, f.whole, f.sized, made.ensures.size, size) in
     let visits = subst (λ b. GivesFrameBytes GivesContents f.header settings order bytes b r.result.0 r.result.1) c.requires.borrowed (r.ensures.answer tt) in
-    visited settings order f.header bytes r.result.0 r.result.1 c.in-Ok.made made.result short c.requires.known visits c.in-Ok.is
+    visited settings order f.header bytes r.result.0 r.result.1 c.in-Ok.made made.result short c.requires.plain visits c.in-Ok.is
     (subst (λ h. HasHeader h made.result) c.header-header.ensures made.ensures.header) made.ensures.numbers made.ensures.spans
 
 pub returns : goal.returns
@@ -32,6 +32,6 @@ returns g c =
     let bytes = chunk_bytes f.rest in
     let r = c.read-answer in
     let visits = subst (λ b. GivesFrameBytes GivesContents f.header settings order bytes b r.result.0 r.result.1) c.requires.borrowed (r.ensures.answer tt) in
-    visit_refused settings order f.header bytes r.result.0 r.result.1 c.in-Err.refusal c.refused_frame.result f.sized c.requires.known visits c.in-Err.is
+    visit_refused settings order f.header bytes r.result.0 r.result.1 c.in-Err.refusal c.refused_frame.result f.sized c.requires.plain visits c.in-Err.is
     (λ lacks. subst (λ x. IfErr x (λ e. e ≡ NoRoomForId)) c.in-Err.is (r.ensures.no_room lacks))
     (c.refused_frame.ensures ∙ ap (λ h. refused_frame h c.in-Err.refusal) c.header-header.ensures)

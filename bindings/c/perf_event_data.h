@@ -1,0 +1,372 @@
+/* Records of Linux performance events (perf_event_open(2)) as plain structs, read by a proved library.
+ *
+ * A call depends on its arguments alone: nothing is kept from one call to the next, no memory is asked
+ * for and no pointer is returned. So calls may come from any thread, and from a signal handler.
+ *
+ * What a caller owes, and nothing checks:
+ *  - A pointer is true, aligned and not NULL, also where its length is 0; a length is below 2^63.
+ *  - What is written overlaps nothing else that is passed.
+ *  - The bytes stay what they are during a call.
+ * Then a call returns, whatever the bytes and the configuration are, and reads and writes nothing but
+ * its arguments. docs/LINKING.md has what each call promises. */
+#ifndef PERF_EVENT_DATA_H
+#define PERF_EVENT_DATA_H
+
+#include <stddef.h>
+#include <stdint.h>
+#include <string.h>
+
+#ifdef __cplusplus
+extern "C" {
+#endif
+
+/* The version of the structs below. A configuration of another version is not read. */
+#define PED_VERSION 1u
+
+enum ped_order {
+    PED_LITTLE = 0, /* the lowest byte first, as on x86-64 */
+    PED_BIG = 1     /* the highest byte first */
+};
+
+/* How records are to be read: fields of the attribute of their event, `struct perf_event_attr`. */
+struct ped_config {
+    uint32_t version; /* PED_VERSION */
+    uint32_t order;   /* PED_LITTLE or PED_BIG */
+    uint64_t sample_type;
+    uint64_t read_format;
+    uint64_t flags; /* the word of single bits, from `disabled` on */
+    uint64_t branch_sample_type;
+    uint64_t sample_regs_user;
+    uint64_t sample_regs_intr;
+};
+
+/* A place in a frame. */
+struct ped_span {
+    uint32_t at;  /* offset from the first byte of the frame's header; 0 if the span is absent */
+    uint32_t len; /* in bytes */
+};
+
+/* How a call ended. */
+enum ped_end {
+    PED_LIMIT = 0,         /* as many frames as there is space for were read, accepted or refused */
+    PED_DONE = 1,          /* no byte is left where a header would begin */
+    PED_CUT_HEADER = 2,    /* one to seven bytes are left there */
+    PED_SMALL_SCRATCH = 3, /* a frame in two pieces is longer than the space to copy it */
+    PED_NOT_READ = 4,      /* the configuration has another version, or no such order */
+    PED_LONG_BODY = 5      /* a body of more than 65,527 bytes, longer than that of any frame */
+};
+
+/* Why a frame has no record: the kind. */
+enum ped_refusal {
+    PED_ACCEPTED = 0, /* there is a record */
+    PED_EOF = 1,
+    PED_INVALID_RECORD = 2,
+    PED_UNSUPPORTED_CONFIG = 3,
+    PED_UNSUPPORTED_DATA = 4
+};
+
+/* Why a frame has no record: the reason, if there is one besides the kind. */
+enum ped_reason {
+    PED_NO_REASON = 0,
+    PED_SMALL_HEADER = 1,     /* the header's size is below 8 */
+    PED_NO_ROOM_FOR_ID = 2,   /* the frame is too short for its sample id */
+    PED_BUILD_ID_LENGTH = 3,  /* a build id of more than 20 bytes */
+    PED_USED_STACK = 4,       /* more of the stack is used than there is */
+    PED_SINGLE_READ = 5,      /* a single read under PERF_FORMAT_GROUP */
+    PED_GROUP_READ = 6,       /* a group read without it */
+    PED_READ_FORMAT = 7,      /* a bit of the read format that is not known */
+    PED_GROUP_LENGTH = 8,     /* a group of 2^64 numbers or more */
+    PED_ATTRIBUTE_SIZE = 9,   /* a size that no attribute has had */
+    PED_ATTRIBUTE_TAIL = 10   /* an attribute with fields that are not known and not 0 */
+};
+
+/* In `present`: the sample has an lbr_hw_index. */
+#define PED_HAS_LBR_HW_INDEX ((uint64_t)1 << 32)
+
+/* The numbers of a record. What it does not have is 0. */
+union ped_numbers {
+    uint64_t all[24];
+    struct {
+        uint64_t pid, tid, addr, len, pgoff;
+    } mmap;
+    struct {
+        uint64_t id, lost;
+    } lost;
+    struct {
+        uint64_t pid, tid;
+    } comm;
+    struct {
+        uint64_t pid, ppid, tid, ptid, time;
+    } task; /* EXIT and FORK */
+    struct {
+        uint64_t time, id, stream_id;
+    } throttle; /* THROTTLE and UNTHROTTLE */
+    struct {
+        uint64_t pid, tid, value;
+        uint64_t time_enabled, time_running, id, lost; /* each if its bit of read_format is set */
+    } read;
+    struct {
+        uint64_t ip, addr, period, weight, data_src, transaction, phys_addr, cgroup;
+        uint64_t data_page_size, code_page_size, lbr_hw_index, regs_user_abi, regs_intr_abi;
+        uint64_t time_enabled, time_running, count;  /* count: of the counters */
+        uint64_t value, value_id, value_lost;        /* of one counter, without PERF_FORMAT_GROUP */
+    } sample;
+    struct {
+        uint64_t pid, tid, addr, len, pgoff, prot, flags;
+        uint64_t maj, min, ino, ino_generation; /* absent with a build id */
+    } mmap2;
+    struct {
+        uint64_t aux_offset, aux_size, flags;
+    } aux;
+    struct {
+        uint64_t pid, tid;
+    } itrace_start;
+    struct {
+        uint64_t lost;
+    } lost_samples;
+    struct {
+        uint64_t pid, tid, out; /* out: 1 if the switch went to that task, 0 if it came from there */
+    } switch_cpu_wide;
+    struct {
+        uint64_t pid, tid, count;
+    } namespaces;
+    struct {
+        uint64_t addr, len, ksym_type, flags;
+    } ksymbol;
+    struct {
+        uint64_t ty, flags, id;
+    } bpf_event;
+    struct {
+        uint64_t id;
+    } cgroup;
+    struct {
+        uint64_t addr;
+    } text_poke;
+    struct {
+        uint64_t hw_id;
+    } aux_output_hw_id;
+};
+
+/* Where the byte strings and the lists of a record are. A name has no zero bytes at its end. */
+union ped_spans {
+    struct ped_span all[8];
+    struct {
+        struct ped_span filename;
+    } mmap;
+    struct {
+        struct ped_span comm;
+    } comm;
+    struct {
+        struct ped_span callchain; /* numbers */
+        struct ped_span lbr;       /* three numbers each: from, to, and the word of the branch */
+        struct ped_span values;    /* with PERF_FORMAT_GROUP: of each counter its value, id and lost */
+        struct ped_span regs_user; /* numbers */
+        struct ped_span regs_intr; /* numbers */
+        struct ped_span raw;
+        struct ped_span stack_user; /* what of it is used */
+        struct ped_span aux;
+    } sample;
+    struct {
+        struct ped_span filename;
+        struct ped_span build_id; /* with PERF_RECORD_MISC_MMAP_BUILD_ID in `misc` */
+    } mmap2;
+    struct {
+        struct ped_span namespaces; /* two numbers each: device and inode */
+    } namespaces;
+    struct {
+        struct ped_span name;
+    } ksymbol;
+    struct {
+        struct ped_span tag;
+    } bpf_event;
+    struct {
+        struct ped_span path;
+    } cgroup;
+    struct {
+        struct ped_span old_bytes, new_bytes;
+    } text_poke;
+    struct {
+        struct ped_span data; /* the whole body of a type that the kernel does not have */
+    } unknown;
+};
+
+/* A frame as plain numbers, in 320 bytes. What its record does not have is 0. */
+struct ped_frame {
+    uint32_t type; /* the header: PERF_RECORD_* */
+    uint16_t misc; /* PERF_RECORD_MISC_* */
+    uint16_t size; /* in bytes, as the header states it */
+    uint32_t read; /* the type that was read, which selects a member of the unions; 0: `unknown` */
+    uint16_t refusal; /* enum ped_refusal */
+    uint16_t reason;  /* enum ped_reason */
+    uint64_t present; /* PERF_SAMPLE_* of the fields that a sample has, or the sample id of a record */
+    uint32_t pid;     /* from here to cpu: of the sample, or of the sample id */
+    uint32_t tid;
+    uint64_t time;
+    uint64_t id;
+    uint64_t stream_id;
+    uint32_t cpu;
+    uint32_t read_format; /* of a SAMPLE or READ with counters: PERF_FORMAT_* */
+    union ped_numbers numbers;
+    union ped_spans spans;
+};
+
+/* Reads the frame at the front of `bytes` and writes it to `frame`: PED_LIMIT. If there is no whole
+ * header it returns PED_DONE or PED_CUT_HEADER, and PED_NOT_READ for a configuration that it does not
+ * read; nothing is written then. */
+uint32_t ped_read(const struct ped_config *config, const uint8_t *bytes, size_t len,
+                  struct ped_frame *frame);
+
+/* How far several frames were read. */
+struct ped_ended {
+    size_t count; /* of the frames */
+    size_t taken; /* bytes of these frames: what is left begins after them */
+    uint32_t how; /* enum ped_end */
+};
+
+/* Reads the first frames of `bytes`, as many as there is room for in `frames`, which has room for
+ * `room` of them. What is after them in `frames` is unchanged. It ends by PED_LIMIT if all of the room
+ * is used. */
+struct ped_ended ped_read_many(const struct ped_config *config, const uint8_t *bytes, size_t len,
+                               struct ped_frame *frames, size_t room);
+
+/* How the reading of a frame in two pieces ended. */
+struct ped_split_end {
+    uint32_t how; /* enum ped_end */
+    uint32_t at;  /* spans count in `scratch` if it is 1; if 0, in the first piece that is not empty */
+};
+
+/* Reads the frame at the front of two pieces, as if the second followed the first in memory: of a ring
+ * that wraps, the bytes up to its end and those from its beginning. Only a frame with bytes of both is
+ * copied, to the front of `scratch`, which has `room` bytes; 65,535 are always enough. With too few it
+ * ends by PED_SMALL_SCRATCH. If no frame is read, nothing is written. */
+struct ped_split_end ped_read_split(const struct ped_config *config, const uint8_t *first,
+                                    size_t first_len, const uint8_t *second, size_t second_len,
+                                    uint8_t *scratch, size_t room, struct ped_frame *frame);
+
+/* Reads the attribute at the front of `bytes`, `struct perf_event_attr`: writes the configuration that it
+ * gives to `config` and its size in bytes to `taken`, and returns PED_ACCEPTED. If it is refused, it
+ * returns PED_EOF, PED_INVALID_RECORD (a size that no attribute has had) or PED_UNSUPPORTED_DATA (a byte
+ * that is not zero after the fields that are known), and PED_UNSUPPORTED_CONFIG if there is no such
+ * order; nothing is written then. */
+uint32_t ped_read_attr(const uint8_t *bytes, size_t len, uint32_t order, struct ped_config *config,
+                       size_t *taken);
+
+/* Reads the record of a type from its body, after its header and its sample id were taken off, and
+ * writes it to `frame`: PED_LIMIT. A span with the offset `at` begins at `body + (at - 8)`; no field of a
+ * sample id is present. For PED_LONG_BODY and PED_NOT_READ nothing is written. */
+uint32_t ped_read_body(const struct ped_config *config, uint32_t type, uint16_t misc,
+                       const uint8_t *body, size_t len, struct ped_frame *frame);
+
+/* Writes the kernel's own number of the event that wrote the frame at the front of `bytes`, and
+ * returns 1: for use before the configuration of the frame is known, if all events have
+ * PERF_SAMPLE_IDENTIFIER, and `sample_id_all` is not 0 if they have that too. If the frame has no such
+ * number, or there is no such order, it returns 0 and nothing is written. */
+uint32_t ped_identifier(const uint8_t *bytes, size_t len, uint32_t order, uint32_t sample_id_all,
+                        uint64_t *id);
+
+/* ---- helpers, written by hand: tested, not proved */
+
+/* How many of the `len` bytes at its front the frame takes: its size, at least a header, and all that
+ * is left if that is less. The next frame begins after them. */
+static inline size_t ped_frame_length(const struct ped_frame *frame, size_t len)
+{
+    size_t size = frame->size < 8 ? 8 : frame->size;
+    return size < len ? size : len;
+}
+
+/* How many bytes are needed for the frame at the front, as far as these `len` bytes tell. If that is
+ * at most `len`, the frame is whole. */
+static inline size_t ped_needed(uint32_t order, const uint8_t *bytes, size_t len)
+{
+    size_t size;
+    if (len < 8) {
+        return 8;
+    }
+    size = order == PED_BIG ? (size_t)bytes[6] << 8 | bytes[7] : (size_t)bytes[7] << 8 | bytes[6];
+    return size < 8 ? 8 : size;
+}
+
+/* The number at `at`, of eight bytes. */
+static inline uint64_t ped_eight(uint32_t order, const uint8_t *at)
+{
+    uint64_t number = 0;
+    int i;
+    for (i = 0; i < 8; i++) {
+        number |= (uint64_t)at[order == PED_BIG ? 7 - i : i] << (8 * i);
+    }
+    return number;
+}
+
+/* How many numbers a span has. */
+static inline size_t ped_count(struct ped_span span)
+{
+    return span.len / 8;
+}
+
+/* The i-th number of a span, from 0; `bytes` is where the frame begins. */
+static inline uint64_t ped_number(uint32_t order, const uint8_t *bytes, struct ped_span span, size_t i)
+{
+    return ped_eight(order, bytes + span.at + 8 * i);
+}
+
+/* The text of a refusal's kind. */
+static inline const char *ped_kind_text(const struct ped_frame *frame)
+{
+    switch (frame->refusal) {
+    case PED_ACCEPTED: return "";
+    case PED_EOF: return "unexpected EOF during parsing";
+    case PED_INVALID_RECORD: return "invalid record";
+    case PED_UNSUPPORTED_CONFIG: return "unsupported config";
+    case PED_UNSUPPORTED_DATA: return "unsupported serialized data";
+    default: return "not a refusal";
+    }
+}
+
+/* The message of a refusal, or its kind's text if it has none. */
+static inline const char *ped_message(const struct ped_frame *frame)
+{
+    switch (frame->reason) {
+    case PED_SMALL_HEADER: return "header size was too small to be valid";
+    case PED_NO_ROOM_FOR_ID:
+        return "config has sample_id_all bit set but record does not have enough data to store the "
+               "sample_id";
+    case PED_BUILD_ID_LENGTH: return "build_id had invalid length";
+    case PED_USED_STACK: return "stack dyn_size was greater than the record size";
+    case PED_SINGLE_READ:
+        return "attempted to parse a SingleRead with a config that has GROUP set in read_format";
+    case PED_GROUP_READ:
+        return "attempted to parse a GroupRead with a config that does not have GROUP set in "
+               "read_format";
+    case PED_READ_FORMAT: return "read_format contains unsupported flags";
+    case PED_GROUP_LENGTH: return "number of elements in group read was too large for data type";
+    case PED_ATTRIBUTE_SIZE: return "not a valid size for a perf_event_attr struct";
+    case PED_ATTRIBUTE_TAIL:
+        return "serialized perf_event_attr contains fields not supported by this version of "
+               "perf-event-data";
+    default: return ped_kind_text(frame);
+    }
+}
+
+/* With <linux/perf_event.h> included before this header: the configuration of an event of this
+ * machine. */
+#ifdef PERF_ATTR_SIZE_VER0
+static inline struct ped_config ped_config_of(const struct perf_event_attr *attr)
+{
+    struct ped_config config;
+    config.version = PED_VERSION;
+    config.order = PED_LITTLE;
+    config.sample_type = attr->sample_type;
+    config.read_format = attr->read_format;
+    /* the word of single bits follows read_format */
+    memcpy(&config.flags, (const char *)attr + offsetof(struct perf_event_attr, read_format) + 8, 8);
+    config.branch_sample_type = attr->branch_sample_type;
+    config.sample_regs_user = attr->sample_regs_user;
+    config.sample_regs_intr = attr->sample_regs_intr;
+    return config;
+}
+#endif
+
+#ifdef __cplusplus
+}
+#endif
+#endif

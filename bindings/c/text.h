@@ -1,0 +1,24 @@
+/* The text of a run, as the program `perfrec` prints it (docs/FORMATS.md). */
+#ifndef TEXT_H
+#define TEXT_H
+
+#include <stdio.h>
+#include "perf_event_data.h"
+
+/* What is to be printed of a stream. */
+struct command {
+    uint32_t order;
+    uint64_t limit; /* at most so many frames */
+    int with_attr;  /* whether an attribute is in front of the frames */
+};
+
+/* The command of these words, little|big|native [LIMIT] [attr]. Returns 0 for other words. */
+int read_command(int count, char **words, struct command *command);
+
+/* Prints the text of a run, and returns the status of `perfrec`. */
+int print_run(FILE *out, const struct command *command, const uint8_t *bytes, size_t len);
+
+/* All bytes of a file, to be freed; NULL if it cannot be read. */
+uint8_t *read_file(FILE *file, size_t *len);
+
+#endif

@@ -1,0 +1,14 @@
+//! The library for C: its calls over structs of plain numbers.
+//!
+//! Nothing is kept from one call to the next, and no pointer is returned: a call reads and writes what
+//! its arguments point to, and nothing else.
+#![tactic(auto)]
+
+pub mod attr;
+pub mod body;
+pub mod ends;
+pub mod identifier;
+pub mod many;
+mod order;
+pub mod read;
+pub mod split;

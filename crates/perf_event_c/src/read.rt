@@ -1,0 +1,45 @@
+//! The frame at the front of bytes.
+
+ghost use Rattle.std.specs.Prelude.{◌≡◌, ◌<◌, ◌≤◌, true, false, length};
+ghost use Rattle.perf_flat.specs.Configs.{is_known};
+ghost use Rattle.perf_event_c.specs.Ends.{StatesFirst};
+
+use crate::ends::{CUT_HEADER, DONE, LIMIT, NOT_READ};
+use perf_flat::flat_config::FlatConfig;
+use perf_flat::flat_frame::FlatFrame;
+use perf_flat::read::read;
+use std::alloc::Global;
+
+/// Writes the frame at the front of bytes to `frame` and returns [`LIMIT`]. A refused frame has its
+/// header and the reason.
+///
+/// If there is no whole header, it returns [`DONE`] or [`CUT_HEADER`], and for a configuration that is
+/// not of this version [`NOT_READ`]; nothing is written then.
+#[unsafe(no_mangle)]
+pub extern "C" fn ped_read(
+    alloc: Global,
+    config: &FlatConfig,
+    bytes: &[u8],
+    frame: &mut FlatFrame,
+) -> u32
+    ensures other { is_known config.now ≡ false →
+        (result ≡ NOT_READ) × (frame.new ≡ frame.old) }
+    ensures done { is_known config.now ≡ true → length bytes.now ≡ 0 →
+        (result ≡ DONE) × (frame.new ≡ frame.old) }
+    ensures cut { is_known config.now ≡ true → 0 < length bytes.now → length bytes.now < 8 →
+        (result ≡ CUT_HEADER) × (frame.new ≡ frame.old) }
+    ensures frame { is_known config.now ≡ true → 8 ≤ length bytes.now →
+        (result ≡ LIMIT) × StatesFirst config.now bytes.now frame.new }
+{
+    let Some(settings) = config.config() else {
+        return NOT_READ;
+    };
+    match read(alloc, &settings, bytes) {
+        Some(first) => {
+            *frame = first;
+            LIMIT
+        }
+        None if bytes.is_empty() => DONE,
+        None => CUT_HEADER,
+    }
+}

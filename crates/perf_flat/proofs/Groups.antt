@@ -1,0 +1,36 @@
+-- The groups of a sample's fields, one field after another.
+use Rattle.std.proofs.Common.{◌≡◌, ℕ, ◌==◌, ◌^◌, Bool, List, [], ◌∷◌, ◌++◌, Option, refl, sym, ◌∙◌, subst}
+use Rattle.std.specs.Int.RustNames.{bit_and}
+use Rattle.perf_base.specs.Layout.{Parts, done, ◌>>=◌}
+use Rattle.perf_base.specs.Order.{Order}
+use Rattle.perf_base.specs.Table.{present_if, slot, table}
+use Rattle.perf_sample_types.specs.Sample.{FieldValue, SampleValue, plain, has_one}
+use Rattle.perf_sample_types.proofs.FlaggedFields.{flag_asked}
+use Rattle.perf_flat.specs.Places.{Reads, ReadsFor}
+use Rattle.perf_flat.specs.SamplePlaces.{ReadsFields}
+use Rattle.perf_flat.specs.declared.places.Places.{Places}
+use Rattle.perf_flat.proofs.Reading.{then_reads, all_read, still_fresh}
+
+-- no field is left
+pub none_left : {o : Order} {a : Places} → ReadsFields o [] [] a a
+none_left = record { chain = λ others rest end reads. reads; bytes = refl; fresh = λ ok. ok }
+
+-- a field, and then those after it
+pub next_field : {o : Order} {field : Option (Parts FieldValue)} {fields : List (Option (Parts FieldValue))} {v : Option FieldValue} {vs : SampleValue} {a b d : Places} →
+    Reads o (slot field) v a b → ReadsFields o fields vs b d → ReadsFields o (field ∷ fields) (v ∷ vs) a d
+next_field {o} {field} {fields} {v} {vs} {a} {b} {d} first next = record {
+  chain = λ others rest end reads.
+      then_reads (slot field) (λ v. table (fields ++ others) >>= λ vs. done (v ∷ vs)) first
+      (then_reads (table (fields ++ others)) (λ vs. done (v ∷ vs)) (next.chain others rest end reads) all_read);
+  bytes = next.bytes ∙ first.bytes;
+  fresh = λ ok. still_fresh first (next.fresh ok);
+}
+
+-- a field of one flag
+pub flag_field : {o : Order} {v : Option FieldValue} {a b : Places} (bit : ℕ) {word type : ℕ} → word ≡ type →
+    Reads o (slot (present_if (bit_and word (2 ^ bit) == 2 ^ bit) plain)) v a b → Reads o (slot (present_if (has_one type (bit ∷ [])) plain)) v a b
+flag_field {o} {v} {a} {b} bit asked reads = subst (λ t. Reads o (slot (present_if t plain)) v a b) (sym (flag_asked bit asked)) reads
+
+-- a field by its test
+pub tested : {o : Order} {is : Option FieldValue → Type 0} {a b : Places} {t u : Bool} (p : Parts FieldValue) → t ≡ u → ReadsFor o (slot (present_if t p)) is a b → ReadsFor o (slot (present_if u p)) is a b
+tested {o} {is} {a} {b} p same reads = subst (λ t. ReadsFor o (slot (present_if t p)) is a b) same reads

@@ -1,0 +1,135 @@
+-- A sample that was read in place states what its value is.
+use Rattle.std.proofs.Common.{◌≡◌, ℕ, ◌==◌, ◌||◌, Bool, true, false, List, [], ◌∷◌, ◌++◌, Option, Some, None, refl, sym, ◌∙◌, ap, subst}
+use Rattle.std.specs.Prelude.{option_map}
+use Rattle.std.proofs.lemmas.Bool.{eqb-true}
+use Rattle.perf_base.specs.Configuration.{Configuration, under_misc}
+use Rattle.perf_base.specs.Layout.{Parts, done, mapped}
+use Rattle.perf_base.specs.Order.{Order}
+use Rattle.perf_base.specs.Table.{table}
+use Rattle.perf_records.specs.Bodies.{body}
+use Rattle.perf_records.specs.Records.{sample_is}
+use Rattle.perf_sample_types.specs.Sample.{FieldValue, SampleValue, number_is, sample, sample_fields, fields_under, moment_fields, count_fields, state_fields, cost_fields, memory_fields, values, branch_stack, registers}
+use Rattle.perf_sample_types.specs.SampleGetters.{number_in}
+use Rattle.perf_sample_types.specs.SampleId.{SampleIdValue}
+use Rattle.perf_flat.specs.Filled.{filled, filled_spans}
+use Rattle.perf_flat.specs.Numbers.{or_zero}
+use Rattle.perf_flat.specs.Places.{IsBodyOf, Reads, HoldsRecord}
+use Rattle.perf_flat.specs.SampleMade.{made_numbers, made_spans, made_ids}
+use Rattle.perf_flat.specs.SamplePlaces.{ReadsFields, ReadsCounts, ReadsState, ReadsCosts, ReadsMemory, moment_values, event_values}
+use Rattle.perf_flat.specs.Samples.{HasSampleSpans, sample_numbers}
+use Rattle.perf_flat.specs.Spans.{HasSpans}
+use Rattle.perf_flat.specs.declared.contents.Contents.{Contents}
+use Rattle.perf_flat.specs.declared.places.Places.{Places}
+use Rattle.perf_flat.specs.declared.sample_made.Sample.{Sample}
+use Rattle.perf_flat.proofs.Reading.{then_reads, all_read}
+use Rattle.std.specs.Prelude.{take, drop}
+
+-- ---- its fields, one group after another
+
+-- a whole table is a sample
+of_table : (o : Order) (c : Configuration) (vs : SampleValue) (a b : Places) → Reads o (table (fields_under c sample_fields)) vs a b → Reads o (sample c) vs a b
+unfolding sample
+of_table o c vs a b reads = reads
+
+-- the value of a sample by that of its groups
+abbrev pub sample_values : (made : Sample) (o : Order) (c : Configuration) {b d e f g : Places} → ReadsCounts c o made.counts b d → ReadsState c o made.state d e → ReadsCosts c o made.costs e f → ReadsMemory c o made.memory f g → SampleValue
+sample_values made o c counts state costs memory =
+    moment_values made.moment ++ (event_values made.event ++ ((counts.values ∷ counts.call_chain ∷ [])
+    ++ ((state.raw ∷ state.branches ∷ state.regs_user ∷ state.stack_user ∷ [])
+    ++ ((option_map number_is made.costs.weight ∷ option_map number_is made.costs.data_src ∷ option_map number_is made.costs.transaction ∷ costs.regs_intr ∷ [])
+    ++ ((option_map number_is made.memory.phys_addr ∷ option_map number_is made.memory.cgroup ∷ option_map number_is made.memory.data_page_size
+    ∷ option_map number_is made.memory.code_page_size ∷ memory.aux ∷ []) ++ [])))))
+
+pub sample_read : (o : Order) (c : Configuration) (made : Sample) {a m b d e f g : Places} → ReadsFields o (fields_under c (take 5 moment_fields)) (moment_values made.moment) a m →
+    ReadsFields o (fields_under c (drop 5 moment_fields)) (event_values made.event) m b → (counts : ReadsCounts c o made.counts b d) → (state : ReadsState c o made.state d e) →
+    (costs : ReadsCosts c o made.costs e f) → (memory : ReadsMemory c o made.memory f g) → Reads o (mapped sample_is (sample c)) (sample_is (sample_values made o c counts state costs memory)) a g
+sample_read o c made {a} {m} {b} {d} {e} {f} {g} moment event counts state costs memory =
+    let Fields : Type 0 = List (Option (Parts FieldValue)) in
+    let fields_5 : Fields = fields_under c memory_fields ++ [] in
+    let fields_4 : Fields = fields_under c cost_fields ++ fields_5 in
+    let fields_3 : Fields = fields_under c state_fields ++ fields_4 in
+    let fields_2 : Fields = fields_under c count_fields ++ fields_3 in
+    let fields_1 : Fields = fields_under c (drop 5 moment_fields) ++ fields_2 in
+    let values_5 : SampleValue = (option_map number_is made.memory.phys_addr ∷ option_map number_is made.memory.cgroup ∷ option_map number_is made.memory.data_page_size
+    ∷ option_map number_is made.memory.code_page_size ∷ memory.aux ∷ []) ++ [] in
+    let values_4 : SampleValue = (option_map number_is made.costs.weight ∷ option_map number_is made.costs.data_src ∷ option_map number_is made.costs.transaction ∷ costs.regs_intr ∷ []) ++ values_5 in
+    let values_3 : SampleValue = (state.raw ∷ state.branches ∷ state.regs_user ∷ state.stack_user ∷ []) ++ values_4 in
+    let values_2 : SampleValue = (counts.values ∷ counts.call_chain ∷ []) ++ values_3 in
+    let values_1 : SampleValue = event_values made.event ++ values_2 in
+    then_reads (sample c) (λ v. done (sample_is v)) (of_table o c (sample_values made o c counts state costs memory) a g
+    (moment.chain fields_1 values_1 g (event.chain fields_2 values_2 g (counts.fields.chain fields_3 values_3 g (state.fields.chain fields_4 values_4 g
+    (costs.fields.chain fields_5 values_5 g (memory.fields.chain [] [] g all_read))))))) all_read
+
+-- ---- its numbers
+
+number_back : (n : Option ℕ) → number_in (option_map number_is n) ≡ n
+number_back (Some n) = refl
+number_back None = refl
+
+zero_back : (n : Option ℕ) → or_zero n ≡ or_zero (number_in (option_map number_is n))
+zero_back n = ap or_zero (sym (number_back n))
+
+cons_is : {x y : ℕ} {xs ys : List ℕ} → x ≡ y → xs ≡ ys → x ∷ xs ≡ y ∷ ys
+cons_is {x} {y} {xs} {ys} one others = ap (λ n. n ∷ xs) one ∙ ap (λ ns. y ∷ ns) others
+
+-- what its contents have
+pub sample_holds : (o : Order) (c : Configuration) (body : List ℕ) (own : SampleIdValue) (made : Sample) (contents : Contents) {a m b d e f g : Places} → a.bytes.now ≡ body →
+    ReadsFields o (fields_under c (take 5 moment_fields)) (moment_values made.moment) a m → ReadsFields o (fields_under c (drop 5 moment_fields)) (event_values made.event) m b →
+    (counts : ReadsCounts c o made.counts b d) → (state : ReadsState c o made.state d e) → (costs : ReadsCosts c o made.costs e f) → (memory : ReadsMemory c o made.memory f g) → g.refusal ≡ None →
+    contents.numbers ≡ filled (made_numbers made) → contents.spans ≡ filled_spans (made_spans made) → contents.metadata.sample_id ≡ made_ids made →
+    HoldsRecord c o body own (sample_is (sample_values made o c counts state costs memory)) contents
+unfolding filled_spans
+sample_holds o c body own made contents {a} {m} {b} {d} {e} {f} {g} same moment event counts state costs memory ok numbers spans ids =
+    let ok_f = memory.fields.fresh ok in
+    let ok_e = costs.fields.fresh ok_f in
+    let ok_d = state.fields.fresh ok_e in
+    let body_b : b.bytes.now ≡ body = event.bytes ∙ moment.bytes ∙ same in
+    let body_d : d.bytes.now ≡ body = counts.fields.bytes ∙ body_b in
+    let body_e : e.bytes.now ≡ body = state.fields.bytes ∙ body_d in
+    let body_f : f.bytes.now ≡ body = costs.fields.bytes ∙ body_e in
+    let counters = counts.counters ok_d in
+    let entries = state.entries ok_e in
+    let user = state.registers ok_e in
+    let intr = costs.registers ok_f in
+    let vs : SampleValue = sample_values made o c counts state costs memory in
+    let all : made_numbers made ≡ sample_numbers c.read_format vs =
+    cons_is (zero_back made.moment.ip) (cons_is (zero_back made.moment.addr) (cons_is (zero_back made.event.period) (cons_is (zero_back made.costs.weight) (cons_is (zero_back made.costs.data_src)
+    (cons_is (zero_back made.costs.transaction) (cons_is (zero_back made.memory.phys_addr) (cons_is (zero_back made.memory.cgroup) (cons_is (zero_back made.memory.data_page_size)
+    (cons_is (zero_back made.memory.code_page_size) (cons_is (ap or_zero entries.hw_index) (cons_is user.abi (cons_is intr.abi counters.numbers)))))))))))) in
+    record {
+      numbers = numbers ∙ ap filled all;
+      spans = λ frame is.
+          let has : HasSampleSpans c.read_format o frame (filled_spans (made_spans made)) vs = record {
+            callchain = counts.addresses ok_d frame (subst (IsBodyOf frame) (sym body_b) is);
+            lbr = entries.entries frame (subst (IsBodyOf frame) (sym body_d) is);
+            values = counters.entries frame (subst (IsBodyOf frame) (sym body_b) is);
+            regs_user = user.regs frame (subst (IsBodyOf frame) (sym body_d) is);
+            regs_intr = intr.regs frame (subst (IsBodyOf frame) (sym body_e) is);
+            raw = state.raw_bytes ok_e frame (subst (IsBodyOf frame) (sym body_d) is);
+            stack_user = state.stack ok_e frame (subst (IsBodyOf frame) (sym body_d) is);
+            aux = memory.bytes ok frame (subst (IsBodyOf frame) (sym body_f) is);
+          } in
+          subst (λ xs. HasSpans c.read_format o frame xs (sample_is vs)) (sym spans) has;
+      ids = ids;
+    }
+
+-- ---- under a frame's own misc
+
+pub sample_under : (misc : ℕ) (c : Configuration) → sample (under_misc misc c) ≡ sample c
+unfolding sample values branch_stack registers
+sample_under misc c = refl
+
+-- its type, if it is no SAMPLE
+pub listed : (ty : ℕ) → (ty == 9 || ty == 16) ≡ true → (ty == 9) ≡ false → ty ≡ 16
+listed ty one other = eqb-true ty 16 (go (ty == 9) other one)
+  where
+    go : (b : Bool) → b ≡ false → (b || ty == 16) ≡ true → (ty == 16) ≡ true
+    go true other is = absurd (cc)
+    go false other is = is
+
+pub body_under : (misc : ℕ) (c : Configuration) (ty : ℕ) → (ty == 9 || ty == 16) ≡ true → body (under_misc misc c) ty ≡ body c ty
+body_under misc c ty one = go (ty == 9) refl
+  where
+    go : (b : Bool) → (ty == 9) ≡ b → body (under_misc misc c) ty ≡ body c ty
+    go true is = subst (λ n. body (under_misc misc c) n ≡ body c n) (sym (eqb-true ty 9 is)) (ap (mapped sample_is) (sample_under misc c))
+    go false is = subst (λ n. body (under_misc misc c) n ≡ body c n) (sym (listed ty one is)) refl

@@ -1,0 +1,87 @@
+-- How the numbers of a body are taken one after another, and its lists passed over: where a reading is,
+-- and what it has read. Private contracts use this form.
+use Rattle.std.specs.Prelude.{ℕ, ◌≡◌, ◌<◌, ◌^◌, ◌≤◌, List, [], length, take, drop, Option, Some, None}
+use Rattle.std.specs.Prelude.{Result, Ok, Err}
+use Rattle.perf_base.specs.Configuration.{Configuration}
+use Rattle.perf_base.specs.FieldWords.{numbers}
+use Rattle.perf_base.specs.Layout.{Parts, layout}
+use Rattle.perf_base.specs.Order.{Order}
+use Rattle.perf_base.specs.Refusals.{refusal_kind}
+use Rattle.perf_base.specs.Run.{Ran, ran, stopped, run_parts}
+use Rattle.perf_base.specs.declared.refusal.Refusal.{Refusal}
+use Rattle.perf_records.specs.Records.{RecordValue}
+use Rattle.perf_sample_types.specs.SampleId.{SampleIdValue}
+use Rattle.perf_flat.specs.Flat.{ids_of, numbers_under}
+use Rattle.perf_flat.specs.Filled.{filled}
+use Rattle.perf_flat.specs.Spans.{HasSpans}
+use Rattle.perf_flat.specs.Strings.{HasNumbers}
+use Rattle.perf_flat.specs.declared.contents.Contents.{Contents}
+use Rattle.perf_flat.specs.declared.flat_frame.Span.{Span}
+use Rattle.perf_flat.specs.declared.places.Places.{Places}
+
+-- the bytes of a frame after its header, of which a body is the front
+pub record IsBodyOf (frame body : List ℕ) : Type 0 where
+  pub headed : 8 ≤ length frame
+  pub short : length frame < 2 ^ 32
+  pub count : ℕ
+  pub is : body ≡ take count (drop 8 frame)
+
+-- the bytes that are not read yet
+abbrev pub left_of : Places → List ℕ
+left_of s = drop s.at s.bytes.now
+
+-- a refusal, if there was none before
+abbrev pub first_of : Option Refusal → Refusal → Option Refusal
+first_of (Some e) next = Some e
+first_of None next = Some next
+
+-- a run, of which a refusal leaves no bytes
+abbrev pub cut_short : {A : Type 0} → Ran A → Ran A
+cut_short (ran v left) = ran v left
+cut_short (stopped e left) = stopped e []
+
+-- The parts over the bytes that are not read yet, or the refusal before them. It is opened only when a
+-- proof asks for it.
+unfoldable pub run_at : {A : Type 0} → Order → Parts A → Places → Ran A
+run_at o p s = elim s.refusal [ Some e ↦ stopped (refusal_kind e) [] | None ↦ cut_short (run_parts o p (left_of s)) ]
+
+-- a value that was read, and the bytes after it, or a refusal
+unfoldable pub read_to : {A : Type 0} → A → Places → Ran A
+read_to v s = elim s.refusal [ Some e ↦ stopped (refusal_kind e) [] | None ↦ ran v (left_of s) ]
+
+-- these parts were read of the body, with this value
+pub record Reads {A : Type 0} (o : Order) (p : Parts A) (v : A) (old new : Places) : Type 0 where
+  pub run : run_at o p old ≡ read_to v new
+  pub bytes : new.bytes.now ≡ old.bytes.now
+
+-- These parts were read, and if nothing was refused, this is true of their value.
+pub record ReadsFor {A : Type 0} (o : Order) (p : Parts A) (is : A → Type 0) (old new : Places) :
+    Type 0 where
+  pub value : A
+  pub reads : Reads o p value old new
+  pub holds : new.refusal ≡ None → is value
+
+-- n numbers of eight bytes were passed over, and they are at the span in each frame of the body
+abbrev pub PassesNumbers : Order → ℕ → (old : Places) → Span → (new : Places) → Type 0
+PassesNumbers o n old s new = ReadsFor o (numbers n)
+    (λ words. (length words ≡ n)
+    × ((frame : List ℕ) → IsBodyOf frame old.bytes.now → HasNumbers o frame s n (λ are. are ≡ words)))
+    old new
+
+-- ---- contents
+
+-- Contents have the numbers of a record, its spans in each frame of the body, and its sample id, which
+-- is the frame's or the record's own.
+pub record HoldsRecord (c : Configuration) (o : Order) (body : List ℕ) (own : SampleIdValue)
+    (value : RecordValue) (made : Contents) : Type 0 where
+  pub numbers : made.numbers ≡ filled (numbers_under c.read_format value)
+  pub spans : (frame : List ℕ) → IsBodyOf frame body → HasSpans c.read_format o frame made.spans value
+  pub ids : made.metadata.sample_id ≡ ids_of own value
+
+-- The contents of the record in a body, or the kind of its refusal. It is opened only when a proof asks
+-- for it.
+unfoldable pub PlacesRecord : Configuration → Order → Parts RecordValue → (body : List ℕ) → SampleIdValue →
+    Result Contents Refusal → Type 0
+PlacesRecord c o p body ids (Ok made) =
+    (value : RecordValue) × (layout o p body ≡ Ok value) × HoldsRecord c o body ids value made
+PlacesRecord c o p body ids (Err e) = layout o p body ≡ Err (refusal_kind e)

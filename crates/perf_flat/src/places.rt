@@ -1,0 +1,137 @@
+//! Bodies read in place: their numbers are taken, and their lists are passed over.
+
+ghost use Rattle.std.specs.Prelude.{◌≤◌, length};
+
+use crate::flat_frame::{Span, short_span};
+use perf_base::endian::Endian;
+use perf_base::refusal::Refusal;
+
+// A body, how many of its bytes were read, and the first refusal. After a refusal nothing that is
+// read counts.
+#[derive(Drop)]
+pub(crate) struct Places<'c> {
+    bytes: &'c [u8],
+    at: usize,
+    refusal: Option<Refusal>,
+    ghost within: { at ≤ length bytes.now },
+}
+
+impl<'c> Places<'c> {
+    ghost use Rattle.std.specs.Prelude.{◌≡◌, ◌≤◌, ◌<◌, ◌+◌, ◌*◌, ◌^◌, None, length, ℕ};
+    ghost use Rattle.perf_base.specs.Layout.{w4, w8, number, part, done};
+    ghost use Rattle.perf_base.specs.FieldWords.{require};
+    ghost use Rattle.perf_base.specs.Order.{Order};
+    ghost use Rattle.perf_base.specs.Refusals.{refusal_kind};
+    ghost use Rattle.perf_base.specs.declared.refusal.Refusal.TheVariants.{Eof};
+    ghost use Rattle.perf_flat.specs.Filled.{low_word, span};
+    ghost use Rattle.perf_flat.specs.Places.{Reads, PassesNumbers, first_of};
+
+    // The beginning of a body.
+    #[inline]
+    pub(crate) fn new(bytes: &'c [u8]) -> Places<'c>
+        ensures bytes { result.bytes.now ≡ bytes.now }
+        ensures at { result.at ≡ 0 }
+        ensures refusal { result.refusal ≡ None }
+    {
+        Places {
+            bytes,
+            at: 0,
+            refusal: None,
+        }
+    }
+
+    // The first refusal.
+    #[inline]
+    pub(crate) fn refusal(&self) -> Option<Refusal>
+        ensures { result ≡ self.now.refusal }
+    {
+        self.refusal
+    }
+
+    // Refuses, if nothing was refused before.
+    #[inline]
+    fn refuse(&mut self, refusal: Refusal)
+        ensures bytes { self.new.bytes.now ≡ self.old.bytes.now }
+        ensures refusal { self.new.refusal ≡ first_of self.old.refusal refusal }
+    {
+        if self.refusal.is_none() {
+            self.refusal = Some(refusal);
+        }
+    }
+
+    // The next number of four bytes.
+    #[inline]
+    pub(crate) fn read_u32<E: Endian>(&mut self, order: &E) -> u32
+        ensures { Reads (E.order order.now) (part (number w4) done) result self.old self.new }
+    {
+        match self.bytes[self.at..].split_first_chunk::<4>() {
+            Some((word, _)) => {
+                self.at += 4;
+                order.convert_u32(*word)
+            }
+            None => {
+                self.refuse(Refusal::Eof);
+                0
+            }
+        }
+    }
+
+    // The next number of eight bytes.
+    #[inline]
+    pub(crate) fn read_u64<E: Endian>(&mut self, order: &E) -> u64
+        ensures { Reads (E.order order.now) (part (number w8) done) result self.old self.new }
+    {
+        match self.bytes[self.at..].split_first_chunk::<8>() {
+            Some((word, _)) => {
+                self.at += 8;
+                order.convert_u64(*word)
+            }
+            None => {
+                self.refuse(Refusal::Eof);
+                0
+            }
+        }
+    }
+
+    // Refuses, if this is false.
+    #[inline]
+    pub(crate) fn require(&mut self, holds: bool, refusal: Refusal)
+        ensures { (o : Order) →
+            Reads o (require holds (refusal_kind refusal)) tt self.old self.new }
+    {
+        if !holds {
+            self.refuse(refusal);
+        }
+    }
+
+    // Passes over that many bytes, and returns where they are in the frame.
+    pub(crate) fn pass(&mut self, len: u64) -> Span
+        ensures bytes { self.new.bytes.now ≡ self.old.bytes.now }
+        ensures room { length self.old.bytes.now < 2 ^ 63 }
+        ensures short { length self.old.bytes.now < self.old.at + len →
+            self.new.refusal ≡ first_of self.old.refusal Eof }
+        ensures fits { self.old.at + len ≤ length self.old.bytes.now →
+            (self.new.refusal ≡ self.old.refusal) × (self.new.at ≡ self.old.at + len)
+            × (result ≡ span (low_word (8 + self.old.at)) (low_word len)) }
+    {
+        let at = self.at;
+        if len > (self.bytes.len() - at) as u64 {
+            self.refuse(Refusal::Eof);
+            return Span { at: 0, len: 0 };
+        }
+        self.at = at + len as usize;
+        short_span(8 + at, len as usize)
+    }
+
+    // Passes over that many items of so many numbers each, and returns where they are in the frame.
+    pub(crate) fn pass_items(&mut self, count: u64, each: u64) -> Span
+        requires { each ≤ 3 }
+        ensures { (o : Order) → (n : ℕ) → n ≡ each * count →
+            PassesNumbers o n self.old result self.new }
+    {
+        match count.checked_mul(8 * each) {
+            Some(len) => self.pass(len),
+            None => self.pass(u64::MAX),
+        }
+    }
+}

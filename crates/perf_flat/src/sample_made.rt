@@ -1,0 +1,134 @@
+//! Samples, read in place.
+
+ghost use Rattle.std.specs.Prelude.{◌≡◌};
+ghost use Rattle.perf_base.specs.Layout.{mapped};
+ghost use Rattle.perf_flat.specs.Filled.{filled, filled_spans};
+ghost use Rattle.perf_flat.specs.Places.{PlacesRecord};
+ghost use Rattle.perf_flat.specs.SampleMade as made;
+ghost use Rattle.perf_records.specs.Prelude.{configuration_of, endian_of};
+ghost use Rattle.perf_records.specs.Records.{sample_is};
+ghost use Rattle.perf_sample_types.specs.Sample as sample;
+
+use crate::contents::{Contents, contents_of};
+use crate::flat_frame::{SPANS, Span};
+use crate::places::Places;
+use crate::sample_groups::{Costs, Counts, Event, Memory, Moment, State};
+use perf_base::config::ParseConfig;
+use perf_base::endian::Endian;
+use perf_base::refusal::ReadResult;
+use perf_records::metadata::RecordMetadata;
+use perf_sample_types::sample_id::SampleId;
+
+// The groups of a sample's fields.
+#[derive(Copy, Clone)]
+struct Sample {
+    moment: Moment,
+    event: Event,
+    counts: Counts,
+    state: State,
+    costs: Costs,
+    memory: Memory,
+}
+
+impl Sample {
+    // Its task and event.
+    fn sample_id(&self) -> SampleId
+        ensures { result ≡ made.made_ids self.now }
+    {
+        let (pid, tid) = match self.moment.task {
+            Some((pid, tid)) => (Some(pid), Some(tid)),
+            None => (None, None),
+        };
+        let id = match self.event.id {
+            Some(id) => Some(id),
+            None => self.moment.identifier,
+        };
+        SampleId::from_parts(
+            pid,
+            tid,
+            self.moment.time,
+            id,
+            self.event.stream_id,
+            self.event.cpu,
+        )
+    }
+
+    // Its contents, with the type and the misc of the metadata.
+    fn contents(&self, metadata: &RecordMetadata) -> Contents
+        ensures numbers { result.numbers ≡ filled (made.made_numbers self.now) }
+        ensures spans { result.spans ≡ filled_spans (made.made_spans self.now) }
+        ensures ids { result.metadata.sample_id ≡ made.made_ids self.now }
+    {
+        let (counters, state, costs) = (self.counts.values, self.state, self.costs);
+        let numbers = [
+            self.moment.ip.unwrap_or(0),
+            self.moment.addr.unwrap_or(0),
+            self.event.period.unwrap_or(0),
+            costs.weight.unwrap_or(0),
+            costs.data_src.unwrap_or(0),
+            costs.transaction.unwrap_or(0),
+            self.memory.phys_addr.unwrap_or(0),
+            self.memory.cgroup.unwrap_or(0),
+            self.memory.data_page_size.unwrap_or(0),
+            self.memory.code_page_size.unwrap_or(0),
+            state.branches.hw_index.unwrap_or(0),
+            state.regs_user.abi,
+            costs.regs_intr.abi,
+            counters.time_enabled.unwrap_or(0),
+            counters.time_running.unwrap_or(0),
+            counters.count,
+            counters.value,
+            counters.id.unwrap_or(0),
+            counters.lost.unwrap_or(0),
+        ];
+        contents_of(
+            RecordMetadata::from_parts(metadata.ty(), metadata.misc(), self.sample_id()),
+            &numbers,
+            &self.spans(),
+        )
+    }
+
+    // Where its lists are.
+    fn spans(&self) -> [Span; SPANS]
+        ensures { result ≡ made.made_spans self.now }
+    {
+        [
+            self.counts.call_chain,
+            self.state.branches.entries,
+            self.counts.values.entries,
+            self.state.regs_user.regs,
+            self.costs.regs_intr.regs,
+            self.state.raw,
+            self.state.stack_user,
+            self.memory.aux,
+        ]
+    }
+}
+
+// The contents of a SAMPLE.
+pub(crate) fn sample_contents<E: Endian>(
+    config: &ParseConfig<E>,
+    metadata: &RecordMetadata,
+    body: &[u8],
+) -> ReadResult<Contents>
+    ensures { PlacesRecord (configuration_of config.now) (E.order (endian_of config.now))
+        (mapped sample_is (sample.sample (configuration_of config.now))) body.now
+        metadata.now.sample_id result }
+{
+    let order = config.endian();
+    let flags = config.sample_type();
+    let hw_index = config.branch_hw_index();
+    let mut places = Places::new(body);
+    let sample = Sample {
+        moment: places.moment(order, flags),
+        event: places.event(order, flags),
+        counts: places.counts(order, flags, config.read_format()),
+        state: places.state(order, flags, hw_index, config.regs_user()),
+        costs: places.costs(order, flags, config.regs_intr()),
+        memory: places.memory(order, flags),
+    };
+    match places.refusal() {
+        Some(refusal) => Err(refusal),
+        None => Ok(sample.contents(metadata)),
+    }
+}
