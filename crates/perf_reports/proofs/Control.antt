@@ -8,7 +8,7 @@ use Rattle.std.proofs.lemmas.Bool.{le-leb, ne_eqb}
 use Rattle.std.proofs.lemmas.List.Folds.{list_all-append}
 use Rattle.std.proofs.lemmas.List.Elements.{All-nil, All-cons}
 use Rattle.std.specs.Str.Lossy.{after_first_chunk}
-use Rattle.perf_reports.specs.TaskLines.{HasNoControl, hex_byte, stays, escaped_byte, escaped_char, escaped_text, escape, escaped_within, text_in_front, invalid_after}
+use Rattle.perf_reports.specs.TaskLines.{HasNoControl, hex_byte, stays, escaped_byte, escaped_char, escaped_text, escape_name, escaped_within, text_in_front, invalid_after}
 use Rattle.perf_reports.proofs.Escaped.{both, picked}
 
 -- `HasNoControl` as a test
@@ -111,5 +111,5 @@ clean_within (suc most) bytes =
     clean_joined (escaped_text (text_in_front bytes)) (flat_map escaped_byte (invalid_after bytes) ++ escaped_within most (after_first_chunk bytes)) (clean_each escaped_char (chars (text_in_front bytes)) clean_char)
     (clean_joined (flat_map escaped_byte (invalid_after bytes)) (escaped_within most (after_first_chunk bytes)) (clean_each escaped_byte (invalid_after bytes) clean_escape) (clean_within most (after_first_chunk bytes)))
 
-pub clean_escaped : (bytes : List ℕ) → Clean (escape bytes)
+pub clean_escaped : (bytes : List ℕ) → Clean (escape_name bytes)
 clean_escaped bytes = clean_within _ bytes

@@ -7,7 +7,7 @@ use Rattle.perf_types.specs.declared.namespaces.NamespaceEntry.{NamespaceEntry}
 use Rattle.perf_types.specs.Mmap2.{Mmap2Value}
 use Rattle.perf_types.specs.MmapDetail.{DetailValue, inode_is, build_id_is}
 use Rattle.perf_records.specs.Records.{RecordValue, comm_is, mmap_is, mmap2_is, fork_is, exit_is, namespaces_is}
-use Rattle.perf_reports.specs.TaskLines.{HasNoControl, hex, hex_byte, letter, place, protection, file, namespace, escape, line, task_line, mmap2_line, line_of}
+use Rattle.perf_reports.specs.TaskLines.{HasNoControl, hex, hex_byte, letter, place, protection, file, namespace, escape_name, line, task_line, mmap2_line, line_of}
 use Rattle.perf_reports.proofs.Control.{Clean, no_control, clean_joined, clean_each, clean_decimal, clean_digits, clean_hex_byte, clean_escaped}
 use Rattle.perf_reports.proofs.Escaped.{picked}
 
@@ -58,17 +58,17 @@ task_clean what r p = line_clean what r.pid r.tid (decimal r.ppid ++ (32 ∷ dec
 
 mmap2_clean : (r : Mmap2Value) → Clean (mmap2_line r)
 mmap2_clean r =
-    let name : List ℕ = escape r.filename in
+    let name : List ℕ = escape_name r.filename in
     let used : List ℕ = protection r.prot r.flags in
     line_clean (codes "mmap2") r.pid r.tid (place r.addr r.len r.pgoff ++ (32 ∷ (file r.detail ++ (32 ∷ (used ++ (32 ∷ name)))))) refl
     (spaced_clean (place r.addr r.len r.pgoff) (file r.detail ++ (32 ∷ (used ++ (32 ∷ name)))) (place_clean r.addr r.len r.pgoff)
     (spaced_clean (file r.detail) (used ++ (32 ∷ name)) (file_clean r.detail) (spaced_clean used name (protection_clean r.prot r.flags) (clean_escaped r.filename))))
 
 line_of_clean : (r : RecordValue) → Clean (unwrap_or (line_of r) [])
-line_of_clean (comm_is r) = line_clean (codes "comm") r.pid r.tid (escape r.comm) refl (clean_escaped r.comm)
+line_of_clean (comm_is r) = line_clean (codes "comm") r.pid r.tid (escape_name r.comm) refl (clean_escaped r.comm)
 line_of_clean (mmap_is r) =
-    line_clean (codes "mmap") r.pid r.tid (place r.addr r.len r.pgoff ++ (32 ∷ escape r.filename)) refl
-    (spaced_clean (place r.addr r.len r.pgoff) (escape r.filename) (place_clean r.addr r.len r.pgoff) (clean_escaped r.filename))
+    line_clean (codes "mmap") r.pid r.tid (place r.addr r.len r.pgoff ++ (32 ∷ escape_name r.filename)) refl
+    (spaced_clean (place r.addr r.len r.pgoff) (escape_name r.filename) (place_clean r.addr r.len r.pgoff) (clean_escaped r.filename))
 line_of_clean (mmap2_is r) = mmap2_clean r
 line_of_clean (fork_is r) = task_clean (codes "fork") r refl
 line_of_clean (exit_is r) = task_clean (codes "exit") r refl

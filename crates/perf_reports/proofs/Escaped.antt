@@ -12,36 +12,36 @@ use Rattle.std.proofs.lemmas.List.{length-drop, drop_all}
 use Rattle.std.proofs.lemmas.Str.{encodes-chars, chars-IsAscii, IsUtf8-from_ascii, utf8_valid_len-IsUtf8}
 use lib.Seq.{take_at, drop_at}
 use lib.Utf8.{encodes}
-use Rattle.perf_reports.specs.TaskLines.{stays, escaped_byte, escaped_char, escaped_text, escape, escaped_within, text_in_front, invalid_after}
+use Rattle.perf_reports.specs.TaskLines.{stays, escaped_byte, escaped_char, escaped_text, escape_name, escaped_within, text_in_front, invalid_after}
 
 -- ---- worked examples
 
 -- `sh`, a line feed and `exit 1`
-line_feed : escape (codes "sh\nexit 1") ≡ codes "sh\\x0aexit 1"
+line_feed : escape_name (codes "sh\nexit 1") ≡ codes "sh\\x0aexit 1"
 unfolding utf8_valid_len utf8_error_len is_utf8 chars encode_utf8 digits
 line_feed = refl
 
 -- the sequence that clears a terminal
-escape : escape (0x1B ∷ codes "[2J") ≡ codes "\\x1b[2J"
+escape : escape_name (0x1B ∷ codes "[2J") ≡ codes "\\x1b[2J"
 unfolding utf8_valid_len utf8_error_len is_utf8 chars encode_utf8 digits
 escape = refl
 
 -- a byte that is not UTF-8
-invalid : escape (0x61 ∷ 0xFF ∷ 0x62 ∷ []) ≡ codes "a\\xffb"
+invalid : escape_name (0x61 ∷ 0xFF ∷ 0x62 ∷ []) ≡ codes "a\\xffb"
 unfolding utf8_valid_len utf8_error_len is_utf8 chars encode_utf8 digits
 invalid = refl
 
 -- a backslash
-backslash : escape (0x5C ∷ []) ≡ codes "\\x5c"
+backslash : escape_name (0x5C ∷ []) ≡ codes "\\x5c"
 unfolding utf8_valid_len utf8_error_len is_utf8 chars encode_utf8 digits
 backslash = refl
 
 -- U+00E9, which stays, and U+0085, which does not
-letter : escape (0xC3 ∷ 0xA9 ∷ []) ≡ 0xC3 ∷ 0xA9 ∷ []
+letter : escape_name (0xC3 ∷ 0xA9 ∷ []) ≡ 0xC3 ∷ 0xA9 ∷ []
 unfolding utf8_valid_len utf8_error_len is_utf8 chars encode_utf8 digits
 letter = refl
 
-next_line : escape (0xC2 ∷ 0x85 ∷ []) ≡ codes "\\xc2\\x85"
+next_line : escape_name (0xC2 ∷ 0x85 ∷ []) ≡ codes "\\xc2\\x85"
 unfolding utf8_valid_len utf8_error_len is_utf8 chars encode_utf8 digits
 next_line = refl
 
@@ -115,7 +115,7 @@ within_enough (suc k) (suc j) bytes p q =
       | inr none ↦ ap (escaped_within (suc k)) (nothing bytes none) ∙ within_nil (suc k) ∙ sym (ap (escaped_within (suc j)) (nothing bytes none) ∙ within_nil (suc j))
     ]
 
-escaped_step : (bytes : List ℕ) → 0 < length bytes → escape bytes ≡ escaped_text (text_in_front bytes) ++ (flat_map escaped_byte (invalid_after bytes) ++ escape (after_first_chunk bytes))
+escaped_step : (bytes : List ℕ) → 0 < length bytes → escape_name bytes ≡ escaped_text (text_in_front bytes) ++ (flat_map escaped_byte (invalid_after bytes) ++ escape_name (after_first_chunk bytes))
 escaped_step bytes some =
     let less = shorter bytes some in
     within_enough (length bytes) (suc (length bytes)) bytes (omega arith) (omega arith)
@@ -123,7 +123,7 @@ escaped_step bytes some =
 
 -- the same of bytes that are cut into a text, the invalid bytes after it and the rest
 pub escaped_chunk : (bytes valid invalid rest : List ℕ) → 0 < length bytes → bytes ≡ valid ++ (invalid ++ rest) → length valid ≡ utf8_valid_len bytes
-    → length invalid ≡ utf8_invalid_len (drop (utf8_valid_len bytes) bytes) → escape bytes ≡ escaped_text valid ++ (flat_map escaped_byte invalid ++ escape rest)
+    → length invalid ≡ utf8_invalid_len (drop (utf8_valid_len bytes) bytes) → escape_name bytes ≡ escaped_text valid ++ (flat_map escaped_byte invalid ++ escape_name rest)
 escaped_chunk bytes valid invalid rest some parts valid_len invalid_len =
     let n = utf8_valid_len bytes in
     let m = utf8_invalid_len (drop n bytes) in
@@ -132,7 +132,7 @@ escaped_chunk bytes valid invalid rest some parts valid_len invalid_len =
     let middle : take m (drop n bytes) ≡ invalid = ap (take m) left ∙ take_at invalid rest m invalid_len in
     let both_len : length (valid ++ invalid) ≡ n + m = omega (arith, length-append valid invalid) in
     let back : after_first_chunk bytes ≡ rest = ap (drop (n + m)) (parts ∙ sym (append_assoc valid invalid rest)) ∙ drop_at (valid ++ invalid) rest (n + m) both_len in
-    escaped_step bytes some ∙ (λ i. escaped_text (front i) ++ (flat_map escaped_byte (middle i) ++ escape (back i)))
+    escaped_step bytes some ∙ (λ i. escaped_text (front i) ++ (flat_map escaped_byte (middle i) ++ escape_name (back i)))
 
 -- ---- names that are plain
 
@@ -154,7 +154,7 @@ plain_stays [] h = refl
 plain_stays (b ∷ bs) h = let (ascii, stay, others) = plain_both b bs h in ap (λ t. t && list_all stays bs) stay ∙ plain_stays bs others
 
 -- ASCII in which every byte stays
-pub escaped_plain : (bytes : List ℕ) → list_all (λ byte. is_ascii byte && stays byte) bytes ≡ true → escape bytes ≡ bytes
+pub escaped_plain : (bytes : List ℕ) → list_all (λ byte. is_ascii byte && stays byte) bytes ≡ true → escape_name bytes ≡ bytes
 unfolding utf8_error_len
 escaped_plain [] h = refl
 escaped_plain (b ∷ bs) h =

@@ -98,8 +98,8 @@ escaped_within (suc most) bytes =
 
 -- the bytes of a name as text: a byte that is not part of UTF-8 is escaped, and so is each byte of a
 -- character that does not stay
-abbrev pub escape : List ℕ → List ℕ
-escape bytes = escaped_within (length bytes) bytes
+abbrev pub escape_name : List ℕ → List ℕ
+escape_name bytes = escaped_within (length bytes) bytes
 
 -- no byte of a line is a control character of ASCII: none is below 32, and none is 127
 abbrev pub HasNoControl : List ℕ → Type 0
@@ -113,20 +113,20 @@ line what pid tid says = spaced (what ∷ decimal pid ∷ decimal tid ∷ says �
 
 -- the new name of a task
 abbrev pub comm_line : CommValue → List ℕ
-comm_line r = line (codes "comm") r.pid r.tid (escape r.comm)
+comm_line r = line (codes "comm") r.pid r.tid (escape_name r.comm)
 
 -- a mapping: its address, and its name
 abbrev pub mmap_line : MmapValue → List ℕ
 mmap_line r =
     line (codes "mmap") r.pid r.tid
-    (spaced (place r.addr r.len r.pgoff ∷ escape r.filename ∷ []))
+    (spaced (place r.addr r.len r.pgoff ∷ escape_name r.filename ∷ []))
 
 -- the same, with its file and how its memory may be used
 abbrev pub mmap2_line : Mmap2Value → List ℕ
 mmap2_line r =
     line (codes "mmap2") r.pid r.tid
     (spaced (place r.addr r.len r.pgoff ∷ file r.detail ∷ protection r.prot r.flags
-    ∷ escape r.filename ∷ []))
+    ∷ escape_name r.filename ∷ []))
 
 -- the start or the end of a task, and the task that made it or its parent
 abbrev pub task_line : List ℕ → Exit → List ℕ

@@ -36,7 +36,7 @@ pub(crate) struct FrameCounter<'p> {
 impl<'p> FrameCounter<'p> {
     /// A counter that has counted nothing.
     pub(crate) fn new(alloc: Global) -> FrameCounter<'p>
-        ensures { result.counts ≡ counted [] }
+        ensures { result.counts ≡ counts_of [] }
     {
         FrameCounter {
             alloc,

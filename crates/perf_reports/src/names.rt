@@ -12,7 +12,7 @@ use std::alloc::AllocError;
 // byte that is not part of UTF-8, is escaped.
 pub(crate) fn push_name(text: &mut String, bytes: &[u8]) -> Result<(), AllocError>
     ensures { OnOk result (string_bytes text.new
-        ≡ string_bytes text.old ++ printed.escape bytes.now) }
+        ≡ string_bytes text.old ++ printed.escape_name bytes.now) }
 {
     if is_plain(bytes) {
         if let Ok(name) = str::from_utf8(bytes) {
