@@ -1,23 +1,19 @@
 -- What a flat frame states of a body, by how it was made.
 use Rattle.std.specs.Prelude.{if◌then◌else◌}
-use Rattle.std.proofs.Common.{◌≡◌, ℕ, ◌+◌, ◌<◌, ◌^◌, ◌==◌, ◌&&◌, Bool, true, false, List, ◌++◌, length, take, replicate, Result, Ok, Err, refl, sym, ◌∙◌, ap, subst, arith}
+use Rattle.std.proofs.Common.{◌≡◌, ℕ, ◌+◌, ◌<◌, ◌^◌, ◌==◌, ◌&&◌, Bool, true, false, List, ◌++◌, length, take, Ok, Err, refl, sym, ◌∙◌, ap, subst, arith}
 use Rattle.std.proofs.lemmas.Bool.{and_right}
 use Rattle.std.proofs.lemmas.List.{length-append, take_all, drop_at}
 use Rattle.std.specs.Int.RustNames.{bit_and}
 use Rattle.perf_base.specs.Configuration.{Configuration, under_misc}
 use Rattle.perf_base.specs.Layout.{layout}
 use Rattle.perf_base.specs.Order.{Order}
-use Rattle.perf_base.specs.Refusals.{kinds}
 use Rattle.perf_base.specs.declared.refusal.Refusal.{Refusal}
 use Rattle.perf_base.specs.declared.sys.perf_event_header.{perf_event_header}
-use Rattle.perf_records.specs.Bodies.{body, needs_memory}
-use Rattle.perf_records.specs.Gives.{GivesWholeBody}
-use Rattle.perf_records.specs.Metadata.{MetadataValue, carries_sample_id}
+use Rattle.perf_records.specs.Bodies.{body}
+use Rattle.perf_records.specs.Metadata.{carries_sample_id}
 use Rattle.perf_records.specs.Records.{RecordValue}
-use Rattle.perf_records.specs.RecordTypes.{type_of}
 use Rattle.perf_sample_types.specs.SampleId.{SampleIdValue, no_sample_id}
 use Rattle.perf_flat.specs.Bodies.{without_ids, StatesBody, IsFlatBody}
-use Rattle.perf_flat.specs.Contents.{GivesContents}
 use Rattle.perf_flat.specs.Filled.{filled}
 use Rattle.perf_flat.specs.Flat.{CarriesNumbers, StatesId, StatesRecord, HasHeader, present_of, id_flags, ids_of, numbers_under, refused_frame}
 use Rattle.perf_flat.specs.Places.{IsBodyOf, PlacesRecord}
@@ -25,7 +21,6 @@ use Rattle.perf_flat.specs.Samples.{sample_present}
 use Rattle.perf_flat.specs.Spans.{HasSpans}
 use Rattle.perf_flat.specs.declared.contents.Contents.{Contents}
 use Rattle.perf_flat.specs.declared.flat_frame.FlatFrame.{FlatFrame}
-use Rattle.perf_flat.proofs.Holding.{contents_hold, ids_hold}
 
 -- only the fields of a sample are present without a sample id
 alone : (b : Bool) (x y z : ℕ) → z ≡ 0 → (if b then (if b then x else y) else 0) ≡ (if b then x else z)
@@ -59,14 +54,6 @@ no_id_numbers c h ids all a p headed is carries = record {
   };
   numbers = carries.numbers;
 }
-
--- the visit of a body, by the configuration, the order and the type
-pub visit_of : (c k : Configuration) (o p : Order) (h : perf_event_header) (bytes : List ℕ) (m : MetadataValue) (result : Result Contents Refusal) (n : ℕ) → k ≡ under_misc h.misc c → p ≡ o → m.ty ≡ h.type_ →
-    GivesWholeBody GivesContents m p (body k m.ty) bytes true (kinds result) n → GivesWholeBody GivesContents m o (body (under_misc h.misc c) h.type_) bytes true (kinds result) n
-visit_of c k o p h bytes m result n settings order ty visits =
-    subst (λ (q : Order). GivesWholeBody GivesContents m q (body (under_misc h.misc c) h.type_) bytes true (kinds result) n) order
-    (subst (λ (t : ℕ). GivesWholeBody GivesContents m p (body (under_misc h.misc c) t) bytes true (kinds result) n) ty
-    (subst (λ (s : Configuration). GivesWholeBody GivesContents m p (body s m.ty) bytes true (kinds result) n) settings visits))
 
 -- the body is after eight bytes
 body_after : (front bytes : List ℕ) → length front ≡ 8 → length bytes < 2 ^ 16 → IsBodyOf (front ++ bytes) bytes
@@ -103,25 +90,11 @@ body_states c o h bytes value made f short made_of numbers there ids headed carr
       subst (λ a. StatesBody c o h frame a f) (sym made_of) says;
 }
 
-pub body_visited : (c : Configuration) (o : Order) (h : perf_event_header) (bytes : List ℕ) (m : MetadataValue) (result : Result Contents Refusal) (k : ℕ) (made : Contents) (f : FlatFrame) →
-    length bytes < 2 ^ 16 → needs_memory h.type_ ≡ false → GivesWholeBody GivesContents m o (body (under_misc h.misc c) h.type_) bytes true (kinds result) k → result ≡ Ok made →
-    m.sample_id ≡ no_sample_id → HasHeader h f → CarriesNumbers (without_ids c) made.metadata.sample_id made.numbers f → f.spans ≡ made.spans → IsFlatBody c o h bytes f
-body_visited c o h bytes m result k made f short plain visits is alone headed carries spans =
-    let v = subst (λ r. GivesWholeBody GivesContents m o (body (under_misc h.misc c) h.type_) bytes true (kinds r) k) is visits in
-    let value : RecordValue = v.0 in
-    let gives = v.2 in
-    let made_of : layout o (body (under_misc h.misc c) h.type_) bytes ≡ Ok value = v.3 in
-    let hold = λ (frame : List ℕ) (at : IsBodyOf frame bytes). contents_hold o (under_misc h.misc c) h.type_ (type_of h.type_) frame bytes value made at plain made_of gives.1 in
-    let eight = body_after (replicate 8 0) bytes refl short in
-    body_states c o h bytes value made f short made_of (hold (replicate 8 0 ++ bytes) eight).0 (λ frame at. (hold frame at).1)
-    (ap (λ (x : MetadataValue). x.sample_id) gives.0 ∙ alone ∙ sym (ids_hold o (under_misc h.misc c) h.type_ (type_of h.type_) bytes value plain made_of no_sample_id))
-    headed carries spans
-
-pub body_listed : (c : Configuration) (o : Order) (h : perf_event_header) (bytes : List ℕ) (made : Contents) (f : FlatFrame) →
+pub body_placed : (c : Configuration) (o : Order) (h : perf_event_header) (bytes : List ℕ) (made : Contents) (f : FlatFrame) →
     length bytes < 2 ^ 16 → PlacesRecord (under_misc h.misc c) o (body (under_misc h.misc c) h.type_) bytes no_sample_id (Ok made) →
     HasHeader h f → CarriesNumbers (without_ids c) made.metadata.sample_id made.numbers f → f.spans ≡ made.spans → IsFlatBody c o h bytes f
 unfolding PlacesRecord
-body_listed c o h bytes made f short places headed carries spans =
+body_placed c o h bytes made f short places headed carries spans =
     body_states c o h bytes places.0 made f short places.1 places.2.numbers places.2.spans places.2.ids headed carries spans
 
 pub body_refused : (c : Configuration) (o : Order) (h : perf_event_header) (bytes : List ℕ) (e : Refusal) (f : FlatFrame) →

@@ -1,45 +1,34 @@
 -- What a flat frame states, by how it was made.
-use Rattle.std.proofs.Common.{◌≡◌, ℕ, ◌+◌, ◌-◌, ◌≤◌, ◌<◌, ◌^◌, ◌==◌, ◌||◌, Bool, true, false, List, [], ◌∷◌, length, take, drop, Some, Result, Ok, Err, refl, sym, ◌∙◌, ap, subst, inl, inr, arith}
-use Rattle.std.specs.Prelude.{IsTrue, IfOk, ◌≢◌, nat_lt}
+use Rattle.std.proofs.Common.{◌≡◌, ℕ, ◌+◌, ◌-◌, ◌≤◌, ◌<◌, ◌^◌, Bool, true, false, List, [], ◌∷◌, length, take, drop, Result, Ok, Err, refl, sym, ◌∙◌, ap, subst, inl, inr, arith}
+use Rattle.std.specs.Prelude.{IsTrue, nat_lt}
 use Rattle.std.proofs.lemmas.Bool.{cases_lt, lt-ltb, le-ltb}
 use Rattle.std.proofs.lemmas.List.{length-drop, length-take, length-take-le, take-take, drop-take, take_all}
-use Rattle.perf_base.specs.Configuration.{Configuration, plain, under_misc}
+use Rattle.perf_base.specs.Configuration.{Configuration, under_misc}
 use Rattle.perf_base.specs.Header.{header_of}
-use Rattle.perf_base.specs.Layout.{layout}
 use Rattle.perf_base.specs.Order.{Order}
 use Rattle.perf_base.specs.Refusals.{refusal_kind}
 use Rattle.perf_base.specs.declared.error.ErrorKind.{ErrorKind}
-use Rattle.perf_base.specs.declared.error.ErrorKind.TheVariants.{Eof, InvalidRecord, UnsupportedConfig, UnsupportedData, External, OutOfMemory}
+use Rattle.perf_base.specs.declared.error.ErrorKind.TheVariants.{Eof, InvalidRecord}
 use Rattle.perf_base.specs.declared.refusal.Refusal.{Refusal}
 use Rattle.perf_base.specs.declared.refusal.Refusal.TheVariants as why
 use Rattle.perf_base.specs.declared.sys.perf_event_header.{perf_event_header}
-use Rattle.perf_buffers.specs.Buffer.{chunk_bytes, chunk_is_borrowed}
-use Rattle.perf_reader.specs.Reading.{of_layout, is_external}
 use Rattle.perf_records.specs.Answers.{FrameParts, frame_parts, length_after, parts_of, split_after, record_in, answer_after, split_of_frame, answer_of_frame}
-use Rattle.perf_records.specs.Bodies.{body, needs_memory}
+use Rattle.perf_records.specs.Bodies.{body}
 use Rattle.perf_records.specs.FrameReadings.{HasNoRoom, metadata_in}
 use Rattle.perf_records.specs.Frames.{frame_length}
 use Rattle.perf_records.specs.FrameList.{sights}
 use Rattle.perf_records.specs.Metadata.{MetadataValue, id_length}
 use Rattle.perf_records.specs.Records.{RecordValue}
-use Rattle.perf_records.specs.RecordTypes.{type_of}
-use Rattle.perf_records.specs.Shown.{GivesFrameBytes}
-use Rattle.perf_records.specs.Sights.{Sight, whole, bad, sight_of, sight_after, sight_in}
-use Rattle.perf_records.specs.declared.frame.Frame.{Frame}
-use Rattle.perf_records.specs.declared.frame_handler.BadFrame.{BadFrame}
+use Rattle.perf_records.specs.Sights.{Sight, whole, bad, sight_after, sight_in}
 use Rattle.perf_records.proofs.FrameList.{next_sight, no_sight, some_sight}
 use Rattle.perf_records.proofs.Handing.{finished}
 use Rattle.perf_records.proofs.Headers.{frame_whole, frame_body, header_alone}
 use Rattle.perf_records.proofs.Splitting.{split_small, split_short, split_no_room, split_whole}
-use Rattle.perf_flat.specs.Contents.{GivesContents}
 use Rattle.perf_flat.specs.Flat.{CarriesNumbers, StatesId, StatesRecord, StatesRefusal, StatesAnswer, HasHeader, IsFlat, IsFlatAfter, IsBad, refused_frame, first_frame}
 use Rattle.perf_flat.specs.Places.{IsBodyOf, PlacesRecord}
 use Rattle.perf_flat.specs.Spans.{HasSpans}
 use Rattle.perf_flat.specs.declared.contents.Contents.{Contents}
 use Rattle.perf_flat.specs.declared.flat_frame.FlatFrame.{FlatFrame}
-use Rattle.perf_flat.proofs.Holding.{contents_hold, ids_hold}
-use Rattle.perf_flat.proofs.Samples.{body_under}
-use Rattle.perf_sample_types.specs.SampleId.{SampleIdValue}
 
 -- ---- the body of a frame
 
@@ -87,53 +76,6 @@ refuses : (c : Configuration) (o : Order) (frame : List ℕ) (s : Result FramePa
 refuses c o frame (Ok parts) e f says = says
 refuses c o frame (Err x) e f says = says
 
--- ---- a frame that was visited
-
-layout_kind : (e : ErrorKind) → e ≢ OutOfMemory → is_external (Some e) ≡ false → IsTrue (of_layout e)
-layout_kind Eof memory inside = refl
-layout_kind InvalidRecord memory inside = refl
-layout_kind UnsupportedConfig memory inside = refl
-layout_kind UnsupportedData memory inside = refl
-layout_kind External memory inside = absurd (cc)
-layout_kind OutOfMemory memory inside = absurd (memory refl)
-
-pub visited : (c : Configuration) (o : Order) (h : perf_event_header) (bytes : List ℕ) (result : Result Contents Refusal) (k : ℕ) (made : Contents) (f : FlatFrame) →
-    length bytes + 8 < 2 ^ 32 → needs_memory h.type_ ≡ false → GivesFrameBytes GivesContents h c o bytes true result k → result ≡ Ok made →
-    HasHeader h f → CarriesNumbers c made.metadata.sample_id made.numbers f → f.spans ≡ made.spans → IsFlatAfter c o h bytes f
-visited c o h bytes result k made f short plain visits is headed carries spans = λ frame fits header rest.
-    let v = subst (λ r. GivesFrameBytes GivesContents h c o bytes true r k) is visits in
-    let value : RecordValue = v.0.0 in
-    let parts : FrameParts = v.0.2 in
-    let gives = v.0.3 in
-    let split : split_after c o h bytes ≡ Ok parts = v.0.4 in
-    let answer : answer_after c o h bytes ≡ Ok value = v.0.6.0 in
-    let front = body_front c o h bytes parts split in
-    let made_of : layout o (body (under_misc h.misc c) h.type_) parts.body ≡ Ok value = sym (ap (record_in c o h) split) ∙ answer in
-    let long : length (drop 8 frame) ≡ length frame - 8 = length-drop 8 frame in
-    let many : length (drop 8 frame) ≡ length bytes = ap length rest in
-    let is_body : IsBodyOf frame parts.body = record {
-      headed = fits;
-      short = omega arith;
-      count = front.0;
-      is = front.1 ∙ ap (take front.0) (sym rest);
-    } in
-    let holds = contents_hold o (under_misc h.misc c) h.type_ (type_of h.type_) frame parts.body value made is_body plain made_of gives.1 in
-    let own = ids_hold o (under_misc h.misc c) h.type_ (type_of h.type_) parts.body value plain made_of in
-    let says : StatesRecord c o frame parts.metadata.sample_id value f = (
-      record {
-        read = carries.read;
-        refusal = carries.refusal;
-        reason = carries.reason;
-        present = carries.present;
-        read_format = carries.read_format;
-        id = subst (λ m. StatesId m f) (ap (λ (m : MetadataValue). m.sample_id) gives.0 ∙ sym (own parts.metadata.sample_id)) carries.id;
-        numbers = carries.numbers ∙ holds.0;
-      },
-      subst (λ xs. HasSpans c.read_format o frame xs value) (sym spans) holds.1,
-    ) in
-    transition_after c o h bytes f frame fits header rest headed
-    (subst (λ a. StatesAnswer c o frame (split_after c o h bytes) a f) (sym answer) (subst (λ s. StatesAnswer c o frame s (Ok value) f) (sym split) says))
-
 -- ---- a frame that was refused
 
 -- the flat frame of a refusal that the answer has
@@ -159,14 +101,6 @@ refused c o h bytes told f is answer small no_room = λ frame fits header rest.
     (subst (λ a. StatesAnswer c o frame (split_after c o h bytes) a f) (sym answer)
     (refuses c o frame (split_after c o h bytes) (refusal_kind told) f (subst (λ k. StatesRefusal c k (length frame) (refusal_kind told) f) (sym header) says)))
 
-pub visit_refused : (c : Configuration) (o : Order) (h : perf_event_header) (bytes : List ℕ) (result : Result Contents Refusal) (k : ℕ) (e : Refusal) (f : FlatFrame) →
-    8 ≤ h.size → needs_memory h.type_ ≡ false → GivesFrameBytes GivesContents h c o bytes true result k → result ≡ Err e →
-    (HasNoRoom h c → e ≡ why.NoRoomForId) → f ≡ refused_frame h e → IsFlatAfter c o h bytes f
-visit_refused c o h bytes result k e f sized plain visits is no_room made =
-    let v = subst (λ r. GivesFrameBytes GivesContents h c o bytes true r k) is visits in
-    let kind : IsTrue (of_layout (refusal_kind e)) = layout_kind (refusal_kind e) (v.2 refl plain) v.3 in
-    refused c o h bytes e f made (v.0 kind).0 (λ small. absurd (omega arith)) (λ _ _ lacks. no_room lacks)
-
 pub bad_refused : (c : Configuration) (o : Order) (h : perf_event_header) (bytes : List ℕ) (f : FlatFrame) → IsBad h bytes →
     (h.size < 8 → f ≡ refused_frame h why.SmallHeader) → (8 ≤ h.size → f ≡ refused_frame h why.Eof) → IsFlatAfter c o h bytes f
 bad_refused c o h bytes f (inl small) is_small is_short =
@@ -176,7 +110,7 @@ bad_refused c o h bytes f (inr short) is_small is_short =
     let lacks : length bytes < length_after h = short.1 in
     refused c o h bytes why.Eof f (is_short sized) (ap (record_in c o h) (split_short c o h bytes sized lacks)) (λ small. absurd (omega arith)) (λ _ all _. absurd (omega arith))
 
--- ---- a frame whose list was passed over
+-- ---- a frame that was read in place
 
 -- a frame that has metadata, which is split
 pub metadata_split : (c : Configuration) (o : Order) (h : perf_event_header) (bytes : List ℕ) (m : MetadataValue) → 8 ≤ h.size → length bytes ≡ length_after h →
@@ -193,19 +127,6 @@ metadata_split c o h bytes m sized long is = elim (cases_lt (length_after h) (id
   where
     metadata_is : {x y : MetadataValue} → ◌≡◌ {A = Result MetadataValue ErrorKind} (Ok x) (Ok y) → x ≡ y
     metadata_is e = cc
-
--- the same record under the frame's own misc
-pub places_under : (misc : ℕ) (c : Configuration) (o : Order) (ty : ℕ) (bytes : List ℕ) (own : SampleIdValue) (r : Result Contents Refusal) → (ty == 9 || ty == 16) ≡ true →
-    PlacesRecord c o (body c ty) bytes own r → PlacesRecord (under_misc misc c) o (body (under_misc misc c) ty) bytes own r
-unfolding PlacesRecord
-places_under misc c o ty bytes own r one places = go r places
-  where
-    same : body (under_misc misc c) ty ≡ body c ty
-    same = body_under misc c ty one
-
-    go : (r : Result Contents Refusal) → PlacesRecord c o (body c ty) bytes own r → PlacesRecord (under_misc misc c) o (body (under_misc misc c) ty) bytes own r
-    go (Ok made) p = (p.0, ap (λ q. layout o q bytes) same ∙ p.1, record { numbers = p.2.numbers; spans = p.2.spans; ids = p.2.ids })
-    go (Err e) p = ap (λ q. layout o q bytes) same ∙ p
 
 -- its record is in the body
 pub list_placed : (c : Configuration) (o : Order) (h : perf_event_header) (bytes : List ℕ) (parts : FrameParts) (made : Contents) (f : FlatFrame) → length bytes + 8 < 2 ^ 32 →
@@ -347,7 +268,3 @@ at_front o p bytes left x xs same front e = first_sight o bytes x xs (sym (ap (�
 
 pub nothing_there : (o p : Order) (bytes left : List ℕ) → p ≡ o → left ≡ bytes → sights p left ≡ [] → length bytes < 8
 nothing_there o p bytes left same front e = no_first o bytes (sym (ap (λ q. sights q bytes) same) ∙ sym (ap (sights p) front) ∙ e)
-
-pub first_lasts : (o : Order) (bytes : List ℕ) (first : Result Frame BadFrame) → 8 ≤ length bytes → sight_in o bytes true ≡ sight_of first → IfOk first (λ frame. IsTrue (chunk_is_borrowed frame.rest))
-first_lasts o bytes (Ok frame) fits seen = (whole_first plain o bytes (chunk_bytes frame.rest) frame.header (chunk_is_borrowed frame.rest) fits seen).chunk_is_borrowed
-first_lasts o bytes (Err b) fits seen = tt

@@ -1,13 +1,12 @@
 pub mod Steps
-pub mod Names
 pub mod Spans
 pub mod Reading
+pub mod Naming
 pub mod Placing
 pub mod Fields
 pub mod Lists
 pub mod Groups
 pub mod Samples
-pub mod Holding
 pub mod Framing
 pub mod OneByOne
 pub mod Joined

@@ -22,6 +22,7 @@ use Rattle.perf_types.specs.ReadValue.{SingleRead, read_value}
 use Rattle.perf_sample_types.specs.Branches.{branches_of}
 use Rattle.perf_sample_types.specs.Registers.{register_count}
 use Rattle.perf_sample_types.specs.Sample.{FieldValue, group_is, branches_are, registers_are, values, branch_stack, registers}
+use Rattle.perf_flat.specs.BodyPlaces.{counter_read}
 use Rattle.perf_flat.specs.Filled.{no_span}
 use Rattle.perf_flat.specs.Numbers.{or_zero}
 use Rattle.perf_flat.specs.Places.{IsBodyOf, Reads, ReadsFor, PassesNumbers}
@@ -117,38 +118,34 @@ pub holds_read : {o : Order} {a : Places} {kind : ErrorKind} (t : Bool) → t �
 holds_read {o} {a} {kind} true is = checked true (Kept kind) refl (λ _. refl) (λ _. refl) (λ other. absurd_of true refl other)
 holds_read false is = absurd (cc)
 
-not_false : (b : Bool) → b ≡ false → not b ≡ true
-not_false true is = absurd (cc)
-not_false false is = refl
-
 -- the read of these numbers
 abbrev single : ℕ → (te tr id lost : Option ℕ) → SingleRead
 single value te tr id lost = record { value = value; time_enabled = te; time_running = tr; id = id; lost = lost }
 
-pub single_read : (o : Order) (c : Configuration) (value : ℕ) (te tr id lost : Option ℕ) (a b d e f g h : Places) (made : Counters) → has_group c.read_format ≡ false →
-    counters_numbers made ≡ or_zero te ∷ or_zero tr ∷ 1 ∷ value ∷ or_zero id ∷ or_zero lost ∷ [] → made.entries ≡ no_span →
-    Reads {A = Unit {0}} o (require (is_known c.read_format) UnsupportedConfig) tt a b → Reads o u64 value b d → Reads o (u64_if (has_time_enabled c.read_format)) te d e →
-    Reads o (u64_if (has_time_running c.read_format)) tr e f → Reads o (u64_if (has_id c.read_format)) id f g → Reads o (u64_if (has_lost c.read_format)) lost g h →
-    ReadsFor o (read_value c) (λ one. IsCounters c.read_format o a.bytes.now (Some (group_is (group_of one))) made) a h
-single_read o c value te tr id lost a b d e f g h made alone numbers at known one two three four five =
+pub single_read : (o : Order) (c : Configuration) (value : ℕ) (te tr id lost : Option ℕ) (a b d e f g h i : Places) →
+    Reads {A = Unit {0}} o (require (not (has_group c.read_format)) UnsupportedConfig) tt a b → Reads {A = Unit {0}} o (require (is_known c.read_format) UnsupportedConfig) tt b d → Reads o u64 value d e →
+    Reads o (u64_if (has_time_enabled c.read_format)) te e f → Reads o (u64_if (has_time_running c.read_format)) tr f g → Reads o (u64_if (has_id c.read_format)) id g h → Reads o (u64_if (has_lost c.read_format)) lost h i →
+    Reads o (read_value c) (single value te tr id lost) a i
+single_read o c value te tr id lost a b d e f g h i alone known one two three four five =
     let r : ℕ = c.read_format in
     let last : ℕ → Option ℕ → Option ℕ → Option ℕ → Parts SingleRead = λ v te tr id. u64_if (has_lost r) >>= λ lost. done (single v te tr id lost) in
     let third : ℕ → Option ℕ → Option ℕ → Parts SingleRead = λ v te tr. u64_if (has_id r) >>= λ id. last v te tr id in
     let second : ℕ → Option ℕ → Parts SingleRead = λ v te. u64_if (has_time_running r) >>= λ tr. third v te tr in
     let first : ℕ → Parts SingleRead = λ v. u64_if (has_time_enabled r) >>= λ te. second v te in
     let all : Parts SingleRead = u64 >>= λ v. first v in
-    let made_of : SingleRead = single value te tr id lost in
-    record {
-      value = made_of;
-      reads = then_reads (require (not (has_group r)) UnsupportedConfig) (λ _. require (is_known r) UnsupportedConfig >>= λ _. all) (holds_read (not (has_group r)) (not_false (has_group r) alone))
-          (then_reads (require (is_known r) UnsupportedConfig) (λ _. all) known
-          (then_reads u64 (λ v. first v) one (then_reads (u64_if (has_time_enabled r)) (λ te. second value te) two (then_reads (u64_if (has_time_running r)) (λ tr. third value te tr) three
-          (then_reads (u64_if (has_id r)) (λ id. last value te tr id) four (then_reads (u64_if (has_lost r)) (λ lost. done (single value te tr id lost)) five all_read))))));
-      holds = λ ok. record {
-        numbers = numbers ∙ ap (λ (g : Bool). or_zero te ∷ or_zero tr ∷ 1 ∷ entry_numbers (if g then None else Some (record { value = value; id = id; lost = lost }))) (sym alone);
-        entries = λ frame is. subst (λ g. HasEntriesIf g o frame made.entries (group_of made_of)) (sym alone) at;
-      };
-    }
+    then_reads (require (not (has_group r)) UnsupportedConfig) (λ _. require (is_known r) UnsupportedConfig >>= λ _. all) alone
+    (then_reads (require (is_known r) UnsupportedConfig) (λ _. all) known
+    (then_reads u64 (λ v. first v) one (then_reads (u64_if (has_time_enabled r)) (λ te. second value te) two (then_reads (u64_if (has_time_running r)) (λ tr. third value te tr) three
+    (then_reads (u64_if (has_id r)) (λ id. last value te tr id) four (then_reads (u64_if (has_lost r)) (λ lost. done (single value te tr id lost)) five all_read))))))
+
+-- the one counter of a sample
+pub single_counters : (o : Order) (c : Configuration) (body : List ℕ) (made : Counters) → has_group c.read_format ≡ false → made.count ≡ 1 → made.entries ≡ no_span →
+    IsCounters c.read_format o body (Some (group_is (group_of (counter_read made)))) made
+single_counters o c body made alone many at = record {
+  numbers = ap (λ n. or_zero made.time_enabled ∷ or_zero made.time_running ∷ n ∷ made.value ∷ or_zero made.id ∷ or_zero made.lost ∷ []) many
+      ∙ ap (λ (g : Bool). or_zero made.time_enabled ∷ or_zero made.time_running ∷ 1 ∷ entry_numbers (if g then None else Some (record { value = made.value; id = made.id; lost = made.lost }))) (sym alone);
+  entries = λ frame is. subst (λ g. HasEntriesIf g o frame made.entries (group_of (counter_read made))) (sym alone) at;
+}
 
 blocks_long : (n count : ℕ) (xs : List ℕ) → length (blocks n count xs) ≡ count
 blocks_long n zero xs = refl

@@ -1,16 +1,23 @@
 -- Records whose lists were passed over.
-use Rattle.std.proofs.Common.{◌≡◌, ℕ, zero, suc, ◌+◌, ◌*◌, List, [], ◌∷◌, length, Some, None, Ok, Err, refl, sym, ◌∙◌, ap, subst, arith}
+use Rattle.std.specs.Prelude.{if◌then◌else◌}
+use Rattle.std.proofs.Common.{◌≡◌, ℕ, true, false, zero, suc, ◌+◌, ◌*◌, List, [], ◌∷◌, length, Some, None, Ok, Err, refl, sym, ◌∙◌, ap, subst, arith}
 use Rattle.perf_base.specs.Configuration.{Configuration}
 use Rattle.perf_base.specs.FieldWords.{u32, u64, numbers}
-use Rattle.perf_base.specs.Layout.{Parts, done, mapped, layout, ◌>>=◌}
+use Rattle.perf_base.specs.Layout.{Parts, Width, part, number, done, mapped, layout, ◌>>=◌}
 use Rattle.perf_base.specs.Order.{Order}
 use Rattle.perf_base.specs.Refusals.{refusal_kind}
 use Rattle.perf_base.specs.declared.refusal.Refusal.{Refusal}
+use Rattle.perf_base.specs.Misc.{build_id_bit}
+use Rattle.perf_types.specs.MmapDetail.{DetailValue, inode, build_id, mmap_detail, maj_of, min_of, ino_of, ino_generation_of}
 use Rattle.perf_types.specs.Namespaces.{namespaces, entries_of}
+use Rattle.perf_words.specs.Bits.{has_bit}
+use Rattle.perf_flat.specs.BodyPlaces.{IsDetail}
+use Rattle.perf_flat.specs.Numbers.{or_zero}
+use Rattle.perf_flat.specs.declared.mapping_bodies.Detail.{Detail}
 use Rattle.perf_records.specs.Records.{RecordValue, namespaces_is}
 use Rattle.perf_sample_types.specs.SampleId.{SampleIdValue}
 use Rattle.perf_flat.specs.Filled.{filled, filled_spans}
-use Rattle.perf_flat.specs.Places.{IsBodyOf, Reads, HoldsRecord, PlacesRecord}
+use Rattle.perf_flat.specs.Places.{IsBodyOf, Reads, ReadsFor, HoldsRecord, PlacesRecord, TakesRecord}
 use Rattle.perf_flat.specs.Spans.{HasSpans}
 use Rattle.perf_flat.specs.Strings.{HasNumbers}
 use Rattle.perf_flat.specs.declared.contents.Contents.{Contents}
@@ -32,6 +39,45 @@ pub not_placed : (c : Configuration) (o : Order) (p : Parts RecordValue) (body :
 unfolding PlacesRecord
 not_placed c o p body own value a b e same front fresh reads refused =
     subst (λ xs. layout o p xs ≡ Err (refusal_kind e)) same (layout_refused o p value a b e front fresh reads refused)
+
+-- what was read of a body from its beginning
+pub taken_placed : (c : Configuration) (o : Order) (p : Parts RecordValue) (value : RecordValue) (body numbers : List ℕ) (spans : List Span) (end : Places) (own : SampleIdValue) (made : Contents) →
+    TakesRecord c o p value body numbers spans end → end.refusal ≡ None → made.metadata.sample_id ≡ own → made.numbers ≡ filled numbers → made.spans ≡ filled_spans spans → PlacesRecord c o p body own (Ok made)
+taken_placed c o p value body numbers spans end own made taken ok ids words places =
+    placed c o p body own value taken.start end made taken.whole taken.front taken.fresh taken.reads ok (record {
+      numbers = words ∙ ap filled (taken.words ok);
+      spans = λ frame is. subst (λ xs. HasSpans c.read_format o frame xs value) (sym places) (taken.there ok frame (subst (IsBodyOf frame) (sym (taken.reads.bytes ∙ taken.whole)) is));
+      ids = ids ∙ sym (taken.ids own);
+    })
+
+pub taken_refused : (c : Configuration) (o : Order) (p : Parts RecordValue) (value : RecordValue) (body numbers : List ℕ) (spans : List Span) (end : Places) (own : SampleIdValue) (e : Refusal) →
+    TakesRecord c o p value body numbers spans end → end.refusal ≡ Some e → PlacesRecord c o p body own (Err e)
+taken_refused c o p value body numbers spans end own e taken refused = not_placed c o p body own value taken.start end e taken.whole taken.front taken.fresh taken.reads refused
+
+-- ---- one part after another
+
+pub next_number : {A : Type 0} {o : Order} {w : Width} {k : ℕ → Parts A} {a b d : Places} {n : ℕ} {v : A} → Reads o (part (number w) done) n a b → Reads o (k n) v b d → Reads o (part (number w) k) v a d
+next_number {A} {o} {w} {k} {a} {b} {d} {n} {v} one rest = then_reads (part (number w) done) k one rest
+
+-- ---- MMAP2
+
+pub detail_there : {o : Order} {body : List ℕ} {made : Detail} {a b : Places} (c : Configuration) → has_bit c.misc build_id_bit ≡ true → ReadsFor o build_id (λ d. IsDetail body d made) a b →
+    ReadsFor o (mmap_detail c) (λ d. IsDetail body d made) a b
+detail_there {o} {body} {made} {a} {b} c is reads = subst (λ t. ReadsFor o (if t then build_id else inode) (λ d. IsDetail body d made) a b) (sym is) reads
+
+pub detail_absent : {o : Order} {body : List ℕ} {made : Detail} {a b : Places} (c : Configuration) → has_bit c.misc build_id_bit ≡ false → ReadsFor o inode (λ d. IsDetail body d made) a b →
+    ReadsFor o (mmap_detail c) (λ d. IsDetail body d made) a b
+detail_absent {o} {body} {made} {a} {b} c is reads = subst (λ t. ReadsFor o (if t then build_id else inode) (λ d. IsDetail body d made) a b) (sym is) reads
+
+-- its numbers, after others
+pub detail_words : {pid tid addr len pgoff prot flags : ℕ} {body : List ℕ} {d : DetailValue} {made : Detail} → IsDetail body d made →
+    pid ∷ tid ∷ addr ∷ len ∷ pgoff ∷ prot ∷ flags ∷ made.maj ∷ made.min ∷ made.ino ∷ made.ino_generation ∷ []
+    ≡ pid ∷ tid ∷ addr ∷ len ∷ pgoff ∷ prot ∷ flags ∷ or_zero (maj_of d) ∷ or_zero (min_of d) ∷ or_zero (ino_of d) ∷ or_zero (ino_generation_of d) ∷ []
+detail_words {pid} {tid} {addr} {len} {pgoff} {prot} {flags} {body} {d} {made} is =
+    ap (λ n. pid ∷ tid ∷ addr ∷ len ∷ pgoff ∷ prot ∷ flags ∷ n ∷ made.min ∷ made.ino ∷ made.ino_generation ∷ []) is.maj
+    ∙ ap (λ n. pid ∷ tid ∷ addr ∷ len ∷ pgoff ∷ prot ∷ flags ∷ or_zero (maj_of d) ∷ n ∷ made.ino ∷ made.ino_generation ∷ []) is.min
+    ∙ ap (λ n. pid ∷ tid ∷ addr ∷ len ∷ pgoff ∷ prot ∷ flags ∷ or_zero (maj_of d) ∷ or_zero (min_of d) ∷ n ∷ made.ino_generation ∷ []) is.ino
+    ∙ ap (λ n. pid ∷ tid ∷ addr ∷ len ∷ pgoff ∷ prot ∷ flags ∷ or_zero (maj_of d) ∷ or_zero (min_of d) ∷ or_zero (ino_of d) ∷ n ∷ []) is.ino_generation
 
 -- ---- NAMESPACES
 

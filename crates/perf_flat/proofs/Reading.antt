@@ -326,7 +326,7 @@ layout_refused {A} o p v a b e front fresh reads refused =
 -- ---- one number
 
 -- all bytes that are left
-shown_all : (a : Places) → a.at ≤ length a.bytes.now → take (length a.bytes.now - a.at) (drop a.at a.bytes.now) ≡ left_of a
+pub shown_all : (a : Places) → a.at ≤ length a.bytes.now → take (length a.bytes.now - a.at) (drop a.at a.bytes.now) ≡ left_of a
 shown_all a within = take_all (length a.bytes.now - a.at) (left_of a) (omega (arith, length-drop a.at a.bytes.now))
 
 pub number_fits : (o : Order) (w : Width) (a b : Places) (word : List ℕ) (v : ℕ) → a.at ≤ length a.bytes.now → word ≡ take (bytes_in w) (take (length a.bytes.now - a.at) (drop a.at a.bytes.now)) →

@@ -1,19 +1,18 @@
 -- A sample that was read in place states what its value is.
-use Rattle.std.proofs.Common.{◌≡◌, ℕ, ◌==◌, ◌||◌, Bool, true, false, List, [], ◌∷◌, ◌++◌, Option, Some, None, refl, sym, ◌∙◌, ap, subst}
+use Rattle.std.proofs.Common.{◌≡◌, ℕ, List, [], ◌∷◌, ◌++◌, Option, Some, None, Result, Ok, Err, refl, sym, ◌∙◌, ap, subst}
 use Rattle.std.specs.Prelude.{option_map}
-use Rattle.std.proofs.lemmas.Bool.{eqb-true}
 use Rattle.perf_base.specs.Configuration.{Configuration, under_misc}
-use Rattle.perf_base.specs.Layout.{Parts, done, mapped}
+use Rattle.perf_base.specs.Layout.{Parts, done, mapped, layout}
 use Rattle.perf_base.specs.Order.{Order}
+use Rattle.perf_base.specs.declared.refusal.Refusal.{Refusal}
 use Rattle.perf_base.specs.Table.{table}
-use Rattle.perf_records.specs.Bodies.{body}
 use Rattle.perf_records.specs.Records.{sample_is}
 use Rattle.perf_sample_types.specs.Sample.{FieldValue, SampleValue, number_is, sample, sample_fields, fields_under, moment_fields, count_fields, state_fields, cost_fields, memory_fields, values, branch_stack, registers}
 use Rattle.perf_sample_types.specs.SampleGetters.{number_in}
 use Rattle.perf_sample_types.specs.SampleId.{SampleIdValue}
 use Rattle.perf_flat.specs.Filled.{filled, filled_spans}
 use Rattle.perf_flat.specs.Numbers.{or_zero}
-use Rattle.perf_flat.specs.Places.{IsBodyOf, Reads, HoldsRecord}
+use Rattle.perf_flat.specs.Places.{IsBodyOf, Reads, HoldsRecord, PlacesRecord}
 use Rattle.perf_flat.specs.SampleMade.{made_numbers, made_spans, made_ids}
 use Rattle.perf_flat.specs.SamplePlaces.{ReadsFields, ReadsCounts, ReadsState, ReadsCosts, ReadsMemory, moment_values, event_values}
 use Rattle.perf_flat.specs.Samples.{HasSampleSpans, sample_numbers}
@@ -119,17 +118,15 @@ pub sample_under : (misc : ℕ) (c : Configuration) → sample (under_misc misc 
 unfolding sample values branch_stack registers
 sample_under misc c = refl
 
--- its type, if it is no SAMPLE
-pub listed : (ty : ℕ) → (ty == 9 || ty == 16) ≡ true → (ty == 9) ≡ false → ty ≡ 16
-listed ty one other = eqb-true ty 16 (go (ty == 9) other one)
+-- the same record under the frame's own misc
+pub sample_placed : (misc : ℕ) (c : Configuration) (o : Order) (bytes : List ℕ) (own : SampleIdValue) (r : Result Contents Refusal) → PlacesRecord c o (mapped sample_is (sample c)) bytes own r →
+    PlacesRecord (under_misc misc c) o (mapped sample_is (sample (under_misc misc c))) bytes own r
+unfolding PlacesRecord
+sample_placed misc c o bytes own r places = go r places
   where
-    go : (b : Bool) → b ≡ false → (b || ty == 16) ≡ true → (ty == 16) ≡ true
-    go true other is = absurd (cc)
-    go false other is = is
+    same : mapped sample_is (sample (under_misc misc c)) ≡ mapped sample_is (sample c)
+    same = ap (mapped sample_is) (sample_under misc c)
 
-pub body_under : (misc : ℕ) (c : Configuration) (ty : ℕ) → (ty == 9 || ty == 16) ≡ true → body (under_misc misc c) ty ≡ body c ty
-body_under misc c ty one = go (ty == 9) refl
-  where
-    go : (b : Bool) → (ty == 9) ≡ b → body (under_misc misc c) ty ≡ body c ty
-    go true is = subst (λ n. body (under_misc misc c) n ≡ body c n) (sym (eqb-true ty 9 is)) (ap (mapped sample_is) (sample_under misc c))
-    go false is = subst (λ n. body (under_misc misc c) n ≡ body c n) (sym (listed ty one is)) refl
+    go : (r : Result Contents Refusal) → PlacesRecord c o (mapped sample_is (sample c)) bytes own r → PlacesRecord (under_misc misc c) o (mapped sample_is (sample (under_misc misc c))) bytes own r
+    go (Ok made) p = (p.0, ap (λ q. layout o q bytes) same ∙ p.1, record { numbers = p.2.numbers; spans = p.2.spans; ids = p.2.ids })
+    go (Err e) p = ap (λ q. layout o q bytes) same ∙ p

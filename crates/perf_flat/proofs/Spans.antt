@@ -1,12 +1,13 @@
 -- Spans of a flat frame, and what is at them.
 use Rattle.std.proofs.Common.{◌≡◌, ℕ, zero, suc, ◌+◌, ◌-◌, ◌^◌, ◌≤◌, ◌<◌, List, [], ◌∷◌, length, take, drop, get_or, refl, sym, ◌∙◌, ap, subst, arith}
-use Rattle.std.specs.Prelude.{replicate, min}
+use Rattle.std.specs.Prelude.{replicate, min, Option, Some, None}
 use Rattle.std.proofs.lemmas.List.{length-drop, length-take, drop-drop, drop-replicate, get_or-append_right}
 use Rattle.perf_reader.proofs.AtOnce.{in_front}
 use Rattle.perf_flat.specs.Contents.{span_of_bytes}
 use Rattle.perf_flat.specs.Filled.{low_word, no_span, filled_spans}
 use Rattle.perf_flat.specs.Places.{IsBodyOf}
-use Rattle.perf_flat.specs.Strings.{span_at, HasBytes, NoSpansFrom, HasStrings}
+use Rattle.perf_flat.specs.Samples.{HasString}
+use Rattle.perf_flat.specs.Strings.{span_at, if_there, HasBytes, NoSpansFrom, HasStrings}
 use Rattle.perf_flat.specs.declared.flat_frame.Span.{Span}
 use Rattle.perf_flat.proofs.Steps.{Stands}
 
@@ -49,6 +50,16 @@ pub two_strings : (frame : List ℕ) (s t : Span) (bytes more : List ℕ) → Ha
     HasStrings frame (filled_spans (s ∷ t ∷ [])) 0 (bytes ∷ more ∷ [])
 two_strings frame s t bytes more has also =
     (subst (λ x. HasBytes frame x bytes) (sym (first_of_two s t)) has, (subst (λ x. HasBytes frame x more) (sym (second_of_two s t)) also, none_after (s ∷ t ∷ []) 2 refl))
+
+filled_out : (s : Span) → filled_spans (s ∷ []) ≡ filled_spans (s ∷ no_span ∷ [])
+unfolding filled_spans
+filled_out s = refl
+
+-- a path, and a build id if that is present
+pub path_and_id : (frame : List ℕ) (s t : Span) (path : List ℕ) (id : Option (List ℕ)) → HasBytes frame s path → HasString frame t id → HasStrings frame (filled_spans (s ∷ t ∷ [])) 0 (path ∷ if_there id)
+path_and_id frame s t path (Some id) has also = two_strings frame s t path id has also
+path_and_id frame s t path None has none =
+    subst (λ x. HasStrings frame (filled_spans (s ∷ x ∷ [])) 0 (path ∷ [])) (sym none) (subst (λ xs. HasStrings frame xs 0 (path ∷ [])) (filled_out s) (one_string frame s path has))
 
 -- ---- from a body to its frame
 

@@ -13,3 +13,4 @@ pub mod Bodies
 pub mod Places
 pub mod SamplePlaces
 pub mod SampleMade
+pub mod BodyPlaces

@@ -12,7 +12,7 @@ use Rattle.perf_base.specs.declared.refusal.Refusal.{Refusal}
 use Rattle.perf_records.specs.Records.{RecordValue}
 use Rattle.perf_sample_types.specs.SampleId.{SampleIdValue}
 use Rattle.perf_flat.specs.Flat.{ids_of, numbers_under}
-use Rattle.perf_flat.specs.Filled.{filled}
+use Rattle.perf_flat.specs.Filled.{filled, filled_spans}
 use Rattle.perf_flat.specs.Spans.{HasSpans}
 use Rattle.perf_flat.specs.Strings.{HasNumbers}
 use Rattle.perf_flat.specs.declared.contents.Contents.{Contents}
@@ -85,3 +85,17 @@ unfoldable pub PlacesRecord : Configuration → Order → Parts RecordValue → 
 PlacesRecord c o p body ids (Ok made) =
     (value : RecordValue) × (layout o p body ≡ Ok value) × HoldsRecord c o body ids value made
 PlacesRecord c o p body ids (Err e) = layout o p body ≡ Err (refusal_kind e)
+
+-- A body was read from its beginning with this value, which has these numbers and spans, and whose sample
+-- id is that of the frame.
+pub record TakesRecord (c : Configuration) (o : Order) (p : Parts RecordValue) (value : RecordValue)
+    (body numbers : List ℕ) (spans : List Span) (end : Places) : Type 0 where
+  pub start : Places
+  pub whole : start.bytes.now ≡ body
+  pub front : start.at ≡ 0
+  pub fresh : start.refusal ≡ None
+  pub reads : Reads o p value start end
+  pub words : end.refusal ≡ None → numbers ≡ numbers_under c.read_format value
+  pub there : end.refusal ≡ None → (frame : List ℕ) → IsBodyOf frame end.bytes.now →
+      HasSpans c.read_format o frame (filled_spans spans) value
+  pub ids : (own : SampleIdValue) → ids_of own value ≡ own

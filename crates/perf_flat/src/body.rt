@@ -1,21 +1,16 @@
 //! The record of a body alone.
 
-ghost use Rattle.std.specs.Prelude.{◌≡◌, ◌+◌, ◌==◌, ◌||◌, true, false, length, nat_lt, if◌then◌else◌};
-ghost use Rattle.perf_records.specs.Bodies.{needs_memory};
+ghost use Rattle.std.specs.Prelude.{◌≡◌, ◌+◌, ◌==◌, true, false, length, nat_lt, if◌then◌else◌};
 ghost use Rattle.perf_records.specs.Prelude.{configuration_of, endian_of};
 ghost use Rattle.perf_flat.specs.Bodies.{IsFlatBody, header_before};
 
 use crate::accepted::accepted_frame;
-use crate::contents::ContentsVisitor;
 use crate::flat_frame::FlatFrame;
-use crate::placed::listed_contents;
-use crate::read::has_list;
+use crate::placed::record_contents;
 use crate::refusals::refused_frame;
 use perf_base::config::ParseConfig;
 use perf_base::endian::Endian;
 use perf_base::sys::{PERF_RECORD_SAMPLE, perf_event_header};
-use perf_buffers::parsebuf::ParseBufChunk;
-use perf_records::body_reader::{BodyReader, ByVisitor};
 use perf_records::metadata::RecordMetadata;
 use perf_sample_types::sample_id::SampleId;
 use std::alloc::Global;
@@ -31,61 +26,8 @@ fn present_alone(ty: u32, present: u64) -> u64
     if ty == PERF_RECORD_SAMPLE { present } else { 0 }
 }
 
-// The flat frame of a body, whose type needs no memory as the bytes are borrowed.
-fn visited_body<'p, E: Endian>(
-    alloc: Global,
-    config: &ParseConfig<E>,
-    header: perf_event_header,
-    body: &'p [u8],
-) -> FlatFrame
-    requires sized { header.size ≡ 8 + length body.now }
-    requires plain { needs_memory header.type_ ≡ false }
-    ensures { IsFlatBody (configuration_of config.now) (E.order (endian_of config.now)) header
-        body.now result }
-{
-    let mut under = config.lent();
-    under.set_misc(header.misc);
-    let metadata = RecordMetadata::from_parts(header.type_, header.misc, SampleId::default());
-    let visitor = ByVisitor {
-        visitor: ContentsVisitor,
-    };
-    let bytes = ParseBufChunk::External(body);
-    let (answer, _reads) = visitor.read(alloc, bytes, under, metadata, &mut ());
-    match answer {
-        Ok(made) => {
-            let frame = accepted_frame(config, header, &made);
-            let present = present_alone(header.type_, frame.present);
-            FlatFrame { present, ..frame }
-        }
-        Err(refusal) => refused_frame(header, refusal),
-    }
-}
-
-// The flat frame of a body whose type has a list, which is passed over.
-fn listed_body<E: Endian>(
-    config: &ParseConfig<E>,
-    header: perf_event_header,
-    body: &[u8],
-) -> FlatFrame
-    requires sized { header.size ≡ 8 + length body.now }
-    requires listed { (header.type_ == 9 || header.type_ == 16) ≡ true }
-    ensures { IsFlatBody (configuration_of config.now) (E.order (endian_of config.now)) header
-        body.now result }
-{
-    let metadata = RecordMetadata::from_parts(header.type_, header.misc, SampleId::default());
-    match listed_contents(config, header.type_, metadata, body) {
-        Ok(made) => {
-            let frame = accepted_frame(config, header, &made);
-            let present = present_alone(header.type_, frame.present);
-            FlatFrame { present, ..frame }
-        }
-        Err(refusal) => refused_frame(header, refusal),
-    }
-}
-
 // The flat frame of a body.
 fn flat_body<E: Endian>(
-    alloc: Global,
     config: &ParseConfig<E>,
     header: perf_event_header,
     body: &[u8],
@@ -94,10 +36,14 @@ fn flat_body<E: Endian>(
     ensures { IsFlatBody (configuration_of config.now) (E.order (endian_of config.now)) header
         body.now result }
 {
-    if has_list(header.type_) {
-        listed_body(config, header, body)
-    } else {
-        visited_body(alloc, config, header, body)
+    let metadata = RecordMetadata::from_parts(header.type_, header.misc, SampleId::default());
+    match record_contents(config, header, metadata, body) {
+        Ok(made) => {
+            let frame = accepted_frame(config, header, &made);
+            let present = present_alone(header.type_, frame.present);
+            FlatFrame { present, ..frame }
+        }
+        Err(refusal) => refused_frame(header, refusal),
     }
 }
 
@@ -129,6 +75,6 @@ pub fn read_body<E: Endian>(
         misc,
         size: (8 + body.len()) as u16,
     };
-    *frame = flat_body(alloc, config, header, body);
+    *frame = flat_body(config, header, body);
     true
 }

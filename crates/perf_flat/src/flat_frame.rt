@@ -1,6 +1,6 @@
 //! A frame as plain numbers.
 
-ghost use Rattle.std.specs.Prelude.{◌≡◌, ◌≤◌, length};
+ghost use Rattle.std.specs.Prelude.{◌≡◌, ◌≤◌, ◌<◌, ◌+◌, ◌^◌, length};
 ghost use Rattle.perf_flat.specs.Filled.{filled, filled_spans, low_word, span};
 
 /// How many numbers a flat frame has.
@@ -85,6 +85,15 @@ pub(crate) fn short_span(place: usize, len: usize) -> Span
         at: low_word(place),
         len: low_word(len),
     }
+}
+
+// So many bytes of a span, after the first `from` of it.
+#[inline]
+pub(crate) fn span_within(run: Span, from: u64, len: u64) -> Span
+    requires { from < 2 ^ 16 }
+    ensures { result ≡ span (low_word (run.at + from)) (low_word len) }
+{
+    short_span(run.at as usize + from as usize, len as usize)
 }
 
 // These numbers, and zeros after them.

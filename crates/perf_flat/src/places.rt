@@ -2,9 +2,12 @@
 
 ghost use Rattle.std.specs.Prelude.{◌≤◌, length};
 
+use crate::contents::{Contents, contents_of};
 use crate::flat_frame::{Span, short_span};
+use crate::zeros::trimmed_len;
 use perf_base::endian::Endian;
-use perf_base::refusal::Refusal;
+use perf_base::refusal::{ReadResult, Refusal};
+use perf_records::metadata::RecordMetadata;
 
 // A body, how many of its bytes were read, and the first refusal. After a refusal nothing that is
 // read counts.
@@ -18,13 +21,21 @@ pub(crate) struct Places<'c> {
 
 impl<'c> Places<'c> {
     ghost use Rattle.std.specs.Prelude.{◌≡◌, ◌≤◌, ◌<◌, ◌+◌, ◌*◌, ◌^◌, None, length, ℕ};
-    ghost use Rattle.perf_base.specs.Layout.{w4, w8, number, part, done};
+    ghost use Rattle.perf_base.specs.Layout.{Parts, w1, w2, w4, w8, number, part, done};
     ghost use Rattle.perf_base.specs.FieldWords.{require};
     ghost use Rattle.perf_base.specs.Order.{Order};
     ghost use Rattle.perf_base.specs.Refusals.{refusal_kind};
     ghost use Rattle.perf_base.specs.declared.refusal.Refusal.TheVariants.{Eof};
     ghost use Rattle.perf_flat.specs.Filled.{low_word, span};
     ghost use Rattle.perf_flat.specs.Places.{Reads, PassesNumbers, first_of};
+    ghost use Rattle.perf_flat.specs.Places.{PlacesRecord, TakesRecord};
+    ghost use Rattle.perf_base.specs.Configuration.{Configuration};
+    ghost use Rattle.perf_records.specs.Records.{RecordValue};
+    ghost use Rattle.std.specs.Prelude.{List};
+    ghost use Rattle.perf_base.specs.FieldWords.{all_left, name};
+    ghost use Rattle.perf_flat.specs.Places.{ReadsFor};
+    ghost use Rattle.perf_flat.specs.SamplePlaces.{InFrames};
+    ghost use Rattle.perf_flat.specs.Strings.{HasBytes};
 
     // The beginning of a body.
     #[inline]
@@ -57,6 +68,49 @@ impl<'c> Places<'c> {
         if self.refusal.is_none() {
             self.refusal = Some(refusal);
         }
+    }
+
+    // The next byte.
+    #[inline]
+    pub(crate) fn read_u8<E: Endian>(&mut self, order: &E) -> u64
+        ensures { Reads (E.order order.now) (part (number w1) done) result self.old self.new }
+    {
+        match self.bytes[self.at..].split_first_chunk::<1>() {
+            Some((word, _)) => {
+                self.at += 1;
+                u64::from(word[0])
+            }
+            None => {
+                self.refuse(Refusal::Eof);
+                0
+            }
+        }
+    }
+
+    // The next number of two bytes, as one of eight.
+    #[inline]
+    pub(crate) fn read_u16<E: Endian>(&mut self, order: &E) -> u64
+        ensures small { result < 2 ^ 16 }
+        ensures reads { Reads (E.order order.now) (part (number w2) done) result self.old self.new }
+    {
+        match self.bytes[self.at..].split_first_chunk::<2>() {
+            Some((word, _)) => {
+                self.at += 2;
+                u64::from(order.convert_u16(*word))
+            }
+            None => {
+                self.refuse(Refusal::Eof);
+                0
+            }
+        }
+    }
+
+    // The next number of four bytes, as one of eight.
+    #[inline]
+    pub(crate) fn read_word<E: Endian>(&mut self, order: &E) -> u64
+        ensures { Reads (E.order order.now) (part (number w4) done) result self.old self.new }
+    {
+        u64::from(self.read_u32(order))
     }
 
     // The next number of four bytes.
@@ -104,6 +158,32 @@ impl<'c> Places<'c> {
         }
     }
 
+    // All bytes that are left, as a name: it ends before the zero bytes at their end.
+    #[inline]
+    pub(crate) fn name(&mut self) -> Span
+        ensures { (o : Order) → ReadsFor o name
+            (λ v. InFrames self.old.bytes.now (λ frame. HasBytes frame result v))
+            self.old self.new }
+    {
+        let at = self.at;
+        let len = trimmed_len(&self.bytes[at..]);
+        self.at = self.bytes.len();
+        short_span(8 + at, len)
+    }
+
+    // All bytes that are left.
+    #[inline]
+    pub(crate) fn all_left(&mut self) -> Span
+        ensures { (o : Order) → ReadsFor o all_left
+            (λ v. InFrames self.old.bytes.now (λ frame. HasBytes frame result v))
+            self.old self.new }
+    {
+        let at = self.at;
+        let left = self.bytes.len() - at;
+        self.at = self.bytes.len();
+        short_span(8 + at, left)
+    }
+
     // Passes over that many bytes, and returns where they are in the frame.
     pub(crate) fn pass(&mut self, len: u64) -> Span
         ensures bytes { self.new.bytes.now ≡ self.old.bytes.now }
@@ -132,6 +212,26 @@ impl<'c> Places<'c> {
         match count.checked_mul(8 * each) {
             Some(len) => self.pass(len),
             None => self.pass(u64::MAX),
+        }
+    }
+
+    // The contents of the record that was read, which has these numbers and spans, or the first refusal.
+    #[inline]
+    pub(crate) fn finish(
+        &self,
+        metadata: RecordMetadata,
+        numbers: &[u64],
+        spans: &[Span],
+    ) -> ReadResult<Contents>
+        requires numbers { length numbers.now ≤ 24 }
+        requires spans { length spans.now ≤ 8 }
+        ensures { (c : Configuration) (o : Order) (p : Parts RecordValue) (value : RecordValue)
+            (body : List ℕ) → TakesRecord c o p value body numbers.now spans.now self.now →
+            PlacesRecord c o p body metadata.sample_id result }
+    {
+        match self.refusal {
+            Some(refusal) => Err(refusal),
+            None => Ok(contents_of(metadata, numbers, spans)),
         }
     }
 }

@@ -1,25 +1,22 @@
 //! The flat frame at the front of bytes.
 
-ghost use Rattle.std.specs.Prelude.{◌≡◌, ◌<◌, ◌≤◌, ◌==◌, ◌||◌, false, true, length, List, ℕ, IsTrue, IfOk, MatchOption};
+ghost use Rattle.std.specs.Prelude.{◌≡◌, ◌<◌, ◌≤◌, true, length, List, ℕ, MatchOption};
 ghost use Rattle.perf_base.specs.Configuration.{Configuration};
 ghost use Rattle.perf_base.specs.Order.{Order};
 ghost use Rattle.perf_base.specs.declared.refusal.Refusal.TheVariants.{Eof, SmallHeader};
-ghost use Rattle.perf_buffers.specs.Prelude.{chunk_bytes, chunk_is_borrowed};
+ghost use Rattle.perf_buffers.specs.Prelude.{chunk_bytes};
 ghost use Rattle.perf_flat.specs.Flat.{IsFlat, IsFlatAfter, IsBad, first_frame};
-ghost use Rattle.perf_records.specs.Bodies.{needs_memory};
 ghost use Rattle.perf_records.specs.Sights.{sight_in, sight_of};
 ghost use Rattle.perf_records.specs.Prelude.{configuration_of, endian_of};
 
 use crate::accepted::accepted_frame;
-use crate::contents::ContentsVisitor;
 use crate::flat_frame::FlatFrame;
-use crate::placed::{id_len, listed_contents};
+use crate::placed::{id_len, record_contents};
 use crate::refusals::refused_frame;
 use perf_base::config::ParseConfig;
 use perf_base::endian::Endian;
 use perf_base::refusal::Refusal;
-use perf_base::sys::{PERF_RECORD_NAMESPACES, PERF_RECORD_SAMPLE, perf_event_header};
-use perf_records::body_reader::ByVisitor;
+use perf_base::sys::perf_event_header;
 use perf_records::frame::Frame;
 use perf_records::frame_handler::BadFrame;
 use perf_records::frame_list::frames;
@@ -46,44 +43,12 @@ fn bad_frame(header: perf_event_header) -> FlatFrame
     refused_frame(header, why_bad(header))
 }
 
-// Whether records of a type have a list, so that a visit of one needs memory.
-#[inline]
-pub(crate) fn has_list(ty: u32) -> bool
-    ensures memory { result ≡ needs_memory ty }
-    ensures types { result ≡ (ty == 9 || ty == 16) }
-{
-    ty == PERF_RECORD_SAMPLE || ty == PERF_RECORD_NAMESPACES
-}
-
-// The flat frame of a whole frame, whose type needs no memory as the bytes are borrowed.
-fn visited_frame<'p, E: Endian>(
+// The flat frame of a whole frame.
+fn flat_frame<'p, E: Endian>(
     alloc: Global,
     config: &ParseConfig<E>,
     frame: Frame<'_, 'p>,
 ) -> FlatFrame
-    requires borrowed { IsTrue (chunk_is_borrowed frame.rest) }
-    requires plain { needs_memory frame.header.type_ ≡ false }
-    ensures { IsFlatAfter (configuration_of config.now) (E.order (endian_of config.now))
-        frame.entry.header (chunk_bytes frame.entry.rest) result }
-{
-    let header = frame.header();
-    let visitor = ByVisitor {
-        visitor: ContentsVisitor,
-    };
-    let (answer, _reads) = frame.read(alloc, config, visitor, &mut ());
-    match answer {
-        Ok(made) => accepted_frame(config, header, &made),
-        Err(refusal) => refused_frame(header, refusal),
-    }
-}
-
-// The flat frame of a whole frame whose type has a list, which is passed over.
-fn listed_frame<'p, E: Endian>(
-    alloc: Global,
-    config: &ParseConfig<E>,
-    frame: Frame<'_, 'p>,
-) -> FlatFrame
-    requires { (frame.header.type_ == 9 || frame.header.type_ == 16) ≡ true }
     ensures { IsFlatAfter (configuration_of config.now) (E.order (endian_of config.now))
         frame.entry.header (chunk_bytes frame.entry.rest) result }
 {
@@ -94,27 +59,9 @@ fn listed_frame<'p, E: Endian>(
     };
     let rest = frame.rest();
     let body = &rest[..rest.len() - id_len(config, header.type_)];
-    match listed_contents(config, header.type_, metadata, body) {
+    match record_contents(config, header, metadata, body) {
         Ok(made) => accepted_frame(config, header, &made),
         Err(refusal) => refused_frame(header, refusal),
-    }
-}
-
-// The flat frame of a whole frame whose bytes are borrowed.
-fn flat_frame<'p, E: Endian>(
-    alloc: Global,
-    config: &ParseConfig<E>,
-    frame: Frame<'_, 'p>,
-) -> FlatFrame
-    requires { IsTrue (chunk_is_borrowed frame.rest) }
-    ensures { IsFlatAfter (configuration_of config.now) (E.order (endian_of config.now))
-        frame.entry.header (chunk_bytes frame.entry.rest) result }
-{
-    let header = frame.header();
-    if has_list(header.type_) {
-        listed_frame(alloc, config, frame)
-    } else {
-        visited_frame(alloc, config, frame)
     }
 }
 
@@ -124,7 +71,6 @@ fn flat_first<'p, E: Endian>(
     config: &ParseConfig<E>,
     first: Result<Frame<'p, 'p>, BadFrame>,
 ) -> FlatFrame
-    requires { IfOk first (λ frame. IsTrue (chunk_is_borrowed frame.rest)) }
     ensures { (bytes : List ℕ) → 8 ≤ length bytes →
         sight_in (E.order (endian_of config.now)) bytes true ≡ sight_of first.entry →
         IsFlat (configuration_of config.now) (E.order (endian_of config.now))

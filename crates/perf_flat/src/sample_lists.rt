@@ -5,6 +5,8 @@ ghost use Rattle.std.specs.Int.RustNames.{bit_and};
 ghost use Rattle.perf_base.specs.Configuration.{Configuration};
 ghost use Rattle.perf_base.specs.Layout.{part, done, optional, w8};
 ghost use Rattle.perf_base.specs.Table.{present_if, slot};
+ghost use Rattle.perf_flat.specs.BodyPlaces.{counter_read};
+ghost use Rattle.perf_flat.specs.Filled.{no_span};
 ghost use Rattle.perf_flat.specs.Places.{Reads, ReadsFor};
 ghost use Rattle.perf_flat.specs.SamplePlaces as places;
 ghost use Rattle.perf_flat.specs.Samples as samples;
@@ -12,7 +14,7 @@ ghost use Rattle.perf_sample_types.specs.Registers as registers;
 ghost use Rattle.perf_sample_types.specs.Sample as sample;
 ghost use Rattle.perf_sample_types.specs.SampleGetters as getters;
 ghost use Rattle.perf_types.specs.ReadFormat.{has_group};
-ghost use Rattle.perf_types.specs.ReadGroup.{read_group, group_of};
+ghost use Rattle.perf_types.specs.ReadGroup.{read_group};
 ghost use Rattle.perf_types.specs.ReadValue.{read_value};
 ghost use Rattle.perf_words.specs.SetBits.{sample_flags_bits, read_format_bits};
 
@@ -77,13 +79,14 @@ impl Places<'_> {
         self.read_u64_if(order, format.contains(flag))
     }
 
-    // One counter.
-    fn one_counter<E: Endian>(&mut self, order: &E, format: ReadFormat) -> Counters
-        ensures { (c : Configuration) → read_format_bits format ≡ c.read_format →
-            has_group c.read_format ≡ false → ReadsFor (E.order order.now) (read_value c)
-            (λ one. places.IsCounters c.read_format (E.order order.now) self.old.bytes.now
-            (Some (sample.group_is (group_of one))) result) self.old self.new }
+    // One counter, of a format without GROUP.
+    pub(crate) fn one_counter<E: Endian>(&mut self, order: &E, format: ReadFormat) -> Counters
+        ensures reads { (c : Configuration) → read_format_bits format ≡ c.read_format →
+            Reads (E.order order.now) (read_value c) (counter_read result) self.old self.new }
+        ensures count { result.count ≡ 1 }
+        ensures entries { result.entries ≡ no_span }
     {
+        self.require(!format.contains(ReadFormat::GROUP), Refusal::SingleRead);
         self.require(format.bits() < KNOWN, Refusal::ReadFormat);
         Counters {
             count: 1,

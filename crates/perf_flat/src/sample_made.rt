@@ -5,7 +5,7 @@ ghost use Rattle.perf_base.specs.Layout.{mapped};
 ghost use Rattle.perf_flat.specs.Filled.{filled, filled_spans};
 ghost use Rattle.perf_flat.specs.Places.{PlacesRecord};
 ghost use Rattle.perf_flat.specs.SampleMade as made;
-ghost use Rattle.perf_records.specs.Prelude.{configuration_of, endian_of};
+ghost use Rattle.perf_records.specs.Prelude.{configuration_of};
 ghost use Rattle.perf_records.specs.Records.{sample_is};
 ghost use Rattle.perf_sample_types.specs.Sample as sample;
 
@@ -108,14 +108,14 @@ impl Sample {
 // The contents of a SAMPLE.
 pub(crate) fn sample_contents<E: Endian>(
     config: &ParseConfig<E>,
+    order: &E,
     metadata: &RecordMetadata,
     body: &[u8],
 ) -> ReadResult<Contents>
-    ensures { PlacesRecord (configuration_of config.now) (E.order (endian_of config.now))
+    ensures { PlacesRecord (configuration_of config.now) (E.order order.now)
         (mapped sample_is (sample.sample (configuration_of config.now))) body.now
         metadata.now.sample_id result }
 {
-    let order = config.endian();
     let flags = config.sample_type();
     let hw_index = config.branch_hw_index();
     let mut places = Places::new(body);

@@ -1,14 +1,10 @@
 use Rattle.std.proofs.Common.{sym, ap, subst, ◌∙◌}
-use Rattle.std.specs.Prelude.{IfOk, IsTrue}
 use Rattle.perf_base.specs.Configured.{configuration_of, endian_of}
 use Rattle.perf_buffers.specs.Buffer.{chunk_bytes, chunk_is_borrowed}
 use Rattle.perf_records.specs.Sights.{sight_of}
 use Rattle.perf_flat.specs.Flat.{IsBad, IsFlatAfter}
 use Rattle.perf_flat.proofs.Framing.{whole_first, bad_first}
 use Rattle.perf_flat.proofs.read.flat_first.Goals as goal
-
-pub flat_frame-requires : goal.flat_frame-requires
-flat_frame-requires g c = subst (λ x. IfOk x (λ frame. IsTrue (chunk_is_borrowed frame.rest))) c.in-Ok.is c.requires
 
 pub returns-in-Ok : goal.returns-in-Ok
 returns-in-Ok g c = λ bytes fits seen.

@@ -1,16 +1,8 @@
 use Rattle.std.proofs.Common.{ap, ◌∙◌}
 use Rattle.perf_base.specs.Configured.{endian_of}
 use Rattle.perf_records.specs.Sights.{sight_of}
-use Rattle.perf_flat.proofs.Framing.{at_front, nothing_there, first_lasts}
+use Rattle.perf_flat.proofs.Framing.{at_front, nothing_there}
 use Rattle.perf_flat.proofs.read.read.Goals as goal
-
-pub flat_first-requires : goal.flat_first-requires
-flat_first-requires g c =
-    let order = g.E.Endian.order (endian_of c.args.config.now) in
-    let all = c.frames-all in
-    let same = ap (λ e. g.E.Endian.order e.now) all.ensures.order ∙ ap g.E.Endian.order c.endian.ensures in
-    let front = at_front order _ c.args.bytes.now _ (sight_of c.in-Some.first) _ same all.ensures.left c.in-Some.ensures.steps in
-    first_lasts order c.args.bytes.now c.in-Some.first front.0 front.1
 
 pub returns-in-Some : goal.returns-in-Some
 returns-in-Some g c =

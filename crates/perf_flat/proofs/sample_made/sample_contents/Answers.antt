@@ -1,9 +1,8 @@
-use Rattle.std.proofs.Common.{Ok, Err, ap, subst, sym, ◌∙◌}
+use Rattle.std.proofs.Common.{sym, ◌∙◌}
 use Rattle.perf_base.specs.Configured.{configuration_of}
 use Rattle.perf_base.specs.Layout.{mapped}
 use Rattle.perf_records.specs.Records.{sample_is}
 use Rattle.perf_sample_types.specs.Sample.{sample}
-use Rattle.perf_flat.specs.Places.{PlacesRecord}
 use Rattle.perf_flat.specs.declared.sample_made.Sample.{Sample}
 use Rattle.perf_flat.proofs.Placing.{placed, not_placed}
 use Rattle.perf_flat.proofs.Samples.{sample_read, sample_holds, sample_values}
@@ -12,8 +11,7 @@ use Rattle.perf_flat.proofs.sample_made.sample_contents.Goals as goal
 pub returns-in-Some : goal.returns-in-Some
 returns-in-Some g c =
     let settings = configuration_of c.args.config.now in
-    let order = g.E.Endian.order c.endian-order.result.now in
-    let same = ap g.E.Endian.order c.endian-order.ensures in
+    let order = g.E.Endian.order c.args.order.now in
     let start = c.new-places in
     let flags = c.sample_type-flags.ensures in
     let moment = c.moment.ensures settings flags in
@@ -25,14 +23,12 @@ returns-in-Some g c =
     let made : Sample = record { moment = c.moment.result; event = c.event.result; counts = c.counts.result; state = c.state.result; costs = c.costs.result; memory = c.memory.result } in
     let reads = sample_read order settings made moment event counts state costs memory in
     let end = c.memory.new.self in
-    subst (λ o. PlacesRecord settings o (mapped sample_is (sample settings)) c.args.body.now c.args.metadata.now.sample_id (Err c.in-Some.refusal)) same
-    (not_placed settings order _ _ _ _ start.result end c.in-Some.refusal start.ensures.bytes start.ensures.at start.ensures.refusal reads (sym c.refusal.ensures ∙ c.in-Some.is))
+    not_placed settings order _ _ _ _ start.result end c.in-Some.refusal start.ensures.bytes start.ensures.at start.ensures.refusal reads (sym c.refusal.ensures ∙ c.in-Some.is)
 
 pub returns-in-None : goal.returns-in-None
 returns-in-None g c =
     let settings = configuration_of c.args.config.now in
-    let order = g.E.Endian.order c.endian-order.result.now in
-    let same = ap g.E.Endian.order c.endian-order.ensures in
+    let order = g.E.Endian.order c.args.order.now in
     let start = c.new-places in
     let flags = c.sample_type-flags.ensures in
     let moment = c.moment.ensures settings flags in
@@ -48,6 +44,5 @@ returns-in-None g c =
     let contents = c.contents in
     let has = sample_holds order settings c.args.body.now c.args.metadata.now.sample_id made contents.result start.ensures.bytes moment event counts state costs memory ok
     contents.ensures.numbers contents.ensures.spans contents.ensures.ids in
-    subst (λ o. PlacesRecord settings o (mapped sample_is (sample settings)) c.args.body.now c.args.metadata.now.sample_id (Ok contents.result)) same
-    (placed settings order (mapped sample_is (sample settings)) c.args.body.now c.args.metadata.now.sample_id (sample_is (sample_values made order settings counts state costs memory)) start.result end contents.result
-    start.ensures.bytes start.ensures.at start.ensures.refusal reads ok has)
+    placed settings order (mapped sample_is (sample settings)) c.args.body.now c.args.metadata.now.sample_id (sample_is (sample_values made order settings counts state costs memory)) start.result end contents.result
+    start.ensures.bytes start.ensures.at start.ensures.refusal reads ok has

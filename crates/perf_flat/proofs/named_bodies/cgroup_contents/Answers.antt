@@ -1,0 +1,27 @@
+use Rattle.std.proofs.Common.{refl, subst}
+use Rattle.perf_base.specs.FieldWords.{name}
+use Rattle.perf_base.specs.Layout.{done, mapped}
+use Rattle.perf_flat.proofs.Placing.{next_number}
+use Rattle.perf_flat.proofs.Reading.{then_reads, all_read}
+use Rattle.perf_flat.proofs.Spans.{one_string}
+use Rattle.perf_flat.specs.Places.{IsBodyOf}
+use Rattle.perf_records.specs.Records.{cgroup_is}
+use Rattle.perf_types.specs.CGroup.{cgroup}
+use Rattle.perf_flat.proofs.named_bodies.cgroup_contents.Goals as goal
+
+pub returns : goal.returns
+returns g c = λ settings.
+    let order = g.E.Endian.order c.args.order.now in
+    let start = c.new-places in
+    let id_at = c.read_u64-id in
+    let last = c.name-path.ensures order in
+    c.finish.ensures settings order (mapped cgroup_is cgroup) (cgroup_is (record { id = id_at.result; path = last.value })) c.args.body.now (record {
+      start = start.result;
+      whole = start.ensures.bytes;
+      front = start.ensures.at;
+      fresh = start.ensures.refusal;
+      reads = next_number id_at.ensures (then_reads name (λ x. done (cgroup_is (record { id = id_at.result; path = x }))) last.reads all_read);
+      words = λ ok. refl;
+      there = λ ok frame is. one_string frame c.name-path.result last.value (last.holds ok frame (subst (IsBodyOf frame) last.reads.bytes is));
+      ids = λ own. refl;
+    })

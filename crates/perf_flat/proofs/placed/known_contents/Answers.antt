@@ -1,0 +1,15 @@
+use Rattle.std.proofs.Common.{sym, subst}
+use Rattle.perf_base.specs.Configuration.{under_misc}
+use Rattle.perf_base.specs.Configured.{configuration_of}
+use Rattle.perf_records.specs.Bodies.{body_of}
+use Rattle.perf_flat.specs.Places.{PlacesRecord}
+use Rattle.perf_flat.proofs.Samples.{sample_placed}
+use Rattle.perf_flat.proofs.placed.known_contents.Goals as goal
+
+pub returns-in-Sample : goal.returns-in-Sample
+returns-in-Sample g c = λ ty.
+    let settings = configuration_of c.args.config.now in
+    let order = g.E.Endian.order c.args.order.now in
+    let made = c.sample_contents in
+    subst (λ kind. PlacesRecord (under_misc c.args.misc settings) order (body_of (under_misc c.args.misc settings) ty kind) c.args.body.now c.args.metadata.sample_id made.result) (sym c.in-Sample.is)
+    (sample_placed c.args.misc settings order c.args.body.now c.args.metadata.sample_id made.result made.ensures)

@@ -1,0 +1,24 @@
+use Rattle.std.proofs.Common.{refl}
+use Rattle.perf_base.specs.Layout.{mapped}
+use Rattle.perf_flat.proofs.Placing.{next_number}
+use Rattle.perf_flat.proofs.Reading.{all_read}
+use Rattle.perf_flat.proofs.Spans.{no_strings}
+use Rattle.perf_records.specs.Records.{itrace_start_is}
+use Rattle.perf_types.specs.ITraceStart.{itrace_start}
+use Rattle.perf_flat.proofs.plain_bodies.itrace_start_contents.Goals as goal
+
+pub returns : goal.returns
+returns g c = λ settings.
+    let start = c.new-places in
+    let pid_at = c.read_word-pid in
+    let tid_at = c.read_word-tid in
+    c.finish.ensures settings (g.E.Endian.order c.args.order.now) (mapped itrace_start_is itrace_start) (itrace_start_is (record { pid = pid_at.result; tid = tid_at.result })) c.args.body.now (record {
+      start = start.result;
+      whole = start.ensures.bytes;
+      front = start.ensures.at;
+      fresh = start.ensures.refusal;
+      reads = next_number pid_at.ensures (next_number tid_at.ensures all_read);
+      words = λ ok. refl;
+      there = λ ok frame is. no_strings frame;
+      ids = λ own. refl;
+    })

@@ -1,0 +1,128 @@
+//! The body of an MMAP2 record, read in place.
+
+ghost use Rattle.std.specs.Prelude.{◌≡◌};
+ghost use Rattle.perf_base.specs.Configuration.{Configuration};
+ghost use Rattle.perf_base.specs.Layout.{mapped};
+ghost use Rattle.perf_base.specs.Misc.{build_id_bit};
+ghost use Rattle.perf_flat.specs.BodyPlaces.{IsDetail};
+ghost use Rattle.perf_flat.specs.Places.{PlacesRecord, ReadsFor};
+ghost use Rattle.perf_records.specs.Records as record_of;
+ghost use Rattle.perf_types.specs.Mmap2.{mmap2};
+ghost use Rattle.perf_types.specs.MmapDetail as detail_of;
+ghost use Rattle.perf_words.specs.Bits.{has_bit};
+
+use crate::contents::Contents;
+use crate::flat_frame::{NO_SPAN, Span, span_within};
+use crate::places::Places;
+use perf_base::endian::Endian;
+use perf_base::refusal::{ReadResult, Refusal};
+use perf_base::sys::PERF_RECORD_MISC_MMAP_BUILD_ID;
+use perf_records::metadata::RecordMetadata;
+
+// What identifies the file of a mapping: the numbers of its inode, or where its build id is.
+#[derive(Copy, Clone)]
+struct Detail {
+    maj: u64,
+    min: u64,
+    ino: u64,
+    ino_generation: u64,
+    build_id: Span,
+}
+
+// Whether the record with this `misc` identifies its file by a build id.
+#[inline]
+#[tactic(auto, using(perf_types::proofs::Flags::contains_build_id))]
+fn has_build_id(misc: u16) -> bool
+    ensures { result ≡ has_bit misc build_id_bit }
+{
+    misc & PERF_RECORD_MISC_MMAP_BUILD_ID == PERF_RECORD_MISC_MMAP_BUILD_ID
+}
+
+// The longest build id, in bytes.
+const BUILD_ID: u64 = 20;
+
+impl Places<'_> {
+    // The numbers of an inode.
+    #[inline]
+    fn inode<E: Endian>(&mut self, order: &E) -> Detail
+        ensures { ReadsFor (E.order order.now) detail_of.inode
+            (λ d. IsDetail self.old.bytes.now d result) self.old self.new }
+    {
+        Detail {
+            maj: self.read_word(order),
+            min: self.read_word(order),
+            ino: self.read_u64(order),
+            ino_generation: self.read_u64(order),
+            build_id: NO_SPAN,
+        }
+    }
+
+    // A build id.
+    #[inline]
+    fn build_id<E: Endian>(&mut self, order: &E) -> Detail
+        ensures { ReadsFor (E.order order.now) detail_of.build_id
+            (λ d. IsDetail self.old.bytes.now d result) self.old self.new }
+    {
+        let len = self.read_u8(order);
+        self.pass(3);
+        let bytes = self.pass(BUILD_ID);
+        self.require(len <= BUILD_ID, Refusal::BuildIdLength);
+        Detail {
+            maj: 0,
+            min: 0,
+            ino: 0,
+            ino_generation: 0,
+            build_id: span_within(bytes, 0, len),
+        }
+    }
+
+    // One of the two, by the header's `misc`.
+    #[inline]
+    fn detail<E: Endian>(&mut self, order: &E, misc: u16) -> Detail
+        ensures { (c : Configuration) → misc ≡ c.misc →
+            ReadsFor (E.order order.now) (detail_of.mmap_detail c)
+            (λ d. IsDetail self.old.bytes.now d result) self.old self.new }
+    {
+        if has_build_id(misc) {
+            self.build_id(order)
+        } else {
+            self.inode(order)
+        }
+    }
+}
+
+// The contents of an MMAP2 record.
+pub(crate) fn mmap2_contents<E: Endian>(
+    order: &E,
+    misc: u16,
+    metadata: RecordMetadata,
+    body: &[u8],
+) -> ReadResult<Contents>
+    ensures { (c : Configuration) → misc ≡ c.misc → PlacesRecord c (E.order order.now)
+        (mapped record_of.mmap2_is (mmap2 c)) body.now metadata.sample_id result }
+{
+    let mut places = Places::new(body);
+    let pid = places.read_word(order);
+    let tid = places.read_word(order);
+    let addr = places.read_u64(order);
+    let len = places.read_u64(order);
+    let pgoff = places.read_u64(order);
+    let detail = places.detail(order, misc);
+    let prot = places.read_word(order);
+    let flags = places.read_word(order);
+    let filename = places.name();
+    let numbers = [
+        pid,
+        tid,
+        addr,
+        len,
+        pgoff,
+        prot,
+        flags,
+        detail.maj,
+        detail.min,
+        detail.ino,
+        detail.ino_generation,
+    ];
+    places.finish(metadata, &numbers, &[filename, detail.build_id])
+}

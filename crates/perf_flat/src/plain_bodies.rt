@@ -1,0 +1,219 @@
+//! Bodies of numbers alone, read in place.
+
+ghost use Rattle.perf_base.specs.Configuration.{Configuration};
+ghost use Rattle.perf_base.specs.Layout.{done, mapped};
+ghost use Rattle.perf_base.specs.Misc.{switch_out_bit};
+ghost use Rattle.perf_base.specs.Order.{Order};
+ghost use Rattle.perf_flat.specs.Numbers.{or_zero};
+ghost use Rattle.perf_types.specs.Read.{read};
+ghost use Rattle.perf_types.specs.SwitchCpuWide.{switch_cpu_wide};
+ghost use Rattle.perf_words.specs.Bits.{has_bit};
+ghost use Rattle.perf_words.specs.SetBits.{read_format_bits};
+ghost use Rattle.std.specs.Prelude.{◌≡◌, ◌∷◌, [], if◌then◌else◌};
+ghost use Rattle.perf_flat.specs.Places.{PlacesRecord};
+ghost use Rattle.perf_records.specs.Records as record_of;
+ghost use Rattle.perf_types.specs.Aux.{aux};
+ghost use Rattle.perf_types.specs.AuxOutputHwId.{aux_output_hw_id};
+ghost use Rattle.perf_types.specs.Exit.{exit};
+ghost use Rattle.perf_types.specs.ITraceStart.{itrace_start};
+ghost use Rattle.perf_types.specs.Lost.{lost};
+ghost use Rattle.perf_types.specs.LostSamples.{lost_samples};
+ghost use Rattle.perf_types.specs.Throttle.{throttle};
+
+use crate::contents::Contents;
+use crate::places::Places;
+use crate::sample_lists::Counters;
+use perf_base::endian::Endian;
+use perf_base::refusal::ReadResult;
+use perf_base::sys::PERF_RECORD_MISC_SWITCH_OUT;
+use perf_records::metadata::RecordMetadata;
+use perf_words::ReadFormat;
+
+// The contents of a LOST record.
+pub(crate) fn lost_contents<E: Endian>(
+    order: &E,
+    metadata: RecordMetadata,
+    body: &[u8],
+) -> ReadResult<Contents>
+    ensures { (c : Configuration) → PlacesRecord c (E.order order.now)
+        (mapped record_of.lost_is lost) body.now metadata.sample_id result }
+{
+    let mut places = Places::new(body);
+    let id = places.read_u64(order);
+    let lost = places.read_u64(order);
+    places.finish(metadata, &[id, lost], &[])
+}
+
+// The contents of an EXIT or a FORK record.
+pub(crate) fn task_contents<E: Endian>(
+    order: &E,
+    metadata: RecordMetadata,
+    body: &[u8],
+) -> ReadResult<Contents>
+    ensures exit { (c : Configuration) → PlacesRecord c (E.order order.now)
+        (mapped record_of.exit_is exit) body.now metadata.sample_id result }
+    ensures fork { (c : Configuration) → PlacesRecord c (E.order order.now)
+        (mapped record_of.fork_is exit) body.now metadata.sample_id result }
+{
+    let mut places = Places::new(body);
+    let pid = places.read_word(order);
+    let ppid = places.read_word(order);
+    let tid = places.read_word(order);
+    let ptid = places.read_word(order);
+    let time = places.read_u64(order);
+    places.finish(metadata, &[pid, ppid, tid, ptid, time], &[])
+}
+
+// The contents of a THROTTLE or an UNTHROTTLE record.
+pub(crate) fn throttle_contents<E: Endian>(
+    order: &E,
+    metadata: RecordMetadata,
+    body: &[u8],
+) -> ReadResult<Contents>
+    ensures throttle { (c : Configuration) → PlacesRecord c (E.order order.now)
+        (mapped record_of.throttle_is throttle) body.now metadata.sample_id result }
+    ensures unthrottle { (c : Configuration) → PlacesRecord c (E.order order.now)
+        (mapped record_of.unthrottle_is throttle) body.now metadata.sample_id result }
+{
+    let mut places = Places::new(body);
+    let time = places.read_u64(order);
+    let id = places.read_u64(order);
+    let stream_id = places.read_u64(order);
+    places.finish(metadata, &[time, id, stream_id], &[])
+}
+
+// The contents of an AUX record.
+pub(crate) fn aux_contents<E: Endian>(
+    order: &E,
+    metadata: RecordMetadata,
+    body: &[u8],
+) -> ReadResult<Contents>
+    ensures { (c : Configuration) → PlacesRecord c (E.order order.now)
+        (mapped record_of.aux_is aux) body.now metadata.sample_id result }
+{
+    let mut places = Places::new(body);
+    let offset = places.read_u64(order);
+    let size = places.read_u64(order);
+    let flags = places.read_u64(order);
+    places.finish(metadata, &[offset, size, flags], &[])
+}
+
+// The contents of an ITRACE_START record.
+pub(crate) fn itrace_start_contents<E: Endian>(
+    order: &E,
+    metadata: RecordMetadata,
+    body: &[u8],
+) -> ReadResult<Contents>
+    ensures { (c : Configuration) → PlacesRecord c (E.order order.now)
+        (mapped record_of.itrace_start_is itrace_start) body.now metadata.sample_id result }
+{
+    let mut places = Places::new(body);
+    let pid = places.read_word(order);
+    let tid = places.read_word(order);
+    places.finish(metadata, &[pid, tid], &[])
+}
+
+// The contents of a LOST_SAMPLES record.
+pub(crate) fn lost_samples_contents<E: Endian>(
+    order: &E,
+    metadata: RecordMetadata,
+    body: &[u8],
+) -> ReadResult<Contents>
+    ensures { (c : Configuration) → PlacesRecord c (E.order order.now)
+        (mapped record_of.lost_samples_is lost_samples) body.now metadata.sample_id result }
+{
+    let mut places = Places::new(body);
+    let lost = places.read_u64(order);
+    places.finish(metadata, &[lost], &[])
+}
+
+// The contents of an AUX_OUTPUT_HW_ID record.
+pub(crate) fn hw_id_contents<E: Endian>(
+    order: &E,
+    metadata: RecordMetadata,
+    body: &[u8],
+) -> ReadResult<Contents>
+    ensures { (c : Configuration) → PlacesRecord c (E.order order.now)
+        (mapped record_of.aux_output_hw_id_is aux_output_hw_id) body.now metadata.sample_id result }
+{
+    let mut places = Places::new(body);
+    let hw_id = places.read_u64(order);
+    places.finish(metadata, &[hw_id], &[])
+}
+
+// The numbers of a READ record.
+#[inline]
+fn read_numbers(pid: u64, tid: u64, one: &Counters) -> [u64; 7]
+    ensures { result ≡ pid ∷ tid ∷ one.now.value ∷ or_zero one.now.time_enabled
+        ∷ or_zero one.now.time_running ∷ or_zero one.now.id ∷ or_zero one.now.lost ∷ [] }
+{
+    [
+        pid,
+        tid,
+        one.value,
+        one.time_enabled.unwrap_or(0),
+        one.time_running.unwrap_or(0),
+        one.id.unwrap_or(0),
+        one.lost.unwrap_or(0),
+    ]
+}
+
+// The contents of a READ record.
+pub(crate) fn read_contents<E: Endian>(
+    order: &E,
+    format: ReadFormat,
+    metadata: RecordMetadata,
+    body: &[u8],
+) -> ReadResult<Contents>
+    ensures { (c : Configuration) → read_format_bits format ≡ c.read_format →
+        PlacesRecord c (E.order order.now) (mapped record_of.read_is (read c)) body.now
+        metadata.sample_id result }
+{
+    let mut places = Places::new(body);
+    let pid = places.read_word(order);
+    let tid = places.read_word(order);
+    let one = places.one_counter(order, format);
+    places.finish(metadata, &read_numbers(pid, tid, &one), &[])
+}
+
+// The contents of a SWITCH record: nothing.
+pub(crate) fn switch_contents(metadata: RecordMetadata, body: &[u8]) -> ReadResult<Contents>
+    ensures { (c : Configuration) (o : Order) →
+        PlacesRecord c o (done record_of.switch_is) body.now metadata.sample_id result }
+{
+    Places::new(body).finish(metadata, &[], &[])
+}
+
+// Whether the record with this `misc` reports that a task left its processor.
+#[inline]
+#[tactic(auto, using(perf_types::proofs::Flags::contains_switch_out))]
+fn is_switch_out(misc: u16) -> bool
+    ensures { result ≡ has_bit misc switch_out_bit }
+{
+    misc & PERF_RECORD_MISC_SWITCH_OUT == PERF_RECORD_MISC_SWITCH_OUT
+}
+
+// The same as a number: 1 or 0.
+#[inline]
+fn switch_out(misc: u16) -> u64
+    ensures { result ≡ (if has_bit misc switch_out_bit then 1 else 0) }
+{
+    if is_switch_out(misc) { 1 } else { 0 }
+}
+
+// The contents of a SWITCH_CPU_WIDE record.
+pub(crate) fn switch_cpu_wide_contents<E: Endian>(
+    order: &E,
+    misc: u16,
+    metadata: RecordMetadata,
+    body: &[u8],
+) -> ReadResult<Contents>
+    ensures { (c : Configuration) → misc ≡ c.misc → PlacesRecord c (E.order order.now)
+        (mapped record_of.switch_cpu_wide_is (switch_cpu_wide c)) body.now metadata.sample_id
+        result }
+{
+    let mut places = Places::new(body);
+    let pid = places.read_word(order);
+    let tid = places.read_word(order);
+    places.finish(metadata, &[pid, tid, switch_out(misc)], &[])
+}

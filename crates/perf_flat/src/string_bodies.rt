@@ -1,0 +1,77 @@
+//! Bodies with byte strings that are no names, read in place.
+
+ghost use Rattle.std.specs.Prelude.{◌≡◌, ◌<◌, ◌^◌};
+ghost use Rattle.perf_base.specs.Configuration.{Configuration};
+ghost use Rattle.perf_base.specs.Layout.{mapped};
+ghost use Rattle.perf_base.specs.Order.{Order};
+ghost use Rattle.perf_flat.specs.Places.{PlacesRecord};
+ghost use Rattle.perf_records.specs.Bodies.{unread};
+ghost use Rattle.perf_records.specs.Records as record_of;
+ghost use Rattle.perf_types.specs.BpfEvent.{bpf_event};
+ghost use Rattle.perf_types.specs.TextPoke.{poked_len, text_poke};
+ghost use Rattle.std.specs.Prelude.{ℕ};
+
+use crate::contents::Contents;
+use crate::flat_frame::span_within;
+use crate::places::Places;
+use perf_base::endian::Endian;
+use perf_base::refusal::ReadResult;
+use perf_records::metadata::RecordMetadata;
+
+// How many bytes the tag of a BPF program has.
+const TAG: u64 = 8;
+
+// The contents of a BPF_EVENT record.
+pub(crate) fn bpf_event_contents<E: Endian>(
+    order: &E,
+    metadata: RecordMetadata,
+    body: &[u8],
+) -> ReadResult<Contents>
+    ensures { (c : Configuration) → PlacesRecord c (E.order order.now)
+        (mapped record_of.bpf_event_is bpf_event) body.now metadata.sample_id result }
+{
+    let mut places = Places::new(body);
+    let kind = places.read_u16(order);
+    let flags = places.read_u16(order);
+    let id = places.read_word(order);
+    let tag = places.pass(TAG);
+    places.finish(metadata, &[kind, flags, id], &[tag])
+}
+
+// How many bytes follow both lengths of a TEXT_POKE record.
+#[inline]
+fn poked_len(len: u64) -> u64
+    requires { len < 2 ^ 32 }
+    ensures { result ≡ poked_len len }
+{
+    len + (12 - len % 8) % 8
+}
+
+// The contents of a TEXT_POKE record.
+pub(crate) fn text_poke_contents<E: Endian>(
+    order: &E,
+    metadata: RecordMetadata,
+    body: &[u8],
+) -> ReadResult<Contents>
+    ensures { (c : Configuration) → PlacesRecord c (E.order order.now)
+        (mapped record_of.text_poke_is text_poke) body.now metadata.sample_id result }
+{
+    let mut places = Places::new(body);
+    let addr = places.read_u64(order);
+    let old_len = places.read_u16(order);
+    let new_len = places.read_u16(order);
+    let run = places.pass(poked_len(old_len + new_len));
+    let old = span_within(run, 0, old_len);
+    let new = span_within(run, old_len, new_len);
+    places.finish(metadata, &[addr], &[old, new])
+}
+
+// The contents of a record of a type that is not known: all of its bytes.
+pub(crate) fn unknown_contents(metadata: RecordMetadata, body: &[u8]) -> ReadResult<Contents>
+    ensures { (c : Configuration) (o : Order) (ty : ℕ) →
+        PlacesRecord c o (unread ty) body.now metadata.sample_id result }
+{
+    let mut places = Places::new(body);
+    let all = places.all_left();
+    places.finish(metadata, &[], &[all])
+}
