@@ -54,8 +54,6 @@ check_symbols() {
     others=$(grep -vxE 'mem(cpy|move|set|cmp)' "$work/undefined" | tr '\n' ' ')
     if [ -z "$others" ]; then
         pass "undefined symbols are memcpy, memmove, memset and memcmp at most"
-    elif [ "$others" = "rattle_alloc rattle_dealloc rattle_realloc " ]; then
-        skip "other undefined symbols: $others(linked with no_heap.c, which ends a program that calls them)"
     else
         fail "other undefined symbols: $others"
     fi

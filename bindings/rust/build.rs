@@ -2,7 +2,6 @@
 //! beside this crate in `lib/TARGET`.
 
 use std::env;
-use std::fs;
 use std::path::{Path, PathBuf};
 use std::process::{exit, Command};
 
@@ -14,12 +13,6 @@ fn name_in(folder: &Path) -> Option<&'static str> {
     NAMES
         .into_iter()
         .find(|name| folder.join(format!("lib{name}.a")).is_file())
-}
-
-/// Whether an archive names the functions of `src/heap.rs`.
-fn names_a_heap(archive: &Path) -> bool {
-    let name = b"rattle_alloc";
-    fs::read(archive).is_ok_and(|bytes| bytes.windows(name.len()).any(|part| part == name))
 }
 
 /// The folder that pkg-config returns for a name.
@@ -49,16 +42,12 @@ fn main() {
     println!("cargo:rerun-if-changed=build.rs");
     println!("cargo:rerun-if-env-changed=PERF_EVENT_DATA_LIB_DIR");
     println!("cargo:rerun-if-env-changed=PKG_CONFIG");
-    println!("cargo:rustc-check-cfg=cfg(names_a_heap)");
     let folders = folders();
     for folder in &folders {
         println!("cargo:rerun-if-changed={}", folder.display());
         if let Some(name) = name_in(folder) {
             let archive = folder.join(format!("lib{name}.a"));
             println!("cargo:rerun-if-changed={}", archive.display());
-            if names_a_heap(&archive) {
-                println!("cargo:rustc-cfg=names_a_heap");
-            }
             println!("cargo:rustc-link-search=native={}", folder.display());
             println!("cargo:rustc-link-lib=static={name}");
             return;

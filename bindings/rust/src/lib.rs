@@ -42,8 +42,6 @@ mod error;
 mod ffi;
 mod flags;
 mod flat;
-#[cfg(names_a_heap)]
-mod heap;
 pub mod parse;
 mod parsebuf;
 mod read;

@@ -1,6 +1,6 @@
 -- What a flat frame states, by how it was made.
 use Rattle.std.proofs.Common.{◌≡◌, ℕ, ◌+◌, ◌-◌, ◌≤◌, ◌<◌, ◌^◌, Bool, true, false, List, [], ◌∷◌, length, take, drop, Result, Ok, Err, refl, sym, ◌∙◌, ap, subst, inl, inr, arith}
-use Rattle.std.specs.Prelude.{IsTrue, nat_lt}
+use Rattle.std.specs.Prelude.{nat_lt}
 use Rattle.std.proofs.lemmas.Bool.{cases_lt, lt-ltb, le-ltb}
 use Rattle.std.proofs.lemmas.List.{length-drop, length-take, length-take-le, take-take, drop-take, take_all}
 use Rattle.perf_base.specs.Configuration.{Configuration, under_misc}
@@ -213,12 +213,8 @@ no_first o bytes e = elim (cases_lt (length bytes) 8) [
 ]
 
 -- a whole frame is there
-pub record WholeFirst (c : Configuration) (o : Order) (bytes rest : List ℕ) (h : perf_event_header) (borrowed : Bool) : Type 0 where
-  pub chunk_is_borrowed : IsTrue borrowed
-  pub flat : (f : FlatFrame) → IsFlatAfter c o h rest f → IsFlat c o (first_frame o bytes) f
-
 pub whole_first : (c : Configuration) (o : Order) (bytes rest : List ℕ) (h : perf_event_header) (borrowed : Bool) → 8 ≤ length bytes → sight_in o bytes true ≡ whole h rest borrowed →
-    WholeFirst c o bytes rest h borrowed
+    (f : FlatFrame) → IsFlatAfter c o h rest f → IsFlat c o (first_frame o bytes) f
 whole_first c o bytes rest h borrowed fits seen =
     let k : perf_event_header = header_of o bytes in
     let after : List ℕ = drop 8 bytes in
@@ -230,11 +226,7 @@ whole_first c o bytes rest h borrowed fits seen =
             let e = sym (finished k after true sized whole_there) ∙ seen in
             let header : k ≡ h = cc in
             let bytes_are : take (length_after k) after ≡ rest = cc in
-            let lent : true ≡ borrowed = cc in
-            record {
-              chunk_is_borrowed = sym lent;
-              flat = λ f flat. flat (first_frame o bytes) (first_headed o bytes fits) (header_alone o bytes ∙ header) (first_rest o bytes ∙ bytes_are);
-            }
+            λ f flat. flat (first_frame o bytes) (first_headed o bytes fits) (header_alone o bytes ∙ header) (first_rest o bytes ∙ bytes_are)
       ]
     ]
 

@@ -20,22 +20,19 @@ pub(crate) struct Places<'c> {
 }
 
 impl<'c> Places<'c> {
-    ghost use Rattle.std.specs.Prelude.{◌≡◌, ◌≤◌, ◌<◌, ◌+◌, ◌*◌, ◌^◌, None, length, ℕ};
+    ghost use Rattle.std.specs.Prelude.{◌≡◌, ◌≤◌, ◌<◌, ◌+◌, ◌*◌, ◌^◌, List, None, length, ℕ};
+    ghost use Rattle.perf_base.specs.Configuration.{Configuration};
     ghost use Rattle.perf_base.specs.Layout.{Parts, w1, w2, w4, w8, number, part, done};
-    ghost use Rattle.perf_base.specs.FieldWords.{require};
+    ghost use Rattle.perf_base.specs.FieldWords.{all_left, name, require};
     ghost use Rattle.perf_base.specs.Order.{Order};
     ghost use Rattle.perf_base.specs.Refusals.{refusal_kind};
     ghost use Rattle.perf_base.specs.declared.refusal.Refusal.TheVariants.{Eof};
     ghost use Rattle.perf_flat.specs.Filled.{low_word, span};
-    ghost use Rattle.perf_flat.specs.Places.{Reads, PassesNumbers, first_of};
+    ghost use Rattle.perf_flat.specs.Places.{Reads, ReadsFor, PassesNumbers, first_of};
     ghost use Rattle.perf_flat.specs.Places.{PlacesRecord, TakesRecord};
-    ghost use Rattle.perf_base.specs.Configuration.{Configuration};
-    ghost use Rattle.perf_records.specs.Records.{RecordValue};
-    ghost use Rattle.std.specs.Prelude.{List};
-    ghost use Rattle.perf_base.specs.FieldWords.{all_left, name};
-    ghost use Rattle.perf_flat.specs.Places.{ReadsFor};
     ghost use Rattle.perf_flat.specs.SamplePlaces.{InFrames};
     ghost use Rattle.perf_flat.specs.Strings.{HasBytes};
+    ghost use Rattle.perf_records.specs.Records.{RecordValue};
 
     // The beginning of a body.
     #[inline]

@@ -1,6 +1,6 @@
 //! Bodies with byte strings that are no names, read in place.
 
-ghost use Rattle.std.specs.Prelude.{◌≡◌, ◌<◌, ◌^◌};
+ghost use Rattle.std.specs.Prelude.{◌≡◌, ◌<◌, ◌^◌, ℕ};
 ghost use Rattle.perf_base.specs.Configuration.{Configuration};
 ghost use Rattle.perf_base.specs.Layout.{mapped};
 ghost use Rattle.perf_base.specs.Order.{Order};
@@ -9,7 +9,6 @@ ghost use Rattle.perf_records.specs.Bodies.{unread};
 ghost use Rattle.perf_records.specs.Records as record_of;
 ghost use Rattle.perf_types.specs.BpfEvent.{bpf_event};
 ghost use Rattle.perf_types.specs.TextPoke.{poked_len, text_poke};
-ghost use Rattle.std.specs.Prelude.{ℕ};
 
 use crate::contents::Contents;
 use crate::flat_frame::span_within;

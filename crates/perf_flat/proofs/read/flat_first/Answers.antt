@@ -11,7 +11,7 @@ returns-in-Ok g c = λ bytes fits seen.
     let f = c.in-Ok.frame in
     let settings = configuration_of c.args.config.now in
     let order = g.E.Endian.order (endian_of c.args.config.now) in
-    (whole_first settings order bytes (chunk_bytes f.rest) f.header (chunk_is_borrowed f.rest) fits (seen ∙ ap sight_of c.in-Ok.is)).flat _ c.flat_frame.ensures
+    whole_first settings order bytes (chunk_bytes f.rest) f.header (chunk_is_borrowed f.rest) fits (seen ∙ ap sight_of c.in-Ok.is) _ c.flat_frame.ensures
 
 pub returns-in-Err : goal.returns-in-Err
 returns-in-Err g c = λ bytes fits seen.
