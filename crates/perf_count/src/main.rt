@@ -3,20 +3,20 @@
 //! `perf_count little|big|native [attr]` reads records from standard input, in the byte order that
 //! is named, and prints one line of three numbers: how many frames there are, how many of them were
 //! refused, and a checksum of the others. With `attr` the input begins with an attribute, which
-//! says how the records after it are read. No record is printed, so its time is that of reading
-//! records; and none is kept, so its memory is 1 MB of the input and one frame, however long the
-//! input is.
+//! determines how the records after it are read. No record is printed, so its run time measures
+//! parsing alone; and none is kept, so its memory is 1 MB of the input and one frame, however long
+//! the input is.
 //!
 //! The checksum is the sum, modulo 2^64, of the type and the size in the header of each frame that
 //! was not refused, and of what its record has: of MMAP and MMAP2 `pid`, `tid`, `addr`, `len`,
 //! `pgoff` and the length of the file's name; of COMM `pid`, `tid` and the length of the name; of
 //! EXIT and FORK `pid`, `ppid`, `tid`, `ptid` and `time`; of LOST `id` and `lost`; of LOST_SAMPLES
-//! `lost`; of SAMPLE, as far as they are there, `ip`, `pid`, `tid`, `time`, `period`, the numbers of
+//! `lost`; of SAMPLE, as far as they are present, `ip`, `pid`, `tid`, `time`, `period`, the numbers of
 //! the call chain and the length of the raw bytes. Other records add nothing of their own.
 //!
-//! The exit status is 0 if no frame was refused and the input ended after one, 2 for other words, and
-//! else 1. Why the attribute was refused, or what kept the input from being read to its end, goes to
-//! standard error. `--help` alone prints the usage, with the status 0.
+//! The exit status is 0 if no frame was refused and the input ended after one, 2 for other arguments,
+//! and 1 otherwise. Why the attribute was refused, or why the input was not read to its end, is
+//! printed on standard error. `--help` alone prints the usage, with the status 0.
 #![tactic(auto)]
 
 use anyhow::{Result, bail};
@@ -33,11 +33,11 @@ use std::env;
 use std::io::{BufReader, Read};
 use std::process::ExitCode;
 
-// What is printed for `--help` and for words that ask for nothing.
+// What is printed for `--help` and for arguments that are not known.
 const USAGE: &str = "usage: perf_count little|big|native [attr] < STREAM
 Prints how many frames there are, how many of them were refused, and a checksum of the others.
 With attr the stream begins with an attribute, as examples/perf-data-to-stream.sh writes it.
-Status: 0 if no frame was refused, 1 if one was or on an error, 2 for other words.";
+Status: 0 if no frame was refused, 1 if one was or on an error, 2 for other arguments.";
 
 // How many bytes are read at a time. A frame has fewer than 65,536, so that few frames lie across two
 // reads and have to be assembled.
@@ -51,7 +51,7 @@ fn main(rt: HostRuntime) -> Result<ExitCode> {
     let input = BufReader::with_capacity(rt.alloc(), INPUT_ROOM, rt.stdin())?;
     let (counts, end) = match count_command(rt.alloc(), input, command) {
         Ok((_, RunEnd::Fault(error))) if error.kind() == ErrorKind::External => bail_with(error)?,
-        Ok(counted) => counted,
+        Ok(result) => result,
         Err(error) => bail_with(error)?,
     };
     let Counts {
@@ -81,7 +81,7 @@ fn count_command<R: Read + Drop>(
     }
 }
 
-// Fails with an error, in its reader's own words if it comes from there.
+// Fails with an error, or with its cause if the reader returned one.
 fn bail_with(error: ParseError) -> Result<(Counts, RunEnd)> {
     match error.cause() {
         Some(cause) => bail!("{cause}"),

@@ -1,13 +1,14 @@
 //! Prints the records that Linux wrote for performance events, a line each.
 //!
 //! `perfrec little|big|native [LIMIT] [attr]` reads records from standard input, in the byte order
-//! that is named, and writes at most LIMIT lines to standard output, and a last one that says how
+//! that is named, and writes at most LIMIT lines to standard output, and a last one that states how
 //! reading ended. Without LIMIT all records have a line. With `attr` the input begins with an
-//! attribute, which says how the records after it are read.
+//! attribute, which determines how the records after it are read.
 //!
 //! The exit status is 0 if every record could be read, 1 if one was refused or the input ends inside
-//! a header, 2 if the attribute was refused and for other words, and 3 if reading, writing or memory
-//! failed. With 2 and 3 standard error has the reason, and with 1 what to try if there is no `attr`.
+//! a header, 2 if the attribute was refused and for other arguments, and 3 if reading, writing or
+//! an allocation failed. With 2 and 3 the reason is printed on standard error, and with 1 what to try
+//! if there is no `attr`.
 //! `--help` alone prints the usage, with the status 0.
 #![tactic(auto)]
 
@@ -20,12 +21,12 @@ use perf_text::usage::print_usage;
 use std::process::ExitCode;
 use std::{env, io};
 
-// What is printed for `--help` and for words that ask for nothing.
+// What is printed for `--help` and for arguments that are not known.
 const USAGE: &str = "usage: perfrec little|big|native [LIMIT] [attr] < STREAM
 Prints a line for each record, at most LIMIT lines if there is one, and then how reading ended.
 With attr the stream begins with an attribute, as examples/perf-data-to-stream.sh writes it.
 Status: 0 if no record was refused, 1 if one was or the last header is cut, 2 if the attribute was
-refused or for other words, 3 if reading, writing or memory failed.";
+refused or for other arguments, 3 if reading, writing or memory failed.";
 
 // How many bytes are read at a time.
 const PIECE: usize = 8192;
@@ -44,7 +45,7 @@ fn main(rt: HostRuntime) -> ExitCode {
         OrderName::Native => run_command(&rt, Native, command),
     };
     if let Some(why) = reason(outcome, command.with_attr) {
-        // If standard error fails, the status alone says it.
+        // If standard error fails, the status alone reports it.
         let _ = rt.eprintln(why);
     }
     ExitCode::from(outcome.status())
@@ -65,11 +66,11 @@ fn reason(outcome: Outcome, with_attr: bool) -> Option<&'static str> {
         Outcome::Faulted => Some(
             "perfrec: the input cannot be read to its end, as the last line says",
         ),
-        Outcome::Stopped => Some("perfrec: the output cannot be written, or memory is refused"),
+        Outcome::Stopped => Some("perfrec: the output cannot be written, or an allocation failed"),
     }
 }
 
-// The words after the program's name.
+// The arguments after the program's name.
 fn words_of(rt: &HostRuntime) -> io::Result<Vec<String>> {
     let words = env::args(rt)?.skip(1).collect(rt.alloc())?;
     Ok(words)
