@@ -46,7 +46,7 @@ function hex(text) {
 }
 
 # The text after its first `count` words.
-function behind(text, count,    k) {
+function text_after(text, count,    k) {
     for (k = 0; k < count; k++) if (!sub(/^[^ ]+ /, "", text)) fail()
     return text
 }
@@ -91,13 +91,13 @@ wanted > 0 {
 }
 
 word[1] == "COMM:" || word[1] == "COMM" && word[2] == "exec:" {
-    text = behind(text, word[1] == "COMM" ? 2 : 1)
+    text = text_after(text, word[1] == "COMM" ? 2 : 1)
     if (!match(text, /:[0-9]+\/[0-9]+$/)) fail()
     print "comm " ids(substr(text, RSTART + 1)) " " substr(text, 1, RSTART - 1)
 }
 
 word[1] == "MMAP" {
-    print "mmap " ids(without(word[2], ":")) " " range(word[3]) " " hex(without(word[5], "]:")) " " behind(text, 6)
+    print "mmap " ids(without(word[2], ":")) " " range(word[3]) " " hex(without(word[5], "]:")) " " text_after(text, 6)
 }
 
 word[1] == "MMAP2" {
@@ -105,7 +105,7 @@ word[1] == "MMAP2" {
     device = hex(part[1]) ":" hex(part[2])
     file = device " " number(word[7]) " " number(without(word[8], "]:"))
     place = range(word[3]) " " hex(word[5])
-    print "mmap2 " ids(without(word[2], ":")) " " place " " file " " word[9] " " behind(text, 9)
+    print "mmap2 " ids(without(word[2], ":")) " " place " " file " " word[9] " " text_after(text, 9)
 }
 
 word[1] ~ /^(FORK|EXIT)\(/ {

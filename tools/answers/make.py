@@ -221,9 +221,9 @@ class Frames:
     def __init__(self, order, draw, config):
         self.bodies, self.draw, self.config = Bodies(order, draw), draw, config
 
-    def frame(self, type_, misc, behind, size=None):
-        size = 8 + len(behind) if size is None else size
-        return self.bodies.pack("IHH", type_, misc, size) + behind
+    def frame(self, type_, misc, rest, size=None):
+        size = 8 + len(rest) if size is None else size
+        return self.bodies.pack("IHH", type_, misc, size) + rest
 
     def with_id(self, type_, misc, body):
         return self.frame(type_, misc, body + self.draw.bytes(id_length(self.config)))

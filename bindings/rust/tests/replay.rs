@@ -380,7 +380,7 @@ impl<'a> Case<'a> {
             }
             "big" => self.is_big = true,
             "little" => self.is_big = false,
-            "run" | "behind" | "ask" | "shown" | "sample" | "perfrec" => {
+            "run" | "after" | "ask" | "shown" | "sample" | "perfrec" => {
                 self.how = word;
                 self.words = rest;
             }
@@ -434,7 +434,7 @@ impl<'a> Case<'a> {
                 &self.little,
                 self.words
             ))),
-            "behind" => Some(after_attribute(&self.little, self.words)),
+            "after" => Some(after_attribute(&self.little, self.words)),
             "sample" => Some(self.told_sample()),
             "perfrec" => {
                 let (lines, status) = text::run(self.words, &self.little);

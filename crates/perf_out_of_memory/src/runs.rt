@@ -83,12 +83,12 @@ fn check_run(
     let mut parser = Parser::new(rt.alloc(), reader, ParseConfig::<Little>::from(attr));
     let run = read_records(&mut parser, limit);
     let granted = are_granted(rt.alloc());
-    let (count, ended) = (run.frames.len(), ending(&run.end));
-    let _ = println!(rt; "{name}: {count} listed, {ended}, then {granted:?}");
+    let (count, end) = (run.frames.len(), ending(&run.end));
+    let _ = println!(rt; "{name}: {count} listed, {end}, then {granted:?}");
     check_lines(rt, &run, lines);
     assert!(rt;
-        ended == "out of memory" || (count, ended) == (lines.len(), end),
-        "{ended}"
+        end == "out of memory" || (count, end) == (lines.len(), end),
+        "{end}"
     );
 }
 

@@ -4,8 +4,8 @@ use crate::perfrec;
 use anyhow::{Context, Result, bail};
 use perf_event_data::endian::Dynamic;
 use perf_event_data::sys::perf_event_attr;
-use perf_test_helpers::asks::tell_asked;
-use perf_test_helpers::runs::{tell_after, tell_everywhere, tell_shown};
+use perf_test_helpers::asks::text_of_calls;
+use perf_test_helpers::runs::{runs_everywhere, text_after_attribute, text_of_records};
 use perf_test_helpers::sample_bytes::{Part, frames, put_parts};
 use std::alloc::{AllocError, Global};
 
@@ -19,12 +19,12 @@ pub struct Case<'a> {
     little: Vec<u8>,
     big: Vec<u8>,
     // Whether the next bytes replace those so far.
-    is_told: bool,
+    is_complete: bool,
     // The byte order of the parser.
     order: Dynamic,
     // How it is asked, and for what.
     how: &'a str,
-    asked: &'a str,
+    request: &'a str,
     // The lines of a longer result so far.
     lines: String,
 }
@@ -37,10 +37,10 @@ impl<'a> Case<'a> {
             attr: perf_event_attr::default(),
             little: Vec::new(alloc),
             big: Vec::new(alloc),
-            is_told: false,
+            is_complete: false,
             order: Dynamic::Little,
             how: "",
-            asked: "",
+            request: "",
             lines: String::new(alloc),
         }
     }
@@ -60,9 +60,9 @@ impl<'a> Case<'a> {
             "under" => self.attr = attribute(rest)?,
             "big" => self.order = Dynamic::Big,
             "little" => self.order = Dynamic::Little,
-            "run" | "behind" | "ask" | "shown" | "sample" | "perfrec" => {
+            "run" | "after" | "ask" | "shown" | "sample" | "perfrec" => {
                 self.how = word;
-                self.asked = rest;
+                self.request = rest;
             }
             ">" | "~" => write!(self.lines, "{rest}; ")?,
             _ => self.append(word, rest)?,
@@ -71,17 +71,17 @@ impl<'a> Case<'a> {
     }
 
     /// The expected result: the lines before, and the rest.
-    pub fn wanted(&mut self, rest: &str) -> Result<String, AllocError> {
+    pub fn expectation(&mut self, rest: &str) -> Result<String, AllocError> {
         let want = format!(in self.alloc; "{}{rest}", self.lines)?;
         self.lines.clear();
         Ok(want)
     }
 
     fn append(&mut self, word: &str, rest: &str) -> Result<()> {
-        if self.is_told {
+        if self.is_complete {
             self.little.clear();
             self.big.clear();
-            self.is_told = false;
+            self.is_complete = false;
         }
         for item in rest.split(' ') {
             match word {
@@ -115,37 +115,37 @@ impl<'a> Case<'a> {
     }
 
     /// The actual result.
-    pub fn tell(&mut self) -> Result<String> {
-        self.is_told = true;
+    pub fn actual_text(&mut self) -> Result<String> {
+        self.is_complete = true;
         match self.how {
-            "ask" => self.told_answers(),
-            "run" => self.told_runs(),
-            "behind" => Ok(tell_after(self.alloc, &self.little, &self.limits()?)?),
-            "shown" => Ok(tell_shown(self.alloc, &self.little)?),
-            "sample" => self.told_sample(),
-            "perfrec" => perfrec::text_of(self.alloc, self.asked, &self.little),
+            "ask" => self.text_of_requests(),
+            "run" => self.text_of_runs(),
+            "after" => Ok(text_after_attribute(self.alloc, &self.little, &self.limits()?)?),
+            "shown" => Ok(text_of_records(self.alloc, &self.little)?),
+            "sample" => self.text_of_sample(),
+            "perfrec" => perfrec::text_of(self.alloc, self.request, &self.little),
             _ => bail!("nothing is asked in {}", self.name),
         }
     }
 
-    fn told_answers(&self) -> Result<String> {
+    fn text_of_requests(&self) -> Result<String> {
         let bytes = match self.order {
             Dynamic::Big => &self.big,
             Dynamic::Little => &self.little,
         };
-        Ok(tell_asked(self.alloc, bytes, self.order, &self.attr, self.asked)?)
+        Ok(text_of_calls(self.alloc, bytes, self.order, &self.attr, self.request)?)
     }
 
     fn limits(&self) -> Result<Vec<usize>> {
         let mut limits = Vec::new(self.alloc);
-        for limit in self.asked.split(' ') {
+        for limit in self.request.split(' ') {
             limits.push(limit.parse::<usize>()?)?;
         }
         Ok(limits)
     }
 
-    fn told_runs(&self) -> Result<String> {
-        Ok(tell_everywhere(
+    fn text_of_runs(&self) -> Result<String> {
+        Ok(runs_everywhere(
             self.alloc,
             &self.little,
             Dynamic::Little,
@@ -155,11 +155,11 @@ impl<'a> Case<'a> {
     }
 
     // The result in one order, and that in the other one if it differs.
-    fn told_sample(&self) -> Result<String> {
+    fn text_of_sample(&self) -> Result<String> {
         let frame = frames(self.alloc, false, &self.little)?;
-        let mut text = self.told_body(Dynamic::Little, &self.little, &frame)?;
+        let mut text = self.text_of_body(Dynamic::Little, &self.little, &frame)?;
         let frame = frames(self.alloc, true, &self.big)?;
-        let other = self.told_body(Dynamic::Big, &self.big, &frame)?;
+        let other = self.text_of_body(Dynamic::Big, &self.big, &frame)?;
         if other.as_str() != text.as_str() {
             write!(text, " but {other}")?;
         }
@@ -169,21 +169,21 @@ impl<'a> Case<'a> {
     // The result of a body: the sample, or the kind of its error; how many bytes are left after a
     // sample, if not as many as there should be, or if buffers differ in that; and the result of
     // its frame and the next one, if that differs from the body's.
-    fn told_body(&self, order: Dynamic, body: &[u8], frame: &[u8]) -> Result<String> {
-        let asked = tell_asked(self.alloc, body, order, &self.attr, "Sample left")?;
-        let (sample, left) = asked.as_str().split_once("; ").context("one answer")?;
+    fn text_of_body(&self, order: Dynamic, body: &[u8], frame: &[u8]) -> Result<String> {
+        let request = text_of_calls(self.alloc, body, order, &self.attr, "Sample left")?;
+        let (sample, left) = request.as_str().split_once("; ").context("one answer")?;
         let size = body.len().saturating_add(8);
         let want = format!(in self.alloc;
             "0 9 2 {size} {sample}; 1 13 0 16 LostSamples lost=5; done"
         )?;
-        let said = tell_everywhere(self.alloc, frame, order, &self.attr, &[10])?;
+        let actual = runs_everywhere(self.alloc, frame, order, &self.attr, &[10])?;
         let mut text = String::from_str(self.alloc, sample)?;
-        let is_other = sample.starts_with("Sample") && left != self.asked;
+        let is_other = sample.starts_with("Sample") && left != self.request;
         if is_other || left.contains(' ') {
             write!(text, ", {left} left")?;
         }
-        if said.as_str() != want.as_str() {
-            write!(text, " but {said}")?;
+        if actual.as_str() != want.as_str() {
+            write!(text, " but {actual}")?;
         }
         Ok(text)
     }

@@ -14,7 +14,7 @@
 //!   after `little` in little endian again.
 //! - `run LIMIT ..` reads the records of a stream, each time at most that many, and
 //!   `after LIMIT ..` those after the attribute at the start of the bytes. Each frame is its line
-//!   of `perfrec`, and after that what it leaves out ([`perf_test_helpers::told`]).
+//!   of `perfrec`, and after that what it leaves out ([`perf_test_helpers::texts`]).
 //! - `shown` is the `{:?}` of the records of a slice: bytes that are its own are `Borrowed`.
 //! - `sample LEFT` reads a sample, alone and as a frame, after which that many bytes are left, in
 //!   little and in big endian.
@@ -92,11 +92,11 @@ fn replay<'a>(
 
 // Prints a result that differs, and returns the number of differences.
 fn compare(rt: &HostRuntime, case: &mut Case, rest: &str) -> Result<u64> {
-    let want = case.wanted(rest)?;
-    let told = case.tell()?;
-    if told.as_str() == want.as_str() {
+    let want = case.expectation(rest)?;
+    let actual = case.actual_text()?;
+    if actual.as_str() == want.as_str() {
         return Ok(0);
     }
-    println!(rt; "{}: {told}, not {want}", case.name())?;
+    println!(rt; "{}: {actual}, not {want}", case.name())?;
     Ok(1)
 }

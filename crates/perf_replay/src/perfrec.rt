@@ -13,34 +13,34 @@ use std::alloc::{AllocError, Global};
 fn lines<E: Endian>(
     alloc: Global,
     order: E,
-    asked: Command,
+    request: Command,
     stream: &[u8],
     piece: usize,
 ) -> Result<String>
     requires { 0 < piece }
 {
     let mut written = Vec::new(alloc);
-    let ended = run(
+    let end = run(
         alloc,
         stream,
         &mut written,
         order,
-        asked.limit,
-        asked.with_attr,
+        request.limit,
+        request.with_attr,
         piece,
     );
     let mut text = str::from_utf8(&written)?.replace(alloc, "\n", "; ")?;
-    write!(text, "status {}", ended.status())?;
+    write!(text, "status {}", end.status())?;
     Ok(text)
 }
 
-fn told_in_pieces(alloc: Global, asked: Command, stream: &[u8], piece: usize) -> Result<String>
+fn text_in_pieces(alloc: Global, request: Command, stream: &[u8], piece: usize) -> Result<String>
     requires { 0 < piece }
 {
-    match asked.order {
-        OrderName::Little => lines(alloc, Little, asked, stream, piece),
-        OrderName::Big => lines(alloc, Big, asked, stream, piece),
-        OrderName::Native => lines(alloc, Native, asked, stream, piece),
+    match request.order {
+        OrderName::Little => lines(alloc, Little, request, stream, piece),
+        OrderName::Big => lines(alloc, Big, request, stream, piece),
+        OrderName::Native => lines(alloc, Native, request, stream, piece),
     }
 }
 
@@ -55,10 +55,10 @@ fn words(alloc: Global, line: &str) -> Result<Vec<String>, AllocError> {
 /// What it writes for these words, if the stream is read in pieces of 1, 7 and 8192 bytes: one text
 /// if all are the same, and otherwise the others after it.
 pub fn text_of(alloc: Global, line: &str, stream: &[u8]) -> Result<String> {
-    let asked = command(&words(alloc, line)?).context("no words of perfrec")?;
-    let mut text = told_in_pieces(alloc, asked, stream, 1)?;
+    let request = command(&words(alloc, line)?).context("no words of perfrec")?;
+    let mut text = text_in_pieces(alloc, request, stream, 1)?;
     for piece in [7, 8192] {
-        let other = told_in_pieces(alloc, asked, stream, piece)?;
+        let other = text_in_pieces(alloc, request, stream, piece)?;
         if other.as_str() != text.as_str() {
             write!(text, " but {other}")?;
         }

@@ -1,8 +1,9 @@
 //! What a parser is asked for, one thing after another, and the results as text.
 
-use crate::everywhere::{Says, parser_of, say_everywhere};
-use crate::told::{
-    Found, Framed, FromBothEnds, OfGroup, Tell, tell_answer, tell_config, tell_last, tell_semicolon,
+use crate::everywhere::{TextOver, parser_of, text_everywhere};
+use crate::texts::{
+    Found, FrameLine, FromBothEnds, OfGroup, WriteText, write_answer, write_config, write_last,
+    write_semicolon,
 };
 use perf_event_data::endian::Endian;
 use perf_event_data::parse::{
@@ -18,7 +19,7 @@ use std::alloc::{AllocError, Global};
 use std::fmt::Debug;
 
 // A value, or its error.
-fn tell_debug<T: Debug + Drop>(
+fn write_debug<T: Debug + Drop>(
     text: &mut String,
     answer: ParseResult<T>,
 ) -> Result<(), AllocError> {
@@ -30,30 +31,30 @@ fn tell_debug<T: Debug + Drop>(
 
 // Numbers of a type: one; one under a condition, which is true if the count is not zero; or a list
 // of `count`.
-fn tell_numbers<'p, B: ParseBuf<'p>, E: Endian, P: Parse<'p, B> + Debug + Drop>(
+fn write_numbers<'p, B: ParseBuf<'p>, E: Endian, P: Parse<'p, B> + Debug + Drop>(
     text: &mut String,
     parser: &mut Parser<B, E>,
     name: &str,
     count: usize,
 ) -> Result<(), AllocError> {
     if name.starts_with("parse_if") {
-        tell_debug(text, parser.parse_if::<P>(count != 0))
+        write_debug(text, parser.parse_if::<P>(count != 0))
     } else if name.starts_with("parse_repeated") {
-        tell_debug(text, parser.parse_repeated::<P>(count))
+        write_debug(text, parser.parse_repeated::<P>(count))
     } else {
-        tell_debug(text, parser.parse::<P>())
+        write_debug(text, parser.parse::<P>())
     }
 }
 
 // Bytes, borrowed or owned.
-impl Tell for CowSlice<'_, u8> {
-    fn tell(&self, text: &mut String) -> Result<(), AllocError> {
+impl WriteText for CowSlice<'_, u8> {
+    fn write_text(&self, text: &mut String) -> Result<(), AllocError> {
         write!(text, "{:?}", self.as_slice())
     }
 }
 
 // The number of bytes.
-fn tell_left(text: &mut String, answer: ParseResult<CowSlice<'_, u8>>) -> Result<(), AllocError> {
+fn write_left(text: &mut String, answer: ParseResult<CowSlice<'_, u8>>) -> Result<(), AllocError> {
     match answer {
         Ok(bytes) => write!(text, "{}", bytes.len()),
         Err(error) => write!(text, "{error}"),
@@ -61,31 +62,31 @@ fn tell_left(text: &mut String, answer: ParseResult<CowSlice<'_, u8>>) -> Result
 }
 
 // Bytes, without whether they are owned if there are none.
-fn tell_bytes(text: &mut String, answer: ParseResult<CowSlice<'_, u8>>) -> Result<(), AllocError> {
+fn write_bytes(text: &mut String, answer: ParseResult<CowSlice<'_, u8>>) -> Result<(), AllocError> {
     match answer {
         Ok(CowSlice::Owned(bytes)) if bytes.is_empty() => text.push_str("owned []"),
-        other => tell_answer(text, other),
+        other => write_answer(text, other),
     }
 }
 
 // Numbers and a list of them, by calls of their own and as types.
-fn tell_simple<'p, B: ParseBuf<'p>, E: Endian>(
+fn write_simple<'p, B: ParseBuf<'p>, E: Endian>(
     text: &mut String,
     parser: &mut Parser<B, E>,
     name: &str,
     count: usize,
 ) -> Result<(), AllocError> {
     match name {
-        "parse_u8" => tell_debug(text, parser.parse_u8()),
-        "parse_u16" => tell_debug(text, parser.parse_u16()),
-        "parse_u32" => tell_debug(text, parser.parse_u32()),
-        "parse_u64" => tell_debug(text, parser.parse_u64()),
-        "parse_slice_u64" => tell_debug(text, parser.parse_slice::<u64>(count)),
-        _ => tell_typed(text, parser, name, count),
+        "parse_u8" => write_debug(text, parser.parse_u8()),
+        "parse_u16" => write_debug(text, parser.parse_u16()),
+        "parse_u32" => write_debug(text, parser.parse_u32()),
+        "parse_u64" => write_debug(text, parser.parse_u64()),
+        "parse_slice_u64" => write_debug(text, parser.parse_slice::<u64>(count)),
+        _ => write_value_of_type(text, parser, name, count),
     }
 }
 
-fn tell_typed<'p, B: ParseBuf<'p>, E: Endian>(
+fn write_value_of_type<'p, B: ParseBuf<'p>, E: Endian>(
     text: &mut String,
     parser: &mut Parser<B, E>,
     name: &str,
@@ -93,56 +94,56 @@ fn tell_typed<'p, B: ParseBuf<'p>, E: Endian>(
 ) -> Result<(), AllocError> {
     let (_, ty) = name.rsplit_once('_').unwrap_or(("", name));
     match ty {
-        "u8" => tell_numbers::<B, E, u8>(text, parser, name, count),
-        "u16" => tell_numbers::<B, E, u16>(text, parser, name, count),
-        "u32" => tell_numbers::<B, E, u32>(text, parser, name, count),
-        "u64" => tell_numbers::<B, E, u64>(text, parser, name, count),
-        _ => tell_list(text, parser, name, count),
+        "u8" => write_numbers::<B, E, u8>(text, parser, name, count),
+        "u16" => write_numbers::<B, E, u16>(text, parser, name, count),
+        "u32" => write_numbers::<B, E, u32>(text, parser, name, count),
+        "u64" => write_numbers::<B, E, u64>(text, parser, name, count),
+        _ => write_list(text, parser, name, count),
     }
 }
 
 // `count` bytes, the rest without and with its zero bytes, and the length of the rest.
-fn tell_list<'p, B: ParseBuf<'p>, E: Endian>(
+fn write_list<'p, B: ParseBuf<'p>, E: Endian>(
     text: &mut String,
     parser: &mut Parser<B, E>,
     name: &str,
     count: usize,
 ) -> Result<(), AllocError> {
     match name {
-        "parse_bytes" => tell_bytes(text, parser.parse_bytes(count)),
-        "parse_rest_trim_nul" => tell_answer(text, parser.parse_rest_trim_nul()),
-        "parse_rest" => tell_answer(text, parser.parse_rest()),
-        "left" => tell_left(text, parser.parse_rest()),
-        _ => tell_array(text, parser, name),
+        "parse_bytes" => write_bytes(text, parser.parse_bytes(count)),
+        "parse_rest_trim_nul" => write_answer(text, parser.parse_rest_trim_nul()),
+        "parse_rest" => write_answer(text, parser.parse_rest()),
+        "left" => write_left(text, parser.parse_rest()),
+        _ => write_array(text, parser, name),
     }
 }
 
 // Arrays of bytes.
-fn tell_array<'p, B: ParseBuf<'p>, E: Endian>(
+fn write_array<'p, B: ParseBuf<'p>, E: Endian>(
     text: &mut String,
     parser: &mut Parser<B, E>,
     name: &str,
 ) -> Result<(), AllocError> {
     match name {
-        "[u8;0]" => tell_debug(text, <[u8; 0]>::parse(parser)),
-        "[u8;1]" => tell_debug(text, <[u8; 1]>::parse(parser)),
-        "[u8;2]" => tell_debug(text, <[u8; 2]>::parse(parser)),
-        "[u8;4]" => tell_debug(text, <[u8; 4]>::parse(parser)),
-        _ => tell_body(text, parser, name),
+        "[u8;0]" => write_debug(text, <[u8; 0]>::parse(parser)),
+        "[u8;1]" => write_debug(text, <[u8; 1]>::parse(parser)),
+        "[u8;2]" => write_debug(text, <[u8; 2]>::parse(parser)),
+        "[u8;4]" => write_debug(text, <[u8; 4]>::parse(parser)),
+        _ => write_body(text, parser, name),
     }
 }
 
 // A task, its name as bytes and as text.
-impl Tell for Comm<'_> {
-    fn tell(&self, text: &mut String) -> Result<(), AllocError> {
+impl WriteText for Comm<'_> {
+    fn write_text(&self, text: &mut String) -> Result<(), AllocError> {
         let (task, name) = ([self.pid, self.tid], self.comm.as_slice());
         write!(text, "{task:?} {name:?} {:?}", self.comm_os())
     }
 }
 
 // A task, the address of the mapping, and the file's name as bytes and as text.
-impl Tell for Mmap<'_> {
-    fn tell(&self, text: &mut String) -> Result<(), AllocError> {
+impl WriteText for Mmap<'_> {
+    fn write_text(&self, text: &mut String) -> Result<(), AllocError> {
         let (task, place) = ([self.pid, self.tid], [self.addr, self.len, self.pgoff]);
         write!(text, "{task:?} {place:?} {:?} ", self.filename.as_slice())?;
         write!(text, "{:?}", self.filename_os())
@@ -156,19 +157,19 @@ fn next_header<'p, B: ParseBuf<'p>, E: Endian>(
 }
 
 // The record after a header that is parsed first.
-fn tell_after_header<'p, B: ParseBuf<'p>, E: Endian>(
+fn write_after_header<'p, B: ParseBuf<'p>, E: Endian>(
     text: &mut String,
     parser: &mut Parser<B, E>,
 ) -> Result<(), AllocError> {
     match next_header(parser) {
         Ok(header) => {
             let answer = Record::parse_with_header(parser, header);
-            let framed = Framed {
+            let frame_line = FrameLine {
                 index: 0,
                 header,
                 answer,
             };
-            tell_last(text, framed)
+            write_last(text, frame_line)
         }
         Err(error) => write!(text, "{error}"),
     }
@@ -189,13 +190,13 @@ fn next_sample<'p, B: ParseBuf<'p>, E: Endian>(
     Record::from_sample(alloc, Sample::parse(parser)?)
 }
 
-fn tell_next_record<'p, B: ParseBuf<'p>, E: Endian>(
+fn write_next_record<'p, B: ParseBuf<'p>, E: Endian>(
     text: &mut String,
     parser: &mut Parser<B, E>,
     with_spaces: bool,
 ) -> Result<(), AllocError> {
     let answer = next_record(parser);
-    tell_last(
+    write_last(
         text,
         Found {
             answer,
@@ -211,81 +212,84 @@ pub fn next_group<'p, B: ParseBuf<'p>, E: Endian>(
     ReadGroup::parse(parser)
 }
 
-fn tell_both_ends(text: &mut String, answer: ParseResult<ReadGroup<'_>>) -> Result<(), AllocError> {
+fn write_both_ends(
+    text: &mut String,
+    answer: ParseResult<ReadGroup<'_>>,
+) -> Result<(), AllocError> {
     match answer {
-        Ok(group) => tell_last(text, FromBothEnds(group)),
+        Ok(group) => write_last(text, FromBothEnds(group)),
         Err(error) => write!(text, "{error}"),
     }
 }
 
-fn tell_values(text: &mut String, answer: ParseResult<Sample<'_>>) -> Result<(), AllocError> {
+fn write_values(text: &mut String, answer: ParseResult<Sample<'_>>) -> Result<(), AllocError> {
     match answer {
-        Ok(sample) => tell_last(text, OfGroup(sample)),
+        Ok(sample) => write_last(text, OfGroup(sample)),
         Err(error) => write!(text, "{error}"),
     }
 }
 
-fn tell_body<'p, B: ParseBuf<'p>, E: Endian>(
+fn write_body<'p, B: ParseBuf<'p>, E: Endian>(
     text: &mut String,
     parser: &mut Parser<B, E>,
     name: &str,
 ) -> Result<(), AllocError> {
     match name {
-        "Comm" => tell_answer(text, Comm::parse(parser)),
-        "Exit" => tell_debug(text, Exit::parse(parser)),
-        "Lost" => tell_debug(text, Lost::parse(parser)),
-        "LostSamples" => tell_debug(text, LostSamples::parse(parser)),
-        "Mmap" => tell_answer(text, Mmap::parse(parser)),
-        "Read" => tell_debug(text, Read::parse(parser)),
-        "SwitchCpuWide" => tell_debug(text, SwitchCpuWide::parse(parser)),
-        "Throttle" => tell_debug(text, Throttle::parse(parser)),
-        _ => tell_beside(text, parser, name),
+        "Comm" => write_answer(text, Comm::parse(parser)),
+        "Exit" => write_debug(text, Exit::parse(parser)),
+        "Lost" => write_debug(text, Lost::parse(parser)),
+        "LostSamples" => write_debug(text, LostSamples::parse(parser)),
+        "Mmap" => write_answer(text, Mmap::parse(parser)),
+        "Read" => write_debug(text, Read::parse(parser)),
+        "SwitchCpuWide" => write_debug(text, SwitchCpuWide::parse(parser)),
+        "Throttle" => write_debug(text, Throttle::parse(parser)),
+        _ => write_beside(text, parser, name),
     }
 }
 
 // Values that are not records, and records: at once, after their headers, and with their
 // namespaces.
-fn tell_beside<'p, B: ParseBuf<'p>, E: Endian>(
+fn write_beside<'p, B: ParseBuf<'p>, E: Endian>(
     text: &mut String,
     parser: &mut Parser<B, E>,
     name: &str,
 ) -> Result<(), AllocError> {
     match name {
-        "ReadValue" => tell_debug(text, ReadValue::parse(parser)),
-        "ReadGroup" => tell_answer(text, next_group(parser)),
-        "both_ends" => tell_both_ends(text, next_group(parser)),
-        "perf_event_attr" => tell_debug(text, perf_event_attr::parse(parser)),
-        "SampleId" => tell_debug(text, SampleId::parse(parser)),
-        "config" => tell_config(text, parser.config()),
-        "Record" => tell_next_record(text, parser, false),
-        "parse_with_header" => tell_after_header(text, parser),
-        "namespaces" => tell_next_record(text, parser, true),
-        _ => tell_part_of_sample(text, parser, name),
+        "ReadValue" => write_debug(text, ReadValue::parse(parser)),
+        "ReadGroup" => write_answer(text, next_group(parser)),
+        "both_ends" => write_both_ends(text, next_group(parser)),
+        "perf_event_attr" => write_debug(text, perf_event_attr::parse(parser)),
+        "SampleId" => write_debug(text, SampleId::parse(parser)),
+        "config" => write_config(text, parser.config()),
+        "Record" => write_next_record(text, parser, false),
+        "parse_with_header" => write_after_header(text, parser),
+        "namespaces" => write_next_record(text, parser, true),
+        _ => write_part_of_sample(text, parser, name),
     }
 }
 
 // Samples and parts of them.
-fn tell_part_of_sample<'p, B: ParseBuf<'p>, E: Endian>(
+fn write_part_of_sample<'p, B: ParseBuf<'p>, E: Endian>(
     text: &mut String,
     parser: &mut Parser<B, E>,
     name: &str,
 ) -> Result<(), AllocError> {
     match name {
-        "parse_user" => tell_debug(text, Registers::parse_user(parser)),
-        "parse_intr" => tell_debug(text, Registers::parse_intr(parser)),
-        "BranchEntry" => tell_answer(text, BranchEntry::parse(parser)),
-        "DataSource" => tell_answer(text, DataSource::parse(parser)),
-        "Txn" => tell_debug(text, Txn::parse(parser)),
-        "SampleRegsAbi" => tell_debug(text, SampleRegsAbi::parse(parser)),
-        "Sample" => tell_last(text, next_sample(*text.allocator(), parser)),
-        "values" => tell_values(text, Sample::parse(parser)),
+        "parse_user" => write_debug(text, Registers::parse_user(parser)),
+        "parse_intr" => write_debug(text, Registers::parse_intr(parser)),
+        "BranchEntry" => write_answer(text, BranchEntry::parse(parser)),
+        "DataSource" => write_answer(text, DataSource::parse(parser)),
+        "Txn" => write_debug(text, Txn::parse(parser)),
+        "SampleRegsAbi" => write_debug(text, SampleRegsAbi::parse(parser)),
+        "Sample" => write_last(text, next_sample(*text.allocator(), parser)),
+        "values" => write_values(text, Sample::parse(parser)),
         _ => write!(text, "what is {name}?"),
     }
 }
 
 // A branch: its addresses, its four bits, its cycles and its type.
-impl Tell for BranchEntry {
-    fn tell(&self, text: &mut String) -> Result<(), AllocError> {
+impl WriteText for BranchEntry {
+    fn write_text(&self, text: &mut String) -> Result<(), AllocError> {
         let addresses = [self.from(), self.to()];
         let predictions = [self.mispred(), self.predicted()];
         let transactions = [self.in_tx(), self.abort()];
@@ -295,93 +299,93 @@ impl Tell for BranchEntry {
 }
 
 // All bits of a data source.
-impl Tell for DataSource {
-    fn tell(&self, text: &mut String) -> Result<(), AllocError> {
+impl WriteText for DataSource {
+    fn write_text(&self, text: &mut String) -> Result<(), AllocError> {
         write!(text, "{:#x}", self.bits())
     }
 }
 
 // A word is what is asked for, and after a colon the count.
-fn tell_word<'p, B: ParseBuf<'p>, E: Endian>(
+fn write_word<'p, B: ParseBuf<'p>, E: Endian>(
     text: &mut String,
     parser: &mut Parser<B, E>,
     word: &str,
 ) -> Result<(), AllocError> {
     let (name, count) = word.split_once(':').unwrap_or((word, "0"));
     match count.parse() {
-        Ok(count) => tell_simple(text, parser, name, count),
+        Ok(count) => write_simple(text, parser, name, count),
         Err(_) => write!(text, "how many are {count}?"),
     }
 }
 
 // Appends the results of what one parser is asked for.
-fn tell_answers<'p, B: ParseBuf<'p>, E: Endian>(
+fn write_answers<'p, B: ParseBuf<'p>, E: Endian>(
     text: &mut String,
     parser: &mut Parser<B, E>,
     words: &str,
 ) -> Result<(), AllocError> {
     for word in words.split(' ') {
         if !word.is_empty() {
-            tell_semicolon(text)?;
-            tell_word(text, parser, word)?;
+            write_semicolon(text)?;
+            write_word(text, parser, word)?;
         }
     }
     Ok(())
 }
 
 // What is known of a frame besides its record, and the results of the parser of its body.
-fn tell_inside<'p, E: Endian>(
+fn write_inside<'p, E: Endian>(
     text: &mut String,
     answer: ParseResult<(Parser<ParseBufCursor<'p>, E>, RecordMetadata)>,
     words: &str,
 ) -> Result<(), AllocError> {
-    tell_semicolon(text)?;
+    write_semicolon(text)?;
     match answer {
         Ok((mut inner, metadata)) => {
             write!(text, "{metadata:?}")?;
-            tell_answers(text, &mut inner, words)
+            write_answers(text, &mut inner, words)
         }
         Err(error) => write!(text, "{error}"),
     }
 }
 
-fn tell_inside_after_header<'p, B: ParseBuf<'p>, E: Endian>(
+fn write_inside_after_header<'p, B: ParseBuf<'p>, E: Endian>(
     text: &mut String,
     parser: &mut Parser<B, E>,
     words: &str,
 ) -> Result<(), AllocError> {
-    tell_semicolon(text)?;
+    write_semicolon(text)?;
     match next_header(parser) {
         Ok(header) => {
             write!(text, "{header:?}")?;
-            tell_inside(text, parser.parse_metadata_with_header(header), words)
+            write_inside(text, parser.parse_metadata_with_header(header), words)
         }
         Err(error) => write!(text, "{error}"),
     }
 }
 
 // The parser itself is asked for a part, or that of the body if the part begins with a frame.
-fn tell_part<'p, B: ParseBuf<'p>, E: Endian>(
+fn write_part<'p, B: ParseBuf<'p>, E: Endian>(
     text: &mut String,
     parser: &mut Parser<B, E>,
     part: &str,
 ) -> Result<(), AllocError> {
     let (first, words) = part.split_once(' ').unwrap_or((part, ""));
     match first {
-        "parse_metadata" => tell_inside(text, parser.parse_metadata(), words),
-        "parse_metadata_with_header" => tell_inside_after_header(text, parser, words),
-        _ => tell_answers(text, parser, part),
+        "parse_metadata" => write_inside(text, parser.parse_metadata(), words),
+        "parse_metadata_with_header" => write_inside_after_header(text, parser, words),
+        _ => write_answers(text, parser, part),
     }
 }
 
 // The results of a parser for each part.
-fn tell_parts<'p, B: ParseBuf<'p>, E: Endian>(
+fn write_parts<'p, B: ParseBuf<'p>, E: Endian>(
     text: &mut String,
     parser: &mut Parser<B, E>,
     parts: &str,
 ) -> Result<(), AllocError> {
     for part in parts.split(" | ") {
-        tell_part(text, parser, part)?;
+        write_part(text, parser, part)?;
     }
     Ok(())
 }
@@ -394,11 +398,11 @@ struct Answers<'a, E> {
     parts: &'a str,
 }
 
-impl<'p, B: ParseBuf<'p> + Drop, E: Endian + Copy> Says<'p, B> for Answers<'_, E> {
-    fn say(&self, alloc: Global, buf: B) -> Result<String, AllocError> {
+impl<'p, B: ParseBuf<'p> + Drop, E: Endian + Copy> TextOver<'p, B> for Answers<'_, E> {
+    fn text_over(&self, alloc: Global, buf: B) -> Result<String, AllocError> {
         let mut parser = parser_of(alloc, buf, self.endian, self.attr);
         let mut text = String::new(alloc);
-        tell_parts(&mut text, &mut parser, self.parts)?;
+        write_parts(&mut text, &mut parser, self.parts)?;
         Ok(text)
     }
 }
@@ -406,17 +410,17 @@ impl<'p, B: ParseBuf<'p> + Drop, E: Endian + Copy> Says<'p, B> for Answers<'_, E
 /// What parsers over these bytes return under an attribute, over a slice, buffered readers and
 /// pieces. The words name what is asked for, one thing after another: a call, a type or, after `|`,
 /// a frame and what the parser of its body is asked for until the next `|`.
-pub fn tell_asked<E: Endian + Copy>(
+pub fn text_of_calls<E: Endian + Copy>(
     alloc: Global,
     bytes: &[u8],
     endian: E,
     attr: &perf_event_attr,
     parts: &str,
 ) -> Result<String, AllocError> {
-    let says = Answers {
+    let maker = Answers {
         endian,
         attr,
         parts,
     };
-    say_everywhere(alloc, bytes, &says)
+    text_everywhere(alloc, bytes, &maker)
 }

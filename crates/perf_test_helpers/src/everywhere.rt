@@ -19,8 +19,8 @@ pub fn parser_of<'p, B: ParseBuf<'p>, E: Endian>(
 }
 
 /// Makes a text from a buffer.
-pub trait Says<'p, B: ParseBuf<'p>> {
-    fn say(&self, alloc: Global, buf: B) -> Result<String, AllocError>;
+pub trait TextOver<'p, B: ParseBuf<'p>> {
+    fn text_over(&self, alloc: Global, buf: B) -> Result<String, AllocError>;
 }
 
 /// A buffer over a slice.
@@ -31,9 +31,9 @@ pub enum Buffer {
     /// A buffered reader of this capacity, which is at least 1.
     Reader(usize),
     /// Pieces of at most this many bytes, at least 1, that live as long as the input.
-    Lasting(usize),
+    External(usize),
     /// Pieces that do not live as long as the input.
-    Passing(usize),
+    Temporary(usize),
 }
 
 /// Buffers that show less than all bytes, or do not show them as long.
@@ -41,75 +41,87 @@ pub const OTHERS: [Buffer; 11] = [
     Buffer::Reader(1),
     Buffer::Reader(7),
     Buffer::Reader(8192),
-    Buffer::Lasting(1),
-    Buffer::Passing(1),
-    Buffer::Lasting(3),
-    Buffer::Passing(3),
-    Buffer::Lasting(7),
-    Buffer::Passing(7),
-    Buffer::Lasting(64),
-    Buffer::Passing(64),
+    Buffer::External(1),
+    Buffer::Temporary(1),
+    Buffer::External(3),
+    Buffer::Temporary(3),
+    Buffer::External(7),
+    Buffer::Temporary(7),
+    Buffer::External(64),
+    Buffer::Temporary(64),
 ];
 
 // The text over that buffer.
-fn say_of<'p, B: ParseBuf<'p>, S: Says<'p, B>>(
+fn text_over_buffer<'p, B: ParseBuf<'p>, S: TextOver<'p, B>>(
     alloc: Global,
     buf: B,
-    says: &S,
+    maker: &S,
 ) -> Result<String, AllocError> {
-    says.say(alloc, buf)
+    maker.text_over(alloc, buf)
 }
 
 /// The text over a buffer of these bytes.
-pub fn say_over<'p, S>(
+pub fn text_over_bytes<'p, S>(
     alloc: Global,
     bytes: &'p [u8],
-    says: &S,
+    maker: &S,
     buffer: Buffer,
 ) -> Result<String, AllocError>
 where
-    S: Says<'p, &'p [u8]> + Says<'p, BufReader<&'p [u8]>> + Says<'p, PieceBuf<'p>>,
+    S: TextOver<'p, &'p [u8]> + TextOver<'p, BufReader<&'p [u8]>> + TextOver<'p, PieceBuf<'p>>,
 {
     match buffer {
-        Buffer::Slice => say_of(alloc, bytes, says),
-        Buffer::Reader(capacity) => say_over_reader(alloc, bytes, says, capacity.max(1)),
-        Buffer::Lasting(most) => say_of(alloc, PieceBuf::new(bytes, most.max(1), true), says),
-        Buffer::Passing(most) => say_of(alloc, PieceBuf::new(bytes, most.max(1), false), says),
+        Buffer::Slice => text_over_buffer(alloc, bytes, maker),
+        Buffer::Reader(capacity) => text_over_reader(alloc, bytes, maker, capacity.max(1)),
+        Buffer::External(most) => text_over_buffer(
+            alloc,
+            PieceBuf::new(bytes, most.max(1), true),
+            maker,
+        ),
+        Buffer::Temporary(most) => text_over_buffer(
+            alloc,
+            PieceBuf::new(bytes, most.max(1), false),
+            maker,
+        ),
     }
 }
 
-fn say_over_reader<'p, S: Says<'p, BufReader<&'p [u8]>>>(
+fn text_over_reader<'p, S: TextOver<'p, BufReader<&'p [u8]>>>(
     alloc: Global,
     bytes: &'p [u8],
-    says: &S,
+    maker: &S,
     capacity: usize,
 ) -> Result<String, AllocError> {
     match BufReader::with_capacity(alloc, capacity, bytes) {
-        Ok(reader) => say_of(alloc, reader, says),
+        Ok(reader) => text_over_buffer(alloc, reader, maker),
         Err(_) => Err(AllocError),
     }
 }
 
 /// Appends a text if it differs from the first.
-pub fn add_other(others: &mut String, said: &str, first: &str) -> Result<(), AllocError> {
-    if said == first {
+pub fn add_other(others: &mut String, actual: &str, first: &str) -> Result<(), AllocError> {
+    if actual == first {
         Ok(())
     } else {
-        write!(others, " but {said}")
+        write!(others, " but {actual}")
     }
 }
 
 /// The text over a slice, buffered readers and pieces of these bytes: one text if it is the same
 /// over all of them, and otherwise the others after it.
-pub fn say_everywhere<'p, S>(alloc: Global, bytes: &'p [u8], says: &S) -> Result<String, AllocError>
+pub fn text_everywhere<'p, S>(
+    alloc: Global,
+    bytes: &'p [u8],
+    maker: &S,
+) -> Result<String, AllocError>
 where
-    S: Says<'p, &'p [u8]> + Says<'p, BufReader<&'p [u8]>> + Says<'p, PieceBuf<'p>>,
+    S: TextOver<'p, &'p [u8]> + TextOver<'p, BufReader<&'p [u8]>> + TextOver<'p, PieceBuf<'p>>,
 {
-    let mut text = says.say(alloc, bytes)?;
+    let mut text = maker.text_over(alloc, bytes)?;
     let mut others = String::new(alloc);
     for buffer in OTHERS {
-        let said = say_over(alloc, bytes, says, buffer)?;
-        add_other(&mut others, said.as_str(), text.as_str())?;
+        let actual = text_over_bytes(alloc, bytes, maker, buffer)?;
+        add_other(&mut others, actual.as_str(), text.as_str())?;
     }
     text.push_str(others.as_str())?;
     Ok(text)

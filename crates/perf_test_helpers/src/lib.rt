@@ -9,4 +9,4 @@ pub mod frames;
 pub mod orders;
 pub mod runs;
 pub mod sample_bytes;
-pub mod told;
+pub mod texts;

@@ -3,8 +3,8 @@
 ghost use Rattle.std.specs.Prelude.{⊤};
 
 use crate::asks::next_record;
-use crate::everywhere::{Buffer, Says, add_other, parser_of, say_everywhere, say_over};
-use crate::told::{Framed, Tell, tell_config, tell_error, tell_frame, tell_last};
+use crate::everywhere::{Buffer, TextOver, add_other, parser_of, text_everywhere, text_over_bytes};
+use crate::texts::{FrameLine, WriteText, write_config, write_error, write_frame, write_last};
 use perf_event_data::endian::{Endian, Little, Native};
 use perf_event_data::parse::{ErrorKind, ParseBuf, ParseConfig, ParseError, ParseResult, Parser};
 use perf_event_data::sys::{perf_event_attr, perf_event_header};
@@ -18,9 +18,9 @@ use std::alloc::{AllocError, Global};
 type Frame<'a> = (perf_event_header, ParseResult<Record<'a>>);
 
 // Writes the line of each frame, with a semicolon after it.
-fn tell_frames(text: &mut String, frames: &[Frame<'_>]) -> Result<(), AllocError> {
+fn write_frames(text: &mut String, frames: &[Frame<'_>]) -> Result<(), AllocError> {
     for (index, (header, answer)) in frames.iter().enumerate() {
-        tell_frame(text, index, header, answer)?;
+        write_frame(text, index, header, answer)?;
         text.push_str("; ")?;
     }
     Ok(())
@@ -35,65 +35,65 @@ fn copy_of<'a>(alloc: Global, answer: &ParseResult<Record<'a>>) -> ParseResult<R
 }
 
 // The same frames, with a clone of each record.
-fn tell_clones(text: &mut String, frames: &[Frame<'_>]) -> Result<(), AllocError> {
+fn write_clones(text: &mut String, frames: &[Frame<'_>]) -> Result<(), AllocError> {
     for (index, (header, answer)) in frames.iter().enumerate() {
-        let framed = Framed {
+        let frame_line = FrameLine {
             index,
             header: *header,
             answer: copy_of(*text.allocator(), answer),
         };
-        tell_last(text, framed)?;
+        write_last(text, frame_line)?;
         text.push_str("; ")?;
     }
     Ok(())
 }
 
 // Each frame of a run; what clones of its records give, if that differs; and how the run ended.
-impl Tell for Run<'_> {
-    fn tell(&self, text: &mut String) -> Result<(), AllocError> {
-        let mut told = String::new(*text.allocator());
+impl WriteText for Run<'_> {
+    fn write_text(&self, text: &mut String) -> Result<(), AllocError> {
+        let mut actual = String::new(*text.allocator());
         let mut again = String::new(*text.allocator());
-        tell_frames(&mut told, &self.frames)?;
-        tell_clones(&mut again, &self.frames)?;
-        text.push_str(told.as_str())?;
-        if again.as_str() != told.as_str() {
+        write_frames(&mut actual, &self.frames)?;
+        write_clones(&mut again, &self.frames)?;
+        text.push_str(actual.as_str())?;
+        if again.as_str() != actual.as_str() {
             write!(text, "and not {again}")?;
         }
-        tell_end(text, &self.end)
+        write_end(text, &self.end)
     }
 }
 
-fn tell_end(text: &mut String, end: &RunEnd) -> Result<(), AllocError> {
+fn write_end(text: &mut String, end: &RunEnd) -> Result<(), AllocError> {
     match end {
         RunEnd::Limit => text.push_str("limit"),
         RunEnd::Done => text.push_str("done"),
         RunEnd::CutHeader => text.push_str("cut"),
         RunEnd::Fault(error) => {
             text.push_str("fault ")?;
-            tell_error(text, error)
+            write_error(text, error)
         }
     }
 }
 
 /// The runs of one parser with these limits, in turn.
-pub fn tell<'p, B: ParseBuf<'p> + Drop, E: Endian>(
+pub fn text_of_runs<'p, B: ParseBuf<'p> + Drop, E: Endian>(
     alloc: Global,
     buf: B,
     endian: E,
     limits: &[usize],
 ) -> Result<String, AllocError> {
-    tell_under(alloc, buf, endian, &perf_event_attr::default(), limits)
+    text_of_runs_under(alloc, buf, endian, &perf_event_attr::default(), limits)
 }
 
 /// The same under an attribute.
-pub fn tell_under<'p, B: ParseBuf<'p> + Drop, E: Endian>(
+pub fn text_of_runs_under<'p, B: ParseBuf<'p> + Drop, E: Endian>(
     alloc: Global,
     buf: B,
     endian: E,
     attr: &perf_event_attr,
     limits: &[usize],
 ) -> Result<String, AllocError> {
-    tell_parser(
+    text_of_parser(
         alloc,
         parser_of(alloc, buf, endian, attr),
         Way::Records,
@@ -125,7 +125,7 @@ impl Way {
 }
 
 // The runs of a parser with these limits, in turn.
-fn tell_parser<'p, B: ParseBuf<'p> + Drop, E: Endian>(
+fn text_of_parser<'p, B: ParseBuf<'p> + Drop, E: Endian>(
     alloc: Global,
     parser: Parser<B, E>,
     way: Way,
@@ -133,12 +133,12 @@ fn tell_parser<'p, B: ParseBuf<'p> + Drop, E: Endian>(
 ) -> Result<String, AllocError> {
     let mut parser = parser;
     let mut text = String::new(alloc);
-    tell_runs(&mut text, &mut parser, way, limits)?;
+    write_runs(&mut text, &mut parser, way, limits)?;
     Ok(text)
 }
 
 // Appends the runs of a parser with these limits, in turn.
-fn tell_runs<'p, B: ParseBuf<'p>, E: Endian>(
+fn write_runs<'p, B: ParseBuf<'p>, E: Endian>(
     text: &mut String,
     parser: &mut Parser<B, E>,
     way: Way,
@@ -149,13 +149,13 @@ fn tell_runs<'p, B: ParseBuf<'p>, E: Endian>(
         if !text.is_empty() {
             text.push_str(" | ")?;
         }
-        tell_last(text, way.run(alloc, parser, *limit))?;
+        write_last(text, way.run(alloc, parser, *limit))?;
     }
     Ok(())
 }
 
 // What comes after the attribute at the start of the bytes; or its error.
-fn told_after<'p, B: ParseBuf<'p> + Drop>(
+fn text_after<'p, B: ParseBuf<'p> + Drop>(
     alloc: Global,
     buf: B,
     limits: &[usize],
@@ -163,14 +163,14 @@ fn told_after<'p, B: ParseBuf<'p> + Drop>(
     let mut parser = Parser::new(alloc, buf, ParseConfig::<Little>::default());
     let mut text = String::new(alloc);
     match next_attribute(&mut parser) {
-        Ok(attr) => tell_under_own(&mut text, parser, attr, limits)?,
+        Ok(attr) => write_under_own(&mut text, parser, attr, limits)?,
         Err(error) => write!(text, "{error}")?,
     }
     Ok(text)
 }
 
 // Writes an attribute's size, its configuration and the runs after it.
-fn tell_under_own<'p, B: ParseBuf<'p> + Drop>(
+fn write_under_own<'p, B: ParseBuf<'p> + Drop>(
     text: &mut String,
     parser: Parser<B, Little>,
     attr: perf_event_attr,
@@ -178,9 +178,9 @@ fn tell_under_own<'p, B: ParseBuf<'p> + Drop>(
 ) -> Result<(), AllocError> {
     write!(text, "{} ", attr.size)?;
     let config = ParseConfig::<Native>::from(attr).with_endian(Little);
-    tell_config(text, &config)?;
+    write_config(text, &config)?;
     let mut parser = parser.reconfigure(config);
-    tell_runs(text, &mut parser, Way::Records, limits)
+    write_runs(text, &mut parser, Way::Records, limits)
 }
 
 fn next_attribute<'p, B: ParseBuf<'p>, E: Endian>(
@@ -191,20 +191,24 @@ fn next_attribute<'p, B: ParseBuf<'p>, E: Endian>(
 
 // Runs of one parser after the attribute that comes first.
 #[derive(Drop)]
-struct Behind<'a> {
+struct AfterAttribute<'a> {
     limits: &'a [usize],
 }
 
-impl<'p, B: ParseBuf<'p> + Drop> Says<'p, B> for Behind<'_> {
-    fn say(&self, alloc: Global, buf: B) -> Result<String, AllocError> {
-        told_after(alloc, buf, self.limits)
+impl<'p, B: ParseBuf<'p> + Drop> TextOver<'p, B> for AfterAttribute<'_> {
+    fn text_over(&self, alloc: Global, buf: B) -> Result<String, AllocError> {
+        text_after(alloc, buf, self.limits)
     }
 }
 
 /// The attribute at the start of these bytes and the runs after it, over a slice, buffered readers
 /// and pieces.
-pub fn tell_after(alloc: Global, bytes: &[u8], limits: &[usize]) -> Result<String, AllocError> {
-    say_everywhere(alloc, bytes, &Behind { limits })
+pub fn text_after_attribute(
+    alloc: Global,
+    bytes: &[u8],
+    limits: &[usize],
+) -> Result<String, AllocError> {
+    text_everywhere(alloc, bytes, &AfterAttribute { limits })
 }
 
 // Runs of one parser.
@@ -216,23 +220,23 @@ struct Runs<'a, E> {
     limits: &'a [usize],
 }
 
-impl<'p, B: ParseBuf<'p> + Drop, E: Endian + Copy> Says<'p, B> for Runs<'_, E> {
-    fn say(&self, alloc: Global, buf: B) -> Result<String, AllocError> {
+impl<'p, B: ParseBuf<'p> + Drop, E: Endian + Copy> TextOver<'p, B> for Runs<'_, E> {
+    fn text_over(&self, alloc: Global, buf: B) -> Result<String, AllocError> {
         let parser = parser_of(alloc, buf, self.endian, self.attr);
-        tell_parser(alloc, parser, self.way, self.limits)
+        text_of_parser(alloc, parser, self.way, self.limits)
     }
 }
 
 // Lists the frames of a run, each with its record.
 #[derive(Drop)]
-struct Listed<'p> {
+struct FrameLister<'p> {
     alloc: Global,
     frames: Vec<Frame<'p>>,
 }
 
-impl<'p> Listed<'p> {
+impl<'p> FrameLister<'p> {
     fn new(alloc: Global) -> Self {
-        Listed {
+        FrameLister {
             alloc,
             frames: Vec::new(alloc),
         }
@@ -251,7 +255,7 @@ impl<'p> Listed<'p> {
     }
 }
 
-impl<'p, E: Endian> FrameHandler<'p, E> for Listed<'p> {
+impl<'p, E: Endian> FrameHandler<'p, E> for FrameLister<'p> {
     ghost gets = { λ _ _ _ _ _ _. ⊤ };
 
     fn frame(
@@ -269,14 +273,14 @@ fn run_by_frames<'p, B: ParseBuf<'p>, E: Endian>(
     parser: &mut Parser<B, E>,
     limit: usize,
 ) -> Run<'p> {
-    let mut listed = Listed::new(alloc);
-    let FrameRun { count, end } = each_frame(parser, limit, &mut listed);
+    let mut lister = FrameLister::new(alloc);
+    let FrameRun { count, end } = each_frame(parser, limit, &mut lister);
     let end = match end {
-        Some(end) if count == listed.frames.len() => end,
+        Some(end) if count == lister.frames.len() => end,
         _ => RunEnd::Fault(ParseError::custom(ErrorKind::External, "not as many frames")),
     };
     Run {
-        frames: listed.frames,
+        frames: lister.frames,
         end,
     }
 }
@@ -288,12 +292,12 @@ fn run_of_slice<'p, E: Endian>(
     order: E,
     config: &ParseConfig<E>,
 ) -> Run<'p> {
-    let mut listed = Listed::new(alloc);
+    let mut lister = FrameLister::new(alloc);
     let mut iterator = frames(bytes, order);
     for _ in 0..=bytes.len() {
         match iterator.next() {
             Some(frame) => {
-                listed.list(config, frame);
+                lister.list(config, frame);
             }
             None => break,
         }
@@ -304,13 +308,13 @@ fn run_of_slice<'p, E: Endian>(
         RunEnd::CutHeader
     };
     Run {
-        frames: listed.frames,
+        frames: lister.frames,
         end,
     }
 }
 
 // The frames of these bytes, in the form of the run over all of them.
-fn tell_slice<E: Endian + Copy>(
+fn text_of_slice<E: Endian + Copy>(
     alloc: Global,
     bytes: &[u8],
     endian: E,
@@ -318,33 +322,33 @@ fn tell_slice<E: Endian + Copy>(
 ) -> Result<String, AllocError> {
     let config = ParseConfig::<Native>::from(*attr).with_endian(endian);
     let mut text = String::new(alloc);
-    tell_last(&mut text, run_of_slice(alloc, bytes, endian, &config))?;
+    write_last(&mut text, run_of_slice(alloc, bytes, endian, &config))?;
     Ok(text)
 }
 
 /// The runs over these bytes under an attribute, over a slice, buffered readers and pieces; and if
 /// runs that hand out frames, or the frames of the slice, differ, those too.
-pub fn tell_everywhere<E: Endian + Copy>(
+pub fn runs_everywhere<E: Endian + Copy>(
     alloc: Global,
     bytes: &[u8],
     endian: E,
     attr: &perf_event_attr,
     limits: &[usize],
 ) -> Result<String, AllocError> {
-    let mut says = Runs {
+    let mut maker = Runs {
         way: Way::Records,
         endian,
         attr,
         limits,
     };
-    let mut text = say_everywhere(alloc, bytes, &says)?;
-    says.way = Way::Frames;
-    let by_frames = say_everywhere(alloc, bytes, &says)?;
+    let mut text = text_everywhere(alloc, bytes, &maker)?;
+    maker.way = Way::Frames;
+    let by_frames = text_everywhere(alloc, bytes, &maker)?;
     if by_frames.as_str() != text.as_str() {
         write!(text, " but by frames {by_frames}")?;
     }
-    let whole = tell_under(alloc, bytes, endian, attr, &[bytes.len() + 1])?;
-    let of_slice = tell_slice(alloc, bytes, endian, attr)?;
+    let whole = text_of_runs_under(alloc, bytes, endian, attr, &[bytes.len() + 1])?;
+    let of_slice = text_of_slice(alloc, bytes, endian, attr)?;
     add_other(&mut text, of_slice.as_str(), whole.as_str())?;
     Ok(text)
 }
@@ -352,31 +356,31 @@ pub fn tell_everywhere<E: Endian + Copy>(
 /// Nothing, if a run over these bytes under an attribute has the same text as a run over another
 /// buffer, as runs over either that hand out frames, and as the frames of the slice. Otherwise the
 /// text of the run, and after it the texts that differ.
-pub fn tell_differences<E: Endian + Copy>(
+pub fn differences<E: Endian + Copy>(
     alloc: Global,
     bytes: &[u8],
     endian: E,
     attr: &perf_event_attr,
     other: Buffer,
 ) -> Result<String, AllocError> {
-    let mut says = Runs {
+    let mut maker = Runs {
         way: Way::Records,
         endian,
         attr,
         limits: &[usize::MAX],
     };
-    let mut text = says.say(alloc, bytes)?;
+    let mut text = maker.text_over(alloc, bytes)?;
     let mut others = String::new(alloc);
     for (way, buffer) in [
         (Way::Records, other),
         (Way::Frames, Buffer::Slice),
         (Way::Frames, other),
     ] {
-        says.way = way;
-        let said = say_over(alloc, bytes, &says, buffer)?;
-        add_other(&mut others, said.as_str(), text.as_str())?;
+        maker.way = way;
+        let actual = text_over_bytes(alloc, bytes, &maker, buffer)?;
+        add_other(&mut others, actual.as_str(), text.as_str())?;
     }
-    let of_slice = tell_slice(alloc, bytes, endian, attr)?;
+    let of_slice = text_of_slice(alloc, bytes, endian, attr)?;
     add_other(&mut others, of_slice.as_str(), text.as_str())?;
     if others.is_empty() {
         return Ok(others);
@@ -386,14 +390,14 @@ pub fn tell_differences<E: Endian + Copy>(
 }
 
 /// Writes the `{:?}` of a record, or the kind of its error, and returns whether it is an error.
-pub fn tell_shown_record(
+pub fn write_debug_record(
     text: &mut String,
     answer: ParseResult<Record<'_>>,
 ) -> Result<bool, AllocError> {
     match answer {
         Ok(record) => write!(text, "{record:?}; ")?,
         Err(error) => {
-            tell_error(text, &error)?;
+            write_error(text, &error)?;
             return Ok(false);
         }
     }
@@ -402,11 +406,11 @@ pub fn tell_shown_record(
 
 /// The `{:?}` of the records of a slice, one after another, and why there is no further one. Bytes
 /// that are those of the slice are `Borrowed`.
-pub fn tell_shown(alloc: Global, bytes: &[u8]) -> Result<String, AllocError> {
+pub fn text_of_records(alloc: Global, bytes: &[u8]) -> Result<String, AllocError> {
     let mut parser = Parser::new(alloc, bytes, ParseConfig::<Little>::default());
     let mut text = String::new(alloc);
     for _ in 0..=bytes.len() {
-        if !tell_shown_record(&mut text, next_record(&mut parser))? {
+        if !write_debug_record(&mut text, next_record(&mut parser))? {
             break;
         }
     }

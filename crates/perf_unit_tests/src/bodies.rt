@@ -1,7 +1,7 @@
 //! What is parsed from a frame's body.
 
-use crate::closures::tell_closures;
-use crate::own_types::tell_sample;
+use crate::closures::write_closures;
+use crate::own_types::write_sample;
 use perf_event_data::RecordMetadata;
 use perf_event_data::endian::Endian;
 use perf_event_data::parse::{ParseBuf, ParseBufCursor, ParseResult, Parser};
@@ -18,7 +18,7 @@ pub enum Body {
     Closures,
 }
 
-fn tell_metadata(text: &mut String, metadata: &RecordMetadata) -> Result<(), AllocError> {
+fn write_metadata(text: &mut String, metadata: &RecordMetadata) -> Result<(), AllocError> {
     let id = metadata.sample_id();
     let task = (id.pid(), id.tid(), id.time());
     let event = (id.id(), id.stream_id(), id.cpu());
@@ -31,27 +31,27 @@ fn tell_metadata(text: &mut String, metadata: &RecordMetadata) -> Result<(), All
 }
 
 // Appends the results of the parser of a body.
-fn told_after<'p, E: Endian>(
+fn text_after<'p, E: Endian>(
     mut text: String,
     mut inner: Parser<ParseBufCursor<'p>, E>,
     body: Body,
 ) -> ParseResult<String> {
     match body {
-        Body::Sample => tell_sample(&mut text, &mut inner, false)?,
-        Body::SampleByClosure => tell_sample(&mut text, &mut inner, true)?,
-        Body::Closures => tell_closures(&mut text, &mut inner)?,
+        Body::Sample => write_sample(&mut text, &mut inner, false)?,
+        Body::SampleByClosure => write_sample(&mut text, &mut inner, true)?,
+        Body::Closures => write_closures(&mut text, &mut inner)?,
     }
     Ok(text)
 }
 
 /// What is known of a frame besides its body, and the results of the parser of its body.
-pub fn told_frame<'p, B: ParseBuf<'p>, E: Endian>(
+pub fn text_of_frame<'p, B: ParseBuf<'p>, E: Endian>(
     alloc: Global,
     parser: &mut Parser<B, E>,
     body: Body,
 ) -> ParseResult<String> {
     let (inner, metadata) = parser.parse_metadata()?;
     let mut text = String::new(alloc);
-    tell_metadata(&mut text, &metadata)?;
-    told_after(text, inner, body)
+    write_metadata(&mut text, &metadata)?;
+    text_after(text, inner, body)
 }

@@ -11,7 +11,7 @@ use perf_event_data::parse::{ErrorKind, ParseBuf, ParseBufChunk, ParseError, Par
 use perf_event_data::sys::perf_event_attr;
 use perf_event_data::{RunEnd, SampleFlags, read_records};
 use perf_test_helpers::attributes::{attribute, bits_of};
-use perf_test_helpers::everywhere::{Says, parser_of, say_everywhere};
+use perf_test_helpers::everywhere::{TextOver, parser_of, text_everywhere};
 use std::alloc::{AllocError, Global};
 use std::io;
 use std::io::{BufReader, Read};
@@ -21,7 +21,7 @@ use std::test::Fail;
 // ---- faults
 
 // The text of the fault that ends a run.
-fn told_fault<'p, B: ParseBuf<'p> + Drop>(alloc: Global, buf: B) -> Result<String, AllocError> {
+fn text_of_fault<'p, B: ParseBuf<'p> + Drop>(alloc: Global, buf: B) -> Result<String, AllocError> {
     let mut parser = parser_of(alloc, buf, Little, &attribute(SampleFlags::IP.bits(), 0));
     match read_records(&mut parser, 10).end {
         RunEnd::Fault(error) => text_of_error(alloc, &error),
@@ -106,7 +106,7 @@ fn a_run_ends_by_the_error_of_its_reader(rt: HostRuntime) -> Result<(), Fail> {
             for capacity in [1, 7, 8192] {
                 let bytes = &frame[..count.min(frame.len())];
                 let reader = BufReader::with_capacity(rt.alloc(), capacity, Failing { bytes })?;
-                check_text(&rt, told_fault(rt.alloc(), reader), BY_CAUSE);
+                check_text(&rt, text_of_fault(rt.alloc(), reader), BY_CAUSE);
             }
         }
     }
@@ -122,7 +122,7 @@ fn check_broken(rt: &(impl AllocGlobal + Abort), bytes: &[u8], has_message: bool
             hint,
             has_message,
         };
-        check_text(rt, told_fault(rt.alloc(), buf), want);
+        check_text(rt, text_of_fault(rt.alloc(), buf), want);
     }
 }
 
@@ -145,8 +145,8 @@ struct FirstRefusal<'a> {
     attr: &'a perf_event_attr,
 }
 
-impl<'p, B: ParseBuf<'p> + Drop> Says<'p, B> for FirstRefusal<'_> {
-    fn say(&self, alloc: Global, buf: B) -> Result<String, AllocError> {
+impl<'p, B: ParseBuf<'p> + Drop> TextOver<'p, B> for FirstRefusal<'_> {
+    fn text_over(&self, alloc: Global, buf: B) -> Result<String, AllocError> {
         let mut parser = parser_of(alloc, buf, Little, self.attr);
         match read_records(&mut parser, 1).frames.first() {
             Some((_, Err(error))) => text_of_error(alloc, error),
@@ -244,11 +244,11 @@ const REFUSED: [Refused<'static>; 9] = [
 ];
 
 // The text of such an error, and the expected one.
-fn told_refused(alloc: Global, refused: &Refused) -> Result<(String, String), AllocError> {
+fn text_of_refused(alloc: Global, refused: &Refused) -> Result<(String, String), AllocError> {
     let (sample_type, read_format, flags) = refused.under;
     let mut attr = attribute(bits_of(sample_type), read_format);
     attr.flags = flags;
-    let text = say_everywhere(alloc, refused.bytes, &FirstRefusal { attr: &attr })?;
+    let text = text_everywhere(alloc, refused.bytes, &FirstRefusal { attr: &attr })?;
     let ((kind, text_of_kind), message) = (refused.kind, refused.message);
     let want = format!(in alloc; "{kind}, Some({message:?}), no cause, {text_of_kind}: {message}")?;
     Ok((text, want))
@@ -257,7 +257,7 @@ fn told_refused(alloc: Global, refused: &Refused) -> Result<(String, String), Al
 #[test]
 fn a_refused_frame_has_its_message(rt: HostRuntime) -> Result<(), Fail> {
     for refused in &REFUSED {
-        let (text, want) = told_refused(rt.alloc(), refused)?;
+        let (text, want) = text_of_refused(rt.alloc(), refused)?;
         check_text(&rt, Ok(text), want.as_str());
     }
     Ok(())

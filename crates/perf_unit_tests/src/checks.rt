@@ -4,7 +4,7 @@
 use perf_event_data::endian::Endian;
 use perf_event_data::parse::ParseResult;
 use perf_event_data::sys::perf_event_attr;
-use perf_test_helpers::runs::tell_everywhere;
+use perf_test_helpers::runs::runs_everywhere;
 use std::alloc::AllocError;
 use std::fmt::Debug;
 use std::process::Abort;
@@ -36,8 +36,8 @@ pub fn check_answer(rt: &impl Abort, what: &str, answer: ParseResult<String>, wa
 }
 
 /// Asserts a text.
-pub fn check_told(rt: &impl Abort, told: ParseResult<String>, want: &str) {
-    check_answer(rt, "the text", told, want);
+pub fn check_parsed_text(rt: &impl Abort, actual: ParseResult<String>, want: &str) {
+    check_answer(rt, "the text", actual, want);
 }
 
 /// Asserts the `{:?}` of a value: all of its fields, and of each list whether it is borrowed.
@@ -46,13 +46,13 @@ pub fn check_debug<T: Debug>(rt: &(impl AllocGlobal + Abort), value: &T, want: &
 }
 
 /// Asserts numbers.
-pub fn check_numbers(rt: &impl Abort, told: &[u64], want: &[u64]) {
-    check_same(rt, "the numbers", told, want);
+pub fn check_numbers(rt: &impl Abort, actual: &[u64], want: &[u64]) {
+    check_same(rt, "the numbers", actual, want);
 }
 
 /// Asserts numbers, each of which may be absent.
-pub fn check_answers(rt: &impl Abort, told: &[Option<u64>], want: &[Option<u64>]) {
-    check_same(rt, "the answers", told, want);
+pub fn check_answers(rt: &impl Abort, actual: &[Option<u64>], want: &[Option<u64>]) {
+    check_same(rt, "the answers", actual, want);
 }
 
 /// Asserts that two values are equal, or that one is true, and names the text if not.
@@ -75,6 +75,6 @@ pub fn check_everywhere<E: Endian + Copy>(
     want: &str,
 ) {
     let attr = perf_event_attr::default();
-    let told = tell_everywhere(rt.alloc(), bytes, endian, &attr, limits);
-    check_text(rt, told, want);
+    let actual = runs_everywhere(rt.alloc(), bytes, endian, &attr, limits);
+    check_text(rt, actual, want);
 }

@@ -1,7 +1,7 @@
 //! Closures that parse.
 
-use crate::asked::{Asked, Case, check_case, kind_of};
 use crate::bodies::Body;
+use crate::cases::{Case, Request, check_case, kind_of};
 use perf_event_data::endian::Endian;
 use perf_event_data::parse::{ParseBufCursor, ParseResult, Parser};
 
@@ -22,20 +22,20 @@ fn one_if<'p, E: Endian>(
 }
 
 // The last two bytes are parsed if a condition is true.
-fn tell_conditions<'p, E: Endian>(
+fn write_conditions<'p, E: Endian>(
     text: &mut String,
     inner: &mut Parser<ParseBufCursor<'p>, E>,
 ) -> ParseResult<()> {
     let before = two_if(inner, false)?;
     let found = two_if(inner, true)?;
-    let refused = kind_of(one_if(inner, true));
+    let kind = kind_of(one_if(inner, true));
     let after = one_if(inner, false)?;
-    Ok(write!(text, " {before:?} {found:?} {refused:?} {after:?}")?)
+    Ok(write!(text, " {before:?} {found:?} {kind:?} {after:?}")?)
 }
 
 /// Writes what a closure parses from a frame's body: always, if a condition is true, and if it is
 /// false.
-pub fn tell_closures<'p, E: Endian>(
+pub fn write_closures<'p, E: Endian>(
     text: &mut String,
     inner: &mut Parser<ParseBufCursor<'p>, E>,
 ) -> ParseResult<()> {
@@ -45,12 +45,12 @@ pub fn tell_closures<'p, E: Endian>(
         Ok((low, high))
     })?;
     write!(text, ": {low:#x} {high:#x}")?;
-    tell_conditions(text, inner)
+    write_conditions(text, inner)
 }
 
 const CLOSURES: Case = Case {
     name: "a closure parses what it is asked to",
-    asked: Asked::Body(Body::Closures),
+    request: Request::Body(Body::Closures),
     bytes: b"\x44\0\0\0\0\0\x0D\0\x01\x02\x03\x04\x05",
     want: "68 0 (None, None, None) (None, None, None): 0x1 0x302 None Some(1284) Some(Eof) None",
 };

@@ -6,7 +6,7 @@ use bitflags::Flags;
 use perf_event_data::endian::{Dynamic, Little};
 use perf_event_data::parse::{ParseConfig, Parser};
 use perf_event_data::sys::perf_event_attr;
-use perf_test_helpers::told::tell_config;
+use perf_test_helpers::texts::write_config;
 use perf_words::{ReadFormat, SampleFlags};
 use std::alloc::{AllocError, Global};
 use std::process::Abort;
@@ -30,30 +30,30 @@ const NOTHING: &str = "([0, 0], [false, false], [0, 0], 0)";
 
 fn text_of<E>(alloc: Global, config: &ParseConfig<E>) -> Result<String, AllocError> {
     let mut text = String::new(alloc);
-    tell_config(&mut text, config)?;
+    write_config(&mut text, config)?;
     Ok(text)
 }
 
-fn check_said<E>(rt: &(impl AllocGlobal + Abort), config: &ParseConfig<E>, want: &str) {
+fn check_config<E>(rt: &(impl AllocGlobal + Abort), config: &ParseConfig<E>, want: &str) {
     check_text(rt, text_of(rt.alloc(), config), want);
 }
 
 #[test]
-fn a_configuration_says_what_its_attribute_does(rt: HostRuntime) {
-    check_said(&rt, &full(), FULL);
-    check_said(&rt, &ParseConfig::<Little>::default(), NOTHING);
+fn a_configuration_is_what_its_attribute_specifies(rt: HostRuntime) {
+    check_config(&rt, &full(), FULL);
+    check_config(&rt, &ParseConfig::<Little>::default(), NOTHING);
     let other = ParseConfig::<Little>::from(perf_event_attr {
         flags: !(1 << 18),
         branch_sample_type: !(1 << 17),
         ..Default::default()
     });
-    check_said(&rt, &other, NOTHING);
+    check_config(&rt, &other, NOTHING);
 }
 
 #[test]
 fn another_order_keeps_all_flags_and_masks(rt: HostRuntime) {
     let config = full().with_misc(3).with_endian(Dynamic::Big);
-    check_said(&rt, &config, "([65543, 13], [true, true], [17, 34], 3)");
+    check_config(&rt, &config, "([65543, 13], [true, true], [17, 34], 3)");
     check!(rt; *config.endian(), Dynamic::Big);
 }
 
@@ -66,7 +66,7 @@ const MISCS: [(u16, &str); 3] = [
 #[test]
 fn another_misc_keeps_the_rest(rt: HostRuntime) {
     for (misc, want) in MISCS {
-        check_said(&rt, &full().with_misc(0x5555).with_misc(misc), want);
+        check_config(&rt, &full().with_misc(0x5555).with_misc(misc), want);
     }
 }
 
@@ -85,7 +85,7 @@ fn another_sample_type_keeps_the_rest(rt: HostRuntime) {
     for (sample_type, want) in SAMPLE_TYPES {
         let sample_type = SampleFlags::from_bits_retain(sample_type);
         let config = full().with_misc(7).with_sample_type(sample_type);
-        check_said(&rt, &config, want);
+        check_config(&rt, &config, want);
     }
 }
 
@@ -102,14 +102,14 @@ fn another_read_format_keeps_the_rest(rt: HostRuntime) {
     for (read_format, want) in READ_FORMATS {
         let read_format = ReadFormat::from_bits_retain(read_format);
         let config = full().with_misc(7).with_read_format(read_format);
-        check_said(&rt, &config, want);
+        check_config(&rt, &config, want);
     }
 }
 
 #[test]
 fn a_parser_takes_another_configuration(rt: HostRuntime) {
     let parser = Parser::new(rt.alloc(), [].as_slice(), full());
-    check_said(&rt, parser.config(), FULL);
+    check_config(&rt, parser.config(), FULL);
     let parser = parser.reconfigure(ParseConfig::<Little>::default());
-    check_said(&rt, parser.config(), NOTHING);
+    check_config(&rt, parser.config(), NOTHING);
 }

@@ -1,7 +1,7 @@
 //! Copies of records and of groups of counters, and the results of their calls. The text of a value
 //! is all of its fields, and of each list whether it is borrowed.
 
-use crate::checks::check_told;
+use crate::checks::check_parsed_text;
 use crate::groups::{of_none, single_with_id, with_ids, without_ids};
 use bitflags::Flags;
 use perf_base::cow::CowSlice;
@@ -22,27 +22,27 @@ use std::alloc::{AllocError, Global};
 use std::fmt::Debug;
 
 // A value that is cloned.
-trait Cloned: Debug + Sized + Drop {
-    fn cloned(&self, alloc: Global) -> ParseResult<Self>;
+trait CloneText: Debug + Sized + Drop {
+    fn clone_copy(&self, alloc: Global) -> ParseResult<Self>;
 
     // Writes the results of its calls, if it has any.
-    fn tell_calls(&self, text: &mut String) -> Result<(), AllocError> {
+    fn write_calls(&self, text: &mut String) -> Result<(), AllocError> {
         let _ = text;
         Ok(())
     }
 }
 
 // A value with owned copies.
-trait Owning: Cloned {
+trait Owning: CloneText {
     fn into_owned_copy(self, alloc: Global) -> ParseResult<Self>;
 }
 
-impl Cloned for CowSlice<'_, u64> {
-    fn cloned(&self, alloc: Global) -> ParseResult<Self> {
+impl CloneText for CowSlice<'_, u64> {
+    fn clone_copy(&self, alloc: Global) -> ParseResult<Self> {
         self.clone(alloc)
     }
 
-    fn tell_calls(&self, text: &mut String) -> Result<(), AllocError> {
+    fn write_calls(&self, text: &mut String) -> Result<(), AllocError> {
         write!(
             text,
             " {:?}",
@@ -57,12 +57,12 @@ impl Owning for CowSlice<'_, u64> {
     }
 }
 
-impl Cloned for Comm<'_> {
-    fn cloned(&self, alloc: Global) -> ParseResult<Self> {
+impl CloneText for Comm<'_> {
+    fn clone_copy(&self, alloc: Global) -> ParseResult<Self> {
         self.clone(alloc)
     }
 
-    fn tell_calls(&self, text: &mut String) -> Result<(), AllocError> {
+    fn write_calls(&self, text: &mut String) -> Result<(), AllocError> {
         write!(text, " {:?}", self.comm_os())
     }
 }
@@ -73,12 +73,12 @@ impl Owning for Comm<'_> {
     }
 }
 
-impl Cloned for CGroup<'_> {
-    fn cloned(&self, alloc: Global) -> ParseResult<Self> {
+impl CloneText for CGroup<'_> {
+    fn clone_copy(&self, alloc: Global) -> ParseResult<Self> {
         self.clone(alloc)
     }
 
-    fn tell_calls(&self, text: &mut String) -> Result<(), AllocError> {
+    fn write_calls(&self, text: &mut String) -> Result<(), AllocError> {
         write!(text, " {:?}", self.path_os())
     }
 }
@@ -89,8 +89,8 @@ impl Owning for CGroup<'_> {
     }
 }
 
-impl Cloned for KSymbol<'_> {
-    fn cloned(&self, alloc: Global) -> ParseResult<Self> {
+impl CloneText for KSymbol<'_> {
+    fn clone_copy(&self, alloc: Global) -> ParseResult<Self> {
         self.clone(alloc)
     }
 }
@@ -101,12 +101,12 @@ impl Owning for KSymbol<'_> {
     }
 }
 
-impl Cloned for Mmap<'_> {
-    fn cloned(&self, alloc: Global) -> ParseResult<Self> {
+impl CloneText for Mmap<'_> {
+    fn clone_copy(&self, alloc: Global) -> ParseResult<Self> {
         self.clone(alloc)
     }
 
-    fn tell_calls(&self, text: &mut String) -> Result<(), AllocError> {
+    fn write_calls(&self, text: &mut String) -> Result<(), AllocError> {
         write!(text, " {:?}", self.filename_os())
     }
 }
@@ -117,12 +117,12 @@ impl Owning for Mmap<'_> {
     }
 }
 
-impl Cloned for Mmap2<'_> {
-    fn cloned(&self, alloc: Global) -> ParseResult<Self> {
+impl CloneText for Mmap2<'_> {
+    fn clone_copy(&self, alloc: Global) -> ParseResult<Self> {
         self.clone(alloc)
     }
 
-    fn tell_calls(&self, text: &mut String) -> Result<(), AllocError> {
+    fn write_calls(&self, text: &mut String) -> Result<(), AllocError> {
         let inode = (self.maj(), self.min(), self.ino(), self.ino_generation());
         write!(text, " {:?}", (inode, self.build_id(), self.filename_os()))
     }
@@ -134,8 +134,8 @@ impl Owning for Mmap2<'_> {
     }
 }
 
-impl Cloned for TextPoke<'_> {
-    fn cloned(&self, alloc: Global) -> ParseResult<Self> {
+impl CloneText for TextPoke<'_> {
+    fn clone_copy(&self, alloc: Global) -> ParseResult<Self> {
         self.clone(alloc)
     }
 }
@@ -146,13 +146,13 @@ impl Owning for TextPoke<'_> {
     }
 }
 
-impl Cloned for ReadGroup<'_> {
-    fn cloned(&self, alloc: Global) -> ParseResult<Self> {
+impl CloneText for ReadGroup<'_> {
+    fn clone_copy(&self, alloc: Global) -> ParseResult<Self> {
         self.clone(alloc)
     }
 
     // The last of its results is the entry of id 6.
-    fn tell_calls(&self, text: &mut String) -> Result<(), AllocError> {
+    fn write_calls(&self, text: &mut String) -> Result<(), AllocError> {
         let numbers = (
             self.len(),
             self.is_empty(),
@@ -169,18 +169,18 @@ impl Owning for ReadGroup<'_> {
     }
 }
 
-impl Cloned for Registers<'_> {
-    fn cloned(&self, alloc: Global) -> ParseResult<Self> {
+impl CloneText for Registers<'_> {
+    fn clone_copy(&self, alloc: Global) -> ParseResult<Self> {
         self.clone(alloc)
     }
 }
 
-impl Cloned for Namespaces<'_> {
-    fn cloned(&self, alloc: Global) -> ParseResult<Self> {
+impl CloneText for Namespaces<'_> {
+    fn clone_copy(&self, alloc: Global) -> ParseResult<Self> {
         self.clone(alloc)
     }
 
-    fn tell_calls(&self, text: &mut String) -> Result<(), AllocError> {
+    fn write_calls(&self, text: &mut String) -> Result<(), AllocError> {
         let first = [self.network(), self.uts(), self.ipc()];
         write!(
             text,
@@ -191,36 +191,36 @@ impl Cloned for Namespaces<'_> {
 }
 
 // Writes a value and the results of its calls on a line.
-fn tell<T: Cloned>(text: &mut String, value: &T) -> Result<(), AllocError> {
+fn write_value<T: CloneText>(text: &mut String, value: &T) -> Result<(), AllocError> {
     write!(text, "{value:?}")?;
-    value.tell_calls(text)?;
+    value.write_calls(text)?;
     text.push_str("\n")
 }
 
 // Writes a value and its clone.
-fn tell_with_clone<T: Cloned>(text: &mut String, alloc: Global, value: &T) -> ParseResult<()> {
-    tell(text, value)?;
-    let copy = value.cloned(alloc)?;
-    Ok(tell(text, &copy)?)
+fn write_with_clone<T: CloneText>(text: &mut String, alloc: Global, value: &T) -> ParseResult<()> {
+    write_value(text, value)?;
+    let copy = value.clone_copy(alloc)?;
+    Ok(write_value(text, &copy)?)
 }
 
 // The text of a value, of its clone, of its owned copy, and of the clone and the owned copy of
 // that.
-fn told_with_copies<T: Owning>(alloc: Global, value: ParseResult<T>) -> ParseResult<String> {
+fn text_with_copies<T: Owning>(alloc: Global, value: ParseResult<T>) -> ParseResult<String> {
     let mut text = String::new(alloc);
     let value = value?;
-    tell_with_clone(&mut text, alloc, &value)?;
+    write_with_clone(&mut text, alloc, &value)?;
     let owned = value.into_owned_copy(alloc)?;
-    tell_with_clone(&mut text, alloc, &owned)?;
+    write_with_clone(&mut text, alloc, &owned)?;
     let again = owned.into_owned_copy(alloc)?;
-    tell(&mut text, &again)?;
+    write_value(&mut text, &again)?;
     Ok(text)
 }
 
 // The text of a value and of its clone.
-fn told_with_clone<T: Cloned>(alloc: Global, value: ParseResult<T>) -> ParseResult<String> {
+fn text_with_clone<T: CloneText>(alloc: Global, value: ParseResult<T>) -> ParseResult<String> {
     let mut text = String::new(alloc);
-    tell_with_clone(&mut text, alloc, &value?)?;
+    write_with_clone(&mut text, alloc, &value?)?;
     Ok(text)
 }
 
@@ -260,10 +260,10 @@ const ANONYMOUS: [u8; 6] = *b"//anon";
 fn items_keep_their_order(rt: HostRuntime) {
     let items = CowSlice::Borrowed(&[3u64, 2, 1]);
     let want = copies!("", "([3, 2, 1]) ([3, 2, 1], 3, false)");
-    check_told(&rt, told_with_copies(rt.alloc(), Ok(items)), want);
+    check_parsed_text(&rt, text_with_copies(rt.alloc(), Ok(items)), want);
     let none: CowSlice<'_, u64> = CowSlice::Borrowed(&[]);
     let want = copies!("", "([]) ([], 0, true)");
-    check_told(&rt, told_with_copies(rt.alloc(), Ok(none)), want);
+    check_parsed_text(&rt, text_with_copies(rt.alloc(), Ok(none)), want);
 }
 
 fn comm(pid: u32, tid: u32, name: &[u8]) -> Comm<'_> {
@@ -311,14 +311,14 @@ const NAMES: [(u32, u32, &[u8], &str); 3] = [
 fn a_name_of_a_task(rt: HostRuntime) {
     for (pid, tid, name, want) in NAMES {
         let comm = comm(pid, tid, name);
-        check_told(&rt, told_with_copies(rt.alloc(), Ok(comm)), want);
+        check_parsed_text(&rt, text_with_copies(rt.alloc(), Ok(comm)), want);
     }
     let want = owned_copies!(
         "Comm { pid: 4112, tid: 1280, comm: ",
         "([47, 47, 97, 110, 111, 110]) } Some(\"//anon\")"
     );
     let comm = owned_comm(rt.alloc());
-    check_told(&rt, told_with_copies(rt.alloc(), comm), want);
+    check_parsed_text(&rt, text_with_copies(rt.alloc(), comm), want);
 }
 
 fn group_of_tasks(id: u64, path: &[u8]) -> CGroup<'_> {
@@ -340,16 +340,16 @@ fn a_control_group(rt: HostRuntime) {
         "([2, 3]) } Some(\"\\u{2}\\u{3}\")"
     );
     let group = group_of_tasks(1, &[2, 3]);
-    check_told(&rt, told_with_copies(rt.alloc(), Ok(group)), want);
+    check_parsed_text(&rt, text_with_copies(rt.alloc(), Ok(group)), want);
     let want = copies!("CGroup { id: 7, path: ", "([47, 255]) } None");
     let group = group_of_tasks(7, &[0x2f, 0xff]);
-    check_told(&rt, told_with_copies(rt.alloc(), Ok(group)), want);
+    check_parsed_text(&rt, text_with_copies(rt.alloc(), Ok(group)), want);
     let want = owned_copies!(
         "CGroup { id: 7, path: ",
         "([47, 47, 97, 110, 111, 110]) } Some(\"//anon\")"
     );
     let group = owned_group_of_tasks(rt.alloc());
-    check_told(&rt, told_with_copies(rt.alloc(), group), want);
+    check_parsed_text(&rt, text_with_copies(rt.alloc(), group), want);
 }
 
 fn symbol(addr: u64, len: u32, name: &[u8]) -> KSymbol<'_> {
@@ -374,19 +374,19 @@ fn a_symbol_of_the_kernel(rt: HostRuntime) {
         "([3, 4]) }"
     );
     let bpf = symbol(1, 2, &[3, 4]);
-    check_told(&rt, told_with_copies(rt.alloc(), Ok(bpf)), want);
+    check_parsed_text(&rt, text_with_copies(rt.alloc(), Ok(bpf)), want);
     let want = copies!(
         "KSymbol { addr: 4096, len: 64, ksym_type: KSymbolType(1), flags: KSymbolFlags(1), name: ",
         "([98, 112, 102]) }"
     );
     let bpf = symbol(4096, 64, b"bpf");
-    check_told(&rt, told_with_copies(rt.alloc(), Ok(bpf)), want);
+    check_parsed_text(&rt, text_with_copies(rt.alloc(), Ok(bpf)), want);
     let want = owned_copies!(
         "KSymbol { addr: 4096, len: 64, ksym_type: KSymbolType(1), flags: KSymbolFlags(1), name: ",
         "([47, 47, 97, 110, 111, 110]) }"
     );
     let bpf = owned_symbol(rt.alloc());
-    check_told(&rt, told_with_copies(rt.alloc(), bpf), want);
+    check_parsed_text(&rt, text_with_copies(rt.alloc(), bpf), want);
 }
 
 fn owned_mapping(alloc: Global) -> ParseResult<Mmap<'static>> {
@@ -416,13 +416,13 @@ fn a_mapping(rt: HostRuntime) {
         "Mmap { pid: 1, tid: 2, addr: 3, len: 4, pgoff: 5, filename: ",
         "([6, 7]) } Some(\"\\u{6}\\u{7}\")"
     );
-    check_told(&rt, told_with_copies(rt.alloc(), Ok(mapping)), want);
+    check_parsed_text(&rt, text_with_copies(rt.alloc(), Ok(mapping)), want);
     let want = owned_copies!(
         "Mmap { pid: 1, tid: 2, addr: 4096, len: 8192, pgoff: 512, filename: ",
         "([47, 47, 97, 110, 111, 110]) } Some(\"//anon\")"
     );
     let mapping = owned_mapping(rt.alloc());
-    check_told(&rt, told_with_copies(rt.alloc(), mapping), want);
+    check_parsed_text(&rt, text_with_copies(rt.alloc(), mapping), want);
 }
 
 // A mapping of a file by its inode.
@@ -455,14 +455,14 @@ fn mappings_by_an_inode(rt: HostRuntime) {
         "([8, 9]), detail: Default { maj: 10, min: 11, ino: 12, ino_generation: 13 } } \
             ((Some(10), Some(11), Some(12), Some(13)), None, Some(\"\\u{8}\\t\"))"
     );
-    check_told(&rt, told_with_copies(rt.alloc(), Ok(by_inode())), want);
+    check_parsed_text(&rt, text_with_copies(rt.alloc(), Ok(by_inode())), want);
     let want = copies!(
         "Mmap2 { pid: 1, tid: 2, addr: 4096, len: 8192, pgoff: 0, prot: 5, flags: 2, filename: ",
         "([97, 98]), detail: Default { maj: 8, min: 1, ino: 99, ino_generation: 3 } } \
             ((Some(8), Some(1), Some(99), Some(3)), None, Some(\"ab\"))"
     );
     let mapping = by_another_inode();
-    check_told(&rt, told_with_copies(rt.alloc(), Ok(mapping)), want);
+    check_parsed_text(&rt, text_with_copies(rt.alloc(), Ok(mapping)), want);
 }
 
 // A mapping of a program by its build id, followed by another byte.
@@ -518,7 +518,7 @@ fn mappings_by_a_build_id(rt: HostRuntime) {
         "([8, 9]), detail: BuildId { build_id: 0a0b0c } } \
             ((None, None, None, None), Some([10, 11, 12]), Some(\"\\u{8}\\t\"))"
     );
-    check_told(&rt, told_with_copies(rt.alloc(), Ok(by_build_id())), want);
+    check_parsed_text(&rt, text_with_copies(rt.alloc(), Ok(by_build_id())), want);
     let want = owned_copies!(
         "Mmap2 { pid: 1, tid: 2, addr: 4096, len: 8192, pgoff: 0, prot: 5, flags: 2, filename: ",
         "([97, 98]), detail: BuildId { build_id: 0102030405060708090a0b0c0d0e0f1011121314 } } \
@@ -526,21 +526,21 @@ fn mappings_by_a_build_id(rt: HostRuntime) {
             16, 17, 18, 19, 20]), Some(\"ab\"))"
     );
     let whole = by_whole_build_id(rt.alloc());
-    check_told(&rt, told_with_copies(rt.alloc(), whole), want);
+    check_parsed_text(&rt, text_with_copies(rt.alloc(), whole), want);
     let want = copies!(
         "Mmap2 { pid: 1, tid: 2, addr: 4096, len: 8192, pgoff: 0, prot: 5, flags: 2, filename: ",
         "([97, 98]), detail: BuildId { build_id: 0102 } } \
             ((None, None, None, None), Some([1, 2]), Some(\"ab\"))"
     );
     let short = by_short_build_id();
-    check_told(&rt, told_with_copies(rt.alloc(), short), want);
+    check_parsed_text(&rt, text_with_copies(rt.alloc(), short), want);
     let want = owned_copies!(
         "Mmap2 { pid: 1, tid: 2, addr: 4096, len: 8192, pgoff: 512, prot: 5, flags: 6, filename: ",
         "([47, 47, 97, 110, 111, 110]), detail: BuildId { build_id: 0102 } } \
             ((None, None, None, None), Some([1, 2]), Some(\"//anon\"))"
     );
     let owned = owned_by_build_id(rt.alloc());
-    check_told(&rt, told_with_copies(rt.alloc(), owned), want);
+    check_parsed_text(&rt, text_with_copies(rt.alloc(), owned), want);
 }
 
 // The shorter record of a mapping that owns its path.
@@ -560,18 +560,18 @@ fn shorter_mappings(rt: HostRuntime) {
         "Mmap { pid: 1, tid: 2, addr: 3, len: 4, pgoff: 5, filename: ",
         "([8, 9]) } Some(\"\\u{8}\\t\")"
     );
-    check_told(
+    check_parsed_text(
         &rt,
-        told_with_copies(alloc, by_inode().to_mmap(alloc)),
+        text_with_copies(alloc, by_inode().to_mmap(alloc)),
         want,
     );
     let want = owned_copies!(
         "Mmap { pid: 1, tid: 2, addr: 3, len: 4, pgoff: 5, filename: ",
         "([8, 9]) } Some(\"\\u{8}\\t\")"
     );
-    check_told(
+    check_parsed_text(
         &rt,
-        told_with_copies(alloc, shorter_owned_mapping(alloc)),
+        text_with_copies(alloc, shorter_owned_mapping(alloc)),
         want,
     );
     let want = copies!(
@@ -579,10 +579,10 @@ fn shorter_mappings(rt: HostRuntime) {
         "([97, 98]) } Some(\"ab\")"
     );
     let mapping = by_another_inode().to_mmap(alloc);
-    check_told(&rt, told_with_copies(alloc, mapping), want);
-    check_told(&rt, told_with_copies(alloc, shorter_clone(alloc)), want);
+    check_parsed_text(&rt, text_with_copies(alloc, mapping), want);
+    check_parsed_text(&rt, text_with_copies(alloc, shorter_clone(alloc)), want);
     let mapping = by_another_inode().into_mmap();
-    check_told(&rt, told_with_copies(alloc, Ok(mapping)), want);
+    check_parsed_text(&rt, text_with_copies(alloc, Ok(mapping)), want);
 }
 
 fn poke<'a>(addr: u64, old: &'a [u8], new: &'a [u8]) -> TextPoke<'a> {
@@ -606,21 +606,21 @@ fn a_change_of_code(rt: HostRuntime) {
         "([3, 4]) }"
     );
     let poked = poke(1, &[2], &[3, 4]);
-    check_told(&rt, told_with_copies(rt.alloc(), Ok(poked)), want);
+    check_parsed_text(&rt, text_with_copies(rt.alloc(), Ok(poked)), want);
     let want = copies!(
         "TextPoke { addr: 16, old_bytes: ",
         "([]), new_bytes: ",
         "([170]) }"
     );
     let poked = poke(16, &[], &[0xaa]);
-    check_told(&rt, told_with_copies(rt.alloc(), Ok(poked)), want);
+    check_parsed_text(&rt, text_with_copies(rt.alloc(), Ok(poked)), want);
     let want = owned_copies!(
         "TextPoke { addr: 16, old_bytes: ",
         "([170]), new_bytes: ",
         "([187, 204]) }"
     );
     let poked = owned_poke(rt.alloc());
-    check_told(&rt, told_with_copies(rt.alloc(), poked), want);
+    check_parsed_text(&rt, text_with_copies(rt.alloc(), poked), want);
 }
 
 fn group_of_counters() -> ReadGroup<'static> {
@@ -638,27 +638,27 @@ fn a_group_of_counters(rt: HostRuntime) {
             [Some(GroupEntry { value: 3, id: Some(4), lost: None }), \
             Some(GroupEntry { value: 5, id: Some(6), lost: None })])"
     );
-    check_told(&rt, told_with_copies(alloc, Ok(group_of_counters())), want);
+    check_parsed_text(&rt, text_with_copies(alloc, Ok(group_of_counters())), want);
     let want = copies!(
         "ReadGroup { time_enabled: None, time_running: None, with_id: true, with_lost: false, \
             words: ",
         "([10, 1, 20, 2, 30, 2]) } ((3, false, None, None), \
             [Some(GroupEntry { value: 10, id: Some(1), lost: None }), None])"
     );
-    check_told(&rt, told_with_copies(alloc, Ok(with_ids())), want);
+    check_parsed_text(&rt, text_with_copies(alloc, Ok(with_ids())), want);
     let want = copies!(
         "ReadGroup { time_enabled: Some(7), time_running: Some(8), with_id: false, \
             with_lost: true, words: ",
         "([10, 1]) } ((1, false, Some(7), Some(8)), \
             [Some(GroupEntry { value: 10, id: None, lost: Some(1) }), None])"
     );
-    check_told(&rt, told_with_copies(alloc, Ok(without_ids())), want);
+    check_parsed_text(&rt, text_with_copies(alloc, Ok(without_ids())), want);
     let want = copies!(
         "ReadGroup { time_enabled: None, time_running: None, with_id: false, with_lost: false, \
             words: ",
         "([]) } ((0, true, None, None), [None, None])"
     );
-    check_told(&rt, told_with_copies(alloc, Ok(of_none())), want);
+    check_parsed_text(&rt, text_with_copies(alloc, Ok(of_none())), want);
 }
 
 #[test]
@@ -671,7 +671,7 @@ fn a_group_of_one_read(rt: HostRuntime) {
             Some(GroupEntry { value: 3, id: Some(6), lost: None })])"
     );
     let group = ReadGroup::from_value(rt.alloc(), single_with_id());
-    check_told(&rt, told_with_copies(rt.alloc(), group), want);
+    check_parsed_text(&rt, text_with_copies(rt.alloc(), group), want);
 }
 
 fn registers(values: CowSlice<'_, u64>) -> Registers<'_> {
@@ -691,11 +691,11 @@ fn owned_registers(alloc: Global) -> ParseResult<Registers<'static>> {
 fn registers_of_a_task(rt: HostRuntime) {
     let want =
         clones!("Borrowed": "Registers { abi: SampleRegsAbi(2), mask: 5, regs: ", "([6, 7]) }");
-    let lent = registers(CowSlice::Borrowed(&[6, 7]));
-    check_told(&rt, told_with_clone(rt.alloc(), Ok(lent)), want);
+    let borrowed = registers(CowSlice::Borrowed(&[6, 7]));
+    check_parsed_text(&rt, text_with_clone(rt.alloc(), Ok(borrowed)), want);
     let want = clones!("Owned": "Registers { abi: SampleRegsAbi(2), mask: 5, regs: ", "([6, 7]) }");
     let owned = owned_registers(rt.alloc());
-    check_told(&rt, told_with_clone(rt.alloc(), owned), want);
+    check_parsed_text(&rt, text_with_clone(rt.alloc(), owned), want);
 }
 
 const NETWORK: [NamespaceEntry; 1] = [NamespaceEntry { dev: 3, inode: 4 }];
@@ -725,21 +725,21 @@ fn namespaces_of_a_task(rt: HostRuntime) {
         "([NamespaceEntry { dev: 3, inode: 4 }]) } \
             ([Some(NamespaceEntry { dev: 3, inode: 4 }), None, None], [None, None, None])"
     );
-    let lent = spaces(CowSlice::Borrowed(&NETWORK));
-    check_told(&rt, told_with_clone(rt.alloc(), Ok(lent)), want);
+    let borrowed = spaces(CowSlice::Borrowed(&NETWORK));
+    check_parsed_text(&rt, text_with_clone(rt.alloc(), Ok(borrowed)), want);
     let want = clones!("Owned":
         "Namespaces { pid: 1, tid: 2, namespaces: ",
         "([NamespaceEntry { dev: 3, inode: 4 }]) } \
             ([Some(NamespaceEntry { dev: 3, inode: 4 }), None, None], [None, None, None])"
     );
     let owned = owned_spaces(rt.alloc());
-    check_told(&rt, told_with_clone(rt.alloc(), owned), want);
+    check_parsed_text(&rt, text_with_clone(rt.alloc(), owned), want);
     let want = clones!("Borrowed":
         "Namespaces { pid: 1, tid: 2, namespaces: ",
         "([NamespaceEntry { dev: 3, inode: 4 }, NamespaceEntry { dev: 5, inode: 6 }]) } \
             ([Some(NamespaceEntry { dev: 3, inode: 4 }), Some(NamespaceEntry { dev: 5, \
             inode: 6 }), None], [None, None, None])"
     );
-    let lent = spaces(CowSlice::Borrowed(&NETWORK_AND_NAME));
-    check_told(&rt, told_with_clone(rt.alloc(), Ok(lent)), want);
+    let borrowed = spaces(CowSlice::Borrowed(&NETWORK_AND_NAME));
+    check_parsed_text(&rt, text_with_clone(rt.alloc(), Ok(borrowed)), want);
 }

@@ -1,8 +1,8 @@
 //! The bytes of one frame, and the buffers that they are cut from.
 
-use crate::asked::kind_of;
+use crate::cases::kind_of;
 use crate::check;
-use crate::checks::check_told;
+use crate::checks::check_parsed_text;
 use perf_event_data::PieceBuf;
 use perf_event_data::parse::{ParseBuf, ParseBufCursor, ParseResult};
 use std::alloc::Global;
@@ -12,50 +12,50 @@ use std::test::Fail;
 const BYTES: &[u8] = b"abcde";
 
 // Writes the bytes that a buffer shows, how long they live, and how many it reports.
-fn tell_shown<'p, B: ParseBuf<'p>>(text: &mut String, buf: &mut B) -> ParseResult<()> {
+fn write_chunk<'p, B: ParseBuf<'p>>(text: &mut String, buf: &mut B) -> ParseResult<()> {
     let left = buf.remaining_hint();
     Ok(write!(text, "{:?} {left:?}; ", buf.chunk()?)?)
 }
 
 // Advances by two bytes, if as many are shown.
 fn skip_two<'p, B: ParseBuf<'p>>(buf: &mut B) -> ParseResult<()> {
-    let shown = buf.chunk()?.as_bytes().len();
-    if shown >= 2 {
+    let count = buf.chunk()?.as_bytes().len();
+    if count >= 2 {
         buf.advance(2);
     }
     Ok(())
 }
 
 // Writes what a buffer shows, and what it shows two bytes later.
-fn tell_both<'p, B: ParseBuf<'p>>(text: &mut String, buf: &mut B) -> ParseResult<()> {
-    tell_shown(text, buf)?;
+fn write_both<'p, B: ParseBuf<'p>>(text: &mut String, buf: &mut B) -> ParseResult<()> {
+    write_chunk(text, buf)?;
     skip_two(buf)?;
-    tell_shown(text, buf)
+    write_chunk(text, buf)
 }
 
 // Writes how many bytes a buffer reports, which it shows first, why there is no cursor over three
 // of them, whether it shows any after that, and what a cursor over none gives.
-fn tell_after<'p, B: ParseBuf<'p>>(
+fn write_after<'p, B: ParseBuf<'p>>(
     text: &mut String,
     alloc: Global,
     buf: &mut B,
 ) -> ParseResult<()> {
     let left = buf.remaining_hint();
     write!(text, "{left:?} {:?} ", buf.chunk()?.as_bytes().first())?;
-    let refused = kind_of(ParseBufCursor::new(alloc, buf, 3));
+    let kind = kind_of(ParseBufCursor::new(alloc, buf, 3));
     let shows = buf.chunk().is_ok();
     let empty = ParseBufCursor::new(alloc, buf, 0)?;
-    Ok(write!(text, "{refused:?} {shows} {:?}", empty.as_slice())?)
+    Ok(write!(text, "{kind:?} {shows} {:?}", empty.as_slice())?)
 }
 
 // What a cursor over the first three bytes of a buffer gives and shows, and what the buffer does
 // after it.
-fn tell<'p, B: ParseBuf<'p> + Drop>(alloc: Global, buf: B) -> ParseResult<String> {
+fn text_of_cursor<'p, B: ParseBuf<'p> + Drop>(alloc: Global, buf: B) -> ParseResult<String> {
     let (mut buf, mut text) = (buf, String::new(alloc));
     let mut cursor = ParseBufCursor::new(alloc, &mut buf, 3)?;
     write!(text, "{:?}: ", cursor.as_slice())?;
-    tell_both(&mut text, &mut cursor)?;
-    tell_after(&mut text, alloc, &mut buf)?;
+    write_both(&mut text, &mut cursor)?;
+    write_after(&mut text, alloc, &mut buf)?;
     Ok(text)
 }
 
@@ -70,7 +70,7 @@ const OF_A_READER: &str = "None: Temporary([97, 98, 99]) Some(3); Temporary([99]
 
 #[test]
 fn a_cursor_over_a_slice_lends_it(rt: HostRuntime) -> Result<(), Fail> {
-    check_told(&rt, tell(rt.alloc(), BYTES), LENT);
+    check_parsed_text(&rt, text_of_cursor(rt.alloc(), BYTES), LENT);
     let mut bytes = BYTES;
     ParseBufCursor::new(rt.alloc(), &mut bytes, 3)?;
     check!(rt; bytes, b"de".as_slice());
@@ -80,11 +80,15 @@ fn a_cursor_over_a_slice_lends_it(rt: HostRuntime) -> Result<(), Fail> {
 #[test]
 fn a_cursor_over_bytes_that_do_not_last_keeps_its_own(rt: HostRuntime) -> Result<(), Fail> {
     for n in [1, 3, 64] {
-        check_told(&rt, tell(rt.alloc(), PieceBuf::new(BYTES, n, false)), OWN);
+        check_parsed_text(
+            &rt,
+            text_of_cursor(rt.alloc(), PieceBuf::new(BYTES, n, false)),
+            OWN,
+        );
     }
     for n in [1, 7, 8192] {
         let reader = BufReader::with_capacity(rt.alloc(), n, BYTES)?;
-        check_told(&rt, tell(rt.alloc(), reader), OF_A_READER);
+        check_parsed_text(&rt, text_of_cursor(rt.alloc(), reader), OF_A_READER);
     }
     Ok(())
 }
@@ -92,40 +96,44 @@ fn a_cursor_over_bytes_that_do_not_last_keeps_its_own(rt: HostRuntime) -> Result
 #[test]
 fn a_cursor_lends_what_one_lasting_piece_has(rt: HostRuntime) {
     for (n, want) in [(1, OWN), (3, LENT), (64, LENT)] {
-        check_told(&rt, tell(rt.alloc(), PieceBuf::new(BYTES, n, true)), want);
+        check_parsed_text(
+            &rt,
+            text_of_cursor(rt.alloc(), PieceBuf::new(BYTES, n, true)),
+            want,
+        );
     }
 }
 
 // What a buffer shows, twice, and two bytes later.
-fn told_alone<'p, B: ParseBuf<'p> + Drop>(alloc: Global, buf: B) -> ParseResult<String> {
+fn text_alone<'p, B: ParseBuf<'p> + Drop>(alloc: Global, buf: B) -> ParseResult<String> {
     let (mut buf, mut text) = (buf, String::new(alloc));
-    tell_shown(&mut text, &mut buf)?;
-    tell_both(&mut text, &mut buf)?;
+    write_chunk(&mut text, &mut buf)?;
+    write_both(&mut text, &mut buf)?;
     Ok(text)
 }
 
 #[test]
-fn buffers_say_what_they_have(rt: HostRuntime) -> Result<(), Fail> {
+fn buffers_report_what_they_have(rt: HostRuntime) -> Result<(), Fail> {
     let want =
         "External([97, 98, 99, 100, 101]) Some(5); External([97, 98, 99, 100, 101]) Some(5); \
         External([99, 100, 101]) Some(3); ";
-    check_told(&rt, told_alone(rt.alloc(), BYTES), want);
+    check_parsed_text(&rt, text_alone(rt.alloc(), BYTES), want);
     let want = "Temporary([97, 98, 99, 100, 101]) None; Temporary([97, 98, 99, 100, 101]) None; \
         Temporary([99, 100, 101]) None; ";
     let reader = BufReader::with_capacity(rt.alloc(), 7, BYTES)?;
-    check_told(&rt, told_alone(rt.alloc(), reader), want);
+    check_parsed_text(&rt, text_alone(rt.alloc(), reader), want);
     let want = "External([97, 98, 99]) Some(5); External([97, 98, 99]) Some(5); \
         External([99, 100, 101]) Some(3); ";
-    check_told(
+    check_parsed_text(
         &rt,
-        told_alone(rt.alloc(), PieceBuf::new(BYTES, 3, true)),
+        text_alone(rt.alloc(), PieceBuf::new(BYTES, 3, true)),
         want,
     );
     let want = "Temporary([97, 98]) Some(5); Temporary([97, 98]) Some(5); \
         Temporary([99, 100]) Some(3); ";
-    check_told(
+    check_parsed_text(
         &rt,
-        told_alone(rt.alloc(), PieceBuf::new(BYTES, 2, false)),
+        text_alone(rt.alloc(), PieceBuf::new(BYTES, 2, false)),
         want,
     );
     Ok(())

@@ -26,7 +26,7 @@ pub fn text_of_error(alloc: Global, error: &ParseError) -> Result<String, AllocE
     Ok(text)
 }
 
-fn check_told(rt: &(impl AllocGlobal + Abort), error: ParseError, want: &str) {
+fn check_parsed_text(rt: &(impl AllocGlobal + Abort), error: ParseError, want: &str) {
     check_text(rt, text_of_error(rt.alloc(), &error), want);
 }
 
@@ -60,26 +60,26 @@ const KINDS: [(ErrorKind, &str); 6] = [
 #[test]
 fn an_error_is_written_with_its_message(rt: HostRuntime) {
     for (kind, want) in KINDS {
-        check_told(&rt, ParseError::custom(kind, "why"), want);
+        check_parsed_text(&rt, ParseError::custom(kind, "why"), want);
     }
 }
 
 #[test]
 fn an_error_is_written_with_its_cause(rt: HostRuntime) {
     let want = "External, None, no disk, user-provided error: no disk";
-    check_told(&rt, ParseError::new(anyhow!("no disk")), want);
-    check_told(&rt, ParseError::from(anyhow!("no disk")), want);
+    check_parsed_text(&rt, ParseError::new(anyhow!("no disk")), want);
+    check_parsed_text(&rt, ParseError::from(anyhow!("no disk")), want);
 }
 
 #[test]
-fn refused_memory_and_an_early_end_say_no_more(rt: HostRuntime) {
+fn out_of_memory_and_an_early_end_have_no_more_text(rt: HostRuntime) {
     let eof = "Eof, None, no cause, unexpected EOF during parsing";
-    check_told(&rt, ParseError::eof(), eof);
+    check_parsed_text(&rt, ParseError::eof(), eof);
     let want = "OutOfMemory, None, no cause, out of memory";
     let failed = AllocFailed { value: 1u8 };
-    check_told(&rt, ParseError::out_of_memory(), want);
-    check_told(&rt, AllocError.into(), want);
-    check_told(&rt, failed.into(), want);
+    check_parsed_text(&rt, ParseError::out_of_memory(), want);
+    check_parsed_text(&rt, AllocError.into(), want);
+    check_parsed_text(&rt, failed.into(), want);
 }
 
 const EXTERNAL: &str = "External, None, no cause, user-provided error";
@@ -97,27 +97,31 @@ const INPUT_ERRORS: [(io::ErrorKind, &str); 4] = [
 #[test]
 fn an_input_error_is_an_early_end_or_external(rt: HostRuntime) {
     for (kind, want) in INPUT_ERRORS {
-        check_told(&rt, io::Error::from(kind).into(), want);
+        check_parsed_text(&rt, io::Error::from(kind).into(), want);
     }
 }
 
-fn tell_list(text: &mut String, list: CowSlice<'_, u16>) -> Result<(), AllocError> {
+fn write_list(text: &mut String, list: CowSlice<'_, u16>) -> Result<(), AllocError> {
     write!(text, "{:?}", list.as_slice())?;
     write!(text, " {} {}; ", list.len(), list.is_empty())
 }
 
-fn told_lists(alloc: Global, items: &[u16]) -> Result<String, AllocError> {
+fn text_of_lists(alloc: Global, items: &[u16]) -> Result<String, AllocError> {
     let mut text = String::new(alloc);
-    tell_list(&mut text, CowSlice::Borrowed(items))?;
-    tell_list(&mut text, CowSlice::Owned(items.to_vec(alloc)?))?;
+    write_list(&mut text, CowSlice::Borrowed(items))?;
+    write_list(&mut text, CowSlice::Owned(items.to_vec(alloc)?))?;
     Ok(text)
 }
 
 #[test]
 fn a_list_reads_alike_borrowed_and_owned(rt: HostRuntime) {
     let want = "[7, 8, 9] 3 false; [7, 8, 9] 3 false; ";
-    check_text(&rt, told_lists(rt.alloc(), &[7, 8, 9]), want);
-    check_text(&rt, told_lists(rt.alloc(), &[]), "[] 0 true; [] 0 true; ");
+    check_text(&rt, text_of_lists(rt.alloc(), &[7, 8, 9]), want);
+    check_text(
+        &rt,
+        text_of_lists(rt.alloc(), &[]),
+        "[] 0 true; [] 0 true; ",
+    );
 }
 
 // A reader that fails.
@@ -136,8 +140,8 @@ fn a_fault_keeps_its_cause(rt: HostRuntime) -> Result<(), Fail> {
     let mut parser = Parser::new(rt.alloc(), reader, ParseConfig::<Little>::default());
     match next_record(&mut parser) {
         Err(error) => {
-            let kept = (error.kind(), error.cause().is_some());
-            check!(rt; kept, (ErrorKind::External, true));
+            let found = (error.kind(), error.cause().is_some());
+            check!(rt; found, (ErrorKind::External, true));
         }
         Ok(_) => panic!(rt; "a record of a reader that fails"),
     }

@@ -5,7 +5,7 @@ ghost use Rattle.std.specs.Int.{w16, w32, w64, from_le_bytes};
 
 use crate::checks::check_same;
 use crate::runs::{
-    FIVE_LOST, PLAIN_64, PLAIN_72, PLAIN_100, REFUSED, REFUSED_TEXT, TEXT, TWO, Told, check_run,
+    FIVE_LOST, PLAIN_64, PLAIN_72, PLAIN_100, REFUSED, REFUSED_TEXT, RunCase, TEXT, TWO, check_run,
     join,
 };
 use perf_event_data::endian::{Endian, Little};
@@ -51,14 +51,14 @@ fn check_reads(
     text: &str,
     outcome: Outcome,
 ) {
-    let told = Told {
+    let actual = RunCase {
         limit: 10,
         with_attr,
         text,
         outcome,
     };
     for most in [1, 7, 8192] {
-        check_run(rt, Failing { bytes, most, fault }, Little, told);
+        check_run(rt, Failing { bytes, most, fault }, Little, actual);
     }
 }
 
@@ -156,7 +156,7 @@ struct Limits {
 
 #[derive(Drop)]
 struct Limited {
-    kept: Vec<u8>,
+    output: Vec<u8>,
     limits: Limits,
 }
 
@@ -174,7 +174,7 @@ impl Write for Limited {
         }
         let taken = buf.len().min(self.limits.most).min(self.limits.room);
         self.limits.room -= taken;
-        self.kept.extend_from_slice(&buf[..taken])?;
+        self.output.extend_from_slice(&buf[..taken])?;
         Ok(taken)
     }
 
@@ -192,34 +192,34 @@ fn check_writer(
     rt: &(impl AllocGlobal + Abort),
     limits: Limits,
     input: &[u8],
-    kept: &[u8],
+    output: &[u8],
     outcome: Outcome,
 ) {
     let mut writer = Limited {
-        kept: Vec::new(rt.alloc()),
+        output: Vec::new(rt.alloc()),
         limits,
     };
-    let ended = run(rt.alloc(), input, &mut writer, Little, 10, false, 8192);
-    let told = (writer.kept.as_slice(), ended);
-    check_same(rt, "what is kept", told, (kept, outcome));
+    let end = run(rt.alloc(), input, &mut writer, Little, 10, false, 8192);
+    let actual = (writer.output.as_slice(), end);
+    check_same(rt, "what is kept", actual, (output, outcome));
 }
 
 // Asserts what a writer has kept of a text that it could not take as a whole.
-fn check_part(rt: &(impl AllocGlobal + Abort), limits: Limits, text: &[u8], kept: &[u8]) {
+fn check_part(rt: &(impl AllocGlobal + Abort), limits: Limits, text: &[u8], output: &[u8]) {
     let mut writer = Limited {
-        kept: Vec::new(rt.alloc()),
+        output: Vec::new(rt.alloc()),
         limits,
     };
     let is_whole = write_whole(&mut writer, text);
-    let told = (writer.kept.as_slice(), is_whole);
-    check_same(rt, "what is kept", told, (kept, false));
+    let actual = (writer.output.as_slice(), is_whole);
+    check_same(rt, "what is kept", actual, (output, false));
 }
 
 #[test]
 fn nothing_is_written_after_a_failure(rt: HostRuntime) {
     let text = REFUSED_TEXT.as_bytes();
     for room in 0..text.len() {
-        let kept = &text[..room.min(text.len())];
+        let output = &text[..room.min(text.len())];
         for most in [1, 4, 8192] {
             for fails in [true, false] {
                 let limits = Limits {
@@ -228,8 +228,8 @@ fn nothing_is_written_after_a_failure(rt: HostRuntime) {
                     fails,
                     lasts: false,
                 };
-                check_writer(&rt, limits, &REFUSED, kept, Outcome::Stopped);
-                check_part(&rt, limits, text, kept);
+                check_writer(&rt, limits, &REFUSED, output, Outcome::Stopped);
+                check_part(&rt, limits, text, output);
             }
         }
     }
@@ -258,7 +258,7 @@ const ROOMS: [(usize, &[u8]); 3] = [
 
 #[test]
 fn a_writer_that_fails_stops_the_run(rt: HostRuntime) {
-    for (room, kept) in ROOMS {
+    for (room, output) in ROOMS {
         for fails in [false, true] {
             let limits = Limits {
                 most: 4,
@@ -266,7 +266,7 @@ fn a_writer_that_fails_stops_the_run(rt: HostRuntime) {
                 fails,
                 lasts: true,
             };
-            check_writer(&rt, limits, &FIVE_LOST, kept, Outcome::Stopped);
+            check_writer(&rt, limits, &FIVE_LOST, output, Outcome::Stopped);
         }
     }
 }
@@ -335,8 +335,8 @@ fn check_order_of_calls(
     let reader = LoggedReader { reader, log: &log };
     let mut writer = LoggedWriter { log: &log };
     let _ = run(rt.alloc(), reader, &mut writer, Little, limit, false, piece);
-    let told = (log.reads.get(), log.before.get());
-    check_same(rt, "how many reads", told, (reads, Some(reads)));
+    let actual = (log.reads.get(), log.before.get());
+    check_same(rt, "how many reads", actual, (reads, Some(reads)));
 }
 
 // A limit, the length of pieces, and the number of reads: the read after the last byte gives the
@@ -408,13 +408,13 @@ fn a_refused_order_ends_the_text_for_want_of_memory(rt: HostRuntime) -> Result<(
             Outcome::BadAttr,
         ),
     ] {
-        let told = Told {
+        let actual = RunCase {
             limit,
             with_attr: true,
             text,
             outcome,
         };
-        check_run(&rt, bytes, Single, told);
+        check_run(&rt, bytes, Single, actual);
     }
     Ok(())
 }
@@ -422,12 +422,12 @@ fn a_refused_order_ends_the_text_for_want_of_memory(rt: HostRuntime) -> Result<(
 #[test]
 fn a_run_without_an_attribute_lends_its_order(rt: HostRuntime) {
     for (bytes, text, outcome) in ENDING {
-        let told = Told {
+        let actual = RunCase {
             limit: 10,
             with_attr: false,
             text,
             outcome,
         };
-        check_run(&rt, bytes, Single, told);
+        check_run(&rt, bytes, Single, actual);
     }
 }

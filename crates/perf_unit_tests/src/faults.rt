@@ -2,7 +2,7 @@
 
 ghost use Rattle.std.specs.Prelude.{◌≡◌, true, false, None, Some, take, nat_lt};
 
-use crate::asked::kind_of;
+use crate::cases::kind_of;
 use crate::checks::check_same;
 use anyhow::anyhow;
 use perf_event_data::endian::Little;
@@ -10,7 +10,7 @@ use perf_event_data::parse::{
     ErrorKind, ParseBuf, ParseBufChunk, ParseConfig, ParseError, ParseResult, Parser,
 };
 use perf_event_data::{RunEnd, read_records};
-use perf_test_helpers::runs::tell;
+use perf_test_helpers::runs::text_of_runs;
 use std::io;
 use std::io::{BufReader, Read};
 use std::process::Abort;
@@ -87,7 +87,7 @@ fn check_reader(
                 once,
             };
             let reader = BufReader::with_capacity(rt.alloc(), capacity, reader)?;
-            let text = tell(rt.alloc(), reader, Little, limits)?;
+            let text = text_of_runs(rt.alloc(), reader, Little, limits)?;
             check_same(rt, "the runs", text.as_str(), want);
         }
     }
@@ -194,7 +194,7 @@ fn check_counted(
         to_come,
         faults,
     };
-    let text = tell(rt.alloc(), buf, Little, limits)?;
+    let text = text_of_runs(rt.alloc(), buf, Little, limits)?;
     check_same(rt, "the runs", text.as_str(), want);
     Ok(())
 }
@@ -234,7 +234,7 @@ fn a_fault_is_no_end_of_the_rest(rt: HostRuntime) {
             faults: 0,
         };
         let mut parser = Parser::new(rt.alloc(), buf, ParseConfig::<Little>::default());
-        let refused = kind_of(parser.parse_rest());
-        check_same(&rt, "the rest", refused, Some(ErrorKind::External));
+        let kind = kind_of(parser.parse_rest());
+        check_same(&rt, "the rest", kind, Some(ErrorKind::External));
     }
 }

@@ -7,7 +7,7 @@ use perf_event_data::parse::{ErrorKind, ParseConfig, ParseResult};
 use perf_event_data::sys::perf_event_attr;
 use perf_event_data::{BadFrame, Frame, frames};
 use perf_test_helpers::everywhere::OTHERS;
-use perf_test_helpers::runs::tell_differences;
+use perf_test_helpers::runs::differences;
 use perf_test_helpers::sample_bytes::{Part, put_parts};
 use std::alloc::{AllocError, Global};
 use std::process::Abort;
@@ -152,8 +152,8 @@ impl Stream {
             self.change_byte();
         }
         let cut = self.random.below(60).saturating_sub(30);
-        let kept = self.bytes.len().saturating_sub(usize::from(cut));
-        self.bytes.truncate(kept);
+        let len = self.bytes.len().saturating_sub(usize::from(cut));
+        self.bytes.truncate(len);
         Ok(())
     }
 
@@ -207,7 +207,7 @@ impl Stream {
 // How many frames are read, of each type and finally of the types from 22 on, how many are refused
 // or have a size below 8, and how many streams end inside a frame or a header.
 #[derive(Drop)]
-struct Seen {
+struct Coverage {
     read: [u32; 23],
     refused: u32,
     small: u32,
@@ -215,9 +215,9 @@ struct Seen {
     cut: u32,
 }
 
-impl Seen {
-    fn new() -> Seen {
-        Seen {
+impl Coverage {
+    fn new() -> Coverage {
+        Coverage {
             read: [0; 23],
             refused: 0,
             small: 0,
@@ -281,7 +281,7 @@ fn check_stream(
 ) -> Result<(), AllocError> {
     let other = OTHERS[usize::from(stream.random.short()) % 11];
     let (alloc, bytes) = (rt.alloc(), stream.bytes.as_slice());
-    let differences = tell_differences(alloc, bytes, stream.order, &stream.attr, other)?;
+    let differences = differences(alloc, bytes, stream.order, &stream.attr, other)?;
     assert_eq!(rt; differences.as_str(), "", "of the seed {seed}");
     Ok(())
 }
@@ -293,35 +293,35 @@ fn check_streams(
     order: Dynamic,
     flags: u64,
 ) -> Result<(), AllocError> {
-    let mut seen = Seen::new();
+    let mut coverage = Coverage::new();
     for index in 0..STREAMS {
         let seed = first.wrapping_add(index);
         let mut stream = Stream::new(rt.alloc(), seed, order, flags)?;
         check_stream(rt, seed, &mut stream)?;
-        seen.add(rt.alloc(), &stream);
+        coverage.add(rt.alloc(), &stream);
     }
-    seen.check(rt);
+    coverage.check(rt);
     Ok(())
 }
 
 #[test]
-fn little_streams_say_what_their_lists_say(rt: HostRuntime) -> Result<(), AllocError> {
+fn little_streams_give_what_their_lists_give(rt: HostRuntime) -> Result<(), AllocError> {
     check_streams(&rt, 0, Dynamic::Little, 0)
 }
 
 #[test]
-fn big_streams_say_what_their_lists_say(rt: HostRuntime) -> Result<(), AllocError> {
+fn big_streams_give_what_their_lists_give(rt: HostRuntime) -> Result<(), AllocError> {
     check_streams(&rt, 10_000, Dynamic::Big, 0)
 }
 
 #[test]
-fn little_streams_with_sample_ids_say_what_their_lists_say(
+fn little_streams_with_sample_ids_give_what_their_lists_give(
     rt: HostRuntime,
 ) -> Result<(), AllocError> {
     check_streams(&rt, 20_000, Dynamic::Little, SAMPLE_ID_ALL)
 }
 
 #[test]
-fn big_streams_with_sample_ids_say_what_their_lists_say(rt: HostRuntime) -> Result<(), AllocError> {
+fn big_streams_with_sample_ids_give_what_their_lists_give(rt: HostRuntime) -> Result<(), AllocError> {
     check_streams(&rt, 30_000, Dynamic::Big, SAMPLE_ID_ALL)
 }

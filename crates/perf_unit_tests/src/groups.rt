@@ -1,6 +1,6 @@
 //! Reads of counters and groups of them.
 
-use crate::checks::{check_answers, check_debug, check_told};
+use crate::checks::{check_answers, check_debug, check_parsed_text};
 use bitflags::Flags;
 use perf_base::cow::CowSlice;
 use perf_base::error::ParseResult;
@@ -157,7 +157,7 @@ fn entries_from_both_ends(rt: HostRuntime) {
 
 // A copy of a group's entries while these advance: how many are left of both, and what the copy
 // returns from both ends.
-fn told_of_a_copy(alloc: Global, group: &ReadGroup<'_>) -> ParseResult<String> {
+fn text_of_copy(alloc: Global, group: &ReadGroup<'_>) -> ParseResult<String> {
     let mut entries = group.entries();
     let _ = entries.nth(1);
     let mut copy = entries.clone()?;
@@ -170,9 +170,9 @@ fn told_of_a_copy(alloc: Global, group: &ReadGroup<'_>) -> ParseResult<String> {
 
 #[test]
 fn a_copy_of_entries_goes_on_alone(rt: HostRuntime) {
-    check_told(
+    check_parsed_text(
         &rt,
-        told_of_a_copy(rt.alloc(), &five()),
+        text_of_copy(rt.alloc(), &five()),
         "(0, (3, Some(3))) [Some(GroupEntry { value: 4, id: None, lost: None }), \
             Some(GroupEntry { value: 3, id: None, lost: None }), None]",
     );
@@ -330,7 +330,7 @@ fn entry_of_another_group(rt: HostRuntime) {
 }
 
 // The error of a group that is no read of one counter.
-fn told_refusal(alloc: Global, group: ReadGroup<'_>) -> ParseResult<String> {
+fn text_of_refusal(alloc: Global, group: ReadGroup<'_>) -> ParseResult<String> {
     match ReadValue::try_from(group) {
         Ok(read) => Ok(format!(in alloc; "{read:?}")?),
         Err(error) => Ok(format!(in alloc; "{error}")?),
@@ -340,6 +340,6 @@ fn told_refusal(alloc: Global, group: ReadGroup<'_>) -> ParseResult<String> {
 #[test]
 fn groups_of_none_or_several_are_no_read(rt: HostRuntime) {
     let want = "can only convert groups with a single element to ReadValues";
-    check_told(&rt, told_refusal(rt.alloc(), of_none()), want);
-    check_told(&rt, told_refusal(rt.alloc(), with_ids()), want);
+    check_parsed_text(&rt, text_of_refusal(rt.alloc(), of_none()), want);
+    check_parsed_text(&rt, text_of_refusal(rt.alloc(), with_ids()), want);
 }

@@ -9,7 +9,7 @@ use perf_event_data::SampleFlags;
 use perf_event_data::endian::Little;
 use perf_event_data::parse::{ParseBuf, ParseBufChunk, ParseError, ParseResult};
 use perf_test_helpers::attributes::attribute;
-use perf_test_helpers::runs::tell_under;
+use perf_test_helpers::runs::text_of_runs_under;
 use std::alloc::{AllocError, Global};
 use std::cell::Cell;
 use std::process::Abort;
@@ -35,7 +35,7 @@ struct Hinting<'a, 'p> {
     borrowed: bool,
     rule: Rule,
     hint: Option<usize>,
-    asked: &'a Cell<usize>,
+    calls: &'a Cell<usize>,
 }
 
 impl<'a, 'p> Hinting<'a, 'p> {
@@ -44,7 +44,7 @@ impl<'a, 'p> Hinting<'a, 'p> {
         ahead: usize,
         borrowed: bool,
         rule: Rule,
-        asked: &'a Cell<usize>,
+        calls: &'a Cell<usize>,
     ) -> Self {
         let hint = match rule {
             Rule::Left | Rule::Unread => Some(bytes.len()),
@@ -57,7 +57,7 @@ impl<'a, 'p> Hinting<'a, 'p> {
             borrowed,
             rule,
             hint,
-            asked,
+            calls,
         }
     }
 
@@ -85,7 +85,7 @@ impl<'p> ParseBuf<'p> for Hinting<'_, 'p> {
     ghost hint = { λ s. s.hint };
 
     fn chunk(&mut self) -> ParseResult<ParseBufChunk<'_, 'p>> {
-        self.asked.set(self.asked.get().saturating_add(1));
+        self.calls.set(self.calls.get().saturating_add(1));
         if self.ready.is_empty() {
             self.read_ahead();
         }
@@ -158,9 +158,13 @@ const TYPES: [(u8, &str, &str); 3] = [
 fn check_rule(rt: &(impl AllocGlobal + Abort), bytes: &[u8], ahead: usize, rule: Rule, want: &str) {
     let attr = attribute(SampleFlags::IP.bits(), 0);
     for borrowed in [true, false] {
-        let asked = Cell::new(0);
-        let buf = Hinting::new(bytes, ahead, borrowed, rule, &asked);
-        check_text(rt, tell_under(rt.alloc(), buf, Little, &attr, &[1]), want);
+        let calls = Cell::new(0);
+        let buf = Hinting::new(bytes, ahead, borrowed, rule, &calls);
+        check_text(
+            rt,
+            text_of_runs_under(rt.alloc(), buf, Little, &attr, &[1]),
+            want,
+        );
     }
 }
 
@@ -230,16 +234,16 @@ fn calls_of_chunk(
     rule: Rule,
     last: &str,
 ) -> Result<(usize, bool), AllocError> {
-    let asked = Cell::new(0);
-    let buf = Hinting::new(bytes, 8192, borrowed, rule, &asked);
-    let text = tell_under(
+    let calls = Cell::new(0);
+    let buf = Hinting::new(bytes, 8192, borrowed, rule, &calls);
+    let text = text_of_runs_under(
         alloc,
         buf,
         Little,
         &attribute(SampleFlags::IP.bits(), 0),
         &[10],
     )?;
-    Ok((asked.get(), text.ends_with(last)))
+    Ok((calls.get(), text.ends_with(last)))
 }
 
 #[test]
@@ -251,11 +255,11 @@ fn a_frame_in_one_chunk_takes_two_calls(rt: HostRuntime) -> Result<(), Fail> {
         }
         for rule in [Rule::Left, Rule::Around(None, None)] {
             for borrowed in [true, false] {
-                let told = calls_of_chunk(rt.alloc(), &bytes, borrowed, rule, last)?;
+                let actual = calls_of_chunk(rt.alloc(), &bytes, borrowed, rule, last)?;
                 check_same(
                     &rt,
                     last,
-                    told,
+                    actual,
                     (5 * CHUNKS_OF_A_FRAME + CHUNKS_BESIDE, true),
                 );
             }

@@ -6,9 +6,9 @@
 #![tactic(auto)]
 
 #[cfg(test)]
-mod asked;
-#[cfg(test)]
 mod bodies;
+#[cfg(test)]
+mod cases;
 #[cfg(test)]
 mod causes;
 #[cfg(test)]
@@ -34,8 +34,6 @@ mod generated;
 #[cfg(test)]
 mod groups;
 #[cfg(test)]
-mod handed;
-#[cfg(test)]
 mod hints;
 #[cfg(test)]
 mod lines;
@@ -51,6 +49,8 @@ mod parser_calls;
 mod partial_visits;
 #[cfg(test)]
 mod printing;
+#[cfg(test)]
+mod reader_lengths;
 #[cfg(test)]
 mod reads;
 #[cfg(test)]

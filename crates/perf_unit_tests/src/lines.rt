@@ -33,7 +33,7 @@ const BUILD_ID: [u8; 20] = [
 ];
 
 #[test]
-fn build_id_stands_for_the_file(rt: HostRuntime) {
+fn build_id_identifies_the_file(rt: HostRuntime) {
     let detail = MmapDetail::BuildId {
         build_id: BUILD_ID,
         len: 3,

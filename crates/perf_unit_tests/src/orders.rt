@@ -3,7 +3,7 @@
 ghost use Rattle.std.specs.Prelude.{◌++◌, take, drop, true, false};
 ghost use Rattle.std.specs.Int.{w16, w32, w64, from_le_bytes};
 
-use crate::asked::{Asked, Case, check_cases, kind_of};
+use crate::cases::{Case, Request, check_cases, kind_of};
 use crate::checks::{check_answer, check_same};
 use perf_base::config::ParseConfig;
 use perf_base::endian::{Big, Dynamic, Endian, Little, Native};
@@ -11,7 +11,7 @@ use perf_base::error::{ErrorKind, ParseError, ParseResult};
 use perf_base::sys::perf_event_header;
 use perf_event_data::parse::{ParseBuf, Parser};
 use perf_test_helpers::orders::Counting;
-use perf_test_helpers::runs::tell;
+use perf_test_helpers::runs::text_of_runs;
 use std::alloc::Global;
 use std::cell::Cell;
 use std::process::Abort;
@@ -19,7 +19,7 @@ use std::test::Fail;
 
 /// What is asked for in a byte order of a user's own.
 #[derive(Copy, Clone)]
-pub enum Asking {
+pub enum OrderRequest {
     /// A run in eights.
     Eights,
     /// A run in words.
@@ -127,7 +127,7 @@ impl Endian for Single {
 }
 
 // The rest is a number.
-fn told_left<'p, B: ParseBuf<'p>, E: Endian>(
+fn text_of_left<'p, B: ParseBuf<'p>, E: Endian>(
     alloc: Global,
     parser: &mut Parser<B, E>,
 ) -> ParseResult<String> {
@@ -137,67 +137,71 @@ fn told_left<'p, B: ParseBuf<'p>, E: Endian>(
 }
 
 // Takes the frame, for whose body there is no parser, and reads the next one.
-fn told_refusals<'p, B: ParseBuf<'p>, E: Endian>(
+fn text_of_refusals<'p, B: ParseBuf<'p>, E: Endian>(
     alloc: Global,
     parser: &mut Parser<B, E>,
 ) -> ParseResult<String> {
     let first = kind_of(parser.parse_metadata());
     let header = parser.parse::<perf_event_header>()?;
     let second = kind_of(parser.parse_metadata_with_header(header));
-    let left = told_left(alloc, parser)?;
+    let left = text_of_left(alloc, parser)?;
     Ok(format!(in alloc; "{first:?} {header:?} {second:?} {left}")?)
 }
 
-fn told_refused_body<'p, B: ParseBuf<'p> + Drop>(alloc: Global, buf: B) -> ParseResult<String> {
+fn text_of_refused_body<'p, B: ParseBuf<'p> + Drop>(alloc: Global, buf: B) -> ParseResult<String> {
     let config = ParseConfig::<Little>::default().with_endian(Single);
-    told_refusals(alloc, &mut Parser::new(alloc, buf, config))
+    text_of_refusals(alloc, &mut Parser::new(alloc, buf, config))
 }
 
-fn told_count<'p, B: ParseBuf<'p> + Drop>(alloc: Global, buf: B, most: u64) -> ParseResult<String> {
+fn text_of_count<'p, B: ParseBuf<'p> + Drop>(
+    alloc: Global,
+    buf: B,
+    most: u64,
+) -> ParseResult<String> {
     let calls = Cell::new(0);
-    let text = tell(alloc, buf, Counting { calls: &calls }, &[1])?;
+    let text = text_of_runs(alloc, buf, Counting { calls: &calls }, &[1])?;
     let is_within = calls.get() >= 1 && calls.get() <= most;
     Ok(format!(in alloc; "{text}, {is_within}")?)
 }
 
 /// The results in a byte order of a user's own.
-pub fn told_by_order<'p, B: ParseBuf<'p> + Drop>(
+pub fn text_by_order<'p, B: ParseBuf<'p> + Drop>(
     alloc: Global,
     buf: B,
-    asking: Asking,
+    request: OrderRequest,
 ) -> ParseResult<String> {
-    match asking {
-        Asking::Eights => Ok(tell(alloc, buf, Eights, &[10])?),
-        Asking::Words => Ok(tell(alloc, buf, Words, &[10])?),
-        Asking::Single => Ok(tell(alloc, buf, Single, &[10, 10])?),
-        Asking::Body => told_refused_body(alloc, buf),
-        Asking::Count(most) => told_count(alloc, buf, most),
+    match request {
+        OrderRequest::Eights => Ok(text_of_runs(alloc, buf, Eights, &[10])?),
+        OrderRequest::Words => Ok(text_of_runs(alloc, buf, Words, &[10])?),
+        OrderRequest::Single => Ok(text_of_runs(alloc, buf, Single, &[10, 10])?),
+        OrderRequest::Body => text_of_refused_body(alloc, buf),
+        OrderRequest::Count(most) => text_of_count(alloc, buf, most),
     }
 }
 
 const CASES: [Case; 9] = [
     Case {
         name: "an order of eights has frames of eight bytes",
-        asked: Asked::InOrder(Asking::Eights),
+        request: Request::InOrder(OrderRequest::Eights),
         bytes: &[0; 16],
         want: "0 0 8 8 Unknown data= ty=0; 1 0 8 8 Unknown data= ty=0; done",
     },
     Case {
         name: "an order of words reads its own bytes",
-        asked: Asked::InOrder(Asking::Words),
+        request: Request::InOrder(OrderRequest::Words),
         bytes: b"\0\0\x0D\0\0\0\x10\0\0\0\0\0\0\0\x05\0",
         want: "0 13 0 16 LostSamples lost=5; done",
     },
     // A run lends its order to each frame's body.
     Case {
         name: "a run asks for no second order",
-        asked: Asked::InOrder(Asking::Single),
+        request: Request::InOrder(OrderRequest::Single),
         bytes: b"\x02\0\0\0\0\0\x07\0\x0D\0\0\0\0\0\x10\0\x05\0\0\0\0\0\0\0",
         want: "0 2 0 7 refused InvalidRecord; 1 13 0 16 LostSamples lost=5; done | done",
     },
     Case {
         name: "a refused duplicate refuses a parser of the body",
-        asked: Asked::InOrder(Asking::Body),
+        request: Request::InOrder(OrderRequest::Body),
         bytes: b"\x0D\0\0\0\0\0\x10\0\x05\0\0\0\0\0\0\0\
             \x0D\0\0\0\0\0\x10\0\x06\0\0\0\0\0\0\0\x07\0\0\0\0\0\0\0",
         want: "Some(OutOfMemory) perf_event_header { type_: 13, misc: 0, size: 16 } \
@@ -207,27 +211,27 @@ const CASES: [Case; 9] = [
     // of which the count itself is the first.
     Case {
         name: "a hostile count in 24 bytes",
-        asked: Asked::InOrder(Asking::Count(1)),
+        request: Request::InOrder(OrderRequest::Count(1)),
         bytes: b"\x10\0\0\0\0\0\x18\0\x01\0\0\0\x02\0\0\0\0\0\0\0\0\0\0\x80",
         want: "0 16 0 24 refused Eof; limit, true",
     },
     Case {
         name: "a hostile count in 32 bytes",
-        asked: Asked::InOrder(Asking::Count(2)),
+        request: Request::InOrder(OrderRequest::Count(2)),
         bytes: b"\x10\0\0\0\0\0\x20\0\x01\0\0\0\x02\0\0\0\0\0\0\0\0\0\0\x80\
             \x01\x01\x01\x01\x01\x01\x01\x01",
         want: "0 16 0 32 refused Eof; limit, true",
     },
     Case {
         name: "a hostile count in 40 bytes",
-        asked: Asked::InOrder(Asking::Count(3)),
+        request: Request::InOrder(OrderRequest::Count(3)),
         bytes: b"\x10\0\0\0\0\0\x28\0\x01\0\0\0\x02\0\0\0\0\0\0\0\0\0\0\x80\
             \x01\x01\x01\x01\x01\x01\x01\x01\x01\x01\x01\x01\x01\x01\x01\x01",
         want: "0 16 0 40 refused Eof; limit, true",
     },
     Case {
         name: "a hostile count in 47 bytes",
-        asked: Asked::InOrder(Asking::Count(3)),
+        request: Request::InOrder(OrderRequest::Count(3)),
         bytes: b"\x10\0\0\0\0\0\x2F\0\x01\0\0\0\x02\0\0\0\0\0\0\0\0\0\0\x80\
             \x01\x01\x01\x01\x01\x01\x01\x01\x01\x01\x01\x01\x01\x01\x01\x01\
             \x01\x01\x01\x01\x01\x01\x01",
@@ -235,7 +239,7 @@ const CASES: [Case; 9] = [
     },
     Case {
         name: "a hostile count in 48 bytes",
-        asked: Asked::InOrder(Asking::Count(4)),
+        request: Request::InOrder(OrderRequest::Count(4)),
         bytes: b"\x10\0\0\0\0\0\x30\0\x01\0\0\0\x02\0\0\0\0\0\0\0\0\0\0\x80\
             \x01\x01\x01\x01\x01\x01\x01\x01\x01\x01\x01\x01\x01\x01\x01\x01\
             \x01\x01\x01\x01\x01\x01\x01\x01",
@@ -251,17 +255,17 @@ fn orders_of_ones_own_are_asked(rt: HostRuntime) {
 #[test]
 fn a_refused_duplicate_refuses_the_configuration(rt: HostRuntime) {
     let config = ParseConfig::<Little>::default().with_endian(Single);
-    let refused = kind_of(config.duplicate());
+    let kind = kind_of(config.duplicate());
     check_same(
         &rt,
         "a second configuration",
-        refused,
+        kind,
         Some(ErrorKind::OutOfMemory),
     );
 }
 
 // What a byte order makes of the bytes 1 to 8.
-fn converted<E: Endian>(order: &E) -> (u16, u32, u64) {
+fn conversions_of<E: Endian>(order: &E) -> (u16, u32, u64) {
     (
         order.convert_u16([1, 2]),
         order.convert_u32([1, 2, 3, 4]),
@@ -275,13 +279,13 @@ const HIGHEST_FIRST: (u16, u32, u64) = (0x0102, 0x01020304, 0x0102030405060708);
 
 #[test]
 fn orders_convert_as_they_are_named(rt: HostRuntime) {
-    let told = [
-        converted(&Little),
-        converted(&Native),
-        converted(&Dynamic::Little),
-        converted(&Big),
-        converted(&Dynamic::Big),
-        converted(&Words),
+    let actual = [
+        conversions_of(&Little),
+        conversions_of(&Native),
+        conversions_of(&Dynamic::Little),
+        conversions_of(&Big),
+        conversions_of(&Dynamic::Big),
+        conversions_of(&Words),
     ];
     let want = [
         LOWEST_FIRST,
@@ -291,12 +295,12 @@ fn orders_convert_as_they_are_named(rt: HostRuntime) {
         HIGHEST_FIRST,
         (0x0201, 0x02010403, 0x0201040306050807),
     ];
-    check_same(&rt, "the orders", told, want);
+    check_same(&rt, "the orders", actual, want);
 }
 
 #[test]
 fn the_little_orders_are_native(rt: HostRuntime) {
-    let told = [
+    let actual = [
         Native.is_native(),
         Little.is_native(),
         Dynamic::Little.is_native(),
@@ -307,7 +311,7 @@ fn the_little_orders_are_native(rt: HostRuntime) {
         Single.is_native(),
     ];
     let want = [true, true, true, false, false, false, false, false];
-    check_same(&rt, "which are native", told, want);
+    check_same(&rt, "which are native", actual, want);
 }
 
 #[test]
@@ -320,7 +324,7 @@ fn a_configuration_keeps_its_order(rt: HostRuntime) -> Result<(), Fail> {
 }
 
 // The byte order of a parser, that of its configuration, and the next header.
-fn told_parser<'p, B: ParseBuf<'p>>(
+fn text_of_parser<'p, B: ParseBuf<'p>>(
     alloc: Global,
     parser: &mut Parser<B, Dynamic>,
 ) -> ParseResult<String> {
@@ -333,7 +337,7 @@ fn told_parser<'p, B: ParseBuf<'p>>(
 fn a_parser_keeps_the_order_of_its_configuration(rt: HostRuntime) {
     let config = ParseConfig::<Native>::default().with_endian(Dynamic::Big);
     let bytes: &[u8] = b"\0\0\0\x0D\0\x01\0\x10";
-    let told = told_parser(rt.alloc(), &mut Parser::new(rt.alloc(), bytes, config));
+    let actual = text_of_parser(rt.alloc(), &mut Parser::new(rt.alloc(), bytes, config));
     let want = "[Big, Big] perf_event_header { type_: 13, misc: 1, size: 16 }";
-    check_answer(&rt, "the parser", told, want);
+    check_answer(&rt, "the parser", actual, want);
 }

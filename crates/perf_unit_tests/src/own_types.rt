@@ -2,8 +2,8 @@
 
 ghost use Rattle.std.specs.Prelude.{◌≡◌, ◌+◌, None, ⊤};
 
-use crate::asked::{Asked, Case, check_cases, kind_of};
 use crate::bodies::Body;
+use crate::cases::{Case, Request, check_cases, kind_of};
 use perf_event_data::CowSlice;
 use perf_event_data::endian::Endian;
 use perf_event_data::parse::{
@@ -28,7 +28,7 @@ struct Task {
 
 // Its cost is two reads, whatever its bytes are.
 impl Layout for Task {
-    ghost parses = { λ old seen new. ⊤ };
+    ghost parses = { λ old outcome new. ⊤ };
 
     ghost counts = { λ old e new. e ≡ None → new.reads ≡ old.reads + 2 };
 }
@@ -52,7 +52,7 @@ struct OwnSample {
 
 // Nothing is specified.
 impl Layout for OwnSample {
-    ghost parses = { λ old seen new. ⊤ };
+    ghost parses = { λ old outcome new. ⊤ };
 
     ghost counts = { λ old e new. ⊤ };
 }
@@ -85,7 +85,7 @@ fn own_sample<'p, E: Endian>(
     }
 }
 
-fn tell_fields(text: &mut String, sample: &OwnSample) -> Result<(), AllocError> {
+fn write_fields(text: &mut String, sample: &OwnSample) -> Result<(), AllocError> {
     let (pid, tid) = (sample.task.pid, sample.task.tid);
     let numbers = sample.list.numbers.as_slice();
     let (ip, cgroup) = (sample.ip, sample.cgroup);
@@ -93,13 +93,13 @@ fn tell_fields(text: &mut String, sample: &OwnSample) -> Result<(), AllocError> 
 }
 
 /// Writes a body that is parsed as a sample, and its rest.
-pub fn tell_sample<'p, E: Endian>(
+pub fn write_sample<'p, E: Endian>(
     text: &mut String,
     inner: &mut Parser<ParseBufCursor<'p>, E>,
     by_closure: bool,
 ) -> ParseResult<()> {
     let sample = own_sample(inner, by_closure)?;
-    tell_fields(text, &sample)?;
+    write_fields(text, &sample)?;
     let rest = inner.parse_rest()?;
     Ok(write!(text, " {:?}", rest.as_slice())?)
 }
@@ -112,7 +112,7 @@ struct OwnList {
 
 // It counts reads as the types of this library do.
 impl Layout for OwnList {
-    ghost parses = { λ old seen new. ⊤ };
+    ghost parses = { λ old outcome new. ⊤ };
 }
 
 impl<'p, B: ParseBuf<'p>> Parse<'p, B> for OwnList {
@@ -131,7 +131,7 @@ struct OwnSlice<'a> {
 }
 
 impl Layout for OwnSlice<'_> {
-    ghost parses = { λ old seen new. ⊤ };
+    ghost parses = { λ old outcome new. ⊤ };
 }
 
 impl<'p, B: ParseBuf<'p>> Parse<'p, B> for OwnSlice<'p> {
@@ -143,14 +143,14 @@ impl<'p, B: ParseBuf<'p>> Parse<'p, B> for OwnSlice<'p> {
     }
 }
 
-fn told_lists<'p, B: ParseBuf<'p>, E: Endian>(
+fn text_of_lists<'p, B: ParseBuf<'p>, E: Endian>(
     alloc: Global,
     parser: &mut Parser<B, E>,
 ) -> ParseResult<String> {
     let OwnList { numbers } = parser.parse()?;
     let slice = parser.parse::<OwnSlice>()?.numbers;
-    let refused = kind_of(parser.parse::<OwnList>());
-    Ok(format!(in alloc; "{numbers:?} {slice:?} {refused:?}")?)
+    let kind = kind_of(parser.parse::<OwnList>());
+    Ok(format!(in alloc; "{numbers:?} {slice:?} {kind:?}")?)
 }
 
 // It refuses odd numbers.
@@ -158,7 +158,7 @@ fn told_lists<'p, B: ParseBuf<'p>, E: Endian>(
 struct Even(u8);
 
 impl Layout for Even {
-    ghost parses = { λ old seen new. ⊤ };
+    ghost parses = { λ old outcome new. ⊤ };
 
     ghost counts = { λ old e new. ⊤ };
 }
@@ -174,7 +174,7 @@ impl<'p, B: ParseBuf<'p>> Parse<'p, B> for Even {
     }
 }
 
-fn told_evens<'p, B: ParseBuf<'p>, E: Endian>(
+fn text_of_evens<'p, B: ParseBuf<'p>, E: Endian>(
     alloc: Global,
     parser: &mut Parser<B, E>,
 ) -> ParseResult<String> {
@@ -186,14 +186,14 @@ fn told_evens<'p, B: ParseBuf<'p>, E: Endian>(
 }
 
 /// The results of a parser for types of a user's own.
-pub fn told_own<'p, B: ParseBuf<'p>, E: Endian>(
+pub fn text_of_own<'p, B: ParseBuf<'p>, E: Endian>(
     alloc: Global,
     parser: &mut Parser<B, E>,
     own: Own,
 ) -> ParseResult<String> {
     match own {
-        Own::Lists => told_lists(alloc, parser),
-        Own::Evens => told_evens(alloc, parser),
+        Own::Lists => text_of_lists(alloc, parser),
+        Own::Evens => text_of_evens(alloc, parser),
     }
 }
 
@@ -209,20 +209,20 @@ const SAMPLE_TEXT: &str = "9 0 (None, None, None) (None, None, None): \
 const CASES: [Case; 4] = [
     Case {
         name: "a type of one's own is parsed out of a frame",
-        asked: Asked::Body(Body::Sample),
+        request: Request::Body(Body::Sample),
         bytes: SAMPLE,
         want: SAMPLE_TEXT,
     },
     Case {
         name: "a closure parses it too",
-        asked: Asked::Body(Body::SampleByClosure),
+        request: Request::Body(Body::SampleByClosure),
         bytes: SAMPLE,
         want: SAMPLE_TEXT,
     },
     // After the lists comes one that claims more numbers than there are.
     Case {
         name: "a list of one's own counts as all that is parsed",
-        asked: Asked::Own(Own::Lists),
+        request: Request::Own(Own::Lists),
         bytes: b"\x02\0\0\0\0\0\0\0\x07\0\0\0\0\0\0\0\x08\0\0\0\0\0\0\0\
             \x01\0\0\0\0\0\0\0\x09\0\0\0\0\0\0\0\
             \x02\0\0\0\0\0\0\0\x01\0\0\0\0\0\0\0",
@@ -230,7 +230,7 @@ const CASES: [Case; 4] = [
     },
     Case {
         name: "a type of one's own refuses by its own error",
-        asked: Asked::Own(Own::Evens),
+        request: Request::Own(Own::Evens),
         bytes: &[4, 5],
         want: "4 InvalidRecord Some(\"odd\")",
     },

@@ -11,7 +11,7 @@ use std::test::Fail;
 const BYTES: &[u8] = b"\x01\x02\x03\0\0";
 
 // Two bytes, and the rest without its zero bytes.
-fn told_bytes<'p, B: ParseBuf<'p> + Drop>(alloc: Global, buf: B) -> ParseResult<String> {
+fn text_of_bytes<'p, B: ParseBuf<'p> + Drop>(alloc: Global, buf: B) -> ParseResult<String> {
     let mut parser = Parser::new(alloc, buf, ParseConfig::<Little>::default());
     let mut text = String::new(alloc);
     write!(text, "{:?}", parser.parse_bytes(2)?)?;
@@ -21,11 +21,11 @@ fn told_bytes<'p, B: ParseBuf<'p> + Drop>(alloc: Global, buf: B) -> ParseResult<
 
 #[test]
 fn bytes_are_borrowed_over_a_slice_and_owned_over_a_reader(rt: HostRuntime) -> Result<(), Fail> {
-    let told = told_bytes(rt.alloc(), BYTES)?;
-    check_text(&rt, Ok(told), "Borrowed([1, 2]) Borrowed([3])");
+    let actual = text_of_bytes(rt.alloc(), BYTES)?;
+    check_text(&rt, Ok(actual), "Borrowed([1, 2]) Borrowed([3])");
     let reader = BufReader::with_capacity(rt.alloc(), 7, BYTES)?;
-    let told = told_bytes(rt.alloc(), reader)?;
-    check_text(&rt, Ok(told), "Owned([1, 2]) Owned([3])");
+    let actual = text_of_bytes(rt.alloc(), reader)?;
+    check_text(&rt, Ok(actual), "Owned([1, 2]) Owned([3])");
     Ok(())
 }
 

@@ -2,7 +2,7 @@
 
 ghost use Rattle.std.specs.Prelude.{⊤};
 
-use crate::asked::{Asked, Case, check_cases};
+use crate::cases::{Case, Request, check_cases};
 use crate::visits::Gives;
 use perf_event_data::{
     Aux, AuxOutputHwId, BpfEvent, CGroup, Comm, CowSlice, Exit, Fork, ITraceStart, KSymbol, Lost,
@@ -10,7 +10,7 @@ use perf_event_data::{
     SwitchCpuWide, TextPoke, Throttle,
 };
 use perf_test_helpers::frames::BY_BUILD_ID;
-use perf_test_helpers::told::Tell;
+use perf_test_helpers::texts::WriteText;
 use std::alloc::AllocError;
 use std::cell::Cell;
 
@@ -22,7 +22,7 @@ impl PartialVisitor for OwnCalls {
     type Output = &'static str;
 
     // Nothing is specified.
-    ghost gives = { λ seen output. ⊤ };
+    ghost gives = { λ event output. ⊤ };
 
     ghost left_out = { λ metadata output. ⊤ };
 
@@ -142,8 +142,8 @@ pub struct Moment {
     ty: u32,
 }
 
-impl Tell for Moment {
-    fn tell(&self, text: &mut String) -> Result<(), AllocError> {
+impl WriteText for Moment {
+    fn write_text(&self, text: &mut String) -> Result<(), AllocError> {
         let (call, time, cpu, ty) = (self.call, self.time, self.cpu, self.ty);
         write!(text, "{call} {time:?} {cpu:?} {ty}")
     }
@@ -166,7 +166,7 @@ impl PartialVisitor for Mappings<'_> {
     type Output = Moment;
 
     // Nothing is specified.
-    ghost gives = { λ seen output. ⊤ };
+    ghost gives = { λ event output. ⊤ };
 
     ghost left_out = { λ metadata output. ⊤ };
 
@@ -189,25 +189,25 @@ const BY_LONG_BUILD_ID: &[u8] = b"\x0A\0\0\0\0\x40\x50\0\x01\0\0\0\x02\0\0\0\
 const CASES: [Case; 4] = [
     Case {
         name: "MMAP2 goes to its own call for mappings",
-        asked: Asked::Visited(Gives::Mappings),
+        request: Request::Visited(Gives::Mappings),
         bytes: BY_BUILD_ID,
         want: "mmap None None 10; Eof, 1",
     },
     Case {
         name: "LOST_SAMPLES goes the default way",
-        asked: Asked::Visited(Gives::Mappings),
+        request: Request::Visited(Gives::Mappings),
         bytes: b"\x0D\0\0\0\0\0\x10\0\x05\0\0\0\0\0\0\0",
         want: "unimplemented None None 13; Eof, 1",
     },
     Case {
         name: "SWITCH goes the default way",
-        asked: Asked::Visited(Gives::Mappings),
+        request: Request::Visited(Gives::Mappings),
         bytes: b"\x0E\0\0\0\0\0\x08\0",
         want: "unimplemented None None 14; Eof, 1",
     },
     Case {
         name: "a frame that is refused is not visited",
-        asked: Asked::Visited(Gives::Mappings),
+        request: Request::Visited(Gives::Mappings),
         bytes: BY_LONG_BUILD_ID,
         want: "InvalidRecord, 0",
     },

@@ -160,59 +160,59 @@ struct Printed<'a> {
     fault: Option<io::ErrorKind>,
     output: &'a [u8],
     errors: &'a [u8],
-    ended: &'a str,
+    end: &'a str,
 }
 
 const PRINTED: [Printed; 10] = [
     Printed {
-        name: "a record that tells of a task has a line",
+        name: "a record about a task has a line",
         report: Report::Tasks,
         attr: &PLAIN_64,
         after: COMM,
         fault: None,
         output: b"comm 1 2 sh\n",
         errors: b"",
-        ended: "clean",
+        end: "clean",
     },
     Printed {
-        name: "and none where samples are told",
+        name: "and none if samples are printed",
         report: Report::Samples,
         attr: &PLAIN_64,
         after: COMM,
         fault: None,
         output: b"",
         errors: b"",
-        ended: "clean",
+        end: "clean",
     },
     Printed {
-        name: "a refused record is told as an error",
+        name: "a refused record is printed as an error",
         report: Report::Tasks,
         attr: &PLAIN_64,
         after: b"\x02\0\0\0\0\0\x07\0\x03\0\0\0\0\0\x18\0\x01\0\0\0\x02\0\0\0sh\0\0\0\0\0\0",
         fault: None,
         output: b"comm 1 2 sh\n",
         errors: TOO_SMALL,
-        ended: "refused",
+        end: "refused",
     },
     Printed {
-        name: "a cut header is an error behind the lines",
+        name: "a cut header is an error after the lines",
         report: Report::Tasks,
         attr: &PLAIN_64,
         after: b"\x03\0\0\0\0\0\x18\0\x01\0\0\0\x02\0\0\0sh\0\0\0\0\0\0\x0D\0\0",
         fault: None,
         output: b"comm 1 2 sh\n",
         errors: b"",
-        ended: "the input ends inside a header",
+        end: "the input ends inside a header",
     },
     Printed {
-        name: "a failing input is an error behind the lines",
+        name: "a failing input is an error after the lines",
         report: Report::Tasks,
         attr: &PLAIN_64,
         after: COMM,
         fault: Some(io::ErrorKind::Other),
         output: b"comm 1 2 sh\n",
         errors: b"",
-        ended: "user-provided error: other error",
+        end: "user-provided error: other error",
     },
     Printed {
         name: "also inside a record",
@@ -222,17 +222,17 @@ const PRINTED: [Printed; 10] = [
         fault: Some(io::ErrorKind::Other),
         output: b"comm 1 2 sh\n",
         errors: b"",
-        ended: "user-provided error: other error",
+        end: "user-provided error: other error",
     },
     Printed {
-        name: "and behind a refused record",
+        name: "and after a refused record",
         report: Report::Tasks,
         attr: &PLAIN_64,
         after: SMALL,
         fault: Some(io::ErrorKind::Other),
         output: b"",
         errors: TOO_SMALL,
-        ended: "user-provided error: other error",
+        end: "user-provided error: other error",
     },
     Printed {
         name: "a refused attribute is an error",
@@ -242,7 +242,7 @@ const PRINTED: [Printed; 10] = [
         fault: None,
         output: b"",
         errors: b"",
-        ended: "invalid record: not a valid size for a perf_event_attr struct",
+        end: "invalid record: not a valid size for a perf_event_attr struct",
     },
     Printed {
         name: "an input that ends inside the attribute is an error",
@@ -252,7 +252,7 @@ const PRINTED: [Printed; 10] = [
         fault: None,
         output: b"",
         errors: b"",
-        ended: "unexpected EOF during parsing",
+        end: "unexpected EOF during parsing",
     },
     Printed {
         name: "an input that fails there is another",
@@ -262,13 +262,13 @@ const PRINTED: [Printed; 10] = [
         fault: Some(io::ErrorKind::Other),
         output: b"",
         errors: b"",
-        ended: "user-provided error: other error",
+        end: "user-provided error: other error",
     },
 ];
 
 // The text of how it ended.
-fn text_of_end(alloc: Global, printed: AnyResult<bool>) -> Result<String, AllocError> {
-    match printed {
+fn text_of_end(alloc: Global, outcome: AnyResult<bool>) -> Result<String, AllocError> {
+    match outcome {
         Ok(true) => String::from_str(alloc, "clean"),
         Ok(false) => String::from_str(alloc, "refused"),
         Err(error) => format!(in alloc; "{error}"),
@@ -288,10 +288,10 @@ fn check_printed(rt: &(impl AllocGlobal + Abort), case: Printed<'_>) -> Result<(
             fault: case.fault,
         };
         let (mut output, mut errors) = (Vec::new(rt.alloc()), Vec::new(rt.alloc()));
-        let printed = print_recording(rt.alloc(), input, &mut output, &mut errors, case.report);
-        let ended = text_of_end(rt.alloc(), printed)?;
-        let told = (output.as_slice(), errors.as_slice(), ended.as_str());
-        check_same(rt, case.name, told, (case.output, case.errors, case.ended));
+        let outcome = print_recording(rt.alloc(), input, &mut output, &mut errors, case.report);
+        let end = text_of_end(rt.alloc(), outcome)?;
+        let actual = (output.as_slice(), errors.as_slice(), end.as_str());
+        check_same(rt, case.name, actual, (case.output, case.errors, case.end));
     }
     Ok(())
 }
@@ -321,7 +321,7 @@ fn an_early_refusal_is_not_forgotten(rt: HostRuntime) -> Result<(), AllocError> 
         fault: None,
         output: output.as_slice(),
         errors: TOO_SMALL,
-        ended: "refused",
+        end: "refused",
     };
     check_printed(&rt, case)
 }
@@ -359,8 +359,8 @@ fn writes_of(rt: &(impl AllocGlobal + Abort), input: &[u8], report: Report) -> u
         whole: true,
     };
     let mut errors = Vec::new(rt.alloc());
-    let printed = print_recording(rt.alloc(), input, &mut output, &mut errors, report);
-    check_that(rt, "it is printed", printed.is_ok());
+    let outcome = print_recording(rt.alloc(), input, &mut output, &mut errors, report);
+    check_that(rt, "it is printed", outcome.is_ok());
     check_that(rt, "each write is of whole lines", output.whole);
     output.writes
 }
@@ -516,7 +516,7 @@ struct Case<'a> {
 }
 
 // A digest of which batches are read and of what is written, the capacity left, and how it ended.
-fn told_of(
+fn outcome_of(
     alloc: Global,
     case: Case<'_>,
     gathered: bool,
@@ -540,7 +540,7 @@ fn told_of(
         mark: 5,
         room: case.errors,
     };
-    let printed = if gathered {
+    let outcome = if gathered {
         print_recording(alloc, input, &mut output, &mut errors, case.report)
     } else {
         print_by_lines(alloc, input, &mut output, &mut errors, case.report)
@@ -549,7 +549,7 @@ fn told_of(
         log.get(),
         output.room,
         errors.room,
-        text_of_end(alloc, printed)?,
+        text_of_end(alloc, outcome)?,
     ))
 }
 
@@ -557,11 +557,11 @@ fn told_of(
 // the same order, on both outputs, before the same batch is read, also if one fails, and with the
 // same error.
 fn check_gathered(rt: &(impl AllocGlobal + Abort), case: Case<'_>) -> Result<(), AllocError> {
-    let gathered = told_of(rt.alloc(), case, true)?;
-    let by_lines = told_of(rt.alloc(), case, false)?;
-    let told = (gathered.0, gathered.1, gathered.2, gathered.3.as_str());
+    let gathered = outcome_of(rt.alloc(), case, true)?;
+    let by_lines = outcome_of(rt.alloc(), case, false)?;
+    let actual = (gathered.0, gathered.1, gathered.2, gathered.3.as_str());
     let want = (by_lines.0, by_lines.1, by_lines.2, by_lines.3.as_str());
-    check_same(rt, "what goes out", told, want);
+    check_same(rt, "what goes out", actual, want);
     Ok(())
 }
 

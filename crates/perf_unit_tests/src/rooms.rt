@@ -39,8 +39,8 @@ const OF_NOTHING: [(&[u8], usize); 5] = [
 #[test]
 fn a_list_of_nothing_has_no_room(rt: HostRuntime) -> Result<(), Fail> {
     for (bytes, limit) in OF_NOTHING {
-        let told = rooms(rt.alloc(), bytes, limit)?;
-        check_same(&rt, "the rooms", told, [(0, 0); 3]);
+        let actual = rooms(rt.alloc(), bytes, limit)?;
+        check_same(&rt, "the rooms", actual, [(0, 0); 3]);
     }
     Ok(())
 }
@@ -49,8 +49,8 @@ fn a_list_of_nothing_has_no_room(rt: HostRuntime) -> Result<(), Fail> {
 // that the header is cut.
 #[test]
 fn a_part_of_a_header_has_room_for_one(rt: HostRuntime) -> Result<(), Fail> {
-    let told = rooms(rt.alloc(), &[13, 0, 0], 10)?;
-    check_same(&rt, "the rooms", told, [(0, 1); 3]);
+    let actual = rooms(rt.alloc(), &[13, 0, 0], 10)?;
+    check_same(&rt, "the rooms", actual, [(0, 1); 3]);
     Ok(())
 }
 
@@ -71,8 +71,8 @@ fn check_one(rt: &impl Abort, (count, room): (usize, usize)) {
 #[test]
 fn a_list_of_one_frame_has_little_room(rt: HostRuntime) -> Result<(), Fail> {
     for limit in [1, 10, 256, usize::MAX] {
-        for told in rooms(rt.alloc(), &FIVE_LOST, limit)? {
-            check_one(&rt, told);
+        for actual in rooms(rt.alloc(), &FIVE_LOST, limit)? {
+            check_one(&rt, actual);
         }
     }
     Ok(())

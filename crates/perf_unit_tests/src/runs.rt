@@ -60,7 +60,7 @@ pub fn join(alloc: Global, first: &[u8], second: &[u8]) -> Result<Vec<u8>, Alloc
 
 /// The arguments of a run, what it writes and how it ends.
 #[derive(Copy, Clone)]
-pub struct Told<'a> {
+pub struct RunCase<'a> {
     pub limit: usize,
     pub with_attr: bool,
     pub text: &'a str,
@@ -73,13 +73,13 @@ pub fn check_run<R: Read + Copy, E: Endian + Copy>(
     rt: &(impl AllocGlobal + Abort),
     reader: R,
     order: E,
-    told: Told<'_>,
+    case: RunCase<'_>,
 ) {
     for piece in [1usize, 7, 8192] {
-        let (limit, with_attr) = (told.limit, told.with_attr);
+        let (limit, with_attr) = (case.limit, case.with_attr);
         let mut written = Vec::new(rt.alloc());
         let piece = piece.max(1);
-        let ended = run(
+        let end = run(
             rt.alloc(),
             reader,
             &mut written,
@@ -88,7 +88,7 @@ pub fn check_run<R: Read + Copy, E: Endian + Copy>(
             with_attr,
             piece,
         );
-        let want = (told.text.as_bytes(), told.outcome);
-        check_same(rt, "what is written", (written.as_slice(), ended), want);
+        let want = (case.text.as_bytes(), case.outcome);
+        check_same(rt, "what is written", (written.as_slice(), end), want);
     }
 }

@@ -7,7 +7,7 @@ use perf_event_data::sys::perf_event_attr;
 use perf_event_data::{PieceBuf, SampleFlags};
 use perf_test_helpers::attributes::attribute;
 use perf_test_helpers::orders::Counting;
-use perf_test_helpers::runs::tell_under;
+use perf_test_helpers::runs::text_of_runs_under;
 use perf_test_helpers::sample_bytes::Part::{self, Bytes, U32, U64};
 use perf_test_helpers::sample_bytes::frames_of;
 use std::cell::Cell;
@@ -41,7 +41,7 @@ fn conversions<'p, B: ParseBuf<'p> + Drop>(
     attr: perf_event_attr,
 ) -> u64 {
     let calls = Cell::new(0);
-    match tell_under(rt.alloc(), buf, Counting { calls: &calls }, &attr, &[1]) {
+    match text_of_runs_under(rt.alloc(), buf, Counting { calls: &calls }, &attr, &[1]) {
         Ok(text) => check_that(rt, text.as_str(), text.ends_with(" refused Eof; limit")),
         Err(_) => panic!(rt; "no memory"),
     }

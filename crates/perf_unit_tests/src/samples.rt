@@ -1,6 +1,6 @@
 //! Samples that are made from their fields.
 
-use crate::checks::{check_debug, check_told};
+use crate::checks::{check_debug, check_parsed_text};
 use bitflags::Flags;
 use perf_base::cow::CowSlice;
 use perf_base::error::ParseResult;
@@ -64,7 +64,7 @@ fn numbers_of(sample: &Sample<'_>) -> [Option<u64>; 8] {
 }
 
 // Writes the results of a sample's calls on a line.
-fn tell_sample(text: &mut String, sample: &Sample<'_>) -> ParseResult<()> {
+fn write_sample(text: &mut String, sample: &Sample<'_>) -> ParseResult<()> {
     let lists = (
         sample.values(),
         sample.callchain(),
@@ -85,29 +85,29 @@ fn sample_of_a_clone<'a>(alloc: Global, fields: &SampleFields<'a>) -> ParseResul
 }
 
 // Writes the results of a copy of a sample.
-fn tell_copy(text: &mut String, copy: ParseResult<Sample<'_>>) -> ParseResult<()> {
+fn write_copy(text: &mut String, copy: ParseResult<Sample<'_>>) -> ParseResult<()> {
     match copy {
-        Ok(sample) => tell_sample(text, &sample),
+        Ok(sample) => write_sample(text, &sample),
         Err(error) => Err(error),
     }
 }
 
 // Writes the results of a sample, and of its clone.
-fn tell_with_clone(text: &mut String, alloc: Global, sample: &Sample<'_>) -> ParseResult<()> {
-    tell_sample(text, sample)?;
-    tell_copy(text, sample.clone(alloc))
+fn write_with_clone(text: &mut String, alloc: Global, sample: &Sample<'_>) -> ParseResult<()> {
+    write_sample(text, sample)?;
+    write_copy(text, sample.clone(alloc))
 }
 
 // Writes the results of a sample of these fields, and of its clone.
-fn tell_fields(text: &mut String, alloc: Global, fields: SampleFields<'_>) -> ParseResult<()> {
-    tell_with_clone(text, alloc, &Sample::from_fields(fields))
+fn write_fields(text: &mut String, alloc: Global, fields: SampleFields<'_>) -> ParseResult<()> {
+    write_with_clone(text, alloc, &Sample::from_fields(fields))
 }
 
 // The text of a sample of a clone of these fields, of one of the fields, and of its clone.
-fn told_with_copies(alloc: Global, fields: SampleFields<'_>) -> ParseResult<String> {
+fn text_with_copies(alloc: Global, fields: SampleFields<'_>) -> ParseResult<String> {
     let mut text = String::new(alloc);
-    let of_a_clone = tell_copy(&mut text, sample_of_a_clone(alloc, &fields));
-    let of_the_fields = tell_fields(&mut text, alloc, fields);
+    let of_a_clone = write_copy(&mut text, sample_of_a_clone(alloc, &fields));
+    let of_the_fields = write_fields(&mut text, alloc, fields);
     of_a_clone?;
     of_the_fields?;
     Ok(text)
@@ -168,7 +168,7 @@ fn every_field(branches: &[BranchEntry]) -> SampleFields<'_> {
 }
 
 // The text of a sample with every field, whose lists are of this form.
-macro_rules! every_field_told {
+macro_rules! every_field_text {
     ($form:literal) => {
         copies!(
             "(([Some(101), Some(102), Some(103), Some(104), Some(105), Some(106), Some(107), \
@@ -191,9 +191,9 @@ macro_rules! every_field_told {
 #[test]
 fn a_sample_answers_each_of_its_fields(rt: HostRuntime) {
     let branches = [branch()];
-    let want = every_field_told!("Borrowed");
-    let told = told_with_copies(rt.alloc(), every_field(&branches));
-    check_told(&rt, told, want);
+    let want = every_field_text!("Borrowed");
+    let actual = text_with_copies(rt.alloc(), every_field(&branches));
+    check_parsed_text(&rt, actual, want);
 }
 
 // An owned list.
@@ -251,10 +251,10 @@ fn own_lists<'a>(
 }
 
 // The text of a sample with every field that owns its lists.
-fn told_owned(alloc: Global, branches: &[BranchEntry]) -> ParseResult<String> {
+fn text_of_owned(alloc: Global, branches: &[BranchEntry]) -> ParseResult<String> {
     let mut fields = every_field(branches);
     match own_lists(alloc, &mut fields, branches) {
-        Ok(()) => told_with_copies(alloc, fields),
+        Ok(()) => text_with_copies(alloc, fields),
         Err(error) => Err(error),
     }
 }
@@ -262,12 +262,12 @@ fn told_owned(alloc: Global, branches: &[BranchEntry]) -> ParseResult<String> {
 #[test]
 fn a_sample_that_owns_its_lists_is_copied(rt: HostRuntime) {
     let branches = [branch()];
-    let want = every_field_told!("Owned");
-    check_told(&rt, told_owned(rt.alloc(), &branches), want);
+    let want = every_field_text!("Owned");
+    check_parsed_text(&rt, text_of_owned(rt.alloc(), &branches), want);
 }
 
 // The text of a sample with only these fields.
-fn told_alone(
+fn text_alone(
     alloc: Global,
     task: (Option<u32>, Option<u32>),
     index: Option<u64>,
@@ -278,7 +278,7 @@ fn told_alone(
     fields.tid = task.1;
     fields.lbr_hw_index = index;
     fields.lbr = branches;
-    told_with_copies(alloc, fields)
+    text_with_copies(alloc, fields)
 }
 
 // A process, a thread and an index, each present or not, and the text of their samples.
@@ -328,7 +328,7 @@ const ALONE: [(Option<u32>, Option<u32>, Option<u64>, &str); 4] = [
 #[test]
 fn a_sample_has_the_fields_alone_that_are_given(rt: HostRuntime) {
     for (pid, tid, index, want) in ALONE {
-        check_told(&rt, told_alone(rt.alloc(), (pid, tid), index, None), want);
+        check_parsed_text(&rt, text_alone(rt.alloc(), (pid, tid), index, None), want);
     }
 }
 
@@ -340,9 +340,9 @@ fn branches_need_no_index(rt: HostRuntime) {
             (None, None, None, Some([BranchEntry { from: 115, to: 116, word: 1872 }]), None, None, None, None))"
     );
     let branches = [branch()];
-    let lent = Some(CowSlice::Borrowed(&branches));
-    let told = told_alone(rt.alloc(), (None, None), None, lent);
-    check_told(&rt, told, want);
+    let borrowed = Some(CowSlice::Borrowed(&branches));
+    let actual = text_alone(rt.alloc(), (None, None), None, borrowed);
+    check_parsed_text(&rt, actual, want);
 }
 
 // Asserts the text of a sample id that is made from a sample.
@@ -358,7 +358,7 @@ fn check_id(rt: &(impl AllocGlobal + Abort), id: SampleId) {
 }
 
 #[test]
-fn a_sample_id_says_what_its_sample_does(rt: HostRuntime) {
+fn a_sample_id_has_the_numbers_of_its_sample(rt: HostRuntime) {
     let branches = [branch()];
     let sample = Sample::from_fields(every_field(&branches));
     check_id(&rt, SampleId::from_sample(&sample));

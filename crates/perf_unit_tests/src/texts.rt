@@ -1,7 +1,7 @@
 //! The arguments of `perfrec`, and what it writes.
 
 use crate::checks::check_same;
-use crate::runs::{Told, check_run};
+use crate::runs::{RunCase, check_run};
 use perf_event_data::endian::Little;
 use perf_event_data::parse::{ErrorKind, ParseError, ParseResult};
 use perf_event_data::sys::perf_event_header;
@@ -29,13 +29,13 @@ fn check_many(
         }
     }
     text.push_str(end)?;
-    let told = Told {
+    let case = RunCase {
         limit,
         with_attr: false,
         text: &text,
         outcome: Outcome::Clean,
     };
-    check_run(rt, input.as_slice(), Little, told);
+    check_run(rt, input.as_slice(), Little, case);
     Ok(())
 }
 
@@ -62,7 +62,7 @@ fn frames_are_numbered_on_from_batch_to_batch(rt: HostRuntime) -> Result<(), All
 }
 
 // The line of a frame with this header and this result.
-fn told_line(
+fn text_of_line(
     alloc: Global,
     index: usize,
     header: perf_event_header,
@@ -79,7 +79,7 @@ fn a_line_has_no_line_feed(rt: HostRuntime) -> ParseResult<()> {
         size: 16,
     };
     let found = Ok(Record::LostSamples(LostSamples { lost: 5 }));
-    let line = told_line(rt.alloc(), 0, header, found)?;
+    let line = text_of_line(rt.alloc(), 0, header, found)?;
     check_same(
         &rt,
         "the line",
@@ -114,14 +114,14 @@ fn each_kind_has_its_name(rt: HostRuntime) -> ParseResult<()> {
             size: 3,
         };
         let refused = Err(ParseError::custom(kind, "why"));
-        let line = told_line(rt.alloc(), 7, header, refused)?;
+        let line = text_of_line(rt.alloc(), 7, header, refused)?;
         check_same(&rt, "the line", line.as_str(), text);
     }
     Ok(())
 }
 
 // Asserts what arguments ask for.
-fn check_asked(
+fn check_command(
     rt: &(impl AllocGlobal + Abort),
     words: &[&str],
     want: Option<Command>,
@@ -154,12 +154,12 @@ fn an_order_and_a_limit_are_a_command(rt: HostRuntime) -> Result<(), AllocError>
             (false, [name, digits].as_slice()),
             (true, [name, digits, "attr"].as_slice()),
         ] {
-            let wanted = Command {
+            let want = Command {
                 order,
                 limit,
                 with_attr,
             };
-            check_asked(&rt, words, Some(wanted))?;
+            check_command(&rt, words, Some(want))?;
         }
     }
     Ok(())
@@ -201,7 +201,7 @@ const NO_COMMANDS: [&[&str]; 28] = [
 #[test]
 fn other_words_are_no_command(rt: HostRuntime) -> Result<(), AllocError> {
     for words in NO_COMMANDS {
-        check_asked(&rt, words, None)?;
+        check_command(&rt, words, None)?;
     }
     Ok(())
 }

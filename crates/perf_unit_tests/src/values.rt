@@ -7,7 +7,7 @@ use perf_event_data::sys::{
 };
 use perf_event_data::{Sample, SampleFields};
 use perf_records::record::Record;
-use perf_test_helpers::told::tell_record;
+use perf_test_helpers::texts::write_record;
 use perf_types::lost::Lost;
 use perf_types::lost_samples::LostSamples;
 use std::alloc::{AllocError, Global};
@@ -21,19 +21,19 @@ fn a_record_is_made_from_what_it_holds(rt: HostRuntime) {
 }
 
 // A sample of a process and a CPU.
-fn told_sample(alloc: Global) -> Result<String, AllocError> {
+fn text_of_sample(alloc: Global) -> Result<String, AllocError> {
     let mut fields = SampleFields::default();
     fields.pid = Some(5);
     fields.cpu = Some(6);
     let mut text = String::new(alloc);
     let answer = Record::from_sample(alloc, Sample::from_fields(fields));
-    tell_record(&mut text, &answer)?;
+    write_record(&mut text, &answer)?;
     Ok(text)
 }
 
 #[test]
 fn a_sample_that_is_made_is_a_record(rt: HostRuntime) {
-    check_text(&rt, told_sample(rt.alloc()), "Sample pid=5 cpu=6");
+    check_text(&rt, text_of_sample(rt.alloc()), "Sample pid=5 cpu=6");
 }
 
 #[test]

@@ -2,7 +2,7 @@
 
 ghost use Rattle.std.specs.Prelude.{⊤};
 
-use crate::asked::{Asked, Case, check_case, check_cases};
+use crate::cases::{Case, Request, check_case, check_cases};
 use crate::partial_visits::{Mappings, OwnCalls};
 use bitflags::Flags;
 use perf_event_data::endian::{Endian, Little, Native};
@@ -15,7 +15,7 @@ use perf_event_data::{
 };
 use perf_test_helpers::attributes::ids_attribute;
 use perf_test_helpers::frames::zero_frames;
-use perf_test_helpers::told::{Tell, tell_error};
+use perf_test_helpers::texts::{WriteText, write_error};
 use std::alloc::{AllocError, Global};
 use std::cell::Cell;
 use std::test::Fail;
@@ -59,7 +59,7 @@ impl<'a> Visitor<'a> for Names {
     type Output = &'static str;
 
     // Nothing is specified.
-    ghost gives = { λ seen output. ⊤ };
+    ghost gives = { λ event output. ⊤ };
 
     fn visit_unimplemented(self, _metadata: RecordMetadata) -> Self::Output {
         "unimplemented"
@@ -163,25 +163,25 @@ impl<'a> Visitor<'a> for Names {
 }
 
 // Writes what is made of a frame, and returns whether it was not refused.
-fn tell_made<T: Tell + Drop>(
+fn write_output<T: WriteText + Drop>(
     text: &mut String,
     answer: ParseResult<T>,
 ) -> Result<bool, AllocError> {
     match answer {
         Ok(output) => {
-            output.tell(text)?;
+            output.write_text(text)?;
             text.push_str("; ")?;
             Ok(true)
         }
         Err(error) => {
-            tell_error(text, &error)?;
+            write_error(text, &error)?;
             Ok(false)
         }
     }
 }
 
 // Writes what a visitor makes of the next frame, and returns whether it was not refused.
-fn tell_visit<'p, B: ParseBuf<'p>, E: Endian>(
+fn write_visit<'p, B: ParseBuf<'p>, E: Endian>(
     alloc: Global,
     text: &mut String,
     parser: &mut Parser<B, E>,
@@ -189,17 +189,17 @@ fn tell_visit<'p, B: ParseBuf<'p>, E: Endian>(
     visits: &Cell<u32>,
 ) -> Result<bool, AllocError> {
     match visitor {
-        Gives::Names => tell_made(text, parser.parse_record(Names)),
-        Gives::OwnCalls => tell_made(text, parser.parse_record(Partial(OwnCalls))),
+        Gives::Names => write_output(text, parser.parse_record(Names)),
+        Gives::OwnCalls => write_output(text, parser.parse_record(Partial(OwnCalls))),
         Gives::Mappings | Gives::TimedMappings => {
-            tell_made(text, parser.parse_record(Partial(Mappings { visits })))
+            write_output(text, parser.parse_record(Partial(Mappings { visits })))
         }
-        Gives::TimedRecords => tell_made(text, parser.parse_record(RecordVisitor::new(alloc))),
+        Gives::TimedRecords => write_output(text, parser.parse_record(RecordVisitor::new(alloc))),
     }
 }
 
 /// What a visitor makes of each frame, until one is refused.
-pub fn told_visits<'p, B: ParseBuf<'p> + Drop>(
+pub fn text_of_visits<'p, B: ParseBuf<'p> + Drop>(
     alloc: Global,
     buf: B,
     visitor: Gives,
@@ -209,7 +209,7 @@ pub fn told_visits<'p, B: ParseBuf<'p> + Drop>(
     let mut text = String::new(alloc);
     let visits = Cell::new(0);
     for _ in 0..100 {
-        if !tell_visit(alloc, &mut text, &mut parser, visitor, &visits)? {
+        if !write_visit(alloc, &mut text, &mut parser, visitor, &visits)? {
             break;
         }
     }
@@ -230,7 +230,7 @@ fn each_type_has_its_call(rt: HostRuntime) -> Result<(), Fail> {
     for (name, visitor) in [("a visitor", Gives::Names), ("own calls", Gives::OwnCalls)] {
         let case = Case {
             name,
-            asked: Asked::Visited(visitor),
+            request: Request::Visited(visitor),
             bytes: bytes.as_slice(),
             want: CALLS,
         };
@@ -249,14 +249,14 @@ const TIMED: &[u8] = b"\x0D\0\0\0\0\0\x20\0\x05\0\0\0\0\0\0\0\
 const CASES: [Case; 2] = [
     Case {
         name: "a timeline is made of sample ids",
-        asked: Asked::Visited(Gives::TimedMappings),
+        request: Request::Visited(Gives::TimedMappings),
         bytes: TIMED,
         want: "unimplemented Some(7) Some(3) 13; unimplemented Some(8) Some(2) 14; \
             unimplemented Some(9) Some(1) 3; Eof, 3",
     },
     Case {
         name: "the visitor of records makes them",
-        asked: Asked::Visited(Gives::TimedRecords),
+        request: Request::Visited(Gives::TimedRecords),
         bytes: TIMED,
         want: "LostSamples lost=5; Switch; Comm pid=1 tid=2 comm=61; Eof",
     },

@@ -12,8 +12,8 @@ use perf_event_data::{
     SampleFields, SampleFlags, each_frame, frames,
 };
 use perf_test_helpers::attributes::ids_attribute;
-use perf_test_helpers::runs::tell_shown_record;
-use perf_test_helpers::told::tell_error;
+use perf_test_helpers::runs::write_debug_record;
+use perf_test_helpers::texts::write_error;
 use std::alloc::{AllocError, Global};
 
 // The fields of the samples.
@@ -60,8 +60,8 @@ fn config() -> ParseConfig<Little> {
 }
 
 // The text of a frame.
-trait Tells: Drop {
-    fn tell(
+trait WriteFrame: Drop {
+    fn write(
         &self,
         text: &mut String,
         alloc: Global,
@@ -70,10 +70,14 @@ trait Tells: Drop {
 }
 
 // The text of the first frame of some bytes.
-fn tell_first<T: Tells>(alloc: Global, bytes: &[u8], tells: T) -> Result<String, AllocError> {
+fn text_of_first<T: WriteFrame>(
+    alloc: Global,
+    bytes: &[u8],
+    writer: T,
+) -> Result<String, AllocError> {
     let mut text = String::new(alloc);
     match frames(bytes, Little).next() {
-        Some(Ok(frame)) => tells.tell(&mut text, alloc, &frame)?,
+        Some(Ok(frame)) => writer.write(&mut text, alloc, &frame)?,
         Some(Err(_)) => text.push_str("no whole frame")?,
         None => text.push_str("no frame")?,
     }
@@ -84,8 +88,8 @@ fn tell_first<T: Tells>(alloc: Global, bytes: &[u8], tells: T) -> Result<String,
 #[derive(Drop)]
 struct Numbers;
 
-impl Tells for Numbers {
-    fn tell(
+impl WriteFrame for Numbers {
+    fn write(
         &self,
         text: &mut String,
         _alloc: Global,
@@ -105,38 +109,38 @@ impl Tells for Numbers {
 #[derive(Drop)]
 struct Readings;
 
-impl Tells for Readings {
-    fn tell(
+impl WriteFrame for Readings {
+    fn write(
         &self,
         text: &mut String,
         alloc: Global,
         frame: &Frame<'_, '_>,
     ) -> Result<(), AllocError> {
-        tell_metadata(text, alloc, frame)?;
+        write_metadata(text, alloc, frame)?;
         text.push_str("; ")?;
-        tell_shown_record(text, frame.record(alloc, &config()))?;
+        write_debug_record(text, frame.record(alloc, &config()))?;
         text.push_str(" ")?;
-        tell_shown_record(text, visit_record(alloc, frame))?;
+        write_debug_record(text, visit_record(alloc, frame))?;
         Ok(())
     }
 }
 
 // Writes the type, the misc, the time and the CPU.
-fn tell_metadata(
+fn write_metadata(
     text: &mut String,
     alloc: Global,
     frame: &Frame<'_, '_>,
 ) -> Result<(), AllocError> {
     match frame.metadata(alloc, &config()) {
-        Ok(known) => tell_known(text, &known),
-        Err(error) => tell_error(text, &error),
+        Ok(known) => write_parts(text, &known),
+        Err(error) => write_error(text, &error),
     }
 }
 
-fn tell_known(text: &mut String, known: &RecordMetadata) -> Result<(), AllocError> {
+fn write_parts(text: &mut String, known: &RecordMetadata) -> Result<(), AllocError> {
     let id = known.sample_id();
-    let told = (known.ty(), known.misc(), id.time(), id.cpu());
-    write!(text, "{told:?}")
+    let actual = (known.ty(), known.misc(), id.time(), id.cpu());
+    write!(text, "{actual:?}")
 }
 
 // The record that a visit makes.
@@ -151,18 +155,18 @@ fn visit_record<'p>(alloc: Global, frame: &Frame<'_, 'p>) -> ParseResult<Record<
 #[derive(Drop)]
 struct Placed;
 
-impl Tells for Placed {
-    fn tell(
+impl WriteFrame for Placed {
+    fn write(
         &self,
         text: &mut String,
         alloc: Global,
         frame: &Frame<'_, '_>,
     ) -> Result<(), AllocError> {
-        tell_placed(text, alloc, frame)
+        write_sample_in_place(text, alloc, frame)
     }
 }
 
-fn tell_placed<'p>(
+fn write_sample_in_place<'p>(
     text: &mut String,
     alloc: Global,
     frame: &Frame<'_, 'p>,
@@ -170,9 +174,9 @@ fn tell_placed<'p>(
     let mut place: Sample<'p> = older_sample();
     match frame.sample_into(alloc, &config(), &mut place) {
         Ok(is_put) => write!(text, "{is_put}")?,
-        Err(error) => tell_error(text, &error)?,
+        Err(error) => write_error(text, &error)?,
     }
-    tell_fields(text, &place)
+    write_fields(text, &place)
 }
 
 // A sample with the address 1, and no other field.
@@ -183,9 +187,9 @@ fn older_sample<'p>() -> Sample<'p> {
 }
 
 // Writes the address, the instruction pointer and the period.
-fn tell_fields(text: &mut String, sample: &Sample<'_>) -> Result<(), AllocError> {
-    let told = (sample.addr(), sample.ip(), sample.period());
-    write!(text, " {told:?}")
+fn write_fields(text: &mut String, sample: &Sample<'_>) -> Result<(), AllocError> {
+    let actual = (sample.addr(), sample.ip(), sample.period());
+    write!(text, " {actual:?}")
 }
 
 // Writes the sizes of frames, and ends the run after `most`.
@@ -215,7 +219,7 @@ impl<'p, E: Endian> FrameHandler<'p, E> for Sizes {
 }
 
 // The runs over the mixed bytes, each of which ends after at most `most` frames.
-fn told_in_runs(alloc: Global, most: usize, piece: usize) -> Result<String, AllocError>
+fn text_in_runs(alloc: Global, most: usize, piece: usize) -> Result<String, AllocError>
     requires { 0 < piece }
 {
     let buf = PieceBuf::new(MIXED, piece, false);
@@ -236,7 +240,7 @@ fn told_in_runs(alloc: Global, most: usize, piece: usize) -> Result<String, Allo
 }
 
 #[test]
-fn a_frame_tells_single_numbers(rt: HostRuntime) {
+fn a_frame_has_single_numbers(rt: HostRuntime) {
     let parts = [
         (
             SAMPLE,
@@ -253,7 +257,7 @@ fn a_frame_tells_single_numbers(rt: HostRuntime) {
         (OWN, "(None, 8, None, None, None, (None, None), None)"),
     ];
     for (bytes, want) in parts {
-        check_text(&rt, tell_first(rt.alloc(), bytes, Numbers), want);
+        check_text(&rt, text_of_first(rt.alloc(), bytes, Numbers), want);
     }
 }
 
@@ -262,9 +266,9 @@ fn a_frame_has_its_metadata_and_its_record(rt: HostRuntime) {
     let named = "(3, 8192, Some(23), Some(4)); \
         Comm(Comm { pid: 1, tid: 2, comm: Borrowed([115, 104]) });  \
         Comm(Comm { pid: 1, tid: 2, comm: Borrowed([115, 104]) }); ";
-    check_text(&rt, tell_first(rt.alloc(), NAMED, Readings), named);
+    check_text(&rt, text_of_first(rt.alloc(), NAMED, Readings), named);
     let no_room = "InvalidRecord; InvalidRecord InvalidRecord";
-    check_text(&rt, tell_first(rt.alloc(), NO_ROOM, Readings), no_room);
+    check_text(&rt, text_of_first(rt.alloc(), NO_ROOM, Readings), no_room);
 }
 
 #[test]
@@ -275,19 +279,19 @@ fn a_sample_takes_the_place_of_another(rt: HostRuntime) {
         (NAMED, "false (Some(1), None, None)"),
     ];
     for (bytes, want) in parts {
-        check_text(&rt, tell_first(rt.alloc(), bytes, Placed), want);
+        check_text(&rt, text_of_first(rt.alloc(), bytes, Placed), want);
     }
 }
 
 #[test]
-fn a_run_ends_where_its_handler_says(rt: HostRuntime) {
+fn a_run_ends_when_its_handler_returns_false(rt: HostRuntime) {
     let parts = [
         (1, 64, "7 InvalidRecord 1, 16 1, 16 Eof 1, 0, "),
         (2, 3, "7 InvalidRecord 16 2, 16 Eof 1, "),
         (9, 1, "7 InvalidRecord 16 16 Eof 3, "),
     ];
     for (most, piece, want) in parts {
-        check_text(&rt, told_in_runs(rt.alloc(), most, piece.max(1)), want);
+        check_text(&rt, text_in_runs(rt.alloc(), most, piece.max(1)), want);
     }
 }
 

@@ -1,4 +1,4 @@
-//! The length of the buffers that a reader is handed.
+//! The length of the buffers that a reader has to fill.
 
 ghost use Rattle.std.specs.Prelude.{◌<◌};
 
@@ -13,31 +13,31 @@ use std::io;
 use std::io::Read;
 use std::process::Abort;
 
-// Fills the buffers that it is handed, and keeps the length of the longest one.
+// Fills buffers, and keeps the length of the longest one.
 #[derive(Drop)]
-struct Handed<'a> {
+struct LengthReader<'a> {
     bytes: &'a [u8],
     longest: &'a Cell<usize>,
 }
 
-impl Read for Handed<'_> {
+impl Read for LengthReader<'_> {
     fn read(&mut self, buf: &mut [u8]) -> io::Result<usize> {
         self.longest.set(self.longest.get().max(buf.len()));
         self.bytes.read(buf)
     }
 }
 
-// Asserts that a run writes the text of two frames, and that its reader is handed a piece at a time.
+// Asserts that a run writes the text of two frames, and that its reader fills a piece at a time.
 fn check_piece(rt: &(impl AllocGlobal + Abort), bytes: &[u8], with_attr: bool, piece: usize)
     requires { 0 < piece }
 {
     let longest = Cell::new(0);
-    let reader = Handed {
+    let reader = LengthReader {
         bytes,
         longest: &longest,
     };
     let mut written = Vec::new(rt.alloc());
-    let ended = run(
+    let end = run(
         rt.alloc(),
         reader,
         &mut written,
@@ -46,13 +46,13 @@ fn check_piece(rt: &(impl AllocGlobal + Abort), bytes: &[u8], with_attr: bool, p
         with_attr,
         piece,
     );
-    let told = (written.as_slice(), ended, longest.get());
+    let actual = (written.as_slice(), end, longest.get());
     let want = (TEXT.as_bytes(), Outcome::Clean, piece);
-    check_same(rt, "what is written, and the longest piece", told, want);
+    check_same(rt, "what is written, and the longest piece", actual, want);
 }
 
 #[test]
-fn a_reader_is_handed_a_piece_at_a_time(rt: HostRuntime) -> Result<(), AllocError> {
+fn a_reader_fills_a_piece_at_a_time(rt: HostRuntime) -> Result<(), AllocError> {
     let with_attr = join(rt.alloc(), &PLAIN_72, &TWO)?;
     for piece in [1usize, 7, 8192] {
         check_piece(&rt, &TWO, false, piece.max(1));

@@ -1,10 +1,10 @@
 //! What a parser over every buffer is asked for, and its results as text.
 
-use crate::bodies::{Body, told_frame};
+use crate::bodies::{Body, text_of_frame};
 use crate::checks::check_answer;
-use crate::orders::{Asking, told_by_order};
-use crate::own_types::{Own, told_own};
-use crate::visits::{Gives, told_visits};
+use crate::orders::{OrderRequest, text_by_order};
+use crate::own_types::{Own, text_of_own};
+use crate::visits::{Gives, text_of_visits};
 use perf_event_data::PieceBuf;
 use perf_event_data::endian::Little;
 use perf_event_data::parse::{ErrorKind, ParseBuf, ParseConfig, ParseResult, Parser};
@@ -14,13 +14,13 @@ use std::process::Abort;
 
 /// What a parser is asked for.
 #[derive(Copy, Clone)]
-pub enum Asked {
+pub enum Request {
     /// Types of a user's own.
     Own(Own),
     /// What the parser of a frame's body parses.
     Body(Body),
     /// What is read in a byte order of a user's own.
-    InOrder(Asking),
+    InOrder(OrderRequest),
     /// What a visitor makes of each frame.
     Visited(Gives),
 }
@@ -29,18 +29,22 @@ pub enum Asked {
 #[derive(Copy, Clone)]
 pub struct Case<'a> {
     pub name: &'a str,
-    pub asked: Asked,
+    pub request: Request,
     pub bytes: &'a [u8],
     pub want: &'a str,
 }
 
 // The result of a parser over a buffer, in little endian if the case has no order of its own.
-fn tell<'p, B: ParseBuf<'p> + Drop>(alloc: Global, buf: B, asked: Asked) -> ParseResult<String> {
-    match asked {
-        Asked::Own(own) => told_own(alloc, &mut little(alloc, buf), own),
-        Asked::Body(body) => told_frame(alloc, &mut little(alloc, buf), body),
-        Asked::InOrder(asking) => told_by_order(alloc, buf, asking),
-        Asked::Visited(visits) => Ok(told_visits(alloc, buf, visits)?),
+fn text_of_case<'p, B: ParseBuf<'p> + Drop>(
+    alloc: Global,
+    buf: B,
+    request: Request,
+) -> ParseResult<String> {
+    match request {
+        Request::Own(own) => text_of_own(alloc, &mut little(alloc, buf), own),
+        Request::Body(body) => text_of_frame(alloc, &mut little(alloc, buf), body),
+        Request::InOrder(request) => text_by_order(alloc, buf, request),
+        Request::Visited(visits) => Ok(text_of_visits(alloc, buf, visits)?),
     }
 }
 
@@ -53,7 +57,12 @@ fn check_over<'p, B: ParseBuf<'p> + Drop>(
     buf: B,
     case: &Case<'_>,
 ) {
-    check_answer(rt, case.name, tell(rt.alloc(), buf, case.asked), case.want);
+    check_answer(
+        rt,
+        case.name,
+        text_of_case(rt.alloc(), buf, case.request),
+        case.want,
+    );
 }
 
 /// Asserts the result over a slice, buffered readers and pieces.

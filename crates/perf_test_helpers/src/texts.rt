@@ -8,45 +8,45 @@ use perf_lines::line::line_of;
 use std::alloc::AllocError;
 
 /// The text of a value.
-pub trait Tell {
-    fn tell(&self, text: &mut String) -> Result<(), AllocError>;
+pub trait WriteText {
+    fn write_text(&self, text: &mut String) -> Result<(), AllocError>;
 }
 
-impl Tell for &str {
-    fn tell(&self, text: &mut String) -> Result<(), AllocError> {
+impl WriteText for &str {
+    fn write_text(&self, text: &mut String) -> Result<(), AllocError> {
         text.push_str(self)
     }
 }
 
-impl Tell for ParseResult<Record<'_>> {
-    fn tell(&self, text: &mut String) -> Result<(), AllocError> {
-        tell_record(text, self)
+impl WriteText for ParseResult<Record<'_>> {
+    fn write_text(&self, text: &mut String) -> Result<(), AllocError> {
+        write_record(text, self)
     }
 }
 
 /// Writes the text of a value, and drops it.
-pub fn tell_last<T: Tell + Drop>(text: &mut String, value: T) -> Result<(), AllocError> {
-    value.tell(text)
+pub fn write_last<T: WriteText + Drop>(text: &mut String, value: T) -> Result<(), AllocError> {
+    value.write_text(text)
 }
 
 /// Writes the text of a value or of its error, and drops it.
-pub fn tell_answer<T: Tell + Drop>(
+pub fn write_answer<T: WriteText + Drop>(
     text: &mut String,
     answer: ParseResult<T>,
 ) -> Result<(), AllocError> {
     match answer {
-        Ok(value) => value.tell(text),
+        Ok(value) => value.write_text(text),
         Err(error) => write!(text, "{error}"),
     }
 }
 
 /// Writes the kind of an error.
-pub fn tell_error(text: &mut String, error: &ParseError) -> Result<(), AllocError> {
+pub fn write_error(text: &mut String, error: &ParseError) -> Result<(), AllocError> {
     write!(text, "{:?}", error.kind())
 }
 
 /// Writes the line of a frame in `perfrec`, and what that leaves out.
-pub fn tell_frame(
+pub fn write_frame(
     text: &mut String,
     index: usize,
     header: &perf_event_header,
@@ -56,50 +56,50 @@ pub fn tell_frame(
         Ok(line) => text.push_str(line.as_str())?,
         Err(_) => return Err(AllocError),
     }
-    tell_left_out(text, answer)
+    write_left_out(text, answer)
 }
 
 /// A frame of a record.
 #[derive(Drop)]
-pub struct Framed<'a> {
+pub struct FrameLine<'a> {
     pub index: usize,
     pub header: perf_event_header,
     pub answer: ParseResult<Record<'a>>,
 }
 
-impl Tell for Framed<'_> {
-    fn tell(&self, text: &mut String) -> Result<(), AllocError> {
-        tell_frame(text, self.index, &self.header, &self.answer)
+impl WriteText for FrameLine<'_> {
+    fn write_text(&self, text: &mut String) -> Result<(), AllocError> {
+        write_frame(text, self.index, &self.header, &self.answer)
     }
 }
 
 /// Writes the same of a record alone, without a header.
-pub fn tell_record(text: &mut String, answer: &ParseResult<Record<'_>>) -> Result<(), AllocError> {
+pub fn write_record(text: &mut String, answer: &ParseResult<Record<'_>>) -> Result<(), AllocError> {
     let mut line = String::new(*text.allocator());
-    tell_frame(&mut line, 0, &perf_event_header::default(), answer)?;
-    let told = line.as_str().strip_prefix("0 0 0 0 ");
-    text.push_str(told.unwrap_or("(no frame of zeros)"))
+    write_frame(&mut line, 0, &perf_event_header::default(), answer)?;
+    let actual = line.as_str().strip_prefix("0 0 0 0 ");
+    text.push_str(actual.unwrap_or("(no frame of zeros)"))
 }
 
 // Writes what a line leaves out: the type of an unknown record, and some fields of a sample.
-fn tell_left_out(text: &mut String, answer: &ParseResult<Record<'_>>) -> Result<(), AllocError> {
+fn write_left_out(text: &mut String, answer: &ParseResult<Record<'_>>) -> Result<(), AllocError> {
     match answer {
         Ok(Record::Unknown { ty, .. }) => write!(text, " ty={ty}"),
-        Ok(Record::Sample(sample)) => tell_counted(text, sample),
+        Ok(Record::Sample(sample)) => write_counts(text, sample),
         _ => Ok(()),
     }
 }
 
 // Writes the number of counters in a sample's group, and which registers it has.
-fn tell_counted(text: &mut String, sample: &Sample<'_>) -> Result<(), AllocError> {
+fn write_counts(text: &mut String, sample: &Sample<'_>) -> Result<(), AllocError> {
     if let Some(group) = sample.values() {
         write!(text, " counters={}", group.len())?;
     }
-    tell_mask(text, " user_mask=", sample.regs_user())?;
-    tell_mask(text, " intr_mask=", sample.regs_intr())
+    write_mask(text, " user_mask=", sample.regs_user())?;
+    write_mask(text, " intr_mask=", sample.regs_intr())
 }
 
-fn tell_mask(
+fn write_mask(
     text: &mut String,
     before: &str,
     registers: Option<&Registers<'_>>,
@@ -112,7 +112,7 @@ fn tell_mask(
 
 /// Writes a configuration: the sample type and the read format, whether there are sample ids and
 /// the hardware's index, the masks of user registers and of those at an interrupt, and the misc.
-pub fn tell_config<E>(text: &mut String, config: &ParseConfig<E>) -> Result<(), AllocError> {
+pub fn write_config<E>(text: &mut String, config: &ParseConfig<E>) -> Result<(), AllocError> {
     let sets = [config.sample_type().bits(), config.read_format().bits()];
     let are_there = [config.sample_id_all(), config.branch_hw_index()];
     let masks = [config.regs_user(), config.regs_intr()];
@@ -120,7 +120,7 @@ pub fn tell_config<E>(text: &mut String, config: &ParseConfig<E>) -> Result<(), 
 }
 
 /// Writes a semicolon between two results.
-pub fn tell_semicolon(text: &mut String) -> Result<(), AllocError> {
+pub fn write_semicolon(text: &mut String) -> Result<(), AllocError> {
     if text.is_empty() {
         Ok(())
     } else {
@@ -136,13 +136,13 @@ pub struct Found<'a> {
     pub with_spaces: bool,
 }
 
-impl Tell for Found<'_> {
-    fn tell(&self, text: &mut String) -> Result<(), AllocError> {
+impl WriteText for Found<'_> {
+    fn write_text(&self, text: &mut String) -> Result<(), AllocError> {
         match &self.answer {
             Ok(record) => {
-                tell_record(text, &self.answer)?;
+                write_record(text, &self.answer)?;
                 if self.with_spaces {
-                    tell_spaces(text, record)?;
+                    write_spaces(text, record)?;
                 }
                 Ok(())
             }
@@ -151,14 +151,14 @@ impl Tell for Found<'_> {
     }
 }
 
-fn tell_spaces(text: &mut String, record: &Record<'_>) -> Result<(), AllocError> {
+fn write_spaces(text: &mut String, record: &Record<'_>) -> Result<(), AllocError> {
     match record {
-        Record::Namespaces(spaces) => tell_named(text, spaces),
+        Record::Namespaces(spaces) => write_named_spaces(text, spaces),
         _ => text.push_str(" not NAMESPACES"),
     }
 }
 
-fn tell_named(text: &mut String, spaces: &Namespaces<'_>) -> Result<(), AllocError> {
+fn write_named_spaces(text: &mut String, spaces: &Namespaces<'_>) -> Result<(), AllocError> {
     let named = [
         spaces.network(),
         spaces.uts(),
@@ -172,11 +172,11 @@ fn tell_named(text: &mut String, spaces: &Namespaces<'_>) -> Result<(), AllocErr
 
 // A group of counters: how many and whether none, its times, the first three entries in order and
 // by index, those of the ids 1, 2, 3, 0xBD and 0xBE, and whether it is that of one counter.
-impl Tell for ReadGroup<'_> {
-    fn tell(&self, text: &mut String) -> Result<(), AllocError> {
-        tell_entries(text, self)?;
+impl WriteText for ReadGroup<'_> {
+    fn write_text(&self, text: &mut String) -> Result<(), AllocError> {
+        write_entries(text, self)?;
         match self.clone(*text.allocator()) {
-            Ok(copy) => tell_if_one(text, copy),
+            Ok(copy) => write_if_one(text, copy),
             Err(error) => write!(text, "{error}"),
         }
     }
@@ -186,29 +186,29 @@ impl Tell for ReadGroup<'_> {
 #[derive(Drop)]
 pub struct OfGroup<'a>(pub Sample<'a>);
 
-impl Tell for OfGroup<'_> {
-    fn tell(&self, text: &mut String) -> Result<(), AllocError> {
+impl WriteText for OfGroup<'_> {
+    fn write_text(&self, text: &mut String) -> Result<(), AllocError> {
         match self.0.values() {
-            Some(group) => group.tell(text),
+            Some(group) => group.write_text(text),
             None => text.push_str("no group"),
         }
     }
 }
 
-fn tell_if_one(text: &mut String, group: ReadGroup<'_>) -> Result<(), AllocError> {
+fn write_if_one(text: &mut String, group: ReadGroup<'_>) -> Result<(), AllocError> {
     write!(text, " {}", ReadValue::try_from(group).is_ok())
 }
 
-fn tell_entries(text: &mut String, group: &ReadGroup<'_>) -> Result<(), AllocError> {
+fn write_entries(text: &mut String, group: &ReadGroup<'_>) -> Result<(), AllocError> {
     let times = [group.time_enabled(), group.time_running()];
     write!(text, "{} {} {times:?}", group.len(), group.is_empty())?;
     let mut entries = group.entries();
     let first = [entries.next(), entries.next(), entries.next()];
     write!(text, " {first:?}")?;
-    tell_found_entries(text, group)
+    write_entries_by_id(text, group)
 }
 
-fn tell_found_entries(text: &mut String, group: &ReadGroup<'_>) -> Result<(), AllocError> {
+fn write_entries_by_id(text: &mut String, group: &ReadGroup<'_>) -> Result<(), AllocError> {
     let by_places = [group.get(0), group.get(1), group.get(2)];
     let by_ids = [
         group.get_by_id(1),
@@ -226,15 +226,15 @@ fn tell_found_entries(text: &mut String, group: &ReadGroup<'_>) -> Result<(), Al
 #[derive(Drop)]
 pub struct FromBothEnds<'a>(pub ReadGroup<'a>);
 
-impl Tell for FromBothEnds<'_> {
-    fn tell(&self, text: &mut String) -> Result<(), AllocError> {
+impl WriteText for FromBothEnds<'_> {
+    fn write_text(&self, text: &mut String) -> Result<(), AllocError> {
         let times = [self.0.time_enabled(), self.0.time_running()];
         write!(text, "{} {times:?}", self.0.len())?;
-        tell_taken(text, self.0.entries())
+        write_from_both_ends(text, self.0.entries())
     }
 }
 
-fn tell_taken(text: &mut String, entries: GroupIter<'_>) -> Result<(), AllocError> {
+fn write_from_both_ends(text: &mut String, entries: GroupIter<'_>) -> Result<(), AllocError> {
     let mut entries = entries;
     let taken = [entries.nth(1), entries.next_back(), entries.nth_back(1)];
     write!(text, " {taken:?} {}", entries.len())?;
