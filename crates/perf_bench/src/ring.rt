@@ -21,7 +21,7 @@ impl PartialVisitor for Numbers {
     type Output = u64;
 
     // Nothing is specified.
-    ghost gives = { λ seen output. ⊤ };
+    ghost gives = { λ event output. ⊤ };
 
     ghost left_out = { λ metadata output. ⊤ };
 

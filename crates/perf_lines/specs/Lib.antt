@@ -3,4 +3,4 @@ pub mod Fields
 pub mod SampleText
 pub mod Text
 pub mod Outcomes
-pub mod RunWords
+pub mod Prelude

@@ -2,9 +2,9 @@
 
 ghost use Rattle.std.specs.Prelude.{◌≡◌, ◌<◌, ◌++◌, List, ℕ, IsTrue, IfOk, IfSome, is_err};
 ghost use Rattle.std.specs.Prelude.{codes, string_bytes, if◌then◌else◌, true};
-ghost use Rattle.perf_lines.specs.RunWords.{configuration_of, endian_of, buffer_of};
-ghost use Rattle.perf_lines.specs.RunWords.{config_of, of_layout, list_any, IsWritten, Writes};
-ghost use Rattle.perf_lines.specs.RunWords.{plain, ending_line, ending_outcome};
+ghost use Rattle.perf_lines.specs.Prelude.{configuration_of, endian_of, buffer_of};
+ghost use Rattle.perf_lines.specs.Prelude.{config_of, of_layout, list_any, IsWritten, Writes};
+ghost use Rattle.perf_lines.specs.Prelude.{plain, ending_line, ending_outcome};
 ghost use Rattle.perf_lines.specs.Text as lines;
 
 use crate::line::{push_attr_refused, push_end, push_fault, push_lines};

@@ -84,7 +84,7 @@ record_sum _ = 0
 
 -- the number is what the record of an event adds
 abbrev pub Adds : Event → ℕ → Type 0
-Adds seen sum = sum ≡ modulo_word (record_sum seen.value)
+Adds event sum = sum ≡ modulo_word (record_sum event.value)
 
 -- ---- what is counted of frames
 
@@ -124,11 +124,11 @@ sight_answer c o (bad h e) = Err e
 
 -- a frame is refused
 abbrev pub IsRefused : Result RecordValue ErrorKind → Type 0
-IsRefused says = IfOk says (λ value. ⊥)
+IsRefused answer = IfOk answer (λ value. ⊥)
 
 -- the counts of one frame
 abbrev pub counted_sight : Configuration → Order → Sight → Counts
-counted_sight c o seen = counts_of ((sight_header seen, sight_answer c o seen) ∷ [])
+counted_sight c o sight = counts_of ((sight_header sight, sight_answer c o sight) ∷ [])
 
 -- a run was ended by a refusal that is none of the layout's
 abbrev pub IsFault : Option Refusal → Type 0
@@ -143,8 +143,8 @@ EndsBy (Some refusal) e = (x : ParseError) × (e ≡ Fault x) × IsErrorOf x ref
 -- A counter was handed a frame, and returned whether the run goes on. If so, the frame was counted,
 -- once; if not, a fault or a failed allocation ended the run, and the frame was not counted.
 abbrev pub CountsSight : FrameCounter → Configuration → Order → Sight → Bool → FrameCounter → Type 0
-CountsSight was c o seen true now = now.counts ≡ plus was.counts (counted_sight c o seen)
-CountsSight was c o seen false now = (now.counts ≡ was.counts) × IsFault now.refusal
+CountsSight was c o sight true now = now.counts ≡ plus was.counts (counted_sight c o sight)
+CountsSight was c o sight false now = (now.counts ≡ was.counts) × IsFault now.refusal
 
 -- A refused frame was counted, whatever its header, or ended the run.
 abbrev pub RefusesSight : Refusal → FrameCounter → Bool → FrameCounter → Type 0
@@ -155,8 +155,8 @@ RefusesSight refusal was false now = (now.counts ≡ was.counts) × IsFault now.
 -- What a record adds was summed, if the result is a record; otherwise it was refused with the kind
 -- of the result, or for a fault or a failed allocation.
 abbrev pub SumsAnswer : Result RecordValue ErrorKind → Result ℕ Refusal → Type 0
-SumsAnswer says (Ok sum) = (value : RecordValue) × (says ≡ Ok value) × (sum ≡ modulo_word (record_sum value))
-SumsAnswer says (Err e) = IsTrue (of_layout (refusal_kind e)) → says ≡ Err (refusal_kind e)
+SumsAnswer answer (Ok sum) = (value : RecordValue) × (answer ≡ Ok value) × (sum ≡ modulo_word (record_sum value))
+SumsAnswer answer (Err e) = IsTrue (of_layout (refusal_kind e)) → answer ≡ Err (refusal_kind e)
 
 -- ---- what is counted of a stream
 

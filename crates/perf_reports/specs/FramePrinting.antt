@@ -83,17 +83,17 @@ PrintsAnswer out err was answer (Err why) now = StopsAt out err was answer why n
 
 -- the result of what a printer is handed
 abbrev pub sight_pair : Configuration → Order → Sight → Answered
-sight_pair c o seen = (sight_header seen, sight_answer c o seen)
+sight_pair c o sight = (sight_header sight, sight_answer c o sight)
 
 -- A printer was handed a frame, and returned whether the run goes on. If so, the frame was printed,
 -- once; if not, the printer keeps why it stopped there.
 abbrev pub PrintsSight : {W E : Type 0} → (W → Option (List ℕ)) → (E → Option (List ℕ)) →
     FramePrinter W E → Configuration → Order → Sight → Bool → FramePrinter W E → Type 0
-PrintsSight out err was c o seen true now =
-    Prints out err was (sight_pair c o seen ∷ []) now
-PrintsSight out err was c o seen false now =
+PrintsSight out err was c o sight true now =
+    Prints out err was (sight_pair c o sight ∷ []) now
+PrintsSight out err was c o sight false now =
     (why : Stopped) × (now.stopped ≡ Some why)
-    × StopsAt out err was (sight_pair c o seen) why now
+    × StopsAt out err was (sight_pair c o sight) why now
 
 -- the results of the frames that a parser has not read yet
 abbrev pub answers_of : ReaderState → List Answered

@@ -20,8 +20,8 @@ use Rattle.perf_records.specs.Records.{namespaces_is}
 -- ---- words
 
 -- words with a space, 32, between each two
-abbrev pub spaced : List (List ℕ) → List ℕ
-spaced words = join_with_byte 32 words
+abbrev pub join_words : List (List ℕ) → List ℕ
+join_words words = join_with_byte 32 words
 
 -- a number in hexadecimal
 abbrev pub hex : ℕ → List ℕ
@@ -35,7 +35,7 @@ letter word bit set unset = if bit_and word bit == 0 then unset else set
 
 -- its address, its length, and its offset in the file
 abbrev pub place : (addr len pgoff : ℕ) → List ℕ
-place addr len pgoff = spaced (hex addr ∷ hex len ∷ hex pgoff ∷ [])
+place addr len pgoff = join_words (hex addr ∷ hex len ∷ hex pgoff ∷ [])
 
 -- how its memory may be used: readable, writable, executable, and shared or private
 abbrev pub protection : (prot flags : ℕ) → List ℕ
@@ -50,7 +50,7 @@ hex_byte byte = digits 16 false (byte / 16) ++ digits 16 false (byte % 16)
 -- a file by its device, its inode and its generation
 abbrev pub inode : (maj min ino generation : ℕ) → List ℕ
 inode maj min ino generation =
-    spaced ((hex maj ++ (codes ":" ++ hex min)) ∷ decimal ino ∷ decimal generation ∷ [])
+    join_words ((hex maj ++ (codes ":" ++ hex min)) ∷ decimal ino ∷ decimal generation ∷ [])
 
 -- the file of a mapping: its inode, or the digits of its build id
 abbrev pub file : DetailValue → List ℕ
@@ -108,8 +108,8 @@ HasNoControl line = All (λ byte. (32 ≤ byte) × ¬ (byte ≡ 127)) line
 -- ---- lines
 
 -- the kind of the line, the task, and the rest of the line
-abbrev pub line : (what : List ℕ) (pid tid : ℕ) (says : List ℕ) → List ℕ
-line what pid tid says = spaced (what ∷ decimal pid ∷ decimal tid ∷ says ∷ [])
+abbrev pub line : (what : List ℕ) (pid tid : ℕ) (rest : List ℕ) → List ℕ
+line what pid tid rest = join_words (what ∷ decimal pid ∷ decimal tid ∷ rest ∷ [])
 
 -- the new name of a task
 abbrev pub comm_line : CommValue → List ℕ
@@ -119,18 +119,18 @@ comm_line r = line (codes "comm") r.pid r.tid (escape_name r.comm)
 abbrev pub mmap_line : MmapValue → List ℕ
 mmap_line r =
     line (codes "mmap") r.pid r.tid
-    (spaced (place r.addr r.len r.pgoff ∷ escape_name r.filename ∷ []))
+    (join_words (place r.addr r.len r.pgoff ∷ escape_name r.filename ∷ []))
 
 -- the same, with its file and how its memory may be used
 abbrev pub mmap2_line : Mmap2Value → List ℕ
 mmap2_line r =
     line (codes "mmap2") r.pid r.tid
-    (spaced (place r.addr r.len r.pgoff ∷ file r.detail ∷ protection r.prot r.flags
+    (join_words (place r.addr r.len r.pgoff ∷ file r.detail ∷ protection r.prot r.flags
     ∷ escape_name r.filename ∷ []))
 
 -- the start or the end of a task, and the task that made it or its parent
 abbrev pub task_line : List ℕ → Exit → List ℕ
-task_line what r = line what r.pid r.tid (spaced (decimal r.ppid ∷ decimal r.ptid ∷ []))
+task_line what r = line what r.pid r.tid (join_words (decimal r.ppid ∷ decimal r.ptid ∷ []))
 
 -- the namespaces of a task, separated by commas
 abbrev pub namespaces_line : NamespacesValue → List ℕ

@@ -32,11 +32,11 @@ impl Counts {
         ensures { (value : RecordValue) → sum ≡ modulo_word (record_sum value) →
             self.new ≡ plus self.old (counts_of ((header, Ok value) ∷ [])) }
     {
-        let framed = sum.wrapping_add(u64::from(header.type_) + u64::from(header.size));
+        let base = sum.wrapping_add(u64::from(header.type_) + u64::from(header.size));
         *self = self.plus(Counts {
             records: 1,
             refused: 0,
-            checksum: framed,
+            checksum: base,
         });
     }
 

@@ -43,7 +43,7 @@ impl Report {
         ensures { OnOk result (string_bytes text.new
             ≡ string_bytes text.old ++ text_of_record self (found_value found.entry)) }
     {
-        let told = match (self, found) {
+        let has_line = match (self, found) {
             (Report::Tasks, Found::Record(record)) => tasks::push_line(text, record)?,
             (Report::Tasks, Found::Sample(_)) => false,
             (Report::Samples, Found::Record(record)) => samples::push_line(text, record)?,
@@ -52,7 +52,7 @@ impl Report {
                 true
             }
         };
-        if told {
+        if has_line {
             text.push_str("\n")?;
         }
         Ok(())

@@ -53,11 +53,11 @@ impl<'p> BodyReader<'p, Sample<'p>> for Sum {
                 ParseBufChunk::Temporary(bytes) => read_sample(alloc, bytes, config, metadata),
             };
         }
-        let lent = ParseBufChunk::External(bytes.as_bytes());
+        let chunk = ParseBufChunk::External(bytes.as_bytes());
         let visitor = ByVisitor {
             visitor: SumVisitor,
         };
-        visitor.read(alloc, lent, config, metadata, &mut ())
+        visitor.read(alloc, chunk, config, metadata, &mut ())
     }
 }
 

@@ -125,7 +125,7 @@ fn push_namespaces(text: &mut String, namespaces: &Namespaces) -> Result<(), All
     let mut strip = Strip::new();
     put_head(&mut strip, "namespaces", namespaces.pid, namespaces.tid);
     text.push_str(strip.text())?;
-    push_listed(text, &mut strip, namespaces.namespaces.as_slice())
+    push_namespace_list(text, &mut strip, namespaces.namespaces.as_slice())
 }
 
 // Writes the kind of the line and the task before the rest of the line.
@@ -243,7 +243,7 @@ fn put_letter(strip: &mut Strip, word: u32, bit: u32, set: &str, unset: &str)
 }
 
 // Appends namespaces, separated by commas.
-fn push_listed(
+fn push_namespace_list(
     text: &mut String,
     strip: &mut Strip,
     namespaces: &[NamespaceEntry],

@@ -8,24 +8,24 @@ use Rattle.perf_uses.specs.declared.own_span.Span.{Span}
 
 -- a span in plain numbers and bytes
 pub record SpanValue : Type 0 where
-  pub begun : ℕ
-  pub lasted : ℕ
+  pub start : ℕ
+  pub duration : ℕ
   pub label : List ℕ
 
 -- the value of a span
 abbrev pub span_value : Span → SpanValue
-span_value s = record { begun = s.begun; lasted = s.lasted; label = cow_items s.label }
+span_value s = record { start = s.start; duration = s.duration; label = cow_items s.label }
 
 -- the layout of a body: a version, which is 2; two times; and a label after its length
 abbrev pub span_parts : Parts SpanValue
 span_parts = do
   version ← u16
   require (version == 2) InvalidRecord
-  begun ← u64
-  lasted ← u64
+  start ← u64
+  duration ← u64
   len ← u16
   label ← bytes len
-  done (record { begun = begun; lasted = lasted; label = label })
+  done (record { start = start; duration = duration; label = label })
 
 -- no byte of it was copied
 abbrev pub IsBorrowedSpan : Span → Type 0

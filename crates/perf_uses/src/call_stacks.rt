@@ -36,7 +36,7 @@ impl PartialVisitor for Folding {
     type Output = Result<Option<String>, AllocError>;
 
     // only a sample is folded
-    ghost gives = { λ seen _. IsSample seen.value };
+    ghost gives = { λ event _. IsSample event.value };
 
     // another record gives no call chain
     ghost left_out = { λ _ output. output ≡ Ok None };

@@ -181,7 +181,7 @@ fn print_spans(rt: &(impl AllocGlobal + Print), bytes: &[u8]) -> Result<()> {
         match parser.parse::<Span>() {
             Ok(span) => {
                 let label = String::from_utf8_lossy(rt.alloc(), span.label.as_slice())?;
-                println!(rt; "{label} from {} for {}", span.begun, span.lasted)?;
+                println!(rt; "{label} from {} for {}", span.start, span.duration)?;
             }
             Err(error) => println!(rt; "{error}")?,
         }
@@ -225,12 +225,12 @@ fn main(rt: HostRuntime) -> Result<()> {
     print_marks(&rt, MARKS)?;
     print_mark(&rt, &mark_in(rt.alloc(), BODY)?)?;
     print_spans(&rt, SPANS)?;
-    let swapped = ParseConfig::<Little>::default().with_endian(HighWordFirst);
-    print_losses(&rt, &mut Parser::new(rt.alloc(), SWAPPED, swapped))?;
+    let by_halves = ParseConfig::<Little>::default().with_endian(HighWordFirst);
+    print_losses(&rt, &mut Parser::new(rt.alloc(), SWAPPED, by_halves))?;
     let ring = Ring::new(&RING[12..], &RING[..12]);
     let plain = ParseConfig::<Little>::default();
     print_losses(&rt, &mut Parser::new(rt.alloc(), ring, plain))?;
-    let received = Received::new(Vec::from_slice(rt.alloc(), &RING[12..28])?);
+    let buffer = Received::new(Vec::from_slice(rt.alloc(), &RING[12..28])?);
     let plain = ParseConfig::<Little>::default();
-    print_losses(&rt, &mut Parser::new(rt.alloc(), received, plain))
+    print_losses(&rt, &mut Parser::new(rt.alloc(), buffer, plain))
 }

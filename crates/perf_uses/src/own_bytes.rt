@@ -4,27 +4,27 @@ ghost use Rattle.std.specs.Prelude.{◌≡◌, ◌-◌, length, drop, None, Some
 
 use perf_event_data::parse::{ParseBuf, ParseBufChunk, ParseError, ParseResult};
 
-/// Bytes that were received, of which the first `taken` have been read.
+/// Bytes that were received, of which the first `position` have been read.
 #[derive(Debug, Drop)]
 pub struct Received {
     bytes: Vec<u8>,
-    taken: usize,
+    position: usize,
 }
 
 impl Received {
     /// A buffer of these bytes.
     pub fn new(bytes: Vec<u8>) -> Received
         ensures bytes { result.bytes ≡ bytes }
-        ensures taken { result.taken ≡ 0 }
+        ensures position { result.position ≡ 0 }
     {
-        Received { bytes, taken: 0 }
+        Received { bytes, position: 0 }
     }
 }
 
 impl<'p> ParseBuf<'p> for Received {
     // what is left, and what is known of it
     ghost source = { λ r. record {
-      left = drop r.taken r.bytes.items;
+      left = drop r.position r.bytes.items;
       told = true;
       whole = false;
       can_fault = false;
@@ -32,24 +32,24 @@ impl<'p> ParseBuf<'p> for Received {
     } };
 
     // the bytes that the next chunk has again
-    ghost ready = { λ r. drop r.taken r.bytes.items };
+    ghost ready = { λ r. drop r.position r.bytes.items };
 
     // what `remaining_hint` returns
-    ghost hint = { λ r. Some (length r.bytes.items - r.taken) };
+    ghost hint = { λ r. Some (length r.bytes.items - r.position) };
 
     fn chunk(&mut self) -> ParseResult<ParseBufChunk<'_, 'p>> {
-        let taken = self.taken;
-        if taken >= self.bytes.len() {
+        let position = self.position;
+        if position >= self.bytes.len() {
             return Err(ParseError::eof());
         }
-        Ok(ParseBufChunk::Temporary(&self.bytes[taken..]))
+        Ok(ParseBufChunk::Temporary(&self.bytes[position..]))
     }
 
     fn advance(&mut self, count: usize) {
-        self.taken += count;
+        self.position += count;
     }
 
     fn remaining_hint(&self) -> Option<usize> {
-        Some(self.bytes.len().saturating_sub(self.taken))
+        Some(self.bytes.len().saturating_sub(self.position))
     }
 }

@@ -11,9 +11,9 @@ use perf_event_data::parse::{ErrorKind, Layout, Parse, ParseBuf, ParseError, Par
 #[derive(Debug, Drop)]
 pub struct Span<'a> {
     /// When it began.
-    pub begun: u64,
-    /// How long it lasted.
-    pub lasted: u64,
+    pub start: u64,
+    /// How long it took.
+    pub duration: u64,
     /// What was done.
     pub label: CowSlice<'a, u8>,
 }
@@ -30,13 +30,13 @@ impl<'p, B: ParseBuf<'p>> Parse<'p, B> for Span<'p> {
         if version != 2 {
             return Err(ParseError::custom(ErrorKind::InvalidRecord, "not of version 2"));
         }
-        let begun = parser.parse_u64()?;
-        let lasted = parser.parse_u64()?;
+        let start = parser.parse_u64()?;
+        let duration = parser.parse_u64()?;
         let len = parser.parse_u16()?;
         let label = parser.parse_bytes(usize::from(len))?;
         Ok(Span {
-            begun,
-            lasted,
+            start,
+            duration,
             label,
         })
     }

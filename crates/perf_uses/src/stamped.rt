@@ -22,7 +22,7 @@ pub struct Stamped<V>(pub V);
 impl<'a, V: Visitor<'a>> Visitor<'a> for Stamped<V> {
     type Output = (RecordMetadata, V::Output);
 
-    ghost gives = { λ seen output. (output.0 ≡ seen.metadata) × V.gives seen output.1 };
+    ghost gives = { λ event output. (output.0 ≡ event.metadata) × V.gives event output.1 };
 
     fn visit_unimplemented(self, metadata: RecordMetadata) -> Self::Output {
         (copy_of(&metadata), self.0.visit_unimplemented(metadata))

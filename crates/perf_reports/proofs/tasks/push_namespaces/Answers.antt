@@ -11,4 +11,4 @@ returns c =
     let old : List ℕ = string_bytes c.args.text.now in
     let listed : List ℕ = join_by namespace (codes ",") c.as_slice.result.now in
     let e : string_bytes c.push_str.new.self ++ listed ≡ old ++ namespaces_line r = rw (← c.as_slice.ensures, c.in_ok-push_str.ensures.bytes, c.text.ensures, c.put_head.ensures.text, c.new-strip.ensures.text, append_assoc) (ap (λ xs. old ++ xs) (said (codes "namespaces") r.pid r.tid [] listed)) in
-    appended c.push_listed.result _ _ _ e c.push_listed.ensures
+    appended c.push_namespace_list.result _ _ _ e c.push_namespace_list.ensures

@@ -1,4 +1,4 @@
--- The words that the contracts of a run of the program use.
+-- The names that the contracts of a run of the program use.
 pub use Rattle.std.specs.List.{list_any}
 pub use Rattle.perf_base.specs.Configuration.{plain}
 pub use Rattle.perf_base.specs.Configured.{configuration_of, endian_of}
