@@ -322,6 +322,8 @@ fn little_streams_with_sample_ids_give_what_their_lists_give(
 }
 
 #[test]
-fn big_streams_with_sample_ids_give_what_their_lists_give(rt: HostRuntime) -> Result<(), AllocError> {
+fn big_streams_with_sample_ids_give_what_their_lists_give(
+    rt: HostRuntime,
+) -> Result<(), AllocError> {
     check_streams(&rt, 30_000, Dynamic::Big, SAMPLE_ID_ALL)
 }

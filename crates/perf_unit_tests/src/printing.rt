@@ -365,32 +365,46 @@ fn writes_of(rt: &(impl AllocGlobal + Abort), input: &[u8], report: Report) -> u
     output.writes
 }
 
+// Asserts how many writes print what is in an input.
+fn check_writes(
+    rt: &(impl AllocGlobal + Abort),
+    what: &str,
+    input: &[u8],
+    report: Report,
+    want: usize,
+) {
+    check_same(rt, what, writes_of(rt, input, report), want);
+}
+
+// 256 tasks of this name, whose lines have ten bytes more than it.
+fn many_names(alloc: Global, name: &[u8]) -> Result<Vec<u8>, AllocError> {
+    let mut lines = Vec::from_slice(alloc, &PLAIN_64)?;
+    for _ in 0..256 {
+        push_named(&mut lines, name)?;
+    }
+    Ok(lines)
+}
+
 #[test]
 fn a_write_is_of_whole_lines(rt: HostRuntime) -> Result<(), AllocError> {
     // 256 lines of 64 bytes each: 4 times 64 of them are 4,096 bytes.
-    let mut lines = Vec::from_slice(rt.alloc(), &PLAIN_64)?;
-    for _ in 0..256 {
-        push_named(&mut lines, &[b'n'; 54])?;
-    }
-    check_same(
-        &rt,
-        "64 bytes",
-        writes_of(&rt, lines.as_slice(), Report::Tasks),
-        4,
-    );
+    let input = many_names(rt.alloc(), &[b'n'; 54])?;
+    check_writes(&rt, "64 bytes", input.as_slice(), Report::Tasks, 4);
 
     // 62 lines of 66 bytes are 4,092 bytes, so that 256 are four times 62 and 8 more.
-    let mut lines = Vec::from_slice(rt.alloc(), &PLAIN_64)?;
-    for _ in 0..256 {
-        push_named(&mut lines, &[b'n'; 56])?;
-    }
-    check_same(
-        &rt,
-        "66 bytes",
-        writes_of(&rt, lines.as_slice(), Report::Tasks),
-        5,
-    );
+    let input = many_names(rt.alloc(), &[b'n'; 56])?;
+    check_writes(&rt, "66 bytes", input.as_slice(), Report::Tasks, 5);
 
+    let input = with_chains(rt.alloc(), &[1, 8000, 0, 300])?;
+    check_writes(&rt, "samples", input.as_slice(), Report::Samples, 3);
+    let input = growing(rt.alloc(), 700, 1_000)?;
+    let writes = writes_of(&rt, input.as_slice(), Report::Tasks);
+    check_that(&rt, "names that grow", writes > 40);
+    Ok(())
+}
+
+#[test]
+fn a_long_line_has_a_write_of_its_own(rt: HostRuntime) -> Result<(), AllocError> {
     // Lines of 12 bytes, of 10 more than the name, and of 12 bytes: the second fits with both
     // others, with the first, with none.
     for (len, writes) in [
@@ -402,27 +416,8 @@ fn a_write_is_of_whole_lines(rt: HostRuntime) -> Result<(), AllocError> {
         (40_000, 3),
     ] {
         let input = long_name(rt.alloc(), len)?;
-        check_same(
-            &rt,
-            "a long name",
-            writes_of(&rt, input.as_slice(), Report::Tasks),
-            writes,
-        );
+        check_writes(&rt, "a long name", input.as_slice(), Report::Tasks, writes);
     }
-
-    let input = with_chains(rt.alloc(), &[1, 8000, 0, 300])?;
-    check_same(
-        &rt,
-        "samples",
-        writes_of(&rt, input.as_slice(), Report::Samples),
-        3,
-    );
-    let input = growing(rt.alloc(), 700, 1_000)?;
-    check_that(
-        &rt,
-        "names that grow",
-        writes_of(&rt, input.as_slice(), Report::Tasks) > 40,
-    );
     Ok(())
 }
 
