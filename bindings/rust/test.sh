@@ -20,4 +20,10 @@ cargo fmt --check
 cargo clippy --offline --quiet --all-targets -- -D warnings
 RUSTDOCFLAGS="-D warnings" cargo doc --offline --quiet --no-deps --document-private-items
 cargo test --offline --quiet
+if command -v python3 >/dev/null; then
+    ../streams.py list 1 200 >"$CARGO_TARGET_DIR/list"
+    PERF_EVENT_DATA_CASES=$CARGO_TARGET_DIR/list cargo test --offline --quiet --test replay other
+else
+    echo "skipped: generated streams: no python3"
+fi
 ./upstream_tests.py ${upstream:+"$upstream"}

@@ -520,6 +520,19 @@ fn cases_have_their_results() {
         env!("CARGO_MANIFEST_DIR"),
         "/../../crates/perf_replay/stdin"
     );
+    assert!(replay(path) > 1000);
+}
+
+/// Those of another list, if there is one: `PERF_EVENT_DATA_CASES` is its path.
+#[test]
+fn other_cases_have_their_results() {
+    if let Ok(path) = std::env::var("PERF_EVENT_DATA_CASES") {
+        assert!(replay(&path) > 0);
+    }
+}
+
+/// Compares all results of a list, and returns how many are the same.
+fn replay(path: &str) -> usize {
     let list = std::fs::read_to_string(path).expect("the list of cases");
     let mut case = Case::default();
     let is_partial = text::is_partial();
@@ -558,5 +571,5 @@ fn cases_have_their_results() {
         );
     }
     assert_eq!(differing, 0);
-    assert!(same + unread > 1000);
+    same + unread
 }
