@@ -49,7 +49,12 @@ impl<'a> Visitor<'a> for Lists {
     }
 
     fn visit_sample(self, sample: Sample<'a>, _: RecordMetadata) -> usize {
-        usize::from(sample.callchain().is_some_and(|chain| !chain.is_empty()))
+        let registers = [sample.regs_user(), sample.regs_intr()];
+        let [user, interrupt] = registers.map(|found| found.map_or(0, |found| found.regs.len()));
+        let branches = sample.lbr().map_or(0, |list| list.len());
+        let chain = sample.callchain().map_or(0, |list| list.len());
+        let lengths = [user, interrupt, branches, chain];
+        lengths.into_iter().filter(|&length| length != 0).count()
     }
 
     fn visit_namespaces(self, record: Namespaces<'a>, _: RecordMetadata) -> usize {
