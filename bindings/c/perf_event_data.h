@@ -20,6 +20,9 @@
 extern "C" {
 #endif
 
+/* The release of the library that this header is from. */
+#define PED_RELEASE "0.1.8"
+
 /* The version of the structs below. A configuration of another version is not read. */
 #define PED_VERSION 1u
 

@@ -164,13 +164,7 @@ impl ParseError {
             1 => ErrorKind::Eof,
             2 => ErrorKind::InvalidRecord,
             3 => ErrorKind::UnsupportedConfig,
-            4 => ErrorKind::UnsupportedData,
-            _ => {
-                return Self::custom(
-                    ErrorKind::UnsupportedData,
-                    "the linked library does not read records of this type",
-                )
-            }
+            _ => ErrorKind::UnsupportedData,
         };
         match message(frame.reason) {
             Some(text) => Self::custom(code, text),

@@ -506,14 +506,6 @@ impl<'a> Case<'a> {
     }
 }
 
-/// Whether a result differs only in what a partial library does not read.
-fn is_unread(how: &str, found: &str, expected: &str) -> bool {
-    match how {
-        "run" | "perfrec" => text::are_same_but_unread(found, expected),
-        _ => found.contains("UnsupportedData") || found.contains("does not read records"),
-    }
-}
-
 #[test]
 fn cases_have_their_results() {
     let path = concat!(
@@ -535,8 +527,7 @@ fn other_cases_have_their_results() {
 fn replay(path: &str) -> usize {
     let list = std::fs::read_to_string(path).expect("the list of cases");
     let mut case = Case::default();
-    let is_partial = text::is_partial();
-    let (mut same, mut skipped, mut unread, mut differing) = (0, 0, 0, 0);
+    let (mut same, mut skipped, mut differing) = (0, 0, 0);
     for line in list.lines() {
         let (word, rest) = line.split_once(' ').unwrap_or((line, ""));
         match word {
@@ -552,9 +543,6 @@ fn replay(path: &str) -> usize {
                 match case.told() {
                     None => skipped += 1,
                     Some(found) if found == expected => same += 1,
-                    Some(found) if is_partial && is_unread(case.how, &found, &expected) => {
-                        unread += 1
-                    }
                     Some(found) => {
                         differing += 1;
                         println!("{}\nexpected {expected}\nfound    {found}\n", case.name);
@@ -565,11 +553,6 @@ fn replay(path: &str) -> usize {
         }
     }
     println!("{same} results are the same, {skipped} were skipped, {differing} differ");
-    if is_partial {
-        println!(
-            "the linked library reads no SAMPLE and no NAMESPACES: {unread} results have some"
-        );
-    }
     assert_eq!(differing, 0);
-    same + unread
+    same
 }
