@@ -1,18 +1,21 @@
 #!/bin/sh
 # Builds the programs of bindings/c over an archive, in a folder of its own, and runs them as tests:
 #
-#     bindings/test.sh ARCHIVE [PERFREC]
+#     bindings/test.sh ARCHIVE [CRATES [STREAMS]]
 #
-# ARCHIVE is libperf_event_c.a, which `rt lib` makes in crates/perf_event_c. PERFREC is the program that
-# `rt run` makes in crates/perfrec; with it the text of the bundled recordings is compared too. A line
-# says what passed, failed or was skipped; the status is 0 if nothing failed.
+# ARCHIVE is libperf_event_c.a, which `rt lib` makes in crates/perf_event_c. CRATES is a folder like
+# crates/ in which the programs perfrec, perf_count and perf_replay are built (each in its out/); with
+# them the texts and counts are compared with those of the proved programs too. STREAMS is how many
+# generated streams are read, 200 without it. A line says what passed, failed or was skipped; the
+# status is 0 if nothing failed.
 set -u
 if [ $# -lt 1 ] || [ ! -f "$1" ]; then
-    echo "usage: bindings/test.sh ARCHIVE [PERFREC]" >&2
+    echo "usage: bindings/test.sh ARCHIVE [CRATES [STREAMS]]" >&2
     exit 2
 fi
 archive=$(realpath "$1")
-perfrec=${2:+$(realpath "$2")}
+proved=${2:+$(realpath "$2")}
+streams=${3:-200}
 top=$(cd "$(dirname "$0")/.." && pwd)
 crates=$top/crates
 work=$(mktemp -d) || exit 2
@@ -90,15 +93,71 @@ check_texts() {
     compare "lines of crates/perf_samples" "$crates/perf_samples/stdout" "$work/text"
 }
 
+# The path of a proved program, if CRATES has it: program NAME.
+program() {
+    [ -n "$proved" ] && [ -x "$proved/$1/out/$1" ] && echo "$proved/$1/out/$1"
+}
+
 check_recordings() {
-    if [ -z "$perfrec" ]; then
-        skip "text of the recordings: PERFREC is not given"
+    perfrec=$(program perfrec) || {
+        skip "text of the recordings by the proved perfrec: it is not given"
+        return
+    }
+    for stream in "$crates"/perf_tasks/stdin "$crates"/perf_samples/stdin "$top"/examples/*.stream; do
+        for words in "little attr" "native 100 attr" "big attr" "big"; do
+            "$perfrec" $words <"$stream" >"$work/theirs" 2>/dev/null
+            echo "status $?" >>"$work/theirs"
+            "$1/perfrec" $words <"$stream" >"$work/text"
+            echo "status $?" >>"$work/text"
+            compare "text of perfrec $words < ${stream#"$top"/}" "$work/theirs" "$work/text"
+        done
+    done
+}
+
+check_counts() {
+    "$1/perfrec" count $(cat "$crates/perf_count/args") <"$crates/perf_count/stdin" >"$work/text"
+    compare "counts of crates/perf_count" "$crates/perf_count/stdout" "$work/text"
+    "$1/perfrec" count little 1 </dev/null >/dev/null 2>&1
+    [ $? = 2 ] && pass "counts take no limit" || fail "counts with a limit"
+}
+
+# The first list is read by all programs, plain and sanitized.
+check_streams() {
+    if ! command -v python3 >/dev/null; then
+        skip "generated streams: no python3"
         return
     fi
-    for stream in "$crates"/perf_tasks/stdin "$crates"/perf_samples/stdin "$top"/examples/*.stream; do
-        "$perfrec" little attr <"$stream" >"$work/theirs" 2>/dev/null
-        "$1/perfrec" little attr <"$stream" >"$work/text"
-        compare "text of ${stream#"$top"/}" "$work/theirs" "$work/text"
+    python3 "$top/bindings/streams.py" list 1 200 >"$work/list"
+    try "generated streams" "$1/replay" "$work/list"
+    [ -z "$sanitize" ] || try "generated streams, sanitized" "$2/replay" "$work/list"
+    if command -v valgrind >/dev/null; then
+        try "generated streams, under valgrind" valgrind -q --error-exitcode=9 "$1/replay" "$work/list"
+    fi
+    try "counts of generated streams" python3 "$top/bindings/streams.py" counts "$work/list" "$1/perfrec" count
+    if count=$(program perf_count); then
+        try "the same by the proved perf_count" python3 "$top/bindings/streams.py" counts "$work/list" "$count"
+    else
+        skip "counts by the proved perf_count: it is not given"
+    fi
+    program perf_replay >/dev/null || skip "generated streams by the proved perf_replay: it is not given"
+    check_replay
+    check_more "$1" $((streams - 200))
+}
+
+# The text of the list by the proved programs.
+check_replay() {
+    replay=$(program perf_replay) || return
+    try "the same by the proved perf_replay" sh -c '"$1" <"$2"' sh "$replay" "$work/list"
+}
+
+# More streams, some thousands at a time.
+check_more() {
+    seed=1 left=$2
+    while [ "$left" -gt 0 ]; do
+        count=$((left < 5000 ? left : 5000)) seed=$((seed + 1)) left=$((left - 5000))
+        python3 "$top/bindings/streams.py" list $seed $count >"$work/list"
+        try "generated streams of seed $seed" "$1/replay" "$work/list"
+        check_replay
     done
 }
 
@@ -116,14 +175,24 @@ run_programs() {
 
 check_symbols
 check_declared
+sanitize=address,undefined
+echo 'int main(void) { return 0; }' >"$work/empty.c"
+if ! cc -fsanitize=$sanitize -o "$work/empty" "$work/empty.c" 2>/dev/null || ! "$work/empty"; then
+    skip "sanitized programs: the compiler has no sanitizers here"
+    sanitize=
+fi
 build plain ""
-build sanitized address,undefined
+[ -z "$sanitize" ] || build sanitized $sanitize
 check_texts "$work/plain"
 check_recordings "$work/plain"
+check_counts "$work/plain"
+check_streams "$work/plain" "$work/sanitized"
 run_programs plain "plain"
-run_programs sanitized "sanitized"
 try "a live ring" "$work/plain/live"
-try "a live ring, sanitized" "$work/sanitized/live"
+if [ -n "$sanitize" ]; then
+    run_programs sanitized "sanitized"
+    try "a live ring, sanitized" "$work/sanitized/live"
+fi
 if command -v valgrind >/dev/null; then
     run_programs plain "under valgrind" valgrind -q --error-exitcode=9
 else

@@ -31,11 +31,7 @@ agrees "version in pkg-config" @VERSION@ "$here/perf_event_data.pc.in" 's/^Versi
 agrees "version in Cargo.toml" "$version" "$here/rust/Cargo.toml" 's/^version = "\(.*\)"$/\1/p'
 agrees "version in Python" "$version" "$here/python/perf_event_data.py" 's/^__version__ = "\(.*\)"$/\1/p'
 agrees "version in CHANGELOG" "$version" "$top/CHANGELOG.md" 's/^## \([0-9][0-9.]*[0-9]\).*/\1/p'
-if [ ! -f "$header" ] || grep -q PED_RELEASE "$header"; then
-    agrees "version in the header" "$version" "$header" 's/^#define PED_RELEASE "\(.*\)"$/\1/p'
-else
-    echo "skipped: version in the header: it names only that of the structs"
-fi
+agrees "version in the header" "$version" "$header" 's/^#define PED_RELEASE "\(.*\)"$/\1/p'
 
 structs=$(sed -n 's/^STRUCT_VERSION = \([0-9]*\).*/\1/p' "$here/python/perf_event_data.py")
 agrees "structs in the header" "$structs" "$header" 's/^#define PED_VERSION \([0-9]*\).*/\1/p'

@@ -20,6 +20,9 @@
 extern "C" {
 #endif
 
+/* The release of the library that this header is from. */
+#define PED_RELEASE "0.1.8"
+
 /* The version of the structs below. A configuration of another version is not read. */
 #define PED_VERSION 1u
 
@@ -289,12 +292,9 @@ static inline size_t ped_needed(uint32_t order, const uint8_t *bytes, size_t len
 /* The number at `at`, of eight bytes. */
 static inline uint64_t ped_eight(uint32_t order, const uint8_t *at)
 {
-    uint64_t number = 0;
-    int i;
-    for (i = 0; i < 8; i++) {
-        number |= (uint64_t)at[order == PED_BIG ? 7 - i : i] << (8 * i);
-    }
-    return number;
+    uint64_t number;
+    memcpy(&number, at, sizeof number); /* the archive is for x86-64, where the lowest byte is first */
+    return order == PED_BIG ? __builtin_bswap64(number) : number;
 }
 
 /* How many numbers a span has. */

@@ -393,16 +393,23 @@ static int print_frames(FILE *out, uint64_t limit, const struct ped_config *conf
     return put_end(out, ended.how, refused);
 }
 
+uint32_t read_config(const struct command *command, const uint8_t *bytes, size_t len,
+                     struct ped_config *config, size_t *taken)
+{
+    struct ped_config plain = {PED_VERSION, command->order, 0, 0, 0, 0, 0, 0};
+    *config = plain;
+    *taken = 0;
+    return command->with_attr ? ped_read_attr(bytes, len, command->order, config, taken) : PED_ACCEPTED;
+}
+
 int print_run(FILE *out, const struct command *command, const uint8_t *bytes, size_t len)
 {
-    struct ped_config config = {PED_VERSION, command->order, 0, 0, 0, 0, 0, 0};
-    size_t taken = 0;
-    if (command->with_attr) {
-        uint32_t refusal = ped_read_attr(bytes, len, command->order, &config, &taken);
-        if (refusal != PED_ACCEPTED) {
-            fprintf(out, "attr refused %s\n", kind_names[refusal & 7]);
-            return 2;
-        }
+    struct ped_config config;
+    size_t taken;
+    uint32_t refusal = read_config(command, bytes, len, &config, &taken);
+    if (refusal != PED_ACCEPTED) {
+        fprintf(out, "attr refused %s\n", kind_names[refusal & 7]);
+        return 2;
     }
     return print_frames(out, command->limit, &config, bytes + taken, len - taken);
 }

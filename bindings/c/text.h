@@ -15,6 +15,11 @@ struct command {
 /* The command of these words, little|big|native [LIMIT] [attr]. Returns 0 for other words. */
 int read_command(int count, char **words, struct command *command);
 
+/* The configuration of a command, which for `attr` is that of the attribute in front; `taken` is how many
+ * bytes that has. Returns why it is refused, or PED_ACCEPTED. */
+uint32_t read_config(const struct command *command, const uint8_t *bytes, size_t len,
+                     struct ped_config *config, size_t *taken);
+
 /* Prints the text of a run, and returns the status of `perfrec`. */
 int print_run(FILE *out, const struct command *command, const uint8_t *bytes, size_t len);
 

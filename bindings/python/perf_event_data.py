@@ -8,6 +8,7 @@
     for frame in frames:
         print(frame.name, frame.time, frame.fields)
     names = frames.column("comm.comm")              # a list, None where the field is absent
+    event = ped.identifier(data[length:], True)     # which event wrote a frame, before it is read
     table = frames.numpy()                          # an array, if numpy is installed
 
 The input is not copied. Its bytes must not change while `Frames` is made, nor while spans are used.
@@ -31,10 +32,10 @@ LITTLE, BIG = 0, 1
 TYPES = (
     "unknown mmap lost comm exit throttle unthrottle fork read sample mmap2 aux itrace_start lost_samples"
     " switch switch_cpu_wide namespaces ksymbol bpf_event cgroup text_poke aux_output_hw_id").split()
-KINDS = {1: "Eof", 2: "InvalidRecord", 3: "UnsupportedConfig", 4: "UnsupportedData", 7: "Unread"}
+KINDS = {1: "Eof", 2: "InvalidRecord", 3: "UnsupportedConfig", 4: "UnsupportedData"}
 ENDS = "limit", "done", "cut header"
 _TEXTS = {1: "unexpected EOF during parsing", 2: "invalid record", 3: "unsupported config",
-          4: "unsupported serialized data", 7: "no flat frame of this type"}
+          4: "unsupported serialized data"}
 _REASONS = {
     1: "header size was too small to be valid",
     2: "config has sample_id_all bit set but record does not have enough data to store the sample_id",
@@ -107,6 +108,8 @@ def _load() -> ctypes.PyDLL:
     library.ped_read_many.restype = _Ended
     library.ped_read_attr.argtypes = [pointer, size, ctypes.c_uint32, ctypes.POINTER(Config), ctypes.POINTER(size)]
     library.ped_read_attr.restype = ctypes.c_uint32
+    library.ped_identifier.argtypes = [pointer, size, ctypes.c_uint32, ctypes.c_uint32, ctypes.POINTER(ctypes.c_uint64)]
+    library.ped_identifier.restype = ctypes.c_uint32
     return library
 
 
@@ -137,6 +140,16 @@ def read_attribute(data, order: int = LITTLE) -> tuple:
     if kind:
         raise ValueError(KINDS[kind])
     return config, taken.value
+
+
+def identifier(data, sample_id_all: bool, order: int = LITTLE):
+    """Returns the kernel's number of the event that wrote the frame at the front of `data`; None if it has none.
+
+    It is for frames of several events, before the configuration of a frame is known: all of them must have
+    PERF_SAMPLE_IDENTIFIER, and `sample_id_all` is whether they have that too."""
+    view, number = _bytes_view(data), ctypes.c_uint64()
+    found = _library.ped_identifier(_address(view), len(view), order, bool(sample_id_all), number)
+    return number.value if found else None
 
 
 def _is_present(record: str, name: str, present: int, read_format: int, misc: int) -> bool:

@@ -37,9 +37,6 @@ ORDERS = {
               " regs_intr phys_addr aux cgroup data_page_size code_page_size",
     "mmap2": "pid tid addr len pgoff maj min ino ino_generation build_id prot flags filename",
     "namespaces": "pid tid namespaces"}
-# The types of which the library has no flat frames yet, and what their lines begin with.
-unread_types = [number for number in range(1, 22) if ped.Frames(struct.pack("<IHH", number, 0, 8))[0].refusal == 7]
-unread_lines = rf"\d+ ({'|'.join(map(str, unread_types))}) " if unread_types else None
 results = {"passed": 0, "FAILED": 0, "skipped": 0}
 
 
@@ -155,14 +152,7 @@ def sample_line(frame):
 # ---- comparisons
 
 
-def compare(text, expected, actual, unread):
-    """Compares lines. Those that match `unread`, of types without flat frames, are left out of both."""
-    if unread is not None:
-        expected, actual = ([entry for entry in lines if not re.match(unread, entry)] for lines in (expected, actual))
-        text += ", but for types without flat frames"
-    if not expected:
-        tell("skipped", text)
-        return
+def compare(text, expected, actual):
     for here, there in zip(actual, expected):
         if here != there:
             print(f"    {here}\n    not {there}")
@@ -173,13 +163,11 @@ def compare(text, expected, actual, unread):
 def compare_texts(program):
     words = (CRATES / "perfrec/args").read_text().split()
     lines, _status = perfrec(words, (CRATES / "perfrec/stdin").read_bytes())
-    compare("text of crates/perfrec", (CRATES / "perfrec/stdout").read_text().splitlines(), lines, unread_lines)
-    reports = (("perf_tasks", task_line, "namespaces " if 16 in unread_types else None),
-               ("perf_samples", sample_line, "" if 9 in unread_types else None))
-    for crate, line_of, unread in reports:
+    compare("text of crates/perfrec", (CRATES / "perfrec/stdout").read_text().splitlines(), lines)
+    for crate, line_of in ("perf_tasks", task_line), ("perf_samples", sample_line):
         data = (CRATES / crate / "stdin").read_bytes()
         found = [text for text in map(line_of, ped.Frames(data, *ped.read_attribute(data))) if text]
-        compare(f"lines of crates/{crate}", (CRATES / crate / "stdout").read_text().splitlines(), found, unread)
+        compare(f"lines of crates/{crate}", (CRATES / crate / "stdout").read_text().splitlines(), found)
     if not program:
         tell("skipped", "text of the recordings: PERFREC is not given")
         return
@@ -187,7 +175,7 @@ def compare_texts(program):
         with path.open("rb") as stream:
             theirs = subprocess.run([program, "little", "attr"], stdin=stream, capture_output=True, text=True).stdout
         lines, _status = perfrec(["little", "attr"], path.read_bytes())
-        compare(f"text of {path.relative_to(TOP)}", theirs.splitlines(), lines, unread_lines)
+        compare(f"text of {path.relative_to(TOP)}", theirs.splitlines(), lines)
 
 
 def case_bytes(word, items):
@@ -198,11 +186,11 @@ def case_bytes(word, items):
     return b"".join(int(item, 0).to_bytes(int(word[1:]) // 8, "little") for item in items)
 
 
-def replay(path):
-    """The numbers of the runs of `perfrec` in a list, of those left out, and of those that differ."""
-    runs = left_out = differences = 0
+def replay(what, cases):
+    """Compares the runs of `perfrec` in a list."""
+    runs = differences = 0
     data, words, expected, is_compared = b"", None, [], False
-    for text in path.read_text().splitlines():
+    for text in cases.splitlines():
         word, _, rest = text.partition(" ")
         if word == "case":
             data, words, is_compared = b"", None, False
@@ -216,15 +204,13 @@ def replay(path):
                 lines, status = perfrec(words, data)
                 actual, theirs = "; ".join([*lines, f"status {status}"]), "; ".join([*expected, rest])
                 runs += 1
-                if "refused Unread" in actual:
-                    left_out += 1
-                elif actual != theirs:
+                if actual != theirs:
                     differences += 1
                     print(f"    {actual}\n    not {theirs}")
             expected, is_compared = [], True
         elif word and word[0] != "#":
             words = rest.split() if word == "perfrec" else None
-    return runs, left_out, differences
+    check(f"{what}: {runs} runs, {differences} differ", runs > 0 and differences == 0)
 
 
 # ---- the header
@@ -373,6 +359,10 @@ def try_frames():
     frames = ped.Frames(struct.pack("<IHHQIIQ", 13, 0, 32, 5, 7, 8, 9), config)
     check("a sample id", [(frame.pid, frame.tid, frame.time, frame.cpu) for frame in frames] == [(7, 8, 9, None)])
     check("columns of a sample id", [frames.column(name) for name in ("tid", "cpu")] == [[8], [None]])
+    sample = struct.pack("<IHHQ", 9, 0, 16, 11)
+    check("the event of a sample", [ped.identifier(sample[:size], False) for size in (16, 15)] == [11, None])
+    comm = struct.pack(">IHHIIQQ", 3, 0, 32, 5, 7, 0, 12)
+    check("the event of another record", [ped.identifier(comm, is_there, ped.BIG) for is_there in (True, False)] == [12, None])
     other = ped.Config()
     other.version += 1
     attribute = struct.pack("<IIQQQQQ16x", 0, 64, 0, 0, 6, 0, 1 << 18)
@@ -438,9 +428,9 @@ def main():
         print("\n".join(answer[0]))
         return answer[1]
     compare_texts(sys.argv[1] if len(sys.argv) > 1 else None)
-    runs, left_out, differences = replay(CRATES / "perf_replay/stdin")
-    text = f"runs of crates/perf_replay: {runs}, {left_out} left out, {differences} differ"
-    check(text, runs > left_out and differences == 0)
+    replay("runs of crates/perf_replay", (CRATES / "perf_replay/stdin").read_text())
+    streams = [sys.executable, TOP / "bindings/streams.py", "list", "1", "200"]
+    replay("generated streams", subprocess.run(streams, capture_output=True, text=True, check=True).stdout)
     for call in (compare_header, try_inputs, try_memory, try_sequence, try_frames, try_wrong_bytes, try_numpy, measure):
         call()
     print(", ".join(f"{number} {result.lower()}" for result, number in results.items()))

@@ -21,9 +21,6 @@ import tempfile
 PRIVATE = {"src/config.rs", "src/util/cow.rs"}
 FAILS_WITH_BOTH = {"records_sample::parse_sample_with_cgroup": "left: Some(683702700)"}
 
-# In the output of a test that needs a record which the linked library does not read.
-UNREAD = "the linked library does not read records of this type"
-
 # Of the examples; doctest is a hidden module with their bytes.
 PATHS = {"perf_event_open_sys::bindings": "perf_event_data::sys", "perf_event_data::doctest": "upstream_tests::doctest"}
 
@@ -115,21 +112,17 @@ def main():
     block = r"^---- (.+?) stdout ----\n(.*?)(?=^---- |^failures:)"
     outputs = dict(re.findall(block, run.stdout, re.M | re.S))
     for test, result in results:
-        if UNREAD in outputs.get(test, ""):
-            result = "unread"
         expected = "ok"
         if test in FAILS_WITH_BOTH:
             expected = "FAILED"
             if result == "FAILED" and FAILS_WITH_BOTH[test] not in outputs.get(test, ""):
                 wrong.append(test)
         counts[result] = counts.get(result, 0) + 1
-        if result not in (expected, "ignored", "unread"):
+        if result not in (expected, "ignored"):
             wrong.append(test)
     passed, failed, ignored = (counts.get(word, 0) for word in ("ok", "FAILED", "ignored"))
     if wrong or not passed:
         print(run.stdout)
-    if "unread" in counts:
-        print(f"skipped: {counts['unread']}, as the linked library does not read all types of records")
     print(f"{passed} passed, {failed} failed as with the original, {ignored} ignored"
           if not wrong else f"not as with the original: {', '.join(wrong)}")
     return 1 if wrong or not passed else 0

@@ -6,7 +6,8 @@ use crate::endian::{Endian, Order};
 use crate::error::{ErrorKind, ParseError, ParseResult};
 use crate::ffi;
 use crate::flags::{ReadFormat, SampleFlags};
-use crate::sys::{perf_event_attr, BRANCH_HW_INDEX, SAMPLE_ID_ALL};
+use crate::records::SampleId;
+use crate::sys::{self, perf_event_attr, BRANCH_HW_INDEX, SAMPLE_ID_ALL};
 
 /// What a parser needs to know of the event that wrote the records.
 ///
@@ -106,24 +107,43 @@ impl<E> ParseConfig<E> {
 }
 
 impl<E: Endian> ParseConfig<E> {
-    /// The byte order, and the configuration for the C interface.
+    /// The byte order, if it is one of the C interface.
     #[inline]
-    pub(crate) fn for_call(&self) -> ParseResult<(Order, ffi::Config)> {
-        match Order::of(&self.endian) {
-            Some(order) => Ok((
-                order,
-                ffi::Config {
-                    version: ffi::VERSION,
-                    order: order as u32,
-                    ..self.fields
-                },
-            )),
-            None => Err(ParseError::custom(
-                ErrorKind::UnsupportedConfig,
-                "the byte order is neither little nor big endian",
-            )),
+    pub(crate) fn order(&self) -> ParseResult<Order> {
+        Order::of(&self.endian).ok_or_else(other_order)
+    }
+
+    /// How many bytes the sample id of a record of that type has.
+    #[inline]
+    pub(crate) fn id_len(&self, type_: u32) -> usize {
+        if type_ != sys::PERF_RECORD_SAMPLE && type_ < 64 {
+            SampleId::estimate_len(self)
+        } else {
+            0
         }
     }
+
+    /// Completes the configuration for the C interface.
+    #[inline]
+    pub(crate) fn complete(&mut self) {
+        self.fields.version = ffi::VERSION;
+        // without an order nothing is called
+        self.fields.order = Order::of(&self.endian).map_or(0, |order| order as u32);
+    }
+
+    /// The configuration for the C interface, after [`complete`](Self::complete).
+    #[inline]
+    pub(crate) fn fields(&self) -> &ffi::Config {
+        &self.fields
+    }
+}
+
+#[cold]
+fn other_order() -> ParseError {
+    ParseError::custom(
+        ErrorKind::UnsupportedConfig,
+        "the byte order is neither little nor big endian",
+    )
 }
 
 impl<E: Default> From<perf_event_attr> for ParseConfig<E> {

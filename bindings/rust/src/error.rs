@@ -15,7 +15,16 @@ pub type ParseResult<T> = Result<T, ParseError>;
 #[derive(Debug)]
 pub struct ParseError {
     code: ErrorKind,
-    source: Option<BoxedError>,
+    source: Source,
+}
+
+/// What an error has besides its kind.
+#[derive(Debug)]
+enum Source {
+    None,
+    /// A message of this crate, for which no memory is needed.
+    Message(Message),
+    Outside(BoxedError),
 }
 
 /// The kinds of errors.
@@ -116,7 +125,7 @@ impl ParseError {
     pub fn eof() -> Self {
         Self {
             code: ErrorKind::Eof,
-            source: None,
+            source: Source::None,
         }
     }
 
@@ -130,7 +139,7 @@ impl ParseError {
     pub(crate) fn custom(code: ErrorKind, message: &'static str) -> Self {
         Self {
             code,
-            source: Some(Box::new(Message(message))),
+            source: Source::Message(Message(message)),
         }
     }
 
@@ -155,17 +164,14 @@ impl ParseError {
             1 => ErrorKind::Eof,
             2 => ErrorKind::InvalidRecord,
             3 => ErrorKind::UnsupportedConfig,
-            4 => ErrorKind::UnsupportedData,
-            _ => {
-                return Self::custom(
-                    ErrorKind::UnsupportedData,
-                    "the linked library does not read records of this type",
-                )
-            }
+            _ => ErrorKind::UnsupportedData,
         };
         match message(frame.reason) {
             Some(text) => Self::custom(code, text),
-            None => Self { code, source: None },
+            None => Self {
+                code,
+                source: Source::None,
+            },
         }
     }
 }
@@ -173,7 +179,7 @@ impl ParseError {
 impl fmt::Display for ParseError {
     fn fmt(&self, f: &mut fmt::Formatter<'_>) -> fmt::Result {
         f.write_str(self.code.text())?;
-        match &self.source {
+        match self.source() {
             Some(source) => write!(f, ": {source}"),
             None => Ok(()),
         }
@@ -183,8 +189,9 @@ impl fmt::Display for ParseError {
 impl Error for ParseError {
     fn source(&self) -> Option<&(dyn Error + 'static)> {
         match &self.source {
-            Some(source) => Some(&**source),
-            None => None,
+            Source::None => None,
+            Source::Message(message) => Some(message),
+            Source::Outside(error) => Some(&**error),
         }
     }
 }
@@ -194,7 +201,7 @@ impl From<BoxedError> for ParseError {
     fn from(error: BoxedError) -> Self {
         Self {
             code: ErrorKind::External,
-            source: Some(error),
+            source: Source::Outside(error),
         }
     }
 }

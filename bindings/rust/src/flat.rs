@@ -4,7 +4,7 @@ use std::borrow::Cow;
 
 use crate::endian::Order;
 use crate::error::{ErrorKind, ParseError, ParseResult};
-use crate::ffi::{self, Config, End, Frame, Span};
+use crate::ffi::{self, Config, End, Frame, Place, Span};
 use crate::parsebuf::ParseBufChunk;
 use crate::sys;
 
@@ -74,15 +74,39 @@ fn words_copied<T: Words>(bytes: &[u8], order: Order) -> Vec<T> {
 /// The highest type that this crate has a record of.
 const LAST_TYPE: u32 = sys::PERF_RECORD_AUX_OUTPUT_HW_ID;
 
+/// Why no frame was written.
+#[cold]
+fn why_no_frame(end: End) -> ParseError {
+    let data = ErrorKind::UnsupportedData;
+    match end {
+        End::NoHeader => ParseError::eof(),
+        End::NotRead => ParseError::custom(data, "the linked library has another version"),
+        End::LongBody => ParseError::custom(
+            data,
+            "a record has no more than 65,527 bytes after its header",
+        ),
+    }
+}
+
 /// Why a frame has no record here.
 #[cold]
-fn why_no_record(end: End, frame: &Frame) -> ParseError {
-    let data = ErrorKind::UnsupportedData;
-    match (end, frame.refusal) {
-        (End::NoHeader, _) => ParseError::eof(),
-        (End::NotRead, _) => ParseError::custom(data, "the linked library has another version"),
-        (End::Frame, 0) => ParseError::custom(data, "the linked library has more types of records"),
-        (End::Frame, _) => ParseError::refused(frame),
+fn why_no_record(frame: &Frame) -> ParseError {
+    match frame.refusal {
+        0 => ParseError::custom(
+            ErrorKind::UnsupportedData,
+            "the linked library has more types of records",
+        ),
+        _ => ParseError::refused(frame),
+    }
+}
+
+/// The frame that was written, if it has a record here.
+#[inline]
+fn accepted(written: Result<&Frame, End>) -> ParseResult<&Frame> {
+    match written {
+        Ok(frame) if frame.refusal == 0 && frame.read <= LAST_TYPE => Ok(frame),
+        Ok(frame) => Err(why_no_record(frame)),
+        Err(end) => Err(why_no_frame(end)),
     }
 }
 
@@ -111,25 +135,56 @@ pub(crate) struct Flat<'tmp, 'ext: 'tmp> {
 }
 
 impl<'tmp, 'ext: 'tmp> Flat<'tmp, 'ext> {
-    /// The frame at the front of these bytes, which is written to `frame`.
+    /// The frame at the front of these bytes, which is written to `place`.
     #[inline]
     pub(crate) fn first(
         config: &'tmp Config,
         order: Order,
         bytes: ParseBufChunk<'tmp, 'ext>,
-        frame: &'tmp mut Frame,
+        place: &'tmp mut Place,
     ) -> ParseResult<Self> {
-        let end = ffi::read(config, &bytes, frame);
-        if end != End::Frame || frame.refusal != 0 || frame.read > LAST_TYPE {
-            return Err(why_no_record(end, frame));
-        }
         Ok(Self {
-            frame,
+            frame: accepted(ffi::read(config, &bytes, place))?,
             config,
             order,
             bytes,
             before: 0,
         })
+    }
+
+    /// The frame of a header and a body, without a sample id.
+    #[inline]
+    pub(crate) fn of_body(
+        config: &'tmp Config,
+        order: Order,
+        header: (u32, u16),
+        bytes: ParseBufChunk<'tmp, 'ext>,
+        place: &'tmp mut Place,
+    ) -> ParseResult<Self> {
+        Ok(Self {
+            frame: accepted(ffi::read_body(config, header, &bytes, place))?,
+            config,
+            order,
+            bytes,
+            before: HEADER,
+        })
+    }
+
+    /// The frame of a header and a body, of which `more` come before the chunk.
+    #[inline]
+    pub(crate) fn of_part(
+        config: &'tmp Config,
+        order: Order,
+        header: (u32, u16),
+        more: &[u8],
+        bytes: ParseBufChunk<'tmp, 'ext>,
+        place: &'tmp mut Place,
+    ) -> ParseResult<Self> {
+        if more.is_empty() {
+            Self::of_body(config, order, header, bytes, place)
+        } else {
+            Self::after_header(config, order, header, more, bytes, place)
+        }
     }
 
     /// The frame of a header with these bytes after it, of which `more` come before the chunk.
@@ -139,7 +194,7 @@ impl<'tmp, 'ext: 'tmp> Flat<'tmp, 'ext> {
         (type_, misc): (u32, u16),
         more: &[u8],
         bytes: ParseBufChunk<'tmp, 'ext>,
-        frame: &'tmp mut Frame,
+        place: &'tmp mut Place,
     ) -> ParseResult<Self> {
         let before = HEADER + more.len();
         let size = u16::try_from(before + bytes.len()).map_err(|_| ParseError::eof())?;
@@ -158,9 +213,8 @@ impl<'tmp, 'ext: 'tmp> Flat<'tmp, 'ext> {
                 &many
             }
         };
-        Flat::first(config, order, ParseBufChunk::Temporary(whole), &mut *frame)?;
         Ok(Self {
-            frame,
+            frame: accepted(ffi::read(config, whole, place))?,
             config,
             order,
             bytes,

@@ -62,12 +62,12 @@ use std::mem::size_of;
 
 use crate::endian::Endian;
 use crate::error::Reason;
-use crate::ffi::{Config, Frame};
+use crate::ffi::{Config, Place};
 use crate::flat::{in_place, Flat, HEADER, MAX_BODY};
 use crate::parsebuf::ParseBufCursor;
-use crate::records::SampleId;
+use crate::records::{Record, SampleId};
 use crate::sys::{self, perf_event_header, SAMPLE_ID_ALL};
-use crate::visitor::{visit, RecordMetadata, Visitor};
+use crate::visitor::{visit, RecordMetadata, RecordVisitor, Visitor};
 
 pub use crate::config::ParseConfig;
 pub use crate::error::{ErrorKind, ParseError, ParseResult};
@@ -108,7 +108,9 @@ where
     B: ParseBuf<'p>,
 {
     /// Returns a parser of the bytes in a buffer.
-    pub fn new(data: B, config: ParseConfig<E>) -> Self {
+    #[inline]
+    pub fn new(data: B, mut config: ParseConfig<E>) -> Self {
+        config.complete();
         Self { config, data }
     }
 
@@ -179,7 +181,24 @@ where
         Ok(self.endian().convert_u64(bytes))
     }
 
+    #[inline]
     pub(crate) fn parse_array<const N: usize>(&mut self) -> ParseResult<[u8; N]> {
+        let mut array = [0; N];
+        if N == 0 {
+            return Ok(array);
+        }
+        let chunk = self.data.chunk()?;
+        match chunk.get(..N) {
+            Some(bytes) => array.copy_from_slice(bytes),
+            None => return self.parse_array_in_pieces(),
+        }
+        self.data.advance(N);
+        Ok(array)
+    }
+
+    /// The same of bytes that are in several chunks, or cut off.
+    #[cold]
+    fn parse_array_in_pieces<const N: usize>(&mut self) -> ParseResult<[u8; N]> {
         let mut array = [0; N];
         let mut filled = 0;
         while filled < N {
@@ -324,15 +343,9 @@ where
         header: perf_event_header,
     ) -> ParseResult<(Parser<impl ParseBuf<'p>, E>, RecordMetadata)> {
         let mut body = self.rest_of_frame(header)?;
-        let has_id = header.type_ != sys::PERF_RECORD_SAMPLE && header.type_ < 64;
-        let id_len = if has_id {
-            SampleId::estimate_len(&self.config)
-        } else {
-            0
-        };
         let body_len = body
             .len()
-            .checked_sub(id_len)
+            .checked_sub(self.config.id_len(header.type_))
             .ok_or_else(|| ParseError::because(Reason::NoRoomForId))?;
         let sample_id = self.sample_id(&body[body_len..])?;
         match &mut body {
@@ -357,45 +370,61 @@ where
         if bytes.is_empty() {
             return Ok(SampleId::default());
         }
-        let (order, config) = self.config.for_call()?;
+        let order = self.config.order()?;
         let header = (sys::PERF_RECORD_SWITCH, 0);
         let bytes = ParseBufChunk::Temporary(bytes);
-        let mut frame = Frame::default();
-        let flat = Flat::after_header(&config, order, header, &[], bytes, &mut frame)?;
+        let mut place = Place::new();
+        let fields = self.config.fields();
+        let flat = Flat::after_header(fields, order, header, &[], bytes, &mut place)?;
         Ok(SampleId::of(flat.frame))
     }
 
     /// Parses the next record, and hands it to a visitor.
     #[inline]
     pub fn parse_record<V: Visitor<'p>>(&mut self, visitor: V) -> ParseResult<V::Output> {
-        let (order, config) = self.config.for_call()?;
+        self.next_record(|flat| visit(flat, visitor))
+    }
+
+    /// Parses the next record: what is made of it.
+    #[inline]
+    pub(crate) fn next_record<T>(
+        &mut self,
+        make: impl FnOnce(&Flat<'_, 'p>) -> T,
+    ) -> ParseResult<T> {
+        let order = self.config.order()?;
         let chunk = self.data.chunk()?;
         let whole = match *chunk {
             [_, _, _, _, _, _, a, b, ..] => usize::from(order.two([a, b])).max(HEADER),
             _ => usize::MAX,
         };
-        if whole <= chunk.len() {
-            let mut frame = Frame::default();
-            let flat = Flat::first(&config, order, chunk.first(whole), &mut frame);
-            let output = flat.map(|flat| visit(&flat, visitor));
-            self.data.advance(whole);
-            return output;
+        if whole > chunk.len() {
+            return self.next_record_in_pieces(make);
         }
-        self.parse_record_in_pieces(visitor)
+        let mut place = Place::new();
+        let fields = self.config.fields();
+        let output = match Flat::first(fields, order, chunk.first(whole), &mut place) {
+            Ok(flat) => Ok(make(&flat)),
+            Err(error) => Err(error),
+        };
+        self.data.advance(whole);
+        output
     }
 
     /// The same for a record that is in several chunks, or cut off.
     #[cold]
-    fn parse_record_in_pieces<V: Visitor<'p>>(&mut self, visitor: V) -> ParseResult<V::Output> {
-        let (order, config) = self.config.for_call()?;
+    fn next_record_in_pieces<T>(
+        &mut self,
+        make: impl FnOnce(&Flat<'_, 'p>) -> T,
+    ) -> ParseResult<T> {
+        let order = self.config.order()?;
         let header: [u8; HEADER] = self.parse_array()?;
         let whole = usize::from(order.two([header[6], header[7]]));
         let rest = self.parse_bytes(whole.saturating_sub(HEADER))?;
         let whole = [&header[..], &rest].concat();
-        let mut frame = Frame::default();
+        let mut place = Place::new();
         let chunk = ParseBufChunk::Temporary(&whole);
-        let flat = Flat::first(&config, order, chunk, &mut frame)?;
-        Ok(visit(&flat, visitor))
+        let flat = Flat::first(self.config.fields(), order, chunk, &mut place)?;
+        Ok(make(&flat))
     }
 
     /// Does the same as [`parse_record`](Self::parse_record), for a record whose header was parsed
@@ -405,13 +434,43 @@ where
         visitor: V,
         header: perf_event_header,
     ) -> ParseResult<V::Output> {
-        let (order, config) = self.config.for_call()?;
+        let order = self.config.order()?;
         let rest = self.rest_of_frame(header)?;
         let chunk = ParseBufChunk::of(&rest);
         let header = (header.type_, header.misc);
-        let mut frame = Frame::default();
-        let flat = Flat::after_header(&config, order, header, &[], chunk, &mut frame)?;
+        let mut place = Place::new();
+        let fields = self.config.fields();
+        let flat = Flat::after_header(fields, order, header, &[], chunk, &mut place)?;
         Ok(visit(&flat, visitor))
+    }
+
+    /// Parses the record of a header that was parsed before. Its sample id is not read, so that
+    /// nothing has to be copied if the next chunk has the whole frame.
+    #[inline]
+    pub(crate) fn record_after(&mut self, header: perf_event_header) -> ParseResult<Record<'p>> {
+        let order = self.config.order()?;
+        let len = usize::from(header.size).saturating_sub(HEADER);
+        if len == 0 {
+            return self.parse_record_with_header(RecordVisitor, header);
+        }
+        let chunk = self.data.chunk()?;
+        if len > chunk.len() {
+            return self.parse_record_with_header(RecordVisitor, header);
+        }
+        let output = match len.checked_sub(self.config.id_len(header.type_)) {
+            Some(len) => {
+                let mut place = Place::new();
+                let (fields, body) = (self.config.fields(), chunk.first(len));
+                let header = (header.type_, header.misc);
+                match Flat::of_body(fields, order, header, body, &mut place) {
+                    Ok(flat) => Ok(Record::of(&flat)),
+                    Err(error) => Err(error),
+                }
+            }
+            None => Err(ParseError::because(Reason::NoRoomForId)),
+        };
+        self.data.advance(len);
+        output
     }
 
     /// Parses a record's body: what is made of the record of a type that has the next bytes as its
@@ -435,29 +494,24 @@ where
         extent: Extent,
         make: impl FnOnce(&Flat<'_, 'p>) -> T,
     ) -> ParseResult<T> {
-        let (order, mut config) = self.config.for_call()?;
+        let order = self.config.order()?;
+        let mut config = *self.config.fields();
         // the next bytes have no sample id
         config.flags &= !SAMPLE_ID_ALL;
         change(&mut config);
         let header = (type_, self.config.misc());
-        let mut frame = Frame::default();
+        let mut place = Place::new();
         let length_of = match extent {
             Extent::Fixed(len) => {
                 let bytes = self.up_to(len)?.0;
                 let chunk = ParseBufChunk::of(&bytes);
-                let flat = Flat::after_header(&config, order, header, more, chunk, &mut frame)?;
+                let flat = Flat::of_part(&config, order, header, more, chunk, &mut place)?;
                 return Ok(make(&flat));
             }
             Extent::Rest => {
                 let bytes = self.parse_rest()?;
-                if bytes.len() > MAX_BODY {
-                    return Err(ParseError::custom(
-                        ErrorKind::UnsupportedData,
-                        "a record has no more than 65,527 bytes after its header",
-                    ));
-                }
                 let chunk = ParseBufChunk::of(&bytes);
-                let flat = Flat::after_header(&config, order, header, more, chunk, &mut frame)?;
+                let flat = Flat::of_part(&config, order, header, more, chunk, &mut place)?;
                 return Ok(make(&flat));
             }
             Extent::Until(length_of) => length_of,
@@ -480,7 +534,7 @@ where
                 joined = [&taken[..], &chunk].concat();
                 ParseBufChunk::Temporary(&joined)
             };
-            match Flat::after_header(&config, order, header, more, bytes, &mut frame) {
+            match Flat::of_part(&config, order, header, more, bytes, &mut place) {
                 Ok(flat) => {
                     let value = make(&flat);
                     let length = length_of(&flat) - more.len();

@@ -27,6 +27,7 @@ pub struct Read {
 }
 
 impl Read {
+    #[inline]
     pub(crate) fn of(flat: &Flat<'_, '_>) -> Self {
         Self {
             pid: flat.half(0),
@@ -49,6 +50,7 @@ pub struct ReadValue {
 
 impl ReadValue {
     /// The value of a READ.
+    #[inline]
     fn of(flat: &Flat<'_, '_>) -> Self {
         Self {
             read_format: ReadFormat::from_bits_retain(flat.frame.read_format.into()),
@@ -57,6 +59,19 @@ impl ReadValue {
             time_running: flat.number(4),
             id: flat.number(5),
             lost: flat.number(6),
+        }
+    }
+
+    /// The value of a SAMPLE without a group.
+    #[inline]
+    fn of_sample(flat: &Flat<'_, '_>) -> Self {
+        Self {
+            read_format: ReadFormat::from_bits_retain(flat.frame.read_format.into()),
+            value: flat.number(16),
+            time_enabled: flat.number(13),
+            time_running: flat.number(14),
+            id: flat.number(17),
+            lost: flat.number(18),
         }
     }
 
@@ -153,13 +168,21 @@ impl fmt::Debug for ReadValue {
     }
 }
 
+/// The numbers of the counters of a group.
+#[derive(Clone)]
+enum Numbers<'a> {
+    List(Cow<'a, [u64]>),
+    /// Those of one counter: as many as the read format gives it.
+    One([u64; 3]),
+}
+
 /// What was read of a group of counters at once (`PERF_FORMAT_GROUP`): an entry for each.
 #[derive(Clone)]
 pub struct ReadGroup<'a> {
     read_format: ReadFormat,
     time_enabled: u64,
     time_running: u64,
-    data: Cow<'a, [u64]>,
+    data: Numbers<'a>,
 }
 
 impl<'a> ReadGroup<'a> {
@@ -167,27 +190,14 @@ impl<'a> ReadGroup<'a> {
     #[inline]
     pub(crate) fn of(flat: &Flat<'_, 'a>) -> Self {
         let read_format = ReadFormat::from_bits_retain(flat.frame.read_format.into());
-        let data = if read_format.contains(ReadFormat::GROUP) {
-            flat.words(2)
-        } else {
-            let mut data = vec![flat.number(16)];
-            data.extend(
-                read_format
-                    .contains(ReadFormat::ID)
-                    .then(|| flat.number(17)),
-            );
-            data.extend(
-                read_format
-                    .contains(ReadFormat::LOST)
-                    .then(|| flat.number(18)),
-            );
-            Cow::Owned(data)
-        };
+        if !read_format.contains(ReadFormat::GROUP) {
+            return ReadValue::of_sample(flat).into();
+        }
         Self {
-            read_format: read_format | ReadFormat::GROUP,
+            read_format,
             time_enabled: flat.number(13),
             time_running: flat.number(14),
-            data,
+            data: Numbers::List(flat.words(2)),
         }
     }
 
@@ -223,7 +233,7 @@ impl<'a> ReadGroup<'a> {
             read_format,
             time_enabled,
             time_running,
-            data,
+            data: Numbers::List(data),
         }
     }
 
@@ -240,7 +250,10 @@ impl<'a> ReadGroup<'a> {
     /// Returns the group with a list of its own.
     pub fn into_owned(self) -> ReadGroup<'static> {
         ReadGroup {
-            data: owned(self.data),
+            data: match self.data {
+                Numbers::List(data) => Numbers::List(owned(data)),
+                Numbers::One(numbers) => Numbers::One(numbers),
+            },
             ..self
         }
     }
@@ -271,8 +284,13 @@ impl<'a> ReadGroup<'a> {
 
     /// Returns the entries, in order.
     pub fn entries(&self) -> GroupIter<'_> {
+        let each = self.read_format.element_len();
+        let numbers = match &self.data {
+            Numbers::List(data) => data,
+            Numbers::One(numbers) => &numbers[..each],
+        };
         GroupIter {
-            numbers: self.data.chunks_exact(self.read_format.element_len()),
+            numbers: numbers.chunks_exact(each),
             read_format: self.read_format,
         }
     }
@@ -280,14 +298,16 @@ impl<'a> ReadGroup<'a> {
 
 impl<'a> From<ReadValue> for ReadGroup<'a> {
     fn from(read: ReadValue) -> Self {
-        let mut data = vec![read.value()];
-        data.extend(read.id());
-        data.extend(read.lost());
+        // its id is before the number of lost samples, if both are present
+        let others = match read.id() {
+            Some(id) => [id, read.lost],
+            None => [read.lost, 0],
+        };
         Self {
             read_format: read.read_format | ReadFormat::GROUP,
             time_enabled: read.time_enabled,
             time_running: read.time_running,
-            data: Cow::Owned(data),
+            data: Numbers::One([read.value, others[0], others[1]]),
         }
     }
 }

@@ -12,7 +12,7 @@ use crate::parse::{Extent, Parse, ParseBuf, ParseConfig, ParseResult, Parser};
 use crate::read::Read;
 use crate::sample::Sample;
 use crate::sys::{self, perf_event_header};
-use crate::visitor::RecordVisitor;
+use crate::visitor::{visit, RecordVisitor};
 
 /// Implements `Parse` for a record's type, by its body: of which type, and how far it goes.
 macro_rules! parse_body {
@@ -68,6 +68,7 @@ pub struct Mmap<'a> {
 }
 
 impl<'a> Mmap<'a> {
+    #[inline]
     pub(crate) fn of(flat: &Flat<'_, 'a>) -> Self {
         Self {
             pid: flat.half(0),
@@ -128,6 +129,7 @@ pub struct Lost {
 }
 
 impl Lost {
+    #[inline]
     pub(crate) fn of(flat: &Flat<'_, '_>) -> Self {
         Self {
             id: flat.number(0),
@@ -148,6 +150,7 @@ pub struct Comm<'a> {
 }
 
 impl<'a> Comm<'a> {
+    #[inline]
     pub(crate) fn of(flat: &Flat<'_, 'a>) -> Self {
         Self {
             pid: flat.half(0),
@@ -200,6 +203,7 @@ pub struct Exit {
 pub type Fork = Exit;
 
 impl Exit {
+    #[inline]
     pub(crate) fn of(flat: &Flat<'_, '_>) -> Self {
         Self {
             pid: flat.half(0),
@@ -224,6 +228,7 @@ pub struct Throttle {
 }
 
 impl Throttle {
+    #[inline]
     pub(crate) fn of(flat: &Flat<'_, '_>) -> Self {
         Self {
             time: flat.number(0),
@@ -273,6 +278,7 @@ enum MmapDetail {
 }
 
 impl MmapDetail {
+    #[inline]
     fn of(flat: &Flat<'_, '_>) -> Self {
         if u32::from(flat.frame.misc) & sys::PERF_RECORD_MISC_MMAP_BUILD_ID != 0 {
             let bytes = flat.part(1);
@@ -292,6 +298,7 @@ impl MmapDetail {
 }
 
 impl<'a> Mmap2<'a> {
+    #[inline]
     pub(crate) fn of(flat: &Flat<'_, 'a>) -> Self {
         Self {
             pid: flat.half(0),
@@ -411,6 +418,7 @@ pub struct Aux {
 }
 
 impl Aux {
+    #[inline]
     pub(crate) fn of(flat: &Flat<'_, '_>) -> Self {
         Self {
             aux_offset: flat.number(0),
@@ -430,6 +438,7 @@ pub struct ITraceStart {
 }
 
 impl ITraceStart {
+    #[inline]
     pub(crate) fn of(flat: &Flat<'_, '_>) -> Self {
         Self {
             pid: flat.half(0),
@@ -446,6 +455,7 @@ pub struct LostSamples {
 }
 
 impl LostSamples {
+    #[inline]
     pub(crate) fn of(flat: &Flat<'_, '_>) -> Self {
         Self {
             lost: flat.number(0),
@@ -477,6 +487,7 @@ pub enum SwitchCpuWide {
 }
 
 impl SwitchCpuWide {
+    #[inline]
     pub(crate) fn of(flat: &Flat<'_, '_>) -> Self {
         let (pid, tid) = (flat.half(0), flat.half(1));
         if flat.number(2) != 0 {
@@ -549,6 +560,7 @@ impl<'p> Parse<'p> for NamespaceEntry {
 }
 
 impl<'a> Namespaces<'a> {
+    #[inline]
     pub(crate) fn of(flat: &Flat<'_, 'a>) -> Self {
         Self {
             pid: flat.half(0),
@@ -609,6 +621,7 @@ pub struct KSymbol<'a> {
 }
 
 impl<'a> KSymbol<'a> {
+    #[inline]
     pub(crate) fn of(flat: &Flat<'_, 'a>) -> Self {
         Self {
             addr: flat.number(0),
@@ -654,6 +667,7 @@ pub struct BpfEvent {
 }
 
 impl BpfEvent {
+    #[inline]
     pub(crate) fn of(flat: &Flat<'_, '_>) -> Self {
         let mut tag = [0; 8];
         let bytes = flat.part(0);
@@ -677,6 +691,7 @@ pub struct CGroup<'a> {
 }
 
 impl<'a> CGroup<'a> {
+    #[inline]
     pub(crate) fn of(flat: &Flat<'_, 'a>) -> Self {
         Self {
             id: flat.number(0),
@@ -721,6 +736,7 @@ pub struct TextPoke<'a> {
 }
 
 impl<'a> TextPoke<'a> {
+    #[inline]
     pub(crate) fn of(flat: &Flat<'_, 'a>) -> Self {
         Self {
             addr: flat.number(0),
@@ -765,6 +781,7 @@ pub struct AuxOutputHwId {
 }
 
 impl AuxOutputHwId {
+    #[inline]
     pub(crate) fn of(flat: &Flat<'_, '_>) -> Self {
         Self {
             hw_id: flat.number(0),
@@ -796,6 +813,17 @@ const ID_FLAGS: SampleFlags = SampleFlags::TID
     .union(SampleFlags::IDENTIFIER);
 
 impl SampleId {
+    /// The sample id without numbers.
+    pub(crate) const NONE: Self = Self {
+        present: 0,
+        pid: 0,
+        tid: 0,
+        cpu: 0,
+        time: 0,
+        id: 0,
+        stream_id: 0,
+    };
+
     #[inline]
     pub(crate) fn of(frame: &ffi::Frame) -> Self {
         Self {
@@ -886,6 +914,7 @@ impl SampleId {
     }
 
     /// Returns how many bytes the sample id of a record has under a configuration.
+    #[inline]
     pub fn estimate_len<E: Endian>(config: &ParseConfig<E>) -> usize {
         if config.sample_id_all() {
             (config.sample_type() & ID_FLAGS).bits().count_ones() as usize * 8
@@ -991,6 +1020,7 @@ macro_rules! from_record {
     ($( $name:ident $( <$life:lifetime> )?, )*) => {
         $(
             impl<'a> From<$name $( <$life> )?> for Record<'a> {
+                #[inline]
                 fn from(record: $name $( <$life> )?) -> Self {
                     Record::$name(record)
                 }
@@ -1018,13 +1048,23 @@ from_record! {
 }
 
 impl<'a> From<Sample<'a>> for Record<'a> {
+    #[inline]
     fn from(sample: Sample<'a>) -> Self {
         Record::Sample(Box::new(sample))
     }
 }
 
 impl<'p> Record<'p> {
+    #[inline]
+    pub(crate) fn of(flat: &Flat<'_, 'p>) -> Self {
+        match flat.frame.read {
+            sys::PERF_RECORD_SAMPLE => Record::Sample(Sample::boxed(flat)),
+            _ => visit(flat, RecordVisitor),
+        }
+    }
+
     /// Parses a record whose header was parsed before.
+    #[inline]
     pub fn parse_with_header<B, E>(
         p: &mut Parser<B, E>,
         header: perf_event_header,
@@ -1033,7 +1073,7 @@ impl<'p> Record<'p> {
         E: Endian,
         B: ParseBuf<'p>,
     {
-        p.parse_record_with_header(RecordVisitor, header)
+        p.record_after(header)
     }
 }
 
@@ -1044,6 +1084,6 @@ impl<'p> Parse<'p> for Record<'p> {
         E: Endian,
         B: ParseBuf<'p>,
     {
-        p.parse_record(RecordVisitor)
+        p.next_record(Record::of)
     }
 }

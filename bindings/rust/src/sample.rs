@@ -46,24 +46,83 @@ macro_rules! numbers {
     };
 }
 
+/// The fields of a sample that are lists or byte strings, or are read of counters.
+const LISTS: SampleFlags = SampleFlags::READ
+    .union(SampleFlags::CALLCHAIN)
+    .union(SampleFlags::RAW)
+    .union(SampleFlags::BRANCH_STACK)
+    .union(SampleFlags::REGS_USER)
+    .union(SampleFlags::STACK_USER)
+    .union(SampleFlags::REGS_INTR)
+    .union(SampleFlags::AUX);
+
 impl<'a> Sample<'a> {
+    /// The sample that has no fields.
+    const EMPTY: Sample<'static> = Sample {
+        present: 0,
+        sample_id: SampleId::NONE,
+        numbers: [0; 11],
+        values: None,
+        callchain: Cow::Borrowed(&[]),
+        raw: Cow::Borrowed(&[]),
+        lbr: Cow::Borrowed(&[]),
+        regs_user: Registers::NONE,
+        stack_user: Cow::Borrowed(&[]),
+        regs_intr: Registers::NONE,
+        aux: Cow::Borrowed(&[]),
+    };
+
     #[inline]
     pub(crate) fn of(flat: &Flat<'_, 'a>) -> Self {
-        let mut numbers = [0; 11];
-        numbers.copy_from_slice(&flat.frame.numbers[..11]);
-        let present = flat.frame.present;
-        Self {
-            present,
-            sample_id: SampleId::of(flat.frame),
-            numbers,
-            values: (present & SampleFlags::READ.bits() != 0).then(|| ReadGroup::of(flat)),
-            callchain: flat.words(0),
-            raw: flat.part(5),
-            lbr: flat.words(1),
-            regs_user: Registers::of_user(flat),
-            stack_user: flat.part(6),
-            regs_intr: Registers::of_intr(flat),
-            aux: flat.part(7),
+        let mut sample = Sample::EMPTY;
+        sample.fill(flat);
+        sample
+    }
+
+    /// The same, made where it stays.
+    #[inline]
+    pub(crate) fn boxed(flat: &Flat<'_, 'a>) -> Box<Self> {
+        let mut sample = Box::new(Sample::EMPTY);
+        sample.fill(flat);
+        sample
+    }
+
+    /// Sets the fields of a sample that had none. Unless this is inlined, a sample is copied once more.
+    #[inline(always)]
+    fn fill(&mut self, flat: &Flat<'_, 'a>) {
+        self.present = flat.frame.present;
+        self.sample_id = SampleId::of(flat.frame);
+        self.numbers.copy_from_slice(&flat.frame.numbers[..11]);
+        if self.has(SampleFlags::CALLCHAIN) {
+            self.callchain = flat.words(0);
+        }
+        if self.has(LISTS.difference(SampleFlags::CALLCHAIN)) {
+            self.fill_lists(flat);
+        }
+    }
+
+    /// Sets the lists and byte strings that few samples have.
+    fn fill_lists(&mut self, flat: &Flat<'_, 'a>) {
+        if self.has(SampleFlags::READ) {
+            self.values = Some(ReadGroup::of(flat));
+        }
+        if self.has(SampleFlags::RAW) {
+            self.raw = flat.part(5);
+        }
+        if self.has(SampleFlags::BRANCH_STACK) {
+            self.lbr = flat.words(1);
+        }
+        if self.has(SampleFlags::REGS_USER) {
+            self.regs_user = Registers::of_user(flat);
+        }
+        if self.has(SampleFlags::STACK_USER) {
+            self.stack_user = flat.part(6);
+        }
+        if self.has(SampleFlags::REGS_INTR) {
+            self.regs_intr = Registers::of_intr(flat);
+        }
+        if self.has(SampleFlags::AUX) {
+            self.aux = flat.part(7);
         }
     }
 
@@ -125,8 +184,8 @@ impl<'a> Sample<'a> {
     }
 
     #[inline]
-    fn has(&self, flag: SampleFlags) -> bool {
-        self.present & flag.bits() != 0
+    fn has(&self, flags: SampleFlags) -> bool {
+        self.present & flags.bits() != 0
     }
 
     numbers! {
@@ -319,6 +378,12 @@ pub struct Registers<'a> {
 }
 
 impl<'a> Registers<'a> {
+    const NONE: Registers<'static> = Registers {
+        abi: SampleRegsAbi(0),
+        mask: 0,
+        regs: Cow::Borrowed(&[]),
+    };
+
     #[inline]
     fn of_user(flat: &Flat<'_, 'a>) -> Self {
         Self {

@@ -166,15 +166,18 @@ const ATTR_SIZES: [u32; 9] = [
 ];
 
 impl<'p> Parse<'p> for perf_event_header {
+    #[inline]
     fn parse<B, E>(p: &mut Parser<B, E>) -> ParseResult<Self>
     where
         E: Endian,
         B: ParseBuf<'p>,
     {
+        let [a, b, c, d, e, f, g, h] = p.parse_array()?;
+        let endian = p.endian();
         Ok(Self {
-            type_: p.parse()?,
-            misc: p.parse()?,
-            size: p.parse()?,
+            type_: endian.convert_u32([a, b, c, d]),
+            misc: endian.convert_u16([e, f]),
+            size: endian.convert_u16([g, h]),
         })
     }
 }

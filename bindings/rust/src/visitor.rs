@@ -249,6 +249,7 @@ pub(crate) struct RecordVisitor;
 impl<'a> Visitor<'a> for RecordVisitor {
     type Output = Record<'a>;
 
+    #[inline]
     fn visit_unimplemented(self, metadata: RecordMetadata) -> Record<'a> {
         // no method is left out
         Record::Unknown {
@@ -257,90 +258,112 @@ impl<'a> Visitor<'a> for RecordVisitor {
         }
     }
 
+    #[inline]
     fn visit_mmap(self, record: Mmap<'a>, _: RecordMetadata) -> Record<'a> {
         record.into()
     }
 
+    #[inline]
     fn visit_lost(self, record: Lost, _: RecordMetadata) -> Record<'a> {
         record.into()
     }
 
+    #[inline]
     fn visit_comm(self, record: Comm<'a>, _: RecordMetadata) -> Record<'a> {
         record.into()
     }
 
+    #[inline]
     fn visit_exit(self, record: Exit, _: RecordMetadata) -> Record<'a> {
         Record::Exit(record)
     }
 
+    #[inline]
     fn visit_throttle(self, record: Throttle, _: RecordMetadata) -> Record<'a> {
         Record::Throttle(record)
     }
 
+    #[inline]
     fn visit_unthrottle(self, record: Throttle, _: RecordMetadata) -> Record<'a> {
         Record::Unthrottle(record)
     }
 
+    #[inline]
     fn visit_fork(self, record: Fork, _: RecordMetadata) -> Record<'a> {
         Record::Fork(record)
     }
 
+    #[inline]
     fn visit_read(self, record: Read, _: RecordMetadata) -> Record<'a> {
         record.into()
     }
 
+    #[inline]
     fn visit_sample(self, record: Sample<'a>, _: RecordMetadata) -> Record<'a> {
         record.into()
     }
 
+    #[inline]
     fn visit_mmap2(self, record: Mmap2<'a>, _: RecordMetadata) -> Record<'a> {
         record.into()
     }
 
+    #[inline]
     fn visit_aux(self, record: Aux, _: RecordMetadata) -> Record<'a> {
         record.into()
     }
 
+    #[inline]
     fn visit_itrace_start(self, record: ITraceStart, _: RecordMetadata) -> Record<'a> {
         record.into()
     }
 
+    #[inline]
     fn visit_lost_samples(self, record: LostSamples, _: RecordMetadata) -> Record<'a> {
         record.into()
     }
 
+    #[inline]
     fn visit_switch(self, _: RecordMetadata) -> Record<'a> {
         Record::Switch
     }
 
+    #[inline]
     fn visit_switch_cpu_wide(self, record: SwitchCpuWide, _: RecordMetadata) -> Record<'a> {
         record.into()
     }
 
+    #[inline]
     fn visit_namespaces(self, record: Namespaces<'a>, _: RecordMetadata) -> Record<'a> {
         record.into()
     }
 
+    #[inline]
     fn visit_ksymbol(self, record: KSymbol<'a>, _: RecordMetadata) -> Record<'a> {
         record.into()
     }
 
+    #[inline]
     fn visit_bpf_event(self, record: BpfEvent, _: RecordMetadata) -> Record<'a> {
         record.into()
     }
 
+    #[inline]
     fn visit_cgroup(self, record: CGroup<'a>, _: RecordMetadata) -> Record<'a> {
         record.into()
     }
 
+    #[inline]
     fn visit_text_poke(self, record: TextPoke<'a>, _: RecordMetadata) -> Record<'a> {
         record.into()
     }
 
+    #[inline]
     fn visit_aux_output_hw_id(self, record: AuxOutputHwId, _: RecordMetadata) -> Record<'a> {
         record.into()
     }
 
+    #[inline]
     fn visit_unknown(self, data: Cow<'a, [u8]>, metadata: RecordMetadata) -> Record<'a> {
         Record::Unknown {
             ty: metadata.ty(),

@@ -131,9 +131,7 @@ fn check<E: Endian>(bytes: &[u8], config: ParseConfig<E>) -> usize {
     for (index, line) in expected.iter().enumerate() {
         let header = parser.parse().unwrap();
         let found = Record::parse_with_header(&mut parser, header);
-        if !text::is_unread(line) {
-            assert_eq!(&text::line(index as u64, header, &found), line);
-        }
+        assert_eq!(&text::line(index as u64, header, &found), line);
     }
     // by the metadata first, and the body under its `misc`
     let mut parser = Parser::new(bytes, config.clone());
@@ -180,5 +178,5 @@ fn any_bytes_give_the_same_over_every_buffer() {
         samples += check(&numbers.frames(true), config);
     }
     println!("{samples} samples were accepted");
-    assert!(samples > 1000 || text::is_partial());
+    assert!(samples > 1000);
 }

@@ -54,11 +54,7 @@ fn frames(name: &str) -> Vec<String> {
 fn named(lines: &[String]) -> BTreeMap<String, u64> {
     let mut counts = BTreeMap::new();
     for line in lines {
-        let name = match line.split(' ').nth(4).unwrap() {
-            "refused" if text::is_unread(line) && line.split(' ').nth(1) == Some("9") => "SAMPLE",
-            "refused" if text::is_unread(line) => "NAMESPACES",
-            name => name,
-        };
+        let name = line.split(' ').nth(4).unwrap();
         *counts.entry(name.to_uppercase()).or_default() += 1;
     }
     counts
@@ -78,10 +74,6 @@ fn each_type_is_as_often_as_perf_counted() {
 
 #[test]
 fn samples_have_the_fields_that_perf_printed() {
-    if text::is_partial() {
-        println!("skipped: the linked library reads no SAMPLE");
-        return;
-    }
     // perf does not print these
     let others = ["id", "raw", "stack_user", "cgroup"];
     let is_printed = |word: &&str| !others.contains(&word.split('=').next().unwrap());

@@ -506,24 +506,28 @@ impl<'a> Case<'a> {
     }
 }
 
-/// Whether a result differs only in what a partial library does not read.
-fn is_unread(how: &str, found: &str, expected: &str) -> bool {
-    match how {
-        "run" | "perfrec" => text::are_same_but_unread(found, expected),
-        _ => found.contains("UnsupportedData") || found.contains("does not read records"),
-    }
-}
-
 #[test]
 fn cases_have_their_results() {
     let path = concat!(
         env!("CARGO_MANIFEST_DIR"),
         "/../../crates/perf_replay/stdin"
     );
+    assert!(replay(path) > 1000);
+}
+
+/// Those of another list, if there is one: `PERF_EVENT_DATA_CASES` is its path.
+#[test]
+fn other_cases_have_their_results() {
+    if let Ok(path) = std::env::var("PERF_EVENT_DATA_CASES") {
+        assert!(replay(&path) > 0);
+    }
+}
+
+/// Compares all results of a list, and returns how many are the same.
+fn replay(path: &str) -> usize {
     let list = std::fs::read_to_string(path).expect("the list of cases");
     let mut case = Case::default();
-    let is_partial = text::is_partial();
-    let (mut same, mut skipped, mut unread, mut differing) = (0, 0, 0, 0);
+    let (mut same, mut skipped, mut differing) = (0, 0, 0);
     for line in list.lines() {
         let (word, rest) = line.split_once(' ').unwrap_or((line, ""));
         match word {
@@ -539,9 +543,6 @@ fn cases_have_their_results() {
                 match case.told() {
                     None => skipped += 1,
                     Some(found) if found == expected => same += 1,
-                    Some(found) if is_partial && is_unread(case.how, &found, &expected) => {
-                        unread += 1
-                    }
                     Some(found) => {
                         differing += 1;
                         println!("{}\nexpected {expected}\nfound    {found}\n", case.name);
@@ -552,11 +553,6 @@ fn cases_have_their_results() {
         }
     }
     println!("{same} results are the same, {skipped} were skipped, {differing} differ");
-    if is_partial {
-        println!(
-            "the linked library reads no SAMPLE and no NAMESPACES: {unread} results have some"
-        );
-    }
     assert_eq!(differing, 0);
-    assert!(same + unread > 1000);
+    same
 }

@@ -371,26 +371,3 @@ fn run_in<E: Endian + Default>(
     let status = u8::from(refused || end == End::Cut);
     (lines, status)
 }
-
-/// Whether the linked library reads no SAMPLE and no NAMESPACES.
-pub fn is_partial() -> bool {
-    let sample: &[u8] = &[9, 0, 0, 0, 0, 0, 8, 0];
-    let mut parser = Parser::new(sample, ParseConfig::<Little>::default());
-    parser.parse::<Record>().is_err()
-}
-
-/// Whether a line is that of a record that a partial library does not read.
-pub fn is_unread(line: &str) -> bool {
-    line.ends_with(" refused UnsupportedData")
-}
-
-/// Whether lines are as expected, but for those that a partial library does not read, and for the
-/// status.
-pub fn are_same_but_unread(found: &str, expected: &str) -> bool {
-    let found: Vec<_> = found.split("; ").collect();
-    let expected: Vec<_> = expected.split("; ").collect();
-    let is_same = |(found, expected): (&&str, &&str)| {
-        found == expected || is_unread(found) || found.starts_with("status ")
-    };
-    found.len() == expected.len() && found.iter().zip(&expected).all(is_same)
-}

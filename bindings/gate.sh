@@ -1,0 +1,75 @@
+#!/bin/sh
+# Runs the tests of all faces over an archive, at the top of the repository: bindings/gate.sh [ARCHIVE]
+#
+# Without ARCHIVE it makes one over the libraries that `rt ci` proved. A line says of each test whether it
+# passed, failed or was skipped; what a test skipped, or what of it failed and the end of what it printed,
+# follows it, indented. The status is 0 if none failed. No network is needed, and nothing is left in the
+# repository.
+set -u
+top=$(cd "$(dirname "$0")/.." && pwd)
+cd "$top" || exit 2
+work=$(mktemp -d) || exit 2
+trap 'rm -rf "$work"' EXIT
+trap 'exit 1' INT TERM
+status=0
+# Leaks cannot be looked for where no process may be traced.
+export CARGO_NET_OFFLINE=true PYTHONDONTWRITEBYTECODE=1 ASAN_OPTIONS=detect_leaks=0 LINTS=no
+
+# The first of these tools that is absent, if one is.
+absent() {
+    for tool in "$@"; do
+        command -v "$tool" >/dev/null || {
+            echo "$tool"
+            return
+        }
+    done
+}
+
+# A test, for which tools are needed: face NAME TOOLS COMMAND WORD..
+face() {
+    name=$1 tools=$2
+    shift 2
+    # the tools are several words
+    missing=$(absent $tools)
+    if [ -n "$missing" ]; then
+        echo "skipped: $name: no $missing"
+    elif timeout 900 "$@" >"$work/log" 2>&1 </dev/null; then
+        echo "passed: $name"
+        grep '^skipped' "$work/log" | sed 's/^/    /'
+    else
+        echo "FAILED: $name"
+        grep '^FAILED' "$work/log" | sed 's/^/    /'
+        tail -n 20 "$work/log" | sed 's/^/    | /'
+        status=1
+    fi
+}
+
+python_face() {
+    make -s -C bindings shared OUT="$work/out" ARCHIVE="$archive" >"$work/log" 2>&1
+    shared=$(find "$work/out/shared" -name 'libperf_event_data.so.*' 2>/dev/null)
+    if [ -z "$shared" ]; then
+        echo "skipped: Python: $(tail -n 1 "$work/log")"
+        return
+    fi
+    perfrec=crates/perfrec/out/perfrec
+    [ -x $perfrec ] || perfrec=
+    face "Python" "python3" env PERF_EVENT_DATA_SO="$shared" python3 bindings/python/test.py $perfrec
+}
+
+archive=$work/libperf_event_c.a
+if [ $# -gt 0 ]; then
+    cp "$1" "$archive" || exit 2
+elif ! python3 bindings/gate_archive.py "$archive" >"$work/log" 2>&1 </dev/null; then
+    echo "skipped: the faces: $(head -n 1 "$work/log")"
+    tail -n +2 "$work/log"
+    exit 0
+fi
+face "C and C++" "cc c++ make nm" bindings/test.sh "$archive" crates
+face "Rust" "cc cargo" bindings/rust/test.sh "$work"
+if [ -z "$(absent cc make python3)" ]; then
+    python_face
+else
+    echo "skipped: Python: no $(absent cc make python3)"
+fi
+face "packages" "cc c++ make nm pkg-config tar gzip python3" bindings/install_test.sh "$archive"
+exit $status
