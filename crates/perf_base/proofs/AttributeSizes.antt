@@ -1,4 +1,4 @@
--- An attribute that is accepted takes as many bytes as its size says.
+-- An attribute that is accepted takes as many bytes as its size specifies.
 use Rattle.std.proofs.Common.{◌≡◌, ℕ, ◌+◌, ◌-◌, ◌<◌, Bool, true, false, List, [], ◌∷◌, length, take, drop, Option, Some, None, Ok, Err, refl, sym, ◌∙◌, ap, subst, arith}
 use Rattle.std.specs.Prelude.{Result, ◌==◌, ◌||◌, nat_le, nat_lt, if◌then◌else◌}
 use Rattle.std.proofs.lemmas.Bool.{le-leb}
@@ -75,7 +75,7 @@ third len (x ∷ y ∷ holds s t e ∷ xs) h =
     let next = first (stands len y) (first_refusal len (holds s t e ∷ xs)) (spot_kind y) after.1 in
     (first t (first_refusal len xs) e next.1).0
 
--- An attribute that was read ends where its size says.
+-- An attribute that was read ends where its size specifies.
 pub ends : (o : Order) (body : List ℕ) (a : perf_event_attr) → layout o attribute body ≡ Ok a → ending o body 0 attribute ≡ a.size
 ends o body a h =
     let n : ℕ = o.four (take 4 (drop 4 body)) in

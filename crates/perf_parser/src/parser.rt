@@ -543,7 +543,7 @@ impl<'p, B: ParseBuf<'p> + Drop, E: Endian> Parser<B, E> {
         ensures order { IfOk result (λ after.
             E.order (endian_of (config_of after)) ≡ E.order (endian_of (config_of self))) }
 
-        // The attribute is the layout of the first bytes, and takes as many as its size says.
+        // The attribute is the layout of the first bytes, and takes as many as its size specifies.
         ensures read { let start = state_of B.source E.order self in
             IsTrue start.source.told → IfOk result (λ after. (attr : prelude.perf_event_attr)
             × (prelude.took_by_places start.order prelude.attribute start.source.left start.reads
