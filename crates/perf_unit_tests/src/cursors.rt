@@ -69,7 +69,7 @@ const OF_A_READER: &str = "None: Temporary([97, 98, 99]) Some(3); Temporary([99]
     None Some(100) Some(Eof) false Some([])";
 
 #[test]
-fn a_cursor_over_a_slice_lends_it(rt: HostRuntime) -> Result<(), Fail> {
+fn a_cursor_over_a_slice_borrows_it(rt: HostRuntime) -> Result<(), Fail> {
     check_parsed_text(&rt, text_of_cursor(rt.alloc(), BYTES), LENT);
     let mut bytes = BYTES;
     ParseBufCursor::new(rt.alloc(), &mut bytes, 3)?;
@@ -94,7 +94,7 @@ fn a_cursor_over_bytes_that_do_not_last_keeps_its_own(rt: HostRuntime) -> Result
 }
 
 #[test]
-fn a_cursor_lends_what_one_lasting_piece_has(rt: HostRuntime) {
+fn a_cursor_borrows_what_one_borrowed_piece_has(rt: HostRuntime) {
     for (n, want) in [(1, OWN), (3, LENT), (64, LENT)] {
         check_parsed_text(
             &rt,

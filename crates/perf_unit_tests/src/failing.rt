@@ -395,7 +395,7 @@ const WITHOUT_MEMORY: &str = "end fault OutOfMemory\n";
 // Attributes of 64 bytes, alone and before five lost samples, and one that is refused, with the
 // limit and what is written. The configuration after the attribute has a byte order of its own.
 #[test]
-fn a_refused_order_ends_the_text_for_want_of_memory(rt: HostRuntime) -> Result<(), AllocError> {
+fn a_refused_order_ends_the_text_out_of_memory(rt: HostRuntime) -> Result<(), AllocError> {
     let input = join(rt.alloc(), &PLAIN_64, &FIVE_LOST)?;
     for (limit, bytes, text, outcome) in [
         (10, PLAIN_64.as_slice(), WITHOUT_MEMORY, Outcome::Faulted),
@@ -420,7 +420,7 @@ fn a_refused_order_ends_the_text_for_want_of_memory(rt: HostRuntime) -> Result<(
 }
 
 #[test]
-fn a_run_without_an_attribute_lends_its_order(rt: HostRuntime) {
+fn a_run_without_an_attribute_borrows_its_order(rt: HostRuntime) {
     for (bytes, text, outcome) in ENDING {
         let actual = RunCase {
             limit: 10,
