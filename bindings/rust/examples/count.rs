@@ -112,15 +112,16 @@ enum How {
     AfterHeader,
 }
 
-/// What the next record adds.
+/// What the next record adds, unless it is refused.
 #[inline]
-fn next_sum<E: Endian>(parser: &mut Parser<&[u8], E>, how: How) -> ParseResult<u64> {
+fn next_sum<E: Endian>(parser: &mut Parser<&[u8], E>, how: How) -> Option<u64> {
     match how {
-        How::Record => parser.parse().map(|record| record_sum(&record)),
-        How::Visit => parser.parse_record(Sum),
+        How::Record => parser.parse().as_ref().map(record_sum).ok(),
+        How::Visit => parser.parse_record(Sum).ok(),
         How::AfterHeader => {
-            let header: perf_event_header = parser.parse()?;
-            Record::parse_with_header(parser, header).map(|record| record_sum(&record))
+            let header: perf_event_header = parser.parse().ok()?;
+            let record = Record::parse_with_header(parser, header);
+            record.as_ref().map(record_sum).ok()
         }
     }
 }
@@ -139,8 +140,8 @@ fn count<E: Endian + Default>(stream: &[u8], with_attr: bool, how: How) -> Parse
         let size = parser.endian().convert_u16([e, f]);
         frames += 1;
         match next_sum(&mut parser, how) {
-            Ok(numbers) => checksum = sum([checksum, type_.into(), size.into(), numbers]),
-            Err(_) => refused += 1,
+            Some(numbers) => checksum = sum([checksum, type_.into(), size.into(), numbers]),
+            None => refused += 1,
         }
         left = &left[usize::from(size).max(8).min(left.len())..];
     }

@@ -402,12 +402,16 @@ where
         }
         let mut place = Place::new();
         let fields = self.config.fields();
-        let output = match Flat::first(fields, order, chunk.first(whole), &mut place) {
-            Ok(flat) => Ok(make(&flat)),
-            Err(error) => Err(error),
+        let flat = match Flat::first(fields, order, chunk.first(whole), &mut place) {
+            Ok(flat) => flat,
+            Err(error) => {
+                self.data.advance(whole);
+                return Err(error);
+            }
         };
+        let output = make(&flat);
         self.data.advance(whole);
-        output
+        Ok(output)
     }
 
     /// The same for a record that is in several chunks, or cut off.
@@ -457,20 +461,23 @@ where
         if len > chunk.len() {
             return self.parse_record_with_header(RecordVisitor, header);
         }
-        let output = match len.checked_sub(self.config.id_len(header.type_)) {
-            Some(len) => {
-                let mut place = Place::new();
-                let (fields, body) = (self.config.fields(), chunk.first(len));
-                let header = (header.type_, header.misc);
-                match Flat::of_body(fields, order, header, body, &mut place) {
-                    Ok(flat) => Ok(Record::of(&flat)),
-                    Err(error) => Err(error),
-                }
-            }
-            None => Err(ParseError::because(Reason::NoRoomForId)),
+        let Some(body) = len.checked_sub(self.config.id_len(header.type_)) else {
+            self.data.advance(len);
+            return Err(ParseError::because(Reason::NoRoomForId));
         };
+        let mut place = Place::new();
+        let (fields, body) = (self.config.fields(), chunk.first(body));
+        let flat = match Flat::of_body(fields, order, (header.type_, header.misc), body, &mut place)
+        {
+            Ok(flat) => flat,
+            Err(error) => {
+                self.data.advance(len);
+                return Err(error);
+            }
+        };
+        let record = Record::of(&flat);
         self.data.advance(len);
-        output
+        Ok(record)
     }
 
     /// Parses a record's body: what is made of the record of a type that has the next bytes as its
