@@ -7,7 +7,6 @@ pub mod attr;
 pub mod body;
 #[cfg(test)]
 mod call_tests;
-mod contents;
 pub mod flat_config;
 pub mod flat_frame;
 pub mod identifier;
@@ -21,6 +20,7 @@ pub mod read;
 mod refusals;
 mod sample_fields;
 mod sample_groups;
+mod sample_ids;
 mod sample_lists;
 mod sample_made;
 pub mod split;
