@@ -7,7 +7,7 @@ ghost use Rattle.perf_event_c.specs.Ends.{StatesFirst};
 use crate::ends::{CUT_HEADER, DONE, LIMIT, NOT_READ};
 use perf_flat::flat_config::FlatConfig;
 use perf_flat::flat_frame::FlatFrame;
-use perf_flat::read::read;
+use perf_flat::read::read_into;
 use std::alloc::Global;
 
 /// Writes the frame at the front of bytes to `frame` and returns [`LIMIT`]. A refused frame has its
@@ -17,7 +17,7 @@ use std::alloc::Global;
 /// not of this version [`NOT_READ`]; nothing is written then.
 #[unsafe(no_mangle)]
 pub extern "C" fn ped_read(
-    alloc: Global,
+    _alloc: Global,
     config: &FlatConfig,
     bytes: &[u8],
     frame: &mut FlatFrame,
@@ -34,12 +34,11 @@ pub extern "C" fn ped_read(
     let Some(settings) = config.config() else {
         return NOT_READ;
     };
-    match read(alloc, &settings, bytes) {
-        Some(first) => {
-            *frame = first;
-            LIMIT
-        }
-        None if bytes.is_empty() => DONE,
-        None => CUT_HEADER,
+    if read_into(&settings, bytes, frame) {
+        LIMIT
+    } else if bytes.is_empty() {
+        DONE
+    } else {
+        CUT_HEADER
     }
 }

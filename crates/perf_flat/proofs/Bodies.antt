@@ -1,11 +1,10 @@
 -- What a flat frame states of a body, by how it was made.
 use Rattle.std.specs.Prelude.{if◌then◌else◌}
-use Rattle.std.proofs.Common.{◌≡◌, ℕ, ◌+◌, ◌<◌, ◌^◌, ◌==◌, ◌&&◌, Bool, true, false, List, ◌++◌, length, take, Ok, Err, refl, sym, ◌∙◌, ap, subst, arith}
+use Rattle.std.proofs.Common.{◌≡◌, ℕ, ◌+◌, ◌<◌, ◌^◌, ◌==◌, ◌&&◌, Bool, true, false, List, ◌++◌, length, take, Some, None, refl, sym, ◌∙◌, ap, subst, arith}
 use Rattle.std.proofs.lemmas.Bool.{and_right}
 use Rattle.std.proofs.lemmas.List.{length-append, take_all, drop_at}
 use Rattle.std.specs.Int.RustNames.{bit_and}
 use Rattle.perf_base.specs.Configuration.{Configuration, under_misc}
-use Rattle.perf_base.specs.Layout.{layout}
 use Rattle.perf_base.specs.Order.{Order}
 use Rattle.perf_base.specs.declared.refusal.Refusal.{Refusal}
 use Rattle.perf_base.specs.declared.sys.perf_event_header.{perf_event_header}
@@ -15,12 +14,11 @@ use Rattle.perf_records.specs.Records.{RecordValue}
 use Rattle.perf_sample_types.specs.SampleId.{SampleIdValue, no_sample_id}
 use Rattle.perf_flat.specs.Bodies.{without_ids, StatesBody, IsFlatBody}
 use Rattle.perf_flat.specs.Filled.{filled}
-use Rattle.perf_flat.specs.Flat.{CarriesNumbers, StatesId, StatesRecord, HasHeader, present_of, id_flags, ids_of, numbers_under, refused_frame}
+use Rattle.perf_flat.specs.Flat.{CarriesNumbers, StatesRecord, HasHeader, present_of, id_flags, ids_of, numbers_under, refused_frame}
 use Rattle.perf_flat.specs.Places.{IsBodyOf, PlacesRecord}
 use Rattle.perf_flat.specs.Samples.{sample_present}
-use Rattle.perf_flat.specs.Spans.{HasSpans}
-use Rattle.perf_flat.specs.declared.contents.Contents.{Contents}
 use Rattle.perf_flat.specs.declared.flat_frame.FlatFrame.{FlatFrame}
+use Rattle.perf_flat.proofs.Placing.{still_headed, now_carries}
 
 -- only the fields of a sample are present without a sample id
 alone : (b : Bool) (x y z : ℕ) → z ≡ 0 → (if b then (if b then x else y) else 0) ≡ (if b then x else z)
@@ -34,10 +32,10 @@ present_without c ty =
     (ap (λ b. if b then bit_and c.sample_type id_flags else 0) (and_right (carries_sample_id ty) false refl))
 
 -- a flat frame of a record, without a sample id
-pub no_id_header : (h : perf_event_header) (a : FlatFrame) (p : ℕ) → HasHeader h a → HasHeader h (record a { present = p })
+no_id_header : (h : perf_event_header) (a : FlatFrame) (p : ℕ) → HasHeader h a → HasHeader h (record a { present = p })
 no_id_header h a p headed = record { type_ = headed.type_; misc = headed.misc; size = headed.size }
 
-pub no_id_numbers : (c : Configuration) (h : perf_event_header) (ids : SampleIdValue) (all : List ℕ) (a : FlatFrame) (p : ℕ) → HasHeader h a → p ≡ (if h.type_ == 9 then a.present else 0) → CarriesNumbers c ids all a → CarriesNumbers (without_ids c) ids all (record a { present = p })
+no_id_numbers : (c : Configuration) (h : perf_event_header) (ids : SampleIdValue) (all : List ℕ) (a : FlatFrame) (p : ℕ) → HasHeader h a → p ≡ (if h.type_ == 9 then a.present else 0) → CarriesNumbers c ids all a → CarriesNumbers (without_ids c) ids all (record a { present = p })
 no_id_numbers c h ids all a p headed is carries = record {
   read = carries.read;
   refusal = carries.refusal;
@@ -66,41 +64,31 @@ body_after front bytes eight short =
       is = sym (take_all (length bytes) bytes (omega arith)) ∙ ap (take (length bytes)) (sym (drop_at front bytes 8 eight));
     }
 
--- what it states, by what the contents are
-body_states : (c : Configuration) (o : Order) (h : perf_event_header) (bytes : List ℕ) (value : RecordValue) (made : Contents) (f : FlatFrame) →
-    length bytes < 2 ^ 16 → layout o (body (under_misc h.misc c) h.type_) bytes ≡ Ok value →
-    made.numbers ≡ filled (numbers_under c.read_format value) → ((frame : List ℕ) → IsBodyOf frame bytes → HasSpans c.read_format o frame made.spans value) → made.metadata.sample_id ≡ ids_of no_sample_id value →
-    HasHeader h f → CarriesNumbers (without_ids c) made.metadata.sample_id made.numbers f → f.spans ≡ made.spans → IsFlatBody c o h bytes f
-body_states c o h bytes value made f short made_of numbers there ids headed carries spans = record {
-  header = headed;
-  answer = λ front eight.
-      let frame : List ℕ = front ++ bytes in
-      let says : StatesRecord (without_ids c) o frame no_sample_id value f = (
-        record {
-          read = carries.read;
-          refusal = carries.refusal;
-          reason = carries.reason;
-          present = carries.present;
-          read_format = carries.read_format;
-          id = subst (λ x. StatesId x f) ids carries.id;
-          numbers = carries.numbers ∙ numbers;
-        },
-        subst (λ xs. HasSpans c.read_format o frame xs value) (sym spans) (there frame (body_after front bytes eight short)),
-      ) in
-      subst (λ a. StatesBody c o h frame a f) (sym made_of) says;
-}
-
-pub body_placed : (c : Configuration) (o : Order) (h : perf_event_header) (bytes : List ℕ) (made : Contents) (f : FlatFrame) →
-    length bytes < 2 ^ 16 → PlacesRecord (under_misc h.misc c) o (body (under_misc h.misc c) h.type_) bytes no_sample_id (Ok made) →
-    HasHeader h f → CarriesNumbers (without_ids c) made.metadata.sample_id made.numbers f → f.spans ≡ made.spans → IsFlatBody c o h bytes f
+-- what it states of a record
+pub body_placed : (c : Configuration) (o : Order) (h : perf_event_header) (bytes before : List ℕ) (old new : FlatFrame) (p : ℕ) →
+    length bytes < 2 ^ 16 → PlacesRecord (under_misc h.misc c) o (body (under_misc h.misc c) h.type_) bytes old None new →
+    HasHeader h old → CarriesNumbers c no_sample_id before old → p ≡ (if h.type_ == 9 then new.present else 0) → IsFlatBody c o h bytes (record new { present = p })
 unfolding PlacesRecord
-body_placed c o h bytes made f short places headed carries spans =
-    body_states c o h bytes places.0 made f short places.1 places.2.numbers places.2.spans places.2.ids headed carries spans
+body_placed c o h bytes before old new p short places headed carries is =
+    let value : RecordValue = places.0 in
+    let holds = places.2 in
+    let all : List ℕ = filled (numbers_under c.read_format value) in
+    let own : SampleIdValue = no_sample_id in
+    let header = still_headed h old new holds.head headed in
+    let now = now_carries c own (ids_of own value) before all old new holds.head carries (holds.ids own carries.id) holds.numbers in
+    record {
+      header = no_id_header h new p header;
+      answer = λ front eight.
+          let frame : List ℕ = front ++ bytes in
+          let says : StatesRecord (without_ids c) o frame no_sample_id value (record new { present = p }) =
+          (no_id_numbers c h (ids_of own value) all new p header is now, holds.spans frame (body_after front bytes eight short)) in
+          subst (λ a. StatesBody c o h frame a (record new { present = p })) (sym places.1) says;
+    }
 
-pub body_refused : (c : Configuration) (o : Order) (h : perf_event_header) (bytes : List ℕ) (e : Refusal) (f : FlatFrame) →
-    PlacesRecord (under_misc h.misc c) o (body (under_misc h.misc c) h.type_) bytes no_sample_id (Err e) → f ≡ refused_frame h e → IsFlatBody c o h bytes f
+pub body_refused : (c : Configuration) (o : Order) (h : perf_event_header) (bytes : List ℕ) (e : Refusal) (old new f : FlatFrame) →
+    PlacesRecord (under_misc h.misc c) o (body (under_misc h.misc c) h.type_) bytes old (Some e) new → f ≡ refused_frame h e → IsFlatBody c o h bytes f
 unfolding PlacesRecord
-body_refused c o h bytes e f places is = record {
+body_refused c o h bytes e old new f places is = record {
   header = record {
     type_ = ap (λ (x : FlatFrame). x.type_) is;
     misc = ap (λ (x : FlatFrame). x.misc) is;

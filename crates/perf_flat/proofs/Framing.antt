@@ -1,5 +1,5 @@
 -- What a flat frame states, by how it was made.
-use Rattle.std.proofs.Common.{◌≡◌, ℕ, ◌+◌, ◌-◌, ◌≤◌, ◌<◌, ◌^◌, Bool, true, false, List, [], ◌∷◌, length, take, drop, Result, Ok, Err, refl, sym, ◌∙◌, ap, subst, inl, inr, arith}
+use Rattle.std.proofs.Common.{◌≡◌, ℕ, ◌+◌, ◌-◌, ◌≤◌, ◌<◌, ◌^◌, Bool, true, false, List, [], ◌∷◌, length, take, drop, Option, Some, None, Result, Ok, Err, refl, sym, ◌∙◌, ap, subst, inl, inr, arith}
 use Rattle.std.specs.Prelude.{nat_lt}
 use Rattle.std.proofs.lemmas.Bool.{cases_lt, lt-ltb, le-ltb}
 use Rattle.std.proofs.lemmas.List.{length-drop, length-take, length-take-le, take-take, drop-take, take_all}
@@ -17,20 +17,21 @@ use Rattle.perf_records.specs.Bodies.{body}
 use Rattle.perf_records.specs.FrameReadings.{HasNoRoom}
 use Rattle.perf_records.specs.Frames.{frame_length}
 use Rattle.perf_records.specs.FrameList.{sights}
-use Rattle.perf_records.specs.Metadata.{MetadataValue, id_length, id_of_type}
+use Rattle.perf_records.specs.Metadata.{id_length, id_of_type}
 use Rattle.perf_records.specs.Records.{RecordValue}
+use Rattle.perf_sample_types.specs.SampleId.{SampleIdValue}
 use Rattle.perf_records.specs.Sights.{Sight, whole, bad, sight_after, sight_in}
 use Rattle.perf_records.proofs.FrameList.{next_sight, no_sight, some_sight}
 use Rattle.perf_records.proofs.Handing.{finished}
 use Rattle.perf_records.proofs.Headers.{frame_whole, frame_body, header_alone}
 use Rattle.perf_records.proofs.Splitting.{split_small, split_short, split_no_room, split_whole}
-use Rattle.perf_flat.specs.Flat.{CarriesNumbers, StatesId, StatesRecord, StatesRefusal, StatesAnswer, HasHeader, IsFlat, IsFlatAfter, IsBad, refused_frame, first_frame}
+use Rattle.perf_flat.specs.Filled.{filled}
+use Rattle.perf_flat.specs.Flat.{CarriesNumbers, StatesRecord, StatesRefusal, StatesAnswer, HasHeader, IsFlat, IsFlatAfter, IsBad, ids_of, numbers_under, refused_frame, first_frame}
 use Rattle.perf_flat.specs.Places.{IsBodyOf, PlacesRecord}
 use Rattle.perf_flat.specs.SampleIds.{TakesId}
-use Rattle.perf_flat.specs.Spans.{HasSpans}
-use Rattle.perf_flat.specs.declared.contents.Contents.{Contents}
 use Rattle.perf_flat.specs.declared.flat_frame.FlatFrame.{FlatFrame}
 use Rattle.perf_flat.specs.declared.sample_ids.FrameEnd.{FrameEnd}
+use Rattle.perf_flat.proofs.Placing.{still_headed, now_carries}
 
 -- ---- the body of a frame
 
@@ -121,23 +122,22 @@ room_split c o h bytes sized long room =
     let all : take (length_after h) bytes ≡ bytes = take_all (length_after h) bytes (omega arith) in
     split_whole c o h bytes sized (omega arith) (omega arith) ∙ ap (λ xs. Ok (parts_of c o h xs)) all
 
--- the record in its body, under its sample id
-pub end_placed : {c : Configuration} {o : Order} {bytes : List ℕ} {made : FrameEnd} {m : MetadataValue} (h : perf_event_header) (r : Result Contents Refusal) →
-    TakesId o (id_length c h.type_) (id_of_type c h.type_) bytes made → m.sample_id ≡ made.id →
-    PlacesRecord (under_misc h.misc c) o (body (under_misc h.misc c) h.type_) made.body.now m.sample_id r →
-    PlacesRecord (under_misc h.misc c) o (body (under_misc h.misc c) h.type_) (parts_of c o h bytes).body (parts_of c o h bytes).metadata.sample_id r
-end_placed {c} {o} {bytes} {made} {m} h r takes same places =
-    subst (λ xs. PlacesRecord (under_misc h.misc c) o (body (under_misc h.misc c) h.type_) xs (parts_of c o h bytes).metadata.sample_id r) takes.body
-    (subst (λ ids. PlacesRecord (under_misc h.misc c) o (body (under_misc h.misc c) h.type_) made.body.now ids r) (same ∙ takes.id) places)
+-- the record in its body
+pub end_placed : (c : Configuration) (o : Order) (bytes : List ℕ) (made : FrameEnd) (h : perf_event_header) (old : FlatFrame) (told : Option Refusal) (new : FlatFrame) →
+    TakesId o (id_length c h.type_) (id_of_type c h.type_) bytes made → PlacesRecord (under_misc h.misc c) o (body (under_misc h.misc c) h.type_) made.body.now old told new →
+    PlacesRecord (under_misc h.misc c) o (body (under_misc h.misc c) h.type_) (parts_of c o h bytes).body old told new
+end_placed c o bytes made h old told new takes places =
+    subst (λ xs. PlacesRecord (under_misc h.misc c) o (body (under_misc h.misc c) h.type_) xs old told new) takes.body places
 
 -- its record is in the body
-pub list_placed : (c : Configuration) (o : Order) (h : perf_event_header) (bytes : List ℕ) (parts : FrameParts) (made : Contents) (f : FlatFrame) → length bytes + 8 < 2 ^ 32 →
-    split_after c o h bytes ≡ Ok parts → PlacesRecord (under_misc h.misc c) o (body (under_misc h.misc c) h.type_) parts.body parts.metadata.sample_id (Ok made) →
-    HasHeader h f → CarriesNumbers c made.metadata.sample_id made.numbers f → f.spans ≡ made.spans → IsFlatAfter c o h bytes f
+pub list_placed : (c : Configuration) (o : Order) (h : perf_event_header) (bytes : List ℕ) (parts : FrameParts) (before : List ℕ) (old new : FlatFrame) → length bytes + 8 < 2 ^ 32 →
+    split_after c o h bytes ≡ Ok parts → PlacesRecord (under_misc h.misc c) o (body (under_misc h.misc c) h.type_) parts.body old None new →
+    HasHeader h old → CarriesNumbers c parts.metadata.sample_id before old → IsFlatAfter c o h bytes new
 unfolding PlacesRecord
-list_placed c o h bytes parts made f short split places headed carries spans = λ frame fits header rest.
+list_placed c o h bytes parts before old new short split places headed carries = λ frame fits header rest.
     let value : RecordValue = places.0 in
     let holds = places.2 in
+    let own : SampleIdValue = parts.metadata.sample_id in
     let answer : answer_after c o h bytes ≡ Ok value = ap (record_in c o h) split ∙ places.1 in
     let front = body_front c o h bytes parts split in
     let long : length (drop 8 frame) ≡ length frame - 8 = length-drop 8 frame in
@@ -148,27 +148,17 @@ list_placed c o h bytes parts made f short split places headed carries spans = �
       count = front.0;
       is = front.1 ∙ ap (take front.0) (sym rest);
     } in
-    let says : StatesRecord c o frame parts.metadata.sample_id value f = (
-      record {
-        read = carries.read;
-        refusal = carries.refusal;
-        reason = carries.reason;
-        present = carries.present;
-        read_format = carries.read_format;
-        id = subst (λ m. StatesId m f) holds.ids carries.id;
-        numbers = carries.numbers ∙ holds.numbers;
-      },
-      subst (λ xs. HasSpans c.read_format o frame xs value) (sym spans) (holds.spans frame is_body),
-    ) in
-    transition_after c o h bytes f frame fits header rest headed
-    (subst (λ a. StatesAnswer c o frame (split_after c o h bytes) a f) (sym answer) (subst (λ s. StatesAnswer c o frame s (Ok value) f) (sym split) says))
+    let says : StatesRecord c o frame own value new =
+    (now_carries c own (ids_of own value) before (filled (numbers_under c.read_format value)) old new holds.head carries (holds.ids own carries.id) holds.numbers, holds.spans frame is_body) in
+    transition_after c o h bytes new frame fits header rest (still_headed h old new holds.head headed)
+    (subst (λ a. StatesAnswer c o frame (split_after c o h bytes) a new) (sym answer) (subst (λ s. StatesAnswer c o frame s (Ok value) new) (sym split) says))
 
 -- its record is refused
-pub list_refused : (c : Configuration) (o : Order) (h : perf_event_header) (bytes : List ℕ) (parts : FrameParts) (e : Refusal) (f : FlatFrame) → 8 ≤ h.size → length bytes ≡ length_after h →
-    split_after c o h bytes ≡ Ok parts → PlacesRecord (under_misc h.misc c) o (body (under_misc h.misc c) h.type_) parts.body parts.metadata.sample_id (Err e) →
+pub list_refused : (c : Configuration) (o : Order) (h : perf_event_header) (bytes : List ℕ) (parts : FrameParts) (e : Refusal) (old new f : FlatFrame) → 8 ≤ h.size → length bytes ≡ length_after h →
+    split_after c o h bytes ≡ Ok parts → PlacesRecord (under_misc h.misc c) o (body (under_misc h.misc c) h.type_) parts.body old (Some e) new →
     id_length c h.type_ ≤ length bytes → f ≡ refused_frame h e → IsFlatAfter c o h bytes f
 unfolding PlacesRecord
-list_refused c o h bytes parts e f sized long split places room made =
+list_refused c o h bytes parts e old new f sized long split places room made =
     refused c o h bytes e f made (ap (record_in c o h) split ∙ places) (λ small. absurd (omega arith)) (λ _ _ lacks. absurd (omega arith))
 
 -- it is too short for its sample id

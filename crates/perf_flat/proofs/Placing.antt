@@ -1,12 +1,13 @@
 -- Records whose lists were passed over.
 use Rattle.std.specs.Prelude.{if◌then◌else◌}
-use Rattle.std.proofs.Common.{◌≡◌, ℕ, true, false, zero, suc, ◌+◌, ◌*◌, List, [], ◌∷◌, length, Some, None, Ok, Err, refl, sym, ◌∙◌, ap, subst, arith}
+use Rattle.std.proofs.Common.{◌≡◌, ℕ, true, false, zero, suc, ◌+◌, ◌*◌, List, [], ◌∷◌, length, Option, Some, None, Ok, Err, refl, sym, ◌∙◌, ap, subst, arith}
 use Rattle.perf_base.specs.Configuration.{Configuration}
 use Rattle.perf_base.specs.FieldWords.{u32, u64, numbers}
 use Rattle.perf_base.specs.Layout.{Parts, Width, part, number, done, mapped, layout, ◌>>=◌}
 use Rattle.perf_base.specs.Order.{Order}
 use Rattle.perf_base.specs.Refusals.{refusal_kind}
 use Rattle.perf_base.specs.declared.refusal.Refusal.{Refusal}
+use Rattle.perf_base.specs.declared.sys.perf_event_header.{perf_event_header}
 use Rattle.perf_base.specs.Misc.{build_id_bit}
 use Rattle.perf_types.specs.MmapDetail.{DetailValue, inode, build_id, mmap_detail, maj_of, min_of, ino_of, ino_generation_of}
 use Rattle.perf_types.specs.Namespaces.{namespaces, entries_of}
@@ -17,10 +18,11 @@ use Rattle.perf_flat.specs.declared.mapping_bodies.Detail.{Detail}
 use Rattle.perf_records.specs.Records.{RecordValue, namespaces_is}
 use Rattle.perf_sample_types.specs.SampleId.{SampleIdValue}
 use Rattle.perf_flat.specs.Filled.{filled, filled_spans}
-use Rattle.perf_flat.specs.Places.{IsBodyOf, Reads, ReadsFor, HoldsRecord, PlacesRecord, TakesRecord}
+use Rattle.perf_flat.specs.Flat.{CarriesNumbers, StatesId, HasHeader, read_type, present_of, format_of}
+use Rattle.perf_flat.specs.Places.{IsBodyOf, Reads, ReadsFor, SameHead, HoldsRecord, PlacesRecord, TakesRecord}
 use Rattle.perf_flat.specs.Spans.{HasSpans}
 use Rattle.perf_flat.specs.Strings.{HasNumbers}
-use Rattle.perf_flat.specs.declared.contents.Contents.{Contents}
+use Rattle.perf_flat.specs.declared.flat_frame.FlatFrame.{FlatFrame}
 use Rattle.perf_flat.specs.declared.flat_frame.Span.{Span}
 use Rattle.perf_flat.specs.declared.places.Places.{Places}
 use Rattle.perf_flat.proofs.Reading.{then_reads, all_read, layout_read, layout_refused}
@@ -28,31 +30,59 @@ use Rattle.perf_flat.proofs.Spans.{none_after, first_of_one}
 
 -- ---- a whole body
 
-pub placed : (c : Configuration) (o : Order) (p : Parts RecordValue) (body : List ℕ) (own : SampleIdValue) (value : RecordValue) (a b : Places) (made : Contents) →
-    a.bytes.now ≡ body → a.at ≡ 0 → a.refusal ≡ None → Reads o p value a b → b.refusal ≡ None → HoldsRecord c o body own value made → PlacesRecord c o p body own (Ok made)
+-- the contents were written, if nothing was refused
+pub placed : (c : Configuration) (o : Order) (p : Parts RecordValue) (body : List ℕ) (value : RecordValue) (a b : Places) (old new : FlatFrame) →
+    a.bytes.now ≡ body → a.at ≡ 0 → a.refusal ≡ None → Reads o p value a b → (b.refusal ≡ None → HoldsRecord c o body value old new) → PlacesRecord c o p body old b.refusal new
 unfolding PlacesRecord
-placed c o p body own value a b made same front fresh reads ok holds =
-    (value, subst (λ xs. layout o p xs ≡ Ok value) same (layout_read o p value a b front fresh reads ok), holds)
+placed c o p body value a b old new same front fresh reads holds = go b.refusal refl
+  where
+    go : (r : Option Refusal) → b.refusal ≡ r → PlacesRecord c o p body old r new
+    go None ok = (value, subst (λ xs. layout o p xs ≡ Ok value) same (layout_read o p value a b front fresh reads ok), holds ok)
+    go (Some e) refused = subst (λ xs. layout o p xs ≡ Err (refusal_kind e)) same (layout_refused o p value a b e front fresh reads refused)
 
-pub not_placed : (c : Configuration) (o : Order) (p : Parts RecordValue) (body : List ℕ) (own : SampleIdValue) (value : RecordValue) (a b : Places) (e : Refusal) →
-    a.bytes.now ≡ body → a.at ≡ 0 → a.refusal ≡ None → Reads o p value a b → b.refusal ≡ Some e → PlacesRecord c o p body own (Err e)
-unfolding PlacesRecord
-not_placed c o p body own value a b e same front fresh reads refused =
-    subst (λ xs. layout o p xs ≡ Err (refusal_kind e)) same (layout_refused o p value a b e front fresh reads refused)
+-- ---- what is written to a flat frame
+
+-- its header stays
+pub still_headed : (h : perf_event_header) (old new : FlatFrame) → SameHead old new → HasHeader h old → HasHeader h new
+still_headed h old new head headed = record {
+  type_ = head.type_ ∙ headed.type_;
+  misc = head.misc ∙ headed.misc;
+  size = head.size ∙ headed.size;
+}
+
+-- what it states besides its spans, once its contents are written
+pub now_carries : (c : Configuration) (own ids : SampleIdValue) (before all : List ℕ) (old new : FlatFrame) → SameHead old new → CarriesNumbers c own before old → StatesId ids new → new.numbers ≡ all → CarriesNumbers c ids all new
+now_carries c own ids before all old new head carries states numbers = record {
+  read = head.read ∙ carries.read ∙ ap read_type (sym head.type_);
+  refusal = head.refusal ∙ carries.refusal;
+  reason = head.reason ∙ carries.reason;
+  present = head.present ∙ carries.present ∙ ap (present_of c) (sym head.type_);
+  read_format = head.read_format ∙ carries.read_format ∙ ap (format_of c) (sym head.type_);
+  id = states;
+  numbers = numbers;
+}
+
+-- what a flat frame has of a sample id stays, if only its numbers and spans are others
+same_ids : (own : SampleIdValue) (old : FlatFrame) (words : List ℕ) (places : List Span) → StatesId own old → StatesId own (record old { numbers = words; spans = places })
+same_ids own old words places states = record {
+  pid = states.pid;
+  tid = states.tid;
+  time = states.time;
+  id = states.id;
+  stream_id = states.stream_id;
+  cpu = states.cpu;
+}
 
 -- what was read of a body from its beginning
-pub taken_placed : (c : Configuration) (o : Order) (p : Parts RecordValue) (value : RecordValue) (body numbers : List ℕ) (spans : List Span) (end : Places) (own : SampleIdValue) (made : Contents) →
-    TakesRecord c o p value body numbers spans end → end.refusal ≡ None → made.metadata.sample_id ≡ own → made.numbers ≡ filled numbers → made.spans ≡ filled_spans spans → PlacesRecord c o p body own (Ok made)
-taken_placed c o p value body numbers spans end own made taken ok ids words places =
-    placed c o p body own value taken.start end made taken.whole taken.front taken.fresh taken.reads ok (record {
-      numbers = words ∙ ap filled (taken.words ok);
-      spans = λ frame is. subst (λ xs. HasSpans c.read_format o frame xs value) (sym places) (taken.there ok frame (subst (IsBodyOf frame) (sym (taken.reads.bytes ∙ taken.whole)) is));
-      ids = ids ∙ sym (taken.ids own);
+pub taken_placed : (c : Configuration) (o : Order) (p : Parts RecordValue) (value : RecordValue) (body numbers words : List ℕ) (spans places : List Span) (end : Places) (old : FlatFrame) →
+    TakesRecord c o p value body numbers spans end → words ≡ filled numbers → places ≡ filled_spans spans → PlacesRecord c o p body old end.refusal (record old { numbers = words; spans = places })
+taken_placed c o p value body numbers words spans places end old taken are there =
+    placed c o p body value taken.start end old (record old { numbers = words; spans = places }) taken.whole taken.front taken.fresh taken.reads (λ ok. record {
+      numbers = are ∙ ap filled (taken.words ok);
+      spans = λ frame is. subst (λ xs. HasSpans c.read_format o frame xs value) (sym there) (taken.there ok frame (subst (IsBodyOf frame) (sym (taken.reads.bytes ∙ taken.whole)) is));
+      ids = λ own states. subst (λ ids. StatesId ids (record old { numbers = words; spans = places })) (sym (taken.ids own)) (same_ids own old words places states);
+      head = record { type_ = refl; misc = refl; size = refl; read = refl; refusal = refl; reason = refl; present = refl; read_format = refl };
     })
-
-pub taken_refused : (c : Configuration) (o : Order) (p : Parts RecordValue) (value : RecordValue) (body numbers : List ℕ) (spans : List Span) (end : Places) (own : SampleIdValue) (e : Refusal) →
-    TakesRecord c o p value body numbers spans end → end.refusal ≡ Some e → PlacesRecord c o p body own (Err e)
-taken_refused c o p value body numbers spans end own e taken refused = not_placed c o p body own value taken.start end e taken.whole taken.front taken.fresh taken.reads refused
 
 -- ---- one part after another
 
@@ -113,13 +143,3 @@ entries_there c o frame s pid tid count words long has =
     subst (λ n. HasNumbers o frame s (2 * n) (λ are. entries_of are ≡ entries_of words)) (sym (entries_counted count words long))
     (record { inside = has.inside; many = has.many; there = ap entries_of has.there }) in
     (subst (λ x. HasNumbers o frame x (2 * length (entries_of words)) (λ are. entries_of are ≡ entries_of words)) (sym (first_of_one s)) there, none_after (s ∷ []) 1 refl)
-
--- what its contents have
-pub namespaces_hold : (c : Configuration) (o : Order) (body : List ℕ) (own : SampleIdValue) (s : Span) (pid tid count : ℕ) (words : List ℕ) (made : Contents) → length words ≡ 2 * count →
-    ((frame : List ℕ) → IsBodyOf frame body → HasNumbers o frame s (2 * count) (λ are. are ≡ words)) → made.metadata.sample_id ≡ own →
-    made.numbers ≡ filled (pid ∷ tid ∷ count ∷ []) → made.spans ≡ filled_spans (s ∷ []) → HoldsRecord c o body own (task_namespaces pid tid words) made
-namespaces_hold c o body own s pid tid count words made long there ids numbers spans = record {
-  numbers = numbers ∙ ap (λ n. filled (pid ∷ tid ∷ n ∷ [])) (sym (entries_counted count words long));
-  spans = λ frame is. subst (λ xs. HasSpans c.read_format o frame xs (task_namespaces pid tid words)) (sym spans) (entries_there c o frame s pid tid count words long (there frame is));
-  ids = ids;
-}

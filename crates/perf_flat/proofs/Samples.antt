@@ -1,5 +1,5 @@
 -- A sample that was read in place states what its value is.
-use Rattle.std.proofs.Common.{◌≡◌, ℕ, List, [], ◌∷◌, ◌++◌, Option, Some, None, Result, Ok, Err, refl, sym, ◌∙◌, ap, subst}
+use Rattle.std.proofs.Common.{◌≡◌, ℕ, List, [], ◌∷◌, ◌++◌, Option, Some, None, refl, sym, ◌∙◌, ap, subst}
 use Rattle.std.specs.Prelude.{option_map}
 use Rattle.perf_base.specs.Configuration.{Configuration, under_misc}
 use Rattle.perf_base.specs.Layout.{Parts, done, mapped, layout}
@@ -9,15 +9,15 @@ use Rattle.perf_base.specs.Table.{table}
 use Rattle.perf_records.specs.Records.{sample_is}
 use Rattle.perf_sample_types.specs.Sample.{FieldValue, SampleValue, number_is, sample, sample_fields, fields_under, moment_fields, count_fields, state_fields, cost_fields, memory_fields, values, branch_stack, registers}
 use Rattle.perf_sample_types.specs.SampleGetters.{number_in}
-use Rattle.perf_sample_types.specs.SampleId.{SampleIdValue}
 use Rattle.perf_flat.specs.Filled.{filled, filled_spans}
 use Rattle.perf_flat.specs.Numbers.{or_zero}
-use Rattle.perf_flat.specs.Places.{IsBodyOf, Reads, HoldsRecord, PlacesRecord}
+use Rattle.perf_flat.specs.Flat.{StatesId}
+use Rattle.perf_flat.specs.Places.{IsBodyOf, Reads, SameHead, HoldsRecord, PlacesRecord}
 use Rattle.perf_flat.specs.SampleMade.{made_numbers, made_spans, made_ids}
 use Rattle.perf_flat.specs.SamplePlaces.{ReadsFields, ReadsCounts, ReadsState, ReadsCosts, ReadsMemory, moment_values, event_values}
 use Rattle.perf_flat.specs.Samples.{HasSampleSpans, sample_numbers}
 use Rattle.perf_flat.specs.Spans.{HasSpans}
-use Rattle.perf_flat.specs.declared.contents.Contents.{Contents}
+use Rattle.perf_flat.specs.declared.flat_frame.FlatFrame.{FlatFrame}
 use Rattle.perf_flat.specs.declared.places.Places.{Places}
 use Rattle.perf_flat.specs.declared.sample_made.Sample.{Sample}
 use Rattle.perf_flat.proofs.Reading.{then_reads, all_read}
@@ -71,14 +71,14 @@ zero_back n = ap or_zero (sym (number_back n))
 cons_is : {x y : ℕ} {xs ys : List ℕ} → x ≡ y → xs ≡ ys → x ∷ xs ≡ y ∷ ys
 cons_is {x} {y} {xs} {ys} one others = ap (λ n. n ∷ xs) one ∙ ap (λ ns. y ∷ ns) others
 
--- what its contents have
-pub sample_holds : (o : Order) (c : Configuration) (body : List ℕ) (own : SampleIdValue) (made : Sample) (contents : Contents) {a m b d e f g : Places} → a.bytes.now ≡ body →
+-- what a flat frame has of it
+pub sample_holds : (o : Order) (c : Configuration) (body : List ℕ) (made : Sample) (old new : FlatFrame) {a m b d e f g : Places} → a.bytes.now ≡ body →
     ReadsFields o (fields_under c (take 5 moment_fields)) (moment_values made.moment) a m → ReadsFields o (fields_under c (drop 5 moment_fields)) (event_values made.event) m b →
-    (counts : ReadsCounts c o made.counts b d) → (state : ReadsState c o made.state d e) → (costs : ReadsCosts c o made.costs e f) → (memory : ReadsMemory c o made.memory f g) → g.refusal ≡ None →
-    contents.numbers ≡ filled (made_numbers made) → contents.spans ≡ filled_spans (made_spans made) → contents.metadata.sample_id ≡ made_ids made →
-    HoldsRecord c o body own (sample_is (sample_values made o c counts state costs memory)) contents
+    (counts : ReadsCounts c o made.counts b d) → (state : ReadsState c o made.state d e) → (costs : ReadsCosts c o made.costs e f) → (memory : ReadsMemory c o made.memory f g) →
+    new.numbers ≡ filled (made_numbers made) → new.spans ≡ filled_spans (made_spans made) → StatesId (made_ids made) new → SameHead old new → g.refusal ≡ None →
+    HoldsRecord c o body (sample_is (sample_values made o c counts state costs memory)) old new
 unfolding filled_spans
-sample_holds o c body own made contents {a} {m} {b} {d} {e} {f} {g} same moment event counts state costs memory ok numbers spans ids =
+sample_holds o c body made old new {a} {m} {b} {d} {e} {f} {g} same moment event counts state costs memory numbers spans ids head ok =
     let ok_f = memory.fields.fresh ok in
     let ok_e = costs.fields.fresh ok_f in
     let ok_d = state.fields.fresh ok_e in
@@ -109,7 +109,8 @@ sample_holds o c body own made contents {a} {m} {b} {d} {e} {f} {g} same moment 
             aux = memory.bytes ok frame (subst (IsBodyOf frame) (sym body_f) is);
           } in
           subst (λ xs. HasSpans c.read_format o frame xs (sample_is vs)) (sym spans) has;
-      ids = ids;
+      ids = λ own states. ids;
+      head = head;
     }
 
 -- ---- under a frame's own misc
@@ -119,14 +120,14 @@ unfolding sample values branch_stack registers
 sample_under misc c = refl
 
 -- the same record under the frame's own misc
-pub sample_placed : (misc : ℕ) (c : Configuration) (o : Order) (bytes : List ℕ) (own : SampleIdValue) (r : Result Contents Refusal) → PlacesRecord c o (mapped sample_is (sample c)) bytes own r →
-    PlacesRecord (under_misc misc c) o (mapped sample_is (sample (under_misc misc c))) bytes own r
+pub sample_placed : (misc : ℕ) (c : Configuration) (o : Order) (bytes : List ℕ) (old : FlatFrame) (told : Option Refusal) (new : FlatFrame) → PlacesRecord c o (mapped sample_is (sample c)) bytes old told new →
+    PlacesRecord (under_misc misc c) o (mapped sample_is (sample (under_misc misc c))) bytes old told new
 unfolding PlacesRecord
-sample_placed misc c o bytes own r places = go r places
+sample_placed misc c o bytes old told new places = go told places
   where
     same : mapped sample_is (sample (under_misc misc c)) ≡ mapped sample_is (sample c)
     same = ap (mapped sample_is) (sample_under misc c)
 
-    go : (r : Result Contents Refusal) → PlacesRecord c o (mapped sample_is (sample c)) bytes own r → PlacesRecord (under_misc misc c) o (mapped sample_is (sample (under_misc misc c))) bytes own r
-    go (Ok made) p = (p.0, ap (λ q. layout o q bytes) same ∙ p.1, record { numbers = p.2.numbers; spans = p.2.spans; ids = p.2.ids })
-    go (Err e) p = ap (λ q. layout o q bytes) same ∙ p
+    go : (r : Option Refusal) → PlacesRecord c o (mapped sample_is (sample c)) bytes old r new → PlacesRecord (under_misc misc c) o (mapped sample_is (sample (under_misc misc c))) bytes old r new
+    go None p = (p.0, ap (λ q. layout o q bytes) same ∙ p.1, record { numbers = p.2.numbers; spans = p.2.spans; ids = p.2.ids; head = p.2.head })
+    go (Some e) p = ap (λ q. layout o q bytes) same ∙ p

@@ -1,7 +1,7 @@
 -- How the numbers of a body are taken one after another, and its lists passed over: where a reading is,
 -- and what it has read. Private contracts use this form.
 use Rattle.std.specs.Prelude.{ℕ, ◌≡◌, ◌<◌, ◌^◌, ◌≤◌, List, [], length, take, drop, Option, Some, None}
-use Rattle.std.specs.Prelude.{Result, Ok, Err}
+use Rattle.std.specs.Prelude.{Ok, Err}
 use Rattle.perf_base.specs.Configuration.{Configuration}
 use Rattle.perf_base.specs.FieldWords.{numbers}
 use Rattle.perf_base.specs.Layout.{Parts, layout}
@@ -11,11 +11,11 @@ use Rattle.perf_base.specs.Run.{Ran, ran, stopped, run_parts}
 use Rattle.perf_base.specs.declared.refusal.Refusal.{Refusal}
 use Rattle.perf_records.specs.Records.{RecordValue}
 use Rattle.perf_sample_types.specs.SampleId.{SampleIdValue}
-use Rattle.perf_flat.specs.Flat.{ids_of, numbers_under}
+use Rattle.perf_flat.specs.Flat.{StatesId, ids_of, numbers_under}
 use Rattle.perf_flat.specs.Filled.{filled, filled_spans}
 use Rattle.perf_flat.specs.Spans.{HasSpans}
 use Rattle.perf_flat.specs.Strings.{HasNumbers}
-use Rattle.perf_flat.specs.declared.contents.Contents.{Contents}
+use Rattle.perf_flat.specs.declared.flat_frame.FlatFrame.{FlatFrame}
 use Rattle.perf_flat.specs.declared.flat_frame.Span.{Span}
 use Rattle.perf_flat.specs.declared.places.Places.{Places}
 
@@ -68,23 +68,35 @@ PassesNumbers o n old s new = ReadsFor o (numbers n)
     × ((frame : List ℕ) → IsBodyOf frame old.bytes.now → HasNumbers o frame s n (λ are. are ≡ words)))
     old new
 
--- ---- contents
+-- ---- what is written to a flat frame
 
--- Contents have the numbers of a record, its spans in each frame of the body, and its sample id, which
--- is the frame's or the record's own.
-pub record HoldsRecord (c : Configuration) (o : Order) (body : List ℕ) (own : SampleIdValue)
-    (value : RecordValue) (made : Contents) : Type 0 where
-  pub numbers : made.numbers ≡ filled (numbers_under c.read_format value)
-  pub spans : (frame : List ℕ) → IsBodyOf frame body → HasSpans c.read_format o frame made.spans value
-  pub ids : made.metadata.sample_id ≡ ids_of own value
+-- what it has of the header and of the configuration stays
+pub record SameHead (old new : FlatFrame) : Type 0 where
+  pub type_ : new.type_ ≡ old.type_
+  pub misc : new.misc ≡ old.misc
+  pub size : new.size ≡ old.size
+  pub read : new.read ≡ old.read
+  pub refusal : new.refusal ≡ old.refusal
+  pub reason : new.reason ≡ old.reason
+  pub present : new.present ≡ old.present
+  pub read_format : new.read_format ≡ old.read_format
 
--- The contents of the record in a body, or the kind of its refusal. It is opened only when a proof asks
--- for it.
-unfoldable pub PlacesRecord : Configuration → Order → Parts RecordValue → (body : List ℕ) → SampleIdValue →
-    Result Contents Refusal → Type 0
-PlacesRecord c o p body ids (Ok made) =
-    (value : RecordValue) × (layout o p body ≡ Ok value) × HoldsRecord c o body ids value made
-PlacesRecord c o p body ids (Err e) = layout o p body ≡ Err (refusal_kind e)
+-- A flat frame has the numbers of a record, its spans in each frame of the body, and its sample id, which
+-- is the frame's or the record's own. Its head stays.
+pub record HoldsRecord (c : Configuration) (o : Order) (body : List ℕ) (value : RecordValue)
+    (old new : FlatFrame) : Type 0 where
+  pub numbers : new.numbers ≡ filled (numbers_under c.read_format value)
+  pub spans : (frame : List ℕ) → IsBodyOf frame body → HasSpans c.read_format o frame new.spans value
+  pub ids : (own : SampleIdValue) → StatesId own old → StatesId (ids_of own value) new
+  pub head : SameHead old new
+
+-- The contents of the record in a body were written, or it is refused with the kind of this refusal. It is
+-- opened only when a proof asks for it.
+unfoldable pub PlacesRecord : Configuration → Order → Parts RecordValue → (body : List ℕ) → (old : FlatFrame) →
+    Option Refusal → (new : FlatFrame) → Type 0
+PlacesRecord c o p body old None new =
+    (value : RecordValue) × (layout o p body ≡ Ok value) × HoldsRecord c o body value old new
+PlacesRecord c o p body old (Some e) new = layout o p body ≡ Err (refusal_kind e)
 
 -- A body was read from its beginning with this value, which has these numbers and spans, and whose sample
 -- id is that of the frame.

@@ -2,17 +2,18 @@
 
 ghost use Rattle.std.specs.Prelude.{◌≡◌, ◌<◌, ◌^◌, ◌==◌, ◌||◌, ◌&&◌};
 ghost use Rattle.perf_flat.specs.Flat as flat;
+ghost use Rattle.perf_flat.specs.Places.{SameHead};
 ghost use Rattle.perf_flat.specs.Samples as samples;
 ghost use Rattle.perf_records.specs.Prelude.{configuration_of};
 ghost use Rattle.perf_words.specs.Bits.{has_bit};
 
-use crate::contents::Contents;
 use crate::flat_frame::FlatFrame;
 use bitflags::Flags;
 use perf_base::config::ParseConfig;
 use perf_base::sys::{PERF_RECORD_READ, PERF_RECORD_SAMPLE, perf_event_header};
 use perf_records::parts::carries_sample_id;
 use perf_records::record_type::RecordType;
+use perf_sample_types::sample_id::SampleId;
 use perf_words::SampleFlags;
 
 // The flags of a sample id.
@@ -113,35 +114,42 @@ fn format_of<E>(config: &ParseConfig<E>, ty: u32) -> u32
     }
 }
 
-// The flat frame of a record that has these contents.
-pub(crate) fn accepted_frame<E>(
+// Writes what a flat frame has of a sample id.
+#[inline]
+pub(crate) fn put_id(id: &SampleId, frame: &mut FlatFrame)
+    ensures id { flat.StatesId id.now frame.new }
+    ensures head { SameHead frame.old frame.new }
+    ensures numbers { frame.new.numbers ≡ frame.old.numbers }
+    ensures spans { frame.new.spans ≡ frame.old.spans }
+{
+    frame.pid = id.pid().unwrap_or(0);
+    frame.tid = id.tid().unwrap_or(0);
+    frame.time = id.time().unwrap_or(0);
+    frame.id = id.id().unwrap_or(0);
+    frame.stream_id = id.stream_id().unwrap_or(0);
+    frame.cpu = id.cpu().unwrap_or(0);
+}
+
+// Writes what a flat frame has besides the contents of its record.
+#[inline]
+pub(crate) fn put_head<E>(
     config: &ParseConfig<E>,
     header: perf_event_header,
-    made: &Contents,
-) -> FlatFrame
-    ensures header { flat.HasHeader header result }
-    ensures numbers { flat.CarriesNumbers (configuration_of config.now) made.now.metadata.sample_id
-        made.now.numbers result }
-    ensures spans { result.spans ≡ made.now.spans }
+    id: &SampleId,
+    frame: &mut FlatFrame,
+)
+    ensures header { flat.HasHeader header frame.new }
+    ensures numbers { flat.CarriesNumbers (configuration_of config.now) id.now
+        frame.new.numbers frame.new }
     ensures size { header.size < 2 ^ 16 }
 {
-    let id = made.metadata.sample_id();
-    FlatFrame {
-        type_: header.type_,
-        misc: header.misc,
-        size: header.size,
-        read: read_type(header.type_),
-        refusal: 0,
-        reason: 0,
-        present: present_of(config, header.type_),
-        pid: id.pid().unwrap_or(0),
-        tid: id.tid().unwrap_or(0),
-        time: id.time().unwrap_or(0),
-        id: id.id().unwrap_or(0),
-        stream_id: id.stream_id().unwrap_or(0),
-        cpu: id.cpu().unwrap_or(0),
-        read_format: format_of(config, header.type_),
-        numbers: made.numbers,
-        spans: made.spans,
-    }
+    frame.type_ = header.type_;
+    frame.misc = header.misc;
+    frame.size = header.size;
+    frame.read = read_type(header.type_);
+    frame.refusal = 0;
+    frame.reason = 0;
+    frame.present = present_of(config, header.type_);
+    frame.read_format = format_of(config, header.type_);
+    put_id(id, frame);
 }

@@ -4,14 +4,13 @@ ghost use Rattle.std.specs.Prelude.{◌≡◌, ◌+◌, ◌==◌, true, false, l
 ghost use Rattle.perf_records.specs.Prelude.{configuration_of, endian_of};
 ghost use Rattle.perf_flat.specs.Bodies.{IsFlatBody, header_before};
 
-use crate::accepted::accepted_frame;
+use crate::accepted::put_head;
 use crate::flat_frame::FlatFrame;
 use crate::placed::record_contents;
-use crate::refusals::refused_frame;
+use crate::refusals::refuse_frame;
 use perf_base::config::ParseConfig;
 use perf_base::endian::Endian;
 use perf_base::sys::{PERF_RECORD_SAMPLE, perf_event_header};
-use perf_records::metadata::RecordMetadata;
 use perf_sample_types::sample_id::SampleId;
 use std::alloc::Global;
 
@@ -26,24 +25,21 @@ fn present_alone(ty: u32, present: u64) -> u64
     if ty == PERF_RECORD_SAMPLE { present } else { 0 }
 }
 
-// The flat frame of a body.
+// Writes the flat frame of a body.
 fn flat_body<E: Endian>(
     config: &ParseConfig<E>,
     header: perf_event_header,
     body: &[u8],
-) -> FlatFrame
+    frame: &mut FlatFrame,
+)
     requires { header.size ≡ 8 + length body.now }
     ensures { IsFlatBody (configuration_of config.now) (E.order (endian_of config.now)) header
-        body.now result }
+        body.now frame.new }
 {
-    let metadata = RecordMetadata::from_parts(header.type_, header.misc, SampleId::default());
-    match record_contents(config, header, metadata, body) {
-        Ok(made) => {
-            let frame = accepted_frame(config, header, &made);
-            let present = present_alone(header.type_, frame.present);
-            FlatFrame { present, ..frame }
-        }
-        Err(refusal) => refused_frame(header, refusal),
+    put_head(config, header, &SampleId::default(), frame);
+    match record_contents(config, header, body, frame) {
+        None => frame.present = present_alone(header.type_, frame.present),
+        Some(refusal) => refuse_frame(header, refusal, frame),
     }
 }
 
@@ -54,7 +50,7 @@ fn flat_body<E: Endian>(
 /// The spans count from eight bytes before the body, where its header would be, and the size is that
 /// of the header and the body. No field of a sample id is present. No memory is needed.
 pub fn read_body<E: Endian>(
-    alloc: Global,
+    _alloc: Global,
     config: &ParseConfig<E>,
     type_: u32,
     misc: u16,
@@ -75,6 +71,6 @@ pub fn read_body<E: Endian>(
         misc,
         size: (8 + body.len()) as u16,
     };
-    *frame = flat_body(config, header, body);
+    flat_body(config, header, body, frame);
     true
 }

@@ -96,26 +96,24 @@ pub(crate) fn span_within(run: Span, from: u64, len: u64) -> Span
     short_span(run.at as usize + from as usize, len as usize)
 }
 
-// These numbers, and zeros after them.
-#[inline]
+// Writes these numbers, and zeros after them.
+#[inline(always)]
 #[tactic(auto, unfolding(crate::specs::Filled::filled))]
-pub(crate) fn fill_numbers(numbers: &[u64]) -> [u64; NUMBERS]
+pub(crate) fn put_numbers(numbers: &[u64], all: &mut [u64; NUMBERS])
     requires { length numbers.now ≤ 24 }
-    ensures { result ≡ filled numbers.now }
+    ensures { all.new ≡ filled numbers.now }
 {
-    let mut all = [0; NUMBERS];
+    *all = [0; NUMBERS];
     all[..numbers.len()].copy_from_slice(numbers);
-    all
 }
 
-// These spans, and spans of no bytes after them.
-#[inline]
+// Writes these spans, and spans of no bytes after them.
+#[inline(always)]
 #[tactic(auto, unfolding(crate::specs::Filled::filled_spans))]
-pub(crate) fn fill_spans(spans: &[Span]) -> [Span; SPANS]
+pub(crate) fn put_spans(spans: &[Span], all: &mut [Span; SPANS])
     requires { length spans.now ≤ 8 }
-    ensures { result ≡ filled_spans spans.now }
+    ensures { all.new ≡ filled_spans spans.now }
 {
-    let mut all = [Span { at: 0, len: 0 }; SPANS];
+    *all = [Span { at: 0, len: 0 }; SPANS];
     all[..spans.len()].copy_from_slice(spans);
-    all
 }

@@ -7,7 +7,6 @@ pub mod attr;
 pub mod body;
 #[cfg(test)]
 mod call_tests;
-mod contents;
 pub mod flat_config;
 pub mod flat_frame;
 pub mod identifier;

@@ -1,13 +1,13 @@
 //! Several frames at once.
 
-ghost use Rattle.std.specs.Prelude.{◌≡◌, ◌<◌, ◌≤◌, ◌==◌, length, take, drop, min, max, MatchOption, if◌then◌else◌};
+ghost use Rattle.std.specs.Prelude.{◌≡◌, ◌<◌, ◌≤◌, ◌==◌, length, take, drop, min, max, if◌then◌else◌};
 ghost use Rattle.perf_records.specs.Frames as stream;
 ghost use Rattle.perf_records.specs.Prelude.{configuration_of, endian_of};
 ghost use Rattle.perf_flat.specs.Flat.{IsFlat, first_frame};
 ghost use Rattle.perf_flat.specs.Many.{AreFlat, first_bytes, many_end};
 
 use crate::flat_frame::FlatFrame;
-use crate::read::read;
+use crate::read::{HEADER, read_first};
 use perf_base::config::ParseConfig;
 use perf_base::endian::Endian;
 use std::alloc::Global;
@@ -34,22 +34,22 @@ pub(crate) fn frame_len(size: u16, left: usize) -> usize
     usize::from(size).max(8).min(left)
 }
 
-// The flat frame at the front of bytes, and the bytes after that frame.
+// Writes the flat frame at the front of bytes, and returns the bytes after that frame.
 #[inline]
 fn read_next<'p, E: Endian>(
-    alloc: Global,
     config: &ParseConfig<E>,
     bytes: &'p [u8],
-) -> Option<(FlatFrame, &'p [u8])>
-    ensures { MatchOption result (length bytes.now < 8) (λ next. (8 ≤ length bytes.now)
-        × IsFlat (configuration_of config.now) (E.order (endian_of config.now))
-        (first_frame (E.order (endian_of config.now)) bytes.now) next.0
-        × (next.1.now ≡ drop (stream.frame_length (E.order (endian_of config.now)) bytes.now)
-        bytes.now)) }
+    frame: &mut FlatFrame,
+) -> &'p [u8]
+    requires { 8 ≤ length bytes.now }
+    ensures flat { IsFlat (configuration_of config.now) (E.order (endian_of config.now))
+        (first_frame (E.order (endian_of config.now)) bytes.now) frame.new }
+    ensures after { result.now ≡
+        drop (stream.frame_length (E.order (endian_of config.now)) bytes.now) bytes.now }
 {
-    let flat = read(alloc, config, bytes)?;
-    let len = frame_len(flat.size, bytes.len());
-    Some((flat, &bytes[len..]))
+    read_first(config, bytes, frame);
+    let len = frame_len(frame.size, bytes.len());
+    &bytes[len..]
 }
 
 // How reading ended before these bytes, with room left.
@@ -63,7 +63,7 @@ fn end_before(left: &[u8]) -> u32
 /// The first frames of bytes as plain numbers, as many as there is room for. What is after them in
 /// `frames` is left as it was. No memory is needed.
 pub fn read_many<E: Endian>(
-    alloc: Global,
+    _alloc: Global,
     config: &ParseConfig<E>,
     bytes: &[u8],
     frames: &mut [FlatFrame],
@@ -84,19 +84,14 @@ pub fn read_many<E: Endian>(
     let room = frames.len();
     let mut left = bytes;
     for count in 0..room {
-        match read_next(alloc, config, left) {
-            Some((flat, after)) => {
-                frames[count] = flat;
-                left = after;
-            }
-            None => {
-                return Ended {
-                    count,
-                    taken: bytes.len() - left.len(),
-                    how: end_before(left),
-                };
-            }
+        if left.len() < HEADER {
+            return Ended {
+                count,
+                taken: bytes.len() - left.len(),
+                how: end_before(left),
+            };
         }
+        left = read_next(config, left, &mut frames[count]);
     }
     Ended {
         count: room,

@@ -11,13 +11,11 @@ ghost use Rattle.perf_types.specs.Mmap2.{mmap2};
 ghost use Rattle.perf_types.specs.MmapDetail as detail_of;
 ghost use Rattle.perf_words.specs.Bits.{has_bit};
 
-use crate::contents::Contents;
-use crate::flat_frame::{NO_SPAN, Span, span_within};
+use crate::flat_frame::{FlatFrame, NO_SPAN, Span, span_within};
 use crate::places::Places;
 use perf_base::endian::Endian;
-use perf_base::refusal::{ReadResult, Refusal};
+use perf_base::refusal::Refusal;
 use perf_base::sys::PERF_RECORD_MISC_MMAP_BUILD_ID;
-use perf_records::metadata::RecordMetadata;
 
 // What identifies the file of a mapping: the numbers of its inode, or where its build id is.
 #[derive(Copy, Clone)]
@@ -91,15 +89,15 @@ impl Places<'_> {
     }
 }
 
-// The contents of an MMAP2 record.
+// Writes the contents of an MMAP2 record.
 pub(crate) fn mmap2_contents<E: Endian>(
     order: &E,
     misc: u16,
-    metadata: RecordMetadata,
     body: &[u8],
-) -> ReadResult<Contents>
+    frame: &mut FlatFrame,
+) -> Option<Refusal>
     ensures { (c : Configuration) → misc ≡ c.misc → PlacesRecord c (E.order order.now)
-        (mapped record_of.mmap2_is (mmap2 c)) body.now metadata.sample_id result }
+        (mapped record_of.mmap2_is (mmap2 c)) body.now frame.old result frame.new }
 {
     let mut places = Places::new(body);
     let pid = places.read_word(order);
@@ -124,5 +122,5 @@ pub(crate) fn mmap2_contents<E: Endian>(
         detail.ino,
         detail.ino_generation,
     ];
-    places.finish(metadata, &numbers, &[filename, detail.build_id])
+    places.finish(&numbers, &[filename, detail.build_id], frame)
 }

@@ -9,20 +9,19 @@ ghost use Rattle.perf_types.specs.Comm.{comm};
 ghost use Rattle.perf_types.specs.KSymbol.{ksymbol};
 ghost use Rattle.perf_types.specs.Mmap.{mmap};
 
-use crate::contents::Contents;
+use crate::flat_frame::FlatFrame;
 use crate::places::Places;
 use perf_base::endian::Endian;
-use perf_base::refusal::ReadResult;
-use perf_records::metadata::RecordMetadata;
+use perf_base::refusal::Refusal;
 
-// The contents of an MMAP record.
+// Writes the contents of an MMAP record.
 pub(crate) fn mmap_contents<E: Endian>(
     order: &E,
-    metadata: RecordMetadata,
     body: &[u8],
-) -> ReadResult<Contents>
+    frame: &mut FlatFrame,
+) -> Option<Refusal>
     ensures { (c : Configuration) → PlacesRecord c (E.order order.now)
-        (mapped record_of.mmap_is mmap) body.now metadata.sample_id result }
+        (mapped record_of.mmap_is mmap) body.now frame.old result frame.new }
 {
     let mut places = Places::new(body);
     let pid = places.read_word(order);
@@ -31,33 +30,33 @@ pub(crate) fn mmap_contents<E: Endian>(
     let len = places.read_u64(order);
     let pgoff = places.read_u64(order);
     let filename = places.name();
-    places.finish(metadata, &[pid, tid, addr, len, pgoff], &[filename])
+    places.finish(&[pid, tid, addr, len, pgoff], &[filename], frame)
 }
 
-// The contents of a COMM record.
+// Writes the contents of a COMM record.
 pub(crate) fn comm_contents<E: Endian>(
     order: &E,
-    metadata: RecordMetadata,
     body: &[u8],
-) -> ReadResult<Contents>
+    frame: &mut FlatFrame,
+) -> Option<Refusal>
     ensures { (c : Configuration) → PlacesRecord c (E.order order.now)
-        (mapped record_of.comm_is comm) body.now metadata.sample_id result }
+        (mapped record_of.comm_is comm) body.now frame.old result frame.new }
 {
     let mut places = Places::new(body);
     let pid = places.read_word(order);
     let tid = places.read_word(order);
     let comm = places.name();
-    places.finish(metadata, &[pid, tid], &[comm])
+    places.finish(&[pid, tid], &[comm], frame)
 }
 
-// The contents of a KSYMBOL record.
+// Writes the contents of a KSYMBOL record.
 pub(crate) fn ksymbol_contents<E: Endian>(
     order: &E,
-    metadata: RecordMetadata,
     body: &[u8],
-) -> ReadResult<Contents>
+    frame: &mut FlatFrame,
+) -> Option<Refusal>
     ensures { (c : Configuration) → PlacesRecord c (E.order order.now)
-        (mapped record_of.ksymbol_is ksymbol) body.now metadata.sample_id result }
+        (mapped record_of.ksymbol_is ksymbol) body.now frame.old result frame.new }
 {
     let mut places = Places::new(body);
     let addr = places.read_u64(order);
@@ -65,20 +64,20 @@ pub(crate) fn ksymbol_contents<E: Endian>(
     let kind = places.read_u16(order);
     let flags = places.read_u16(order);
     let name = places.name();
-    places.finish(metadata, &[addr, len, kind, flags], &[name])
+    places.finish(&[addr, len, kind, flags], &[name], frame)
 }
 
-// The contents of a CGROUP record.
+// Writes the contents of a CGROUP record.
 pub(crate) fn cgroup_contents<E: Endian>(
     order: &E,
-    metadata: RecordMetadata,
     body: &[u8],
-) -> ReadResult<Contents>
+    frame: &mut FlatFrame,
+) -> Option<Refusal>
     ensures { (c : Configuration) → PlacesRecord c (E.order order.now)
-        (mapped record_of.cgroup_is cgroup) body.now metadata.sample_id result }
+        (mapped record_of.cgroup_is cgroup) body.now frame.old result frame.new }
 {
     let mut places = Places::new(body);
     let id = places.read_u64(order);
     let path = places.name();
-    places.finish(metadata, &[id], &[path])
+    places.finish(&[id], &[path], frame)
 }

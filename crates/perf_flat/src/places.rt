@@ -2,12 +2,10 @@
 
 ghost use Rattle.std.specs.Prelude.{◌≤◌, length};
 
-use crate::contents::{Contents, contents_of};
-use crate::flat_frame::{Span, short_span};
+use crate::flat_frame::{FlatFrame, Span, put_numbers, put_spans, short_span};
 use crate::zeros::trimmed_len;
 use perf_base::endian::Endian;
-use perf_base::refusal::{ReadResult, Refusal};
-use perf_records::metadata::RecordMetadata;
+use perf_base::refusal::Refusal;
 
 // A body, how many of its bytes were read, and the first refusal. After a refusal nothing that is
 // read counts.
@@ -212,23 +210,23 @@ impl<'c> Places<'c> {
         }
     }
 
-    // The contents of the record that was read, which has these numbers and spans, or the first refusal.
-    #[inline]
+    // Writes the contents of the record that was read, which has these numbers and spans, and returns
+    // the first refusal.
+    #[inline(always)]
     pub(crate) fn finish(
         &self,
-        metadata: RecordMetadata,
         numbers: &[u64],
         spans: &[Span],
-    ) -> ReadResult<Contents>
+        frame: &mut FlatFrame,
+    ) -> Option<Refusal>
         requires numbers { length numbers.now ≤ 24 }
         requires spans { length spans.now ≤ 8 }
         ensures { (c : Configuration) (o : Order) (p : Parts RecordValue) (value : RecordValue)
             (body : List ℕ) → TakesRecord c o p value body numbers.now spans.now self.now →
-            PlacesRecord c o p body metadata.sample_id result }
+            PlacesRecord c o p body frame.old result frame.new }
     {
-        match self.refusal {
-            Some(refusal) => Err(refusal),
-            None => Ok(contents_of(metadata, numbers, spans)),
-        }
+        put_numbers(numbers, &mut frame.numbers);
+        put_spans(spans, &mut frame.spans);
+        self.refusal
     }
 }

@@ -20,40 +20,39 @@ ghost use Rattle.perf_types.specs.Lost.{lost};
 ghost use Rattle.perf_types.specs.LostSamples.{lost_samples};
 ghost use Rattle.perf_types.specs.Throttle.{throttle};
 
-use crate::contents::Contents;
+use crate::flat_frame::FlatFrame;
 use crate::places::Places;
 use crate::sample_lists::Counters;
 use perf_base::endian::Endian;
-use perf_base::refusal::ReadResult;
+use perf_base::refusal::Refusal;
 use perf_base::sys::PERF_RECORD_MISC_SWITCH_OUT;
-use perf_records::metadata::RecordMetadata;
 use perf_words::ReadFormat;
 
-// The contents of a LOST record.
+// Writes the contents of a LOST record.
 pub(crate) fn lost_contents<E: Endian>(
     order: &E,
-    metadata: RecordMetadata,
     body: &[u8],
-) -> ReadResult<Contents>
+    frame: &mut FlatFrame,
+) -> Option<Refusal>
     ensures { (c : Configuration) → PlacesRecord c (E.order order.now)
-        (mapped record_of.lost_is lost) body.now metadata.sample_id result }
+        (mapped record_of.lost_is lost) body.now frame.old result frame.new }
 {
     let mut places = Places::new(body);
     let id = places.read_u64(order);
     let lost = places.read_u64(order);
-    places.finish(metadata, &[id, lost], &[])
+    places.finish(&[id, lost], &[], frame)
 }
 
-// The contents of an EXIT or a FORK record.
+// Writes the contents of an EXIT or a FORK record.
 pub(crate) fn task_contents<E: Endian>(
     order: &E,
-    metadata: RecordMetadata,
     body: &[u8],
-) -> ReadResult<Contents>
+    frame: &mut FlatFrame,
+) -> Option<Refusal>
     ensures exit { (c : Configuration) → PlacesRecord c (E.order order.now)
-        (mapped record_of.exit_is exit) body.now metadata.sample_id result }
+        (mapped record_of.exit_is exit) body.now frame.old result frame.new }
     ensures fork { (c : Configuration) → PlacesRecord c (E.order order.now)
-        (mapped record_of.fork_is exit) body.now metadata.sample_id result }
+        (mapped record_of.fork_is exit) body.now frame.old result frame.new }
 {
     let mut places = Places::new(body);
     let pid = places.read_word(order);
@@ -61,84 +60,84 @@ pub(crate) fn task_contents<E: Endian>(
     let tid = places.read_word(order);
     let ptid = places.read_word(order);
     let time = places.read_u64(order);
-    places.finish(metadata, &[pid, ppid, tid, ptid, time], &[])
+    places.finish(&[pid, ppid, tid, ptid, time], &[], frame)
 }
 
-// The contents of a THROTTLE or an UNTHROTTLE record.
+// Writes the contents of a THROTTLE or an UNTHROTTLE record.
 pub(crate) fn throttle_contents<E: Endian>(
     order: &E,
-    metadata: RecordMetadata,
     body: &[u8],
-) -> ReadResult<Contents>
+    frame: &mut FlatFrame,
+) -> Option<Refusal>
     ensures throttle { (c : Configuration) → PlacesRecord c (E.order order.now)
-        (mapped record_of.throttle_is throttle) body.now metadata.sample_id result }
+        (mapped record_of.throttle_is throttle) body.now frame.old result frame.new }
     ensures unthrottle { (c : Configuration) → PlacesRecord c (E.order order.now)
-        (mapped record_of.unthrottle_is throttle) body.now metadata.sample_id result }
+        (mapped record_of.unthrottle_is throttle) body.now frame.old result frame.new }
 {
     let mut places = Places::new(body);
     let time = places.read_u64(order);
     let id = places.read_u64(order);
     let stream_id = places.read_u64(order);
-    places.finish(metadata, &[time, id, stream_id], &[])
+    places.finish(&[time, id, stream_id], &[], frame)
 }
 
-// The contents of an AUX record.
+// Writes the contents of an AUX record.
 pub(crate) fn aux_contents<E: Endian>(
     order: &E,
-    metadata: RecordMetadata,
     body: &[u8],
-) -> ReadResult<Contents>
+    frame: &mut FlatFrame,
+) -> Option<Refusal>
     ensures { (c : Configuration) → PlacesRecord c (E.order order.now)
-        (mapped record_of.aux_is aux) body.now metadata.sample_id result }
+        (mapped record_of.aux_is aux) body.now frame.old result frame.new }
 {
     let mut places = Places::new(body);
     let offset = places.read_u64(order);
     let size = places.read_u64(order);
     let flags = places.read_u64(order);
-    places.finish(metadata, &[offset, size, flags], &[])
+    places.finish(&[offset, size, flags], &[], frame)
 }
 
-// The contents of an ITRACE_START record.
+// Writes the contents of an ITRACE_START record.
 pub(crate) fn itrace_start_contents<E: Endian>(
     order: &E,
-    metadata: RecordMetadata,
     body: &[u8],
-) -> ReadResult<Contents>
+    frame: &mut FlatFrame,
+) -> Option<Refusal>
     ensures { (c : Configuration) → PlacesRecord c (E.order order.now)
-        (mapped record_of.itrace_start_is itrace_start) body.now metadata.sample_id result }
+        (mapped record_of.itrace_start_is itrace_start) body.now frame.old result frame.new }
 {
     let mut places = Places::new(body);
     let pid = places.read_word(order);
     let tid = places.read_word(order);
-    places.finish(metadata, &[pid, tid], &[])
+    places.finish(&[pid, tid], &[], frame)
 }
 
-// The contents of a LOST_SAMPLES record.
+// Writes the contents of a LOST_SAMPLES record.
 pub(crate) fn lost_samples_contents<E: Endian>(
     order: &E,
-    metadata: RecordMetadata,
     body: &[u8],
-) -> ReadResult<Contents>
+    frame: &mut FlatFrame,
+) -> Option<Refusal>
     ensures { (c : Configuration) → PlacesRecord c (E.order order.now)
-        (mapped record_of.lost_samples_is lost_samples) body.now metadata.sample_id result }
+        (mapped record_of.lost_samples_is lost_samples) body.now frame.old result frame.new }
 {
     let mut places = Places::new(body);
     let lost = places.read_u64(order);
-    places.finish(metadata, &[lost], &[])
+    places.finish(&[lost], &[], frame)
 }
 
-// The contents of an AUX_OUTPUT_HW_ID record.
+// Writes the contents of an AUX_OUTPUT_HW_ID record.
 pub(crate) fn hw_id_contents<E: Endian>(
     order: &E,
-    metadata: RecordMetadata,
     body: &[u8],
-) -> ReadResult<Contents>
+    frame: &mut FlatFrame,
+) -> Option<Refusal>
     ensures { (c : Configuration) → PlacesRecord c (E.order order.now)
-        (mapped record_of.aux_output_hw_id_is aux_output_hw_id) body.now metadata.sample_id result }
+        (mapped record_of.aux_output_hw_id_is aux_output_hw_id) body.now frame.old result frame.new }
 {
     let mut places = Places::new(body);
     let hw_id = places.read_u64(order);
-    places.finish(metadata, &[hw_id], &[])
+    places.finish(&[hw_id], &[], frame)
 }
 
 // The numbers of a READ record.
@@ -158,30 +157,29 @@ fn read_numbers(pid: u64, tid: u64, one: &Counters) -> [u64; 7]
     ]
 }
 
-// The contents of a READ record.
+// Writes the contents of a READ record.
 pub(crate) fn read_contents<E: Endian>(
     order: &E,
     format: ReadFormat,
-    metadata: RecordMetadata,
     body: &[u8],
-) -> ReadResult<Contents>
+    frame: &mut FlatFrame,
+) -> Option<Refusal>
     ensures { (c : Configuration) → read_format_bits format ≡ c.read_format →
-        PlacesRecord c (E.order order.now) (mapped record_of.read_is (read c)) body.now
-        metadata.sample_id result }
+        PlacesRecord c (E.order order.now) (mapped record_of.read_is (read c)) body.now frame.old result frame.new }
 {
     let mut places = Places::new(body);
     let pid = places.read_word(order);
     let tid = places.read_word(order);
     let one = places.one_counter(order, format);
-    places.finish(metadata, &read_numbers(pid, tid, &one), &[])
+    places.finish(&read_numbers(pid, tid, &one), &[], frame)
 }
 
-// The contents of a SWITCH record: nothing.
-pub(crate) fn switch_contents(metadata: RecordMetadata, body: &[u8]) -> ReadResult<Contents>
+// Writes the contents of a SWITCH record: nothing.
+pub(crate) fn switch_contents(body: &[u8], frame: &mut FlatFrame) -> Option<Refusal>
     ensures { (c : Configuration) (o : Order) →
-        PlacesRecord c o (done record_of.switch_is) body.now metadata.sample_id result }
+        PlacesRecord c o (done record_of.switch_is) body.now frame.old result frame.new }
 {
-    Places::new(body).finish(metadata, &[], &[])
+    Places::new(body).finish(&[], &[], frame)
 }
 
 // Whether the record with this `misc` reports that a task left its processor.
@@ -201,19 +199,18 @@ fn switch_out(misc: u16) -> u64
     if is_switch_out(misc) { 1 } else { 0 }
 }
 
-// The contents of a SWITCH_CPU_WIDE record.
+// Writes the contents of a SWITCH_CPU_WIDE record.
 pub(crate) fn switch_cpu_wide_contents<E: Endian>(
     order: &E,
     misc: u16,
-    metadata: RecordMetadata,
     body: &[u8],
-) -> ReadResult<Contents>
+    frame: &mut FlatFrame,
+) -> Option<Refusal>
     ensures { (c : Configuration) → misc ≡ c.misc → PlacesRecord c (E.order order.now)
-        (mapped record_of.switch_cpu_wide_is (switch_cpu_wide c)) body.now metadata.sample_id
-        result }
+        (mapped record_of.switch_cpu_wide_is (switch_cpu_wide c)) body.now frame.old result frame.new }
 {
     let mut places = Places::new(body);
     let pid = places.read_word(order);
     let tid = places.read_word(order);
-    places.finish(metadata, &[pid, tid, switch_out(misc)], &[])
+    places.finish(&[pid, tid, switch_out(misc)], &[], frame)
 }

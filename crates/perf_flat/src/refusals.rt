@@ -3,7 +3,7 @@
 ghost use Rattle.std.specs.Prelude.{◌≡◌};
 ghost use Rattle.perf_flat.specs.Flat as flat;
 
-use crate::flat_frame::{FlatFrame, fill_numbers, fill_spans};
+use crate::flat_frame::{FlatFrame, NUMBERS, SPANS, Span};
 use perf_base::error::ErrorKind;
 use perf_base::refusal::Refusal;
 use perf_base::sys::perf_event_header;
@@ -44,7 +44,9 @@ fn reason_number(refusal: Refusal) -> u16
 }
 
 // The flat frame of a header alone.
-fn empty_frame(header: perf_event_header, refusal: u16, reason: u16) -> FlatFrame
+#[inline]
+#[tactic(auto, unfolding(crate::specs::Filled::filled, crate::specs::Filled::filled_spans))]
+pub(crate) fn empty_frame(header: perf_event_header, refusal: u16, reason: u16) -> FlatFrame
     ensures { result ≡ flat.empty_frame header refusal reason }
 {
     FlatFrame {
@@ -62,14 +64,15 @@ fn empty_frame(header: perf_event_header, refusal: u16, reason: u16) -> FlatFram
         stream_id: 0,
         cpu: 0,
         read_format: 0,
-        numbers: fill_numbers(&[]),
-        spans: fill_spans(&[]),
+        numbers: [0; NUMBERS],
+        spans: [Span { at: 0, len: 0 }; SPANS],
     }
 }
 
-// The flat frame of a header without a record.
-pub(crate) fn refused_frame(header: perf_event_header, refusal: Refusal) -> FlatFrame
-    ensures { result ≡ flat.refused_frame header refusal }
+// Writes the flat frame of a header without a record.
+#[inline(never)]
+pub(crate) fn refuse_frame(header: perf_event_header, refusal: Refusal, frame: &mut FlatFrame)
+    ensures { frame.new ≡ flat.refused_frame header refusal }
 {
-    empty_frame(header, kind_number(refusal.kind()), reason_number(refusal))
+    *frame = empty_frame(header, kind_number(refusal.kind()), reason_number(refusal));
 }

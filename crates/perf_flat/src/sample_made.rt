@@ -3,20 +3,20 @@
 ghost use Rattle.std.specs.Prelude.{◌≡◌};
 ghost use Rattle.perf_base.specs.Layout.{mapped};
 ghost use Rattle.perf_flat.specs.Filled.{filled, filled_spans};
-ghost use Rattle.perf_flat.specs.Places.{PlacesRecord};
+ghost use Rattle.perf_flat.specs.Flat.{StatesId};
+ghost use Rattle.perf_flat.specs.Places.{PlacesRecord, SameHead};
 ghost use Rattle.perf_flat.specs.SampleMade as made;
 ghost use Rattle.perf_records.specs.Prelude.{configuration_of};
 ghost use Rattle.perf_records.specs.Records.{sample_is};
 ghost use Rattle.perf_sample_types.specs.Sample as sample;
 
-use crate::contents::{Contents, contents_of};
-use crate::flat_frame::{SPANS, Span};
+use crate::accepted::put_id;
+use crate::flat_frame::{FlatFrame, SPANS, Span, put_numbers, put_spans};
 use crate::places::Places;
 use crate::sample_groups::{Costs, Counts, Event, Memory, Moment, State};
 use perf_base::config::ParseConfig;
 use perf_base::endian::Endian;
-use perf_base::refusal::ReadResult;
-use perf_records::metadata::RecordMetadata;
+use perf_base::refusal::Refusal;
 use perf_sample_types::sample_id::SampleId;
 
 // The groups of a sample's fields.
@@ -53,11 +53,12 @@ impl Sample {
         )
     }
 
-    // Its contents, with the type and the misc of the metadata.
-    fn contents(&self, metadata: &RecordMetadata) -> Contents
-        ensures numbers { result.numbers ≡ filled (made.made_numbers self.now) }
-        ensures spans { result.spans ≡ filled_spans (made.made_spans self.now) }
-        ensures ids { result.metadata.sample_id ≡ made.made_ids self.now }
+    // Writes its contents, and its task and event.
+    fn put(&self, frame: &mut FlatFrame)
+        ensures numbers { frame.new.numbers ≡ filled (made.made_numbers self.now) }
+        ensures spans { frame.new.spans ≡ filled_spans (made.made_spans self.now) }
+        ensures ids { StatesId (made.made_ids self.now) frame.new }
+        ensures head { SameHead frame.old frame.new }
     {
         let (counters, state, costs) = (self.counts.values, self.state, self.costs);
         let numbers = [
@@ -81,11 +82,9 @@ impl Sample {
             counters.id.unwrap_or(0),
             counters.lost.unwrap_or(0),
         ];
-        contents_of(
-            RecordMetadata::from_parts(metadata.ty(), metadata.misc(), self.sample_id()),
-            &numbers,
-            &self.spans(),
-        )
+        put_id(&self.sample_id(), frame);
+        put_numbers(&numbers, &mut frame.numbers);
+        put_spans(&self.spans(), &mut frame.spans);
     }
 
     // Where its lists are.
@@ -105,16 +104,16 @@ impl Sample {
     }
 }
 
-// The contents of a SAMPLE.
+// Writes the contents of a SAMPLE, and returns the first refusal.
 pub(crate) fn sample_contents<E: Endian>(
     config: &ParseConfig<E>,
     order: &E,
-    metadata: &RecordMetadata,
     body: &[u8],
-) -> ReadResult<Contents>
+    frame: &mut FlatFrame,
+) -> Option<Refusal>
     ensures { PlacesRecord (configuration_of config.now) (E.order order.now)
         (mapped sample_is (sample.sample (configuration_of config.now))) body.now
-        metadata.now.sample_id result }
+        frame.old result frame.new }
 {
     let flags = config.sample_type();
     let hw_index = config.branch_hw_index();
@@ -128,7 +127,10 @@ pub(crate) fn sample_contents<E: Endian>(
         memory: places.memory(order, flags),
     };
     match places.refusal() {
-        Some(refusal) => Err(refusal),
-        None => Ok(sample.contents(metadata)),
+        Some(refusal) => Some(refusal),
+        None => {
+            sample.put(frame);
+            None
+        }
     }
 }

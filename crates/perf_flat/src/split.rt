@@ -7,7 +7,7 @@ ghost use Rattle.perf_flat.specs.Split as split;
 
 use crate::flat_frame::FlatFrame;
 use crate::many::frame_len;
-use crate::read::read;
+use crate::read::read_first;
 use perf_base::config::ParseConfig;
 use perf_base::endian::Endian;
 use perf_reader::header::header_in;
@@ -53,18 +53,6 @@ fn split_len<E: Endian>(order: &E, first: &[u8], second: &[u8]) -> Option<usize>
     Some(frame_len(size, all))
 }
 
-// Writes the flat frame at the front of bytes.
-#[inline]
-fn put_flat<E: Endian>(alloc: Global, config: &ParseConfig<E>, bytes: &[u8], frame: &mut FlatFrame)
-    requires { 8 ≤ length bytes.now }
-    ensures { IsFlat (configuration_of config.now) (E.order (endian_of config.now))
-        (first_frame (E.order (endian_of config.now)) bytes.now) frame.new }
-{
-    if let Some(flat) = read(alloc, config, bytes) {
-        *frame = flat;
-    }
-}
-
 /// The frame at the front of two pieces as plain numbers, as if the second followed the first in
 /// memory: in a ring buffer that wraps, the bytes up to its end and those from its beginning.
 ///
@@ -72,7 +60,7 @@ fn put_flat<E: Endian>(alloc: Global, config: &ParseConfig<E>, bytes: &[u8], fra
 /// are always enough. If `scratch` is too small for it, or no frame begins there, `frame` and
 /// `scratch` are left as they were. No memory is needed.
 pub fn read_split<E: Endian>(
-    alloc: Global,
+    _alloc: Global,
     config: &ParseConfig<E>,
     first: &[u8],
     second: &[u8],
@@ -99,17 +87,17 @@ pub fn read_split<E: Endian>(
         None => return SplitEnd { how: 2, at: 0 },
     };
     if first.is_empty() {
-        put_flat(alloc, config, second, frame);
+        read_first(config, second, frame);
         return SplitEnd { how: 0, at: 0 };
     }
     if len <= first.len() {
-        put_flat(alloc, config, first, frame);
+        read_first(config, first, frame);
         return SplitEnd { how: 0, at: 0 };
     }
     if scratch.len() < len {
         return SplitEnd { how: 3, at: 0 };
     }
     copy_front(first, second, &mut scratch[..len]);
-    put_flat(alloc, config, &scratch[..len], frame);
+    read_first(config, &scratch[..len], frame);
     SplitEnd { how: 0, at: 1 }
 }

@@ -10,31 +10,29 @@ ghost use Rattle.perf_records.specs.Records as record_of;
 ghost use Rattle.perf_types.specs.BpfEvent.{bpf_event};
 ghost use Rattle.perf_types.specs.TextPoke.{poked_len, text_poke};
 
-use crate::contents::Contents;
-use crate::flat_frame::span_within;
+use crate::flat_frame::{FlatFrame, span_within};
 use crate::places::Places;
 use perf_base::endian::Endian;
-use perf_base::refusal::ReadResult;
-use perf_records::metadata::RecordMetadata;
+use perf_base::refusal::Refusal;
 
 // How many bytes the tag of a BPF program has.
 const TAG: u64 = 8;
 
-// The contents of a BPF_EVENT record.
+// Writes the contents of a BPF_EVENT record.
 pub(crate) fn bpf_event_contents<E: Endian>(
     order: &E,
-    metadata: RecordMetadata,
     body: &[u8],
-) -> ReadResult<Contents>
+    frame: &mut FlatFrame,
+) -> Option<Refusal>
     ensures { (c : Configuration) → PlacesRecord c (E.order order.now)
-        (mapped record_of.bpf_event_is bpf_event) body.now metadata.sample_id result }
+        (mapped record_of.bpf_event_is bpf_event) body.now frame.old result frame.new }
 {
     let mut places = Places::new(body);
     let kind = places.read_u16(order);
     let flags = places.read_u16(order);
     let id = places.read_word(order);
     let tag = places.pass(TAG);
-    places.finish(metadata, &[kind, flags, id], &[tag])
+    places.finish(&[kind, flags, id], &[tag], frame)
 }
 
 // How many bytes follow both lengths of a TEXT_POKE record.
@@ -46,14 +44,14 @@ fn poked_len(len: u64) -> u64
     len + (12 - len % 8) % 8
 }
 
-// The contents of a TEXT_POKE record.
+// Writes the contents of a TEXT_POKE record.
 pub(crate) fn text_poke_contents<E: Endian>(
     order: &E,
-    metadata: RecordMetadata,
     body: &[u8],
-) -> ReadResult<Contents>
+    frame: &mut FlatFrame,
+) -> Option<Refusal>
     ensures { (c : Configuration) → PlacesRecord c (E.order order.now)
-        (mapped record_of.text_poke_is text_poke) body.now metadata.sample_id result }
+        (mapped record_of.text_poke_is text_poke) body.now frame.old result frame.new }
 {
     let mut places = Places::new(body);
     let addr = places.read_u64(order);
@@ -62,15 +60,15 @@ pub(crate) fn text_poke_contents<E: Endian>(
     let run = places.pass(poked_len(old_len + new_len));
     let old = span_within(run, 0, old_len);
     let new = span_within(run, old_len, new_len);
-    places.finish(metadata, &[addr], &[old, new])
+    places.finish(&[addr], &[old, new], frame)
 }
 
-// The contents of a record of a type that is not known: all of its bytes.
-pub(crate) fn unknown_contents(metadata: RecordMetadata, body: &[u8]) -> ReadResult<Contents>
+// Writes the contents of a record of a type that is not known: all of its bytes.
+pub(crate) fn unknown_contents(body: &[u8], frame: &mut FlatFrame) -> Option<Refusal>
     ensures { (c : Configuration) (o : Order) (ty : ℕ) →
-        PlacesRecord c o (unread ty) body.now metadata.sample_id result }
+        PlacesRecord c o (unread ty) body.now frame.old result frame.new }
 {
     let mut places = Places::new(body);
     let all = places.all_left();
-    places.finish(metadata, &[], &[all])
+    places.finish(&[], &[all], frame)
 }

@@ -1,7 +1,7 @@
 //! Flat frames.
 
 use crate::flat_frame::FlatFrame;
-use crate::read::read;
+use crate::read::{read, read_into};
 use bitflags::Flags;
 use perf_base::config::ParseConfig;
 use perf_base::endian::Little;
@@ -106,6 +106,26 @@ fn a_sample_has_its_lists_in_place(rt: HostRuntime) {
         &rt,
         &parts,
         "Some(([1063, 5, 7, 9, 4096], [40, 16, 60, 4]))",
+    );
+}
+
+#[test]
+fn a_frame_is_written_in_place_or_left_as_it_was(rt: HostRuntime) {
+    let config = ParseConfig::<Little>::default();
+    let Some(mut frame) = read(rt.alloc(), &config, NAMESPACES) else {
+        panic!(rt; "no header");
+    };
+    let absent = read_into(&config, &COMM[..7], &mut frame);
+    let same = parts_of(frame);
+    let comm = read_into(&config, COMM, &mut frame);
+    let record = parts_of(frame);
+    let small = read_into(&config, SMALL, &mut frame);
+    check_debug(
+        &rt,
+        &((absent, same), (comm, record), (small, parts_of(frame))),
+        "((false, ([16, 0, 56], [16, 0, 0], [5, 7, 2], [24, 32])), \
+         (true, ([3, 8192, 24], [3, 0, 0], [5, 7, 0], [16, 2])), \
+         (true, ([3, 0, 7], [0, 2, 1], [0, 0, 0], [0, 0])))",
     );
 }
 

@@ -11,5 +11,5 @@ returns-in-Sample g c = λ ty.
     let settings = configuration_of c.args.config.now in
     let order = g.E.Endian.order c.args.order.now in
     let made = c.sample_contents in
-    subst (λ kind. PlacesRecord (under_misc c.args.misc settings) order (body_of (under_misc c.args.misc settings) ty kind) c.args.body.now c.args.metadata.sample_id made.result) (sym c.in-Sample.is)
-    (sample_placed c.args.misc settings order c.args.body.now c.args.metadata.sample_id made.result made.ensures)
+    subst (λ kind. PlacesRecord (under_misc c.args.misc settings) order (body_of (under_misc c.args.misc settings) ty kind) c.args.body.now c.args.frame.now made.result made.new.frame) (sym c.in-Sample.is)
+    (sample_placed c.args.misc settings order c.args.body.now c.args.frame.now made.result made.new.frame made.ensures)

@@ -10,12 +10,13 @@ returns-in-Some g c =
     let settings = under_misc c.args.header.misc (configuration_of c.args.config.now) in
     let ty = c.args.header.type_ in
     let known = c.known_contents in
-    subst (λ t. PlacesRecord settings (g.E.Endian.order (endian_of c.args.config.now)) (body_of_type settings ty t) c.args.bytes.now c.args.metadata.sample_id known.result) (sym c.in-Some.is ∙ c.of-kind.ensures)
-    (subst (λ o. PlacesRecord settings o (body_of_type settings ty (Some c.in-Some.known)) c.args.bytes.now c.args.metadata.sample_id known.result) (ap g.E.Endian.order c.endian-order.ensures) (known.ensures ty))
+    subst (λ t. PlacesRecord settings (g.E.Endian.order (endian_of c.args.config.now)) (body_of_type settings ty t) c.args.bytes.now c.args.frame.now known.result known.new.frame) (sym c.in-Some.is ∙ c.of-kind.ensures)
+    (subst (λ o. PlacesRecord settings o (body_of_type settings ty (Some c.in-Some.known)) c.args.bytes.now c.args.frame.now known.result known.new.frame) (ap g.E.Endian.order c.endian-order.ensures) (known.ensures ty))
 
 pub returns-in-None : goal.returns-in-None
 returns-in-None g c =
     let settings = under_misc c.args.header.misc (configuration_of c.args.config.now) in
     let order = g.E.Endian.order (endian_of c.args.config.now) in
     let ty = c.args.header.type_ in
-    subst (λ t. PlacesRecord settings order (body_of_type settings ty t) c.args.bytes.now c.args.metadata.sample_id c.unknown_contents.result) (sym c.in-None.is ∙ c.of-kind.ensures) (c.unknown_contents.ensures settings order ty)
+    let unknown = c.unknown_contents in
+    subst (λ t. PlacesRecord settings order (body_of_type settings ty t) c.args.bytes.now c.args.frame.now unknown.result unknown.new.frame) (sym c.in-None.is ∙ c.of-kind.ensures) (unknown.ensures settings order ty)

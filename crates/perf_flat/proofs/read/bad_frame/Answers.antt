@@ -7,5 +7,5 @@ pub returns : goal.returns
 returns c = λ settings o bytes bad.
     let why = c.why_bad.ensures in
     bad_refused settings o c.args.header bytes _ bad
-    (λ small. c.refused_frame.ensures ∙ ap (refused_frame c.args.header) (why.small small))
-    (λ sized. c.refused_frame.ensures ∙ ap (refused_frame c.args.header) (why.short sized))
+    (λ small. c.refuse_frame.ensures ∙ ap (refused_frame c.args.header) (why.small small))
+    (λ sized. c.refuse_frame.ensures ∙ ap (refused_frame c.args.header) (why.short sized))

@@ -1,12 +1,18 @@
-use Rattle.std.proofs.Common.{sym, ◌∙◌}
+use Rattle.std.proofs.Common.{◌≡◌, Option, Some, None, sym, subst, ◌∙◌}
 use Rattle.perf_base.specs.Configured.{configuration_of}
 use Rattle.perf_base.specs.Layout.{mapped}
+use Rattle.perf_base.specs.declared.refusal.Refusal.{Refusal}
 use Rattle.perf_records.specs.Records.{sample_is}
 use Rattle.perf_sample_types.specs.Sample.{sample}
+use Rattle.perf_flat.specs.Places.{PlacesRecord}
 use Rattle.perf_flat.specs.declared.sample_made.Sample.{Sample}
-use Rattle.perf_flat.proofs.Placing.{placed, not_placed}
+use Rattle.perf_flat.proofs.Placing.{placed}
 use Rattle.perf_flat.proofs.Samples.{sample_read, sample_holds, sample_values}
 use Rattle.perf_flat.proofs.sample_made.sample_contents.Goals as goal
+
+-- what is refused is not fresh
+refused_not : {r : Option Refusal} {e : Refusal} → r ≡ Some e → r ≡ None → ⊥
+refused_not {r} {e} refused fresh = let no = sym refused ∙ fresh in absurd (cc)
 
 pub returns-in-Some : goal.returns-in-Some
 returns-in-Some g c =
@@ -23,7 +29,11 @@ returns-in-Some g c =
     let made : Sample = record { moment = c.moment.result; event = c.event.result; counts = c.counts.result; state = c.state.result; costs = c.costs.result; memory = c.memory.result } in
     let reads = sample_read order settings made moment event counts state costs memory in
     let end = c.memory.new.self in
-    not_placed settings order _ _ _ _ start.result end c.in-Some.refusal start.ensures.bytes start.ensures.at start.ensures.refusal reads (sym c.refusal.ensures ∙ c.in-Some.is)
+    let refused = sym c.refusal.ensures ∙ c.in-Some.is in
+    let old = c.args.frame.now in
+    subst (λ told. PlacesRecord settings order (mapped sample_is (sample settings)) c.args.body.now old told old) refused
+    (placed settings order (mapped sample_is (sample settings)) c.args.body.now (sample_is (sample_values made order settings counts state costs memory)) start.result end old old
+    start.ensures.bytes start.ensures.at start.ensures.refusal reads (λ ok. absurd (refused_not refused ok)))
 
 pub returns-in-None : goal.returns-in-None
 returns-in-None g c =
@@ -40,9 +50,9 @@ returns-in-None g c =
     let made : Sample = record { moment = c.moment.result; event = c.event.result; counts = c.counts.result; state = c.state.result; costs = c.costs.result; memory = c.memory.result } in
     let reads = sample_read order settings made moment event counts state costs memory in
     let end = c.memory.new.self in
-    let ok = sym c.refusal.ensures ∙ c.in-None.is in
-    let contents = c.contents in
-    let has = sample_holds order settings c.args.body.now c.args.metadata.now.sample_id made contents.result start.ensures.bytes moment event counts state costs memory ok
-    contents.ensures.numbers contents.ensures.spans contents.ensures.ids in
-    placed settings order (mapped sample_is (sample settings)) c.args.body.now c.args.metadata.now.sample_id (sample_is (sample_values made order settings counts state costs memory)) start.result end contents.result
-    start.ensures.bytes start.ensures.at start.ensures.refusal reads ok has
+    let put = c.put in
+    let old = c.args.frame.now in
+    subst (λ told. PlacesRecord settings order (mapped sample_is (sample settings)) c.args.body.now old told put.new.frame) (sym c.refusal.ensures ∙ c.in-None.is)
+    (placed settings order (mapped sample_is (sample settings)) c.args.body.now (sample_is (sample_values made order settings counts state costs memory)) start.result end old put.new.frame
+    start.ensures.bytes start.ensures.at start.ensures.refusal reads
+    (sample_holds order settings c.args.body.now made old put.new.frame start.ensures.bytes moment event counts state costs memory put.ensures.numbers put.ensures.spans put.ensures.ids put.ensures.head))

@@ -18,8 +18,8 @@ returns-then-is_empty-3-clause-read g c = λ _.
     let second : List ℕ = c.args.second.now in
     let zero : (length first == 0) ≡ true = sym c.is_empty-2.ensures ∙ c.if-is_empty-3.true in
     let empty : length first ≡ 0 = grind (arith, nat_tests) in
-    flat_of (configuration_of c.args.config.now) o c.put_flat.new.frame second (split_frame o first second)
-    (ap (λ (xs : List ℕ). first_frame o (xs ++ second)) (sym (no_items first empty))) c.put_flat.ensures
+    flat_of (configuration_of c.args.config.now) o c.read_first.new.frame second (split_frame o first second)
+    (ap (λ (xs : List ℕ). first_frame o (xs ++ second)) (sym (no_items first empty))) c.read_first.ensures
 
 pub returns-then-len-first-clause-read : goal.returns-then-len-first-clause-read
 returns-then-len-first-clause-read g c = λ _.
@@ -27,7 +27,7 @@ returns-then-len-first-clause-read g c = λ _.
     let first = c.args.first.now in
     let second = c.args.second.now in
     let has = first_has o _ first second c.in-Some.len (ap g.E.Endian.order c.endian.ensures) c.in-Some.ensures c.if-len-first.true in
-    flat_of (configuration_of c.args.config.now) o c.put_flat-then-len-first.new.frame first (split_frame o first second) has.is c.put_flat-then-len-first.ensures
+    flat_of (configuration_of c.args.config.now) o c.read_first-then-len-first.new.frame first (split_frame o first second) has.is c.read_first-then-len-first.ensures
 
 pub returns-then-len-first-clause-place : goal.returns-then-len-first-clause-place
 returns-then-len-first-clause-place g c = λ _.
@@ -43,7 +43,7 @@ returns-clause-read g c = λ _.
     let to = c.copy_front.new.to in
     let scratch = c.args.scratch.now in
     let has = copy_has o _ first second len to scratch (ap g.E.Endian.order c.endian.ensures) c.in-Some.ensures c.if-scratch-len.false c.copy_front.ensures in
-    flat_of (configuration_of c.args.config.now) o c.put_flat-2.new.frame (take len (to ++ drop len scratch)) (split_frame o first second) has.is c.put_flat-2.ensures
+    flat_of (configuration_of c.args.config.now) o c.read_first-2.new.frame (take len (to ++ drop len scratch)) (split_frame o first second) has.is c.read_first-2.ensures
 
 pub returns-clause-place : goal.returns-clause-place
 returns-clause-place g c = λ _.
