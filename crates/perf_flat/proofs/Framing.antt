@@ -12,12 +12,12 @@ use Rattle.perf_base.specs.declared.error.ErrorKind.TheVariants.{Eof, InvalidRec
 use Rattle.perf_base.specs.declared.refusal.Refusal.{Refusal}
 use Rattle.perf_base.specs.declared.refusal.Refusal.TheVariants as why
 use Rattle.perf_base.specs.declared.sys.perf_event_header.{perf_event_header}
-use Rattle.perf_records.specs.Answers.{FrameParts, frame_parts, length_after, parts_of, split_after, record_in, answer_after, split_of_frame, answer_of_frame}
+use Rattle.perf_records.specs.Answers.{FrameParts, length_after, parts_of, split_after, record_in, answer_after, split_of_frame, answer_of_frame}
 use Rattle.perf_records.specs.Bodies.{body}
-use Rattle.perf_records.specs.FrameReadings.{HasNoRoom, metadata_in}
+use Rattle.perf_records.specs.FrameReadings.{HasNoRoom}
 use Rattle.perf_records.specs.Frames.{frame_length}
 use Rattle.perf_records.specs.FrameList.{sights}
-use Rattle.perf_records.specs.Metadata.{MetadataValue, id_length}
+use Rattle.perf_records.specs.Metadata.{MetadataValue, id_length, id_of_type}
 use Rattle.perf_records.specs.Records.{RecordValue}
 use Rattle.perf_records.specs.Sights.{Sight, whole, bad, sight_after, sight_in}
 use Rattle.perf_records.proofs.FrameList.{next_sight, no_sight, some_sight}
@@ -26,9 +26,11 @@ use Rattle.perf_records.proofs.Headers.{frame_whole, frame_body, header_alone}
 use Rattle.perf_records.proofs.Splitting.{split_small, split_short, split_no_room, split_whole}
 use Rattle.perf_flat.specs.Flat.{CarriesNumbers, StatesId, StatesRecord, StatesRefusal, StatesAnswer, HasHeader, IsFlat, IsFlatAfter, IsBad, refused_frame, first_frame}
 use Rattle.perf_flat.specs.Places.{IsBodyOf, PlacesRecord}
+use Rattle.perf_flat.specs.SampleIds.{TakesId}
 use Rattle.perf_flat.specs.Spans.{HasSpans}
 use Rattle.perf_flat.specs.declared.contents.Contents.{Contents}
 use Rattle.perf_flat.specs.declared.flat_frame.FlatFrame.{FlatFrame}
+use Rattle.perf_flat.specs.declared.sample_ids.FrameEnd.{FrameEnd}
 
 -- ---- the body of a frame
 
@@ -112,21 +114,21 @@ bad_refused c o h bytes f (inr short) is_small is_short =
 
 -- ---- a frame that was read in place
 
--- a frame that has metadata, which is split
-pub metadata_split : (c : Configuration) (o : Order) (h : perf_event_header) (bytes : List ℕ) (m : MetadataValue) → 8 ≤ h.size → length bytes ≡ length_after h →
-    Ok m ≡ metadata_in (split_after c o h bytes) → (id_length c h.type_ ≤ length bytes) × (split_after c o h bytes ≡ Ok (frame_parts m (take (length bytes - id_length c h.type_) bytes)))
-metadata_split c o h bytes m sized long is = elim (cases_lt (length_after h) (id_length c h.type_)) [
-  | inl little ↦ let no = is ∙ ap metadata_in (split_no_room c o h bytes sized (omega arith) little) in absurd (cc)
-  | inr room ↦
-      let split = split_whole c o h bytes sized (omega arith) room in
-      let all : take (length_after h) bytes ≡ bytes = take_all (length_after h) bytes (omega arith) in
-      let parts : split_after c o h bytes ≡ Ok (parts_of c o h bytes) = split ∙ ap (λ xs. Ok (parts_of c o h xs)) all in
-      let same : m ≡ (parts_of c o h bytes).metadata = metadata_is (is ∙ ap metadata_in parts) in
-      (omega arith, parts ∙ ap (λ k. Ok (frame_parts k (take (length bytes - id_length c h.type_) bytes))) (sym same))
-]
-  where
-    metadata_is : {x y : MetadataValue} → ◌≡◌ {A = Result MetadataValue ErrorKind} (Ok x) (Ok y) → x ≡ y
-    metadata_is e = cc
+-- a frame that has room for its sample id is split
+pub room_split : (c : Configuration) (o : Order) (h : perf_event_header) (bytes : List ℕ) → 8 ≤ h.size → length bytes ≡ length_after h → id_length c h.type_ ≤ length bytes →
+    split_after c o h bytes ≡ Ok (parts_of c o h bytes)
+room_split c o h bytes sized long room =
+    let all : take (length_after h) bytes ≡ bytes = take_all (length_after h) bytes (omega arith) in
+    split_whole c o h bytes sized (omega arith) (omega arith) ∙ ap (λ xs. Ok (parts_of c o h xs)) all
+
+-- the record in its body, under its sample id
+pub end_placed : {bytes : List ℕ} {made : FrameEnd} (c : Configuration) (o : Order) (h : perf_event_header) (m : MetadataValue) (r : Result Contents Refusal) →
+    TakesId o (id_length c h.type_) (id_of_type c h.type_) bytes made → m.sample_id ≡ made.id →
+    PlacesRecord (under_misc h.misc c) o (body (under_misc h.misc c) h.type_) made.body.now m.sample_id r →
+    PlacesRecord (under_misc h.misc c) o (body (under_misc h.misc c) h.type_) (parts_of c o h bytes).body (parts_of c o h bytes).metadata.sample_id r
+end_placed {bytes} {made} c o h m r takes same places =
+    subst (λ xs. PlacesRecord (under_misc h.misc c) o (body (under_misc h.misc c) h.type_) xs (parts_of c o h bytes).metadata.sample_id r) takes.body
+    (subst (λ ids. PlacesRecord (under_misc h.misc c) o (body (under_misc h.misc c) h.type_) made.body.now ids r) (same ∙ takes.id) places)
 
 -- its record is in the body
 pub list_placed : (c : Configuration) (o : Order) (h : perf_event_header) (bytes : List ℕ) (parts : FrameParts) (made : Contents) (f : FlatFrame) → length bytes + 8 < 2 ^ 32 →

@@ -7,6 +7,7 @@ pub mod Fields
 pub mod Lists
 pub mod Groups
 pub mod Samples
+pub mod SampleIds
 pub mod Framing
 pub mod OneByOne
 pub mod Joined

@@ -14,3 +14,4 @@ pub mod Places
 pub mod SamplePlaces
 pub mod SampleMade
 pub mod BodyPlaces
+pub mod SampleIds

@@ -21,6 +21,7 @@ pub mod read;
 mod refusals;
 mod sample_fields;
 mod sample_groups;
+mod sample_ids;
 mod sample_lists;
 mod sample_made;
 pub mod split;

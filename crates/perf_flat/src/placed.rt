@@ -1,11 +1,10 @@
 //! The contents of a record, read in place: nothing is copied, and no memory is needed.
 
-ghost use Rattle.std.specs.Prelude.{◌≡◌, ℕ};
+ghost use Rattle.std.specs.Prelude.{ℕ};
 ghost use Rattle.perf_base.specs.Configuration.{Configuration, under_misc};
 ghost use Rattle.perf_base.specs.Layout.{mapped};
 ghost use Rattle.perf_flat.specs.Places.{PlacesRecord};
 ghost use Rattle.perf_records.specs.Bodies.{body, body_of};
-ghost use Rattle.perf_records.specs.Metadata.{id_length};
 ghost use Rattle.perf_records.specs.Prelude.{configuration_of, endian_of};
 ghost use Rattle.perf_records.specs.Records.{namespaces_is};
 ghost use Rattle.perf_types.specs.Namespaces.{namespaces};
@@ -25,21 +24,7 @@ use perf_base::endian::Endian;
 use perf_base::refusal::ReadResult;
 use perf_base::sys::perf_event_header;
 use perf_records::metadata::RecordMetadata;
-use perf_records::parts::carries_sample_id;
 use perf_records::record_type::RecordType;
-use perf_sample_types::sample_id::SampleId;
-
-// How many bytes of a frame are its sample id.
-#[inline]
-pub(crate) fn id_len<E>(config: &ParseConfig<E>, ty: u32) -> usize
-    ensures { result ≡ id_length (configuration_of config.now) ty }
-{
-    if carries_sample_id(ty) {
-        SampleId::estimate_len(config)
-    } else {
-        0
-    }
-}
 
 // The contents of a record of a known type.
 fn known_contents<E: Endian>(

@@ -11,8 +11,9 @@ ghost use Rattle.perf_records.specs.Prelude.{configuration_of, endian_of};
 
 use crate::accepted::accepted_frame;
 use crate::flat_frame::FlatFrame;
-use crate::placed::{id_len, record_contents};
+use crate::placed::record_contents;
 use crate::refusals::refused_frame;
+use crate::sample_ids::frame_end;
 use perf_base::config::ParseConfig;
 use perf_base::endian::Endian;
 use perf_base::refusal::Refusal;
@@ -20,6 +21,7 @@ use perf_base::sys::perf_event_header;
 use perf_records::frame::Frame;
 use perf_records::frame_handler::BadFrame;
 use perf_records::frame_list::frames;
+use perf_records::metadata::RecordMetadata;
 use std::alloc::Global;
 
 // Why no whole frame follows a header.
@@ -44,22 +46,17 @@ fn bad_frame(header: perf_event_header) -> FlatFrame
 }
 
 // The flat frame of a whole frame.
-fn flat_frame<'p, E: Endian>(
-    alloc: Global,
-    config: &ParseConfig<E>,
-    frame: Frame<'_, 'p>,
-) -> FlatFrame
+fn flat_frame<E: Endian>(config: &ParseConfig<E>, frame: Frame<'_, '_>) -> FlatFrame
     ensures { IsFlatAfter (configuration_of config.now) (E.order (endian_of config.now))
         frame.entry.header (chunk_bytes frame.entry.rest) result }
 {
     let header = frame.header();
-    let metadata = match frame.metadata(alloc, config) {
-        Ok(metadata) => metadata,
-        Err(_) => return refused_frame(header, Refusal::NoRoomForId),
+    let end = match frame_end(config, header.type_, frame.rest()) {
+        Some(end) => end,
+        None => return refused_frame(header, Refusal::NoRoomForId),
     };
-    let rest = frame.rest();
-    let body = &rest[..rest.len() - id_len(config, header.type_)];
-    match record_contents(config, header, metadata, body) {
+    let metadata = RecordMetadata::from_parts(header.type_, header.misc, end.id);
+    match record_contents(config, header, metadata, end.body) {
         Ok(made) => accepted_frame(config, header, &made),
         Err(refusal) => refused_frame(header, refusal),
     }
@@ -67,7 +64,6 @@ fn flat_frame<'p, E: Endian>(
 
 // The flat frame of what is at the front of bytes.
 fn flat_first<'p, E: Endian>(
-    alloc: Global,
     config: &ParseConfig<E>,
     first: Result<Frame<'p, 'p>, BadFrame>,
 ) -> FlatFrame
@@ -77,7 +73,7 @@ fn flat_first<'p, E: Endian>(
         (first_frame (E.order (endian_of config.now)) bytes) result }
 {
     match first {
-        Ok(frame) => flat_frame(alloc, config, frame),
+        Ok(frame) => flat_frame(config, frame),
         Err(bad) => bad_frame(bad.header()),
     }
 }
@@ -92,7 +88,7 @@ pub fn read<E: Endian>(alloc: Global, config: &ParseConfig<E>, bytes: &[u8]) -> 
 {
     let mut all = frames(bytes, config.endian());
     match all.next() {
-        Some(first) => Some(flat_first(alloc, config, first)),
+        Some(first) => Some(flat_first(config, first)),
         None => None,
     }
 }

@@ -1,0 +1,28 @@
+-- The sample id at the end of a frame, whose fields are taken off from the last one on. Private
+-- contracts use this form.
+use Rattle.std.specs.Prelude.{◌≡◌, ◌<◌, ◌≤◌, ℕ, ◌+◌, ◌-◌, ◌*◌, Bool, List, length, take, drop}
+use Rattle.std.specs.Prelude.{Option, Some, None, MatchOption, if◌then◌else◌}
+use Rattle.perf_base.specs.Layout.{Parts, value}
+use Rattle.perf_base.specs.Order.{Order}
+use Rattle.perf_sample_types.specs.SampleId.{SampleIdValue, one_if}
+use Rattle.perf_flat.specs.declared.sample_ids.FrameEnd.{FrameEnd}
+use Rattle.perf_flat.specs.declared.sample_ids.LastField.{LastField}
+
+-- A field of eight bytes was taken off the end of bytes, if it is present: its bytes, and those before
+-- it.
+pub record TakesLast (present : Bool) (bytes : List ℕ) (field : LastField) : Type 0 where
+  pub word : field.word ≡ (if present then Some (drop (length bytes - 8) bytes) else None)
+  pub before : field.before.now ≡ take (length bytes - 8 * one_if present) bytes
+  pub long : length field.before.now + 8 * one_if present ≡ length bytes
+
+-- The last n bytes were taken off, as a sample id of these parts.
+pub record TakesId (o : Order) (n : ℕ) (parts : Parts SampleIdValue) (bytes : List ℕ) (made : FrameEnd) :
+    Type 0 where
+  pub room : n ≤ length bytes
+  pub id : made.id ≡ value o (drop (length bytes - n) bytes) 0 parts
+  pub body : made.body.now ≡ take (length bytes - n) bytes
+
+-- They were taken off, or there are fewer bytes.
+abbrev pub EndsWith : Order → ℕ → Parts SampleIdValue → List ℕ → Option FrameEnd → Type 0
+EndsWith o n parts bytes result =
+    MatchOption result (length bytes < n) (λ made. TakesId o n parts bytes made)
