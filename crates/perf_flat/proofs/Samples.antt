@@ -5,6 +5,8 @@ use Rattle.perf_base.specs.Configuration.{Configuration, under_misc}
 use Rattle.perf_base.specs.Layout.{Parts, done, mapped, layout}
 use Rattle.perf_base.specs.Order.{Order}
 use Rattle.perf_base.specs.declared.refusal.Refusal.{Refusal}
+use Rattle.perf_base.specs.Refusals.{refusal_kind}
+use Rattle.perf_base.specs.Run.{Ran, ran, stopped, run_parts}
 use Rattle.perf_base.specs.Table.{table}
 use Rattle.perf_records.specs.Records.{sample_is}
 use Rattle.perf_sample_types.specs.Sample.{FieldValue, SampleValue, number_is, sample, sample_fields, fields_under, moment_fields, count_fields, state_fields, cost_fields, memory_fields, values, branch_stack, registers}
@@ -12,13 +14,16 @@ use Rattle.perf_sample_types.specs.SampleGetters.{number_in}
 use Rattle.perf_flat.specs.Filled.{filled, filled_spans}
 use Rattle.perf_flat.specs.Numbers.{or_zero}
 use Rattle.perf_flat.specs.Flat.{StatesId}
-use Rattle.perf_flat.specs.Places.{IsBodyOf, Reads, SameHead, HoldsRecord, PlacesRecord}
+use Rattle.perf_flat.specs.Places.{IsBodyOf, left_of, cut_short, run_at, read_to, Reads, SameHead, HoldsRecord, PlacesRecord}
 use Rattle.perf_flat.specs.SampleMade.{made_numbers, made_spans, made_ids}
 use Rattle.perf_flat.specs.SamplePlaces.{ReadsFields, ReadsCounts, ReadsState, ReadsCosts, ReadsMemory, moment_values, event_values}
 use Rattle.perf_flat.specs.Samples.{HasSampleSpans, sample_numbers}
 use Rattle.perf_flat.specs.Spans.{HasSpans}
 use Rattle.perf_flat.specs.declared.flat_frame.FlatFrame.{FlatFrame}
 use Rattle.perf_flat.specs.declared.places.Places.{Places}
+use Rattle.perf_flat.specs.declared.sample_groups.Counts.{Counts}
+use Rattle.perf_flat.specs.declared.sample_groups.Event.{Event}
+use Rattle.perf_flat.specs.declared.sample_groups.Moment.{Moment}
 use Rattle.perf_flat.specs.declared.sample_made.Sample.{Sample}
 use Rattle.perf_flat.proofs.Reading.{then_reads, all_read}
 use Rattle.std.specs.Prelude.{take, drop}
@@ -58,6 +63,32 @@ sample_read o c made {a} {m} {b} {d} {e} {f} {g} moment event counts state costs
     then_reads (sample c) (λ v. done (sample_is v)) (of_table o c (sample_values made o c counts state costs memory) a g
     (moment.chain fields_1 values_1 g (event.chain fields_2 values_2 g (counts.fields.chain fields_3 values_3 g (state.fields.chain fields_4 values_4 g
     (costs.fields.chain fields_5 values_5 g (memory.fields.chain [] [] g all_read))))))) all_read
+
+-- after a refusal nothing that is read counts
+refused_reads : {A : Type 0} {o : Order} {p : Parts A} {v : A} {a : Places} {e : Refusal} → a.refusal ≡ Some e → Reads o p v a a
+unfolding run_at read_to
+refused_reads {A} {o} {p} {v} {a} {e} refused = record {
+  run = ap (λ r. elim r as (λ _. Ran A) [ Some e ↦ stopped (refusal_kind e) [] | None ↦ cut_short (run_parts o p (left_of a)) ]) refused
+      ∙ sym (ap (λ r. elim r as (λ _. Ran A) [ Some e ↦ stopped (refusal_kind e) [] | None ↦ ran v (left_of a) ]) refused);
+  bytes = refl;
+}
+
+-- a sample that was refused in its first three groups
+abbrev pub first_values : Moment → Event → (o : Order) (c : Configuration) {made : Counts} {b d : Places} → ReadsCounts c o made b d → SampleValue
+first_values moment event o c counts = moment_values moment ++ (event_values event ++ ((counts.values ∷ counts.call_chain ∷ []) ++ []))
+
+pub sample_stopped : (o : Order) (c : Configuration) (moment : Moment) (event : Event) (made : Counts) {a m b d : Places} (e : Refusal) → ReadsFields o (fields_under c (take 5 moment_fields)) (moment_values moment) a m →
+    ReadsFields o (fields_under c (drop 5 moment_fields)) (event_values event) m b → (counts : ReadsCounts c o made b d) → d.refusal ≡ Some e →
+    Reads o (mapped sample_is (sample c)) (sample_is (first_values moment event o c counts)) a d
+sample_stopped o c moment event made {a} {m} {b} {d} e one two three refused =
+    let Fields : Type 0 = List (Option (Parts FieldValue)) in
+    let fields_3 : Fields = fields_under c state_fields ++ (fields_under c cost_fields ++ (fields_under c memory_fields ++ [])) in
+    let fields_2 : Fields = fields_under c count_fields ++ fields_3 in
+    let fields_1 : Fields = fields_under c (drop 5 moment_fields) ++ fields_2 in
+    let values_2 : SampleValue = (three.values ∷ three.call_chain ∷ []) ++ [] in
+    let values_1 : SampleValue = event_values event ++ values_2 in
+    then_reads (sample c) (λ v. done (sample_is v)) (of_table o c (first_values moment event o c three) a d
+    (one.chain fields_1 values_1 d (two.chain fields_2 values_2 d (three.fields.chain fields_3 [] d (refused_reads refused))))) all_read
 
 -- ---- its numbers
 

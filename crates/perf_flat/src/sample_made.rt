@@ -118,10 +118,17 @@ pub(crate) fn sample_contents<E: Endian>(
     let flags = config.sample_type();
     let hw_index = config.branch_hw_index();
     let mut places = Places::new(body);
+    let moment = places.moment(order, flags);
+    let event = places.event(order, flags);
+    let counts = places.counts(order, flags, config.read_format());
+    // Most samples that are refused end here, in a list with more items than there are bytes.
+    if let Some(refusal) = places.refusal() {
+        return Some(refusal);
+    }
     let sample = Sample {
-        moment: places.moment(order, flags),
-        event: places.event(order, flags),
-        counts: places.counts(order, flags, config.read_format()),
+        moment,
+        event,
+        counts,
         state: places.state(order, flags, hw_index, config.regs_user()),
         costs: places.costs(order, flags, config.regs_intr()),
         memory: places.memory(order, flags),

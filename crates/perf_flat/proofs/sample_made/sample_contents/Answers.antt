@@ -7,7 +7,7 @@ use Rattle.perf_sample_types.specs.Sample.{sample}
 use Rattle.perf_flat.specs.Places.{PlacesRecord}
 use Rattle.perf_flat.specs.declared.sample_made.Sample.{Sample}
 use Rattle.perf_flat.proofs.Placing.{placed}
-use Rattle.perf_flat.proofs.Samples.{sample_read, sample_holds, sample_values}
+use Rattle.perf_flat.proofs.Samples.{first_values, sample_read, sample_stopped, sample_holds, sample_values}
 use Rattle.perf_flat.proofs.sample_made.sample_contents.Goals as goal
 
 -- what is refused is not fresh
@@ -20,16 +20,33 @@ returns-in-Some g c =
     let order = g.E.Endian.order c.args.order.now in
     let start = c.new-places in
     let flags = c.sample_type-flags.ensures in
-    let moment = c.moment.ensures settings flags in
-    let event = c.event.ensures settings flags in
-    let counts = c.counts.ensures settings flags c.read_format.ensures in
+    let moment = c.moment-moment.ensures settings flags in
+    let event = c.event-event.ensures settings flags in
+    let counts = c.counts-counts.ensures settings flags c.read_format.ensures in
+    let refused = sym c.refusal.ensures ∙ c.in-Some.is in
+    let reads = sample_stopped order settings c.moment-moment.result c.event-event.result c.counts-counts.result c.in-Some.refusal moment event counts refused in
+    let end = c.counts-counts.new.self in
+    let old = c.args.frame.now in
+    subst (λ told. PlacesRecord settings order (mapped sample_is (sample settings)) c.args.body.now old told old) refused
+    (placed settings order (mapped sample_is (sample settings)) c.args.body.now (sample_is (first_values c.moment-moment.result c.event-event.result order settings counts)) start.result end old old
+    start.ensures.bytes start.ensures.at start.ensures.refusal reads (λ ok. absurd (refused_not refused ok)))
+
+pub returns-in-Some-refusal : goal.returns-in-Some-refusal
+returns-in-Some-refusal g c =
+    let settings = configuration_of c.args.config.now in
+    let order = g.E.Endian.order c.args.order.now in
+    let start = c.new-places in
+    let flags = c.sample_type-flags.ensures in
+    let moment = c.moment-moment.ensures settings flags in
+    let event = c.event-event.ensures settings flags in
+    let counts = c.counts-counts.ensures settings flags c.read_format.ensures in
     let state = c.state.ensures settings flags c.branch_hw_index-hw_index.ensures c.regs_user.ensures in
     let costs = c.costs.ensures settings flags c.regs_intr.ensures in
     let memory = c.memory.ensures settings flags in
-    let made : Sample = record { moment = c.moment.result; event = c.event.result; counts = c.counts.result; state = c.state.result; costs = c.costs.result; memory = c.memory.result } in
+    let made : Sample = record { moment = c.moment-moment.result; event = c.event-event.result; counts = c.counts-counts.result; state = c.state.result; costs = c.costs.result; memory = c.memory.result } in
     let reads = sample_read order settings made moment event counts state costs memory in
     let end = c.memory.new.self in
-    let refused = sym c.refusal.ensures ∙ c.in-Some.is in
+    let refused = sym c.refusal-2.ensures ∙ c.in-Some-refusal.is in
     let old = c.args.frame.now in
     subst (λ told. PlacesRecord settings order (mapped sample_is (sample settings)) c.args.body.now old told old) refused
     (placed settings order (mapped sample_is (sample settings)) c.args.body.now (sample_is (sample_values made order settings counts state costs memory)) start.result end old old
@@ -41,18 +58,18 @@ returns-in-None g c =
     let order = g.E.Endian.order c.args.order.now in
     let start = c.new-places in
     let flags = c.sample_type-flags.ensures in
-    let moment = c.moment.ensures settings flags in
-    let event = c.event.ensures settings flags in
-    let counts = c.counts.ensures settings flags c.read_format.ensures in
+    let moment = c.moment-moment.ensures settings flags in
+    let event = c.event-event.ensures settings flags in
+    let counts = c.counts-counts.ensures settings flags c.read_format.ensures in
     let state = c.state.ensures settings flags c.branch_hw_index-hw_index.ensures c.regs_user.ensures in
     let costs = c.costs.ensures settings flags c.regs_intr.ensures in
     let memory = c.memory.ensures settings flags in
-    let made : Sample = record { moment = c.moment.result; event = c.event.result; counts = c.counts.result; state = c.state.result; costs = c.costs.result; memory = c.memory.result } in
+    let made : Sample = record { moment = c.moment-moment.result; event = c.event-event.result; counts = c.counts-counts.result; state = c.state.result; costs = c.costs.result; memory = c.memory.result } in
     let reads = sample_read order settings made moment event counts state costs memory in
     let end = c.memory.new.self in
     let put = c.put in
     let old = c.args.frame.now in
-    subst (λ told. PlacesRecord settings order (mapped sample_is (sample settings)) c.args.body.now old told put.new.frame) (sym c.refusal.ensures ∙ c.in-None.is)
+    subst (λ told. PlacesRecord settings order (mapped sample_is (sample settings)) c.args.body.now old told put.new.frame) (sym c.refusal-2.ensures ∙ c.in-None.is)
     (placed settings order (mapped sample_is (sample settings)) c.args.body.now (sample_is (sample_values made order settings counts state costs memory)) start.result end old put.new.frame
     start.ensures.bytes start.ensures.at start.ensures.refusal reads
     (sample_holds order settings c.args.body.now made old put.new.frame start.ensures.bytes moment event counts state costs memory put.ensures.numbers put.ensures.spans put.ensures.ids put.ensures.head))
