@@ -1,6 +1,6 @@
 //! Parsing of records, and of types of your own.
 //!
-//! A [`Parser`] combines a buffer with a [`ParseConfig`]. [`Record`](crate::Record) is the type to
+//! A [`Parser`] combines a buffer with a [`ParseConfig`]. [`Record`] is the type to
 //! begin with:
 //!
 //! ```
