@@ -82,9 +82,9 @@ fn check_run(
     };
     let mut parser = Parser::new(rt.alloc(), reader, ParseConfig::<Little>::from(attr));
     let run = read_records(&mut parser, limit);
-    let granted = are_granted(rt.alloc());
+    let grants = are_granted(rt.alloc());
     let (count, end) = (run.frames.len(), ending(&run.end));
-    let _ = println!(rt; "{name}: {count} listed, {end}, then {granted:?}");
+    let _ = println!(rt; "{name}: {count} listed, {end}, then {grants:?}");
     check_lines(rt, &run, lines);
     assert!(rt;
         end == "out of memory" || (count, end) == (lines.len(), end),

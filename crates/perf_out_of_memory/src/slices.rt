@@ -236,10 +236,10 @@ fn with_raw_bytes() -> perf_event_attr {
 }
 
 // Whether at most one request is refused: that of the sample's box, or one after it.
-fn is_lawful(line: &str, granted: [bool; 2]) -> bool {
+fn is_lawful(line: &str, grants: [bool; 2]) -> bool {
     match line {
-        "0 9 0 16 refused OutOfMemory" => granted == [true, true],
-        "0 9 0 16 Sample raw=aabb" => granted != [false, false],
+        "0 9 0 16 refused OutOfMemory" => grants == [true, true],
+        "0 9 0 16 Sample raw=aabb" => grants != [false, false],
         _ => false,
     }
 }
@@ -249,11 +249,11 @@ fn is_lawful(line: &str, granted: [bool; 2]) -> bool {
 #[test]
 fn a_sample_of_raw_bytes(rt: HostRuntime) {
     let answer = record_of(rt.alloc(), RAW_BYTES, with_raw_bytes());
-    let granted = [is_granted(rt.alloc()), is_granted(rt.alloc())];
+    let grants = [is_granted(rt.alloc()), is_granted(rt.alloc())];
     match line_at_last(rt.alloc(), RAW_BYTES, &answer) {
         Ok(line) => {
-            let _ = println!(rt; "{line}, then {granted:?}");
-            assert!(rt; is_lawful(line.as_str(), granted));
+            let _ = println!(rt; "{line}, then {grants:?}");
+            assert!(rt; is_lawful(line.as_str(), grants));
         }
         Err(_) => panic!(rt; "no memory"),
     }

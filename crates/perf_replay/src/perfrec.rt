@@ -19,17 +19,17 @@ fn lines<E: Endian>(
 ) -> Result<String>
     requires { 0 < piece }
 {
-    let mut written = Vec::new(alloc);
+    let mut output = Vec::new(alloc);
     let end = run(
         alloc,
         stream,
-        &mut written,
+        &mut output,
         order,
         request.limit,
         request.with_attr,
         piece,
     );
-    let mut text = str::from_utf8(&written)?.replace(alloc, "\n", "; ")?;
+    let mut text = str::from_utf8(&output)?.replace(alloc, "\n", "; ")?;
     write!(text, "status {}", end.status())?;
     Ok(text)
 }

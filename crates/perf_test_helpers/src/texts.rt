@@ -159,7 +159,7 @@ fn write_spaces(text: &mut String, record: &Record<'_>) -> Result<(), AllocError
 }
 
 fn write_named_spaces(text: &mut String, spaces: &Namespaces<'_>) -> Result<(), AllocError> {
-    let named = [
+    let names = [
         spaces.network(),
         spaces.uts(),
         spaces.ipc(),
@@ -167,7 +167,7 @@ fn write_named_spaces(text: &mut String, spaces: &Namespaces<'_>) -> Result<(), 
         spaces.user(),
         spaces.cgroup(),
     ];
-    write!(text, " {named:?}")
+    write!(text, " {names:?}")
 }
 
 // A group of counters: how many and whether none, its times, the first three entries in order and
@@ -236,7 +236,7 @@ impl WriteText for FromBothEnds<'_> {
 
 fn write_from_both_ends(text: &mut String, entries: GroupIter<'_>) -> Result<(), AllocError> {
     let mut entries = entries;
-    let taken = [entries.nth(1), entries.next_back(), entries.nth_back(1)];
-    write!(text, " {taken:?} {}", entries.len())?;
+    let items = [entries.nth(1), entries.next_back(), entries.nth_back(1)];
+    write!(text, " {items:?} {}", entries.len())?;
     write!(text, " {:?}", entries.next())
 }

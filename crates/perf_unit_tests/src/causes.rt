@@ -244,20 +244,20 @@ const REFUSED: [Refused<'static>; 9] = [
 ];
 
 // The text of such an error, and the expected one.
-fn text_of_refused(alloc: Global, refused: &Refused) -> Result<(String, String), AllocError> {
-    let (sample_type, read_format, flags) = refused.under;
+fn texts_of_case(alloc: Global, case: &Refused) -> Result<(String, String), AllocError> {
+    let (sample_type, read_format, flags) = case.under;
     let mut attr = attribute(bits_of(sample_type), read_format);
     attr.flags = flags;
-    let text = text_everywhere(alloc, refused.bytes, &FirstRefusal { attr: &attr })?;
-    let ((kind, text_of_kind), message) = (refused.kind, refused.message);
+    let text = text_everywhere(alloc, case.bytes, &FirstRefusal { attr: &attr })?;
+    let ((kind, text_of_kind), message) = (case.kind, case.message);
     let want = format!(in alloc; "{kind}, Some({message:?}), no cause, {text_of_kind}: {message}")?;
     Ok((text, want))
 }
 
 #[test]
 fn a_refused_frame_has_its_message(rt: HostRuntime) -> Result<(), Fail> {
-    for refused in &REFUSED {
-        let (text, want) = text_of_refused(rt.alloc(), refused)?;
+    for case in &REFUSED {
+        let (text, want) = texts_of_case(rt.alloc(), case)?;
         check_text(&rt, Ok(text), want.as_str());
     }
     Ok(())

@@ -27,10 +27,10 @@ fn write_conditions<'p, E: Endian>(
     inner: &mut Parser<ParseBufCursor<'p>, E>,
 ) -> ParseResult<()> {
     let before = two_if(inner, false)?;
-    let found = two_if(inner, true)?;
+    let item = two_if(inner, true)?;
     let kind = kind_of(one_if(inner, true));
     let after = one_if(inner, false)?;
-    Ok(write!(text, " {before:?} {found:?} {kind:?} {after:?}")?)
+    Ok(write!(text, " {before:?} {item:?} {kind:?} {after:?}")?)
 }
 
 /// Writes what a closure parses from a frame's body: always, if a condition is true, and if it is

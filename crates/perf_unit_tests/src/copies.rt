@@ -605,22 +605,22 @@ fn a_change_of_code(rt: HostRuntime) {
         "([2]), new_bytes: ",
         "([3, 4]) }"
     );
-    let poked = poke(1, &[2], &[3, 4]);
-    check_parsed_text(&rt, text_with_copies(rt.alloc(), Ok(poked)), want);
+    let event = poke(1, &[2], &[3, 4]);
+    check_parsed_text(&rt, text_with_copies(rt.alloc(), Ok(event)), want);
     let want = copies!(
         "TextPoke { addr: 16, old_bytes: ",
         "([]), new_bytes: ",
         "([170]) }"
     );
-    let poked = poke(16, &[], &[0xaa]);
-    check_parsed_text(&rt, text_with_copies(rt.alloc(), Ok(poked)), want);
+    let event = poke(16, &[], &[0xaa]);
+    check_parsed_text(&rt, text_with_copies(rt.alloc(), Ok(event)), want);
     let want = owned_copies!(
         "TextPoke { addr: 16, old_bytes: ",
         "([170]), new_bytes: ",
         "([187, 204]) }"
     );
-    let poked = owned_poke(rt.alloc());
-    check_parsed_text(&rt, text_with_copies(rt.alloc(), poked), want);
+    let event = owned_poke(rt.alloc());
+    check_parsed_text(&rt, text_with_copies(rt.alloc(), event), want);
 }
 
 fn group_of_counters() -> ReadGroup<'static> {

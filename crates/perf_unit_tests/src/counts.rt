@@ -94,8 +94,8 @@ const COUNTED: [Counted; 4] = [
 ];
 
 // The counts of a stream that ends after a frame.
-fn whole(counted: ParseResult<(Counts, RunEnd)>) -> Option<Counts> {
-    match counted {
+fn whole(answer: ParseResult<(Counts, RunEnd)>) -> Option<Counts> {
+    match answer {
         Ok((counts, RunEnd::Done)) => Some(counts),
         _ => None,
     }
@@ -103,12 +103,12 @@ fn whole(counted: ParseResult<(Counts, RunEnd)>) -> Option<Counts> {
 
 // Asserts what is counted of a stream.
 fn check_counted(rt: &(impl AllocGlobal + Abort), case: Counted<'_>) {
-    let counted = if case.is_big {
+    let answer = if case.is_big {
         count_stream(rt.alloc(), case.input, Big, case.with_attr)
     } else {
         count_stream(rt.alloc(), case.input, Little, case.with_attr)
     };
-    check_same(rt, case.name, whole(counted), Some(case.want));
+    check_same(rt, case.name, whole(answer), Some(case.want));
 }
 
 #[test]

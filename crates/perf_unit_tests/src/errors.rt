@@ -76,10 +76,10 @@ fn out_of_memory_and_an_early_end_have_no_more_text(rt: HostRuntime) {
     let eof = "Eof, None, no cause, unexpected EOF during parsing";
     check_parsed_text(&rt, ParseError::eof(), eof);
     let want = "OutOfMemory, None, no cause, out of memory";
-    let failed = AllocFailed { value: 1u8 };
+    let lost = AllocFailed { value: 1u8 };
     check_parsed_text(&rt, ParseError::out_of_memory(), want);
     check_parsed_text(&rt, AllocError.into(), want);
-    check_parsed_text(&rt, failed.into(), want);
+    check_parsed_text(&rt, lost.into(), want);
 }
 
 const EXTERNAL: &str = "External, None, no cause, user-provided error";
@@ -140,8 +140,8 @@ fn a_fault_keeps_its_cause(rt: HostRuntime) -> Result<(), Fail> {
     let mut parser = Parser::new(rt.alloc(), reader, ParseConfig::<Little>::default());
     match next_record(&mut parser) {
         Err(error) => {
-            let found = (error.kind(), error.cause().is_some());
-            check!(rt; found, (ErrorKind::External, true));
+            let parts = (error.kind(), error.cause().is_some());
+            check!(rt; parts, (ErrorKind::External, true));
         }
         Ok(_) => panic!(rt; "a record of a reader that fails"),
     }

@@ -172,10 +172,10 @@ impl Write for Limited {
                 Ok(0)
             };
         }
-        let taken = buf.len().min(self.limits.most).min(self.limits.room);
-        self.limits.room -= taken;
-        self.output.extend_from_slice(&buf[..taken])?;
-        Ok(taken)
+        let count = buf.len().min(self.limits.most).min(self.limits.room);
+        self.limits.room -= count;
+        self.output.extend_from_slice(&buf[..count])?;
+        Ok(count)
     }
 
     fn flush(&mut self) -> io::Result<()> {

@@ -163,8 +163,8 @@ impl Stream {
     }
 
     fn put_frame(&mut self) -> Result<(), AllocError> {
-        let (kind, needed) = self.random.kind();
-        let words = self.words(needed);
+        let (kind, count) = self.random.kind();
+        let words = self.words(count);
         let size = self.size(words.saturating_mul(8).saturating_add(8));
         let misc = self.random.short();
         self.put(&[Part::U32(kind), Part::U16(misc), Part::U16(size)])?;
@@ -176,9 +176,9 @@ impl Stream {
     }
 
     // How many numbers a frame has after its header. A sample id has at most six.
-    fn words(&mut self, needed: u16) -> u16 {
+    fn words(&mut self, count: u16) -> u16 {
         if self.is_whole {
-            needed.saturating_add(6)
+            count.saturating_add(6)
         } else {
             self.random.below(20)
         }
@@ -241,10 +241,10 @@ impl Coverage {
         }
     }
 
-    fn add_whole(&mut self, frame: Frame<'_, '_>, visited: ParseResult<&'static str>) {
+    fn add_whole(&mut self, frame: Frame<'_, '_>, answer: ParseResult<&'static str>) {
         let place = frame.header().type_.min(22) as usize;
         match self.read.get_mut(place) {
-            Some(read) if visited.is_ok() => count(read),
+            Some(read) if answer.is_ok() => count(read),
             _ => count(&mut self.refused),
         }
     }

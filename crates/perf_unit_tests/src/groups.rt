@@ -142,12 +142,12 @@ fn count_and_last() -> (usize, Option<GroupEntry>) {
 fn entries_from_both_ends(rt: HostRuntime) {
     let group = five();
     let mut entries = group.entries();
-    let taken = [entries.nth(1), entries.next_back(), entries.nth_back(1)];
+    let items = [entries.nth(1), entries.next_back(), entries.nth_back(1)];
     let left = entries.len();
     let after = [entries.next(), entries.next_back()];
     check_debug(
         &rt,
-        &(taken, left, after, count_and_last()),
+        &(items, left, after, count_and_last()),
         "([Some(GroupEntry { value: 2, id: None, lost: None }), \
             Some(GroupEntry { value: 5, id: None, lost: None }), \
             Some(GroupEntry { value: 3, id: None, lost: None })], 0, [None, None], \

@@ -11,10 +11,10 @@ use std::process::Abort;
 fn check_line(
     rt: &(impl AllocGlobal + Abort),
     report: Report,
-    found: ParseResult<Record<'_>>,
+    answer: ParseResult<Record<'_>>,
     want: &str,
 ) {
-    let Ok(record) = found else {
+    let Ok(record) = answer else {
         panic!(rt; "no record");
     };
     let line = match report {
@@ -93,8 +93,8 @@ fn other_records_have_no_line(rt: HostRuntime) {
 #[test]
 fn absent_fields_are_dashes(rt: HostRuntime) {
     let sample = Sample::from_fields(SampleFields::default());
-    let found = Record::from_sample(rt.alloc(), sample);
-    check_line(&rt, Report::Samples, found, "- - -/- - - -: -");
+    let answer = Record::from_sample(rt.alloc(), sample);
+    check_line(&rt, Report::Samples, answer, "- - -/- - - -: -");
 }
 
 // Addresses of the hypervisor, which has no word here, of the kernel, and of the program.
@@ -117,6 +117,6 @@ fn marks_of_a_call_chain_are_words(rt: HostRuntime) {
     fields.callchain = Some(CowSlice::Borrowed(CHAIN.as_slice()));
     let want = "- 3 4294967295/2 - - 0x10: 0xffffffffffffffe0 kernel 0x10 user 0x0 \
         0xffffffffffffffff";
-    let found = Record::from_sample(rt.alloc(), Sample::from_fields(fields));
-    check_line(&rt, Report::Samples, found, want);
+    let answer = Record::from_sample(rt.alloc(), Sample::from_fields(fields));
+    check_line(&rt, Report::Samples, answer, want);
 }

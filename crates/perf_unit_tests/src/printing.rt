@@ -32,8 +32,8 @@ const CHAINS: &[u8] =
 
 // Marks a byte in a log.
 fn note(log: &Cell<u64>, mark: u64, byte: u8) {
-    let noted = log.get().rotate_left(7).wrapping_mul(mark);
-    log.set(noted.wrapping_add(u64::from(byte)));
+    let digest = log.get().rotate_left(7).wrapping_mul(mark);
+    log.set(digest.wrapping_add(u64::from(byte)));
 }
 
 // Gives bytes, at most `most` at a time, and then ends, or fails with each read. A batch begins
@@ -98,8 +98,8 @@ fn batches_of(alloc: Global, bytes: &[u8]) -> Result<Vec<usize>, AllocError> {
 // Appends a COMM record of process 1 and thread 2, whose name is padded to a multiple of eight
 // bytes.
 fn push_named(bytes: &mut Vec<u8>, name: &[u8]) -> Result<(), AllocError> {
-    let padded = (name.len() / 8).saturating_add(1).saturating_mul(8);
-    let size = u16::try_from(padded.saturating_add(16)).unwrap_or(u16::MAX);
+    let len = (name.len() / 8).saturating_add(1).saturating_mul(8);
+    let size = u16::try_from(len.saturating_add(16)).unwrap_or(u16::MAX);
     let end = bytes.len().saturating_add(usize::from(size));
     bytes.extend_from_slice(b"\x03\0\0\0\0\0")?;
     bytes.extend_from_slice(&size.to_le_bytes())?;
@@ -110,7 +110,7 @@ fn push_named(bytes: &mut Vec<u8>, name: &[u8]) -> Result<(), AllocError> {
 }
 
 // An attribute, and COMM records whose names grow, with a refused record before every `refused`-th.
-fn growing(alloc: Global, count: usize, refused: usize) -> Result<Vec<u8>, AllocError> {
+fn names_that_grow(alloc: Global, count: usize, refused: usize) -> Result<Vec<u8>, AllocError> {
     let mut bytes = Vec::from_slice(alloc, &PLAIN_64)?;
     let name = [b'n'; 512];
     for i in 0..count {
@@ -397,7 +397,7 @@ fn a_write_is_of_whole_lines(rt: HostRuntime) -> Result<(), AllocError> {
 
     let input = with_chains(rt.alloc(), &[1, 8000, 0, 300])?;
     check_writes(&rt, "samples", input.as_slice(), Report::Samples, 3);
-    let input = growing(rt.alloc(), 700, 1_000)?;
+    let input = names_that_grow(rt.alloc(), 700, 1_000)?;
     let writes = writes_of(&rt, input.as_slice(), Report::Tasks);
     check_that(&rt, "names that grow", writes > 40);
     Ok(())
@@ -436,12 +436,12 @@ impl Write for Output<'_> {
         if self.room == 0 {
             return Err(io::Error::from(io::ErrorKind::Other));
         }
-        let taken = buf.len().min(self.room);
-        self.room -= taken;
-        for byte in &buf[..taken] {
+        let count = buf.len().min(self.room);
+        self.room -= count;
+        for byte in &buf[..count] {
             note(self.log, self.mark, *byte);
         }
-        Ok(taken)
+        Ok(count)
     }
 
     fn flush(&mut self) -> io::Result<()> {
@@ -514,7 +514,7 @@ struct Case<'a> {
 fn outcome_of(
     alloc: Global,
     case: Case<'_>,
-    gathered: bool,
+    in_batches: bool,
 ) -> Result<(u64, usize, usize, String), AllocError> {
     let log = Cell::new(1);
     let batches = batches_of(alloc, case.bytes)?;
@@ -535,7 +535,7 @@ fn outcome_of(
         mark: 5,
         room: case.errors,
     };
-    let outcome = if gathered {
+    let outcome = if in_batches {
         print_recording(alloc, input, &mut output, &mut errors, case.report)
     } else {
         print_by_lines(alloc, input, &mut output, &mut errors, case.report)
@@ -552,9 +552,14 @@ fn outcome_of(
 // the same order, on both outputs, before the same batch is read, also if one fails, and with the
 // same error.
 fn check_gathered(rt: &(impl AllocGlobal + Abort), case: Case<'_>) -> Result<(), AllocError> {
-    let gathered = outcome_of(rt.alloc(), case, true)?;
+    let in_batches = outcome_of(rt.alloc(), case, true)?;
     let by_lines = outcome_of(rt.alloc(), case, false)?;
-    let actual = (gathered.0, gathered.1, gathered.2, gathered.3.as_str());
+    let actual = (
+        in_batches.0,
+        in_batches.1,
+        in_batches.2,
+        in_batches.3.as_str(),
+    );
     let want = (by_lines.0, by_lines.1, by_lines.2, by_lines.3.as_str());
     check_same(rt, "what goes out", actual, want);
     Ok(())
@@ -600,7 +605,7 @@ fn check_orders(
 fn lines_go_out_in_order(rt: HostRuntime) -> Result<(), AllocError> {
     for count in [0, 1, 300, 700] {
         for refused in [7, 1_000] {
-            let input = growing(rt.alloc(), count, refused)?;
+            let input = names_that_grow(rt.alloc(), count, refused)?;
             check_orders(&rt, input.as_slice(), Report::Tasks)?;
         }
     }

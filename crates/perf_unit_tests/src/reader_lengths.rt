@@ -36,17 +36,17 @@ fn check_piece(rt: &(impl AllocGlobal + Abort), bytes: &[u8], with_attr: bool, p
         bytes,
         longest: &longest,
     };
-    let mut written = Vec::new(rt.alloc());
+    let mut output = Vec::new(rt.alloc());
     let end = run(
         rt.alloc(),
         reader,
-        &mut written,
+        &mut output,
         Little,
         10,
         with_attr,
         piece,
     );
-    let actual = (written.as_slice(), end, longest.get());
+    let actual = (output.as_slice(), end, longest.get());
     let want = (TEXT.as_bytes(), Outcome::Clean, piece);
     check_same(rt, "what is written, and the longest piece", actual, want);
 }

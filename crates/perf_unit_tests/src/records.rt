@@ -88,8 +88,8 @@ fn owned_items_are_cut_and_split(rt: HostRuntime) {
 }
 
 // Whether two values are equal, and whether their hashes are.
-fn alike(compared: Compared) -> [bool; 2] {
-    [compared.equal, compared.first_hash == compared.second_hash]
+fn alike(both: Compared) -> [bool; 2] {
+    [both.equal, both.first_hash == both.second_hash]
 }
 
 // How byte orders and kinds of errors compare.

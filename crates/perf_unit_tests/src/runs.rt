@@ -77,18 +77,18 @@ pub fn check_run<R: Read + Copy, E: Endian + Copy>(
 ) {
     for piece in [1usize, 7, 8192] {
         let (limit, with_attr) = (case.limit, case.with_attr);
-        let mut written = Vec::new(rt.alloc());
+        let mut output = Vec::new(rt.alloc());
         let piece = piece.max(1);
         let end = run(
             rt.alloc(),
             reader,
-            &mut written,
+            &mut output,
             order,
             limit,
             with_attr,
             piece,
         );
         let want = (case.text.as_bytes(), case.outcome);
-        check_same(rt, "what is written", (written.as_slice(), end), want);
+        check_same(rt, "what is written", (output.as_slice(), end), want);
     }
 }

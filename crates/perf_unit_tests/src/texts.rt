@@ -78,8 +78,8 @@ fn a_line_has_no_line_feed(rt: HostRuntime) -> ParseResult<()> {
         misc: 0,
         size: 16,
     };
-    let found = Ok(Record::LostSamples(LostSamples { lost: 5 }));
-    let line = text_of_line(rt.alloc(), 0, header, found)?;
+    let answer = Ok(Record::LostSamples(LostSamples { lost: 5 }));
+    let line = text_of_line(rt.alloc(), 0, header, answer)?;
     check_same(
         &rt,
         "the line",
@@ -113,8 +113,8 @@ fn each_kind_has_its_name(rt: HostRuntime) -> ParseResult<()> {
             misc: 2,
             size: 3,
         };
-        let refused = Err(ParseError::custom(kind, "why"));
-        let line = text_of_line(rt.alloc(), 7, header, refused)?;
+        let answer = Err(ParseError::custom(kind, "why"));
+        let line = text_of_line(rt.alloc(), 7, header, answer)?;
         check_same(&rt, "the line", line.as_str(), text);
     }
     Ok(())

@@ -132,21 +132,21 @@ fn write_metadata(
     frame: &Frame<'_, '_>,
 ) -> Result<(), AllocError> {
     match frame.metadata(alloc, &config()) {
-        Ok(known) => write_parts(text, &known),
+        Ok(metadata) => write_parts(text, &metadata),
         Err(error) => write_error(text, &error),
     }
 }
 
-fn write_parts(text: &mut String, known: &RecordMetadata) -> Result<(), AllocError> {
-    let id = known.sample_id();
-    let actual = (known.ty(), known.misc(), id.time(), id.cpu());
+fn write_parts(text: &mut String, metadata: &RecordMetadata) -> Result<(), AllocError> {
+    let id = metadata.sample_id();
+    let actual = (metadata.ty(), metadata.misc(), id.time(), id.cpu());
     write!(text, "{actual:?}")
 }
 
 // The record that a visit makes.
 fn visit_record<'p>(alloc: Global, frame: &Frame<'_, 'p>) -> ParseResult<Record<'p>> {
     match frame.visit(alloc, &config(), RecordVisitor::new(alloc)) {
-        Ok(made) => made,
+        Ok(record) => record,
         Err(error) => Err(error),
     }
 }
@@ -263,10 +263,10 @@ fn a_frame_has_single_numbers(rt: HostRuntime) {
 
 #[test]
 fn a_frame_has_its_metadata_and_its_record(rt: HostRuntime) {
-    let named = "(3, 8192, Some(23), Some(4)); \
+    let names = "(3, 8192, Some(23), Some(4)); \
         Comm(Comm { pid: 1, tid: 2, comm: Borrowed([115, 104]) });  \
         Comm(Comm { pid: 1, tid: 2, comm: Borrowed([115, 104]) }); ";
-    check_text(&rt, text_of_first(rt.alloc(), NAMED, Readings), named);
+    check_text(&rt, text_of_first(rt.alloc(), NAMED, Readings), names);
     let no_room = "InvalidRecord; InvalidRecord InvalidRecord";
     check_text(&rt, text_of_first(rt.alloc(), NO_ROOM, Readings), no_room);
 }
