@@ -1,7 +1,8 @@
 #!/bin/sh
 # Runs the tests of all faces over an archive, at the top of the repository: bindings/gate.sh [ARCHIVE]
 #
-# Without ARCHIVE it makes one over the libraries that `rt ci` proved. A line says of each test whether it
+# Without ARCHIVE it makes one by each of the kit's two compilers over the libraries that `rt ci` proved,
+# of which the second is for C and C++ alone. A line says of each test whether it
 # passed, failed or was skipped; what a test skipped, or what of it failed and the end of what it printed,
 # follows it, indented. The status is 0 if none failed. No network is needed, and nothing is left in the
 # repository.
@@ -56,16 +57,23 @@ python_face() {
     face "Python" "python3" env PERF_EVENT_DATA_SO="$shared" python3 bindings/python/test.py $perfrec
 }
 
-archive=$work/libperf_event_c.a
+mkdir "$work/llvm" || exit 2
+archive=$work/llvm/libperf_event_c.a
+second=$work/rattle/libperf_event_c.a
 if [ $# -gt 0 ]; then
     cp "$1" "$archive" || exit 2
-elif ! python3 bindings/gate_archive.py "$archive" >"$work/log" 2>&1 </dev/null; then
+elif python3 bindings/gate_archive.py "$work" >"$work/log" 2>&1 </dev/null; then
+    cat "$work/log"
+else
     echo "skipped: the faces: $(head -n 1 "$work/log")"
     tail -n +2 "$work/log"
     exit 0
 fi
 face "C and C++" "cc c++ make nm" bindings/test.sh "$archive" crates
-face "Rust" "cc cargo" bindings/rust/test.sh "$work"
+if [ -f "$second" ]; then
+    face "C and C++, over the archive of the kit's second compiler" "cc c++ make nm" bindings/test.sh "$second" crates
+fi
+face "Rust" "cc cargo" bindings/rust/test.sh "$work/llvm"
 if [ -z "$(absent cc make python3)" ]; then
     python_face
 else

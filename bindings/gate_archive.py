@@ -1,12 +1,12 @@
 #!/usr/bin/env python3
 """Makes the static library over the libraries that `rt ci` proved, at the top of the repository:
 
-    bindings/gate_archive.py ARCHIVE [llvm|rattle]
+    bindings/gate_archive.py FOLDER
 
 `rt ci` makes no archive, and `rt lib` would prove the libraries below crates/perf_event_c once more. So this asks the
-`rt` on the path for the words of that build, and builds with them: that crate alone is checked again. The compiler is
-LLVM's, or with `rattle` the kit's other one. The status is 0 if there is an archive, and 77, after a line that says
-why, if none could be made.
+`rt` on the path for the words of that build: that crate alone is checked again, and then built by each of the kit's
+two compilers, as FOLDER/llvm/libperf_event_c.a and FOLDER/rattle/libperf_event_c.a. The status is 0 if the first was
+made, and 77, after a line that says why, if none could be. A line also says if the second could not be made.
 """
 import importlib.machinery
 import importlib.util
@@ -14,6 +14,7 @@ import os
 import shutil
 import subprocess
 import sys
+import tempfile
 
 sys.dont_write_bytecode = True
 CRATE = "perf_event_c"
@@ -32,37 +33,57 @@ def load_rt():
     return made
 
 
-def words_of_build(rtlib, backend, archive):
-    """The command that builds the archive, and the folder in which it runs."""
+def crate_of(rtlib):
     top = os.getcwd()
     crate = rtlib.Crate(f"{top}/crates/{CRATE}", top, {})
     absent = [it.name for it in crate.below() if not os.path.isdir(it.rlib)]
     if absent:
         raise OSError(f"rt ci left no library of {', '.join(absent)}")
-    jobs = str(min(len(os.sched_getaffinity(0)), 2))
-    words = crate.words(["--jobs", jobs], keeps=False)
-    words += ["--toolchain", f"{rtlib.KIT}/toolchain", "--backend", backend, "-o", archive]
-    return [rtlib.RATTLE, "build", *words], crate.folder
+    return crate
 
 
-def main(archive, backend="llvm"):
-    archive = os.path.abspath(archive)
+def run(rtlib, crate, *words):
+    """Runs the kit's compiler in the folder of the crate, which must not fail."""
+    ran = subprocess.run([rtlib.RATTLE, *words], cwd=crate.folder, stdin=subprocess.DEVNULL, stdout=subprocess.PIPE,
+                         stderr=subprocess.STDOUT, text=True, errors="replace", timeout=1200)
+    if ran.returncode:
+        last = "".join(f"\n    {line}" for line in ran.stdout.splitlines()[-5:])
+        raise OSError(f"rattle {words[0]} ended with status {ran.returncode}:{last}")
+
+
+def make_archives(folder):
+    """Checks the crate, and builds it by each compiler."""
+    rtlib = load_rt()
+    crate = crate_of(rtlib)
+    words = crate.words(["--jobs", str(min(len(os.sched_getaffinity(0)), 2))], keeps=False)
+    with tempfile.TemporaryDirectory() as room:
+        run(rtlib, crate, "check", *words, "-o", f"{room}/checked")
+        # what is proved is built, and neither is checked once more
+        for flag in ("--logic-built", "--jobs"):
+            at = words.index(flag)
+            words = words[:at] + words[at + 2 :]
+        words += ["--crate-checked", f"{room}/checked", "--toolchain", f"{rtlib.KIT}/toolchain"]
+        for backend in ("llvm", "rattle"):
+            os.makedirs(f"{folder}/{backend}", exist_ok=True)
+            try:
+                run(rtlib, crate, "build", *words, "--backend", backend, "-o", f"{folder}/{backend}/lib{CRATE}.a")
+            except OSError as why:
+                if backend == "llvm":
+                    raise
+                print(f"no archive by the kit's second compiler: {why}")
+
+
+def main(folder):
     try:
-        words, folder = words_of_build(load_rt(), backend, archive)
-        ran = subprocess.run(words, cwd=folder, stdin=subprocess.DEVNULL, stdout=subprocess.PIPE,
-                             stderr=subprocess.STDOUT, text=True, errors="replace", timeout=900)
+        make_archives(os.path.abspath(folder))
     except (Exception, SystemExit) as why:  # an rt of another kit may differ in anything
         print(f"no archive of {CRATE}: {why}")
-        return 77
-    if ran.returncode or not os.path.isfile(archive):
-        print(f"no archive of {CRATE}: rattle build ended with status {ran.returncode}:")
-        print("".join(f"    {line}\n" for line in ran.stdout.splitlines()[-5:]), end="")
         return 77
     return 0
 
 
 if __name__ == "__main__":
-    if len(sys.argv) not in (2, 3) or sys.argv[2:] not in ([], ["llvm"], ["rattle"]):
+    if len(sys.argv) != 2:
         print(__doc__, file=sys.stderr)
         sys.exit(2)
-    sys.exit(main(*sys.argv[1:]))
+    sys.exit(main(sys.argv[1]))

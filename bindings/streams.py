@@ -233,7 +233,7 @@ def piece_of(maker, recording):
 
 
 def stream_of(maker, recordings):
-    """A stream, and the words of `perfrec` by which it is read."""
+    """A stream, and the words of `perfrec` by which it is read, with a limit."""
     if maker.is_one_in(3):
         stream, start = piece_of(maker, maker.random.choice(recordings))
         words = ["little", "attr"]
@@ -249,14 +249,12 @@ def stream_of(maker, recordings):
         stream = maker.mutate(stream, start)
     if words[0] == "little" and maker.is_one_in(4):
         words[0] = "native"
-    if maker.is_one_in(8):
-        words.insert(1, str(maker.random.choice([0, 1, 3, NO_LIMIT])))
-    return stream, words
+    limit = maker.random.choice([0, 1, 3]) if maker.is_one_in(8) else NO_LIMIT
+    return stream, [words[0], str(limit), *words[1:]]
 
 
 def write_case(name, stream, words):
-    limit = next((int(word) for word in words if word.isdigit()), NO_LIMIT)
-    text, status = page.text(stream, "big" if words[0] == "big" else "little", limit, "attr" in words)
+    text, status = page.text(stream, "big" if words[0] == "big" else "little", int(words[1]), "attr" in words)
     print("case", name)
     print("bytes", stream.hex())
     print("perfrec", *words)
@@ -270,7 +268,7 @@ def write_list(seed, count):
             recordings.append(file.read())
     for index in range(count):
         if index < len(recordings):
-            write_case(RECORDINGS[index], recordings[index], ["little", "attr"])
+            write_case(RECORDINGS[index], recordings[index], ["little", str(NO_LIMIT), "attr"])
         else:
             write_case(f"seed_{seed}_{index}", *stream_of(Maker(f"{seed}/{index}"), recordings))
 
@@ -307,10 +305,10 @@ def compare_counts(file, program):
     with open(file, encoding="ascii") as lines:
         cases = re.findall(r"^bytes (.*)\nperfrec (.*)\n= (.*)$", lines.read(), re.M)
     for digits, words, text in cases:
-        is_limited = any(word.isdigit() for word in words.split())
-        if is_limited or text.startswith("attr refused"):
+        order, limit, *attr = words.split()
+        if int(limit) != NO_LIMIT or text.startswith("attr refused"):
             continue
-        ran = subprocess.run([*program, *words.split()], input=bytes.fromhex(digits), stdout=subprocess.PIPE, stderr=subprocess.DEVNULL)
+        ran = subprocess.run([*program, order, *attr], input=bytes.fromhex(digits), stdout=subprocess.PIPE, stderr=subprocess.DEVNULL)
         found, wanted = (ran.stdout.decode(), ran.returncode), counts_of(text)
         runs += 1
         if found != wanted:
