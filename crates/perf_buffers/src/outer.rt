@@ -21,7 +21,7 @@ use perf_base::refusal::{Kept, ReadResult, Refusal};
 use std::alloc::Global;
 
 // The size of a small frame in bytes.
-const SMALL_FRAME: usize = 32;
+const SMALL_FRAME: usize = 16;
 
 /// A buffer, the error of its last fault, and space for a frame that no chunk contains in full.
 #[derive(Drop)]
@@ -88,8 +88,9 @@ impl<'p, B: ParseBuf<'p>> Outer<B> {
         Ok(Some(front))
     }
 
-    /// How many frames begin in the bytes of the next chunk, at most `most`: they are counted, or
-    /// estimated as if all frames were small. Nothing is taken.
+    /// How many frames begin in the bytes of the next chunk, at most `most`: estimated as if all
+    /// frames were small, or counted, if that is wanted and the estimate is less than `most`.
+    /// Nothing is taken.
     #[inline]
     pub fn frames_shown<E: Endian>(
         &mut self,
@@ -107,8 +108,14 @@ impl<'p, B: ParseBuf<'p>> Outer<B> {
         ensures err { IfErr result (λ e. Refuses (B.source self.old.buf) (refusal_kind e)) }
     {
         match self.buf.chunk() {
-            Ok(chunk) if counted => Ok(frames_in(endian, chunk.as_bytes(), most)),
-            Ok(chunk) => Ok(most.min(chunk.as_bytes().len() / SMALL_FRAME)),
+            Ok(chunk) => {
+                let bytes = chunk.as_bytes();
+                let small = bytes.len() / SMALL_FRAME;
+                if counted && small < most {
+                    return Ok(frames_in(endian, bytes, most));
+                }
+                Ok(most.min(small))
+            }
             Err(error) => Err(self.kept.keep(error)),
         }
     }

@@ -144,8 +144,8 @@ fn list_answer<'p, B: ParseBuf<'p>, E: Endian>(
     }
 }
 
-// Lists a sample in capacity that was reserved. It is not inlined, for the same reason.
-#[inline(never)]
+// Lists a sample in capacity that was reserved.
+#[inline(always)]
 fn list_boxed<'p>(
     frames: &mut Vec<(perf_event_header, ParseResult<Record<'p>>)>,
     header: perf_event_header,
@@ -221,9 +221,9 @@ fn grow<'p>(
 }
 
 // Reserves capacity for the next answer, if there is none, before anything of its frame is taken.
-// It follows what the buffer shows: at first it is for the frames of its chunk, and then for as
-// many as there would be if they were small. If the buffer shows nothing, the run ends and nothing
-// is allocated.
+// It follows what the buffer shows: it is for as many frames as its chunk would have if they were
+// small, but at first, if that is less than the limit, for those that it has. If the buffer shows
+// nothing, the run ends and nothing is allocated.
 #[inline]
 fn make_room<'p, B: ParseBuf<'p>, E: Endian>(
     reader: &mut Reader<Outer<B>, E>,

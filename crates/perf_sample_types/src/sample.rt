@@ -452,10 +452,10 @@ pub fn clear_sample(sample: &mut Sample)
     sample.memory.clear();
 }
 
-/// Reads the fields of a sample into an empty one, in place: a sample is large. It is not inlined,
-/// so that the fields do not become locals of the caller, each of which would be moved once more.
-#[inline(never)]
-pub fn fill_sample<'p, I: Input<'p>, E: Endian>(
+// Reads the fields of a sample into an empty one, in place. It is inlined into the function that
+// allocates a sample's box.
+#[inline(always)]
+pub(crate) fn fill_fields<'p, I: Input<'p>, E: Endian>(
     sample: &mut Sample<'p>,
     reader: &mut Reader<I, E>,
 ) -> ReadResult<()>
@@ -484,6 +484,21 @@ pub fn fill_sample<'p, I: Input<'p>, E: Endian>(
         Ok(()) => Ok(()),
         Err(refusal) => Err(refusal),
     }
+}
+
+/// Reads the fields of a sample into an empty one, in place: a sample is large. It is not inlined,
+/// so that the fields do not become locals of the caller, each of which would be moved once more.
+#[inline(never)]
+pub fn fill_sample<'p, I: Input<'p>, E: Endian>(
+    sample: &mut Sample<'p>,
+    reader: &mut Reader<I, E>,
+) -> ReadResult<()>
+    requires { sample.old ≡ no_sample }
+    ensures call { Call I.source E.order
+        (ReadsBorrowed samples.sample samples.sample_value samples.IsBorrowedSample)
+        reader.old (fill_result (kinds result) sample.new) reader.new }
+{
+    fill_fields(sample, reader)
 }
 
 /// Reads a sample into the place of an existing one, whatever its contents, for callers that read

@@ -11,7 +11,7 @@ ghost use Rattle.perf_sample_types.specs.SampleGroups as groups;
 ghost use Rattle.perf_sample_types.specs.SampleWords as samples;
 ghost use Rattle.perf_sample_types.specs.SampleWords.{Call, ReadsBorrowed, ReadsTable, kinds};
 
-use crate::sample::{Sample, empty_sample, fill_sample, least_len};
+use crate::sample::{Sample, empty_sample, fill_fields, least_len};
 use crate::sample_groups::{Costs, Counts, Memory, Moment, State};
 use perf_base::endian::Endian;
 use perf_base::refusal::{ReadResult, Refusal};
@@ -124,7 +124,7 @@ fn refuse_sample<'p, I: Input<'p>, E: Endian>(reader: &mut Reader<I, E>) -> Refu
 
 /// Reads a sample, which is large, into a box. If the input reports fewer bytes than such a sample
 /// needs at least, its layout refuses it, and no box is allocated.
-#[inline(never)]
+#[inline(always)]
 pub fn read_boxed_sample<'p, I: Input<'p>, E: Endian>(
     reader: &mut Reader<I, E>,
 ) -> ReadResult<Box<Sample<'p>>>
@@ -145,7 +145,7 @@ pub fn read_boxed_sample<'p, I: Input<'p>, E: Endian>(
             return Err(refuse_sample(reader));
         }
     };
-    match fill_sample(&mut content, reader) {
+    match fill_fields(&mut content, reader) {
         Ok(()) => Ok(content),
         Err(refusal) => {
             drop(content);

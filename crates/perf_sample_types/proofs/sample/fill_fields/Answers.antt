@@ -1,7 +1,7 @@
 use Rattle.std.proofs.Common.{refl, subst, sym}
 use Rattle.std.specs.Prelude.{IsTrue}
 use Rattle.perf_sample_types.proofs.GroupRuns.{group_after, group_stops, groups_give, of_groups}
-use Rattle.perf_sample_types.proofs.sample.fill_sample.Goals as goal
+use Rattle.perf_sample_types.proofs.sample.fill_fields.Goals as goal
 
 pub returns-in-Err : goal.returns-in-Err
 returns-in-Err g c =
