@@ -1,7 +1,7 @@
 -- Layouts of attributes, names and packed words, computed.
 use Rattle.std.proofs.Common.{◌≡◌, ℕ, zero, suc, ◌+◌, ◌-◌, ◌*◌, ◌^◌, List, [], ◌∷◌, ◌++◌, Ok, Err, refl, true, false}
 use Rattle.perf_base.specs.Order.{little}
-use Rattle.perf_base.specs.Layout.{layout, ending, mapped}
+use Rattle.perf_base.specs.Layout.{layout, ending, map_parts}
 use Rattle.perf_base.specs.Attribute.{attribute}
 use Rattle.perf_base.specs.Configuration.{unpack, kept_read_format}
 use Rattle.perf_base.specs.Zeros.{trim_zeros}
@@ -17,14 +17,14 @@ sized n = 0 ∷ 0 ∷ 0 ∷ 0 ∷ n ∷ 0 ∷ 0 ∷ 0 ∷ []
 
 -- ---- attributes
 
-sixty_four_bytes : layout little (mapped (λ a. a.size ∷ a.config3 ∷ []) attribute) (sized 64 ++ zeros 56) ≡ Ok (64 ∷ 0 ∷ [])
+sixty_four_bytes : layout little (map_parts (λ a. a.size ∷ a.config3 ∷ []) attribute) (sized 64 ++ zeros 56) ≡ Ok (64 ∷ 0 ∷ [])
 sixty_four_bytes = refl
 
 sixty_four_end : ending little (sized 64 ++ zeros 100) 0 attribute ≡ 64
 sixty_four_end = refl
 
 config2_is_after_the_first_sixty_four :
-    layout little (mapped (λ a. a.config2 ∷ a.branch_sample_type ∷ []) attribute) (sized 72 ++ zeros 56 ++ 7 ∷ zeros 7) ≡ Ok (7 ∷ 0 ∷ [])
+    layout little (map_parts (λ a. a.config2 ∷ a.branch_sample_type ∷ []) attribute) (sized 72 ++ zeros 56 ++ 7 ∷ zeros 7) ≡ Ok (7 ∷ 0 ∷ [])
 config2_is_after_the_first_sixty_four = refl
 
 one_byte_short : layout little attribute (sized 72 ++ zeros 63) ≡ Err Eof
@@ -40,11 +40,11 @@ after_eighty =
     ++ (5 ∷ zeros 3) ++ (6 ∷ 0 ∷ []) ++ (9 ∷ 9 ∷ []) ++ (7 ∷ zeros 3) ++ (9 ∷ 9 ∷ 9 ∷ 9 ∷ []) ++ (8 ∷ zeros 7) ++ (10 ∷ zeros 7)
 
 all_fields_after_eighty :
-    layout little (mapped (λ a. a.branch_sample_type ∷ a.sample_regs_user ∷ a.sample_stack_user ∷ a.sample_regs_intr ∷ a.aux_watermark ∷ a.sample_max_stack ∷ a.aux_sample_size ∷ a.sig_data ∷ a.config3 ∷ []) attribute)
+    layout little (map_parts (λ a. a.branch_sample_type ∷ a.sample_regs_user ∷ a.sample_stack_user ∷ a.sample_regs_intr ∷ a.aux_watermark ∷ a.sample_max_stack ∷ a.aux_sample_size ∷ a.sig_data ∷ a.config3 ∷ []) attribute)
     (sized 136 ++ zeros 64 ++ after_eighty) ≡ Ok (1 ∷ 2 ∷ 3 ∷ 4 ∷ 5 ∷ 6 ∷ 7 ∷ 8 ∷ 10 ∷ [])
 all_fields_after_eighty = refl
 
-a_newer_kernels_zero : layout little (mapped (λ a. a.size) attribute) (sized 137 ++ zeros 129) ≡ Ok 137
+a_newer_kernels_zero : layout little (map_parts (λ a. a.size) attribute) (sized 137 ++ zeros 129) ≡ Ok 137
 a_newer_kernels_zero = refl
 
 a_newer_kernels_field : layout little attribute (sized 137 ++ zeros 128 ++ 1 ∷ []) ≡ Err UnsupportedData

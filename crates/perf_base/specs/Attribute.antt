@@ -4,7 +4,7 @@ use Rattle.std.specs.Prelude.{ℕ, pos, ◌-◌, Bool, ◌==◌, ◌||◌, nat_l
 use Rattle.std.specs.Option.{unwrap_or}
 use Rattle.std.specs.Int.{w32, cast_signed}
 use Rattle.perf_base.specs.Layout.{Parts, done, ◌>>=◌, ◌>>◌}
-use Rattle.perf_base.specs.FieldWords.{u32, u64, u16_if, u32_if, u64_if, ignored_if, bytes, require}
+use Rattle.perf_base.specs.FieldWords.{u32, u64, u16_if, u32_if, u64_if, gap_if, bytes, require}
 use Rattle.perf_base.specs.Zeros.{all_zero}
 use Rattle.perf_base.specs.declared.sys.perf_event_attr.{perf_event_attr}
 use Rattle.perf_base.specs.declared.error.ErrorKind.TheVariants.{InvalidRecord, UnsupportedData}
@@ -74,9 +74,9 @@ attribute = do
   sample_regs_intr ← u64_if (nat_le 104 size)
   aux_watermark ← u32_if (nat_le 112 size)
   sample_max_stack ← u16_if (nat_le 112 size)
-  ignored_if (nat_le 112 size) 2
+  gap_if (nat_le 112 size) 2
   aux_sample_size ← u32_if (nat_le 120 size)
-  ignored_if (nat_le 120 size) 4
+  gap_if (nat_le 120 size) 4
   sig_data ← u64_if (nat_le 128 size)
   config3 ← u64_if (nat_le 136 size)
   zero_tail (size - 136)

@@ -2,7 +2,7 @@
 -- page.
 use Rattle.std.specs.Prelude.{ℕ, Bool, List, Option, if◌then◌else◌}
 use Rattle.perf_base.specs.Layout.{w1, w2, w4, w8, number, optional, byte_string, words, padding, rest}
-use Rattle.perf_base.specs.Layout.{Parts, done, part, check, mapped}
+use Rattle.perf_base.specs.Layout.{Parts, done, part, check, map_parts}
 use Rattle.perf_base.specs.Zeros.{trim_zeros}
 use Rattle.perf_base.specs.declared.error.ErrorKind.{ErrorKind}
 
@@ -43,12 +43,12 @@ abbrev pub numbers : ℕ → Parts (List ℕ)
 numbers n = part (words n) done
 
 -- n bytes without a meaning
-abbrev pub ignored : ℕ → Parts (Unit {0})
-ignored n = part (padding n) done
+abbrev pub gap : ℕ → Parts (Unit {0})
+gap n = part (padding n) done
 
 -- n optional bytes without a meaning
-abbrev pub ignored_if : Bool → ℕ → Parts (Unit {0})
-ignored_if present n = ignored (if present then n else 0)
+abbrev pub gap_if : Bool → ℕ → Parts (Unit {0})
+gap_if present n = gap (if present then n else 0)
 
 -- all remaining bytes
 abbrev pub all_left : Parts (List ℕ)
@@ -56,7 +56,7 @@ all_left = part rest done
 
 -- a name: all remaining bytes, without the zero bytes at the end
 abbrev pub name : Parts (List ℕ)
-name = mapped trim_zeros all_left
+name = map_parts trim_zeros all_left
 
 -- a check, which refuses with its kind if it is false
 abbrev pub require : Bool → ErrorKind → Parts (Unit {0})

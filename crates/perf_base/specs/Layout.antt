@@ -99,8 +99,8 @@ abbrev pub ◌>>◌ : {A B : Type 0} → Parts A → Parts B → Parts B
 p >> q = p >>= λ _. q
 
 -- the same parts, with f applied to their value
-abbrev pub mapped : {A B : Type 0} → (A → B) → Parts A → Parts B
-mapped f p = p >>= λ v. done (f v)
+abbrev pub map_parts : {A B : Type 0} → (A → B) → Parts A → Parts B
+map_parts f p = p >>= λ v. done (f v)
 
 -- ---- offsets
 

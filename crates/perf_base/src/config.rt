@@ -144,9 +144,9 @@ impl<E> ParseConfig<E> {
     {
         let below = self.word % (1 << SAMPLE_TYPE_AT);
         let above = self.word >> SAMPLE_ID_ALL_AT;
-        let kept = sample_type.bits() % (1 << SAMPLE_TYPE_BITS);
+        let low_bits = sample_type.bits() % (1 << SAMPLE_TYPE_BITS);
         ParseConfig {
-            word: below + (kept << SAMPLE_TYPE_AT) + (above << SAMPLE_ID_ALL_AT),
+            word: below + (low_bits << SAMPLE_TYPE_AT) + (above << SAMPLE_ID_ALL_AT),
             regs_user: self.regs_user,
             regs_intr: self.regs_intr,
             endian: self.endian,

@@ -5,7 +5,7 @@ use Rattle.std.specs.Prelude.{Option, None, Some, Result, Ok, Err, IfErr, Bool, 
 use Rattle.perf_base.specs.declared.error.ErrorKind.{ErrorKind}
 use Rattle.perf_base.specs.declared.error.ErrorKind.TheVariants.{Eof, InvalidRecord, UnsupportedConfig, UnsupportedData, External, OutOfMemory}
 use Rattle.perf_buffers.specs.Buffer.{Source, faults_after}
-use Rattle.perf_buffers.specs.Room.{falls_short, is_made_beforehand, makes_all_room, room_made}
+use Rattle.perf_buffers.specs.Room.{falls_short, is_made_beforehand, makes_all_room, first_capacity}
 use Rattle.perf_buffers.specs.Taking.{Moves, MovesWithin, Takes, FailsToTake, FailsToKeep, FailsInRest, FailsAfter, CanFail, bytes_between}
 use Rattle.perf_buffers.proofs.Chunks.{within_none}
 use Rattle.perf_buffers.proofs.Taking.{takes_moves, moves_more}
@@ -109,7 +109,7 @@ all_room None len made = made
 all_room (Some left) len made = refl
 
 -- all capacity is as much as requested
-pub made_room : (hinted : Bool) (len : ℕ) → makes_all_room hinted len ≡ true → room_made hinted len ≡ len
+pub made_room : (hinted : Bool) (len : ℕ) → makes_all_room hinted len ≡ true → first_capacity hinted len ≡ len
 made_room true len made = refl
 made_room false len made = grind (arith, nat_tests)
 

@@ -8,15 +8,15 @@ use Rattle.perf_base.specs.contracts.error.ErrorKind.{the_type}
 use Rattle.perf_base.specs.declared.error.ErrorKind.{ErrorKind}
 use Rattle.perf_base.specs.declared.error.ErrorKind.TheVariants.{Eof, InvalidRecord, UnsupportedConfig, UnsupportedData, External, OutOfMemory}
 use Rattle.perf_base.specs.declared.error.ParseError.{ParseError}
-use Rattle.perf_buffers.specs.Buffer.{Source, Stays, Refuses, KeepsChunk, Shows, Advances, chunk_bytes, faults_after}
+use Rattle.perf_buffers.specs.Buffer.{Source, BufferInvariant, Refuses, KeepsChunk, Shows, Advances, chunk_bytes, faults_after}
 use Rattle.perf_buffers.specs.Taking.{Moves, MovesWithin, Takes, FailsToTake, FailsToKeep, FailsInRest, CanFail, bytes_between}
 use Rattle.perf_buffers.specs.declared.parsebuf.ParseBufChunk.{ParseBufChunk}
 
 -- calls that were not refused, and then another call
-pub stays_then : (a b c : Source) (e : Option ErrorKind) → Stays a None b → Stays b e c → Stays a e c
+pub stays_then : (a b c : Source) (e : Option ErrorKind) → BufferInvariant a None b → BufferInvariant b e c → BufferInvariant a e c
 stays_then a b c e p q = (q.0 ∙ p.0, (λ x. p.1 (q.1 x)), q.2 ∙ ap (λ n. faults_after n e) p.2, (λ t. q.3 (p.3 t)))
 
-pub can_fail_then : (a b : Source) (e : Option ErrorKind) → Stays a None b → CanFail b e → CanFail a e
+pub can_fail_then : (a b : Source) (e : Option ErrorKind) → BufferInvariant a None b → CanFail b e → CanFail a e
 can_fail_then a b None p q = tt
 can_fail_then a b (Some Eof) p q = tt
 can_fail_then a b (Some InvalidRecord) p q = tt
@@ -44,7 +44,7 @@ within_none a b n same =
 
 -- what a refused chunk means for a read of n bytes
 pub record Refused (a : Source) (n : ℕ) (k : ErrorKind) (b : Source) : Type 0 where
-  pub stays : Stays a (Some k) b
+  pub stays : BufferInvariant a (Some k) b
   pub can_fail : CanFail a (Some k)
   pub memory : k ≢ OutOfMemory
   pub same : IsTrue a.told → b.left ≡ a.left
@@ -52,7 +52,7 @@ pub record Refused (a : Source) (n : ℕ) (k : ErrorKind) (b : Source) : Type 0 
   pub keeps : IsTrue a.told → FailsToKeep a n k b
   pub rest : k ≢ Eof → IsTrue a.told → FailsInRest a k b
 
-pub refused : (a b : Source) (n : ℕ) (k : ErrorKind) → 0 < n → Refuses a k → Stays a (Some k) b → (IsTrue a.told → b.left ≡ a.left) → Refused a n k b
+pub refused : (a b : Source) (n : ℕ) (k : ErrorKind) → 0 < n → Refuses a k → BufferInvariant a (Some k) b → (IsTrue a.told → b.left ≡ a.left) → Refused a n k b
 refused a b n Eof some why stays same =
     let short : IsTrue a.told → length a.left < n = λ t. let none : length a.left ≡ 0 = ap length (why t) in omega arith in record {
       stays = stays;
@@ -85,7 +85,7 @@ refused_chunk a b ready n r e some why is kept =
 
 -- what a shown chunk means
 pub record Shown (a : Source) (c : ParseBufChunk) (ready : List ℕ) (b : Source) : Type 0 where
-  pub stays : Stays a None b
+  pub stays : BufferInvariant a None b
   pub same : IsTrue a.told → b.left ≡ a.left
   pub ready_is : ready ≡ chunk_bytes c
   pub shows : Shows a c
@@ -105,7 +105,7 @@ shown_chunk a b ready r c shows is kept =
 
 -- n bytes of it were taken
 pub record Taken (a : Source) (bytes : List ℕ) (n : ℕ) (b : Source) : Type 0 where
-  pub stays : Stays a None b
+  pub stays : BufferInvariant a None b
   pub takes : IsTrue a.told → Takes a n b
   pub same : IsTrue a.told → take n bytes ≡ take n a.left
 
@@ -130,12 +130,12 @@ room_was_short (Err e) len part n room failed fits within there = let never = fi
 
 -- the allocation failed, and nothing was taken
 pub record Starved (a : Source) (n : ℕ) (k : ErrorKind) (b : Source) : Type 0 where
-  pub stays : Stays a (Some k) b
+  pub stays : BufferInvariant a (Some k) b
   pub can_fail : CanFail a (Some k)
   pub same : IsTrue a.told → b.left ≡ a.left
   pub keeps : IsTrue a.told → FailsToKeep a n k b
 
-pub memory_refused : (a b : Source) (n : ℕ) (e : ParseError) → kind_of e ≡ OutOfMemory → Stays a None b → (IsTrue a.told → b.left ≡ a.left) → Starved a n (kind_of e) b
+pub memory_refused : (a b : Source) (n : ℕ) (e : ParseError) → kind_of e ≡ OutOfMemory → BufferInvariant a None b → (IsTrue a.told → b.left ≡ a.left) → Starved a n (kind_of e) b
 memory_refused a b n e kind stays same =
     subst (λ k. Starved a n k b) (sym kind) (record { stays = stays; can_fail = tt; same = same; keeps = λ t. within_none a b n (same t) })
 
@@ -154,14 +154,14 @@ is_not_eof e k b p q r h = same_false the_type k Eof (sym q ∙ r) (p ∙ h)
 
 -- what the end means for a read that goes on
 pub record Ended (a b : Source) : Type 0 where
-  pub stays : Stays a None b
+  pub stays : BufferInvariant a None b
   pub same : IsTrue a.told → b.left ≡ a.left
   pub left : IsTrue a.told → a.left ≡ []
 
 pub ended_chunk : (a b : Source) (ready : List ℕ) (r : Result ParseBufChunk ParseError) (e : ParseError) → kind_of e ≡ Eof → Refuses a (kind_of e) → r ≡ Err e → KeepsChunk a r b ready → Ended a b
 ended_chunk a b ready r e eof why is kept =
     let k = subst (λ s. KeepsChunk a s b ready) is kept in record {
-      stays = subst (λ d. Stays a (Some d) b) eof k.0;
+      stays = subst (λ d. BufferInvariant a (Some d) b) eof k.0;
       same = k.1;
       left = subst (λ d. Refuses a d) eof why;
     }

@@ -85,27 +85,27 @@ faults_after n (Some OutOfMemory) = n
 
 -- What every call preserves: a whole buffer stays whole, known bytes stay known, a buffer that
 -- cannot fault never can, and faults are counted.
-abbrev pub Stays : Source → Option ErrorKind → Source → Type 0
-Stays old e new =
+abbrev pub BufferInvariant : Source → Option ErrorKind → Source → Type 0
+BufferInvariant old e new =
     (new.whole ≡ old.whole) × (IsTrue new.can_fault → IsTrue old.can_fault)
     × (new.faults ≡ faults_after old.faults e) × (IsTrue old.told → IsTrue new.told)
 
 -- `chunk` takes nothing, and the bytes that it showed are ready.
 abbrev pub KeepsChunk : Source → Result ParseBufChunk ParseError → Source → List ℕ → Type 0
 KeepsChunk old r new ready =
-    Stays old (kind_if_failed r) new × (IsTrue old.told → new.left ≡ old.left)
+    BufferInvariant old (kind_if_failed r) new × (IsTrue old.told → new.left ≡ old.left)
     × IfOk r (λ c. ready ≡ chunk_bytes c)
 
 -- `advance` takes n bytes.
 abbrev pub Advances : Source → ℕ → Source → Type 0
-Advances old n new = Stays old None new × (IsTrue old.told → new.left ≡ drop n old.left)
+Advances old n new = BufferInvariant old None new × (IsTrue old.told → new.left ≡ drop n old.left)
 
 -- ---- the bytes of a reader, if they are known
 
 -- the bytes of a reader if known, otherwise none
-abbrev pub known : Option (List ℕ) → List ℕ
-known None = []
-known (Some xs) = xs
+abbrev pub known_bytes : Option (List ℕ) → List ℕ
+known_bytes None = []
+known_bytes (Some xs) = xs
 
 -- whether they are known
 abbrev pub is_known : Option (List ℕ) → Bool
@@ -114,7 +114,7 @@ is_known (Some xs) = true
 
 -- why a reader with these bytes refuses: the end only if nothing is left
 abbrev pub RefusesReader : Option (List ℕ) → ErrorKind → Type 0
-RefusesReader old Eof = IsTrue (is_known old) → known old ≡ []
+RefusesReader old Eof = IsTrue (is_known old) → known_bytes old ≡ []
 RefusesReader old External = Unit {0}
 RefusesReader old InvalidRecord = ⊥
 RefusesReader old UnsupportedConfig = ⊥

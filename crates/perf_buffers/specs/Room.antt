@@ -19,6 +19,6 @@ makes_all_room false n = nat_le n 16384
 
 -- The capacity that is allocated first: all of it, or at most 16,384 bytes if the buffer does not
 -- report how much it has.
-abbrev pub room_made : Bool → ℕ → ℕ
-room_made true n = n
-room_made false n = min n 16384
+abbrev pub first_capacity : Bool → ℕ → ℕ
+first_capacity true n = n
+first_capacity false n = min n 16384

@@ -2,7 +2,7 @@
 
 ghost use Rattle.std.specs.Prelude.{◌≡◌, ◌-◌, ◌≤◌, ◌↔◌, true, false, None, Some, [], length};
 ghost use Rattle.std.specs.Prelude.{take, drop, IsTrue, IsOk, IfOk, IfErr, MatchOption};
-ghost use Rattle.perf_buffers.specs.Prelude.{cow_items, is_borrowed, kind_of, kind_if_failed, Stays};
+ghost use Rattle.perf_buffers.specs.Prelude.{cow_items, is_borrowed, kind_of, kind_if_failed, BufferInvariant};
 ghost use Rattle.perf_buffers.specs.Prelude.{CanFail, Takes, FailsToKeep, CallNeedsNoMemory};
 ghost use Rattle.perf_buffers.specs.Prelude as prelude;
 
@@ -169,7 +169,7 @@ impl<'p> ParseBufCursor<'p> {
         buf: &mut B,
         len: usize,
     ) -> ParseResult<ParseBufCursor<'p>>
-        ensures stays { Stays (B.source buf.old) (kind_if_failed result) (B.source buf.new) }
+        ensures stays { BufferInvariant (B.source buf.old) (kind_if_failed result) (B.source buf.new) }
         ensures can_fail { CanFail (B.source buf.old) (kind_if_failed result) }
 
         // Bytes of a whole buffer are borrowed, and zero bytes never fail: neither needs memory.
@@ -196,10 +196,10 @@ impl<'p> ParseBufCursor<'p> {
         ensures err { IsTrue (B.source buf.old).told →
             IfErr result (λ e. FailsToKeep (B.source buf.old) len (kind_of e) (B.source buf.new)) }
     {
-        let mut kept = Kept::none();
-        match cut(alloc, buf, &mut kept, len) {
+        let mut cause = Kept::none();
+        match cut(alloc, buf, &mut cause, len) {
             Ok(cursor) => Ok(cursor),
-            Err(refusal) => Err(kept.error_of(refusal)),
+            Err(refusal) => Err(cause.error_of(refusal)),
         }
     }
 }

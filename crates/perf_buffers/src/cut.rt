@@ -2,7 +2,7 @@
 
 ghost use Rattle.std.specs.Prelude.{◌≡◌, ◌≢◌, ◌<◌, ◌≤◌, true, Some, length, take};
 ghost use Rattle.std.specs.Prelude.{IsTrue, IsOk, OnOk, IfOk, IfErr, IfSome, MatchOption};
-ghost use Rattle.perf_buffers.specs.Prelude.{kind_of, refusal_kind, kind_if_refused, kinds, kind_if_failed, Stays};
+ghost use Rattle.perf_buffers.specs.Prelude.{kind_of, refusal_kind, kind_if_refused, kinds, kind_if_failed, BufferInvariant};
 ghost use Rattle.perf_buffers.specs.Prelude.{CanFail, Takes, FailsToTake, FailsToKeep};
 ghost use Rattle.perf_buffers.specs.Prelude as prelude;
 
@@ -22,11 +22,11 @@ const UNHINTED_ROOM: usize = 16384;
 fn cut_at_once<'p, B: ParseBuf<'p>>(
     alloc: Global,
     buf: &mut B,
-    kept: &mut Kept,
+    cause: &mut Kept,
     len: usize,
 ) -> ReadResult<Option<Content<'p>>>
     requires { 0 < len }
-    ensures stays { Stays (B.source buf.old) (kind_if_refused (kinds result)) (B.source buf.new) }
+    ensures stays { BufferInvariant (B.source buf.old) (kind_if_refused (kinds result)) (B.source buf.new) }
     ensures can_fail { CanFail (B.source buf.old) (kind_if_refused (kinds result)) }
     ensures whole { IsTrue (B.source buf.old).whole → IfOk result (λ o. MatchOption o
         (IsTrue (B.source buf.old).told × (length (B.source buf.old).left < len))
@@ -46,7 +46,7 @@ fn cut_at_once<'p, B: ParseBuf<'p>>(
 {
     let chunk = match buf.chunk() {
         Ok(chunk) => chunk,
-        Err(error) => return Err(kept.keep(error)),
+        Err(error) => return Err(cause.keep(error)),
     };
     if chunk.as_bytes().len() < len {
         return Ok(None);
@@ -65,7 +65,7 @@ fn cut_at_once<'p, B: ParseBuf<'p>>(
 // Takes what one chunk has, at most `len` bytes, and keeps none of them.
 fn skip_some<'p, B: ParseBuf<'p>>(buf: &mut B, len: usize) -> ParseResult<usize>
     requires { 0 < len }
-    ensures stays { Stays (B.source buf.old) (kind_if_failed result) (B.source buf.new) }
+    ensures stays { BufferInvariant (B.source buf.old) (kind_if_failed result) (B.source buf.new) }
     ensures can_fail { CanFail (B.source buf.old) (kind_if_failed result) }
     ensures memory { prelude.CallNeedsNoMemory result }
     ensures count { IfOk result (λ n. (0 < n) × (n ≤ len)) }
@@ -82,7 +82,7 @@ fn skip_some<'p, B: ParseBuf<'p>>(buf: &mut B, len: usize) -> ParseResult<usize>
 
 /// Takes `len` bytes and keeps none of them.
 pub fn skip<'p, B: ParseBuf<'p>>(buf: &mut B, len: usize) -> ParseResult<()>
-    ensures stays { Stays (B.source buf.old) (kind_if_failed result) (B.source buf.new) }
+    ensures stays { BufferInvariant (B.source buf.old) (kind_if_failed result) (B.source buf.new) }
     ensures can_fail { CanFail (B.source buf.old) (kind_if_failed result) }
     ensures memory { prelude.CallNeedsNoMemory result }
     ensures ok { IsTrue (B.source buf.old).told →
@@ -100,9 +100,9 @@ pub fn skip<'p, B: ParseBuf<'p>>(buf: &mut B, len: usize) -> ParseResult<()>
 // The refusal if fewer than `len` bytes are left. All of them are taken.
 #[cold]
 #[inline(never)]
-pub(crate) fn shortage<'p, B: ParseBuf<'p>>(buf: &mut B, kept: &mut Kept, len: usize) -> Refusal
+pub(crate) fn shortage<'p, B: ParseBuf<'p>>(buf: &mut B, cause: &mut Kept, len: usize) -> Refusal
     requires { IsTrue (B.source buf.old).told → length (B.source buf.old).left < len }
-    ensures stays { Stays (B.source buf.old) (Some (refusal_kind result)) (B.source buf.new) }
+    ensures stays { BufferInvariant (B.source buf.old) (Some (refusal_kind result)) (B.source buf.new) }
     ensures can_fail { CanFail (B.source buf.old) (Some (refusal_kind result)) }
     ensures no_memory { refusal_kind result ≢ ErrorKind.OutOfMemory }
     ensures err { IsTrue (B.source buf.old).told →
@@ -110,16 +110,20 @@ pub(crate) fn shortage<'p, B: ParseBuf<'p>>(buf: &mut B, kept: &mut Kept, len: u
 {
     match skip(buf, len) {
         Ok(()) => Refusal::Eof,
-        Err(error) => kept.keep(error),
+        Err(error) => cause.keep(error),
     }
 }
 
 // The capacity that is allocated before the first byte is taken.
 #[inline]
-fn first_room(hinted: bool, len: usize) -> usize
-    ensures { result ≡ prelude.room_made hinted len }
+fn capacity_for(has_hint: bool, len: usize) -> usize
+    ensures { result ≡ prelude.first_capacity has_hint len }
 {
-    if hinted { len } else { len.min(UNHINTED_ROOM) }
+    if has_hint {
+        len
+    } else {
+        len.min(UNHINTED_ROOM)
+    }
 }
 
 // Assembles the next `len` bytes in `bytes`, replacing its contents. Its capacity is kept.
@@ -127,11 +131,11 @@ pub(crate) fn assemble<'p, B: ParseBuf<'p>>(
     buf: &mut B,
     bytes: &mut Vec<u8>,
     len: usize,
-    hinted: bool,
+    has_hint: bool,
 ) -> ParseResult<()>
-    ensures stays { Stays (B.source buf.old) (kind_if_failed result) (B.source buf.new) }
+    ensures stays { BufferInvariant (B.source buf.old) (kind_if_failed result) (B.source buf.new) }
     ensures can_fail { CanFail (B.source buf.old) (kind_if_failed result) }
-    ensures beforehand { IsTrue (B.source buf.old).told → prelude.makes_all_room hinted len ≡ true →
+    ensures beforehand { IsTrue (B.source buf.old).told → prelude.makes_all_room has_hint len ≡ true →
         IfErr result (λ e. kind_of e ≡ ErrorKind.OutOfMemory →
         (B.source buf.new).left ≡ (B.source buf.old).left) }
     ensures count { OnOk result (length bytes.new.items ≡ len) }
@@ -142,7 +146,7 @@ pub(crate) fn assemble<'p, B: ParseBuf<'p>>(
         IfErr result (λ e. FailsToKeep (B.source buf.old) len (kind_of e) (B.source buf.new)) }
 {
     bytes.clear();
-    if bytes.reserve_exact(first_room(hinted, len)).is_err() {
+    if bytes.reserve_exact(capacity_for(has_hint, len)).is_err() {
         return Err(ParseError::out_of_memory());
     }
     match append(buf, bytes, len) {
@@ -156,11 +160,11 @@ fn copy<'p, B: ParseBuf<'p>>(
     alloc: Global,
     buf: &mut B,
     len: usize,
-    hinted: bool,
+    has_hint: bool,
 ) -> ParseResult<Vec<u8>>
-    ensures stays { Stays (B.source buf.old) (kind_if_failed result) (B.source buf.new) }
+    ensures stays { BufferInvariant (B.source buf.old) (kind_if_failed result) (B.source buf.new) }
     ensures can_fail { CanFail (B.source buf.old) (kind_if_failed result) }
-    ensures beforehand { IsTrue (B.source buf.old).told → prelude.makes_all_room hinted len ≡ true →
+    ensures beforehand { IsTrue (B.source buf.old).told → prelude.makes_all_room has_hint len ≡ true →
         IfErr result (λ e. kind_of e ≡ ErrorKind.OutOfMemory →
         (B.source buf.new).left ≡ (B.source buf.old).left) }
     ensures count { IfOk result (λ v. length v.items ≡ len) }
@@ -171,7 +175,7 @@ fn copy<'p, B: ParseBuf<'p>>(
         IfErr result (λ e. FailsToKeep (B.source buf.old) len (kind_of e) (B.source buf.new)) }
 {
     let mut bytes = Vec::new(alloc);
-    match assemble(buf, &mut bytes, len, hinted) {
+    match assemble(buf, &mut bytes, len, has_hint) {
         Ok(()) => Ok(bytes),
         Err(error) => Err(error),
     }
@@ -195,13 +199,13 @@ pub(crate) fn says_too_few(hint: Option<usize>, len: usize) -> bool
 fn cut_slowly<'p, B: ParseBuf<'p>>(
     alloc: Global,
     buf: &mut B,
-    kept: &mut Kept,
+    cause: &mut Kept,
     len: usize,
-    hinted: bool,
+    has_hint: bool,
 ) -> ReadResult<ParseBufCursor<'p>>
-    ensures stays { Stays (B.source buf.old) (kind_if_refused (kinds result)) (B.source buf.new) }
+    ensures stays { BufferInvariant (B.source buf.old) (kind_if_refused (kinds result)) (B.source buf.new) }
     ensures can_fail { CanFail (B.source buf.old) (kind_if_refused (kinds result)) }
-    ensures beforehand { IsTrue (B.source buf.old).told → prelude.makes_all_room hinted len ≡ true →
+    ensures beforehand { IsTrue (B.source buf.old).told → prelude.makes_all_room has_hint len ≡ true →
         IfErr result (λ e. refusal_kind e ≡ ErrorKind.OutOfMemory →
         (B.source buf.new).left ≡ (B.source buf.old).left) }
     ensures count { IfOk result (λ c. length (prelude.content_left c.content) ≡ len) }
@@ -212,11 +216,11 @@ fn cut_slowly<'p, B: ParseBuf<'p>>(
     ensures err { IsTrue (B.source buf.old).told → IfErr result (λ e.
         FailsToKeep (B.source buf.old) len (refusal_kind e) (B.source buf.new)) }
 {
-    match copy(alloc, buf, len, hinted) {
+    match copy(alloc, buf, len, has_hint) {
         Ok(bytes) => Ok(ParseBufCursor {
             content: Content::Own(bytes, 0),
         }),
-        Err(error) => Err(kept.keep(error)),
+        Err(error) => Err(cause.keep(error)),
     }
 }
 
@@ -225,10 +229,10 @@ fn cut_slowly<'p, B: ParseBuf<'p>>(
 pub(crate) fn cut<'p, B: ParseBuf<'p>>(
     alloc: Global,
     buf: &mut B,
-    kept: &mut Kept,
+    cause: &mut Kept,
     len: usize,
 ) -> ReadResult<ParseBufCursor<'p>>
-    ensures stays { Stays (B.source buf.old) (kind_if_refused (kinds result)) (B.source buf.new) }
+    ensures stays { BufferInvariant (B.source buf.old) (kind_if_refused (kinds result)) (B.source buf.new) }
     ensures can_fail { CanFail (B.source buf.old) (kind_if_refused (kinds result)) }
     ensures whole { IsTrue (B.source buf.old).whole →
         IfOk result (λ c. IsTrue (prelude.content_is_borrowed c.content)) }
@@ -256,11 +260,11 @@ pub(crate) fn cut<'p, B: ParseBuf<'p>>(
     }
     let hint = buf.remaining_hint();
     if says_too_few(hint, len) {
-        return Err(shortage(buf, kept, len));
+        return Err(shortage(buf, cause, len));
     }
-    match cut_at_once(alloc, buf, kept, len) {
+    match cut_at_once(alloc, buf, cause, len) {
         Ok(Some(content)) => Ok(ParseBufCursor { content }),
-        Ok(None) => cut_slowly(alloc, buf, kept, len, hint.is_some()),
+        Ok(None) => cut_slowly(alloc, buf, cause, len, hint.is_some()),
         Err(refusal) => Err(refusal),
     }
 }

@@ -3,7 +3,7 @@
 
 ghost use Rattle.std.specs.Prelude.{◌≡◌, ◌+◌, ◌<◌, ◌≤◌, [], ◌++◌, length, take, OnOk, IfOk, IfErr};
 ghost use Rattle.std.specs.Prelude.{IsTrue, vec_len, vec_capacity};
-ghost use Rattle.perf_buffers.specs.Prelude.{kind_of, refusal_kind, kinds, kind_if_refused, kind_if_failed, Stays};
+ghost use Rattle.perf_buffers.specs.Prelude.{kind_of, refusal_kind, kinds, kind_if_refused, kind_if_failed, BufferInvariant};
 ghost use Rattle.perf_buffers.specs.Prelude.{CanFail, Takes, TakesAtOnce, FailsToTake, FailsToKeep};
 ghost use Rattle.perf_buffers.specs.Prelude.{CallNeedsNoMemory, NeedsNoMemory};
 
@@ -15,11 +15,11 @@ use perf_base::refusal::{Kept, ReadResult};
 #[inline]
 fn fill_at_once<'p, B: ParseBuf<'p>>(
     buf: &mut B,
-    kept: &mut Kept,
+    cause: &mut Kept,
     out: &mut [u8],
 ) -> ReadResult<bool>
     requires { 0 < length out.old }
-    ensures stays { Stays (B.source buf.old) (kind_if_refused (kinds result)) (B.source buf.new) }
+    ensures stays { BufferInvariant (B.source buf.old) (kind_if_refused (kinds result)) (B.source buf.new) }
     ensures can_fail { CanFail (B.source buf.old) (kind_if_refused (kinds result)) }
     ensures memory { NeedsNoMemory (kinds result) }
     ensures ok { IsTrue (B.source buf.old).told → IfOk result (λ all.
@@ -29,7 +29,7 @@ fn fill_at_once<'p, B: ParseBuf<'p>>(
 {
     let chunk = match buf.chunk() {
         Ok(chunk) => chunk,
-        Err(error) => return Err(kept.keep(error)),
+        Err(error) => return Err(cause.keep(error)),
     };
     let bytes = chunk.as_bytes();
     let count = out.len();
@@ -45,7 +45,7 @@ fn fill_at_once<'p, B: ParseBuf<'p>>(
 fn take_some<'p, B: ParseBuf<'p>>(buf: &mut B, out: &mut [u8]) -> ParseResult<usize>
     requires { 0 < length out.old }
     ensures count { IfOk result (λ n. (0 < n) × (n ≤ length out.old)) }
-    ensures stays { Stays (B.source buf.old) (kind_if_failed result) (B.source buf.new) }
+    ensures stays { BufferInvariant (B.source buf.old) (kind_if_failed result) (B.source buf.new) }
     ensures can_fail { CanFail (B.source buf.old) (kind_if_failed result) }
     ensures memory { CallNeedsNoMemory result }
     ensures ok { IsTrue (B.source buf.old).told →
@@ -65,7 +65,7 @@ fn take_some<'p, B: ParseBuf<'p>>(buf: &mut B, out: &mut [u8]) -> ParseResult<us
 
 // Fills `out` from as many chunks as needed.
 fn fill_on<'p, B: ParseBuf<'p>>(buf: &mut B, out: &mut [u8]) -> ParseResult<()>
-    ensures stays { Stays (B.source buf.old) (kind_if_failed result) (B.source buf.new) }
+    ensures stays { BufferInvariant (B.source buf.old) (kind_if_failed result) (B.source buf.new) }
     ensures can_fail { CanFail (B.source buf.old) (kind_if_failed result) }
     ensures memory { CallNeedsNoMemory result }
     ensures ok { IsTrue (B.source buf.old).told →
@@ -89,7 +89,7 @@ fn append_some<'p, B: ParseBuf<'p>>(
     len: usize,
 ) -> ParseResult<usize>
     requires { 0 < len }
-    ensures stays { Stays (B.source buf.old) (kind_if_failed result) (B.source buf.new) }
+    ensures stays { BufferInvariant (B.source buf.old) (kind_if_failed result) (B.source buf.new) }
     ensures can_fail { CanFail (B.source buf.old) (kind_if_failed result) }
     ensures room { vec_len out.old + len ≤ vec_capacity out.old → CallNeedsNoMemory result }
     ensures capacity { vec_capacity out.old ≤ vec_capacity out.new }
@@ -120,7 +120,7 @@ pub(crate) fn append<'p, B: ParseBuf<'p>>(
     out: &mut Vec<u8>,
     len: usize,
 ) -> ParseResult<()>
-    ensures stays { Stays (B.source buf.old) (kind_if_failed result) (B.source buf.new) }
+    ensures stays { BufferInvariant (B.source buf.old) (kind_if_failed result) (B.source buf.new) }
     ensures can_fail { CanFail (B.source buf.old) (kind_if_failed result) }
     ensures room { vec_len out.old + len ≤ vec_capacity out.old → CallNeedsNoMemory result }
     ensures count { OnOk result (vec_len out.new ≡ vec_len out.old + len) }
@@ -147,8 +147,8 @@ pub(crate) fn append<'p, B: ParseBuf<'p>>(
 // chunk.
 #[cold]
 #[inline(never)]
-fn fill_slowly<'p, B: ParseBuf<'p>>(buf: &mut B, kept: &mut Kept, out: &mut [u8]) -> ReadResult<()>
-    ensures stays { Stays (B.source buf.old) (kind_if_refused (kinds result)) (B.source buf.new) }
+fn fill_slowly<'p, B: ParseBuf<'p>>(buf: &mut B, cause: &mut Kept, out: &mut [u8]) -> ReadResult<()>
+    ensures stays { BufferInvariant (B.source buf.old) (kind_if_refused (kinds result)) (B.source buf.new) }
     ensures can_fail { CanFail (B.source buf.old) (kind_if_refused (kinds result)) }
     ensures memory { NeedsNoMemory (kinds result) }
     ensures ok { IsTrue (B.source buf.old).told → OnOk result (
@@ -159,7 +159,7 @@ fn fill_slowly<'p, B: ParseBuf<'p>>(buf: &mut B, kept: &mut Kept, out: &mut [u8]
 {
     match fill_on(buf, out) {
         Ok(()) => Ok(()),
-        Err(error) => Err(kept.keep(error)),
+        Err(error) => Err(cause.keep(error)),
     }
 }
 
@@ -167,11 +167,11 @@ fn fill_slowly<'p, B: ParseBuf<'p>>(buf: &mut B, kept: &mut Kept, out: &mut [u8]
 #[inline]
 pub(crate) fn fill<'p, B: ParseBuf<'p>>(
     buf: &mut B,
-    kept: &mut Kept,
+    cause: &mut Kept,
     out: &mut [u8],
 ) -> ReadResult<()>
     requires { 0 < length out.old }
-    ensures stays { Stays (B.source buf.old) (kind_if_refused (kinds result)) (B.source buf.new) }
+    ensures stays { BufferInvariant (B.source buf.old) (kind_if_refused (kinds result)) (B.source buf.new) }
     ensures can_fail { CanFail (B.source buf.old) (kind_if_refused (kinds result)) }
     ensures memory { NeedsNoMemory (kinds result) }
     ensures ok { IsTrue (B.source buf.old).told → OnOk result (
@@ -180,9 +180,9 @@ pub(crate) fn fill<'p, B: ParseBuf<'p>>(
     ensures err { IsTrue (B.source buf.old).told → IfErr result (λ e.
         FailsToTake (B.source buf.old) (length out.old) (refusal_kind e) (B.source buf.new)) }
 {
-    match fill_at_once(buf, kept, out) {
+    match fill_at_once(buf, cause, out) {
         Ok(true) => Ok(()),
-        Ok(false) => fill_slowly(buf, kept, out),
+        Ok(false) => fill_slowly(buf, cause, out),
         Err(refusal) => Err(refusal),
     }
 }

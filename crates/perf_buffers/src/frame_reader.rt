@@ -3,7 +3,7 @@
 ghost use Rattle.std.specs.Prelude.{◌≡◌, ◌<◌, ◌≤◌, ◌*◌, ℕ, Bool, List, length, true, IsTrue};
 ghost use Rattle.std.specs.Prelude.{IfOk, IfErr, OnErr};
 ghost use Rattle.perf_buffers.specs.FrameBytes.{GivesNextBytes, FindsFrame};
-ghost use Rattle.perf_buffers.specs.Prelude.{chunk_bytes, chunk_is_borrowed, kinds, kind_if_refused, refusal_kind, Stays};
+ghost use Rattle.perf_buffers.specs.Prelude.{chunk_bytes, chunk_is_borrowed, kinds, kind_if_refused, refusal_kind, BufferInvariant};
 ghost use Rattle.perf_buffers.specs.Prelude.{CanFail, NeedsNoMemory, FailsToKeep, makes_all_room};
 
 use crate::cut::assemble;
@@ -43,14 +43,14 @@ pub(crate) enum Found<O, F> {
 #[inline]
 pub(crate) fn read_in_place<'p, S, B: ParseBuf<'p>, F: FrameReader<'p, S>>(
     buf: &mut B,
-    kept: &mut Kept,
+    cause: &mut Kept,
     len: usize,
     reader: F,
     state: &mut S,
 ) -> ReadResult<Found<F::Output, F>>
     requires some { 0 < len }
     requires len { F.len reader ≡ len }
-    ensures stays { Stays (B.source buf.old) (kind_if_refused (kinds result)) (B.source buf.new) }
+    ensures stays { BufferInvariant (B.source buf.old) (kind_if_refused (kinds result)) (B.source buf.new) }
     ensures can_fail { CanFail (B.source buf.old) (kind_if_refused (kinds result)) }
     ensures memory { NeedsNoMemory (kinds result) }
     ensures ok { IfOk result (λ found. FindsFrame (F.gives reader) reader (B.source buf.old) len
@@ -63,7 +63,7 @@ pub(crate) fn read_in_place<'p, S, B: ParseBuf<'p>, F: FrameReader<'p, S>>(
         Ok(chunk) => chunk,
         Err(error) => {
             drop(reader);
-            return Err(kept.keep(error));
+            return Err(cause.keep(error));
         }
     };
     if chunk.as_bytes().len() < len {
@@ -80,17 +80,17 @@ pub(crate) fn read_in_place<'p, S, B: ParseBuf<'p>, F: FrameReader<'p, S>>(
 #[inline(never)]
 pub(crate) fn read_assembled<'p, S, B: ParseBuf<'p>, F: FrameReader<'p, S>>(
     buf: &mut B,
-    kept: &mut Kept,
+    cause: &mut Kept,
     room: &mut Vec<u8>,
     len: usize,
-    hinted: bool,
+    has_hint: bool,
     reader: F,
     state: &mut S,
 ) -> ReadResult<F::Output>
     requires { F.len reader ≡ len }
-    ensures stays { Stays (B.source buf.old) (kind_if_refused (kinds result)) (B.source buf.new) }
+    ensures stays { BufferInvariant (B.source buf.old) (kind_if_refused (kinds result)) (B.source buf.new) }
     ensures can_fail { CanFail (B.source buf.old) (kind_if_refused (kinds result)) }
-    ensures beforehand { IsTrue (B.source buf.old).told → makes_all_room hinted len ≡ true →
+    ensures beforehand { IsTrue (B.source buf.old).told → makes_all_room has_hint len ≡ true →
         IfErr result (λ e. refusal_kind e ≡ ErrorKind.OutOfMemory →
         (B.source buf.new).left ≡ (B.source buf.old).left) }
     ensures ok { (IsTrue (B.source buf.old).whole → ⊥) → IfOk result (λ output.
@@ -100,11 +100,11 @@ pub(crate) fn read_assembled<'p, S, B: ParseBuf<'p>, F: FrameReader<'p, S>>(
     ensures err { IsTrue (B.source buf.old).told → IfErr result (λ e.
         FailsToKeep (B.source buf.old) len (refusal_kind e) (B.source buf.new)) }
 {
-    match assemble(buf, room, len, hinted) {
+    match assemble(buf, room, len, has_hint) {
         Ok(()) => Ok(reader.read(state, ParseBufChunk::Temporary(room.as_slice()))),
         Err(error) => {
             drop(reader);
-            Err(kept.keep(error))
+            Err(cause.keep(error))
         }
     }
 }

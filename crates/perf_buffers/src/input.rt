@@ -6,7 +6,7 @@
 
 ghost use Rattle.std.specs.Prelude.{◌≡◌, ℕ, ◌<◌, ◌≤◌, [], length, take, drop, true, false, Some};
 ghost use Rattle.std.specs.Prelude.{None, Option, IsTrue, IsOk, OnOk, IfOk, IfErr, IfSome};
-ghost use Rattle.perf_buffers.specs.Prelude.{refusal_kind, kinds, kind_if_refused, Eof, OutOfMemory, Stays};
+ghost use Rattle.perf_buffers.specs.Prelude.{refusal_kind, kinds, kind_if_refused, Eof, OutOfMemory, BufferInvariant};
 ghost use Rattle.perf_buffers.specs.Prelude.{CanFail, Takes, FailsToTake, FailsToKeep, NeedsNoMemory};
 ghost use Rattle.perf_buffers.specs.Prelude as prelude;
 
@@ -26,7 +26,7 @@ pub trait Input<'p> {
     /// Fills `out`, which has at least one byte.
     fn fill(&mut self, out: &mut [u8]) -> ReadResult<()>
         requires { 0 < length out.old }
-        ensures stays { Stays (source self.old) (kind_if_refused (kinds result)) (source self.new) }
+        ensures stays { BufferInvariant (source self.old) (kind_if_refused (kinds result)) (source self.new) }
         ensures can_fail { CanFail (source self.old) (kind_if_refused (kinds result)) }
         ensures memory { NeedsNoMemory (kinds result) }
         ensures ok { IsTrue (source self.old).told → OnOk result (
@@ -38,7 +38,7 @@ pub trait Input<'p> {
     /// Takes `len` bytes, at least one, and keeps none of them.
     fn skip(&mut self, len: usize) -> ReadResult<()>
         requires { 0 < len }
-        ensures stays { Stays (source self.old) (kind_if_refused (kinds result)) (source self.new) }
+        ensures stays { BufferInvariant (source self.old) (kind_if_refused (kinds result)) (source self.new) }
         ensures can_fail { CanFail (source self.old) (kind_if_refused (kinds result)) }
         ensures memory { NeedsNoMemory (kinds result) }
         ensures ok { IsTrue (source self.old).told →
@@ -49,7 +49,7 @@ pub trait Input<'p> {
     /// The same. Returns whether all of them are zero.
     fn take_zeros(&mut self, len: usize) -> ReadResult<bool>
         requires { 0 < len }
-        ensures stays { Stays (source self.old) (kind_if_refused (kinds result)) (source self.new) }
+        ensures stays { BufferInvariant (source self.old) (kind_if_refused (kinds result)) (source self.new) }
         ensures can_fail { CanFail (source self.old) (kind_if_refused (kinds result)) }
         ensures memory { NeedsNoMemory (kinds result) }
         ensures ok { IsTrue (source self.old).told → IfOk result (λ zero.
@@ -60,7 +60,7 @@ pub trait Input<'p> {
 
     /// All that is left, borrowed if the input is whole or nothing is left.
     fn take_rest(&mut self, alloc: Global) -> ReadResult<CowSlice<'p, u8>>
-        ensures stays { Stays (source self.old) (kind_if_refused (kinds result)) (source self.new) }
+        ensures stays { BufferInvariant (source self.old) (kind_if_refused (kinds result)) (source self.new) }
         ensures can_fail { CanFail (source self.old) (kind_if_refused (kinds result)) }
         ensures whole { IsTrue (source self.old).whole →
             IfOk result (λ c. IsTrue (prelude.is_borrowed c)) }
@@ -76,7 +76,7 @@ pub trait Input<'p> {
     /// long as the input, and otherwise copied, into capacity allocated by the rules of
     /// [`ParseBufCursor::new`].
     fn cut(&mut self, alloc: Global, len: usize) -> ReadResult<ParseBufCursor<'p>>
-        ensures stays { Stays (source self.old) (kind_if_refused (kinds result)) (source self.new) }
+        ensures stays { BufferInvariant (source self.old) (kind_if_refused (kinds result)) (source self.new) }
         ensures can_fail { CanFail (source self.old) (kind_if_refused (kinds result)) }
         ensures whole { IsTrue (source self.old).whole →
             IfOk result (λ c. IsTrue (prelude.cursor_is_borrowed c)) }
@@ -113,7 +113,7 @@ pub trait Input<'p> {
 #[inline]
 pub fn take_array<'p, I: Input<'p>, const N: usize>(input: &mut I) -> ReadResult<[u8; N]>
     requires { 0 < N }
-    ensures stays { Stays (I.source input.old) (kind_if_refused (kinds result)) (I.source input.new) }
+    ensures stays { BufferInvariant (I.source input.old) (kind_if_refused (kinds result)) (I.source input.new) }
     ensures can_fail { CanFail (I.source input.old) (kind_if_refused (kinds result)) }
     ensures memory { NeedsNoMemory (kinds result) }
     ensures ok { IsTrue (I.source input.old).told → IfOk result (λ bytes.

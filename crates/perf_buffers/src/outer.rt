@@ -3,7 +3,7 @@
 ghost use Rattle.std.specs.Prelude.{◌≡◌, ◌≤◌, ◌*◌, [], length, true, IsTrue, IsOk, IfOk, IfErr, OnErr};
 ghost use Rattle.perf_base.specs.Refusals.{IsErrorOf, refusal_kind};
 ghost use Rattle.perf_buffers.specs.FrameBytes.{GivesNextBytes, TakesOrLeaves};
-ghost use Rattle.perf_buffers.specs.Prelude.{kinds, kind_if_refused, Stays, Refuses, CanFail, NeedsNoMemory};
+ghost use Rattle.perf_buffers.specs.Prelude.{kinds, kind_if_refused, BufferInvariant, Refuses, CanFail, NeedsNoMemory};
 ghost use Rattle.perf_buffers.specs.Prelude.{FailsToKeep, falls_short, is_made_beforehand};
 
 use crate::cursor::ParseBufCursor;
@@ -27,7 +27,7 @@ const SMALL_FRAME: usize = 16;
 #[derive(Drop)]
 pub struct Outer<B> {
     buf: B,
-    kept: Kept,
+    cause: Kept,
     // Where frames are assembled. It is kept for the next frame.
     room: Vec<u8>,
 }
@@ -40,7 +40,7 @@ impl<B> Outer<B> {
     {
         Outer {
             buf,
-            kept: Kept::none(),
+            cause: Kept::none(),
             room: Vec::new(alloc),
         }
     }
@@ -59,7 +59,7 @@ impl<B> Outer<B> {
         ensures error { IsErrorOf result refusal }
         ensures buf { self.new.buf ≡ self.old.buf }
     {
-        self.kept.error_of(refusal)
+        self.cause.error_of(refusal)
     }
 }
 
@@ -68,7 +68,7 @@ impl<'p, B: ParseBuf<'p>> Outer<B> {
     /// that of the chunk.
     #[inline]
     pub fn take_shown<const N: usize>(&mut self) -> ReadResult<Option<[u8; N]>>
-        ensures stays { Stays (B.source self.old.buf) (kind_if_refused (kinds result))
+        ensures stays { BufferInvariant (B.source self.old.buf) (kind_if_refused (kinds result))
             (B.source self.new.buf) }
         ensures ok { IfOk result (λ taken. IsTrue (B.source self.old.buf).told →
             TakesOrLeaves (B.source self.old.buf) N taken (B.source self.new.buf)) }
@@ -78,7 +78,7 @@ impl<'p, B: ParseBuf<'p>> Outer<B> {
     {
         let chunk = match self.buf.chunk() {
             Ok(chunk) => chunk,
-            Err(error) => return Err(self.kept.keep(error)),
+            Err(error) => return Err(self.cause.keep(error)),
         };
         let front = match chunk.as_bytes().first_chunk::<N>() {
             Some(front) => *front,
@@ -96,9 +96,9 @@ impl<'p, B: ParseBuf<'p>> Outer<B> {
         &mut self,
         endian: &E,
         most: usize,
-        counted: bool,
+        is_exact: bool,
     ) -> ReadResult<usize>
-        ensures stays { Stays (B.source self.old.buf) (kind_if_refused (kinds result))
+        ensures stays { BufferInvariant (B.source self.old.buf) (kind_if_refused (kinds result))
             (B.source self.new.buf) }
         ensures same { IsTrue (B.source self.old.buf).told →
             (B.source self.new.buf).left ≡ (B.source self.old.buf).left }
@@ -111,12 +111,12 @@ impl<'p, B: ParseBuf<'p>> Outer<B> {
             Ok(chunk) => {
                 let bytes = chunk.as_bytes();
                 let small = bytes.len() / SMALL_FRAME;
-                if counted && small < most {
+                if is_exact && small < most {
                     return Ok(frames_in(endian, bytes, most));
                 }
                 Ok(most.min(small))
             }
-            Err(error) => Err(self.kept.keep(error)),
+            Err(error) => Err(self.cause.keep(error)),
         }
     }
 
@@ -135,7 +135,7 @@ impl<'p, B: ParseBuf<'p>> Outer<B> {
         state: &mut S,
     ) -> ReadResult<F::Output>
         requires { F.len reader ≡ len }
-        ensures stays { Stays (B.source self.old.buf) (kind_if_refused (kinds result))
+        ensures stays { BufferInvariant (B.source self.old.buf) (kind_if_refused (kinds result))
             (B.source self.new.buf) }
         ensures can_fail { CanFail (B.source self.old.buf) (kind_if_refused (kinds result)) }
         ensures whole_memory { IsTrue (B.source self.old.buf).whole →
@@ -161,13 +161,13 @@ impl<'p, B: ParseBuf<'p>> Outer<B> {
         let hint = self.buf.remaining_hint();
         if says_too_few(hint, len) {
             drop(reader);
-            return Err(shortage(&mut self.buf, &mut self.kept, len));
+            return Err(shortage(&mut self.buf, &mut self.cause, len));
         }
-        match read_in_place(&mut self.buf, &mut self.kept, len, reader, state) {
+        match read_in_place(&mut self.buf, &mut self.cause, len, reader, state) {
             Ok(Found::Whole(output)) => Ok(output),
             Ok(Found::Cut(reader)) => read_assembled(
                 &mut self.buf,
-                &mut self.kept,
+                &mut self.cause,
                 &mut self.room,
                 len,
                 hint.is_some(),
@@ -186,14 +186,14 @@ impl<'p, B: ParseBuf<'p>> Input<'p> for Outer<B> {
 
     #[inline]
     fn fill(&mut self, out: &mut [u8]) -> ReadResult<()> {
-        fill(&mut self.buf, &mut self.kept, out)
+        fill(&mut self.buf, &mut self.cause, out)
     }
 
     #[inline]
     fn skip(&mut self, len: usize) -> ReadResult<()> {
         match skip(&mut self.buf, len) {
             Ok(()) => Ok(()),
-            Err(error) => Err(self.kept.keep(error)),
+            Err(error) => Err(self.cause.keep(error)),
         }
     }
 
@@ -201,7 +201,7 @@ impl<'p, B: ParseBuf<'p>> Input<'p> for Outer<B> {
     fn take_zeros(&mut self, len: usize) -> ReadResult<bool> {
         match take_zeros(&mut self.buf, len) {
             Ok(zero) => Ok(zero),
-            Err(error) => Err(self.kept.keep(error)),
+            Err(error) => Err(self.cause.keep(error)),
         }
     }
 
@@ -209,13 +209,13 @@ impl<'p, B: ParseBuf<'p>> Input<'p> for Outer<B> {
     fn take_rest(&mut self, alloc: Global) -> ReadResult<CowSlice<'p, u8>> {
         match take_rest(alloc, &mut self.buf) {
             Ok(bytes) => Ok(bytes),
-            Err(error) => Err(self.kept.keep(error)),
+            Err(error) => Err(self.cause.keep(error)),
         }
     }
 
     #[inline]
     fn cut(&mut self, alloc: Global, len: usize) -> ReadResult<ParseBufCursor<'p>> {
-        cut(alloc, &mut self.buf, &mut self.kept, len)
+        cut(alloc, &mut self.buf, &mut self.cause, len)
     }
 
     #[inline]

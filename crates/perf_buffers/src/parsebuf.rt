@@ -3,7 +3,7 @@
 ghost use Rattle.std.specs.Prelude.{◌≡◌, ℕ, ◌≤◌, true, false, None, Some, IsTrue, List, length, Ok};
 ghost use Rattle.std.specs.Prelude.{Option, IfOk, IfErr, IfSome, ◌<◌, OnOk, IsOk, IsSome, take};
 ghost use Rattle.perf_buffers.specs.Prelude.{sem, Rests, kind_of, Source, Shows, ShowsReady, Refuses};
-ghost use Rattle.perf_buffers.specs.Prelude.{KeepsChunk, Advances, chunk_bytes, chunk_is_borrowed, known};
+ghost use Rattle.perf_buffers.specs.Prelude.{KeepsChunk, Advances, chunk_bytes, chunk_is_borrowed, known_bytes};
 ghost use Rattle.perf_buffers.specs.Prelude.{is_known};
 ghost use Rattle.perf_buffers.specs.Prelude.{RefusesReader, reader_remaining, reader_buffer};
 
@@ -165,7 +165,7 @@ fn read_ahead<R: Read>(reader: &mut BufReader<R>) -> ParseResult<()>
 /// unexpected end.
 impl<'p, R: Read> ParseBuf<'p> for BufReader<R> {
     ghost source = { λ s. record {
-      left = known (reader_remaining R.remaining s);
+      left = known_bytes (reader_remaining R.remaining s);
       told = is_known (reader_remaining R.remaining s);
       whole = false;
       can_fault = true;

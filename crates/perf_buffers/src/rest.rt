@@ -3,7 +3,7 @@
 ghost use Rattle.std.specs.Prelude.{◌≡◌, ◌<◌, ◌↔◌, length, take, [], ◌++◌, IsTrue};
 ghost use Rattle.std.specs.Prelude.{IfOk, IfErr, IfSome, OnOk, MatchOption};
 ghost use Rattle.perf_buffers.specs.Prelude.{cow_items, is_borrowed, kind_of, CallNeedsNoMemory};
-ghost use Rattle.perf_buffers.specs.Prelude.{kind_if_failed, Stays, Takes, FailsInRest, CanFail};
+ghost use Rattle.perf_buffers.specs.Prelude.{kind_if_failed, BufferInvariant, Takes, FailsInRest, CanFail};
 
 use crate::fill::append;
 use crate::parsebuf::{ParseBuf, ParseBufChunk};
@@ -15,7 +15,7 @@ use std::alloc::Global;
 // left.
 #[inline]
 fn lend_first<'p, B: ParseBuf<'p>>(buf: &mut B) -> ParseResult<Option<&'p [u8]>>
-    ensures stays { Stays (B.source buf.old) (kind_if_failed result) (B.source buf.new) }
+    ensures stays { BufferInvariant (B.source buf.old) (kind_if_failed result) (B.source buf.new) }
     ensures can_fail { CanFail (B.source buf.old) (kind_if_failed result) }
     ensures whole { IsTrue (B.source buf.old).whole → IfOk result (λ o. IfSome o (λ s.
         IsTrue (B.source buf.old).told × (s.now ≡ (B.source buf.old).left))) }
@@ -40,7 +40,7 @@ fn lend_first<'p, B: ParseBuf<'p>>(buf: &mut B) -> ParseResult<Option<&'p [u8]>>
 
 // Whether nothing is left.
 fn is_at_end<'p, B: ParseBuf<'p>>(buf: &mut B) -> ParseResult<bool>
-    ensures stays { Stays (B.source buf.old) (kind_if_failed result) (B.source buf.new) }
+    ensures stays { BufferInvariant (B.source buf.old) (kind_if_failed result) (B.source buf.new) }
     ensures can_fail { CanFail (B.source buf.old) (kind_if_failed result) }
     ensures memory { CallNeedsNoMemory result }
     ensures kept { IsTrue (B.source buf.old).told →
@@ -59,7 +59,7 @@ fn is_at_end<'p, B: ParseBuf<'p>>(buf: &mut B) -> ParseResult<bool>
 
 // Appends all that is left. A buffer that never ends runs out of memory.
 fn append_rest<'p, B: ParseBuf<'p>>(buf: &mut B, out: &mut Vec<u8>) -> ParseResult<()>
-    ensures stays { Stays (B.source buf.old) (kind_if_failed result) (B.source buf.new) }
+    ensures stays { BufferInvariant (B.source buf.old) (kind_if_failed result) (B.source buf.new) }
     ensures can_fail { CanFail (B.source buf.old) (kind_if_failed result) }
     ensures ok { IsTrue (B.source buf.old).told →
         OnOk result ((out.new.items ≡ out.old.items ++ (B.source buf.old).left)
@@ -78,7 +78,7 @@ fn append_rest<'p, B: ParseBuf<'p>>(buf: &mut B, out: &mut Vec<u8>) -> ParseResu
 #[cold]
 #[inline(never)]
 fn copy_rest<'p, B: ParseBuf<'p>>(alloc: Global, buf: &mut B, first: &[u8]) -> ParseResult<Vec<u8>>
-    ensures stays { Stays (B.source buf.old) (kind_if_failed result) (B.source buf.new) }
+    ensures stays { BufferInvariant (B.source buf.old) (kind_if_failed result) (B.source buf.new) }
     ensures can_fail { CanFail (B.source buf.old) (kind_if_failed result) }
     ensures ok { IsTrue (B.source buf.old).told →
         IfOk result (λ v. (v.items ≡ first.now ++ (B.source buf.old).left)
@@ -99,7 +99,7 @@ fn copy_rest<'p, B: ParseBuf<'p>>(alloc: Global, buf: &mut B, first: &[u8]) -> P
 /// All that is left, borrowed if the buffer is whole or nothing is left.
 #[inline]
 pub fn take_rest<'p, B: ParseBuf<'p>>(alloc: Global, buf: &mut B) -> ParseResult<CowSlice<'p, u8>>
-    ensures stays { Stays (B.source buf.old) (kind_if_failed result) (B.source buf.new) }
+    ensures stays { BufferInvariant (B.source buf.old) (kind_if_failed result) (B.source buf.new) }
     ensures can_fail { CanFail (B.source buf.old) (kind_if_failed result) }
     ensures whole { IsTrue (B.source buf.old).whole → IfOk result (λ c. IsTrue (is_borrowed c)) }
     ensures whole_memory { IsTrue (B.source buf.old).whole → CallNeedsNoMemory result }

@@ -3,7 +3,7 @@
 ghost use Rattle.std.specs.Prelude.{◌≡◌, ◌<◌, ◌≤◌, take, IsTrue, IfOk, IfErr};
 ghost use Rattle.perf_base.specs.Errors.{kind_of};
 ghost use Rattle.perf_base.specs.Zeros.{all_zero};
-ghost use Rattle.perf_buffers.specs.Buffer.{CallNeedsNoMemory, Stays, kind_if_failed};
+ghost use Rattle.perf_buffers.specs.Buffer.{CallNeedsNoMemory, BufferInvariant, kind_if_failed};
 ghost use Rattle.perf_buffers.specs.Taking.{Takes, FailsToTake, CanFail};
 
 use crate::parsebuf::ParseBuf;
@@ -19,7 +19,7 @@ pub(crate) fn is_zero(bytes: &[u8]) -> bool
 // zero.
 fn take_some_zeros<'p, B: ParseBuf<'p>>(buf: &mut B, len: usize) -> ParseResult<(usize, bool)>
     requires { 0 < len }
-    ensures stays { Stays (B.source buf.old) (kind_if_failed result) (B.source buf.new) }
+    ensures stays { BufferInvariant (B.source buf.old) (kind_if_failed result) (B.source buf.new) }
     ensures can_fail { CanFail (B.source buf.old) (kind_if_failed result) }
     ensures memory { CallNeedsNoMemory result }
     ensures count { IfOk result (λ taken. (0 < taken.0) × (taken.0 ≤ len)) }
@@ -39,7 +39,7 @@ fn take_some_zeros<'p, B: ParseBuf<'p>>(buf: &mut B, len: usize) -> ParseResult<
 
 /// Takes `len` bytes and keeps none of them. Returns whether all of them are zero.
 pub fn take_zeros<'p, B: ParseBuf<'p>>(buf: &mut B, len: usize) -> ParseResult<bool>
-    ensures stays { Stays (B.source buf.old) (kind_if_failed result) (B.source buf.new) }
+    ensures stays { BufferInvariant (B.source buf.old) (kind_if_failed result) (B.source buf.new) }
     ensures can_fail { CanFail (B.source buf.old) (kind_if_failed result) }
     ensures memory { CallNeedsNoMemory result }
     ensures ok { IsTrue (B.source buf.old).told →

@@ -4,7 +4,7 @@ use Rattle.std.specs.Prelude.{nat_le, nat_lt, unwrap_or}
 use Rattle.std.specs.Int.RustNames.{bit_and}
 use Rattle.std.proofs.lemmas.Bool.{leb-true}
 use Rattle.std.proofs.lemmas.List.{length-drop, length-take-le, take-take}
-use Rattle.perf_base.specs.FieldWords.{u32, u64, bytes, numbers, ignored, require}
+use Rattle.perf_base.specs.FieldWords.{u32, u64, bytes, numbers, gap, require}
 use Rattle.perf_base.specs.Layout.{Parts, done, part, optional, padding, byte_string, w8, ◌>>=◌}
 use Rattle.perf_base.specs.Order.{Order}
 use Rattle.perf_base.specs.Table.{present_if, slot}
@@ -52,11 +52,11 @@ pub task_read : {o : Order} {a b d : Places} {pid tid : ℕ} → Reads o u32 pid
 task_read {o} {a} {b} {d} {pid} {tid} one two = then_reads u32 (λ pid. u32 >>= λ tid. done (task_is (Some pid) (Some tid))) one (then_reads u32 (λ tid. done (task_is (Some pid) (Some tid))) two all_read)
 
 -- unused bytes
-pub passed_over : (o : Order) (n : ℕ) (a b : Places) (s : Span) → a.at ≤ length a.bytes.now → Passed n a s b → Reads {A = Unit {0}} o (ignored n) tt a b
+pub passed_over : (o : Order) (n : ℕ) (a b : Places) (s : Span) → a.at ≤ length a.bytes.now → Passed n a s b → Reads {A = Unit {0}} o (gap n) tt a b
 passed_over o n a b s within passed = passed_part o (padding n) n a b s refl within passed
 
-pub cpu_read : {o : Order} {a b d : Places} {number : ℕ} → Reads o u32 number a b → Reads {A = Unit {0}} o (ignored 4) tt b d → Reads o cpu (number_is number) a d
-cpu_read {o} {a} {b} {d} {number} one two = then_reads u32 (λ number. ignored 4 >>= λ _. done (number_is number)) one (then_reads (ignored 4) (λ _. done (number_is number)) two all_read)
+pub cpu_read : {o : Order} {a b d : Places} {number : ℕ} → Reads o u32 number a b → Reads {A = Unit {0}} o (gap 4) tt b d → Reads o cpu (number_is number) a d
+cpu_read {o} {a} {b} {d} {number} one two = then_reads u32 (λ number. gap 4 >>= λ _. done (number_is number)) one (then_reads (gap 4) (λ _. done (number_is number)) two all_read)
 
 -- ---- lists
 
@@ -93,12 +93,12 @@ sized_read o size a b d s one list = record {
   holds = λ ok frame is. list.there ok frame (subst (IsBodyOf frame) (sym one.bytes) is);
 }
 
-pub raw_read : (o : Order) (len : ℕ) (a b d e : Places) (s : Span) → Reads o u32 len a b → PassesBytes o len b s d → Reads {A = Unit {0}} o (ignored (raw_padding len)) tt d e →
+pub raw_read : (o : Order) (len : ℕ) (a b d e : Places) (s : Span) → Reads o u32 len a b → PassesBytes o len b s d → Reads {A = Unit {0}} o (gap (raw_padding len)) tt d e →
     ReadsFor o raw (λ v. InFrames a.bytes.now (λ frame. HasString frame s (bytes_in (Some v)))) a e
 raw_read o len a b d e s one list rest = record {
   value = bytes_are list.contents;
-  reads = then_reads u32 (λ len. bytes len >>= λ xs. (ignored (raw_padding len) >>= λ _. done (bytes_are xs))) one
-      (then_reads (bytes len) (λ xs. ignored (raw_padding len) >>= λ _. done (bytes_are xs)) list.reads (then_reads (ignored (raw_padding len)) (λ _. done (bytes_are list.contents)) rest all_read));
+  reads = then_reads u32 (λ len. bytes len >>= λ xs. (gap (raw_padding len) >>= λ _. done (bytes_are xs))) one
+      (then_reads (bytes len) (λ xs. gap (raw_padding len) >>= λ _. done (bytes_are xs)) list.reads (then_reads (gap (raw_padding len)) (λ _. done (bytes_are list.contents)) rest all_read));
   holds = λ ok frame is. list.there (still_fresh rest ok) frame (subst (IsBodyOf frame) (sym one.bytes) is);
 }
 

@@ -6,7 +6,7 @@ use Rattle.std.proofs.lemmas.Bool.{cases_lt, lt-ltb, le-ltb}
 use Rattle.std.proofs.lemmas.List.{length-map}
 use Rattle.perf_base.specs.Configuration.{Configuration}
 use Rattle.perf_base.specs.FieldWords.{u64, u64_if, numbers, require}
-use Rattle.perf_base.specs.Layout.{Parts, done, ◌>>=◌, mapped}
+use Rattle.perf_base.specs.Layout.{Parts, done, ◌>>=◌, map_parts}
 use Rattle.perf_base.specs.Order.{Order}
 use Rattle.perf_base.specs.Table.{present_if, slot}
 use Rattle.perf_base.specs.declared.error.ErrorKind.{ErrorKind}
@@ -47,7 +47,7 @@ pub none_is : {o : Order} {a : Places} (is : Option FieldValue → Type 0) (pres
 none_is is present p absent none = record { value = None; reads = slot_none present p absent; holds = λ ok. none }
 
 -- the same value, in another form
-pub mapped_is : {A B : Type 0} {o : Order} {a b : Places} (f : A → B) (is : B → Type 0) (p : Parts A) → ReadsFor o p (λ v. is (f v)) a b → ReadsFor o (mapped f p) is a b
+pub mapped_is : {A B : Type 0} {o : Order} {a b : Places} (f : A → B) (is : B → Type 0) (p : Parts A) → ReadsFor o p (λ v. is (f v)) a b → ReadsFor o (map_parts f p) is a b
 mapped_is f is p read = record { value = f read.value; reads = then_reads p (λ v. done (f v)) read.reads all_read; holds = read.holds }
 
 -- ---- registers
@@ -224,7 +224,7 @@ pub values_alone : (o : Order) (c : Configuration) (a b : Places) (made : Counte
 unfolding values
 values_alone o c a b made alone read = go (has_group c.read_format) alone
   where
-    go : (g : Bool) → g ≡ false → ReadsFor o (if g then mapped group_is (read_group c) else mapped (λ one. group_is (group_of one)) (read_value c)) (λ v. IsCounters c.read_format o a.bytes.now (Some v) made) a b
+    go : (g : Bool) → g ≡ false → ReadsFor o (if g then map_parts group_is (read_group c) else map_parts (λ one. group_is (group_of one)) (read_value c)) (λ v. IsCounters c.read_format o a.bytes.now (Some v) made) a b
     go true is = absurd (cc)
     go false is = mapped_is (λ one. group_is (group_of one)) (λ v. IsCounters c.read_format o a.bytes.now (Some v) made) (read_value c) read
 
@@ -233,7 +233,7 @@ pub values_grouped : (o : Order) (c : Configuration) (a b : Places) (made : Coun
 unfolding values
 values_grouped o c a b made many read = go (has_group c.read_format) many
   where
-    go : (g : Bool) → g ≡ true → ReadsFor o (if g then mapped group_is (read_group c) else mapped (λ one. group_is (group_of one)) (read_value c)) (λ v. IsCounters c.read_format o a.bytes.now (Some v) made) a b
+    go : (g : Bool) → g ≡ true → ReadsFor o (if g then map_parts group_is (read_group c) else map_parts (λ one. group_is (group_of one)) (read_value c)) (λ v. IsCounters c.read_format o a.bytes.now (Some v) made) a b
     go true is = mapped_is group_is (λ v. IsCounters c.read_format o a.bytes.now (Some v) made) (read_group c) read
     go false is = absurd (cc)
 

@@ -3,7 +3,7 @@ use Rattle.std.specs.Prelude.{if◌then◌else◌}
 use Rattle.std.proofs.Common.{◌≡◌, ℕ, true, false, zero, suc, ◌+◌, ◌*◌, List, [], ◌∷◌, length, Option, Some, None, Ok, Err, refl, sym, ◌∙◌, ap, subst, arith}
 use Rattle.perf_base.specs.Configuration.{Configuration}
 use Rattle.perf_base.specs.FieldWords.{u32, u64, numbers}
-use Rattle.perf_base.specs.Layout.{Parts, Width, part, number, done, mapped, layout, ◌>>=◌}
+use Rattle.perf_base.specs.Layout.{Parts, Width, part, number, done, map_parts, layout, ◌>>=◌}
 use Rattle.perf_base.specs.Order.{Order}
 use Rattle.perf_base.specs.Refusals.{refusal_kind}
 use Rattle.perf_base.specs.declared.refusal.Refusal.{Refusal}
@@ -124,7 +124,7 @@ abbrev pub task_namespaces : (pid tid : ℕ) → List ℕ → RecordValue
 task_namespaces pid tid words = namespaces_is (record { pid = pid; tid = tid; namespaces = entries_of words })
 
 pub namespaces_read : (o : Order) (pid tid count : ℕ) (words : List ℕ) (a b d e f : Places) → Reads o u32 pid a b → Reads o u32 tid b d → Reads o u64 count d e → Reads o (numbers (2 * count)) words e f →
-    Reads o (mapped namespaces_is namespaces) (task_namespaces pid tid words) a f
+    Reads o (map_parts namespaces_is namespaces) (task_namespaces pid tid words) a f
 namespaces_read o pid tid count words a b d e f one two three four =
     then_reads u32 (λ pid. u32 >>= λ tid. (u64 >>= λ count. (numbers (2 * count) >>= λ words. done (task_namespaces pid tid words)))) one
     (then_reads u32 (λ tid. u64 >>= λ count. (numbers (2 * count) >>= λ words. done (task_namespaces pid tid words))) two

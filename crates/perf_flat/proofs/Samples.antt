@@ -2,7 +2,7 @@
 use Rattle.std.proofs.Common.{◌≡◌, ℕ, List, [], ◌∷◌, ◌++◌, Option, Some, None, refl, sym, ◌∙◌, ap, subst}
 use Rattle.std.specs.Prelude.{option_map}
 use Rattle.perf_base.specs.Configuration.{Configuration, under_misc}
-use Rattle.perf_base.specs.Layout.{Parts, done, mapped, layout}
+use Rattle.perf_base.specs.Layout.{Parts, done, map_parts, layout}
 use Rattle.perf_base.specs.Order.{Order}
 use Rattle.perf_base.specs.declared.refusal.Refusal.{Refusal}
 use Rattle.perf_base.specs.Refusals.{refusal_kind}
@@ -46,7 +46,7 @@ sample_values made o c counts state costs memory =
 
 pub sample_read : (o : Order) (c : Configuration) (made : Sample) {a m b d e f g : Places} → ReadsFields o (fields_under c (take 5 moment_fields)) (moment_values made.moment) a m →
     ReadsFields o (fields_under c (drop 5 moment_fields)) (event_values made.event) m b → (counts : ReadsCounts c o made.counts b d) → (state : ReadsState c o made.state d e) →
-    (costs : ReadsCosts c o made.costs e f) → (memory : ReadsMemory c o made.memory f g) → Reads o (mapped sample_is (sample c)) (sample_is (sample_values made o c counts state costs memory)) a g
+    (costs : ReadsCosts c o made.costs e f) → (memory : ReadsMemory c o made.memory f g) → Reads o (map_parts sample_is (sample c)) (sample_is (sample_values made o c counts state costs memory)) a g
 sample_read o c made {a} {m} {b} {d} {e} {f} {g} moment event counts state costs memory =
     let Fields : Type 0 = List (Option (Parts FieldValue)) in
     let fields_5 : Fields = fields_under c memory_fields ++ [] in
@@ -79,7 +79,7 @@ first_values moment event o c counts = moment_values moment ++ (event_values eve
 
 pub sample_stopped : (o : Order) (c : Configuration) (moment : Moment) (event : Event) (made : Counts) {a m b d : Places} (e : Refusal) → ReadsFields o (fields_under c (take 5 moment_fields)) (moment_values moment) a m →
     ReadsFields o (fields_under c (drop 5 moment_fields)) (event_values event) m b → (counts : ReadsCounts c o made b d) → d.refusal ≡ Some e →
-    Reads o (mapped sample_is (sample c)) (sample_is (first_values moment event o c counts)) a d
+    Reads o (map_parts sample_is (sample c)) (sample_is (first_values moment event o c counts)) a d
 sample_stopped o c moment event made {a} {m} {b} {d} e one two three refused =
     let Fields : Type 0 = List (Option (Parts FieldValue)) in
     let fields_3 : Fields = fields_under c state_fields ++ (fields_under c cost_fields ++ (fields_under c memory_fields ++ [])) in
@@ -151,14 +151,14 @@ unfolding sample values branch_stack registers
 sample_under misc c = refl
 
 -- the same record under the frame's own misc
-pub sample_placed : (misc : ℕ) (c : Configuration) (o : Order) (bytes : List ℕ) (old : FlatFrame) (told : Option Refusal) (new : FlatFrame) → PlacesRecord c o (mapped sample_is (sample c)) bytes old told new →
-    PlacesRecord (under_misc misc c) o (mapped sample_is (sample (under_misc misc c))) bytes old told new
+pub sample_placed : (misc : ℕ) (c : Configuration) (o : Order) (bytes : List ℕ) (old : FlatFrame) (told : Option Refusal) (new : FlatFrame) → PlacesRecord c o (map_parts sample_is (sample c)) bytes old told new →
+    PlacesRecord (under_misc misc c) o (map_parts sample_is (sample (under_misc misc c))) bytes old told new
 unfolding PlacesRecord
 sample_placed misc c o bytes old told new places = go told places
   where
-    same : mapped sample_is (sample (under_misc misc c)) ≡ mapped sample_is (sample c)
-    same = ap (mapped sample_is) (sample_under misc c)
+    same : map_parts sample_is (sample (under_misc misc c)) ≡ map_parts sample_is (sample c)
+    same = ap (map_parts sample_is) (sample_under misc c)
 
-    go : (r : Option Refusal) → PlacesRecord c o (mapped sample_is (sample c)) bytes old r new → PlacesRecord (under_misc misc c) o (mapped sample_is (sample (under_misc misc c))) bytes old r new
+    go : (r : Option Refusal) → PlacesRecord c o (map_parts sample_is (sample c)) bytes old r new → PlacesRecord (under_misc misc c) o (map_parts sample_is (sample (under_misc misc c))) bytes old r new
     go None p = (p.0, ap (λ q. layout o q bytes) same ∙ p.1, record { numbers = p.2.numbers; spans = p.2.spans; ids = p.2.ids; head = p.2.head })
     go (Some e) p = ap (λ q. layout o q bytes) same ∙ p

@@ -2,7 +2,7 @@
 
 ghost use Rattle.std.specs.Prelude.{◌≡◌};
 ghost use Rattle.perf_base.specs.Configuration.{Configuration};
-ghost use Rattle.perf_base.specs.Layout.{mapped};
+ghost use Rattle.perf_base.specs.Layout.{map_parts};
 ghost use Rattle.perf_base.specs.Misc.{build_id_bit};
 ghost use Rattle.perf_flat.specs.BodyPlaces.{IsDetail};
 ghost use Rattle.perf_flat.specs.Places.{PlacesRecord, ReadsFor};
@@ -97,7 +97,7 @@ pub(crate) fn mmap2_contents<E: Endian>(
     frame: &mut FlatFrame,
 ) -> Option<Refusal>
     ensures { (c : Configuration) → misc ≡ c.misc → PlacesRecord c (E.order order.now)
-        (mapped record_of.mmap2_is (mmap2 c)) body.now frame.old result frame.new }
+        (map_parts record_of.mmap2_is (mmap2 c)) body.now frame.old result frame.new }
 {
     let mut places = Places::new(body);
     let pid = places.read_word(order);

@@ -1,7 +1,7 @@
 //! Bodies with a name at the end, read in place.
 
 ghost use Rattle.perf_base.specs.Configuration.{Configuration};
-ghost use Rattle.perf_base.specs.Layout.{mapped};
+ghost use Rattle.perf_base.specs.Layout.{map_parts};
 ghost use Rattle.perf_flat.specs.Places.{PlacesRecord};
 ghost use Rattle.perf_records.specs.Records as record_of;
 ghost use Rattle.perf_types.specs.CGroup.{cgroup};
@@ -21,7 +21,7 @@ pub(crate) fn mmap_contents<E: Endian>(
     frame: &mut FlatFrame,
 ) -> Option<Refusal>
     ensures { (c : Configuration) → PlacesRecord c (E.order order.now)
-        (mapped record_of.mmap_is mmap) body.now frame.old result frame.new }
+        (map_parts record_of.mmap_is mmap) body.now frame.old result frame.new }
 {
     let mut places = Places::new(body);
     let pid = places.read_word(order);
@@ -40,7 +40,7 @@ pub(crate) fn comm_contents<E: Endian>(
     frame: &mut FlatFrame,
 ) -> Option<Refusal>
     ensures { (c : Configuration) → PlacesRecord c (E.order order.now)
-        (mapped record_of.comm_is comm) body.now frame.old result frame.new }
+        (map_parts record_of.comm_is comm) body.now frame.old result frame.new }
 {
     let mut places = Places::new(body);
     let pid = places.read_word(order);
@@ -56,7 +56,7 @@ pub(crate) fn ksymbol_contents<E: Endian>(
     frame: &mut FlatFrame,
 ) -> Option<Refusal>
     ensures { (c : Configuration) → PlacesRecord c (E.order order.now)
-        (mapped record_of.ksymbol_is ksymbol) body.now frame.old result frame.new }
+        (map_parts record_of.ksymbol_is ksymbol) body.now frame.old result frame.new }
 {
     let mut places = Places::new(body);
     let addr = places.read_u64(order);
@@ -74,7 +74,7 @@ pub(crate) fn cgroup_contents<E: Endian>(
     frame: &mut FlatFrame,
 ) -> Option<Refusal>
     ensures { (c : Configuration) → PlacesRecord c (E.order order.now)
-        (mapped record_of.cgroup_is cgroup) body.now frame.old result frame.new }
+        (map_parts record_of.cgroup_is cgroup) body.now frame.old result frame.new }
 {
     let mut places = Places::new(body);
     let id = places.read_u64(order);

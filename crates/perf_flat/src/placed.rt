@@ -3,7 +3,7 @@
 
 ghost use Rattle.std.specs.Prelude.{ℕ};
 ghost use Rattle.perf_base.specs.Configuration.{Configuration, under_misc};
-ghost use Rattle.perf_base.specs.Layout.{mapped};
+ghost use Rattle.perf_base.specs.Layout.{map_parts};
 ghost use Rattle.perf_flat.specs.Places.{PlacesRecord};
 ghost use Rattle.perf_records.specs.Bodies.{body, body_of};
 ghost use Rattle.perf_records.specs.Prelude.{configuration_of, endian_of};
@@ -91,7 +91,7 @@ const ENTRY: u64 = 2;
 // Writes the contents of a NAMESPACES record.
 fn namespaces_contents<E: Endian>(order: &E, body: &[u8], frame: &mut FlatFrame) -> Option<Refusal>
     ensures { (c : Configuration) → PlacesRecord c (E.order order.now)
-        (mapped namespaces_is namespaces) body.now frame.old result frame.new }
+        (map_parts namespaces_is namespaces) body.now frame.old result frame.new }
 {
     let mut places = Places::new(body);
     let pid = places.read_word(order);

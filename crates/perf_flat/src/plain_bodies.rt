@@ -1,7 +1,7 @@
 //! Bodies of numbers alone, read in place.
 
 ghost use Rattle.perf_base.specs.Configuration.{Configuration};
-ghost use Rattle.perf_base.specs.Layout.{done, mapped};
+ghost use Rattle.perf_base.specs.Layout.{done, map_parts};
 ghost use Rattle.perf_base.specs.Misc.{switch_out_bit};
 ghost use Rattle.perf_base.specs.Order.{Order};
 ghost use Rattle.perf_flat.specs.Numbers.{or_zero};
@@ -35,7 +35,7 @@ pub(crate) fn lost_contents<E: Endian>(
     frame: &mut FlatFrame,
 ) -> Option<Refusal>
     ensures { (c : Configuration) → PlacesRecord c (E.order order.now)
-        (mapped record_of.lost_is lost) body.now frame.old result frame.new }
+        (map_parts record_of.lost_is lost) body.now frame.old result frame.new }
 {
     let mut places = Places::new(body);
     let id = places.read_u64(order);
@@ -50,9 +50,9 @@ pub(crate) fn task_contents<E: Endian>(
     frame: &mut FlatFrame,
 ) -> Option<Refusal>
     ensures exit { (c : Configuration) → PlacesRecord c (E.order order.now)
-        (mapped record_of.exit_is exit) body.now frame.old result frame.new }
+        (map_parts record_of.exit_is exit) body.now frame.old result frame.new }
     ensures fork { (c : Configuration) → PlacesRecord c (E.order order.now)
-        (mapped record_of.fork_is exit) body.now frame.old result frame.new }
+        (map_parts record_of.fork_is exit) body.now frame.old result frame.new }
 {
     let mut places = Places::new(body);
     let pid = places.read_word(order);
@@ -70,9 +70,9 @@ pub(crate) fn throttle_contents<E: Endian>(
     frame: &mut FlatFrame,
 ) -> Option<Refusal>
     ensures throttle { (c : Configuration) → PlacesRecord c (E.order order.now)
-        (mapped record_of.throttle_is throttle) body.now frame.old result frame.new }
+        (map_parts record_of.throttle_is throttle) body.now frame.old result frame.new }
     ensures unthrottle { (c : Configuration) → PlacesRecord c (E.order order.now)
-        (mapped record_of.unthrottle_is throttle) body.now frame.old result frame.new }
+        (map_parts record_of.unthrottle_is throttle) body.now frame.old result frame.new }
 {
     let mut places = Places::new(body);
     let time = places.read_u64(order);
@@ -88,7 +88,7 @@ pub(crate) fn aux_contents<E: Endian>(
     frame: &mut FlatFrame,
 ) -> Option<Refusal>
     ensures { (c : Configuration) → PlacesRecord c (E.order order.now)
-        (mapped record_of.aux_is aux) body.now frame.old result frame.new }
+        (map_parts record_of.aux_is aux) body.now frame.old result frame.new }
 {
     let mut places = Places::new(body);
     let offset = places.read_u64(order);
@@ -104,7 +104,7 @@ pub(crate) fn itrace_start_contents<E: Endian>(
     frame: &mut FlatFrame,
 ) -> Option<Refusal>
     ensures { (c : Configuration) → PlacesRecord c (E.order order.now)
-        (mapped record_of.itrace_start_is itrace_start) body.now frame.old result frame.new }
+        (map_parts record_of.itrace_start_is itrace_start) body.now frame.old result frame.new }
 {
     let mut places = Places::new(body);
     let pid = places.read_word(order);
@@ -119,7 +119,7 @@ pub(crate) fn lost_samples_contents<E: Endian>(
     frame: &mut FlatFrame,
 ) -> Option<Refusal>
     ensures { (c : Configuration) → PlacesRecord c (E.order order.now)
-        (mapped record_of.lost_samples_is lost_samples) body.now frame.old result frame.new }
+        (map_parts record_of.lost_samples_is lost_samples) body.now frame.old result frame.new }
 {
     let mut places = Places::new(body);
     let lost = places.read_u64(order);
@@ -133,7 +133,7 @@ pub(crate) fn hw_id_contents<E: Endian>(
     frame: &mut FlatFrame,
 ) -> Option<Refusal>
     ensures { (c : Configuration) → PlacesRecord c (E.order order.now)
-        (mapped record_of.aux_output_hw_id_is aux_output_hw_id) body.now frame.old result frame.new }
+        (map_parts record_of.aux_output_hw_id_is aux_output_hw_id) body.now frame.old result frame.new }
 {
     let mut places = Places::new(body);
     let hw_id = places.read_u64(order);
@@ -165,7 +165,7 @@ pub(crate) fn read_contents<E: Endian>(
     frame: &mut FlatFrame,
 ) -> Option<Refusal>
     ensures { (c : Configuration) → read_format_bits format ≡ c.read_format →
-        PlacesRecord c (E.order order.now) (mapped record_of.read_is (read c)) body.now frame.old result frame.new }
+        PlacesRecord c (E.order order.now) (map_parts record_of.read_is (read c)) body.now frame.old result frame.new }
 {
     let mut places = Places::new(body);
     let pid = places.read_word(order);
@@ -207,7 +207,7 @@ pub(crate) fn switch_cpu_wide_contents<E: Endian>(
     frame: &mut FlatFrame,
 ) -> Option<Refusal>
     ensures { (c : Configuration) → misc ≡ c.misc → PlacesRecord c (E.order order.now)
-        (mapped record_of.switch_cpu_wide_is (switch_cpu_wide c)) body.now frame.old result frame.new }
+        (map_parts record_of.switch_cpu_wide_is (switch_cpu_wide c)) body.now frame.old result frame.new }
 {
     let mut places = Places::new(body);
     let pid = places.read_word(order);

@@ -1,7 +1,7 @@
 //! Samples, read in place.
 
 ghost use Rattle.std.specs.Prelude.{◌≡◌};
-ghost use Rattle.perf_base.specs.Layout.{mapped};
+ghost use Rattle.perf_base.specs.Layout.{map_parts};
 ghost use Rattle.perf_flat.specs.Filled.{filled, filled_spans};
 ghost use Rattle.perf_flat.specs.Flat.{StatesId};
 ghost use Rattle.perf_flat.specs.Places.{PlacesRecord, SameHead};
@@ -112,7 +112,7 @@ pub(crate) fn sample_contents<E: Endian>(
     frame: &mut FlatFrame,
 ) -> Option<Refusal>
     ensures { PlacesRecord (configuration_of config.now) (E.order order.now)
-        (mapped sample_is (sample.sample (configuration_of config.now))) body.now
+        (map_parts sample_is (sample.sample (configuration_of config.now))) body.now
         frame.old result frame.new }
 {
     let flags = config.sample_type();

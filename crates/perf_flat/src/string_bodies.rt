@@ -2,7 +2,7 @@
 
 ghost use Rattle.std.specs.Prelude.{◌≡◌, ◌<◌, ◌^◌, ℕ};
 ghost use Rattle.perf_base.specs.Configuration.{Configuration};
-ghost use Rattle.perf_base.specs.Layout.{mapped};
+ghost use Rattle.perf_base.specs.Layout.{map_parts};
 ghost use Rattle.perf_base.specs.Order.{Order};
 ghost use Rattle.perf_flat.specs.Places.{PlacesRecord};
 ghost use Rattle.perf_records.specs.Bodies.{unread};
@@ -25,7 +25,7 @@ pub(crate) fn bpf_event_contents<E: Endian>(
     frame: &mut FlatFrame,
 ) -> Option<Refusal>
     ensures { (c : Configuration) → PlacesRecord c (E.order order.now)
-        (mapped record_of.bpf_event_is bpf_event) body.now frame.old result frame.new }
+        (map_parts record_of.bpf_event_is bpf_event) body.now frame.old result frame.new }
 {
     let mut places = Places::new(body);
     let kind = places.read_u16(order);
@@ -51,7 +51,7 @@ pub(crate) fn text_poke_contents<E: Endian>(
     frame: &mut FlatFrame,
 ) -> Option<Refusal>
     ensures { (c : Configuration) → PlacesRecord c (E.order order.now)
-        (mapped record_of.text_poke_is text_poke) body.now frame.old result frame.new }
+        (map_parts record_of.text_poke_is text_poke) body.now frame.old result frame.new }
 {
     let mut places = Places::new(body);
     let addr = places.read_u64(order);

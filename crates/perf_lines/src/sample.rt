@@ -2,8 +2,8 @@
 
 ghost use Rattle.std.specs.Prelude.{◌≡◌, ◌≤◌, ◌++◌, length, string_bytes, OnOk, option_map};
 ghost use Rattle.std.specs.Prelude.{codes, decimal};
-ghost use Rattle.perf_sample_types.specs.SampleWords.{getters_of, sample_value, group_read};
-ghost use Rattle.perf_sample_types.specs.SampleWords.{registers_value, txn_bits};
+ghost use Rattle.perf_sample_types.specs.Prelude.{getters_of, sample_value, group_read};
+ghost use Rattle.perf_sample_types.specs.Prelude.{registers_value, txn_bits};
 ghost use Rattle.perf_lines.specs.Fields.{with_spaces, with_commas, present};
 ghost use Rattle.perf_lines.specs.SampleText as lines;
 

@@ -3,14 +3,14 @@ use Rattle.std.proofs.Common.{◌≡◌, ℕ, ◌+◌, ◌≤◌, length, true, 
 use Rattle.std.specs.Prelude.{None, Some, IsTrue}
 use Rattle.perf_base.specs.declared.error.ErrorKind.{ErrorKind}
 use Rattle.perf_base.specs.declared.error.ErrorKind.TheVariants.{External, OutOfMemory}
-use Rattle.perf_buffers.specs.Buffer.{Source, Stays}
+use Rattle.perf_buffers.specs.Buffer.{Source, BufferInvariant}
 use Rattle.perf_reader.specs.ReaderState.{ReaderState}
-use Rattle.perf_reader.specs.Reading.{Keeps, last_of, of_layout, is_external, one_if_refused}
+use Rattle.perf_reader.specs.Reading.{CallInvariant, last_of, of_layout, is_external, one_if_refused}
 
 -- what was kept up to one state is kept up to another with the same source and reads
-pub keeps_moved : (start old new : ReaderState) → new.source ≡ old.source → new.reads ≡ old.reads → Keeps start None old → Keeps start None new
+pub keeps_moved : (start old new : ReaderState) → new.source ≡ old.source → new.reads ≡ old.reads → CallInvariant start None old → CallInvariant start None new
 keeps_moved start old new s r k = record {
-  buffer = subst (λ (x : Source). Stays start.source None x) (sym s) k.buffer;
+  buffer = subst (λ (x : Source). BufferInvariant start.source None x) (sym s) k.buffer;
   fault = k.fault;
   cost = subst (λ (x : Source). IsTrue start.source.told → (start.reads ≤ new.reads) × (new.reads + length x.left ≤ start.reads + length start.source.left + one_if_refused None)) (sym s)
       (subst (λ (n : ℕ). IsTrue start.source.told → (start.reads ≤ n) × (n + length old.source.left ≤ start.reads + length start.source.left + one_if_refused None)) (sym r) k.cost);

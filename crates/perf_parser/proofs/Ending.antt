@@ -18,14 +18,14 @@ use Rattle.perf_reader.specs.ReaderState as reader
 use Rattle.perf_reader.specs.ReaderState.{ReaderState}
 use Rattle.perf_reader.specs.declared.reader.Reader.{Reader}
 use Rattle.perf_reader.specs.Calls.{Call}
-use Rattle.perf_reader.specs.Reading.{Transition, Keeps, of_layout, one_if_refused, last_of}
+use Rattle.perf_reader.specs.Reading.{Transition, CallInvariant, of_layout, one_if_refused, last_of}
 use Rattle.perf_reader.proofs.Paying.{last_all, last_last}
 use Rattle.perf_reader.proofs.Stopping.{leaves, within_more}
 use Rattle.perf_records.specs.Answers.{ReadsFrameAfter, length_after, answer_after, answer_of_frame, reads_after}
 use Rattle.perf_records.specs.Frames.{frame_length}
 use Rattle.perf_records.specs.declared.record.Record.{Record}
 use Rattle.perf_records.proofs.Headers.{frame_body, after_frame, answer_whole}
-use Rattle.perf_parser.specs.Runs.{Pairs, seen_answer, refused_count, listed_reads, KeepsRun}
+use Rattle.perf_parser.specs.Runs.{Pairs, seen_answer, refused_count, listed_reads, RunInvariant}
 use Rattle.perf_parser.specs.Steps.{StopsAt, IsListed}
 use Rattle.perf_parser.specs.Runs.{one_if_ended, end_refusal}
 use Rattle.perf_parser.specs.Steps.{stop_kind, stopped_by, StopsBetween, IsEndOf}
@@ -82,7 +82,7 @@ no_fault a b External h p = absurd (cc)
 no_fault a b OutOfMemory h p = absurd (cc)
 
 -- nothing was done, if some were refused before
-pub run_none : (m : ReaderState) (n : ℕ) → KeepsRun m n None m
+pub run_none : (m : ReaderState) (n : ℕ) → RunInvariant m n None m
 run_none m n = record {
   buffer = (refl, (λ c. c), refl, (λ t. t));
   fault = λ x. cc;
@@ -91,7 +91,7 @@ run_none m n = record {
 }
 
 -- one call after others
-pub run_more : (start old new : ReaderState) (n : ℕ) (e : Option ErrorKind) → KeepsRun start n None old → Keeps old e new → KeepsRun start (n + one_if_refused e) e new
+pub run_more : (start old new : ReaderState) (n : ℕ) (e : Option ErrorKind) → RunInvariant start n None old → CallInvariant old e new → RunInvariant start (n + one_if_refused e) e new
 run_more start old new n e p q = record {
   buffer = (
     q.buffer.0 ∙ p.buffer.0,
@@ -108,7 +108,7 @@ run_more start old new n e p q = record {
 }
 
 -- a run goes on after a refusal of the layout
-pub run_on : (start new : ReaderState) (n : ℕ) (e : ErrorKind) → IsTrue (of_layout e) → KeepsRun start n (Some e) new → KeepsRun start n None new
+pub run_on : (start new : ReaderState) (n : ℕ) (e : ErrorKind) → IsTrue (of_layout e) → RunInvariant start n (Some e) new → RunInvariant start n None new
 run_on start new n e layout p = record {
   buffer = (p.buffer.0, p.buffer.1, no_fault start.source new.source e layout p.buffer.2, p.buffer.3);
   fault = λ x. cc;
@@ -117,20 +117,20 @@ run_on start new n e layout p = record {
 }
 
 -- a header that stopped it
-pub run_stops : (start old new : ReaderState) (n : ℕ) (s : Stop) → KeepsRun start n None old → Keeps old (Some (stop_kind s)) new → KeepsRun start (n + 1) (stopped_by {A = perf_event_header} (Err s)) new
+pub run_stops : (start old new : ReaderState) (n : ℕ) (s : Stop) → RunInvariant start n None old → CallInvariant old (Some (stop_kind s)) new → RunInvariant start (n + 1) (stopped_by {A = perf_event_header} (Err s)) new
 run_stops start old new n stop.Done p q = run_on start new (n + 1) Eof refl (run_more start old new n (Some Eof) p q)
 run_stops start old new n stop.CutHeader p q = run_on start new (n + 1) Eof refl (run_more start old new n (Some Eof) p q)
 run_stops start old new n (stop.Refused r) p q = run_more start old new n (Some (refusal_kind r)) p q
 
 -- an answer that was listed
 pub run_lists : (start old new : ReaderState) (pairs now : Pairs) (h : perf_event_header) (r : Result Record ParseError) → now ≡ pairs ++ (h, r) ∷ [] → IsListed r →
-    KeepsRun start (refused_count pairs) None old → Keeps old (kind_if_refused (error_kinds r)) new → KeepsRun start (refused_count now + 0) None new
+    RunInvariant start (refused_count pairs) None old → CallInvariant old (kind_if_refused (error_kinds r)) new → RunInvariant start (refused_count now + 0) None new
 run_lists start old new pairs now h (Ok r) e listed p q =
     let sum : refused_count now + 0 ≡ refused_count pairs + 0 = omega (arith, ap refused_count e ∙ one_more_refused pairs h (Ok r)) in
-    subst (λ (n : ℕ). KeepsRun start n None new) (sym sum) (run_more start old new (refused_count pairs) None p q)
+    subst (λ (n : ℕ). RunInvariant start n None new) (sym sum) (run_more start old new (refused_count pairs) None p q)
 run_lists start old new pairs now h (Err x) e listed p q =
     let sum : refused_count now + 0 ≡ refused_count pairs + 1 = omega (arith, ap refused_count e ∙ one_more_refused pairs h (Err x)) in
-    subst (λ (n : ℕ). KeepsRun start n None new) (sym sum)
+    subst (λ (n : ℕ). RunInvariant start n None new) (sym sum)
     (run_on start new (refused_count pairs + 1) (kind_of x) listed (run_more start old new (refused_count pairs) (Some (kind_of x)) p q))
 
 -- ---- what is stated of an answer
@@ -173,17 +173,17 @@ same_call source order transition old mid new outcome buffer config reads call =
       whole = ap (λ b. (source b).whole) buffer ∙ call.whole;
       told = λ told. subst (λ b. IsTrue (source b).told) (sym buffer) (call.told told);
       answer = λ told. subst (λ m. transition (reader.state_of (λ o. source o.buf) order old) outcome m) (sym same) (call.answer told);
-      keeps = λ start kept. subst (λ m. Keeps start (kind_if_refused outcome) m) (sym same) (call.keeps start kept);
+      keeps = λ start kept. subst (λ m. CallInvariant start (kind_if_refused outcome) m) (sym same) (call.keeps start kept);
     }
 
-pub run_ends : (start new : ReaderState) (n : ℕ) (s : Stop) (e : RunEnd) → IsEndOf s e → KeepsRun start (n + 1) (stopped_by {A = Unit {0}} (Err s)) new → KeepsRun start (n + one_if_ended e) (end_refusal e) new
-run_ends start new n stop.Done e is k = subst (λ (x : RunEnd). KeepsRun start (n + one_if_ended x) (end_refusal x) new) (sym is) k
-run_ends start new n stop.CutHeader e is k = subst (λ (x : RunEnd). KeepsRun start (n + one_if_ended x) (end_refusal x) new) (sym is) k
+pub run_ends : (start new : ReaderState) (n : ℕ) (s : Stop) (e : RunEnd) → IsEndOf s e → RunInvariant start (n + 1) (stopped_by {A = Unit {0}} (Err s)) new → RunInvariant start (n + one_if_ended e) (end_refusal e) new
+run_ends start new n stop.Done e is k = subst (λ (x : RunEnd). RunInvariant start (n + one_if_ended x) (end_refusal x) new) (sym is) k
+run_ends start new n stop.CutHeader e is k = subst (λ (x : RunEnd). RunInvariant start (n + one_if_ended x) (end_refusal x) new) (sym is) k
 run_ends start new n (stop.Refused r) e is k =
-    subst (λ (x : RunEnd). KeepsRun start (n + one_if_ended x) (end_refusal x) new) (sym is.1) (subst (λ (kind : ErrorKind). KeepsRun start (n + 1) (Some kind) new) (sym is.2.kind_is) k)
+    subst (λ (x : RunEnd). RunInvariant start (n + one_if_ended x) (end_refusal x) new) (sym is.1) (subst (λ (kind : ErrorKind). RunInvariant start (n + 1) (Some kind) new) (sym is.2.kind_is) k)
 
-pub run_limit : (start new : ReaderState) (n : ℕ) → KeepsRun start n None new → KeepsRun start (n + 0) None new
-run_limit start new n k = let same : n + 0 ≡ n = omega arith in subst (λ (m : ℕ). KeepsRun start m None new) (sym same) k
+pub run_limit : (start new : ReaderState) (n : ℕ) → RunInvariant start n None new → RunInvariant start (n + 0) None new
+run_limit start new n k = let same : n + 0 ≡ n = omega arith in subst (λ (m : ℕ). RunInvariant start m None new) (sym same) k
 
-pub run_limit_back : (start new : ReaderState) (n : ℕ) → KeepsRun start (n + 0) None new → KeepsRun start n None new
-run_limit_back start new n k = let same : n + 0 ≡ n = omega arith in subst (λ (m : ℕ). KeepsRun start m None new) same k
+pub run_limit_back : (start new : ReaderState) (n : ℕ) → RunInvariant start (n + 0) None new → RunInvariant start n None new
+run_limit_back start new n k = let same : n + 0 ≡ n = omega arith in subst (λ (m : ℕ). RunInvariant start m None new) same k

@@ -8,17 +8,17 @@ use Rattle.perf_buffers.specs.Buffer.{Source}
 use Rattle.perf_buffers.specs.declared.outer.Outer.{Outer}
 use Rattle.perf_reader.specs.ReaderState as reader
 use Rattle.perf_reader.specs.ReaderState.{ReaderState}
-use Rattle.perf_reader.specs.Reading.{Transition, Keeps}
+use Rattle.perf_reader.specs.Reading.{Transition, CallInvariant}
 use Rattle.perf_reader.specs.Calls as reader_calls
 use Rattle.perf_reader.specs.declared.reader.Reader.{Reader}
 use Rattle.perf_reader.proofs.Paying.{keeps_none}
 use Rattle.perf_parser.specs.ReaderState.{reader_of, buffer_of, config_of, reads_of, state_of}
-use Rattle.perf_parser.specs.Calls.{Follows, Call}
+use Rattle.perf_parser.specs.Calls.{BasicInvariant, Call}
 use Rattle.perf_parser.specs.declared.parser.Parser.{Parser}
 use Rattle.perf_parser.proofs.Paying.{follows_more}
 
 -- what was kept is followed
-pub keeps_follows : (start new : ReaderState) (e : Option ErrorKind) → Keeps start e new → Follows start new
+pub keeps_follows : (start new : ReaderState) (e : Option ErrorKind) → CallInvariant start e new → BasicInvariant start new
 keeps_follows start new e k = record {
   whole = k.buffer.0;
   told = k.buffer.3;
@@ -54,6 +54,6 @@ answered {B = B} source order transition old new mid e k c same buffer config re
       whole = ap (λ u. (source u).whole) buffer ∙ c.whole;
       told = λ t. subst (λ u. IsTrue (source u).told) (sym buffer) (c.told t);
       answer = λ t. subst (transition a (Err e)) (sym is) (c.answer t);
-      counted = λ start p. subst (Keeps start (Some e)) (sym is) (c.keeps start p);
-      follows = λ start p. subst (Follows start) (sym is) (follows_more start a m p (keeps_follows a m (Some e) (c.keeps a (keeps_none a))));
+      counted = λ start p. subst (CallInvariant start (Some e)) (sym is) (c.keeps start p);
+      follows = λ start p. subst (BasicInvariant start) (sym is) (follows_more start a m p (keeps_follows a m (Some e) (c.keeps a (keeps_none a))));
     })

@@ -5,7 +5,7 @@ use Rattle.perf_base.specs.declared.sys.perf_event_header.{perf_event_header}
 use Rattle.perf_buffers.specs.Cursor.{cursor_left}
 use Rattle.perf_buffers.specs.declared.cursor.ParseBufCursor.{ParseBufCursor}
 use Rattle.perf_reader.specs.ReaderState.{ReaderState}
-use Rattle.perf_reader.specs.Reading.{Keeps}
+use Rattle.perf_reader.specs.Reading.{CallInvariant}
 use Rattle.perf_records.specs.Answers.{SplitsAfter}
 use Rattle.perf_records.specs.Metadata.{MetadataValue}
 use Rattle.perf_parser.specs.Frames.{SplitsParser}
@@ -22,7 +22,7 @@ split_parsed h old new body metadata parser same p =
 pub split_unparsed : (E : Type 0) (h : perf_event_header) (old new : ReaderState) → SplitsParser {E = E} h old (Err OutOfMemory) new
 split_unparsed E h old new = λ layout. cc
 
-pub keeps_unparsed : (start new : ReaderState) → Keeps start None new → Keeps start (Some OutOfMemory) new
+pub keeps_unparsed : (start new : ReaderState) → CallInvariant start None new → CallInvariant start (Some OutOfMemory) new
 keeps_unparsed start new k = record {
   buffer = k.buffer;
   fault = λ x. cc;

@@ -3,11 +3,11 @@ use Rattle.std.proofs.Common.{length, refl, sym, ◌∙◌, ap, arith}
 use Rattle.perf_reader.specs.ReaderState.{ReaderState}
 use Rattle.perf_reader.specs.Reading.{last_of}
 use Rattle.perf_reader.proofs.Paying.{last_all, last_last, keeps_none}
-use Rattle.perf_parser.specs.Calls.{Follows}
+use Rattle.perf_parser.specs.Calls.{BasicInvariant}
 use Rattle.perf_base.proofs.Took.{places_took}
 
 -- nothing was done
-pub follows_none : (m : ReaderState) → Follows m m
+pub follows_none : (m : ReaderState) → BasicInvariant m m
 follows_none m = record {
   whole = refl;
   told = λ t. t;
@@ -16,7 +16,7 @@ follows_none m = record {
 }
 
 -- one call after others
-pub follows_more : (start old new : ReaderState) → Follows start old → Follows old new → Follows start new
+pub follows_more : (start old new : ReaderState) → BasicInvariant start old → BasicInvariant old new → BasicInvariant start new
 follows_more start old new p q = record {
   whole = q.whole ∙ p.whole;
   told = λ t. q.told (p.told t);

@@ -9,7 +9,7 @@ use Rattle.perf_buffers.specs.Buffer.{Source}
 use Rattle.perf_reader.specs.ReaderState.{ReaderState}
 use Rattle.perf_reader.specs.Reading.{Transition}
 use Rattle.perf_parser.specs.ReaderState.{config_of, state_of}
-use Rattle.perf_parser.specs.Calls.{Follows, Counts, CallAs, CallOnly}
+use Rattle.perf_parser.specs.Calls.{BasicInvariant, Counts, CallAs, CallOnly}
 use Rattle.perf_parser.specs.Repeats.{Step, ParsesInTurn, StopsShort}
 use Rattle.perf_parser.specs.declared.parser.Parser.{Parser}
 use Rattle.perf_parser.proofs.Paying.{follows_none, follows_more}
@@ -31,11 +31,11 @@ module _ {T : Type 0} (parses : Transition T) (counts : Counts) where
   runs_on a b c (y ∷ ys) x p q = (p.0, p.1, runs_on p.0 b c ys x p.2 q)
 
   -- what several calls keep
-  pub runs_follow : (a b : ReaderState) (xs : List T) → ParsesInTurn parses counts a xs b → Follows a b
-  runs_follow a b [] p = subst (λ m. Follows a m) (sym p) (follows_none a)
+  pub runs_follow : (a b : ReaderState) (xs : List T) → ParsesInTurn parses counts a xs b → BasicInvariant a b
+  runs_follow a b [] p = subst (λ m. BasicInvariant a m) (sym p) (follows_none a)
   runs_follow a b (x ∷ xs) p = follows_more a p.0 b p.1.follows (runs_follow p.0 b xs p.2)
 
-  pub short_follows : (a b : ReaderState) (n : ℕ) (e : ErrorKind) → StopsShort parses counts a n e b → Follows a b
+  pub short_follows : (a b : ReaderState) (n : ℕ) (e : ErrorKind) → StopsShort parses counts a n e b → BasicInvariant a b
   short_follows a b n e p = elim p [
     | inl q ↦ follows_more a q.1 b (runs_follow a q.1 q.0 q.3) q.4.follows
     | inr q ↦ runs_follow a b q.0 q.2
@@ -43,7 +43,7 @@ module _ {T : Type 0} (parses : Transition T) (counts : Counts) where
 
 -- calls that follow one another are a call of which only this is stated
 pub only : {B E X : Type 0} (source : B → Source) (order : E → Order) (old new : Parser B E) (outcome : Result X ErrorKind) →
-    config_of new ≡ config_of old → Follows (state_of source order old) (state_of source order new) → CallOnly source order old outcome new
+    config_of new ≡ config_of old → BasicInvariant (state_of source order old) (state_of source order new) → CallOnly source order old outcome new
 only source order old new outcome config f = record {
   config = config;
   whole = f.whole;

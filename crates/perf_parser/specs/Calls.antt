@@ -5,12 +5,12 @@ use Rattle.perf_base.specs.Refusals.{kind_if_refused}
 use Rattle.perf_base.specs.declared.error.ErrorKind.{ErrorKind}
 use Rattle.perf_buffers.specs.Buffer.{Source}
 use Rattle.perf_reader.specs.ReaderState.{ReaderState}
-use Rattle.perf_reader.specs.Reading.{Transition, Keeps, last_of}
+use Rattle.perf_reader.specs.Reading.{Transition, CallInvariant, last_of}
 use Rattle.perf_parser.specs.ReaderState.{buffer_of, config_of, state_of}
 use Rattle.perf_parser.specs.declared.parser.Parser.{Parser}
 
 -- What holds between two moments of a parser, whatever was parsed.
-pub record Follows (start new : ReaderState) : Type 0 where
+pub record BasicInvariant (start new : ReaderState) : Type 0 where
   -- a buffer stays whole, and its bytes stay known
   pub whole : new.source.whole ≡ start.source.whole
   pub told : IsTrue start.source.told → IsTrue new.source.told
@@ -27,8 +27,8 @@ Counts = ReaderState → Option ErrorKind → ReaderState → Type 0
 -- A type of this library counts each fault that it returns and no other, returns one only over a
 -- buffer that can fault, and makes at most as many reads as it takes bytes, and one more if it is
 -- refused. What of this was kept since any moment before is kept.
-abbrev pub KeepsOn : Counts
-KeepsOn old e new = (start : ReaderState) → Keeps start None old → Keeps start e new
+abbrev pub KeepsInvariant : Counts
+KeepsInvariant old e new = (start : ReaderState) → CallInvariant start None old → CallInvariant start e new
 
 module _ {B E X : Type 0} (source : B → Source) (order : E → Order)
     (transition : Transition X) (counts : Counts) where
@@ -45,13 +45,13 @@ module _ {B E X : Type 0} (source : B → Source) (order : E → Order)
     -- faults and reads
     pub counted : counts (state_of source order old) (kind_if_refused outcome) (state_of source order new)
     -- whatever moment it followed before the call, it follows after it
-    pub follows : (start : ReaderState) → Follows start (state_of source order old) →
-        Follows start (state_of source order new)
+    pub follows : (start : ReaderState) → BasicInvariant start (state_of source order old) →
+        BasicInvariant start (state_of source order new)
 
 -- a call of this library
 abbrev pub Call : {B E X : Type 0} → (B → Source) → (E → Order) → Transition X →
     Parser B E → Result X ErrorKind → Parser B E → Type 0
-Call source order transition old outcome new = CallAs source order transition KeepsOn old outcome new
+Call source order transition old outcome new = CallAs source order transition KeepsInvariant old outcome new
 
 -- a call of which only what every call keeps is stated
 abbrev pub CallOnly : {B E X : Type 0} → (B → Source) → (E → Order) →

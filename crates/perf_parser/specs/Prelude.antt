@@ -20,13 +20,13 @@ pub use Rattle.perf_buffers.specs.Room.{falls_short, is_made_beforehand}
 pub use Rattle.perf_buffers.specs.Taking.{MovesWithin}
 pub use Rattle.perf_reader.specs.ReaderState.{ReaderState}
 pub use Rattle.perf_reader.specs.Reading.{Transition, Reads, ReadsPlain, ReadsInPlace, ReadsOne, ReadsNumber}
-pub use Rattle.perf_reader.specs.Reading.{Keeps, of_layout}
+pub use Rattle.perf_reader.specs.Reading.{CallInvariant, of_layout}
 pub use Rattle.perf_records.specs.Answers.{ReadsFrameAfter, answers, length_after, LeavesAllOrRest}
 pub use Rattle.perf_records.specs.Answers.{RefusesHeader}
 pub use Rattle.perf_records.specs.Bodies.{needs_memory}
 pub use Rattle.perf_records.specs.Records.{IsBorrowed}
 pub use Rattle.perf_records.specs.Gives.{GivesFrameAfter, GivesFrame, BelongsTo}
 pub use Rattle.perf_sample_types.specs.Registers.{RegistersValue, registers_of, registers_value}
-pub use Rattle.perf_parser.specs.Calls.{Follows, Counts, KeepsOn, Call, CallAs, CallOnly}
+pub use Rattle.perf_parser.specs.Calls.{BasicInvariant, Counts, KeepsInvariant, Call, CallAs, CallOnly}
 pub use Rattle.perf_parser.specs.Frames.{SplitsParser, SplitsFrame}
 pub use Rattle.perf_parser.specs.ReaderState.{reader_of, buffer_of, config_of, reads_of, state_of}

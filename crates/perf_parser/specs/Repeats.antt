@@ -6,7 +6,7 @@ use Rattle.perf_base.specs.declared.error.ErrorKind.{ErrorKind}
 use Rattle.perf_base.specs.declared.error.ErrorKind.TheVariants.{OutOfMemory}
 use Rattle.perf_reader.specs.ReaderState.{ReaderState}
 use Rattle.perf_reader.specs.Reading.{Transition}
-use Rattle.perf_parser.specs.Calls.{Follows, Counts}
+use Rattle.perf_parser.specs.Calls.{BasicInvariant, Counts}
 
 -- What a type states of its parse: what it returns, and what it counts.
 module _ {T : Type 0} (parses : Transition T) (counts : Counts) where
@@ -14,7 +14,7 @@ module _ {T : Type 0} (parses : Transition T) (counts : Counts) where
   pub record Step (old : ReaderState) (outcome : Result T ErrorKind) (new : ReaderState) : Type 0 where
     pub answer : IsTrue old.source.told → parses old outcome new
     pub counted : counts old (kind_if_refused outcome) new
-    pub follows : Follows old new
+    pub follows : BasicInvariant old new
     pub settings : new.settings ≡ old.settings
     pub order : new.order ≡ old.order
 

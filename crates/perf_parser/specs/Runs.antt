@@ -11,7 +11,7 @@ use Rattle.perf_base.specs.declared.error.ErrorKind.{ErrorKind}
 use Rattle.perf_base.specs.declared.error.ErrorKind.TheVariants.{OutOfMemory}
 use Rattle.perf_base.specs.declared.error.ParseError.{ParseError}
 use Rattle.perf_base.specs.declared.sys.perf_event_header.{perf_event_header}
-use Rattle.perf_buffers.specs.Buffer.{Stays}
+use Rattle.perf_buffers.specs.Buffer.{BufferInvariant}
 pub use Rattle.perf_reader.specs.Headers.{MovesWithinFrame}
 use Rattle.perf_reader.specs.ReaderState.{ReaderState}
 use Rattle.perf_reader.specs.Reading.{of_layout, last_of, is_external}
@@ -124,10 +124,10 @@ EndsBetween o bytes count e left = end_refusal e ≡ Some OutOfMemory →
 
 -- What holds between two moments of a run that listed this many refusals, the second of them after
 -- the refusal that ended it, if one did.
-pub record KeepsRun (start : ReaderState) (refusals : ℕ) (e : Option ErrorKind) (new : ReaderState)
+pub record RunInvariant (start : ReaderState) (refusals : ℕ) (e : Option ErrorKind) (new : ReaderState)
     : Type 0 where
   -- the buffer stays what it is, and its faults are counted
-  pub buffer : Stays start.source e new.source
+  pub buffer : BufferInvariant start.source e new.source
   -- a fault comes only from a buffer that can fault
   pub fault : is_external e ≡ true → IsTrue start.source.can_fault
   -- at most as many reads as bytes taken, and one more for each refusal

@@ -31,7 +31,7 @@ use Rattle.perf_parser.specs.declared.runs.RunEnd.{RunEnd}
 use Rattle.perf_parser.specs.declared.runs.RunEnd.TheVariants as end
 pub use Rattle.perf_reader.specs.Headers.{ReadsHeader, StopsAt, stop_kind, stop_kinds}
 use Rattle.perf_parser.specs.FrameRuns.{EndsFrames, CountsRun, went_on, frames_refusal, one_if_run_ended}
-use Rattle.perf_parser.specs.Runs.{Pairs, KeepsRun, seen_answers, IsBorrowedAnswer, AllBorrowed}
+use Rattle.perf_parser.specs.Runs.{Pairs, RunInvariant, seen_answers, IsBorrowedAnswer, AllBorrowed}
 
 -- ---- how it stops
 
@@ -152,7 +152,7 @@ pub record HasTaken {S : Type 0} (kind : StepKind S) (start : ReaderState) (k : 
     (now : S) : Type 0 where
   pub settings : here.settings ≡ start.settings
   pub order : here.order ≡ start.order
-  pub keeps : KeepsRun start (kind.refusals now) None here
+  pub keeps : RunInvariant start (kind.refusals now) None here
   pub after : IsTrue start.source.told → IsAfter start k here
   pub reads : IsTrue start.source.told → here.reads ≡ start.reads + reads_of_first kind start k
 
@@ -176,8 +176,8 @@ pub record TakesStep {S : Type 0} (kind : StepKind S) (old : ReaderState) (was :
   pub stop : IsTrue old.source.told → IfErr result (λ s. StopsAt old s new)
   pub memory : IsTrue old.source.told → IsTrue old.source.whole → IfErr result (λ s.
       StopsBetween old s new × (stop_kind s ≡ OutOfMemory → kind.allocates))
-  pub keeps : (start : ReaderState) → KeepsRun start (kind.refusals was) None old →
-      KeepsRun start (kind.refusals now + one_if_stopped result) (stopped_by result) new
+  pub keeps : (start : ReaderState) → RunInvariant start (kind.refusals was) None old →
+      RunInvariant start (kind.refusals now + one_if_stopped result) (stopped_by result) new
 
 -- a run takes k steps: the state after them, how it ends, and what it leaves
 pub record TakesSteps {S : Type 0} (kind : StepKind S) (start : ReaderState) (first : S) (limit k : ℕ)
@@ -192,7 +192,7 @@ pub record TakesSteps {S : Type 0} (kind : StepKind S) (start : ReaderState) (fi
       frames_refusal e ≡ Some OutOfMemory → kind.allocates
       × ((new.source.left ≡ drop_frames start.order k start.source.left)
       ⊎ (new.source.left ≡ drop_frames start.order (k + 1) start.source.left))
-  pub keeps : KeepsRun start (kind.refusals now + one_if_run_ended e) (frames_refusal e) new
+  pub keeps : RunInvariant start (kind.refusals now + one_if_run_ended e) (frames_refusal e) new
 
 -- the first k frames were listed, if their bytes are known with their answers
 pub record ListsFirst (start : ReaderState) (k : ℕ) (go : Bool) (pairs : Pairs) : Type 0 where

@@ -89,7 +89,7 @@ pub fn each_frame<'p, B: ParseBuf<'p>, E: Endian, H: FrameHandler<'p, E>>(
         result.count result.end (reads_of parser.old) (reads_of parser.new) }
 
     // Whatever the buffer, faults are counted. If its bytes are known, no more is read than is taken.
-    ensures keeps { runs.KeepsRun (state_of B.source E.order parser.old)
+    ensures keeps { runs.RunInvariant (state_of B.source E.order parser.old)
         (hands.one_if_run_ended result.end) (hands.frames_refusal result.end)
         (state_of B.source E.order parser.new) }
 {

@@ -2,7 +2,7 @@
 
 ghost use Rattle.std.specs.Prelude.{IsTrue};
 ghost use Rattle.perf_base.specs.declared.sys.perf_event_header.{perf_event_header};
-ghost use Rattle.perf_parser.specs.Prelude.{Transition, Counts, KeepsOn, Call, CallAs, buffer_of};
+ghost use Rattle.perf_parser.specs.Prelude.{Transition, Counts, KeepsInvariant, Call, CallAs, buffer_of};
 ghost use Rattle.perf_parser.specs.Prelude.{error_kinds, length_after, MovesWithin, Reads};
 ghost use Rattle.perf_parser.specs.Prelude.{RegistersValue, registers_of, registers_value};
 
@@ -61,7 +61,7 @@ pub trait Layout: Sized {
     // What it counts: faults, and elementary reads. A type of this library counts each fault that
     // it returns and no other, returns one only over a buffer that can fault, and makes at most as
     // many reads as it takes bytes, and one more if it is refused. Another type may state its own.
-    ghost counts: { Counts } = { KeepsOn };
+    ghost counts: { Counts } = { KeepsInvariant };
 }
 
 /// A type that can be parsed from a buffer. [`Layout`] has an example of one of your own.

@@ -563,8 +563,8 @@ impl<'p, B: ParseBuf<'p> + Drop, E: Endian> Parser<B, E> {
 
         // What was kept since any earlier state is kept.
         ensures keeps { (start : prelude.ReaderState) →
-            prelude.Keeps start None (state_of B.source E.order self) →
-            IfOk result (λ after. prelude.Keeps start None (state_of B.source E.order after)) }
+            prelude.CallInvariant start None (state_of B.source E.order self) →
+            IfOk result (λ after. prelude.CallInvariant start None (state_of B.source E.order after)) }
     {
         let attr = match self.parse::<perf_event_attr>() {
             Ok(attr) => attr,

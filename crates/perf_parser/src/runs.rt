@@ -204,16 +204,16 @@ fn list_frame<'p, B: ParseBuf<'p>, E: Endian>(
 // are, or for one. If that allocation fails, capacity for one is tried.
 fn grow<'p>(
     frames: &mut Vec<(perf_event_header, ParseResult<Record<'p>>)>,
-    shown: usize,
+    shown_count: usize,
     most: usize,
 ) -> Result<(), Stop>
     ensures room { OnOk result (vec_len frames.new < vec_capacity frames.new) }
     ensures items { frames.new.items ≡ frames.old.items }
     ensures bound { vec_capacity frames.new ≤ max (vec_capacity frames.old)
-        (vec_len frames.old + max shown (max (min (vec_len frames.old) most) 1)) }
+        (vec_len frames.old + max shown_count (max (min (vec_len frames.old) most) 1)) }
     ensures refused { IfErr result (λ s. s ≡ Stop.Refused Refusal.OutOfMemory) }
 {
-    let more = shown.max(frames.len().min(most)).max(1);
+    let more = shown_count.max(frames.len().min(most)).max(1);
     if frames.reserve_exact(more).is_ok() || frames.reserve_exact(1).is_ok() {
         return Ok(());
     }
@@ -246,7 +246,7 @@ fn make_room<'p, B: ParseBuf<'p>, E: Endian>(
     }
     let most = limit.saturating_sub(frames.len()).min(MOST_RESERVED);
     match reader.frames_shown(most, frames.is_empty()) {
-        Ok(shown) => grow(frames, shown, most),
+        Ok(shown_count) => grow(frames, shown_count, most),
         Err(refusal) => {
             reader.count(ReadCounter::of(1));
             Err(stop_at(refusal, Stop::Done))
@@ -326,7 +326,7 @@ pub fn read_records<'p, B: ParseBuf<'p>, E: Endian>(
 
     // There are at most as many of them as bytes taken, and one more for each refused answer and
     // for an end before the limit.
-    ensures keeps { runs.KeepsRun (state_of B.source E.order parser.old)
+    ensures keeps { runs.RunInvariant (state_of B.source E.order parser.old)
         (runs.refused_count result.frames.items + runs.one_if_ended result.end)
         (runs.end_refusal result.end)
         (state_of B.source E.order parser.new) }

@@ -13,14 +13,14 @@ use Rattle.perf_base.proofs.Took.{places_took, then_take}
 use Rattle.perf_buffers.specs.Buffer.{Source}
 use Rattle.perf_reader.specs.Calls.{Call}
 use Rattle.perf_reader.specs.ReaderState.{ReaderState, state_of}
-use Rattle.perf_reader.specs.Reading.{Transition, AnswersRun, Reads, ReadsOne, Keeps, of_layout}
+use Rattle.perf_reader.specs.Reading.{Transition, AnswersRun, Reads, ReadsOne, CallInvariant, of_layout}
 use Rattle.perf_reader.specs.TableRuns.{ReadsBorrowed, ReadsField, ReadsTable, before, field_took, table_took}
 use Rattle.perf_reader.specs.declared.reader.Reader.{Reader}
 use Rattle.perf_reader.proofs.After.{call_after, call_stops}
 use Rattle.perf_reader.proofs.TableRuns.{places_table}
 
 -- a refusal at once keeps everything
-refused_at_once : (e : ErrorKind) → IsTrue (of_layout e) → (start m : ReaderState) → Keeps start None m → Keeps start (Some e) m
+refused_at_once : (e : ErrorKind) → IsTrue (of_layout e) → (start m : ReaderState) → CallInvariant start None m → CallInvariant start (Some e) m
 refused_at_once Eof kind start m h = record { buffer = (h.buffer.0, h.buffer.1, h.buffer.2, h.buffer.3); fault = λ x. cc; cost = λ t. let c = h.cost t in (c.0, omega (arith, c.1)); place = h.place }
 refused_at_once InvalidRecord kind start m h = record { buffer = (h.buffer.0, h.buffer.1, h.buffer.2, h.buffer.3); fault = λ x. cc; cost = λ t. let c = h.cost t in (c.0, omega (arith, c.1)); place = h.place }
 refused_at_once UnsupportedConfig kind start m h = record { buffer = (h.buffer.0, h.buffer.1, h.buffer.2, h.buffer.3); fault = λ x. cc; cost = λ t. let c = h.cost t in (c.0, omega (arith, c.1)); place = h.place }

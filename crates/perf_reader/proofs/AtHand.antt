@@ -8,10 +8,10 @@ use Rattle.perf_base.specs.Took.{took, quit, one_took}
 use Rattle.perf_base.specs.declared.error.ErrorKind.{ErrorKind}
 use Rattle.perf_base.specs.declared.error.ErrorKind.TheVariants.{Eof, InvalidRecord, UnsupportedConfig, UnsupportedData, External, OutOfMemory}
 use Rattle.perf_base.proofs.Took.{took_yes}
-use Rattle.perf_buffers.specs.Buffer.{Source, Stays}
+use Rattle.perf_buffers.specs.Buffer.{Source, BufferInvariant}
 use Rattle.perf_buffers.specs.Taking.{FailsToTake, Takes}
 use Rattle.perf_reader.specs.ReaderState.{ReaderState}
-use Rattle.perf_reader.specs.Reading.{of_layout, Keeps}
+use Rattle.perf_reader.specs.Reading.{of_layout, CallInvariant}
 use Rattle.perf_reader.proofs.Paying.{keeps_more, place_after}
 
 -- they are present, so the layout does not refuse them
@@ -24,7 +24,7 @@ never_short k n o old new External i j has p kind = cc
 never_short k n o old new OutOfMemory i j has p kind = absurd p
 
 -- they were taken, and counted
-pub block_keeps : (start old new : ReaderState) (n k : ℕ) → n ≡ 8 * k → Keeps start None old → new.reads ≡ old.reads + k → Stays old.source None new.source → (IsTrue old.source.told → Takes old.source n new.source) → Keeps start None new
+pub block_keeps : (start old new : ReaderState) (n k : ℕ) → n ≡ 8 * k → CallInvariant start None old → new.reads ≡ old.reads + k → BufferInvariant old.source None new.source → (IsTrue old.source.told → Takes old.source n new.source) → CallInvariant start None new
 block_keeps start old new n k is p count stays moves = keeps_more start old new None p (record {
   buffer = stays;
   fault = λ x. cc;

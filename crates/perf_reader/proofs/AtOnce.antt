@@ -9,12 +9,12 @@ use Rattle.perf_base.specs.Took.{Took, took, quit, one_took, take_parts, took_by
 use Rattle.perf_base.specs.declared.error.ErrorKind.{ErrorKind}
 use Rattle.perf_base.specs.declared.error.ErrorKind.TheVariants.{Eof, InvalidRecord, UnsupportedConfig, UnsupportedData, External, OutOfMemory}
 use Rattle.perf_base.proofs.Took.{took_yes, then_take}
-use Rattle.perf_buffers.specs.Buffer.{Source, Stays}
+use Rattle.perf_buffers.specs.Buffer.{Source, BufferInvariant}
 use Rattle.perf_buffers.specs.Taking.{FailsToTake, Takes}
 use Rattle.perf_reader.specs.AtOnce.{ReadsAtOnce}
 use Rattle.perf_reader.specs.Calls.{Call}
 use Rattle.perf_reader.specs.ReaderState.{ReaderState, state_of}
-use Rattle.perf_reader.specs.Reading.{of_layout, Keeps, Reads}
+use Rattle.perf_reader.specs.Reading.{of_layout, CallInvariant, Reads}
 use Rattle.perf_reader.specs.declared.reader.Reader.{Reader}
 use Rattle.perf_reader.proofs.Paying.{keeps_more, place_after}
 
@@ -30,7 +30,7 @@ never_lacking old new n External has p kind = cc
 never_lacking old new n OutOfMemory has p kind = absurd p
 
 -- they were taken, and counted
-pub at_once_keeps : (start old new : ReaderState) (n k : ℕ) → k ≤ n → Keeps start None old → new.reads ≡ old.reads + k → Stays old.source None new.source → (IsTrue old.source.told → Takes old.source n new.source) → Keeps start None new
+pub at_once_keeps : (start old new : ReaderState) (n k : ℕ) → k ≤ n → CallInvariant start None old → new.reads ≡ old.reads + k → BufferInvariant old.source None new.source → (IsTrue old.source.told → Takes old.source n new.source) → CallInvariant start None new
 at_once_keeps start old new n k few p count stays moves = keeps_more start old new None p (record {
   buffer = stays;
   fault = λ x. cc;

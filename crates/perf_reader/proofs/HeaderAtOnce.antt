@@ -11,10 +11,10 @@ use Rattle.perf_base.specs.declared.error.ErrorKind.{ErrorKind}
 use Rattle.perf_base.specs.declared.error.ErrorKind.TheVariants.{Eof, InvalidRecord, UnsupportedConfig, UnsupportedData, External, OutOfMemory}
 use Rattle.perf_base.specs.declared.sys.perf_event_header.{perf_event_header}
 use Rattle.perf_base.proofs.Took.{took_yes, places_took, then_take}
-use Rattle.perf_buffers.specs.Buffer.{Source, Stays}
+use Rattle.perf_buffers.specs.Buffer.{Source, BufferInvariant}
 use Rattle.perf_buffers.specs.Taking.{FailsToTake, Takes}
 use Rattle.perf_reader.specs.ReaderState.{ReaderState}
-use Rattle.perf_reader.specs.Reading.{of_layout, Keeps}
+use Rattle.perf_reader.specs.Reading.{of_layout, CallInvariant}
 use Rattle.perf_reader.proofs.Paying.{keeps_more, place_after}
 
 -- one part, and then the others
@@ -85,7 +85,7 @@ never_short o old new External n m has p kind = cc
 never_short o old new OutOfMemory n m has p kind = absurd p
 
 -- they were taken, and counted
-pub header_keeps : (start old new : ReaderState) (k : ℕ) → k ≤ 8 → Keeps start None old → new.reads ≡ old.reads + k → Stays old.source None new.source → (IsTrue old.source.told → Takes old.source 8 new.source) → Keeps start None new
+pub header_keeps : (start old new : ReaderState) (k : ℕ) → k ≤ 8 → CallInvariant start None old → new.reads ≡ old.reads + k → BufferInvariant old.source None new.source → (IsTrue old.source.told → Takes old.source 8 new.source) → CallInvariant start None new
 header_keeps start old new k few p count stays moves = keeps_more start old new None p (record {
   buffer = stays;
   fault = λ x. cc;

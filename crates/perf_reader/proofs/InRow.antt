@@ -16,7 +16,7 @@ use Rattle.perf_base.proofs.Took.{took_yes, took_no}
 use Rattle.perf_buffers.specs.Buffer.{Source}
 use Rattle.perf_reader.specs.Calls.{Call}
 use Rattle.perf_reader.specs.ReaderState.{ReaderState}
-use Rattle.perf_reader.specs.Reading.{ReadsOne, Keeps}
+use Rattle.perf_reader.specs.Reading.{ReadsOne, CallInvariant}
 use Rattle.perf_reader.specs.declared.reader.Reader.{Reader}
 
 -- what follows from a part that was read, and from one that was not
@@ -243,7 +243,7 @@ module _ {I E : Type 0} (source : I → Source) (order : E → Order) where
     keeps = λ start h. q.keeps start (p.keeps start h);
   }
 
-  starved : (start m : ReaderState) → Keeps start None m → Keeps start (Some OutOfMemory) m
+  starved : (start m : ReaderState) → CallInvariant start None m → CallInvariant start (Some OutOfMemory) m
   starved start m h = record {
     buffer = (h.buffer.0, h.buffer.1, h.buffer.2, h.buffer.3);
     fault = λ x. cc;

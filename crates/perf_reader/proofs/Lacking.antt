@@ -15,7 +15,7 @@ use Rattle.perf_buffers.specs.Buffer.{Source}
 use Rattle.perf_buffers.specs.Room.{falls_short}
 use Rattle.perf_reader.specs.Calls.{Call}
 use Rattle.perf_reader.specs.ReaderState.{ReaderState}
-use Rattle.perf_reader.specs.Reading.{ReadsOne, Keeps}
+use Rattle.perf_reader.specs.Reading.{ReadsOne, CallInvariant}
 use Rattle.perf_reader.specs.declared.reader.Reader.{Reader}
 use Rattle.perf_reader.proofs.InRow.{InRow}
 
@@ -36,7 +36,7 @@ not_short (Some left) n m outcome is fits same short = elim (leb_tells n left) [
   | inr fewer ↦ absurd (false≢true (fits ∙ ap (λ (s : Option Bool). option_eq beq s (Some false)) (is ∙ ap Some fewer.0)))
 ]
 
-lacking : (start m : ReaderState) → Keeps start None m → Keeps start (Some Eof) m
+lacking : (start m : ReaderState) → CallInvariant start None m → CallInvariant start (Some Eof) m
 lacking start m h = record {
   buffer = (h.buffer.0, h.buffer.1, h.buffer.2, h.buffer.3);
   fault = λ x. cc;

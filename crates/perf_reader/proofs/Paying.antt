@@ -11,9 +11,9 @@ use Rattle.perf_base.proofs.ReadBound.{any_le}
 use Rattle.perf_base.specs.LayoutReads.{one_if_any}
 use Rattle.std.specs.Prelude.{Option, None, Some, IsTrue}
 use Rattle.perf_base.specs.declared.error.ErrorKind.{ErrorKind}
-use Rattle.perf_buffers.specs.Buffer.{faults_after, Stays}
+use Rattle.perf_buffers.specs.Buffer.{faults_after, BufferInvariant}
 use Rattle.perf_reader.specs.ReaderState.{ReaderState}
-use Rattle.perf_reader.specs.Reading.{last_of, Keeps, one_if_refused, is_external}
+use Rattle.perf_reader.specs.Reading.{last_of, CallInvariant, one_if_refused, is_external}
 
 pub last_last : (n m : ℕ) (xs : List ℕ) → n ≤ m → m ≤ length xs → last_of n (last_of m xs) ≡ last_of n xs
 unfolding last_of
@@ -51,7 +51,7 @@ place_after a b n p =
 -- ---- what is kept
 
 -- nothing was done
-pub keeps_none : (m : ReaderState) → Keeps m None m
+pub keeps_none : (m : ReaderState) → CallInvariant m None m
 keeps_none m = record {
   buffer = (refl, (λ c. c), refl, (λ t. t));
   fault = λ x. cc;
@@ -60,7 +60,7 @@ keeps_none m = record {
 }
 
 -- one call after others
-pub keeps_more : (start old new : ReaderState) (e : Option ErrorKind) → Keeps start None old → Keeps old e new → Keeps start e new
+pub keeps_more : (start old new : ReaderState) (e : Option ErrorKind) → CallInvariant start None old → CallInvariant old e new → CallInvariant start e new
 keeps_more start old new e p q = record {
   buffer = (
     q.buffer.0 ∙ p.buffer.0,
@@ -109,8 +109,8 @@ failed_in_rest old new External p = p
 failed_in_rest old new OutOfMemory p = p
 
 -- the next n bytes were taken, or were not
-pub array_keeps : (start old new : ReaderState) (n : ℕ) (e : Option ErrorKind) → Keeps start None old → 0 < n → new.reads ≡ old.reads + 1 → Stays old.source e new.source → CanFail old.source e →
-    (IsTrue old.source.told → TakesOrFails old.source n e new.source) → Keeps start e new
+pub array_keeps : (start old new : ReaderState) (n : ℕ) (e : Option ErrorKind) → CallInvariant start None old → 0 < n → new.reads ≡ old.reads + 1 → BufferInvariant old.source e new.source → CanFail old.source e →
+    (IsTrue old.source.told → TakesOrFails old.source n e new.source) → CallInvariant start e new
 array_keeps start old new n e p some count stays can took = keeps_more start old new e p (record {
   buffer = stays;
   fault = can_fault old.source e can;
@@ -129,8 +129,8 @@ kept_moved old new n UnsupportedConfig some p = absurd p
 kept_moved old new n UnsupportedData some p = absurd p
 
 -- the next n bytes were to be kept, and that was refused
-pub kept_keeps : (start old new : ReaderState) (n : ℕ) (e : ErrorKind) → Keeps start None old → 0 < n → new.reads ≡ old.reads + 1 → Stays old.source (Some e) new.source → CanFail old.source (Some e) →
-    (IsTrue old.source.told → FailsToKeep old.source n e new.source) → Keeps start (Some e) new
+pub kept_keeps : (start old new : ReaderState) (n : ℕ) (e : ErrorKind) → CallInvariant start None old → 0 < n → new.reads ≡ old.reads + 1 → BufferInvariant old.source (Some e) new.source → CanFail old.source (Some e) →
+    (IsTrue old.source.told → FailsToKeep old.source n e new.source) → CallInvariant start (Some e) new
 kept_keeps start old new n e p some count stays can took = keeps_more start old new (Some e) p (record {
   buffer = stays;
   fault = can_fault old.source (Some e) can;
@@ -139,8 +139,8 @@ kept_keeps start old new n e p some count stays can took = keeps_more start old 
 })
 
 -- all was taken
-pub rest_keeps : (start old new : ReaderState) (bytes : List ℕ) → Keeps start None old → new.reads ≡ old.reads + one_if_any (length bytes) → Stays old.source None new.source →
-    (IsTrue old.source.told → (bytes ≡ old.source.left) × (new.source.left ≡ [])) → Keeps start None new
+pub rest_keeps : (start old new : ReaderState) (bytes : List ℕ) → CallInvariant start None old → new.reads ≡ old.reads + one_if_any (length bytes) → BufferInvariant old.source None new.source →
+    (IsTrue old.source.told → (bytes ≡ old.source.left) × (new.source.left ≡ [])) → CallInvariant start None new
 rest_keeps start old new bytes p count stays took = keeps_more start old new None p (record {
   buffer = stays;
   fault = λ x. cc;
@@ -151,8 +151,8 @@ rest_keeps start old new bytes p count stays took = keeps_more start old new Non
       (omega arith, m.1 ∙ sym (ap (λ n. last_of n old.source.left) l ∙ last_none old.source.left));
 })
 
-pub rest_fails : (start old new : ReaderState) (e : ErrorKind) → Keeps start None old → new.reads ≡ old.reads + 1 → Stays old.source (Some e) new.source → CanFail old.source (Some e) →
-    (IsTrue old.source.told → FailsInRest old.source e new.source) → Keeps start (Some e) new
+pub rest_fails : (start old new : ReaderState) (e : ErrorKind) → CallInvariant start None old → new.reads ≡ old.reads + 1 → BufferInvariant old.source (Some e) new.source → CanFail old.source (Some e) →
+    (IsTrue old.source.told → FailsInRest old.source e new.source) → CallInvariant start (Some e) new
 rest_fails start old new e p count stays can took = keeps_more start old new (Some e) p (record {
   buffer = stays;
   fault = can_fault old.source (Some e) can;

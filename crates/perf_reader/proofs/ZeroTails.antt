@@ -12,7 +12,7 @@ use Rattle.perf_base.proofs.Took.{places_took, then_take}
 use Rattle.perf_buffers.specs.Buffer.{Source}
 use Rattle.perf_buffers.specs.Taking.{Takes, FailsToTake}
 use Rattle.perf_reader.specs.ReaderState.{ReaderState}
-use Rattle.perf_reader.specs.Reading.{of_layout, Keeps}
+use Rattle.perf_reader.specs.Reading.{of_layout, CallInvariant}
 use Rattle.perf_reader.proofs.Steps.{run_there, run_none, array_short}
 
 -- what follows the bytes
@@ -57,7 +57,7 @@ pub zeros_short : (o : Order) (n : ℕ) (old new : Source) (e : ErrorKind) (k m 
 zeros_short o n old new e k m p q kind = zeros_run o n old.left k ∙ ap (then_take (λ tail left k. judged (all_zero tail) left k)) (array_short o n old new e k m p q kind)
 
 -- bytes that were taken, one of which is not zero
-pub tail_keeps : (start new : ReaderState) → Keeps start None new → Keeps start (Some UnsupportedData) new
+pub tail_keeps : (start new : ReaderState) → CallInvariant start None new → CallInvariant start (Some UnsupportedData) new
 tail_keeps start new p = record {
   buffer = p.buffer;
   fault = λ x. cc;

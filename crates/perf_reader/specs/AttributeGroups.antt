@@ -3,7 +3,7 @@
 use Rattle.std.specs.Prelude.{ℕ, nat_le}
 use Rattle.std.specs.Int.{w32, cast_signed}
 use Rattle.perf_base.specs.Attribute.{is_attribute_size, or_zero}
-use Rattle.perf_base.specs.FieldWords.{u32, u64, u16_if, u32_if, u64_if, ignored_if, require}
+use Rattle.perf_base.specs.FieldWords.{u32, u64, u16_if, u32_if, u64_if, gap_if, require}
 use Rattle.perf_base.specs.Layout.{Parts, done, ◌>>=◌, ◌>>◌}
 use Rattle.perf_base.specs.declared.error.ErrorKind.TheVariants.{InvalidRecord}
 use Rattle.perf_base.specs.declared.sys.perf_event_attr.{perf_event_attr}
@@ -73,9 +73,9 @@ abbrev pub aux_fields : ℕ → Parts AuxFields
 aux_fields size = do
   aux_watermark ← u32_if (nat_le 112 size)
   sample_max_stack ← u16_if (nat_le 112 size)
-  ignored_if (nat_le 112 size) 2
+  gap_if (nat_le 112 size) 2
   aux_sample_size ← u32_if (nat_le 120 size)
-  ignored_if (nat_le 120 size) 4
+  gap_if (nat_le 120 size) 4
   done (record {
     aux_watermark = or_zero aux_watermark;
     sample_max_stack = or_zero sample_max_stack;

@@ -5,7 +5,7 @@ use Rattle.perf_base.specs.Refusals.{kind_if_refused}
 use Rattle.perf_base.specs.declared.error.ErrorKind.{ErrorKind}
 use Rattle.perf_buffers.specs.Buffer.{Source}
 use Rattle.perf_reader.specs.ReaderState.{ReaderState, input_of, config_of, state_of}
-use Rattle.perf_reader.specs.Reading.{Transition, Keeps}
+use Rattle.perf_reader.specs.Reading.{Transition, CallInvariant}
 use Rattle.perf_reader.specs.declared.reader.Reader.{Reader}
 
 module _ {I E X : Type 0} (source : I → Source) (order : E → Order) (transition : Transition X) where
@@ -20,5 +20,5 @@ module _ {I E X : Type 0} (source : I → Source) (order : E → Order) (transit
     pub answer : IsTrue (source (input_of old)).told →
         transition (state_of source order old) outcome (state_of source order new)
     -- what was kept since any moment before is kept
-    pub keeps : (start : ReaderState) → Keeps start None (state_of source order old) →
-        Keeps start (kind_if_refused outcome) (state_of source order new)
+    pub keeps : (start : ReaderState) → CallInvariant start None (state_of source order old) →
+        CallInvariant start (kind_if_refused outcome) (state_of source order new)

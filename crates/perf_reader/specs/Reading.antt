@@ -11,7 +11,7 @@ use Rattle.perf_base.specs.declared.error.ErrorKind.{ErrorKind}
 use Rattle.perf_base.specs.declared.error.ErrorKind.TheVariants.{Eof, InvalidRecord}
 use Rattle.perf_base.specs.declared.error.ErrorKind.TheVariants.{UnsupportedConfig, UnsupportedData}
 use Rattle.perf_base.specs.declared.error.ErrorKind.TheVariants.{External, OutOfMemory}
-use Rattle.perf_buffers.specs.Buffer.{Stays}
+use Rattle.perf_buffers.specs.Buffer.{BufferInvariant}
 use Rattle.perf_reader.specs.ReaderState.{ReaderState}
 
 -- ---- what is returned
@@ -77,9 +77,9 @@ is_external (Some OutOfMemory) = false
 
 -- What holds between two moments of a reader, the second of them after a call that was refused with
 -- that kind, if it was.
-pub record Keeps (start : ReaderState) (e : Option ErrorKind) (new : ReaderState) : Type 0 where
+pub record CallInvariant (start : ReaderState) (e : Option ErrorKind) (new : ReaderState) : Type 0 where
   -- the buffer stays what it is, and its faults are counted
-  pub buffer : Stays start.source e new.source
+  pub buffer : BufferInvariant start.source e new.source
   -- a fault comes only from a buffer that can fault
   pub fault : is_external e ≡ true → IsTrue start.source.can_fault
   -- at most as many reads as bytes taken, and one more if it was refused

@@ -135,10 +135,10 @@ fn read_registers<'p, I: Input<'p>, E: Endian>(
 }
 
 // How many bytes of padding there are, if the size reaches them.
-fn len_to_skip(reached: bool, len: usize) -> usize
-    ensures { result ≡ (if reached then len else 0) }
+fn len_to_skip(is_reached: bool, len: usize) -> usize
+    ensures { result ≡ (if is_reached then len else 0) }
 {
-    if reached { len } else { 0 }
+    if is_reached { len } else { 0 }
 }
 
 fn read_aux<'p, I: Input<'p>, E: Endian>(

@@ -16,7 +16,7 @@ ghost use Rattle.perf_reader.specs.Room.{IsRoom};
 ghost use Rattle.perf_reader.specs.Prelude.{Call, ReadsAtOnce, NeedsNoMemory, kinds, input_of};
 ghost use Rattle.perf_reader.specs.Prelude.{refusal_kind, ReadsOne, words, one_if_any, OutOfMemory};
 ghost use Rattle.perf_reader.specs.Prelude.{falls_short, is_made_beforehand, reads_of, cow_items};
-ghost use Rattle.perf_reader.specs.Prelude.{is_borrowed, byte_string, Stays, cursor_left};
+ghost use Rattle.perf_reader.specs.Prelude.{is_borrowed, byte_string, BufferInvariant, cursor_left};
 ghost use Rattle.perf_reader.specs.Prelude.{cursor_is_borrowed, IsAtStart, Takes, FailsToKeep, CanFail};
 ghost use Rattle.perf_reader.specs.Prelude.{config_of, kind_if_refused, Refuses, buffer_of, ReadsPlain};
 ghost use Rattle.perf_reader.specs.Prelude.{state_of, Reads, number, w1, w2, w4, w8, optional};
@@ -150,7 +150,7 @@ impl<'p, I: Input<'p>, E: Endian> Reader<I, E> {
     pub fn cut(&mut self, len: usize) -> ReadResult<ParseBufCursor<'p>>
         ensures config { config_of self.new ≡ config_of self.old }
         ensures reads { reads_of self.new ≡ reads_of self.old }
-        ensures stays { Stays (I.source (input_of self.old)) (kind_if_refused (kinds result))
+        ensures stays { BufferInvariant (I.source (input_of self.old)) (kind_if_refused (kinds result))
             (I.source (input_of self.new)) }
         ensures can_fail { CanFail (I.source (input_of self.old)) (kind_if_refused (kinds result)) }
         ensures whole { IsTrue (I.source (input_of self.old)).whole →
@@ -182,12 +182,12 @@ impl<'p, I: Input<'p>, E: Endian> Reader<I, E> {
 
     /// Counts the reads made of bytes that were cut off, or shown.
     #[inline]
-    pub fn count(&mut self, made: ReadCounter)
+    pub fn count(&mut self, more: ReadCounter)
         ensures input { input_of self.new ≡ input_of self.old }
         ensures config { config_of self.new ≡ config_of self.old }
-        ensures reads { reads_of self.new ≡ reads_of self.old + made }
+        ensures reads { reads_of self.new ≡ reads_of self.old + more }
     {
-        self.reads.add(made);
+        self.reads.add(more);
     }
 }
 
@@ -481,12 +481,12 @@ impl<'p, I: Input<'p>, E: Endian> Reader<I, E> {
             (ReadsOne (words (length numbers.old)) (λ (_ : Bool). numbers.new))
             self.old (Err (refusal_kind e)) self.new) }
     {
-        let shown = self.input.shown_bytes();
-        if shown.len() / NUMBER_SIZE < numbers.len() {
+        let front = self.input.shown_bytes();
+        if front.len() / NUMBER_SIZE < numbers.len() {
             return Ok(false);
         }
         let len = NUMBER_SIZE * numbers.len();
-        convert(self.config.endian(), &shown[..len], numbers);
+        convert(self.config.endian(), &front[..len], numbers);
         self.reads.tick();
         match self.input.skip(len) {
             Ok(()) => (),
@@ -895,16 +895,16 @@ impl<'p, B: ParseBuf<'p>, E: Endian> Reader<Outer<B>, E> {
     ) -> ReadResult<F::Output>
         requires { F.len reader ≡ len }
         ensures config { config_of self.new ≡ config_of self.old }
-        ensures stays { Stays (B.source (buffer_of self.old)) (kind_if_refused (kinds result))
+        ensures stays { BufferInvariant (B.source (buffer_of self.old)) (kind_if_refused (kinds result))
             (B.source (buffer_of self.new)) }
         ensures can_fail { CanFail (B.source (buffer_of self.old)) (kind_if_refused (kinds result)) }
         ensures whole_memory { IsTrue (B.source (buffer_of self.old)).whole →
             NeedsNoMemory (kinds result) }
         ensures nothing { len ≡ 0 → IsOk result
             × (B.source (buffer_of self.new) ≡ B.source (buffer_of self.old))
-            × IfOk result (λ output. (made : ℕ) × F.gives reader
+            × IfOk result (λ output. (more : ℕ) × F.gives reader
             (configuration_of (config_of self.old)) (E.order (endian_of (config_of self.old)))
-            [] true made state.old output state.new) }
+            [] true more state.old output state.new) }
         ensures short { falls_short (B.hint (buffer_of self.old)) len ≡ true →
             NeedsNoMemory (kinds result) × IfOk result (λ output. ⊥) }
         ensures beforehand { IsTrue (B.source (buffer_of self.old)).told →
@@ -921,14 +921,14 @@ impl<'p, B: ParseBuf<'p>, E: Endian> Reader<Outer<B>, E> {
             (B.source (buffer_of self.old)) (reads_of self.old) len (refusal_kind e)
             (B.source (buffer_of self.new)) (reads_of self.new)) }
     {
-        let configured = Configured {
+        let with_config = Configured {
             alloc: self.alloc,
             config: &self.config,
             reader,
         };
-        match self.input.with_frame(len, configured, state) {
-            Ok((output, made)) => {
-                self.reads.add(made);
+        match self.input.with_frame(len, with_config, state) {
+            Ok((output, more)) => {
+                self.reads.add(more);
                 Ok(output)
             }
             Err(refusal) => Err(refusal),
@@ -938,10 +938,10 @@ impl<'p, B: ParseBuf<'p>, E: Endian> Reader<Outer<B>, E> {
     /// How many frames begin in the bytes that the buffer shows next, at most `most`: as counted,
     /// or as many as small frames would be. Nothing is taken, and this is not an elementary read.
     #[inline]
-    pub fn frames_shown(&mut self, most: usize, counted: bool) -> ReadResult<usize>
+    pub fn frames_shown(&mut self, most: usize, is_exact: bool) -> ReadResult<usize>
         ensures config { config_of self.new ≡ config_of self.old }
         ensures reads { reads_of self.new ≡ reads_of self.old }
-        ensures stays { Stays (B.source (buffer_of self.old)) (kind_if_refused (kinds result))
+        ensures stays { BufferInvariant (B.source (buffer_of self.old)) (kind_if_refused (kinds result))
             (B.source (buffer_of self.new)) }
         ensures same { IsTrue (B.source (buffer_of self.old)).told →
             (B.source (buffer_of self.new)).left ≡ (B.source (buffer_of self.old)).left }
@@ -951,7 +951,10 @@ impl<'p, B: ParseBuf<'p>, E: Endian> Reader<Outer<B>, E> {
         ensures err { IfErr result
             (λ e. Refuses (B.source (buffer_of self.old)) (refusal_kind e)) }
     {
-        match self.input.frames_shown(self.config.endian(), most, counted) {
+        match self
+            .input
+            .frames_shown(self.config.endian(), most, is_exact)
+        {
             Ok(count) => Ok(count),
             Err(refusal) => Err(refusal),
         }

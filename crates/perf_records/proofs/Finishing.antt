@@ -9,9 +9,9 @@ use Rattle.perf_base.specs.Refusals.{kinds, NeedsNoMemory}
 use Rattle.perf_base.specs.declared.error.ErrorKind.{ErrorKind}
 use Rattle.perf_base.specs.declared.refusal.Refusal.{Refusal}
 use Rattle.perf_base.specs.declared.sys.perf_event_header.{perf_event_header}
-use Rattle.perf_buffers.specs.Buffer.{Source, Stays}
+use Rattle.perf_buffers.specs.Buffer.{Source, BufferInvariant}
 use Rattle.perf_reader.specs.ReaderState.{ReaderState}
-use Rattle.perf_reader.specs.Reading.{Keeps, is_external, one_if_refused, last_of}
+use Rattle.perf_reader.specs.Reading.{CallInvariant, is_external, one_if_refused, last_of}
 use Rattle.perf_records.specs.Answers.{FrameParts, length_after, split_after, split_reads, record_in, record_reads, SplitsAfter}
 use Rattle.perf_records.specs.Bodies.{body, needs_memory}
 use Rattle.perf_records.specs.Metadata.{MetadataValue}
@@ -72,15 +72,15 @@ visits_made {O} gives h old mid new parts o c from made outcome order config nam
     go (Ok output) v = (v.0, v.1, parts, v.2, s.0, (λ is. v.5 (lends is)), (ap (record_in old.settings old.order h) s.0 ∙ laid ∙ v.3, left, reads v.4))
     go (Err e) v = λ kind. let w = v.0 kind in (ap (record_in old.settings old.order h) s.0 ∙ laid ∙ w.0, left, reads w.1)
 
-stays_any : (a b : Source) (e : Option ErrorKind) → is_external e ≡ false → Stays a None b → Stays a e b
+stays_any : (a b : Source) (e : Option ErrorKind) → is_external e ≡ false → BufferInvariant a None b → BufferInvariant a e b
 stays_any a b None inner p = p
 stays_any a b (Some e) inner p = stays_refused a b e inner p
 
 -- what a call keeps that was paid for n reads, and makes no more than these
-pub visits_keep : (start old mid new : ReaderState) (made n : ℕ) (e : Option ErrorKind) → Keeps start None old → Keeps start None mid →
-    (IsTrue old.source.told → mid.reads + n + length mid.source.left ≤ old.reads + length old.source.left) → new.source ≡ mid.source → new.reads ≡ mid.reads + made → made ≤ n + one_if_refused e → is_external e ≡ false → Keeps start e new
+pub visits_keep : (start old mid new : ReaderState) (made n : ℕ) (e : Option ErrorKind) → CallInvariant start None old → CallInvariant start None mid →
+    (IsTrue old.source.told → mid.reads + n + length mid.source.left ≤ old.reads + length old.source.left) → new.source ≡ mid.source → new.reads ≡ mid.reads + made → made ≤ n + one_if_refused e → is_external e ≡ false → CallInvariant start e new
 visits_keep start old mid new made n e p q paid same count cost inner = record {
-  buffer = subst (λ (s : Source). Stays start.source e s) (sym same) (stays_any start.source mid.source e inner q.buffer);
+  buffer = subst (λ (s : Source). BufferInvariant start.source e s) (sym same) (stays_any start.source mid.source e inner q.buffer);
   fault = λ x. no_fault e _ inner x;
   cost = λ t.
       let a = p.cost t in

@@ -5,7 +5,7 @@ use Rattle.std.proofs.lemmas.Bool.{cases_lt, le-leb, lt-leb}
 use Rattle.std.proofs.lemmas.Bool.Decides.{nat_tests}
 use Rattle.std.proofs.lemmas.List.{length-drop, drop-drop, take_all}
 use Rattle.perf_base.specs.Configuration.{Configuration, under_misc}
-use Rattle.perf_base.specs.Layout.{done, value, layout, mapped}
+use Rattle.perf_base.specs.Layout.{done, value, layout, map_parts}
 use Rattle.perf_base.specs.Order.{Order}
 use Rattle.perf_base.specs.Run.{ran, run_parts}
 use Rattle.perf_base.specs.declared.error.ErrorKind.{ErrorKind}
@@ -84,7 +84,7 @@ sample_run c o h bytes s sized whole is answer =
     let parts : answer_after c o h bytes ≡ record_in c o h (Ok (parts_of c o h bytes)) = ap (record_in c o h) (split_all c o h bytes sized whole (omega arith)) in
     let made : layout o (body c' 9) bytes ≡ Ok (sample_is s) =
     sym (ap (λ b. layout o (body c' 9) b) all) ∙ sym (ap (λ ty. layout o (body c' ty) (take (length bytes - id_length c h.type_) bytes)) is) ∙ sym parts ∙ answer in
-    let first = then_inv o (sample c') (λ v. done (sample_is v)) bytes (sample_is s) _ (layout_run o (mapped sample_is (sample c')) bytes (sample_is s) made) in
+    let first = then_inv o (sample c') (λ v. done (sample_is v)) bytes (sample_is s) _ (layout_run o (map_parts sample_is (sample c')) bytes (sample_is s) made) in
     let both : ran (sample_is first.0) first.1 ≡ ran (sample_is s) _ = first.3 in
     let same : first.0 ≡ s = cc in
     (first.1, first.2 ∙ ap (λ v. ran v first.1) same)

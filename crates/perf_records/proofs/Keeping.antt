@@ -4,15 +4,15 @@ use Rattle.std.proofs.lemmas.List.{drop_all}
 use Rattle.std.specs.Prelude.{Option, None, Some, IsTrue, ◌≢◌}
 use Rattle.perf_base.specs.declared.error.ErrorKind.{ErrorKind}
 use Rattle.perf_base.specs.declared.error.ErrorKind.TheVariants.{Eof, InvalidRecord, UnsupportedConfig, UnsupportedData, External, OutOfMemory}
-use Rattle.perf_buffers.specs.Buffer.{Source, Stays}
+use Rattle.perf_buffers.specs.Buffer.{Source, BufferInvariant}
 use Rattle.perf_buffers.specs.Taking.{bytes_between, Moves, MovesWithin, Takes, FailsToKeep}
 use Rattle.perf_reader.specs.ReaderState.{ReaderState}
-use Rattle.perf_reader.specs.Reading.{Keeps, is_external, of_layout, one_if_refused}
+use Rattle.perf_reader.specs.Reading.{CallInvariant, is_external, of_layout, one_if_refused}
 use Rattle.perf_reader.proofs.Paying.{last_moved}
 
 -- k reads, and some bytes that pay for them
-pub moved_keeps : (old new : ReaderState) (e : Option ErrorKind) (k : ℕ) → new.reads ≡ old.reads + k → Stays old.source e new.source → (is_external e ≡ true → IsTrue old.source.can_fault) →
-    (IsTrue old.source.told → Moves old.source new.source × (k + length new.source.left ≤ length old.source.left + one_if_refused e)) → Keeps old e new
+pub moved_keeps : (old new : ReaderState) (e : Option ErrorKind) (k : ℕ) → new.reads ≡ old.reads + k → BufferInvariant old.source e new.source → (is_external e ≡ true → IsTrue old.source.can_fault) →
+    (IsTrue old.source.told → Moves old.source new.source × (k + length new.source.left ≤ length old.source.left + one_if_refused e)) → CallInvariant old e new
 moved_keeps old new e k count stays can moves = record {
   buffer = stays;
   fault = can;
@@ -21,7 +21,7 @@ moved_keeps old new e k count stays can moves = record {
 }
 
 -- a refusal that is no fault counts none
-pub stays_refused : (a b : Source) (e : ErrorKind) → is_external (Some e) ≡ false → Stays a None b → Stays a (Some e) b
+pub stays_refused : (a b : Source) (e : ErrorKind) → is_external (Some e) ≡ false → BufferInvariant a None b → BufferInvariant a (Some e) b
 stays_refused a b Eof x p = p
 stays_refused a b InvalidRecord x p = p
 stays_refused a b UnsupportedConfig x p = p

@@ -11,7 +11,7 @@ use Rattle.perf_reader.specs.declared.reader.Reader.{Reader}
 use Rattle.perf_base.specs.declared.refusal.Refusal.{Refusal}
 use Rattle.perf_base.specs.declared.sys.perf_event_header.{perf_event_header}
 use Rattle.perf_reader.specs.ReaderState.{ReaderState, state_of}
-use Rattle.perf_reader.specs.Reading.{Keeps}
+use Rattle.perf_reader.specs.Reading.{CallInvariant}
 use Rattle.perf_records.specs.Answers.{ReadsFrameAfter}
 use Rattle.perf_records.specs.Records.{IsBorrowed, sample_is, sample_value}
 use Rattle.perf_records.specs.Metadata.{MetadataValue}
@@ -36,7 +36,7 @@ abbrev Gives : Event → Result Record Refusal → Type 0
 Gives outcome output = GivesRecord outcome (kinds output)
 
 -- what a call keeps that ran out of memory
-pub keeps_unmade : (start new : ReaderState) → Keeps start None new → Keeps start (Some OutOfMemory) new
+pub keeps_unmade : (start new : ReaderState) → CallInvariant start None new → CallInvariant start (Some OutOfMemory) new
 keeps_unmade start new p = record {
   buffer = p.buffer;
   fault = λ x. absurd (cc);

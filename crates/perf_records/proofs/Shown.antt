@@ -11,7 +11,7 @@ use Rattle.perf_base.specs.declared.sys.perf_event_header.{perf_event_header}
 use Rattle.perf_base.specs.Configured.{configuration_of, endian_of}
 use Rattle.perf_base.specs.declared.error.ErrorKind.{ErrorKind}
 use Rattle.perf_base.specs.declared.error.ErrorKind.TheVariants.{InvalidRecord}
-use Rattle.perf_buffers.specs.Buffer.{Source, Stays}
+use Rattle.perf_buffers.specs.Buffer.{Source, BufferInvariant}
 use Rattle.perf_buffers.specs.Taking.{Takes, CanFail}
 use Rattle.perf_buffers.proofs.Taking.{takes_moves}
 use Rattle.perf_reader.specs.Calls.{Call}
@@ -19,7 +19,7 @@ use Rattle.perf_reader.specs.NextFrame.{GivesNextFrame, FailsToReadFrame}
 use Rattle.perf_reader.specs.ReaderState.{ReaderState, state_of}
 use Rattle.perf_reader.specs.declared.reader.Reader.{Reader}
 use Rattle.perf_reader.proofs.Paying.{keeps_more, can_fault}
-use Rattle.perf_reader.specs.Reading.{is_external, one_if_refused, Keeps}
+use Rattle.perf_reader.specs.Reading.{is_external, one_if_refused, CallInvariant}
 use Rattle.perf_records.specs.Answers.{FrameParts, length_after, parts_of, id_reads, split_reads, split_after, record_in, record_reads, answer_after, reads_after, ReadsFrameAfter}
 use Rattle.perf_records.specs.Bodies.{body, needs_memory}
 use Rattle.perf_records.specs.Metadata.{id_length}
@@ -104,7 +104,7 @@ module _ {I E O : Type 0} (source : I → Source) (order : E → Order) (gives :
       GivesNextFrame {S = Unit {0}} (λ bytes borrowed made was x now. GivesFrameBytes gives h (configuration_of old.config) (order (endian_of old.config)) bytes borrowed x made) (source old.input) old.reads (length_after h) tt result (source new.input) new.reads tt
 
   -- what it gives
-  pub frame_call : (result : Result O Refusal) → 8 ≤ h.size → Read result → new.config ≡ old.config → Stays (source old.input) None (source new.input) → Call source order (GivesFrameAfter gives h) old (kinds result) new
+  pub frame_call : (result : Result O Refusal) → 8 ≤ h.size → Read result → new.config ≡ old.config → BufferInvariant (source old.input) None (source new.input) → Call source order (GivesFrameAfter gives h) old (kinds result) new
   frame_call result sized frame config stays =
       let a : ReaderState = state_of source order old in
       let d : ReaderState = state_of source order new in
@@ -115,7 +115,7 @@ module _ {I E O : Type 0} (source : I → Source) (order : E → Order) (gives :
       let long : length bytes ≡ n = frame.2.3 in
       let v = frame.2.2 in
       let takes : IsTrue a.source.told → Takes a.source n d.source = λ told. (frame.2.4 told).0 in
-      let kept : Keeps a None b = moved_keeps a b None 0 (omega arith) stays (λ x. cc) (λ told. let m = takes_moves a.source d.source n (takes told) in (m, omega (arith, m.0))) in record {
+      let kept : CallInvariant a None b = moved_keeps a b None 0 (omega arith) stays (λ x. cc) (λ told. let m = takes_moves a.source d.source n (takes told) in (m, omega (arith, m.0))) in record {
         config = config;
         whole = stays.0;
         told = stays.3;
@@ -134,11 +134,11 @@ module _ {I E O : Type 0} (source : I → Source) (order : E → Order) (gives :
 
   -- its bytes could not be read
   pub unread_call : (e : ErrorKind) → 8 ≤ h.size → FailsToReadFrame (source old.input) old.reads (length_after h) e (source new.input) new.reads → new.config ≡ old.config →
-      Stays (source old.input) (Some e) (source new.input) → CanFail (source old.input) (Some e) → Call source order (GivesFrameAfter gives h) old (Err e) new
+      BufferInvariant (source old.input) (Some e) (source new.input) → CanFail (source old.input) (Some e) → Call source order (GivesFrameAfter gives h) old (Err e) new
   unread_call e sized fails config stays can =
       let a : ReaderState = state_of source order old in
       let d : ReaderState = state_of source order new in
-      let kept : Keeps a (Some e) d = moved_keeps a d (Some e) 0 (omega (arith, fails.0)) stays (can_fault a.source (Some e) can) (λ told.
+      let kept : CallInvariant a (Some e) d = moved_keeps a d (Some e) 0 (omega (arith, fails.0)) stays (can_fault a.source (Some e) can) (λ told.
       let w = within_kept a.source d.source (length_after h) e (fails.1 told) in (w.1, omega (arith, w.1.0))) in record {
         config = config;
         whole = stays.0;

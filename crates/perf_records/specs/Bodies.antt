@@ -2,7 +2,7 @@
 use Rattle.std.specs.Prelude.{ℕ, Bool, false, Option, Some, None}
 use Rattle.perf_base.specs.Configuration.{Configuration}
 use Rattle.perf_base.specs.FieldWords.{all_left}
-use Rattle.perf_base.specs.Layout.{Parts, done, mapped}
+use Rattle.perf_base.specs.Layout.{Parts, done, map_parts}
 use Rattle.perf_records.specs.RecordTypes.{type_of, type_needs_memory}
 use Rattle.perf_records.specs.Records.{RecordValue, mmap_is, lost_is}
 use Rattle.perf_records.specs.Records.{comm_is, exit_is, throttle_is, unthrottle_is, fork_is}
@@ -33,31 +33,31 @@ use Rattle.perf_types.specs.AuxOutputHwId.{aux_output_hw_id}
 
 -- the body of a type that has no table: all of its bytes
 abbrev pub unread : ℕ → Parts RecordValue
-unread ty = mapped (unknown_is ty) all_left
+unread ty = map_parts (unknown_is ty) all_left
 
 -- the parts of a record's body under a configuration, by its type
 abbrev pub body_of : Configuration → ℕ → RecordType → Parts RecordValue
-body_of c ty type.Mmap = mapped mmap_is mmap
-body_of c ty type.Lost = mapped lost_is lost
-body_of c ty type.Comm = mapped comm_is comm
-body_of c ty type.Exit = mapped exit_is exit
-body_of c ty type.Throttle = mapped throttle_is throttle
-body_of c ty type.Unthrottle = mapped unthrottle_is throttle
-body_of c ty type.Fork = mapped fork_is exit
-body_of c ty type.Read = mapped read_is (read c)
-body_of c ty type.Sample = mapped sample_is (sample c)
-body_of c ty type.Mmap2 = mapped mmap2_is (mmap2 c)
-body_of c ty type.Aux = mapped aux_is aux
-body_of c ty type.ITraceStart = mapped itrace_start_is itrace_start
-body_of c ty type.LostSamples = mapped lost_samples_is lost_samples
+body_of c ty type.Mmap = map_parts mmap_is mmap
+body_of c ty type.Lost = map_parts lost_is lost
+body_of c ty type.Comm = map_parts comm_is comm
+body_of c ty type.Exit = map_parts exit_is exit
+body_of c ty type.Throttle = map_parts throttle_is throttle
+body_of c ty type.Unthrottle = map_parts unthrottle_is throttle
+body_of c ty type.Fork = map_parts fork_is exit
+body_of c ty type.Read = map_parts read_is (read c)
+body_of c ty type.Sample = map_parts sample_is (sample c)
+body_of c ty type.Mmap2 = map_parts mmap2_is (mmap2 c)
+body_of c ty type.Aux = map_parts aux_is aux
+body_of c ty type.ITraceStart = map_parts itrace_start_is itrace_start
+body_of c ty type.LostSamples = map_parts lost_samples_is lost_samples
 body_of c ty type.Switch = done switch_is
-body_of c ty type.SwitchCpuWide = mapped switch_cpu_wide_is (switch_cpu_wide c)
-body_of c ty type.Namespaces = mapped namespaces_is namespaces
-body_of c ty type.KSymbol = mapped ksymbol_is ksymbol
-body_of c ty type.BpfEvent = mapped bpf_event_is bpf_event
-body_of c ty type.CGroup = mapped cgroup_is cgroup
-body_of c ty type.TextPoke = mapped text_poke_is text_poke
-body_of c ty type.AuxOutputHwId = mapped aux_output_hw_id_is aux_output_hw_id
+body_of c ty type.SwitchCpuWide = map_parts switch_cpu_wide_is (switch_cpu_wide c)
+body_of c ty type.Namespaces = map_parts namespaces_is namespaces
+body_of c ty type.KSymbol = map_parts ksymbol_is ksymbol
+body_of c ty type.BpfEvent = map_parts bpf_event_is bpf_event
+body_of c ty type.CGroup = map_parts cgroup_is cgroup
+body_of c ty type.TextPoke = map_parts text_poke_is text_poke
+body_of c ty type.AuxOutputHwId = map_parts aux_output_hw_id_is aux_output_hw_id
 
 -- the same for a type, or for none
 abbrev pub body_of_type : Configuration → ℕ → Option RecordType → Parts RecordValue

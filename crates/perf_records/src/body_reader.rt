@@ -81,7 +81,7 @@ fn read_from<'p, S, I: Input<'p> + Drop, E: Endian, M: ReadBody<'p, S, I>>(
     bytes: I,
     config: ParseConfig<E>,
     metadata: RecordMetadata,
-    made: M,
+    maker: M,
     state: &mut S,
 ) -> (ReadResult<M::Output>, ReadCounter)
     requires told { IsTrue (I.source bytes).told }
@@ -95,20 +95,20 @@ fn read_from<'p, S, I: Input<'p> + Drop, E: Endian, M: ReadBody<'p, S, I>>(
         + one_if_refused (kind_if_refused (kinds result.0)) }
 {
     let mut reader = Reader::new(alloc, bytes, config);
-    let output = made.read_body(&mut reader, metadata, state);
+    let output = maker.read_body(&mut reader, metadata, state);
     (output, reader.into_reads())
 }
 
 // The same of bytes that live as long as the input, or do not: what is kept of them is borrowed or
 // copied.
 macro_rules! read_either {
-    ($alloc:ident, $bytes:ident, $config:ident, $metadata:ident, $made:ident, $state:ident) => {
+    ($alloc:ident, $bytes:ident, $config:ident, $metadata:ident, $maker:ident, $state:ident) => {
         match $bytes {
             ParseBufChunk::External(bytes) => {
-                read_from($alloc, bytes, $config, $metadata, $made, $state)
+                read_from($alloc, bytes, $config, $metadata, $maker, $state)
             }
             ParseBufChunk::Temporary(bytes) => {
-                read_from($alloc, TransientBytes::new(bytes), $config, $metadata, $made, $state)
+                read_from($alloc, TransientBytes::new(bytes), $config, $metadata, $maker, $state)
             }
         }
     };

@@ -63,7 +63,7 @@ impl<'c, 'p> Frame<'c, 'p> {
         self,
         alloc: Global,
         config: &ParseConfig<E>,
-        made: M,
+        maker: M,
         state: &mut S,
     ) -> (ReadResult<M::Output>, ReadCounter)
         ensures answer { M.reads self.entry.header.type_ →
@@ -81,13 +81,13 @@ impl<'c, 'p> Frame<'c, 'p> {
         } = match id_of(alloc, bytes, config, self.header) {
             Ok(id) => id,
             Err(refusal) => {
-                drop(made);
+                drop(maker);
                 return (Err(refusal), ReadCounter::new());
             }
         };
         let mut under = config.lent();
         under.set_misc(self.header.misc);
-        let (output, more) = made.read(alloc, self.rest.first(len), under, metadata, state);
+        let (output, more) = maker.read(alloc, self.rest.first(len), under, metadata, state);
         reads.add(more);
         (output, reads)
     }

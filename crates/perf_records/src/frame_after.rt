@@ -3,7 +3,7 @@
 ghost use Rattle.std.specs.Prelude.{◌≡◌, ◌≤◌, ◌<◌, ℕ, false, true, drop, length, Err};
 ghost use Rattle.std.specs.Prelude.{IsTrue, IfOk, IfErr, OnErr};
 ghost use Rattle.perf_buffers.specs.declared.outer.Outer.{Outer};
-ghost use Rattle.perf_reader.specs.Prelude.{buffer_of, config_of, reads_of, of_layout, Stays, CanFail};
+ghost use Rattle.perf_reader.specs.Prelude.{buffer_of, config_of, reads_of, of_layout, BufferInvariant, CanFail};
 ghost use Rattle.perf_records.specs.Sights.{whole, HandsAfter};
 ghost use Rattle.perf_records.specs.Prelude.{configuration_of, endian_of};
 ghost use Rattle.perf_records.specs.Prelude.{Call, kinds, refusal_kind, length_after};
@@ -159,7 +159,7 @@ pub fn hand_after<'p, B: ParseBuf<'p>, E: Endian, H: FrameHandler<'p, E>>(
     handler: &mut H,
 ) -> ReadResult<bool>
     ensures config { config_of reader.new ≡ config_of reader.old }
-    ensures stays { Stays (B.source (buffer_of reader.old)) (prelude.kind_if_refused (kinds result))
+    ensures stays { BufferInvariant (B.source (buffer_of reader.old)) (prelude.kind_if_refused (kinds result))
         (B.source (buffer_of reader.new)) }
     ensures can_fail { CanFail (B.source (buffer_of reader.old)) (prelude.kind_if_refused (kinds result)) }
     ensures reads { reads_of reader.new ≡ reads_of reader.old }

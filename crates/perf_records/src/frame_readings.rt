@@ -40,7 +40,7 @@ impl<'c, 'p> Frame<'c, 'p> {
         &self,
         alloc: Global,
         config: &ParseConfig<E>,
-        made: M,
+        maker: M,
         state: &mut S,
     ) -> ParseResult<M::Output>
         ensures { M.reads self.now.header.type_ → FrameGives
@@ -48,7 +48,7 @@ impl<'c, 'p> Frame<'c, 'p> {
             (configuration_of config.now) (E.order (endian_of config.now))
             (chunk_bytes self.now.rest) (chunk_is_borrowed self.now.rest) result }
     {
-        let (answer, _reads) = self.read(alloc, config, made, state);
+        let (answer, _reads) = self.read(alloc, config, maker, state);
         match answer {
             Ok(output) => Ok(output),
             Err(refusal) => Err(error_of(refusal)),

@@ -183,8 +183,8 @@ impl<'a, A: RecordResult<'a>> Visitor<'a> for Recording<A> {
     fn visit_sample(self, content: Sample<'a>, _metadata: RecordMetadata) -> Self::Output {
         match Box::new(self.alloc, content) {
             Ok(content) => self.answer.record(Record::Sample(content)),
-            Err(failed) => {
-                drop(failed);
+            Err(error) => {
+                drop(error);
                 self.answer.no_memory()
             }
         }

@@ -22,7 +22,7 @@ use Rattle.perf_base.specs.Attribute.{attribute}
 use Rattle.perf_base.specs.Took.{took, took_by_places}
 use Rattle.perf_base.specs.declared.sys.perf_event_attr.{perf_event_attr}
 use Rattle.perf_records.proofs.Saying.{took_says}
-use Rattle.perf_base.specs.Layout.{Parts, done, mapped, layout, value}
+use Rattle.perf_base.specs.Layout.{Parts, done, map_parts, layout, value}
 use Rattle.perf_base.proofs.Algebra.{then_inv}
 use Rattle.perf_base.proofs.Tables.{layout_run, run_layout}
 use Rattle.perf_sample_types.specs.Sample.{SampleValue, sample}
@@ -138,7 +138,7 @@ short_answer c o h bytes v sized all_there is short answer =
     let split : split_after c o h bytes ≡ Ok (parts_of c o h bytes) = rw (small, fits, room, all) refl in
     let made : layout o (body c' 9) bytes ≡ Ok v =
     sym (ap (λ b. layout o (body c' 9) b) own) ∙ sym (ap (λ ty. layout o (body c' ty) (take (length bytes - id_length c h.type_) bytes)) is) ∙ sym (ap (record_in c o h) split) ∙ answer in
-    let first = then_inv o (sample c') (λ s. done (sample_is s)) bytes v _ (layout_run o (mapped sample_is (sample c')) bytes v made) in
+    let first = then_inv o (sample c') (λ s. done (sample_is s)) bytes v _ (layout_run o (map_parts sample_is (sample c')) bytes v made) in
     subst (λ (r : Result SampleValue ErrorKind). IfOk r (λ s. ⊥)) (run_layout o (sample c') bytes first.0 first.1 first.2).0 (short_sample c' o bytes short)
 
 pub short_refused : (c : Configuration) (o : Order) (h : perf_event_header) (bytes : List ℕ) → 8 ≤ h.size → length bytes ≡ length_after h → h.type_ ≡ 9 →

@@ -2,7 +2,7 @@
 use Rattle.std.proofs.Common.{ℕ, zero, suc, true, false, List, [], ◌∷◌, ◌++◌, take}
 use Rattle.std.specs.Prelude.{if◌then◌else◌}
 use Rattle.perf_base.specs.Configuration.{Configuration}
-use Rattle.perf_base.specs.Layout.{mapped}
+use Rattle.perf_base.specs.Layout.{map_parts}
 use Rattle.perf_base.specs.Splice.{Closed, IsClosed, AllClosed}
 use Rattle.perf_base.specs.Table.{present_if}
 use Rattle.perf_types.specs.ReadFormat.{has_group}
@@ -20,7 +20,7 @@ AreEnded (g ∷ gs) = ((c : Configuration) → Closed (g.parts c)) × AreEnded g
 values_end : (c : Configuration) → Closed (values c)
 unfolding values
 values_end c =
-    elim (has_group c.read_format) as (λ b. Closed {A = FieldValue} (if b then mapped group_is (read_group c) else mapped (λ one. group_is (group_of one)) (read_value c))) [
+    elim (has_group c.read_format) as (λ b. Closed {A = FieldValue} (if b then map_parts group_is (read_group c) else map_parts (λ one. group_is (group_of one)) (read_value c))) [
       | true ↦ (tt, λ count. (tt, λ enabled. (tt, λ running. (tt, λ words. tt))))
       | false ↦ (tt, λ value. (tt, λ enabled. (tt, λ running. (tt, λ id. (tt, λ lost. tt)))))
     ]

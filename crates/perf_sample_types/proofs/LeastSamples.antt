@@ -8,7 +8,7 @@ use Rattle.std.proofs.Math.Pow.{pow_pos}
 use Rattle.std.proofs.lemmas.Nat.{ones_le_self, shr-shr}
 use Rattle.std.specs.Int.Count.{ones_step}
 use Rattle.perf_base.specs.Configuration.{Configuration}
-use Rattle.perf_base.specs.Layout.{shape_value, size, Parts, done, part, check, ◌>>=◌, mapped, slice, spots, ending, value, first_refusal, layout}
+use Rattle.perf_base.specs.Layout.{shape_value, size, Parts, done, part, check, ◌>>=◌, map_parts, slice, spots, ending, value, first_refusal, layout}
 use Rattle.perf_base.specs.LayoutReads.{layout_reads}
 use Rattle.perf_base.specs.Order.{Order}
 use Rattle.perf_base.specs.Run.{Ran, ran, stopped, left_at}
@@ -100,11 +100,11 @@ of_cpu : AtLeastEight cpu
 unfolding AtLeastEight
 of_cpu o body s = omega arith
 
-of_read_group : (c : Configuration) → AtLeastEight (mapped group_is (read_group c))
+of_read_group : (c : Configuration) → AtLeastEight (map_parts group_is (read_group c))
 unfolding AtLeastEight
 of_read_group c o body s = omega arith
 
-of_read_value : (c : Configuration) → AtLeastEight (mapped (λ one. group_is (group_of one)) (read_value c))
+of_read_value : (c : Configuration) → AtLeastEight (map_parts (λ one. group_is (group_of one)) (read_value c))
 unfolding AtLeastEight
 of_read_value c o body s = omega arith
 

@@ -10,6 +10,6 @@ pub mod SampleGroups
 pub mod SampleLaws
 pub mod SampleParts
 pub mod SampleRows
-pub mod SampleWords
+pub mod Prelude
 pub mod SampleId
 pub mod SampleIdFields

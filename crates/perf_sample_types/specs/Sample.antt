@@ -3,8 +3,8 @@
 use Rattle.std.specs.Prelude.{ℕ, ◌-◌, ◌*◌, ◌%◌, Bool, false, ◌||◌, nat_le, nat_lt}
 use Rattle.std.specs.Prelude.{List, [], ◌∷◌, map, take, Option, Some, unwrap_or, if◌then◌else◌}
 use Rattle.perf_base.specs.Configuration.{Configuration}
-use Rattle.perf_base.specs.FieldWords.{u32, u64, u64_if, bytes, numbers, ignored, require}
-use Rattle.perf_base.specs.Layout.{Parts, done, mapped, ◌>>=◌, ◌>>◌}
+use Rattle.perf_base.specs.FieldWords.{u32, u64, u64_if, bytes, numbers, gap, require}
+use Rattle.perf_base.specs.Layout.{Parts, done, map_parts, ◌>>=◌, ◌>>◌}
 use Rattle.perf_base.specs.Table.{present_if, table}
 use Rattle.perf_base.specs.declared.error.ErrorKind.TheVariants.{InvalidRecord}
 use Rattle.perf_reader.specs.TableRuns.{join_groups}
@@ -39,7 +39,7 @@ pub data FieldValue : Type 0 where
 
 -- a number of eight bytes
 abbrev pub plain : Parts FieldValue
-plain = mapped number_is u64
+plain = map_parts number_is u64
 
 -- a process and its thread
 abbrev pub task : Parts FieldValue
@@ -52,7 +52,7 @@ task = do
 abbrev pub cpu : Parts FieldValue
 cpu = do
   number ← u32
-  ignored 4
+  gap 4
   done (number_is number)
 
 -- A read of the group, or of one counter, which is a group of one. Like the other fields that
@@ -60,8 +60,8 @@ cpu = do
 unfoldable pub values : Configuration → Parts FieldValue
 values c =
     if has_group c.read_format
-    then mapped group_is (read_group c)
-    else mapped (λ one. group_is (group_of one)) (read_value c)
+    then map_parts group_is (read_group c)
+    else map_parts (λ one. group_is (group_of one)) (read_value c)
 
 -- a count, and that many addresses
 abbrev pub call_chain : Parts FieldValue
@@ -79,7 +79,7 @@ abbrev pub raw : Parts FieldValue
 raw = do
   length ← u32
   contents ← bytes length
-  ignored (raw_padding length)
+  gap (raw_padding length)
   done (bytes_are contents)
 
 -- a count, the hardware's index if the configuration has one, and that many branches of three
@@ -93,7 +93,7 @@ branch_stack c = do
 
 -- the registers of a mask
 unfoldable pub registers : ℕ → Parts FieldValue
-registers mask = mapped registers_are (registers_of mask)
+registers mask = map_parts registers_are (registers_of mask)
 
 -- A size, that many bytes of the stack, and if there are any, how many of them the kernel used: the
 -- others do not count. The used size cannot exceed the size.

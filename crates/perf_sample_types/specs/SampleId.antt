@@ -4,7 +4,7 @@ use Rattle.std.specs.Prelude.{ℕ, ◌+◌, ◌*◌, Bool, Option, Some, None, i
 use Rattle.perf_base.specs.Configuration.{Configuration}
 use Rattle.perf_words.specs.Bits.{has_bit}
 use Rattle.perf_base.specs.Layout.{Parts, done, ◌>>=◌, ◌>>◌}
-use Rattle.perf_base.specs.FieldWords.{u32_if, u64_if, ignored_if}
+use Rattle.perf_base.specs.FieldWords.{u32_if, u64_if, gap_if}
 
 -- a sample id in plain numbers
 pub record SampleIdValue : Type 0 where
@@ -62,7 +62,7 @@ sample_id_fields sample_type = do
   id ← u64_if (has_id sample_type)
   stream_id ← u64_if (has_stream_id sample_type)
   cpu ← u32_if (has_cpu sample_type)
-  ignored_if (has_cpu sample_type) 4
+  gap_if (has_cpu sample_type) 4
   identifier ← u64_if (has_identifier sample_type)
   done (record {
     pid = pid;

@@ -1,6 +1,6 @@
 -- The fields of a sample id, by which of them are present, and how many bytes they take.
 use Rattle.std.specs.Prelude.{◌≡◌, ℕ, ◌<◌, Ok, Err, IsTrue, length, drop}
-use Rattle.perf_base.specs.FieldWords.{u32_if, u64_if, ignored_if}
+use Rattle.perf_base.specs.FieldWords.{u32_if, u64_if, gap_if}
 use Rattle.perf_base.specs.Layout.{Parts, done, ◌>>=◌, ◌>>◌}
 use Rattle.perf_reader.specs.Reading.{Transition, of_layout}
 use Rattle.perf_sample_types.specs.SampleId.{SampleIdValue, first_of}
@@ -16,7 +16,7 @@ fields_of has = do
   id ← u64_if has.id
   stream_id ← u64_if has.stream_id
   cpu ← u32_if has.cpu
-  ignored_if has.cpu 4
+  gap_if has.cpu 4
   identifier ← u64_if has.identifier
   done (record {
     pid = pid;
@@ -43,7 +43,7 @@ abbrev pub after_origin : Present → Origin → Parts SampleIdValue
 after_origin has o = do
   stream_id ← u64_if has.stream_id
   cpu ← u32_if has.cpu
-  ignored_if has.cpu 4
+  gap_if has.cpu 4
   identifier ← u64_if has.identifier
   done (record {
     pid = o.pid;

@@ -60,13 +60,13 @@ fn read_shown<'p, I: Input<'p>, E: Endian>(
         (ReadsOne (words (3 * length branches.old)) (λ (_ : Bool). flat_map branch_numbers branches.new))
         reader.old (Err (refusal_kind e)) reader.new) }
 {
-    let shown = reader.input().shown_bytes();
+    let front = reader.input().shown_bytes();
     let count = branches.len();
-    if shown.len() / SIZE < count {
+    if front.len() / SIZE < count {
         return Ok(false);
     }
     let len = SIZE * count;
-    convert(reader.endian(), &shown[..len], branches);
+    convert(reader.endian(), &front[..len], branches);
     match reader.pass(len, ReadCounter::of((NUMBERS * count) as u64)) {
         Ok(()) => Ok(true),
         Err(refusal) => Err(refusal),

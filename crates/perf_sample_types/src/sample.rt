@@ -6,9 +6,9 @@ ghost use Rattle.perf_base.specs.Configured.{configuration_of};
 ghost use Rattle.perf_base.specs.Layout.{layout};
 ghost use Rattle.perf_base.specs.Order.{Order};
 ghost use Rattle.perf_sample_types.specs.SampleEmpty.{fill_result, no_sample};
-ghost use Rattle.perf_sample_types.specs.SampleWords as samples;
-ghost use Rattle.perf_sample_types.specs.SampleWords.{Call, ReadsBorrowed, kinds, group_read};
-ghost use Rattle.perf_sample_types.specs.SampleWords.{registers_value, txn_bits};
+ghost use Rattle.perf_sample_types.specs.Prelude as samples;
+ghost use Rattle.perf_sample_types.specs.Prelude.{Call, ReadsBorrowed, kinds, group_read};
+ghost use Rattle.perf_sample_types.specs.Prelude.{registers_value, txn_bits};
 
 use crate::registers::Registers;
 use crate::sample_fields::SampleFields;

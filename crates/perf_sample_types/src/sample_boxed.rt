@@ -8,8 +8,8 @@ ghost use Rattle.perf_reader.specs.Prelude.{input_of, config_of, refusal_kind};
 ghost use Rattle.perf_sample_types.specs.Sample as sample;
 ghost use Rattle.perf_sample_types.specs.SampleEmpty.{fill_result};
 ghost use Rattle.perf_sample_types.specs.SampleGroups as groups;
-ghost use Rattle.perf_sample_types.specs.SampleWords as samples;
-ghost use Rattle.perf_sample_types.specs.SampleWords.{Call, ReadsBorrowed, ReadsTable, kinds};
+ghost use Rattle.perf_sample_types.specs.Prelude as samples;
+ghost use Rattle.perf_sample_types.specs.Prelude.{Call, ReadsBorrowed, ReadsTable, kinds};
 
 use crate::sample::{Sample, empty_sample, fill_fields, least_len};
 use crate::sample_groups::{Costs, Counts, Memory, Moment, State};
@@ -140,8 +140,8 @@ pub fn read_boxed_sample<'p, I: Input<'p>, E: Endian>(
     }
     let mut content = match Box::new(reader.alloc(), empty_sample()) {
         Ok(content) => content,
-        Err(failed) => {
-            drop(failed);
+        Err(error) => {
+            drop(error);
             return Err(refuse_sample(reader));
         }
     };

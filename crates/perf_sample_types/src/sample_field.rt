@@ -6,7 +6,7 @@ ghost use Rattle.std.specs.Int.RustNames.{bit_and};
 ghost use Rattle.perf_base.specs.Configuration.{Configuration};
 ghost use Rattle.perf_base.specs.Table.{present_if};
 ghost use Rattle.perf_sample_types.specs.Sample as sample;
-ghost use Rattle.perf_sample_types.specs.SampleWords.{Call, Parts, ReadsBorrowed, ReadsField, kinds};
+ghost use Rattle.perf_sample_types.specs.Prelude.{Call, Parts, ReadsBorrowed, ReadsField, kinds};
 ghost use Rattle.perf_words.specs.SetBits.{sample_flags_bits};
 
 use bitflags::Flags;

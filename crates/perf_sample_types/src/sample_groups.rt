@@ -9,7 +9,7 @@ ghost use Rattle.perf_sample_types.specs.SampleGroups as groups;
 ghost use Rattle.perf_base.specs.Configuration.{Configuration};
 ghost use Rattle.perf_reader.specs.Prelude.{refusal_kind};
 ghost use Rattle.perf_sample_types.specs.SampleRows.{TakesFields};
-ghost use Rattle.perf_sample_types.specs.SampleWords.{Call, ReadsTable, kinds};
+ghost use Rattle.perf_sample_types.specs.Prelude.{Call, ReadsTable, kinds};
 ghost use Rattle.perf_words.specs.SetBits.{sample_flags_bits};
 
 use crate::sample_field::{fill_field_if, fill_flagged};
@@ -121,13 +121,13 @@ impl Moment {
             (λ _. ⊤))
             reader.old (Err (refusal_kind e)) reader.new) }
     {
-        let shown = reader.input().shown_bytes();
-        let mut row = Row::new(shown);
+        let front = reader.input().shown_bytes();
+        let mut row = Row::new(front);
         match self.take_fields(&mut row, reader.endian(), reader.config().sample_type()) {
             Some(()) => (),
             None => return Ok(false),
         }
-        let (len, reads) = row.into_taken(shown.len());
+        let (len, reads) = row.into_taken(front.len());
         match reader.pass(len, reads) {
             Ok(()) => Ok(true),
             Err(refusal) => Err(refusal),

@@ -4,7 +4,7 @@ ghost use Rattle.std.specs.Prelude.{◌≡◌, option_map, IfSome, IsTrue};
 ghost use Rattle.perf_sample_types.specs.SampleForms as forms;
 ghost use Rattle.perf_sample_types.specs.SampleGetters as outcome;
 ghost use Rattle.perf_sample_types.specs.SampleParts as parts;
-ghost use Rattle.perf_sample_types.specs.SampleWords.{cow_items, is_borrowed, registers_value};
+ghost use Rattle.perf_sample_types.specs.Prelude.{cow_items, is_borrowed, registers_value};
 
 use crate::registers::Registers;
 use crate::sample_parts::{

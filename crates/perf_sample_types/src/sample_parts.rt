@@ -4,7 +4,7 @@
 ghost use Rattle.std.specs.Prelude.{◌≡◌, ⊤, ℕ, ◌<◌, ◌^◌, IsTrue};
 ghost use Rattle.perf_sample_types.specs.Sample as sample;
 ghost use Rattle.perf_sample_types.specs.SampleParts as parts;
-ghost use Rattle.perf_sample_types.specs.SampleWords.{Call, Reads, ReadsBorrowed, is_borrowed, kinds};
+ghost use Rattle.perf_sample_types.specs.Prelude.{Call, Reads, ReadsBorrowed, is_borrowed, kinds};
 
 use crate::branches::read_branches;
 use crate::registers::Registers;
@@ -221,11 +221,11 @@ impl<'p, I: Input<'p>> ReadField<'p, I> for Stack<'p> {
     fn read_field<E: Endian>(reader: &mut Reader<I, E>) -> ReadResult<Self> {
         let size = reader.read_u64()?;
         let mut bytes = reader.read_bytes(size as usize)?;
-        let used = reader.read_u64_if(size > 0)?.unwrap_or(0);
-        if used > size {
+        let used_len = reader.read_u64_if(size > 0)?.unwrap_or(0);
+        if used_len > size {
             return Err(Refusal::UsedStack);
         }
-        bytes.truncate(used as usize);
+        bytes.truncate(used_len as usize);
         Ok(Stack(bytes))
     }
 }

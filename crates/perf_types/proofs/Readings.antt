@@ -12,7 +12,7 @@ use Rattle.perf_buffers.specs.Buffer.{Source}
 pub use Rattle.perf_reader.proofs.After.{came_up}
 use Rattle.perf_reader.specs.Calls.{Call}
 use Rattle.perf_reader.specs.ReaderState.{ReaderState, state_of}
-use Rattle.perf_reader.specs.Reading.{AnswersRun, Reads, ReadsOne, Keeps}
+use Rattle.perf_reader.specs.Reading.{AnswersRun, Reads, ReadsOne, CallInvariant}
 use Rattle.perf_reader.specs.declared.reader.Reader.{Reader}
 use Rattle.perf_words.specs.Bits.{has_bit}
 
@@ -20,7 +20,7 @@ use Rattle.perf_words.specs.Bits.{has_bit}
 pub bit_is : (bit flags word : ℕ) (has test : Bool) → flags ≡ word → has ≡ test → test ≡ has_bit flags bit → has_bit word bit ≡ has
 bit_is bit flags word has test same is means = ap (λ w. has_bit w bit) (sym same) ∙ (sym means ∙ sym is)
 
-starving : (start m : ReaderState) → Keeps start None m → Keeps start (Some OutOfMemory) m
+starving : (start m : ReaderState) → CallInvariant start None m → CallInvariant start (Some OutOfMemory) m
 starving start m h = record {
   buffer = (h.buffer.0, h.buffer.1, h.buffer.2, h.buffer.3);
   fault = λ x. cc;

@@ -4,7 +4,7 @@ use Rattle.perf_base.specs.Configuration.{Configuration}
 use Rattle.perf_base.specs.Misc.{build_id_bit}
 use Rattle.perf_words.specs.Bits.{has_bit}
 use Rattle.perf_base.specs.Layout.{Parts, done, ◌>>=◌, ◌>>◌}
-use Rattle.perf_base.specs.FieldWords.{u8, u32, u64, bytes, ignored, require}
+use Rattle.perf_base.specs.FieldWords.{u8, u32, u64, bytes, gap, require}
 use Rattle.perf_base.specs.declared.error.ErrorKind.TheVariants.{InvalidRecord}
 use Rattle.perf_types.specs.declared.mmap2.MmapDetail.{MmapDetail}
 use Rattle.perf_types.specs.declared.mmap2.MmapDetail.TheVariants as detail
@@ -67,7 +67,7 @@ inode = do
 abbrev pub build_id : Parts DetailValue
 build_id = do
   len ← u8
-  ignored 3
+  gap 3
   id ← bytes 20
   require (nat_le len 20) InvalidRecord
   done (build_id_is (take len id))

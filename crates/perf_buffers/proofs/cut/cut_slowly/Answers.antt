@@ -1,5 +1,5 @@
 use Rattle.std.proofs.Common.{◌∙◌, sym, subst, Some, refl}
-use Rattle.perf_buffers.specs.Buffer.{Source, Stays}
+use Rattle.perf_buffers.specs.Buffer.{Source, BufferInvariant}
 use Rattle.perf_buffers.specs.Taking.{CanFail, FailsToKeep}
 use Rattle.perf_buffers.proofs.cut.cut_slowly.Goals as goal
 
@@ -21,7 +21,7 @@ returns-in-Err g c =
     let new : Source = g.B.ParseBuf.source c.copy.new.buf in
     let e = c.in-Err.ensures in
     let kind = sym c.keep.ensures in record {
-      stays = subst (λ k. Stays old (Some k) new) kind e.stays;
+      stays = subst (λ k. BufferInvariant old (Some k) new) kind e.stays;
       can_fail = subst (λ k. CanFail old (Some k)) kind e.can_fail;
       beforehand = λ told made h. e.beforehand told made (kind ∙ h);
       count = tt;

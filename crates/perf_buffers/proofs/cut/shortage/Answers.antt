@@ -1,6 +1,6 @@
 use Rattle.std.proofs.Common.{◌∙◌, sym, subst, Some, arith}
 use Rattle.perf_base.specs.Errors.{kind_of}
-use Rattle.perf_buffers.specs.Buffer.{Source, Stays}
+use Rattle.perf_buffers.specs.Buffer.{Source, BufferInvariant}
 use Rattle.perf_buffers.specs.Taking.{CanFail, FailsToKeep}
 use Rattle.perf_buffers.proofs.After.{fails_to_keep}
 use Rattle.perf_buffers.proofs.cut.shortage.Goals as goal
@@ -20,7 +20,7 @@ returns-in-Err g c =
     let new : Source = g.B.ParseBuf.source c.skip.new.buf in
     let e = c.in-Err.ensures in
     let kind = sym c.keep.ensures in record {
-      stays = subst (λ k. Stays old (Some k) new) kind e.stays;
+      stays = subst (λ k. BufferInvariant old (Some k) new) kind e.stays;
       can_fail = subst (λ k. CanFail old (Some k)) kind e.can_fail;
       no_memory = λ h. e.memory (kind ∙ h);
       err = λ told. subst (λ k. FailsToKeep old c.args.len k new) kind (fails_to_keep old new c.args.len (kind_of c.in-Err.error) (e.err told));

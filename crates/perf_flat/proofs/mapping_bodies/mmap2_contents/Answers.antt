@@ -1,6 +1,6 @@
 use Rattle.std.proofs.Common.{ℕ, List, refl, subst, ◌∙◌}
 use Rattle.perf_base.specs.FieldWords.{u32, name}
-use Rattle.perf_base.specs.Layout.{Parts, done, mapped, ◌>>=◌}
+use Rattle.perf_base.specs.Layout.{Parts, done, map_parts, ◌>>=◌}
 use Rattle.perf_types.specs.Mmap2.{Mmap2Value, mmap2}
 use Rattle.perf_types.specs.MmapDetail.{DetailValue, mmap_detail}
 use Rattle.perf_records.specs.Records.{mmap2_is}
@@ -29,7 +29,7 @@ returns g c = λ settings asked.
     let all = next_number pid_at.ensures (next_number tid_at.ensures (next_number addr_at.ensures (next_number len_at.ensures (next_number pgoff_at.ensures
     (then_reads (mmap_detail settings) after detail.reads (next_number prot_at.ensures (next_number flags_at.ensures
     (then_reads name (λ path. done (made detail.value prot_at.result flags_at.result path)) last.reads all_read)))))))) in
-    c.finish.ensures settings order (mapped mmap2_is (mmap2 settings)) (mmap2_is value) c.args.body.now (record {
+    c.finish.ensures settings order (map_parts mmap2_is (mmap2 settings)) (mmap2_is value) c.args.body.now (record {
       start = start.result;
       whole = start.ensures.bytes;
       front = start.ensures.at;

@@ -1,6 +1,6 @@
 use Rattle.std.proofs.Common.{refl, subst}
 use Rattle.perf_base.specs.FieldWords.{name}
-use Rattle.perf_base.specs.Layout.{done, mapped}
+use Rattle.perf_base.specs.Layout.{done, map_parts}
 use Rattle.perf_flat.proofs.Placing.{next_number}
 use Rattle.perf_flat.proofs.Reading.{then_reads, all_read}
 use Rattle.perf_flat.proofs.Spans.{one_string}
@@ -15,7 +15,7 @@ returns g c = λ settings.
     let start = c.new-places in
     let id_at = c.read_u64-id in
     let last = c.name-path.ensures order in
-    c.finish.ensures settings order (mapped cgroup_is cgroup) (cgroup_is (record { id = id_at.result; path = last.value })) c.args.body.now (record {
+    c.finish.ensures settings order (map_parts cgroup_is cgroup) (cgroup_is (record { id = id_at.result; path = last.value })) c.args.body.now (record {
       start = start.result;
       whole = start.ensures.bytes;
       front = start.ensures.at;

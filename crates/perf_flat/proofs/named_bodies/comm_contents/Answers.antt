@@ -1,6 +1,6 @@
 use Rattle.std.proofs.Common.{refl, subst}
 use Rattle.perf_base.specs.FieldWords.{name}
-use Rattle.perf_base.specs.Layout.{done, mapped}
+use Rattle.perf_base.specs.Layout.{done, map_parts}
 use Rattle.perf_flat.proofs.Placing.{next_number}
 use Rattle.perf_flat.proofs.Reading.{then_reads, all_read}
 use Rattle.perf_flat.proofs.Spans.{one_string}
@@ -16,7 +16,7 @@ returns g c = λ settings.
     let pid_at = c.read_word-pid in
     let tid_at = c.read_word-tid in
     let last = c.name-comm.ensures order in
-    c.finish.ensures settings order (mapped comm_is comm) (comm_is (record { pid = pid_at.result; tid = tid_at.result; comm = last.value })) c.args.body.now (record {
+    c.finish.ensures settings order (map_parts comm_is comm) (comm_is (record { pid = pid_at.result; tid = tid_at.result; comm = last.value })) c.args.body.now (record {
       start = start.result;
       whole = start.ensures.bytes;
       front = start.ensures.at;

@@ -1,6 +1,6 @@
 use Rattle.std.proofs.Common.{refl, subst}
 use Rattle.perf_base.specs.FieldWords.{name}
-use Rattle.perf_base.specs.Layout.{done, mapped}
+use Rattle.perf_base.specs.Layout.{done, map_parts}
 use Rattle.perf_flat.proofs.Placing.{next_number}
 use Rattle.perf_flat.proofs.Reading.{then_reads, all_read}
 use Rattle.perf_flat.proofs.Spans.{one_string}
@@ -18,7 +18,7 @@ returns g c = λ settings.
     let ksym_type_at = c.read_u16-kind in
     let flags_at = c.read_u16-flags in
     let last = c.name-name.ensures order in
-    c.finish.ensures settings order (mapped ksymbol_is ksymbol) (ksymbol_is (record { addr = addr_at.result; len = len_at.result; ksym_type = ksym_type_at.result; flags = flags_at.result; name = last.value })) c.args.body.now (record {
+    c.finish.ensures settings order (map_parts ksymbol_is ksymbol) (ksymbol_is (record { addr = addr_at.result; len = len_at.result; ksym_type = ksym_type_at.result; flags = flags_at.result; name = last.value })) c.args.body.now (record {
       start = start.result;
       whole = start.ensures.bytes;
       front = start.ensures.at;

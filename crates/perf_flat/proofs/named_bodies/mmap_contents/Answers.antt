@@ -1,6 +1,6 @@
 use Rattle.std.proofs.Common.{refl, subst}
 use Rattle.perf_base.specs.FieldWords.{name}
-use Rattle.perf_base.specs.Layout.{done, mapped}
+use Rattle.perf_base.specs.Layout.{done, map_parts}
 use Rattle.perf_flat.proofs.Placing.{next_number}
 use Rattle.perf_flat.proofs.Reading.{then_reads, all_read}
 use Rattle.perf_flat.proofs.Spans.{one_string}
@@ -19,7 +19,7 @@ returns g c = λ settings.
     let len_at = c.read_u64-len in
     let pgoff_at = c.read_u64-pgoff in
     let last = c.name-filename.ensures order in
-    c.finish.ensures settings order (mapped mmap_is mmap) (mmap_is (record { pid = pid_at.result; tid = tid_at.result; addr = addr_at.result; len = len_at.result; pgoff = pgoff_at.result; filename = last.value })) c.args.body.now (record {
+    c.finish.ensures settings order (map_parts mmap_is mmap) (mmap_is (record { pid = pid_at.result; tid = tid_at.result; addr = addr_at.result; len = len_at.result; pgoff = pgoff_at.result; filename = last.value })) c.args.body.now (record {
       start = start.result;
       whole = start.ensures.bytes;
       front = start.ensures.at;

@@ -1,5 +1,5 @@
 use Rattle.std.proofs.Common.{◌≡◌, ℕ, List, [], ◌∷◌, ◌*◌, refl, sym, ap, subst, ◌∙◌}
-use Rattle.perf_base.specs.Layout.{mapped}
+use Rattle.perf_base.specs.Layout.{map_parts}
 use Rattle.perf_flat.specs.Places.{IsBodyOf}
 use Rattle.perf_flat.proofs.Placing.{namespaces_read, entries_counted, entries_there, task_namespaces}
 use Rattle.perf_records.specs.Records.{namespaces_is}
@@ -14,7 +14,7 @@ returns g c = λ settings.
     let tid_at = c.read_word-tid in
     let count_at = c.read_u64-count in
     let list = c.pass_items-entries.ensures order (2 * count_at.result) refl in
-    c.finish.ensures settings order (mapped namespaces_is namespaces) (task_namespaces pid_at.result tid_at.result list.value) c.args.body.now (record {
+    c.finish.ensures settings order (map_parts namespaces_is namespaces) (task_namespaces pid_at.result tid_at.result list.value) c.args.body.now (record {
       start = start.result;
       whole = start.ensures.bytes;
       front = start.ensures.at;

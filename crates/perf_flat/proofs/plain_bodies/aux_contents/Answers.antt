@@ -1,5 +1,5 @@
 use Rattle.std.proofs.Common.{refl}
-use Rattle.perf_base.specs.Layout.{mapped}
+use Rattle.perf_base.specs.Layout.{map_parts}
 use Rattle.perf_flat.proofs.Placing.{next_number}
 use Rattle.perf_flat.proofs.Reading.{all_read}
 use Rattle.perf_flat.proofs.Spans.{no_strings}
@@ -13,7 +13,7 @@ returns g c = λ settings.
     let aux_offset_at = c.read_u64-offset in
     let aux_size_at = c.read_u64-size in
     let flags_at = c.read_u64-flags in
-    c.finish.ensures settings (g.E.Endian.order c.args.order.now) (mapped aux_is aux) (aux_is (record { aux_offset = aux_offset_at.result; aux_size = aux_size_at.result; flags = flags_at.result })) c.args.body.now (record {
+    c.finish.ensures settings (g.E.Endian.order c.args.order.now) (map_parts aux_is aux) (aux_is (record { aux_offset = aux_offset_at.result; aux_size = aux_size_at.result; flags = flags_at.result })) c.args.body.now (record {
       start = start.result;
       whole = start.ensures.bytes;
       front = start.ensures.at;

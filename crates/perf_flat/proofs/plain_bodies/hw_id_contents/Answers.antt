@@ -1,5 +1,5 @@
 use Rattle.std.proofs.Common.{refl}
-use Rattle.perf_base.specs.Layout.{mapped}
+use Rattle.perf_base.specs.Layout.{map_parts}
 use Rattle.perf_flat.proofs.Placing.{next_number}
 use Rattle.perf_flat.proofs.Reading.{all_read}
 use Rattle.perf_flat.proofs.Spans.{no_strings}
@@ -11,7 +11,7 @@ pub returns : goal.returns
 returns g c = λ settings.
     let start = c.new-places in
     let hw_id_at = c.read_u64-hw_id in
-    c.finish.ensures settings (g.E.Endian.order c.args.order.now) (mapped aux_output_hw_id_is aux_output_hw_id) (aux_output_hw_id_is (record { hw_id = hw_id_at.result })) c.args.body.now (record {
+    c.finish.ensures settings (g.E.Endian.order c.args.order.now) (map_parts aux_output_hw_id_is aux_output_hw_id) (aux_output_hw_id_is (record { hw_id = hw_id_at.result })) c.args.body.now (record {
       start = start.result;
       whole = start.ensures.bytes;
       front = start.ensures.at;

@@ -1,5 +1,5 @@
 use Rattle.std.proofs.Common.{refl}
-use Rattle.perf_base.specs.Layout.{mapped}
+use Rattle.perf_base.specs.Layout.{map_parts}
 use Rattle.perf_flat.proofs.Placing.{next_number}
 use Rattle.perf_flat.proofs.Reading.{all_read}
 use Rattle.perf_flat.proofs.Spans.{no_strings}
@@ -12,7 +12,7 @@ returns g c = λ settings.
     let start = c.new-places in
     let id_at = c.read_u64-id in
     let lost_at = c.read_u64-lost in
-    c.finish.ensures settings (g.E.Endian.order c.args.order.now) (mapped lost_is lost) (lost_is (record { id = id_at.result; lost = lost_at.result })) c.args.body.now (record {
+    c.finish.ensures settings (g.E.Endian.order c.args.order.now) (map_parts lost_is lost) (lost_is (record { id = id_at.result; lost = lost_at.result })) c.args.body.now (record {
       start = start.result;
       whole = start.ensures.bytes;
       front = start.ensures.at;

@@ -1,5 +1,5 @@
 use Rattle.std.proofs.Common.{refl}
-use Rattle.perf_base.specs.Layout.{done, mapped}
+use Rattle.perf_base.specs.Layout.{done, map_parts}
 use Rattle.perf_flat.proofs.Placing.{next_number}
 use Rattle.perf_flat.proofs.Reading.{then_reads, all_read}
 use Rattle.perf_flat.proofs.Spans.{no_strings}
@@ -16,7 +16,7 @@ returns g c = λ settings asked.
     let tid_at = c.read_word-tid in
     let one = c.one_counter-one in
     let reads = one.ensures.reads settings asked in
-    c.finish.ensures settings (g.E.Endian.order c.args.order.now) (mapped read_is (read settings)) (read_is (record { pid = pid_at.result; tid = tid_at.result; values = counter_read one.result })) c.args.body.now (record {
+    c.finish.ensures settings (g.E.Endian.order c.args.order.now) (map_parts read_is (read settings)) (read_is (record { pid = pid_at.result; tid = tid_at.result; values = counter_read one.result })) c.args.body.now (record {
       start = start.result;
       whole = start.ensures.bytes;
       front = start.ensures.at;

@@ -1,6 +1,6 @@
 use Rattle.std.proofs.Common.{◌≡◌, ℕ, Bool, true, false, [], ◌∷◌, refl, ap, ◌∙◌}
 use Rattle.std.specs.Prelude.{if◌then◌else◌}
-use Rattle.perf_base.specs.Layout.{mapped}
+use Rattle.perf_base.specs.Layout.{map_parts}
 use Rattle.perf_base.specs.Misc.{switch_out_bit}
 use Rattle.perf_flat.proofs.Placing.{next_number}
 use Rattle.perf_flat.proofs.Reading.{all_read}
@@ -26,7 +26,7 @@ returns g c = λ settings asked.
     let start = c.new-places in
     let pid_at = c.read_word-pid in
     let tid_at = c.read_word-tid in
-    c.finish.ensures settings (g.E.Endian.order c.args.order.now) (mapped switch_cpu_wide_is (switch_cpu_wide settings)) (switch_cpu_wide_is (switched pid_at.result tid_at.result (has_bit settings.misc switch_out_bit))) c.args.body.now (record {
+    c.finish.ensures settings (g.E.Endian.order c.args.order.now) (map_parts switch_cpu_wide_is (switch_cpu_wide settings)) (switch_cpu_wide_is (switched pid_at.result tid_at.result (has_bit settings.misc switch_out_bit))) c.args.body.now (record {
       start = start.result;
       whole = start.ensures.bytes;
       front = start.ensures.at;

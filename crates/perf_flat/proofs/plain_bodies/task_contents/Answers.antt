@@ -1,5 +1,5 @@
 use Rattle.std.proofs.Common.{refl}
-use Rattle.perf_base.specs.Layout.{mapped}
+use Rattle.perf_base.specs.Layout.{map_parts}
 use Rattle.perf_flat.proofs.Placing.{next_number}
 use Rattle.perf_flat.proofs.Reading.{all_read}
 use Rattle.perf_flat.proofs.Spans.{no_strings}
@@ -15,7 +15,7 @@ returns-clause-exit g c = λ settings.
     let tid_at = c.read_word-tid in
     let ptid_at = c.read_word-ptid in
     let time_at = c.read_u64-time in
-    c.finish.ensures settings (g.E.Endian.order c.args.order.now) (mapped exit_is exit) (exit_is (record { pid = pid_at.result; ppid = ppid_at.result; tid = tid_at.result; ptid = ptid_at.result; time = time_at.result })) c.args.body.now (record {
+    c.finish.ensures settings (g.E.Endian.order c.args.order.now) (map_parts exit_is exit) (exit_is (record { pid = pid_at.result; ppid = ppid_at.result; tid = tid_at.result; ptid = ptid_at.result; time = time_at.result })) c.args.body.now (record {
       start = start.result;
       whole = start.ensures.bytes;
       front = start.ensures.at;
@@ -34,7 +34,7 @@ returns-clause-fork g c = λ settings.
     let tid_at = c.read_word-tid in
     let ptid_at = c.read_word-ptid in
     let time_at = c.read_u64-time in
-    c.finish.ensures settings (g.E.Endian.order c.args.order.now) (mapped fork_is exit) (fork_is (record { pid = pid_at.result; ppid = ppid_at.result; tid = tid_at.result; ptid = ptid_at.result; time = time_at.result })) c.args.body.now (record {
+    c.finish.ensures settings (g.E.Endian.order c.args.order.now) (map_parts fork_is exit) (fork_is (record { pid = pid_at.result; ppid = ppid_at.result; tid = tid_at.result; ptid = ptid_at.result; time = time_at.result })) c.args.body.now (record {
       start = start.result;
       whole = start.ensures.bytes;
       front = start.ensures.at;

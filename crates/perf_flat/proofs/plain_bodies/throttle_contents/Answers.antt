@@ -1,5 +1,5 @@
 use Rattle.std.proofs.Common.{refl}
-use Rattle.perf_base.specs.Layout.{mapped}
+use Rattle.perf_base.specs.Layout.{map_parts}
 use Rattle.perf_flat.proofs.Placing.{next_number}
 use Rattle.perf_flat.proofs.Reading.{all_read}
 use Rattle.perf_flat.proofs.Spans.{no_strings}
@@ -13,7 +13,7 @@ returns-clause-throttle g c = λ settings.
     let time_at = c.read_u64-time in
     let id_at = c.read_u64-id in
     let stream_id_at = c.read_u64-stream_id in
-    c.finish.ensures settings (g.E.Endian.order c.args.order.now) (mapped throttle_is throttle) (throttle_is (record { time = time_at.result; id = id_at.result; stream_id = stream_id_at.result })) c.args.body.now (record {
+    c.finish.ensures settings (g.E.Endian.order c.args.order.now) (map_parts throttle_is throttle) (throttle_is (record { time = time_at.result; id = id_at.result; stream_id = stream_id_at.result })) c.args.body.now (record {
       start = start.result;
       whole = start.ensures.bytes;
       front = start.ensures.at;
@@ -30,7 +30,7 @@ returns-clause-unthrottle g c = λ settings.
     let time_at = c.read_u64-time in
     let id_at = c.read_u64-id in
     let stream_id_at = c.read_u64-stream_id in
-    c.finish.ensures settings (g.E.Endian.order c.args.order.now) (mapped unthrottle_is throttle) (unthrottle_is (record { time = time_at.result; id = id_at.result; stream_id = stream_id_at.result })) c.args.body.now (record {
+    c.finish.ensures settings (g.E.Endian.order c.args.order.now) (map_parts unthrottle_is throttle) (unthrottle_is (record { time = time_at.result; id = id_at.result; stream_id = stream_id_at.result })) c.args.body.now (record {
       start = start.result;
       whole = start.ensures.bytes;
       front = start.ensures.at;

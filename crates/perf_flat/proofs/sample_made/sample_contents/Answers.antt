@@ -1,6 +1,6 @@
 use Rattle.std.proofs.Common.{◌≡◌, Option, Some, None, sym, subst, ◌∙◌}
 use Rattle.perf_base.specs.Configured.{configuration_of}
-use Rattle.perf_base.specs.Layout.{mapped}
+use Rattle.perf_base.specs.Layout.{map_parts}
 use Rattle.perf_base.specs.declared.refusal.Refusal.{Refusal}
 use Rattle.perf_records.specs.Records.{sample_is}
 use Rattle.perf_sample_types.specs.Sample.{sample}
@@ -27,8 +27,8 @@ returns-in-Some g c =
     let reads = sample_stopped order settings c.moment-moment.result c.event-event.result c.counts-counts.result c.in-Some.refusal moment event counts refused in
     let end = c.counts-counts.new.self in
     let old = c.args.frame.now in
-    subst (λ told. PlacesRecord settings order (mapped sample_is (sample settings)) c.args.body.now old told old) refused
-    (placed settings order (mapped sample_is (sample settings)) c.args.body.now (sample_is (first_values c.moment-moment.result c.event-event.result order settings counts)) start.result end old old
+    subst (λ told. PlacesRecord settings order (map_parts sample_is (sample settings)) c.args.body.now old told old) refused
+    (placed settings order (map_parts sample_is (sample settings)) c.args.body.now (sample_is (first_values c.moment-moment.result c.event-event.result order settings counts)) start.result end old old
     start.ensures.bytes start.ensures.at start.ensures.refusal reads (λ ok. absurd (refused_not refused ok)))
 
 pub returns-in-Some-refusal : goal.returns-in-Some-refusal
@@ -48,8 +48,8 @@ returns-in-Some-refusal g c =
     let end = c.memory.new.self in
     let refused = sym c.refusal-2.ensures ∙ c.in-Some-refusal.is in
     let old = c.args.frame.now in
-    subst (λ told. PlacesRecord settings order (mapped sample_is (sample settings)) c.args.body.now old told old) refused
-    (placed settings order (mapped sample_is (sample settings)) c.args.body.now (sample_is (sample_values made order settings counts state costs memory)) start.result end old old
+    subst (λ told. PlacesRecord settings order (map_parts sample_is (sample settings)) c.args.body.now old told old) refused
+    (placed settings order (map_parts sample_is (sample settings)) c.args.body.now (sample_is (sample_values made order settings counts state costs memory)) start.result end old old
     start.ensures.bytes start.ensures.at start.ensures.refusal reads (λ ok. absurd (refused_not refused ok)))
 
 pub returns-in-None : goal.returns-in-None
@@ -69,7 +69,7 @@ returns-in-None g c =
     let end = c.memory.new.self in
     let put = c.put in
     let old = c.args.frame.now in
-    subst (λ told. PlacesRecord settings order (mapped sample_is (sample settings)) c.args.body.now old told put.new.frame) (sym c.refusal-2.ensures ∙ c.in-None.is)
-    (placed settings order (mapped sample_is (sample settings)) c.args.body.now (sample_is (sample_values made order settings counts state costs memory)) start.result end old put.new.frame
+    subst (λ told. PlacesRecord settings order (map_parts sample_is (sample settings)) c.args.body.now old told put.new.frame) (sym c.refusal-2.ensures ∙ c.in-None.is)
+    (placed settings order (map_parts sample_is (sample settings)) c.args.body.now (sample_is (sample_values made order settings counts state costs memory)) start.result end old put.new.frame
     start.ensures.bytes start.ensures.at start.ensures.refusal reads
     (sample_holds order settings c.args.body.now made old put.new.frame start.ensures.bytes moment event counts state costs memory put.ensures.numbers put.ensures.spans put.ensures.ids put.ensures.head))

@@ -1,6 +1,6 @@
 use Rattle.std.proofs.Common.{refl, subst}
 use Rattle.perf_base.specs.FieldWords.{bytes}
-use Rattle.perf_base.specs.Layout.{done, mapped}
+use Rattle.perf_base.specs.Layout.{done, map_parts}
 use Rattle.perf_flat.proofs.Fields.{passed_bytes}
 use Rattle.perf_flat.proofs.Placing.{next_number}
 use Rattle.perf_flat.proofs.Reading.{Passed, then_reads, all_read}
@@ -20,7 +20,7 @@ returns g c = λ settings.
     let a = id_at.new.self in
     let passed : Passed 8 a c.pass-tag.result c.pass-tag.new.self = record { bytes = c.pass-tag.ensures.bytes; short = c.pass-tag.ensures.short; fits = c.pass-tag.ensures.fits } in
     let last = passed_bytes order 8 a c.pass-tag.new.self c.pass-tag.result a.within passed in
-    c.finish.ensures settings order (mapped bpf_event_is bpf_event) (bpf_event_is (record { ty = ty_at.result; flags = flags_at.result; id = id_at.result; tag = last.contents })) c.args.body.now (record {
+    c.finish.ensures settings order (map_parts bpf_event_is bpf_event) (bpf_event_is (record { ty = ty_at.result; flags = flags_at.result; id = id_at.result; tag = last.contents })) c.args.body.now (record {
       start = start.result;
       whole = start.ensures.bytes;
       front = start.ensures.at;

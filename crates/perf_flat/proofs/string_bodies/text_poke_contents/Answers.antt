@@ -1,6 +1,6 @@
 use Rattle.std.proofs.Common.{◌≡◌, ℕ, ◌+◌, ◌≤◌, length, take, drop, refl, sym, subst, arith}
 use Rattle.perf_base.specs.FieldWords.{bytes}
-use Rattle.perf_base.specs.Layout.{done, mapped}
+use Rattle.perf_base.specs.Layout.{done, map_parts}
 use Rattle.perf_flat.proofs.Fields.{passed_bytes}
 use Rattle.perf_flat.proofs.Naming.{part_there}
 use Rattle.perf_flat.proofs.Placing.{next_number}
@@ -27,7 +27,7 @@ returns g c = λ settings.
     let passed : Passed c.poked_len.result a run.result run.new.self = record { bytes = run.ensures.bytes; short = run.ensures.short; fits = run.ensures.fits } in
     let last = passed_bytes order n a run.new.self run.result a.within (subst (λ m. Passed m a run.result run.new.self) c.poked_len.ensures passed) in
     let all = last.contents in
-    c.finish.ensures settings order (mapped text_poke_is text_poke) (text_poke_is (record { addr = addr_at.result; old_bytes = take old all; new_bytes = take new (drop old all) })) c.args.body.now (record {
+    c.finish.ensures settings order (map_parts text_poke_is text_poke) (text_poke_is (record { addr = addr_at.result; old_bytes = take old all; new_bytes = take new (drop old all) })) c.args.body.now (record {
       start = start.result;
       whole = start.ensures.bytes;
       front = start.ensures.at;

@@ -2,7 +2,7 @@ use Rattle.std.proofs.Common.{ℕ, ◌*◌, ◌+◌, ◌≡◌, ◌∙◌, ap, s
 use Rattle.perf_buffers.specs.declared.outer.Outer.{Outer}
 use Rattle.perf_reader.specs.ReaderState.{state_of}
 use Rattle.perf_parser.specs.FrameRuns.{CountsRun, frames_refusal, one_if_run_ended}
-use Rattle.perf_parser.specs.Runs.{KeepsRun}
+use Rattle.perf_parser.specs.Runs.{RunInvariant}
 use Rattle.perf_parser.proofs.Handing.{twice}
 use Rattle.perf_parser.proofs.frame_runs.each_frame.Goals as goal
 
@@ -30,4 +30,4 @@ pub returns-clause-keeps : goal.returns-clause-keeps
 returns-clause-keeps g c =
     let source = λ (o : Outer g.row.B.Denot). g.B.ParseBuf.source o.buf in let e = c.run_steps.result.end in
     let none : 0 + one_if_run_ended e ≡ one_if_run_ended e = omega arith in
-    subst (λ (n : ℕ). KeepsRun (state_of source g.E.Endian.order c.args.parser.now.reader) n (frames_refusal e) (state_of source g.E.Endian.order c.run_steps.new.reader)) none c.run_steps.ensures.run.keeps
+    subst (λ (n : ℕ). RunInvariant (state_of source g.E.Endian.order c.args.parser.now.reader) n (frames_refusal e) (state_of source g.E.Endian.order c.run_steps.new.reader)) none c.run_steps.ensures.run.keeps

@@ -7,13 +7,13 @@ use Rattle.perf_base.specs.Refusals.{refusal_kind}
 use Rattle.perf_base.specs.declared.config.ParseConfig.{ParseConfig}
 use Rattle.perf_base.specs.declared.error.ErrorKind.{ErrorKind}
 use Rattle.perf_base.specs.declared.error.ErrorKind.TheVariants.{InvalidRecord, OutOfMemory}
-use Rattle.perf_buffers.specs.Buffer.{Source, Stays}
+use Rattle.perf_buffers.specs.Buffer.{Source, BufferInvariant}
 use Rattle.perf_buffers.specs.Cursor.{cursor_left}
 use Rattle.perf_buffers.specs.Taking.{Moves, MovesWithin, FailsToKeep}
 use Rattle.perf_buffers.proofs.Taking.{takes_moves}
 use Rattle.perf_reader.specs.Calls.{Call}
 use Rattle.perf_reader.specs.ReaderState.{ReaderState, state_of}
-use Rattle.perf_reader.specs.Reading.{Keeps}
+use Rattle.perf_reader.specs.Reading.{CallInvariant}
 use Rattle.perf_reader.proofs.Paying.{keeps_none, keeps_more, can_fault, within_taken}
 use Rattle.perf_records.specs.Answers.{length_after, FrameParts, answered_parts, frame_parts, parts_of, SplitsAfter}
 use Rattle.perf_records.specs.Parts.{FindsId}
@@ -39,7 +39,7 @@ returns-in-Err-clause-call g c =
     let kind : ErrorKind = refusal_kind c.in-Err.refusal in
     let e = c.in-Err.ensures in
     let sized : 8 ≤ h.size = grind (arith, nat_tests) in
-    let kept : Keeps old (Some kind) new = moved_keeps old new (Some kind) 0 (omega (arith, e.reads)) e.stays (can_fault old.source (Some kind) e.can_fail) (λ told.
+    let kept : CallInvariant old (Some kind) new = moved_keeps old new (Some kind) 0 (omega (arith, e.reads)) e.stays (can_fault old.source (Some kind) e.can_fail) (λ told.
     let w = within_kept old.source new.source (length_after h) kind (e.err told) in (w.1, omega (arith, w.1.0))) in record {
       config = e.config;
       whole = e.stays.0;
@@ -71,8 +71,8 @@ returns-clause-call g c =
     let are : parts ≡ parts_of old.settings old.order h frame = ap (frame_parts id.metadata) cut ∙ finds.parts.1 in
     let less : id.reads ≤ length_after h = omega (arith, finds.bound, finds.parts.0, e.count) in
     let count : new.reads ≡ old.reads + id.reads = c.count.ensures.reads ∙ ap (λ n. n + id.reads) e.reads in
-    let stays : Stays old.source None new.source = subst (λ s. Stays old.source None s) (sym same) e.stays in
-    let kept : Keeps old None new = moved_keeps old new None id.reads count stays (λ x. cc) (λ told.
+    let stays : BufferInvariant old.source None new.source = subst (λ s. BufferInvariant old.source None s) (sym same) e.stays in
+    let kept : CallInvariant old None new = moved_keeps old new None id.reads count stays (λ x. cc) (λ told.
     let o = e.ok told in
     let paid : id.reads + length mid.source.left ≤ length old.source.left = taken_pays old.source mid.source (length_after h) id.reads o.0 less in
     subst (λ (s : Source). Moves old.source s × (id.reads + length s.left ≤ length old.source.left + 0)) (sym same) (takes_moves old.source mid.source (length_after h) o.0, omega (arith, paid))) in record {
@@ -100,8 +100,8 @@ returns-in-Err-id_in-clause-call g c =
     let all : c.last.result.now ≡ frame = last_all frame c.last.result.now c.len.result c.len.ensures c.last.ensures in
     let short : length frame < id_length (configuration_of c.args.reader.now.config) h.type_ =
     subst (λ (k : ParseConfig g.row.E.Denot). length frame < id_length (configuration_of k) h.type_) config (omega (arith, t.refused.1, ap length all)) in
-    let stays : Stays old.source (Some InvalidRecord) new.source = stays_refused old.source new.source InvalidRecord refl e.stays in
-    let kept : Keeps old (Some InvalidRecord) new = moved_keeps old new (Some InvalidRecord) 0 (omega (arith, e.reads)) stays (λ x. cc) (λ told.
+    let stays : BufferInvariant old.source (Some InvalidRecord) new.source = stays_refused old.source new.source InvalidRecord refl e.stays in
+    let kept : CallInvariant old (Some InvalidRecord) new = moved_keeps old new (Some InvalidRecord) 0 (omega (arith, e.reads)) stays (λ x. cc) (λ told.
     let m = takes_moves old.source new.source (length_after h) (e.ok told).0 in (m, omega (arith, m.0))) in
     subst (λ k. Call g.I.Input.source g.E.Endian.order (SplitsAfter h) c.args.reader.now (Err k) c.cut.new.self) (sym (ap refusal_kind t.refused.0)) (record {
       config = e.config;
@@ -277,8 +277,8 @@ returns-then-header-lt8-clause-call g c =
     let old : ReaderState = state_of g.I.Input.source g.E.Endian.order c.args.reader.now in
     let h = c.args.header in
     let small : h.size < 8 = omega arith in
-    let stays : Stays old.source (Some InvalidRecord) old.source = stays_refused old.source old.source InvalidRecord refl (keeps_none old).buffer in
-    let kept : Keeps old (Some InvalidRecord) old = moved_keeps old old (Some InvalidRecord) 0 (omega arith) stays (λ x. cc) (λ told.
+    let stays : BufferInvariant old.source (Some InvalidRecord) old.source = stays_refused old.source old.source InvalidRecord refl (keeps_none old).buffer in
+    let kept : CallInvariant old (Some InvalidRecord) old = moved_keeps old old (Some InvalidRecord) 0 (omega arith) stays (λ x. cc) (λ told.
     ((within_none old.source old.source 0 refl).1, omega arith)) in record {
       config = refl;
       whole = refl;

@@ -15,11 +15,11 @@ returns-in-Ok-clause-shown g c =
     let old : ReaderState = state_of source order c.args.reader.now in
     let new : ReaderState = state_of source order c.pass.new.self in
     let n = length c.args.branches.now in
-    let shown : List ℕ = c.shown_bytes-shown.result.now in
+    let shown : List ℕ = c.shown_bytes-front.result.now in
     let ys : List ℕ = flat_map branch_numbers c.convert.new.branches in
     let bytes : 24 * n ≡ 8 * (3 * n) = omega arith in
-    let within : 8 * (3 * n) ≤ length shown = omega (arith, c.if-shown-count.false) in
-    let shows = subst (λ i. IsTrue (source i).told → (length shown ≤ length (source i).left) × (shown ≡ take (length shown) (source i).left)) c.input.ensures c.shown_bytes-shown.ensures in
+    let within : 8 * (3 * n) ≤ length shown = omega (arith, c.if-front-count.false) in
+    let shows = subst (λ i. IsTrue (source i).told → (length shown ≤ length (source i).left) × (shown ≡ take (length shown) (source i).left)) c.input.ensures c.shown_bytes-front.ensures in
     let made : ys ≡ words_of (order c.endian.result.now) (3 * n) (take (8 * (3 * n)) shown) =
     c.convert.ensures ∙ ap (λ k. words_of (order c.endian.result.now) (3 * n) (take k shown)) bytes in
     let call = c.in-Ok.ensures.call in

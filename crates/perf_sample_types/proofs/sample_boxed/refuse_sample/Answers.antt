@@ -1,7 +1,7 @@
 use Rattle.std.proofs.Common.{◌++◌, [], Ok, None, Some, refl, arith}
 use Rattle.perf_reader.specs.Calls.{Call}
 use Rattle.perf_reader.specs.ReaderState.{ReaderState}
-use Rattle.perf_reader.specs.Reading.{Keeps}
+use Rattle.perf_reader.specs.Reading.{CallInvariant}
 use Rattle.perf_reader.specs.TableRuns.{ReadsBorrowed}
 use Rattle.perf_base.specs.declared.error.ErrorKind.TheVariants.{OutOfMemory}
 use Rattle.perf_sample_types.specs.Sample.{SampleValue, sample}
@@ -50,7 +50,7 @@ returns-in-Err-pass_memory g c = record {
 }
 
 -- what was kept is also kept if memory runs out
-kept_unmade : (start m : ReaderState) → Keeps start None m → Keeps start (Some OutOfMemory) m
+kept_unmade : (start m : ReaderState) → CallInvariant start None m → CallInvariant start (Some OutOfMemory) m
 kept_unmade start m h = record { buffer = (h.buffer.0, h.buffer.1, h.buffer.2, h.buffer.3); fault = λ x. cc; cost = λ t. let k = h.cost t in (k.0, omega (arith, k.1)); place = h.place }
 
 pub returns-in-Ok-pass_memory : goal.returns-in-Ok-pass_memory

@@ -1,5 +1,5 @@
 use Rattle.std.proofs.Common.{sym, subst, Some, ◌∙◌}
-use Rattle.perf_buffers.specs.Buffer.{Source, Stays}
+use Rattle.perf_buffers.specs.Buffer.{Source, BufferInvariant}
 use Rattle.perf_buffers.specs.Taking.{CanFail, FailsToKeep}
 use Rattle.perf_buffers.proofs.cursor.ParseBufCursor.new.Goals as goal
 
@@ -25,7 +25,7 @@ returns-in-Err g c =
     let new : Source = g.B.ParseBuf.source c.cut.new.buf in
     let e = c.in-Err.ensures in
     let kind = sym c.error_of.ensures.kind_is in record {
-      stays = subst (λ k. Stays old (Some k) new) kind e.stays;
+      stays = subst (λ k. BufferInvariant old (Some k) new) kind e.stays;
       can_fail = subst (λ k. CanFail old (Some k)) kind e.can_fail;
       whole = e.whole;
       whole_memory = λ w h. e.whole_memory w (kind ∙ h);

@@ -1,7 +1,7 @@
 use Rattle.std.proofs.Common.{◌≡◌, ℕ, ◌≤◌, List, length, take, refl, sym, subst, ◌∙◌, arith}
 use Rattle.std.specs.Prelude.{nat_le}
 use Rattle.std.proofs.lemmas.Bool.{leb-true}
-use Rattle.perf_base.specs.FieldWords.{bytes, ignored, require}
+use Rattle.perf_base.specs.FieldWords.{bytes, gap, require}
 use Rattle.perf_base.specs.Layout.{Parts, done, ◌>>=◌}
 use Rattle.perf_base.specs.declared.error.ErrorKind.TheVariants.{InvalidRecord}
 use Rattle.perf_types.specs.MmapDetail.{DetailValue, build_id_is}
@@ -32,7 +32,7 @@ returns g c =
     let body = list.reads.bytes ∙ over.bytes ∙ len_at.ensures.bytes in
     record {
       value = build_id_is (take n all);
-      reads = next_number len_at.ensures (then_reads (ignored 3) (λ _. bytes 20 >>= λ xs. last xs) over
+      reads = next_number len_at.ensures (then_reads (gap 3) (λ _. bytes 20 >>= λ xs. last xs) over
           (then_reads (bytes 20) (λ xs. last xs) list.reads (then_reads (require (nat_le n 20) InvalidRecord) (λ _. done (build_id_is (take n all))) check all_read)));
       holds = λ ok. record {
         maj = refl;

@@ -9,7 +9,7 @@ use Rattle.perf_base.specs.declared.config.ParseConfig.{ParseConfig}
 use Rattle.perf_base.specs.declared.error.ErrorKind.{ErrorKind}
 use Rattle.perf_buffers.specs.declared.outer.Outer.{Outer}
 use Rattle.perf_reader.specs.ReaderState.{ReaderState, state_of}
-use Rattle.perf_reader.specs.Reading.{Keeps}
+use Rattle.perf_reader.specs.Reading.{CallInvariant}
 use Rattle.perf_reader.proofs.Paying.{can_fault, keeps_none, keeps_more}
 use Rattle.perf_records.specs.Answers.{length_after}
 use Rattle.perf_records.specs.Sights.{Sight, sight_after, sight_in}
@@ -63,8 +63,8 @@ returns-in-Ok-hand_after-clause-step g c =
       stop = λ told. tt;
       memory = λ told whole. tt;
       keeps = λ start k.
-          let first : Keeps old None mid = call.keeps old (keeps_none old) in
-          let second : Keeps mid None new = moved_keeps mid new None 0 (omega (arith, e.reads)) e.stays (λ x. cc)
+          let first : CallInvariant old None mid = call.keeps old (keeps_none old) in
+          let second : CallInvariant mid None new = moved_keeps mid new None 0 (omega (arith, e.reads)) e.stays (λ x. cc)
           (λ told. let m = moved_by (length_after h) mid.source new.source (f.3 told).1 in (m, omega (arith, m.0))) in
           run_more start old new 0 None k (keeps_more old mid new None first second);
     }
@@ -84,7 +84,7 @@ returns-in-Err-hand_after-clause-step g c =
       stop = λ told. let head = call.answer told in let still = call.told told in stops_after old mid new c.in-Ok.header c.in-Err-hand_after.refusal (e.stops still) head.0 head.1 head.2 (e.left still);
       memory = λ told whole. let none = e.memory (call.whole ∙ whole) in ((λ kind. absurd (none kind)), none);
       keeps = λ start k.
-          let first : Keeps old None mid = call.keeps old (keeps_none old) in
-          let second : Keeps mid kind new = moved_keeps mid new kind 0 (omega (arith, e.reads)) e.stays (can_fault mid.source kind e.can_fail) (λ told. let m = e.left told in (m.1, omega (arith, m.1.0))) in
+          let first : CallInvariant old None mid = call.keeps old (keeps_none old) in
+          let second : CallInvariant mid kind new = moved_keeps mid new kind 0 (omega (arith, e.reads)) e.stays (can_fault mid.source kind e.can_fail) (λ told. let m = e.left told in (m.1, omega (arith, m.1.0))) in
           run_more start old new 0 kind k (keeps_more old mid new kind first second);
     }

@@ -7,7 +7,7 @@ use Rattle.perf_base.specs.declared.error.ErrorKind.{ErrorKind}
 use Rattle.perf_buffers.specs.declared.outer.Outer.{Outer}
 use Rattle.perf_reader.specs.ReaderState.{ReaderState, state_of}
 use Rattle.perf_reader.proofs.Paying.{keeps_none}
-use Rattle.perf_parser.specs.Runs.{Pairs, KeepsRun, refused_count}
+use Rattle.perf_parser.specs.Runs.{Pairs, RunInvariant, refused_count}
 use Rattle.perf_parser.specs.Steps.{ListsFirst, stopped_by}
 use Rattle.perf_parser.proofs.Ending.{stops_after, stops_spent, run_more, run_stops, run_lists, said_frame}
 use Rattle.perf_parser.proofs.Listing.{lists_more, listed_alone}
@@ -26,7 +26,7 @@ returns-in-Err-clause-step g c =
       same = λ start first k so_far. subst (ListsFirst start k true) (sym e.items) so_far;
       stop = e.stop;
       memory = λ told whole. ((λ kind. inl (e.call.answer told)), (λ kind. tt));
-      keeps = λ start k. subst (λ (xs : Pairs). KeepsRun start (refused_count xs + 1) (stopped_by {A = Unit {0}} (Err c.in-Err.stop)) new) (sym e.items)
+      keeps = λ start k. subst (λ (xs : Pairs). RunInvariant start (refused_count xs + 1) (stopped_by {A = Unit {0}} (Err c.in-Err.stop)) new) (sym e.items)
           (run_stops start old new (refused_count c.args.frames.now.items) c.in-Err.stop k (e.call.keeps old (keeps_none old)));
     }
 
@@ -43,7 +43,7 @@ returns-in-Err-next_header-clause-step g c =
       same = λ start first k so_far. subst (ListsFirst start k true) (sym items) so_far;
       stop = λ told. let same = look.answer told in looked_stops old mid new (ap (λ (k : ParseConfig g.row.E.Denot). g.E.Endian.order (endian_of k)) look.config) same.0 same.1 c.in-Err-next_header.stop (e.stop (look.told told));
       memory = λ told whole. ((λ kind. absurd (e.memory (look.told told) kind)), (λ kind. tt));
-      keeps = λ start k. subst (λ (xs : Pairs). KeepsRun start (refused_count xs + 1) (stopped_by {A = Unit {0}} (Err c.in-Err-next_header.stop)) new) (sym items)
+      keeps = λ start k. subst (λ (xs : Pairs). RunInvariant start (refused_count xs + 1) (stopped_by {A = Unit {0}} (Err c.in-Err-next_header.stop)) new) (sym items)
           (run_stops start old new (refused_count c.args.frames.now.items) c.in-Err-next_header.stop k (e.call.keeps old (look.keeps old (keeps_none old))));
     }
 
@@ -85,6 +85,6 @@ returns-in-Err-list_frame-clause-step g c =
       same = λ start first k so_far. subst (ListsFirst start k true) (sym items) so_far;
       stop = λ told. let head = call.answer told in stops_after old mid new h r e.stops.0 head.0 head.1 head.2 (e.within (call.told told));
       memory = λ told whole. let head = call.answer told in (stops_spent old mid new h r head.1 head.2 (e.spent (call.told told) (call.whole ∙ whole)), (λ refused. tt));
-      keeps = λ start k. subst (λ (xs : Pairs). KeepsRun start (refused_count xs + 1) kind new) (sym items)
+      keeps = λ start k. subst (λ (xs : Pairs). RunInvariant start (refused_count xs + 1) kind new) (sym items)
           (run_more start old new (refused_count c.args.frames.now.items) kind k (e.stops.1.keeps old (call.keeps old (keeps_none old))));
     }

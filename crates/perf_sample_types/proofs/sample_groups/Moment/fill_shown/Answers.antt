@@ -15,7 +15,7 @@ pub into_taken-len-requires : goal.into_taken-len-requires
 into_taken-len-requires g c =
     let source = g.I.Input.source in
     let settings : Configuration = configuration_of c.args.reader.now.config in
-    let shown : List ℕ = c.shown_bytes-shown.result.now in
+    let shown : List ℕ = c.shown_bytes-front.result.now in
     let asked : settings.sample_type ≡ sample_flags_bits c.sample_type.result = sym (c.sample_type.ensures ∙ ap (λ k. (configuration_of k).sample_type) c.config.ensures) in
     let takes = c.in-Some.ensures settings asked in
     let row = front_length c.new-row.result c.take_fields.new.row takes.0 in
@@ -26,12 +26,12 @@ pub pass-requires : goal.pass-requires
 pass-requires g c =
     let source = g.I.Input.source in
     let settings : Configuration = configuration_of c.args.reader.now.config in
-    let shown : List ℕ = c.shown_bytes-shown.result.now in
+    let shown : List ℕ = c.shown_bytes-front.result.now in
     let asked : settings.sample_type ≡ sample_flags_bits c.sample_type.result = sym (c.sample_type.ensures ∙ ap (λ k. (configuration_of k).sample_type) c.config.ensures) in
     let takes = c.in-Some.ensures settings asked in
     let row = front_length c.new-row.result c.take_fields.new.row takes.0 in
     let long : length c.new-row.result.left.now ≡ length shown = ap length c.new-row.ensures.left in
-    let shows = subst (λ i. IsTrue (source i).told → (length shown ≤ length (source i).left) × (shown ≡ take (length shown) (source i).left)) c.input.ensures c.shown_bytes-shown.ensures in
+    let shows = subst (λ i. IsTrue (source i).told → (length shown ≤ length (source i).left) × (shown ≡ take (length shown) (source i).left)) c.input.ensures c.shown_bytes-front.ensures in
     let len = c.into_taken-len.ensures.len in
     let reads = c.into_taken-len.ensures.reads in
     let has : IsTrue (source c.args.reader.now.input).told → c.into_taken-len.result.0 ≤ length (source c.args.reader.now.input).left = λ told. omega (arith, (shows told).0, len) in
@@ -42,12 +42,12 @@ pub returns-in-Ok-clause-shown : goal.returns-in-Ok-clause-shown
 returns-in-Ok-clause-shown g c is =
     let source = g.I.Input.source in
     let settings : Configuration = configuration_of c.args.reader.now.config in
-    let shown : List ℕ = c.shown_bytes-shown.result.now in
+    let shown : List ℕ = c.shown_bytes-front.result.now in
     let asked : settings.sample_type ≡ sample_flags_bits c.sample_type.result = sym (c.sample_type.ensures ∙ ap (λ k. (configuration_of k).sample_type) c.config.ensures) in
     let takes = c.in-Some.ensures settings asked in
     let row = front_length c.new-row.result c.take_fields.new.row takes.0 in
     let long : length c.new-row.result.left.now ≡ length shown = ap length c.new-row.ensures.left in
-    let shows = subst (λ i. IsTrue (source i).told → (length shown ≤ length (source i).left) × (shown ≡ take (length shown) (source i).left)) c.input.ensures c.shown_bytes-shown.ensures in
+    let shows = subst (λ i. IsTrue (source i).told → (length shown ≤ length (source i).left) × (shown ≡ take (length shown) (source i).left)) c.input.ensures c.shown_bytes-front.ensures in
     let fields = subst (λ e. TakesFields (g.E.Endian.order e) (fields_under settings moment_fields) (moment_value c.take_fields.new.self) c.new-row.result c.take_fields.new.row) c.endian.ensures takes in
     let call = subst (λ k. Call {X = Unit {0}} source g.E.Endian.order (PassesOver c.into_taken-len.result.0 k) c.args.reader.now (Ok tt) c.pass.new.self) c.into_taken-len.ensures.reads c.in-Ok.ensures.call in
     row_call {source = source} {order = g.E.Endian.order} {a = c.args.reader.now} {b = c.pass.new.self} (λ s. fields_under s moment_fields) moment_value shown c.new-row.result c.take_fields.new.row c.into_taken-len.result.0 shows c.new-row.ensures.left c.new-row.ensures.reads c.into_taken-len.ensures.len fields

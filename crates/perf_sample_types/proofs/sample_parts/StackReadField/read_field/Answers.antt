@@ -35,8 +35,8 @@ returns-in_err-read_u64_if g c =
           part_stops _ _ _ c.in_err-read_u64_if.ensures.call)));
     })
 
-pub returns-then-used-size : goal.returns-then-used-size
-returns-then-used-size g c =
+pub returns-then-used_len-size : goal.returns-then-used_len-size
+returns-then-used_len-size g c =
     let fits : nat_le (unwrap_or c.in_ok-read_u64_if.field-0 0) c.in_ok-size.size ≡ false = grind arith in
     record {
       call = transient _ _ _ (λ t w. tt) (

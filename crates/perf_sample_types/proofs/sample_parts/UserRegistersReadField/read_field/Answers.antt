@@ -1,6 +1,6 @@
 use Rattle.std.proofs.Common.{◌≡◌, ap, ◌∙◌}
 use Rattle.perf_base.specs.Configured.{configuration_of}
-use Rattle.perf_base.specs.Layout.{done, mapped}
+use Rattle.perf_base.specs.Layout.{done, map_parts}
 use Rattle.perf_reader.proofs.Asked.{transient}
 use Rattle.perf_reader.proofs.After.{call_after, call_stops, call_none}
 use Rattle.perf_types.proofs.Readings.{call_same}
@@ -14,7 +14,7 @@ unfolding registers
 returns-in-Ok g c =
     let asked : c.regs_user-mask.result ≡ (configuration_of c.args.reader.now.config).regs_user = c.regs_user-mask.ensures ∙ ap (λ k. (configuration_of k).regs_user) c.config.ensures in
     record {
-      call = transient _ _ _ (λ t w. tt) (call_same (λ _. mapped registers_are (registers_of c.regs_user-mask.result)) _ (ap (λ m. mapped registers_are (registers_of m)) asked) (
+      call = transient _ _ _ (λ t w. tt) (call_same (λ _. map_parts registers_are (registers_of c.regs_user-mask.result)) _ (ap (λ m. map_parts registers_are (registers_of m)) asked) (
           call_after (λ _. registers_of c.regs_user-mask.result) (λ _ v. done (registers_are v)) c.in-Ok.ensures.call (
           call_none {show = user_value})));
     }
@@ -24,6 +24,6 @@ unfolding registers
 returns-in-Err g c =
     let asked : c.regs_user-mask.result ≡ (configuration_of c.args.reader.now.config).regs_user = c.regs_user-mask.ensures ∙ ap (λ k. (configuration_of k).regs_user) c.config.ensures in
     record {
-      call = transient _ _ _ (λ t w. tt) (call_same (λ _. mapped registers_are (registers_of c.regs_user-mask.result)) _ (ap (λ m. mapped registers_are (registers_of m)) asked) (
+      call = transient _ _ _ (λ t w. tt) (call_same (λ _. map_parts registers_are (registers_of c.regs_user-mask.result)) _ (ap (λ m. map_parts registers_are (registers_of m)) asked) (
           call_stops (λ _. registers_of c.regs_user-mask.result) (λ _ v. done (registers_are v)) c.in-Err.ensures.call));
     }

@@ -2,7 +2,7 @@ use Rattle.std.proofs.Common.{◌≡◌, rules, subst, ◌∙◌}
 use Rattle.std.specs.Prelude.{Some}
 use Rattle.perf_base.specs.Errors.{kind_of}
 use Rattle.perf_base.specs.Refusals.{kind_if_refused, error_kinds}
-use Rattle.perf_parser.specs.Prelude.{Keeps}
+use Rattle.perf_parser.specs.Prelude.{CallInvariant}
 use Rattle.perf_parser.specs.ReaderState.{state_of}
 use Rattle.perf_parser.proofs.InRow.{runs_kept, short_kept}
 use Rattle.perf_unit_tests.proofs.own_types.OwnListParse.parse.Goals as goal
@@ -22,7 +22,7 @@ returns-in_err-numbers g c = record {
         let error = c.in_err-numbers.field-0.0 in
         let short = short_kept _ start mid new c.in_ok-count.count (kind_of error) c.in_err-numbers.ensures.err (c.in_ok-count.ensures.call.counted start k) in
         let same : Some (kind_of error) ≡ kind_if_refused (error_kinds c.from_residual-in_err-numbers.result) = search rules in
-        subst (λ seen. Keeps start seen new) same short;
+        subst (λ seen. CallInvariant start seen new) same short;
     follows = λ start f. c.parse_repeated.ensures.call.follows start (c.in_ok-count.ensures.call.follows start f);
   };
 }
