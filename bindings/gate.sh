@@ -2,10 +2,9 @@
 # Runs the tests of all faces over an archive, at the top of the repository: bindings/gate.sh [ARCHIVE]
 #
 # Without ARCHIVE it makes one by each of the kit's two compilers over the libraries that `rt ci` proved,
-# of which the second is for C and C++ alone. A line says of each test whether it
-# passed, failed or was skipped; what a test skipped, or what of it failed and the end of what it printed,
-# follows it, indented. The status is 0 if none failed. No network is needed, and nothing is left in the
-# repository.
+# of which the second is for C and C++ alone. A line says of each test whether it passed, failed or was
+# skipped; what a test skipped, or what of it failed and the end of what it printed, follows it, indented.
+# The status is 0 if none failed. No network is needed, and nothing is left in the repository.
 set -u
 top=$(cd "$(dirname "$0")/.." && pwd)
 cd "$top" || exit 2
