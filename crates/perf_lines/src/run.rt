@@ -159,29 +159,29 @@ fn push_run<'p, B: ParseBuf<'p>, E: Endian>(
         outcome written) }
 {
     let mut count = 0;
-    let mut refused = false;
+    let mut any_refused = false;
     while count < limit {
         let batch = (limit - count).min(BATCH);
         let run = read_records(parser, batch);
         push_lines(text, count, &run.frames)?;
-        refused |= has_refusal(&run.frames);
+        any_refused |= has_refusal(&run.frames);
         match run.end {
             RunEnd::Limit => count += batch,
-            end => return push_ending(text, end, refused),
+            end => return push_ending(text, end, any_refused),
         }
     }
-    push_last(text, "limit", refused)
+    push_last(text, "limit", any_refused)
 }
 
 // Appends the line that states how a run ended.
-fn push_ending(text: &mut String, end: RunEnd, refused: bool) -> Result<Outcome, AllocError>
+fn push_ending(text: &mut String, end: RunEnd, any_refused: bool) -> Result<Outcome, AllocError>
     ensures { IfOk result (λ outcome.
         (string_bytes text.new ≡ string_bytes text.old ++ ending_line end)
-        × (outcome ≡ ending_outcome end refused)) }
+        × (outcome ≡ ending_outcome end any_refused)) }
 {
     match end {
-        RunEnd::Limit => push_last(text, "limit", refused),
-        RunEnd::Done => push_last(text, "done", refused),
+        RunEnd::Limit => push_last(text, "limit", any_refused),
+        RunEnd::Done => push_last(text, "done", any_refused),
         RunEnd::CutHeader => push_last(text, "cut", true),
         RunEnd::Fault(error) => {
             push_fault(text, error.kind())?;
@@ -196,13 +196,13 @@ fn has_refusal(frames: &[(perf_event_header, ParseResult<Record>)]) -> bool
     frames.iter().any(|frame| frame.1.is_err())
 }
 
-fn push_last(text: &mut String, how: &str, refused: bool) -> Result<Outcome, AllocError>
+fn push_last(text: &mut String, how: &str, any_refused: bool) -> Result<Outcome, AllocError>
     ensures { IfOk result (λ outcome.
         (string_bytes text.new ≡ string_bytes text.old ++ lines.end_line how.now)
-        × (outcome ≡ (if refused then Outcome.Refused else Outcome.Clean))) }
+        × (outcome ≡ (if any_refused then Outcome.Refused else Outcome.Clean))) }
 {
     push_end(text, how)?;
-    Ok(if refused {
+    Ok(if any_refused {
         Outcome::Refused
     } else {
         Outcome::Clean

@@ -34,10 +34,10 @@ returns-in_default g c = λ told.
     let listed = i.listed told in
     let within : n + c.min-batch.result ≤ c.args.limit = omega (arith, c.min-batch.ensures, c.loop-count-test.true) in
     let fits : n + length c.deref.result.now < 2 ^ 64 = omega (arith, ap length c.deref.ensures.value, r.ensures.count, within, c.ranges.limit.fits) in
-    let batch : Listed config order bytes old (n + k) now (c.loop-count.refused || c.has_refusal-refused.result) =
-    batch_more config order bytes old n made c.loop-count.refused listed left (i.left told) pairs are
+    let batch : Listed config order bytes old (n + k) now (c.loop-count.any_refused || c.has_refusal-any_refused.result) =
+    batch_more config order bytes old n made c.loop-count.any_refused listed left (i.left told) pairs are
     c.deref.result.now c.deref.ensures.value now (c.in_ok-push_lines.ensures fits)
-    c.deref-in-loop-count.result.now c.deref-in-loop-count.ensures.value c.has_refusal-refused.result c.has_refusal-refused.ensures in
+    c.deref-in-loop-count.result.now c.deref-in-loop-count.ensures.value c.has_refusal-any_refused.result c.has_refusal-any_refused.ensures in
     if_ok_map c.push_ending.result _ (λ outcome. Made f config order c.args.limit bytes old outcome (string_bytes c.push_ending.new.text))
     (λ outcome last. made_to_ending f buffer.can_fault i.can_fault config order c.args.limit n c.min-batch.result within bytes old left after k r.result.end c.in_default.not-Limit ends r.ensures.keeps.fault listed.within (i.left told) now _ batch (string_bytes c.push_ending.new.text) outcome last.0 last.1)
     c.push_ending.ensures
@@ -84,9 +84,9 @@ loop-count-preserved g c = record {
       let listed = i.listed told in
       let within : n + c.min-batch.result ≤ c.args.limit = omega (arith, c.min-batch.ensures, c.loop-count-test.true) in
       let fits : n + length c.deref.result.now < 2 ^ 64 = omega (arith, ap length c.deref.ensures.value, ends.0, within, c.ranges.limit.fits) in
-      let batch : Listed config order bytes old (n + k) now (c.loop-count.refused || c.has_refusal-refused.result) =
-      batch_more config order bytes old n made c.loop-count.refused listed left (i.left told) pairs are
+      let batch : Listed config order bytes old (n + k) now (c.loop-count.any_refused || c.has_refusal-any_refused.result) =
+      batch_more config order bytes old n made c.loop-count.any_refused listed left (i.left told) pairs are
       c.deref.result.now c.deref.ensures.value now (c.in_ok-push_lines.ensures fits)
-      c.deref-in-loop-count.result.now c.deref-in-loop-count.ensures.value c.has_refusal-refused.result c.has_refusal-refused.ensures in
-      subst (λ j. Listed config order bytes old (n + j) now (c.loop-count.refused || c.has_refusal-refused.result)) ends.0 batch;
+      c.deref-in-loop-count.result.now c.deref-in-loop-count.ensures.value c.has_refusal-any_refused.result c.has_refusal-any_refused.ensures in
+      subst (λ j. Listed config order bytes old (n + j) now (c.loop-count.any_refused || c.has_refusal-any_refused.result)) ends.0 batch;
 }

@@ -16,7 +16,7 @@ invariant-loop-count g l =
       told : IsTrue (source l.initial.parser.reader.input.buf).told → IsTrue (source l.parser.reader.input.buf).told;
       left : IsTrue (source l.initial.parser.reader.input.buf).told → (source l.parser.reader.input.buf).left ≡ drop_frames order l.count bytes;
       listed : IsTrue (source l.initial.parser.reader.input.buf).told
-          → Listed (configuration_of l.initial.parser.reader.config) order bytes (string_bytes l.initial.text) l.count (string_bytes l.text) l.refused;
+          → Listed (configuration_of l.initial.parser.reader.config) order bytes (string_bytes l.initial.text) l.count (string_bytes l.text) l.any_refused;
     }
 
 abbrev pub decreases-loop-count : goal.decreases-loop-count
