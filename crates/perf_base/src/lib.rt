@@ -11,3 +11,10 @@ pub mod laws;
 pub mod reads;
 pub mod refusal;
 pub mod sys;
+
+pub use config::ParseConfig;
+pub use cow::CowSlice;
+pub use endian::Endian;
+pub use error::{ErrorKind, ParseError, ParseResult};
+pub use reads::ReadCounter;
+pub use refusal::{Kept, ReadResult, Refusal};

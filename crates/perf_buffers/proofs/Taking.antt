@@ -1,6 +1,6 @@
 -- Reads one after another.
 use Rattle.std.proofs.Common.{rules, ◌≡◌, ℕ, ◌+◌, ◌-◌, ◌≤◌, Bool, List, length, take, drop, arith, sym, ◌∙◌, ap, ◌++◌, length-drop, [], refl}
-use Rattle.std.proofs.lemmas.List.{append_assoc, drop-drop, take_at, drop_at, take-append-le, length-take-le, take_all, nil_from_length}
+use Rattle.std.proofs.lemmas.List.{append_assoc, drop-drop, take_at, drop_at, take-append-le, length-take-le, take_all}
 use Rattle.std.proofs.Math.Seq.{take-add}
 use borrow.Rule.Slice.PartMut.{put_mid, post_of}
 use Rattle.std.proofs.lemmas.Slice.{overwrites}
@@ -37,9 +37,6 @@ took_all n first xs left p q r =
     let short : length (drop n xs) ≡ 0 = ap length (sym q ∙ r) in
     p ∙ take_all n xs (omega (arith, length-drop n xs))
 
-pub append_all : (start now out left rest : List ℕ) (a : ℕ) → now ≡ start ++ take a left → rest ≡ drop a left → rest ≡ [] → out ≡ now → out ≡ start ++ left
-append_all start now out left rest a p q r s = s ∙ p ∙ ap (λ xs. start ++ xs) (took_all a (take a left) left rest refl q r)
-
 pub takes_moves : (a b : Source) (n : ℕ) → Takes a n b → Moves a b
 takes_moves a b n p =
     let left : length b.left ≡ length a.left - n = ap length p.1 ∙ length-drop n a.left in
@@ -50,10 +47,3 @@ takes_moves a b n p =
 pub zero_on : (a n : ℕ) (left rest : List ℕ) (was more now : Bool) → rest ≡ drop a left → was ≡ all_zero (take a left) → more ≡ all_zero (take n rest) → now ≡ (was && more) → now ≡ all_zero (take (a + n) left)
 zero_on a n left rest was more now after p q r =
     r ∙ rw (p, q, after) refl ∙ sym (list_all-append (λ byte. byte == 0) (take a left) (take n (drop a left))) ∙ ap all_zero (sym (take-add a n left))
-
--- all that was left was taken
-pub took_everything : (a b : Source) (first : List ℕ) → Takes a (length first) b → first ≡ a.left → b.left ≡ []
-took_everything a b first p all =
-    let long : length first ≡ length a.left = ap length all in
-    let left : length b.left ≡ length a.left - length first = ap length p.1 ∙ length-drop (length first) a.left in
-    nil_from_length b.left (omega arith)

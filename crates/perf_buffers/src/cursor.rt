@@ -9,9 +9,7 @@ ghost use Rattle.perf_buffers.specs.Prelude as prelude;
 use crate::cut::cut;
 use crate::frame_input::after;
 use crate::parsebuf::{ParseBuf, ParseBufChunk};
-use perf_base::cow::CowSlice;
-use perf_base::error::{ErrorKind, ParseError, ParseResult};
-use perf_base::refusal::Kept;
+use perf_base::{CowSlice, ErrorKind, Kept, ParseError, ParseResult};
 use std::alloc::Global;
 
 #[derive(Debug, Drop)]

@@ -9,8 +9,7 @@ ghost use Rattle.perf_buffers.specs.Prelude as prelude;
 use crate::cursor::{Content, ParseBufCursor};
 use crate::fill::append;
 use crate::parsebuf::{ParseBuf, ParseBufChunk};
-use perf_base::error::{ErrorKind, ParseError, ParseResult};
-use perf_base::refusal::{Kept, ReadResult, Refusal};
+use perf_base::{ErrorKind, Kept, ParseError, ParseResult, ReadResult, Refusal};
 use std::alloc::Global;
 
 // The capacity allocated first if the buffer does not report how many bytes it has.
@@ -149,10 +148,7 @@ pub(crate) fn assemble<'p, B: ParseBuf<'p>>(
     if bytes.reserve_exact(capacity_for(has_hint, len)).is_err() {
         return Err(ParseError::out_of_memory());
     }
-    match append(buf, bytes, len) {
-        Ok(()) => Ok(()),
-        Err(error) => Err(error),
-    }
+    append(buf, bytes, len)
 }
 
 // The next `len` bytes, copied.

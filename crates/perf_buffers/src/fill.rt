@@ -8,8 +8,7 @@ ghost use Rattle.perf_buffers.specs.Prelude.{CanFail, Takes, TakesAtOnce, FailsT
 ghost use Rattle.perf_buffers.specs.Prelude.{CallNeedsNoMemory, NeedsNoMemory};
 
 use crate::parsebuf::ParseBuf;
-use perf_base::error::{ErrorKind, ParseError, ParseResult};
-use perf_base::refusal::{Kept, ReadResult};
+use perf_base::{ErrorKind, Kept, ParseError, ParseResult, ReadResult};
 
 // Fills `out` if one chunk has all its bytes, and otherwise takes nothing.
 #[inline]
@@ -135,10 +134,7 @@ pub(crate) fn append<'p, B: ParseBuf<'p>>(
 {
     let mut at = 0;
     while at < len {
-        at += match append_some(buf, out, len - at) {
-            Ok(count) => count,
-            Err(error) => return Err(error),
-        };
+        at += append_some(buf, out, len - at)?;
     }
     Ok(())
 }

@@ -8,8 +8,7 @@ ghost use Rattle.perf_buffers.specs.Prelude.{content_left, content_is_borrowed, 
 use crate::cursor::{Content, ParseBufCursor};
 use crate::input::Input;
 use crate::zeros::is_zero;
-use perf_base::cow::CowSlice;
-use perf_base::refusal::{ReadResult, Refusal};
+use perf_base::{CowSlice, ReadResult, Refusal};
 use std::alloc::Global;
 use std::mem;
 

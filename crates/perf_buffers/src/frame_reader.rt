@@ -8,9 +8,7 @@ ghost use Rattle.perf_buffers.specs.Prelude.{CanFail, NeedsNoMemory, FailsToKeep
 
 use crate::cut::assemble;
 use crate::parsebuf::{ParseBuf, ParseBufChunk};
-use perf_base::endian::Endian;
-use perf_base::error::ErrorKind;
-use perf_base::refusal::{Kept, ReadResult};
+use perf_base::{Endian, ErrorKind, Kept, ReadResult};
 
 /// Makes something of the bytes of a frame, and of a state of the caller.
 pub trait FrameReader<'p, S>: Drop {

@@ -12,8 +12,7 @@ ghost use Rattle.perf_buffers.specs.Prelude as prelude;
 
 use crate::cursor::ParseBufCursor;
 use crate::zeros::is_zero;
-use perf_base::cow::CowSlice;
-use perf_base::refusal::{ReadResult, Refusal};
+use perf_base::{CowSlice, ReadResult, Refusal};
 use std::alloc::Global;
 
 /// Bytes that are taken as they are needed.

@@ -14,10 +14,7 @@ use crate::input::Input;
 use crate::parsebuf::{ParseBuf, ParseBufChunk};
 use crate::rest::take_rest;
 use crate::zeros::take_zeros;
-use perf_base::cow::CowSlice;
-use perf_base::endian::Endian;
-use perf_base::error::{ErrorKind, ParseError};
-use perf_base::refusal::{Kept, ReadResult, Refusal};
+use perf_base::{CowSlice, Endian, ErrorKind, Kept, ParseError, ReadResult, Refusal};
 use std::alloc::Global;
 
 // The size of a small frame in bytes.

@@ -7,7 +7,7 @@ ghost use Rattle.perf_buffers.specs.Prelude.{KeepsChunk, Advances, chunk_bytes, 
 ghost use Rattle.perf_buffers.specs.Prelude.{is_known};
 ghost use Rattle.perf_buffers.specs.Prelude.{RefusesReader, reader_remaining, reader_buffer};
 
-use perf_base::error::{ErrorKind, ParseError, ParseResult};
+use perf_base::{ErrorKind, ParseError, ParseResult};
 use std::io::{self, BufRead, BufReader, Read};
 
 /// The next bytes of a buffer.

@@ -3,7 +3,7 @@
 ghost use Rattle.std.specs.Prelude.{◌≡◌, ◌<◌, Some, [], length, take, IfOk, IfErr};
 
 use crate::parsebuf::{ParseBuf, ParseBufChunk};
-use perf_base::error::{ParseError, ParseResult};
+use perf_base::{ParseError, ParseResult};
 
 /// Hands a slice out in pieces, like a source that never has all bytes at once.
 #[derive(Debug, Drop)]

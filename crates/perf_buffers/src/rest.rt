@@ -7,8 +7,7 @@ ghost use Rattle.perf_buffers.specs.Prelude.{kind_if_failed, BufferInvariant, Ta
 
 use crate::fill::append;
 use crate::parsebuf::{ParseBuf, ParseBufChunk};
-use perf_base::cow::CowSlice;
-use perf_base::error::{ErrorKind, ParseError, ParseResult};
+use perf_base::{CowSlice, ErrorKind, ParseError, ParseResult};
 use std::alloc::Global;
 
 // The first chunk, if it lives as long as the input, and otherwise no bytes; `None` if nothing is

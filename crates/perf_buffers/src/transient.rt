@@ -4,8 +4,7 @@ ghost use Rattle.std.specs.Prelude.{◌≡◌, length, true, false, Some, None};
 
 use crate::cursor::{Content, ParseBufCursor};
 use crate::input::Input;
-use perf_base::cow::CowSlice;
-use perf_base::refusal::{ReadResult, Refusal};
+use perf_base::{CowSlice, ReadResult, Refusal};
 use std::alloc::Global;
 
 /// Bytes that are borrowed for a short time.

@@ -7,7 +7,7 @@ ghost use Rattle.perf_buffers.specs.Buffer.{CallNeedsNoMemory, BufferInvariant, 
 ghost use Rattle.perf_buffers.specs.Taking.{Takes, FailsToTake, CanFail};
 
 use crate::parsebuf::ParseBuf;
-use perf_base::error::ParseResult;
+use perf_base::ParseResult;
 
 pub(crate) fn is_zero(bytes: &[u8]) -> bool
     ensures { result ≡ all_zero bytes.now }
@@ -51,12 +51,9 @@ pub fn take_zeros<'p, B: ParseBuf<'p>>(buf: &mut B, len: usize) -> ParseResult<b
     let mut at = 0;
     let mut zero = true;
     while at < len {
-        let (count, more) = match take_some_zeros(buf, len - at) {
-            Ok(taken) => taken,
-            Err(error) => return Err(error),
-        };
-        at += count;
-        zero &= more;
+        let taken = take_some_zeros(buf, len - at)?;
+        at += taken.0;
+        zero &= taken.1;
     }
     Ok(zero)
 }

@@ -9,7 +9,7 @@ ghost use Rattle.perf_event_c.specs.Configs as configs;
 ghost use Rattle.perf_event_c.specs.Ends.{ReadsAttribute};
 
 use crate::order::order_by;
-use perf_base::error::ErrorKind;
+use perf_base::ErrorKind;
 use perf_flat::attr::read_attr;
 use perf_flat::flat_config::FlatConfig;
 use std::alloc::Global;

@@ -4,8 +4,7 @@
 //! pieces. [`read_records`] returns a record or an error for every frame of a stream.
 #![tactic(auto)]
 
-pub use perf_base::cow::CowSlice;
-pub use perf_base::{endian, sys};
+pub use perf_base::{CowSlice, endian, sys};
 pub use perf_buffers::pieces::PieceBuf;
 pub use perf_parser::{FrameRun, Run, RunEnd, each_frame, parse, read_records};
 pub use perf_records::frame::Frame;
@@ -22,27 +21,11 @@ pub use perf_sample_types::registers::Registers;
 pub use perf_sample_types::sample::Sample;
 pub use perf_sample_types::sample_fields::SampleFields;
 pub use perf_sample_types::sample_id::SampleId;
-pub use perf_types::aux_output_hw_id::AuxOutputHwId;
-pub use perf_types::aux_record::Aux;
-pub use perf_types::bpf_event::BpfEvent;
-pub use perf_types::cgroup::CGroup;
-pub use perf_types::comm::Comm;
-pub use perf_types::exit::{Exit, Fork};
-pub use perf_types::group_entry::GroupEntry;
-pub use perf_types::group_iter::GroupIter;
-pub use perf_types::itrace_start::ITraceStart;
-pub use perf_types::ksymbol::KSymbol;
-pub use perf_types::lost::Lost;
-pub use perf_types::lost_samples::LostSamples;
-pub use perf_types::mmap::Mmap;
-pub use perf_types::mmap2::{Mmap2, MmapDetail};
-pub use perf_types::namespaces::{NamespaceEntry, Namespaces};
-pub use perf_types::read::Read;
-pub use perf_types::read_group::ReadGroup;
-pub use perf_types::read_value::{ReadValue, TryFromGroupError};
-pub use perf_types::switch_cpu_wide::SwitchCpuWide;
-pub use perf_types::text_poke::TextPoke;
-pub use perf_types::throttle::Throttle;
+pub use perf_types::{
+    Aux, AuxOutputHwId, BpfEvent, CGroup, Comm, Exit, Fork, GroupEntry, GroupIter, ITraceStart,
+    KSymbol, Lost, LostSamples, Mmap, Mmap2, MmapDetail, NamespaceEntry, Namespaces, Read,
+    ReadGroup, ReadValue, SwitchCpuWide, TextPoke, Throttle, TryFromGroupError,
+};
 pub use perf_words::{
     AuxFlags, AuxPmuFormatType, BpfEventType, BranchEntry, BranchType, DataSource, KSymbolFlags,
     KSymbolType, MemBlk, MemDtlb, MemLevel, MemLevelNum, MemLock, MemOp, MemSnoop, MemSnoopX,

@@ -9,7 +9,7 @@ ghost use Rattle.perf_words.specs.Bits.{has_bit};
 
 use crate::flat_frame::FlatFrame;
 use bitflags::Flags;
-use perf_base::config::ParseConfig;
+use perf_base::ParseConfig;
 use perf_base::sys::{PERF_RECORD_READ, PERF_RECORD_SAMPLE, perf_event_header};
 use perf_records::parts::carries_sample_id;
 use perf_records::record_type::RecordType;

@@ -9,10 +9,9 @@ ghost use Rattle.perf_base.specs.declared.sys.perf_event_attr.{perf_event_attr};
 ghost use Rattle.perf_flat.specs.Configs.{flat_config_of};
 
 use crate::flat_config::FlatConfig;
-use perf_base::config::ParseConfig;
 use perf_base::endian::{Dynamic, Native};
-use perf_base::refusal::Refusal;
 use perf_base::sys::perf_event_attr;
+use perf_base::{ParseConfig, Refusal};
 use perf_reader::read::ReadFrom;
 use perf_reader::reader::Reader;
 use std::alloc::Global;

@@ -8,9 +8,8 @@ use crate::accepted::put_head;
 use crate::flat_frame::FlatFrame;
 use crate::placed::record_contents;
 use crate::refusals::refuse_frame;
-use perf_base::config::ParseConfig;
-use perf_base::endian::Endian;
 use perf_base::sys::{PERF_RECORD_SAMPLE, perf_event_header};
+use perf_base::{Endian, ParseConfig};
 use perf_sample_types::sample_id::SampleId;
 use std::alloc::Global;
 

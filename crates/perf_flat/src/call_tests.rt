@@ -8,7 +8,7 @@ use crate::identifier::identifier;
 use crate::many::read_many;
 use crate::read::read;
 use crate::split::read_split;
-use perf_base::config::ParseConfig;
+use perf_base::ParseConfig;
 use perf_base::endian::{Dynamic, Little};
 use std::fmt::Debug;
 use std::process::Abort;

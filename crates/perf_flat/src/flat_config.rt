@@ -4,7 +4,7 @@ ghost use Rattle.std.specs.Prelude.{◌≡◌, false, MatchOption};
 ghost use Rattle.perf_base.specs.declared.endian.Dynamic.{Dynamic};
 ghost use Rattle.perf_base.specs.declared.sys.perf_event_attr.{perf_event_attr};
 
-use perf_base::config::ParseConfig;
+use perf_base::ParseConfig;
 use perf_base::endian::{Dynamic, Native};
 use perf_base::sys::perf_event_attr;
 

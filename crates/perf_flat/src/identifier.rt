@@ -6,7 +6,7 @@ ghost use Rattle.perf_buffers.specs.Prelude.{chunk_bytes};
 ghost use Rattle.perf_records.specs.FrameNumbers.{IsIdentifierRead};
 ghost use Rattle.perf_flat.specs.Identifying as place;
 
-use perf_base::endian::Endian;
+use perf_base::Endian;
 use perf_base::sys::PERF_RECORD_SAMPLE;
 use perf_records::frame::Frame;
 use perf_records::frame_list::frames;

@@ -27,4 +27,3 @@ pub mod split;
 mod string_bodies;
 #[cfg(test)]
 mod tests;
-mod zeros;

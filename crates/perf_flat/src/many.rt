@@ -8,8 +8,7 @@ ghost use Rattle.perf_flat.specs.Many.{AreFlat, first_bytes, many_end};
 
 use crate::flat_frame::FlatFrame;
 use crate::read::{HEADER, read_first};
-use perf_base::config::ParseConfig;
-use perf_base::endian::Endian;
+use perf_base::{Endian, ParseConfig};
 use std::alloc::Global;
 
 /// How far several frames were read.

@@ -3,19 +3,16 @@
 ghost use Rattle.std.specs.Prelude.{◌≡◌};
 ghost use Rattle.perf_base.specs.Configuration.{Configuration};
 ghost use Rattle.perf_base.specs.Layout.{map_parts};
-ghost use Rattle.perf_base.specs.Misc.{build_id_bit};
 ghost use Rattle.perf_flat.specs.BodyPlaces.{IsDetail};
 ghost use Rattle.perf_flat.specs.Places.{PlacesRecord, ReadsFor};
 ghost use Rattle.perf_records.specs.Records as record_of;
 ghost use Rattle.perf_types.specs.Mmap2.{mmap2};
 ghost use Rattle.perf_types.specs.MmapDetail as detail_of;
-ghost use Rattle.perf_words.specs.Bits.{has_bit};
 
 use crate::flat_frame::{FlatFrame, NO_SPAN, Span, span_within};
 use crate::places::Places;
-use perf_base::endian::Endian;
-use perf_base::refusal::Refusal;
-use perf_base::sys::PERF_RECORD_MISC_MMAP_BUILD_ID;
+use perf_base::{Endian, Refusal};
+use perf_types::mmap2::has_build_id;
 
 // What identifies the file of a mapping: the numbers of its inode, or where its build id is.
 #[derive(Copy, Clone)]
@@ -25,15 +22,6 @@ struct Detail {
     ino: u64,
     ino_generation: u64,
     build_id: Span,
-}
-
-// Whether the record with this `misc` identifies its file by a build id.
-#[inline]
-#[tactic(auto, using(perf_types::proofs::Flags::contains_build_id))]
-fn has_build_id(misc: u16) -> bool
-    ensures { result ≡ has_bit misc build_id_bit }
-{
-    misc & PERF_RECORD_MISC_MMAP_BUILD_ID == PERF_RECORD_MISC_MMAP_BUILD_ID
 }
 
 // The longest build id, in bytes.

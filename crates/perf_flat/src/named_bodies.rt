@@ -11,8 +11,7 @@ ghost use Rattle.perf_types.specs.Mmap.{mmap};
 
 use crate::flat_frame::FlatFrame;
 use crate::places::Places;
-use perf_base::endian::Endian;
-use perf_base::refusal::Refusal;
+use perf_base::{Endian, Refusal};
 
 // Writes the contents of an MMAP record.
 pub(crate) fn mmap_contents<E: Endian>(

@@ -20,10 +20,8 @@ use crate::plain_bodies::{
 };
 use crate::sample_made::sample_contents;
 use crate::string_bodies::{bpf_event_contents, text_poke_contents, unknown_contents};
-use perf_base::config::ParseConfig;
-use perf_base::endian::Endian;
-use perf_base::refusal::Refusal;
 use perf_base::sys::perf_event_header;
+use perf_base::{Endian, ParseConfig, Refusal};
 use perf_records::record_type::RecordType;
 
 // Writes the contents of a record of a known type.

@@ -3,9 +3,8 @@
 ghost use Rattle.std.specs.Prelude.{◌≤◌, length};
 
 use crate::flat_frame::{FlatFrame, Span, put_numbers, put_spans, short_span};
-use crate::zeros::trimmed_len;
-use perf_base::endian::Endian;
-use perf_base::refusal::Refusal;
+use perf_base::{Endian, Refusal};
+use perf_reader::names::trimmed_len;
 
 // A body, how many of its bytes were read, and the first refusal. After a refusal nothing that is
 // read counts.

@@ -23,9 +23,8 @@ ghost use Rattle.perf_types.specs.Throttle.{throttle};
 use crate::flat_frame::FlatFrame;
 use crate::places::Places;
 use crate::sample_lists::Counters;
-use perf_base::endian::Endian;
-use perf_base::refusal::Refusal;
-use perf_base::sys::PERF_RECORD_MISC_SWITCH_OUT;
+use perf_base::{Endian, Refusal};
+use perf_types::switch_cpu_wide::is_switch_out;
 use perf_words::ReadFormat;
 
 // Writes the contents of a LOST record.
@@ -182,16 +181,7 @@ pub(crate) fn switch_contents(body: &[u8], frame: &mut FlatFrame) -> Option<Refu
     Places::new(body).finish(&[], &[], frame)
 }
 
-// Whether the record with this `misc` reports that a task left its processor.
-#[inline]
-#[tactic(auto, using(perf_types::proofs::Flags::contains_switch_out))]
-fn is_switch_out(misc: u16) -> bool
-    ensures { result ≡ has_bit misc switch_out_bit }
-{
-    misc & PERF_RECORD_MISC_SWITCH_OUT == PERF_RECORD_MISC_SWITCH_OUT
-}
-
-// The same as a number: 1 or 0.
+// Whether the record with this `misc` reports that a task left its processor: 1 or 0.
 #[inline]
 fn switch_out(misc: u16) -> u64
     ensures { result ≡ (if has_bit misc switch_out_bit then 1 else 0) }

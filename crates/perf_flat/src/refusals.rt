@@ -4,9 +4,8 @@ ghost use Rattle.std.specs.Prelude.{◌≡◌};
 ghost use Rattle.perf_flat.specs.Flat as flat;
 
 use crate::flat_frame::{FlatFrame, NUMBERS, SPANS, Span};
-use perf_base::error::ErrorKind;
-use perf_base::refusal::Refusal;
 use perf_base::sys::perf_event_header;
+use perf_base::{ErrorKind, Refusal};
 
 // The kind of a refusal as a number.
 #[inline]

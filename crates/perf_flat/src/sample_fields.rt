@@ -16,8 +16,7 @@ ghost use Rattle.perf_words.specs.SetBits.{sample_flags_bits, read_format_bits};
 use crate::flat_frame::{NO_SPAN, Span, low_word};
 use crate::places::Places;
 use bitflags::Flags;
-use perf_base::endian::Endian;
-use perf_base::refusal::Refusal;
+use perf_base::{Endian, Refusal};
 use perf_words::{ReadFormat, SampleFlags};
 
 impl Places<'_> {

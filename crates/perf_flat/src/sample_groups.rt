@@ -10,7 +10,7 @@ use crate::flat_frame::Span;
 use crate::places::Places;
 use crate::sample_lists::{Branches, Counters, Registers};
 use bitflags::Flags;
-use perf_base::endian::Endian;
+use perf_base::Endian;
 use perf_words::{ReadFormat, SampleFlags};
 
 // When and where it happened.

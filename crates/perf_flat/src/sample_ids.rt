@@ -10,8 +10,7 @@ ghost use Rattle.perf_sample_types.specs.SampleId as ids;
 ghost use Rattle.perf_words.specs.SetBits.{sample_flags_bits};
 
 use bitflags::Flags;
-use perf_base::config::ParseConfig;
-use perf_base::endian::Endian;
+use perf_base::{Endian, ParseConfig};
 use perf_reader::halves::{first_half, second_half};
 use perf_records::parts::carries_sample_id;
 use perf_sample_types::sample_id::SampleId;

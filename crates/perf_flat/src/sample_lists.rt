@@ -21,8 +21,7 @@ ghost use Rattle.perf_words.specs.SetBits.{sample_flags_bits, read_format_bits};
 use crate::flat_frame::{NO_SPAN, Span};
 use crate::places::Places;
 use bitflags::Flags;
-use perf_base::endian::Endian;
-use perf_base::refusal::Refusal;
+use perf_base::{Endian, Refusal};
 use perf_words::{ReadFormat, SampleFlags};
 
 // The counters that were read: without GROUP the one counter, with it where the entries are.

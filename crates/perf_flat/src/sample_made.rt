@@ -14,9 +14,7 @@ use crate::accepted::put_id;
 use crate::flat_frame::{FlatFrame, SPANS, Span, put_numbers, put_spans};
 use crate::places::Places;
 use crate::sample_groups::{Costs, Counts, Event, Memory, Moment, State};
-use perf_base::config::ParseConfig;
-use perf_base::endian::Endian;
-use perf_base::refusal::Refusal;
+use perf_base::{Endian, ParseConfig, Refusal};
 use perf_sample_types::sample_id::SampleId;
 
 // The groups of a sample's fields.

@@ -8,8 +8,7 @@ ghost use Rattle.perf_flat.specs.Split as split;
 use crate::flat_frame::FlatFrame;
 use crate::many::frame_len;
 use crate::read::read_first;
-use perf_base::config::ParseConfig;
-use perf_base::endian::Endian;
+use perf_base::{Endian, ParseConfig};
 use perf_reader::header::header_in;
 use std::alloc::Global;
 

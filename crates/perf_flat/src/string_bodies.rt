@@ -12,8 +12,7 @@ ghost use Rattle.perf_types.specs.TextPoke.{poked_len, text_poke};
 
 use crate::flat_frame::{FlatFrame, span_within};
 use crate::places::Places;
-use perf_base::endian::Endian;
-use perf_base::refusal::Refusal;
+use perf_base::{Endian, Refusal};
 
 // How many bytes the tag of a BPF program has.
 const TAG: u64 = 8;

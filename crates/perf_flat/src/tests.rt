@@ -3,7 +3,7 @@
 use crate::flat_frame::FlatFrame;
 use crate::read::{read, read_into};
 use bitflags::Flags;
-use perf_base::config::ParseConfig;
+use perf_base::ParseConfig;
 use perf_base::endian::Little;
 use perf_words::SampleFlags;
 use std::alloc::Global;

@@ -10,7 +10,7 @@ ghost use Rattle.perf_records.specs.Frames.{first_frames};
 use crate::parser::Parser;
 use crate::runs::RunEnd;
 use crate::steps::{Step, run_steps};
-use perf_base::endian::Endian;
+use perf_base::Endian;
 use perf_buffers::outer::Outer;
 use perf_buffers::parsebuf::ParseBuf;
 use perf_reader::header::Stop;

@@ -7,9 +7,8 @@ ghost use Rattle.perf_parser.specs.Prelude as prelude;
 
 use crate::parse::{FrameLayout, ParseRecord};
 use crate::parser::Parser;
-use perf_base::endian::Endian;
-use perf_base::error::{ErrorKind, ParseResult};
 use perf_base::sys::perf_event_header;
+use perf_base::{Endian, ErrorKind, ParseResult};
 use perf_buffers::parsebuf::ParseBuf;
 use perf_records::body_reader::AsRecord;
 use perf_records::frame_after::read_after;

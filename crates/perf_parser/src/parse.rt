@@ -7,8 +7,8 @@ ghost use Rattle.perf_parser.specs.Prelude.{error_kinds, length_after, MovesWith
 ghost use Rattle.perf_parser.specs.Prelude.{RegistersValue, registers_of, registers_value};
 
 pub use crate::parser::Parser;
+use perf_base::Endian;
 pub use perf_base::config::ParseConfig;
-use perf_base::endian::Endian;
 pub use perf_base::error::{ErrorKind, ParseError, ParseResult};
 use perf_base::sys::perf_event_header;
 pub use perf_buffers::cursor::ParseBufCursor;

@@ -14,11 +14,9 @@ ghost use Rattle.perf_parser.specs.Prelude.{GivesFrameAfter, GivesFrame, Belongs
 ghost use Rattle.perf_parser.specs.Prelude as prelude;
 
 use crate::parse::Parse;
-use perf_base::config::ParseConfig;
-use perf_base::cow::CowSlice;
 use perf_base::endian::{Endian, Native};
-use perf_base::error::{ErrorKind, ParseError, ParseResult};
 use perf_base::sys::{perf_event_attr, perf_event_header};
+use perf_base::{CowSlice, ErrorKind, ParseConfig, ParseError, ParseResult};
 use perf_buffers::cursor::ParseBufCursor;
 use perf_buffers::outer::Outer;
 use perf_buffers::parsebuf::ParseBuf;

@@ -11,11 +11,8 @@ ghost use Rattle.perf_reader.specs.Prelude as prelude;
 
 use crate::parser::Parser;
 use crate::steps::{Step, run_steps};
-use perf_base::endian::Endian;
-use perf_base::error::{ErrorKind, ParseError, ParseResult};
-use perf_base::reads::ReadCounter;
-use perf_base::refusal::{ReadResult, Refusal};
 use perf_base::sys::{PERF_RECORD_SAMPLE, perf_event_header};
+use perf_base::{Endian, ErrorKind, ParseError, ParseResult, ReadCounter, ReadResult, Refusal};
 use perf_buffers::outer::Outer;
 use perf_buffers::parsebuf::ParseBuf;
 use perf_reader::header::{Stop, stop_at};

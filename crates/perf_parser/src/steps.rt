@@ -6,7 +6,7 @@ ghost use Rattle.perf_reader.specs.Prelude as prelude;
 
 use crate::frame_runs::FrameRun;
 use crate::runs::RunEnd;
-use perf_base::endian::Endian;
+use perf_base::Endian;
 use perf_buffers::outer::Outer;
 use perf_buffers::parsebuf::ParseBuf;
 use perf_reader::header::Stop;

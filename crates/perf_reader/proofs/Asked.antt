@@ -28,15 +28,6 @@ refused_at_once UnsupportedData kind start m h = record { buffer = (h.buffer.0, 
 refused_at_once External kind start m h = cc
 refused_at_once OutOfMemory kind start m h = cc
 
--- a kind of the layout is not out of memory
-pub not_for_memory : (e : ErrorKind) → IsTrue (of_layout e) → e ≢ OutOfMemory
-not_for_memory Eof kind h = cc
-not_for_memory InvalidRecord kind h = cc
-not_for_memory UnsupportedConfig kind h = cc
-not_for_memory UnsupportedData kind h = cc
-not_for_memory External kind h = cc
-not_for_memory OutOfMemory kind h = cc
-
 -- the fields of a table, if f does what is left to do with their values; it is opened only when a proof asks for it
 unfoldable pub Row : {X A : Type 0} → (Took (List (Option A)) → Took (List (Option A))) → (Configuration → List (Option (Parts A))) → (X → List (Option A)) → Transition X
 Row f fields view old outcome new = AnswersRun view (f (table_took old.order (fields old.settings) old.source.left old.reads)) outcome new

@@ -167,14 +167,3 @@ pub within_taken : (old new : Source) (n : ℕ) → Takes old n new → MovesWit
 within_taken old new n p =
     let left : length new.left ≡ length old.left - n = ap length p.1 ∙ length-drop n old.left in
     (omega arith, takes_moves old new n p)
-
--- all that was left, or a beginning
-pub within_failed : (old new : Source) (n : ℕ) (e : ErrorKind) → FailsToTake old n e new → MovesWithin old n new
-within_failed old new n Eof p =
-    let nothing : length new.left ≡ 0 = ap length p.1 in
-    (omega (arith, p.0), (omega arith, p.1 ∙ sym (drop_all (length old.left - length new.left) old.left (omega arith))))
-within_failed old new n External p = p
-within_failed old new n InvalidRecord p = absurd p
-within_failed old new n UnsupportedConfig p = absurd p
-within_failed old new n UnsupportedData p = absurd p
-within_failed old new n OutOfMemory p = absurd p

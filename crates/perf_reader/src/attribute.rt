@@ -9,9 +9,8 @@ ghost use Rattle.perf_reader.specs.Prelude.{Call, Reads, NeedsNoMemory, kinds};
 
 use crate::read::{HasTransition, ReadFrom};
 use crate::reader::Reader;
-use perf_base::endian::Endian;
-use perf_base::refusal::{ReadResult, Refusal};
 use perf_base::sys::perf_event_attr;
+use perf_base::{Endian, ReadResult, Refusal};
 use perf_buffers::input::Input;
 
 // The largest attribute whose fields are known, `PERF_ATTR_SIZE_VER8`.

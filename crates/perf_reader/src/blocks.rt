@@ -3,7 +3,7 @@
 ghost use Rattle.std.specs.Prelude.{◌≡◌, ◌*◌, length};
 ghost use Rattle.perf_base.specs.Layout.{words_of};
 
-use perf_base::endian::Endian;
+use perf_base::Endian;
 
 /// The most numbers in a block that is read when the input does not show them.
 pub const BLOCK_LEN: usize = 48;

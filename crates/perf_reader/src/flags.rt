@@ -9,8 +9,7 @@ ghost use Rattle.perf_words.specs.SetBits.{aux_flags_bits, ksymbol_flags_bits, t
 use crate::read::{HasTransition, ReadFrom};
 use crate::reader::Reader;
 use bitflags::Flags;
-use perf_base::endian::Endian;
-use perf_base::refusal::ReadResult;
+use perf_base::{Endian, ReadResult};
 use perf_buffers::input::Input;
 use perf_words::{
     AuxFlags, BpfEventType, BranchEntry, DataSource, KSymbolFlags, KSymbolType, SampleRegsAbi, Txn,

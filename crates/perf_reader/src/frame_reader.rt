@@ -6,9 +6,7 @@ ghost use Rattle.perf_base.specs.Configured.{configuration_of, endian_of};
 ghost use Rattle.perf_base.specs.Order.{Order};
 ghost use Rattle.perf_buffers.specs.Prelude.{chunk_bytes, chunk_is_borrowed};
 
-use perf_base::config::ParseConfig;
-use perf_base::endian::Endian;
-use perf_base::reads::ReadCounter;
+use perf_base::{Endian, ParseConfig, ReadCounter};
 use perf_buffers::frame_reader::FrameReader;
 use perf_buffers::parsebuf::ParseBufChunk;
 use std::alloc::Global;

@@ -3,7 +3,7 @@
 ghost use Rattle.std.specs.Prelude.{◌≡◌};
 ghost use Rattle.perf_base.specs.Layout.{slice};
 
-use perf_base::endian::Endian;
+use perf_base::Endian;
 
 /// The first four of eight bytes as a number.
 #[inline(always)]

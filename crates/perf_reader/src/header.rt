@@ -17,10 +17,8 @@ ghost use Rattle.perf_reader.specs.Prelude.{ReadsPlain, refusal_kind};
 
 use crate::read::{HasTransition, ReadFrom};
 use crate::reader::Reader;
-use perf_base::endian::Endian;
-use perf_base::error::ErrorKind;
-use perf_base::refusal::{ReadResult, Refusal};
 use perf_base::sys::perf_event_header;
+use perf_base::{Endian, ErrorKind, ReadResult, Refusal};
 use perf_buffers::input::Input;
 
 /// Why a run stops where its next frame would begin.
@@ -87,14 +85,8 @@ impl<'p, I: Input<'p>> ReadFrom<'p, I> for perf_event_header {
     #[inline]
     fn read<E: Endian>(reader: &mut Reader<I, E>) -> ReadResult<Self> {
         if reader.has_bytes(8) == Some(true) {
-            return match reader.read_header() {
-                Ok(header) => Ok(header),
-                Err(refusal) => Err(refusal),
-            };
+            return reader.read_header();
         }
-        match reader.read_header_by_number() {
-            Ok(header) => Ok(header),
-            Err(refusal) => Err(refusal),
-        }
+        reader.read_header_by_number()
     }
 }

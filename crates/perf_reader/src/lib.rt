@@ -7,6 +7,6 @@ mod flags;
 pub mod frame_reader;
 pub mod halves;
 pub mod header;
-mod names;
+pub mod names;
 pub mod read;
 pub mod reader;

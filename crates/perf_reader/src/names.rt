@@ -3,9 +3,9 @@
 ghost use Rattle.std.specs.Prelude.{◌≡◌, ◌≤◌, length, take};
 ghost use Rattle.perf_base.specs.Zeros.{trim_zeros};
 
-// The number of bytes before the zero bytes at the end.
+/// The number of bytes before the zero bytes at the end.
 #[inline]
-pub(crate) fn trimmed_len(bytes: &[u8]) -> usize
+pub fn trimmed_len(bytes: &[u8]) -> usize
     ensures within { result ≤ length bytes.now }
     ensures trimmed { take result bytes.now ≡ trim_zeros bytes.now }
 {

@@ -4,8 +4,7 @@ ghost use Rattle.perf_reader.specs.Prelude.{Call, Transition, ReadsNumber, Reads
 ghost use Rattle.perf_reader.specs.Prelude.{kinds, byte_string, w1, w2, w4, w8};
 
 use crate::reader::Reader;
-use perf_base::endian::Endian;
-use perf_base::refusal::ReadResult;
+use perf_base::{Endian, ReadResult};
 use perf_buffers::input::Input;
 
 /// A type whose reading has a meaning.
@@ -28,10 +27,7 @@ impl HasTransition for u8 {
 impl<'p, I: Input<'p>> ReadFrom<'p, I> for u8 {
     #[inline]
     fn read<E: Endian>(reader: &mut Reader<I, E>) -> ReadResult<Self> {
-        match reader.read_u8() {
-            Ok(number) => Ok(number),
-            Err(refusal) => Err(refusal),
-        }
+        reader.read_u8()
     }
 }
 
@@ -42,10 +38,7 @@ impl HasTransition for u16 {
 impl<'p, I: Input<'p>> ReadFrom<'p, I> for u16 {
     #[inline]
     fn read<E: Endian>(reader: &mut Reader<I, E>) -> ReadResult<Self> {
-        match reader.read_u16() {
-            Ok(number) => Ok(number),
-            Err(refusal) => Err(refusal),
-        }
+        reader.read_u16()
     }
 }
 
@@ -56,10 +49,7 @@ impl HasTransition for u32 {
 impl<'p, I: Input<'p>> ReadFrom<'p, I> for u32 {
     #[inline]
     fn read<E: Endian>(reader: &mut Reader<I, E>) -> ReadResult<Self> {
-        match reader.read_u32() {
-            Ok(number) => Ok(number),
-            Err(refusal) => Err(refusal),
-        }
+        reader.read_u32()
     }
 }
 
@@ -70,10 +60,7 @@ impl HasTransition for u64 {
 impl<'p, I: Input<'p>> ReadFrom<'p, I> for u64 {
     #[inline]
     fn read<E: Endian>(reader: &mut Reader<I, E>) -> ReadResult<Self> {
-        match reader.read_u64() {
-            Ok(number) => Ok(number),
-            Err(refusal) => Err(refusal),
-        }
+        reader.read_u64()
     }
 }
 
@@ -89,9 +76,6 @@ impl<'p, I: Input<'p>, const N: usize> ReadFrom<'p, I> for [u8; N] {
         if N == 0 {
             return Ok([0; N]);
         }
-        match reader.read_array::<N>() {
-            Ok(bytes) => Ok(bytes),
-            Err(refusal) => Err(refusal),
-        }
+        reader.read_array::<N>()
     }
 }

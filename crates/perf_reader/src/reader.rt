@@ -27,13 +27,8 @@ use crate::frame_reader::{Configured, ConfiguredFrameReader};
 use crate::header::{Stop, header_from, header_in, stop_at};
 use crate::names::trimmed_len;
 use crate::read::ReadFrom;
-use perf_base::config::ParseConfig;
-use perf_base::cow::CowSlice;
-use perf_base::endian::Endian;
-use perf_base::error::ParseError;
-use perf_base::reads::ReadCounter;
-use perf_base::refusal::{ReadResult, Refusal};
 use perf_base::sys::perf_event_header;
+use perf_base::{CowSlice, Endian, ParseConfig, ParseError, ReadCounter, ReadResult, Refusal};
 use perf_buffers::cursor::ParseBufCursor;
 use perf_buffers::input::{Input, take_array};
 use perf_buffers::outer::Outer;
@@ -174,10 +169,7 @@ impl<'p, I: Input<'p>, E: Endian> Reader<I, E> {
             FailsToKeep (I.source (input_of self.old)) len (refusal_kind e)
             (I.source (input_of self.new))) }
     {
-        match self.input.cut(self.alloc, len) {
-            Ok(cursor) => Ok(cursor),
-            Err(refusal) => Err(refusal),
-        }
+        self.input.cut(self.alloc, len)
     }
 
     /// Counts the reads made of bytes that were cut off, or shown.
@@ -617,10 +609,7 @@ impl<'p, I: Input<'p>, E: Endian> Reader<I, E> {
         if self.has_items(count, NUMBER_SIZE) == Some(false) {
             return Err(self.read_to_the_end(1, count));
         }
-        let mut numbers = match self.list_for(count) {
-            Ok(numbers) => numbers,
-            Err(refusal) => return Err(refusal),
-        };
+        let mut numbers = self.list_for(count)?;
         if 0 < count && self.shows_numbers(count) {
             if numbers.resize(count, 0).is_err() {
                 return Err(Refusal::OutOfMemory);
@@ -849,10 +838,7 @@ impl<'p, B: ParseBuf<'p>, E: Endian> Reader<Outer<B>, E> {
     {
         match self.read_shown_header() {
             Ok(Some(header)) => Ok(header),
-            Ok(None) => match self.read_header_in_two() {
-                Ok(header) => Ok(header),
-                Err(stop) => Err(stop),
-            },
+            Ok(None) => self.read_header_in_two(),
             Err(refusal) => Err(stop_at(refusal, Stop::Done)),
         }
     }
@@ -951,12 +937,7 @@ impl<'p, B: ParseBuf<'p>, E: Endian> Reader<Outer<B>, E> {
         ensures err { IfErr result
             (λ e. Refuses (B.source (buffer_of self.old)) (refusal_kind e)) }
     {
-        match self
-            .input
+        self.input
             .frames_shown(self.config.endian(), most, is_exact)
-        {
-            Ok(count) => Ok(count),
-            Err(refusal) => Err(refusal),
-        }
     }
 }

@@ -32,13 +32,6 @@ stays_refused a b OutOfMemory x p = p
 pub no_fault : (e : Option ErrorKind) (P : Type 0) → is_external e ≡ false → is_external e ≡ true → P
 no_fault e P p q = absurd (cc)
 
--- ---- taking nothing or everything takes a prefix
-pub within_none : (old new : Source) (n : ℕ) → new.left ≡ old.left → MovesWithin old n new
-within_none old new n e =
-    let same : length new.left ≡ length old.left = ap length e in
-    let none : bytes_between old new ≡ 0 = omega arith in
-    (omega arith, (omega arith, e ∙ sym (ap (λ k. drop k old.left) none)))
-
 pub within_all : (old new : Source) (n : ℕ) → length old.left ≤ n → new.left ≡ [] → MovesWithin old n new
 within_all old new n short e =
     let nothing : length new.left ≡ 0 = ap length e in

@@ -18,12 +18,6 @@ all_three a b c p q r = cc
 pub sample_borrowed : (s : Sample) → IsBorrowedSample s → IsTrue (is_borrowed_sample s)
 sample_borrowed s p = all_three _ _ _ (borrowed_if (λ raw. is_borrowed raw.0) s.state.raw p.0.0) (borrowed_if (λ stack. is_borrowed stack.0) s.state.stack_user p.0.1) (borrowed_if (λ aux. is_borrowed aux.0) s.memory.aux p.1)
 
-both : (a b : Bool) → IsTrue a → IsTrue b → IsTrue (a && b)
-both a b p q = cc
-
-pub text_poke_borrowed : (r : TextPoke) → IsBorrowedTextPoke r → IsTrue (is_borrowed_text_poke r)
-text_poke_borrowed r p = both _ _ p.0 p.1
-
 -- ---- and the converse
 
 two : (a b : Bool) → IsTrue (a && b) → IsTrue a × IsTrue b
@@ -34,9 +28,6 @@ two false b p = absurd (cc)
 if_borrowed : {X : Type 0} (f : X → Bool) (o : Option X) → IsTrue (elim o [ Some x ↦ f x | None ↦ true ]) → IfSome o (λ x. IsTrue (f x))
 if_borrowed f (Some x) p = p
 if_borrowed f None p = tt
-
-pub borrowed_text_poke : (r : TextPoke) → IsTrue (is_borrowed_text_poke r) → IsBorrowedTextPoke r
-borrowed_text_poke r p = two _ _ p
 
 pub borrowed_sample : (s : Sample) → IsTrue (is_borrowed_sample s) → IsBorrowedSample s
 borrowed_sample s p =

@@ -48,11 +48,6 @@ Unsplit c o h bytes e = (split_after c o h bytes ≡ Err e) × (split_reads c o 
 unsplit : (c : Configuration) (o : Order) (h : perf_event_header) (bytes : List ℕ) (e : ErrorKind) → split_after c o h bytes ≡ Err e → Unsplit c o h bytes e
 unsplit c o h bytes e p = (p, ap (λ (r : Result FrameParts ErrorKind). elim r [ Ok parts ↦ id_reads c o h (take (length_after h) bytes) | Err e ↦ 0 ]) p)
 
-pub unsplit_small : (c : Configuration) (o : Order) (h : perf_event_header) (bytes : List ℕ) → h.size < 8 → Unsplit c o h bytes InvalidRecord × (bytes ≡ drop (length_after h) bytes)
-unsplit_small c o h bytes small =
-    let none : length_after h ≡ 0 = omega arith in
-    (unsplit c o h bytes InvalidRecord (split_small c o h bytes small), sym (ap (λ n. drop n bytes) none))
-
 pub unsplit_cut : (c : Configuration) (o : Order) (h : perf_event_header) (old new : Source) (e : ErrorKind) → 8 ≤ h.size → FailsToKeep old (length_after h) e new → IsTrue (of_layout e) →
     Unsplit c o h old.left e × (new.left ≡ drop (length_after h) old.left)
 unsplit_cut c o h old new Eof sized p kind = (unsplit c o h old.left Eof (split_short c o h old.left sized p.0), p.1 ∙ sym (drop_all (length_after h) old.left (omega arith)))

@@ -10,28 +10,14 @@ ghost use Rattle.perf_records.specs.Prelude as prelude;
 use crate::metadata::RecordMetadata;
 use crate::record_type::RecordType;
 use crate::visitor::Visitor;
-use perf_base::endian::Endian;
-use perf_base::refusal::ReadResult;
+use perf_base::{Endian, ReadResult};
 use perf_buffers::input::Input;
 use perf_reader::reader::Reader;
 use perf_sample_types::sample::{empty_sample, fill_sample};
-use perf_types::aux_output_hw_id::AuxOutputHwId;
-use perf_types::aux_record::Aux;
-use perf_types::bpf_event::BpfEvent;
-use perf_types::cgroup::CGroup;
-use perf_types::comm::Comm;
-use perf_types::exit::Exit;
-use perf_types::itrace_start::ITraceStart;
-use perf_types::ksymbol::KSymbol;
-use perf_types::lost::Lost;
-use perf_types::lost_samples::LostSamples;
-use perf_types::mmap::Mmap;
-use perf_types::mmap2::Mmap2;
-use perf_types::namespaces::Namespaces;
-use perf_types::read::Read;
-use perf_types::switch_cpu_wide::SwitchCpuWide;
-use perf_types::text_poke::TextPoke;
-use perf_types::throttle::Throttle;
+use perf_types::{
+    Aux, AuxOutputHwId, BpfEvent, CGroup, Comm, Exit, ITraceStart, KSymbol, Lost, LostSamples,
+    Mmap, Mmap2, Namespaces, Read, SwitchCpuWide, TextPoke, Throttle,
+};
 
 // Reads a record of a type, and passes it to the visitor's method for that type.
 macro_rules! visited {

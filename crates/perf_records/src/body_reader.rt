@@ -12,11 +12,8 @@ use crate::metadata::RecordMetadata;
 use crate::record::Record;
 use crate::record_visitor::Recording;
 use crate::visitor::Visitor;
-use perf_base::config::ParseConfig;
-use perf_base::endian::Endian;
-use perf_base::reads::ReadCounter;
-use perf_base::refusal::ReadResult;
 use perf_base::sys::PERF_RECORD_SAMPLE;
+use perf_base::{Endian, ParseConfig, ReadCounter, ReadResult};
 use perf_buffers::input::Input;
 use perf_buffers::parsebuf::ParseBufChunk;
 use perf_buffers::transient::TransientBytes;
@@ -74,9 +71,10 @@ pub trait ReadBody<'p, S, I: Input<'p>>: OfBody<'p, S> {
             reader.old (kinds result) reader.new };
 }
 
-// Makes the output from the body with these bytes, and returns it with the number of reads made.
+/// Makes the output from the body with these bytes, and returns it with the number of elementary
+/// reads made. This is the only place where a reader of a body is made.
 #[inline]
-fn read_from<'p, S, I: Input<'p> + Drop, E: Endian, M: ReadBody<'p, S, I>>(
+pub fn read_from<'p, S, I: Input<'p> + Drop, E: Endian, M: ReadBody<'p, S, I>>(
     alloc: Global,
     bytes: I,
     config: ParseConfig<E>,

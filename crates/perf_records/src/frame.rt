@@ -8,11 +8,8 @@ ghost use Rattle.perf_buffers.specs.Prelude.{chunk_bytes, chunk_is_borrowed};
 
 use crate::body_reader::BodyReader;
 use crate::parts::{FrameId, id_of};
-use perf_base::config::ParseConfig;
-use perf_base::endian::Endian;
-use perf_base::reads::ReadCounter;
-use perf_base::refusal::ReadResult;
 use perf_base::sys::perf_event_header;
+use perf_base::{Endian, ParseConfig, ReadCounter, ReadResult};
 use perf_buffers::parsebuf::ParseBufChunk;
 use std::alloc::Global;
 

@@ -8,11 +8,8 @@ ghost use Rattle.perf_records.specs.Sights.{Sight, sight_of};
 ghost use Rattle.perf_records.specs.Prelude.{configuration_of, endian_of, refusal_kind};
 
 use crate::frame::Frame;
-use perf_base::config::ParseConfig;
-use perf_base::endian::Endian;
-use perf_base::error::{ErrorKind, ParseError};
-use perf_base::refusal::{Kept, Refusal};
 use perf_base::sys::perf_event_header;
+use perf_base::{Endian, ErrorKind, Kept, ParseConfig, ParseError, Refusal};
 
 /// A header without a whole frame after it: its `size` is below 8, or fewer bytes are left than it
 /// states.

@@ -8,8 +8,7 @@ ghost use Rattle.perf_records.specs.declared.frame_list.FrameIter.{FrameIter};
 
 use crate::frame::Frame;
 use crate::frame_handler::BadFrame;
-use perf_base::endian::Endian;
-use perf_base::refusal::Refusal;
+use perf_base::{Endian, Refusal};
 use perf_buffers::parsebuf::ParseBufChunk;
 use perf_reader::header::header_in;
 

@@ -13,9 +13,8 @@ ghost use Rattle.std.specs.Int.RustNames.{bit_and};
 use crate::frame::Frame;
 use crate::parts::id_len;
 use bitflags::Flags;
-use perf_base::config::ParseConfig;
-use perf_base::endian::Endian;
 use perf_base::sys::PERF_RECORD_SAMPLE;
+use perf_base::{Endian, ParseConfig};
 use perf_reader::halves::{first_half, second_half};
 use perf_words::SampleFlags;
 

@@ -16,11 +16,8 @@ use crate::parts::id_in;
 use crate::record::Record;
 use crate::record_type::RecordType;
 use crate::visitor::Visitor;
-use perf_base::config::ParseConfig;
-use perf_base::endian::Endian;
-use perf_base::error::{ParseError, ParseResult};
-use perf_base::refusal::{Kept, Refusal};
 use perf_base::sys::PERF_RECORD_SAMPLE;
+use perf_base::{Endian, Kept, ParseConfig, ParseError, ParseResult, Refusal};
 use perf_sample_types::sample::{Sample, clear_sample};
 use std::alloc::Global;
 

@@ -8,11 +8,8 @@ ghost use Rattle.perf_records.specs.Prelude.{reads_of, kinds, refusal_kind, curs
 ghost use Rattle.perf_records.specs.Prelude as prelude;
 
 use crate::metadata::RecordMetadata;
-use perf_base::config::ParseConfig;
-use perf_base::endian::Endian;
-use perf_base::reads::ReadCounter;
-use perf_base::refusal::{ReadResult, Refusal};
 use perf_base::sys::{PERF_RECORD_SAMPLE, perf_event_header};
+use perf_base::{Endian, ParseConfig, ReadCounter, ReadResult, Refusal};
 use perf_buffers::cursor::ParseBufCursor;
 use perf_buffers::input::Input;
 use perf_reader::reader::Reader;
@@ -122,10 +119,7 @@ pub(crate) fn id_of<E: Endian>(
             reads: ReadCounter::new(),
         });
     }
-    match id_in(alloc, bytes, config, header) {
-        Ok(id) => Ok(id),
-        Err(refusal) => Err(refusal),
-    }
+    id_in(alloc, bytes, config, header)
 }
 
 /// The bytes of the body of a frame whose header was read, and its metadata.

@@ -3,27 +3,14 @@
 ghost use Rattle.std.specs.Prelude.{◌≡◌, IfOk, IfErr};
 ghost use Rattle.perf_base.specs.Errors.{kind_of};
 ghost use Rattle.perf_records.specs.Records.{HoldsSample};
+ghost use Rattle.perf_records.specs.declared.record.Record.TheVariants as record_of;
 
-use perf_base::cow::CowSlice;
-use perf_base::error::{ErrorKind, ParseResult};
+use perf_base::{CowSlice, ErrorKind, ParseResult};
 use perf_sample_types::sample::Sample;
-use perf_types::aux_output_hw_id::AuxOutputHwId;
-use perf_types::aux_record::Aux;
-use perf_types::bpf_event::BpfEvent;
-use perf_types::cgroup::CGroup;
-use perf_types::comm::Comm;
-use perf_types::exit::{Exit, Fork};
-use perf_types::itrace_start::ITraceStart;
-use perf_types::ksymbol::KSymbol;
-use perf_types::lost::Lost;
-use perf_types::lost_samples::LostSamples;
-use perf_types::mmap::Mmap;
-use perf_types::mmap2::Mmap2;
-use perf_types::namespaces::Namespaces;
-use perf_types::read::Read;
-use perf_types::switch_cpu_wide::SwitchCpuWide;
-use perf_types::text_poke::TextPoke;
-use perf_types::throttle::Throttle;
+use perf_types::{
+    Aux, AuxOutputHwId, BpfEvent, CGroup, Comm, Exit, Fork, ITraceStart, KSymbol, Lost,
+    LostSamples, Mmap, Mmap2, Namespaces, Read, SwitchCpuWide, TextPoke, Throttle,
+};
 use std::alloc::Global;
 use std::boxed::Box;
 
@@ -82,9 +69,6 @@ pub enum Record<'a> {
 }
 
 impl<'a> From<Mmap<'a>> for Record<'a> {
-    ghost use Rattle.std.specs.Prelude.{◌≡◌};
-    ghost use Rattle.perf_records.specs.declared.record.Record.TheVariants as record_of;
-
     ghost from_gives = { λ content r. r ≡ record_of.Mmap content };
 
     fn from(content: Mmap<'a>) -> Self {
@@ -93,9 +77,6 @@ impl<'a> From<Mmap<'a>> for Record<'a> {
 }
 
 impl From<Lost> for Record<'_> {
-    ghost use Rattle.std.specs.Prelude.{◌≡◌};
-    ghost use Rattle.perf_records.specs.declared.record.Record.TheVariants as record_of;
-
     ghost from_gives = { λ content r. r ≡ record_of.Lost content };
 
     fn from(content: Lost) -> Self {
@@ -104,9 +85,6 @@ impl From<Lost> for Record<'_> {
 }
 
 impl<'a> From<Comm<'a>> for Record<'a> {
-    ghost use Rattle.std.specs.Prelude.{◌≡◌};
-    ghost use Rattle.perf_records.specs.declared.record.Record.TheVariants as record_of;
-
     ghost from_gives = { λ content r. r ≡ record_of.Comm content };
 
     fn from(content: Comm<'a>) -> Self {
@@ -115,9 +93,6 @@ impl<'a> From<Comm<'a>> for Record<'a> {
 }
 
 impl From<Read> for Record<'_> {
-    ghost use Rattle.std.specs.Prelude.{◌≡◌};
-    ghost use Rattle.perf_records.specs.declared.record.Record.TheVariants as record_of;
-
     ghost from_gives = { λ content r. r ≡ record_of.Read content };
 
     fn from(content: Read) -> Self {
@@ -137,9 +112,6 @@ impl<'a> Record<'a> {
 }
 
 impl<'a> From<Mmap2<'a>> for Record<'a> {
-    ghost use Rattle.std.specs.Prelude.{◌≡◌};
-    ghost use Rattle.perf_records.specs.declared.record.Record.TheVariants as record_of;
-
     ghost from_gives = { λ content r. r ≡ record_of.Mmap2 content };
 
     fn from(content: Mmap2<'a>) -> Self {
@@ -148,9 +120,6 @@ impl<'a> From<Mmap2<'a>> for Record<'a> {
 }
 
 impl From<Aux> for Record<'_> {
-    ghost use Rattle.std.specs.Prelude.{◌≡◌};
-    ghost use Rattle.perf_records.specs.declared.record.Record.TheVariants as record_of;
-
     ghost from_gives = { λ content r. r ≡ record_of.Aux content };
 
     fn from(content: Aux) -> Self {
@@ -159,9 +128,6 @@ impl From<Aux> for Record<'_> {
 }
 
 impl From<ITraceStart> for Record<'_> {
-    ghost use Rattle.std.specs.Prelude.{◌≡◌};
-    ghost use Rattle.perf_records.specs.declared.record.Record.TheVariants as record_of;
-
     ghost from_gives = { λ content r. r ≡ record_of.ITraceStart content };
 
     fn from(content: ITraceStart) -> Self {
@@ -170,9 +136,6 @@ impl From<ITraceStart> for Record<'_> {
 }
 
 impl From<LostSamples> for Record<'_> {
-    ghost use Rattle.std.specs.Prelude.{◌≡◌};
-    ghost use Rattle.perf_records.specs.declared.record.Record.TheVariants as record_of;
-
     ghost from_gives = { λ content r. r ≡ record_of.LostSamples content };
 
     fn from(content: LostSamples) -> Self {
@@ -181,9 +144,6 @@ impl From<LostSamples> for Record<'_> {
 }
 
 impl From<SwitchCpuWide> for Record<'_> {
-    ghost use Rattle.std.specs.Prelude.{◌≡◌};
-    ghost use Rattle.perf_records.specs.declared.record.Record.TheVariants as record_of;
-
     ghost from_gives = { λ content r. r ≡ record_of.SwitchCpuWide content };
 
     fn from(content: SwitchCpuWide) -> Self {
@@ -192,9 +152,6 @@ impl From<SwitchCpuWide> for Record<'_> {
 }
 
 impl<'a> From<Namespaces<'a>> for Record<'a> {
-    ghost use Rattle.std.specs.Prelude.{◌≡◌};
-    ghost use Rattle.perf_records.specs.declared.record.Record.TheVariants as record_of;
-
     ghost from_gives = { λ content r. r ≡ record_of.Namespaces content };
 
     fn from(content: Namespaces<'a>) -> Self {
@@ -203,9 +160,6 @@ impl<'a> From<Namespaces<'a>> for Record<'a> {
 }
 
 impl<'a> From<KSymbol<'a>> for Record<'a> {
-    ghost use Rattle.std.specs.Prelude.{◌≡◌};
-    ghost use Rattle.perf_records.specs.declared.record.Record.TheVariants as record_of;
-
     ghost from_gives = { λ content r. r ≡ record_of.KSymbol content };
 
     fn from(content: KSymbol<'a>) -> Self {
@@ -214,9 +168,6 @@ impl<'a> From<KSymbol<'a>> for Record<'a> {
 }
 
 impl From<BpfEvent> for Record<'_> {
-    ghost use Rattle.std.specs.Prelude.{◌≡◌};
-    ghost use Rattle.perf_records.specs.declared.record.Record.TheVariants as record_of;
-
     ghost from_gives = { λ content r. r ≡ record_of.BpfEvent content };
 
     fn from(content: BpfEvent) -> Self {
@@ -225,9 +176,6 @@ impl From<BpfEvent> for Record<'_> {
 }
 
 impl<'a> From<CGroup<'a>> for Record<'a> {
-    ghost use Rattle.std.specs.Prelude.{◌≡◌};
-    ghost use Rattle.perf_records.specs.declared.record.Record.TheVariants as record_of;
-
     ghost from_gives = { λ content r. r ≡ record_of.CGroup content };
 
     fn from(content: CGroup<'a>) -> Self {
@@ -236,9 +184,6 @@ impl<'a> From<CGroup<'a>> for Record<'a> {
 }
 
 impl<'a> From<TextPoke<'a>> for Record<'a> {
-    ghost use Rattle.std.specs.Prelude.{◌≡◌};
-    ghost use Rattle.perf_records.specs.declared.record.Record.TheVariants as record_of;
-
     ghost from_gives = { λ content r. r ≡ record_of.TextPoke content };
 
     fn from(content: TextPoke<'a>) -> Self {
@@ -247,9 +192,6 @@ impl<'a> From<TextPoke<'a>> for Record<'a> {
 }
 
 impl From<AuxOutputHwId> for Record<'_> {
-    ghost use Rattle.std.specs.Prelude.{◌≡◌};
-    ghost use Rattle.perf_records.specs.declared.record.Record.TheVariants as record_of;
-
     ghost from_gives = { λ content r. r ≡ record_of.AuxOutputHwId content };
 
     fn from(content: AuxOutputHwId) -> Self {

@@ -6,8 +6,7 @@ ghost use Rattle.perf_records.specs.Records.{record_value};
 ghost use Rattle.perf_records.specs.declared.record.Record.TheVariants.{Unknown};
 
 use crate::record::Record;
-use perf_base::cow::CowSlice;
-use perf_base::error::ParseResult;
+use perf_base::{CowSlice, ParseResult};
 use std::alloc::Global;
 use std::boxed::Box;
 

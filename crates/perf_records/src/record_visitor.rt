@@ -6,27 +6,12 @@ ghost use Rattle.perf_records.specs.Prelude.{Event, event, MakesRecord, MakesNoS
 use crate::metadata::RecordMetadata;
 use crate::record::Record;
 use crate::visitor::Visitor;
-use perf_base::cow::CowSlice;
-use perf_base::error::{ParseError, ParseResult};
-use perf_base::refusal::{ReadResult, Refusal};
+use perf_base::{CowSlice, ParseError, ParseResult, ReadResult, Refusal};
 use perf_sample_types::sample::Sample;
-use perf_types::aux_output_hw_id::AuxOutputHwId;
-use perf_types::aux_record::Aux;
-use perf_types::bpf_event::BpfEvent;
-use perf_types::cgroup::CGroup;
-use perf_types::comm::Comm;
-use perf_types::exit::{Exit, Fork};
-use perf_types::itrace_start::ITraceStart;
-use perf_types::ksymbol::KSymbol;
-use perf_types::lost::Lost;
-use perf_types::lost_samples::LostSamples;
-use perf_types::mmap::Mmap;
-use perf_types::mmap2::Mmap2;
-use perf_types::namespaces::Namespaces;
-use perf_types::read::Read;
-use perf_types::switch_cpu_wide::SwitchCpuWide;
-use perf_types::text_poke::TextPoke;
-use perf_types::throttle::Throttle;
+use perf_types::{
+    Aux, AuxOutputHwId, BpfEvent, CGroup, Comm, Exit, Fork, ITraceStart, KSymbol, Lost,
+    LostSamples, Mmap, Mmap2, Namespaces, Read, SwitchCpuWide, TextPoke, Throttle,
+};
 use std::alloc::Global;
 use std::boxed::Box;
 

@@ -12,7 +12,7 @@ ghost use Rattle.perf_reports.specs.Counting.{SumsAnswer};
 
 use crate::counts::Counts;
 use crate::record_sums::Sum;
-use perf_base::refusal::{Kept, ReadResult, Refusal};
+use perf_base::{Kept, ReadResult, Refusal};
 use perf_event_data::endian::Endian;
 use perf_event_data::parse::{ErrorKind, ParseConfig};
 use perf_event_data::sys::PERF_RECORD_SAMPLE;

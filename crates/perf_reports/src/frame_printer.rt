@@ -15,7 +15,7 @@ ghost use Rattle.perf_reports.specs.FramePrinting.{PrintsAnswer, PrintsSight, fr
 ghost use Rattle.perf_reports.specs.Printing.{is_memory};
 
 use crate::printing::{Found, Lines, Report, Stopped};
-use perf_base::refusal::{Kept, Refusal};
+use perf_base::{Kept, Refusal};
 use perf_event_data::endian::Endian;
 use perf_event_data::parse::{ErrorKind, ParseConfig, ParseError};
 use perf_event_data::sys::PERF_RECORD_SAMPLE;

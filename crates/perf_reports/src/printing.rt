@@ -11,7 +11,7 @@ ghost use Rattle.perf_reports.specs.Printing.{Grows, GrowsWithin};
 use crate::frame_printer::FramePrinter;
 use crate::{samples, tasks};
 use anyhow::{Result, bail};
-use perf_base::refusal::{Kept, Refusal};
+use perf_base::{Kept, Refusal};
 use perf_event_data::endian::{Endian, Little};
 use perf_event_data::parse::{ParseBuf, ParseConfig, Parser};
 use perf_event_data::{Record, RunEnd, Sample, each_frame};

@@ -1,25 +1,24 @@
 //! What a record adds to the checksum, from its body.
 
 ghost use Rattle.std.specs.Prelude.{◌≡◌, ◌≤◌, ◌+◌, ⊤, true, false, length};
-ghost use Rattle.perf_records.specs.Prelude.{Call, GivesWholeBody, GivesType, MetadataValue, kinds, body};
+ghost use Rattle.perf_records.specs.Prelude.{GivesWholeBody, kinds, body};
 ghost use Rattle.perf_records.specs.Prelude.{configuration_of, endian_of, kind_if_refused, is_external};
 ghost use Rattle.perf_records.specs.Prelude.{one_if_refused};
 ghost use Rattle.perf_reports.specs.Counting.{Adds};
 
 use crate::sums::{comm_sum, lost_sum, mmap_sum, mmap2_sum, sample_sum, task_sum};
-use perf_base::reads::ReadCounter;
-use perf_base::refusal::ReadResult;
+use perf_base::{ReadCounter, ReadResult};
 use perf_buffers::input::Input;
 use perf_event_data::endian::Endian;
 use perf_event_data::parse::{ParseBufChunk, ParseConfig};
 use perf_event_data::sys::PERF_RECORD_SAMPLE;
 use perf_event_data::{
     Aux, AuxOutputHwId, BpfEvent, CGroup, Comm, CowSlice, Exit, Fork, ITraceStart, KSymbol, Lost,
-    LostSamples, Mmap, Mmap2, Namespaces, Read, RecordMetadata, RecordType, Sample, SwitchCpuWide,
-    TextPoke, Throttle, Visitor,
+    LostSamples, Mmap, Mmap2, Namespaces, Read, RecordMetadata, Sample, SwitchCpuWide, TextPoke,
+    Throttle, Visitor,
 };
 use perf_reader::reader::Reader;
-use perf_records::body_reader::{BodyReader, ByVisitor, IntoSample, OfBody};
+use perf_records::body_reader::{BodyReader, ByVisitor, IntoSample, OfBody, ReadBody, read_from};
 use perf_sample_types::sample::{empty_sample, fill_sample};
 use std::alloc::Global;
 
@@ -50,7 +49,9 @@ impl<'p> BodyReader<'p, Sample<'p>> for Sum {
         if metadata.ty() == PERF_RECORD_SAMPLE {
             return match bytes {
                 ParseBufChunk::External(bytes) => read_kept(alloc, bytes, config, metadata, place),
-                ParseBufChunk::Temporary(bytes) => read_sample(alloc, bytes, config, metadata),
+                ParseBufChunk::Temporary(bytes) => {
+                    read_from(alloc, bytes, config, metadata, SampleSum, &mut ())
+                }
             };
         }
         let chunk = ParseBufChunk::External(bytes.as_bytes());
@@ -89,35 +90,32 @@ fn read_kept<'p, E: Endian>(
     }
 }
 
-// The same of a sample whose bytes are not borrowed from the input.
-#[inline]
-fn read_sample<E: Endian>(
-    alloc: Global,
-    bytes: &[u8],
-    config: ParseConfig<E>,
-    metadata: RecordMetadata,
-) -> (ReadResult<u64>, ReadCounter)
-    requires { metadata.ty ≡ 9 }
-    ensures answer { GivesWholeBody Adds metadata (E.order (endian_of config))
-        (body (configuration_of config) metadata.ty) bytes.now true (kinds result.0) result.1 }
-    ensures faults { is_external (kind_if_refused (kinds result.0)) ≡ false }
-    ensures cost { result.1 ≤ length bytes.now + one_if_refused (kind_if_refused (kinds result.0)) }
-{
-    let mut reader = Reader::new(alloc, bytes, config);
-    let sum = next_sample(&mut reader);
-    (sum, reader.into_reads())
+// What a sample adds whose bytes are not borrowed from the input. A sample is large, and so it stays
+// where it is read.
+#[derive(Drop)]
+struct SampleSum;
+
+impl<'p> OfBody<'p, ()> for SampleSum {
+    type Output = u64;
+
+    ghost reads = { λ ty. ty ≡ 9 };
+
+    ghost gives = { λ seen _ output _. Adds seen output };
 }
 
-// What the next sample adds. A sample is large, and so it stays where it is read.
-#[inline]
-fn next_sample<'p, I: Input<'p>, E: Endian>(reader: &mut Reader<I, E>) -> ReadResult<u64>
-    ensures { (m : MetadataValue) → Call I.source E.order (GivesType Adds m RecordType.Sample)
-        reader.old (kinds result) reader.new }
-{
-    let mut sample = empty_sample();
-    match fill_sample(&mut sample, reader) {
-        Ok(()) => Ok(sample_sum(&sample)),
-        Err(refusal) => Err(refusal),
+impl<'p, I: Input<'p>> ReadBody<'p, (), I> for SampleSum {
+    #[inline]
+    fn read_body<E: Endian>(
+        self,
+        reader: &mut Reader<I, E>,
+        metadata: RecordMetadata,
+        state: &mut (),
+    ) -> ReadResult<u64> {
+        let mut sample = empty_sample();
+        match fill_sample(&mut sample, reader) {
+            Ok(()) => Ok(sample_sum(&sample)),
+            Err(refusal) => Err(refusal),
+        }
     }
 }
 

@@ -8,9 +8,7 @@ ghost use Rattle.perf_reader.specs.Prelude.{input_of, refusal_kind};
 ghost use Rattle.perf_sample_types.specs.Branches.{branch_numbers, branch_of};
 ghost use Rattle.perf_types.specs.Prelude.{Call, ReadsOne, NeedsNoMemory, flat_map, kinds, words};
 
-use perf_base::endian::Endian;
-use perf_base::reads::ReadCounter;
-use perf_base::refusal::{ReadResult, Refusal};
+use perf_base::{Endian, ReadCounter, ReadResult, Refusal};
 use perf_buffers::input::Input;
 use perf_reader::reader::Reader;
 use perf_words::BranchEntry;
@@ -117,10 +115,7 @@ pub(crate) fn read_branches<'p, I: Input<'p>, E: Endian>(
     if reader.has_items(count, SIZE) == Some(false) {
         return Err(reader.read_to_the_end(NUMBERS, count));
     }
-    let mut entries = match reader.list_for(count) {
-        Ok(entries) => entries,
-        Err(refusal) => return Err(refusal),
-    };
+    let mut entries = reader.list_for(count)?;
     if 0 < count && count <= reader.input().shown_bytes().len() / SIZE {
         let none = BranchEntry::from_words(0, 0, 0);
         if entries.resize(count, none).is_err() {

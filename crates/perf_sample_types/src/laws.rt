@@ -6,7 +6,7 @@ ghost use Rattle.std.specs.Prelude.{◌<◌};
 ghost use Rattle.perf_base.specs.Configured.{configuration_of};
 ghost use Rattle.perf_sample_types.specs.SampleLaws.{SpliceLaw, CutLaw};
 
-use perf_base::config::ParseConfig;
+use perf_base::ParseConfig;
 
 /// The bytes of an absent field can be inserted. Take a `body` that is a sample under `config`, a
 /// field `f` that is absent from it, and bytes `w` that encode this field and nothing more, all in

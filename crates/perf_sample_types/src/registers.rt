@@ -3,10 +3,7 @@
 ghost use Rattle.std.specs.Prelude.{◌≡◌};
 ghost use Rattle.perf_sample_types.specs.Registers as registers;
 
-use perf_base::cow::CowSlice;
-use perf_base::endian::Endian;
-use perf_base::error::ParseResult;
-use perf_base::refusal::ReadResult;
+use perf_base::{CowSlice, Endian, ParseResult, ReadResult};
 use perf_buffers::input::Input;
 use perf_reader::reader::Reader;
 use perf_words::SampleRegsAbi;

@@ -20,14 +20,11 @@ use crate::sample_made::{
 };
 use crate::sample_parts::Branches;
 use bitflags::Flags;
-use perf_base::config::ParseConfig;
-use perf_base::endian::Endian;
-use perf_base::error::ParseResult;
-use perf_base::refusal::ReadResult;
+use perf_base::{Endian, ParseConfig, ParseResult, ReadResult};
 use perf_buffers::input::Input;
 use perf_reader::read::{HasTransition, ReadFrom};
 use perf_reader::reader::Reader;
-use perf_types::read_group::ReadGroup;
+use perf_types::ReadGroup;
 use perf_words::{BranchEntry, DataSource, Txn};
 use std::alloc::Global;
 
@@ -464,26 +461,12 @@ pub(crate) fn fill_fields<'p, I: Input<'p>, E: Endian>(
         (ReadsBorrowed samples.sample samples.sample_value samples.IsBorrowedSample)
         reader.old (fill_result (kinds result) sample.new) reader.new }
 {
-    match sample.moment.fill(reader) {
-        Ok(()) => {}
-        Err(refusal) => return Err(refusal),
-    }
-    match sample.counts.fill(reader) {
-        Ok(()) => {}
-        Err(refusal) => return Err(refusal),
-    }
-    match sample.state.fill(reader) {
-        Ok(()) => {}
-        Err(refusal) => return Err(refusal),
-    }
-    match sample.costs.fill(reader) {
-        Ok(()) => {}
-        Err(refusal) => return Err(refusal),
-    }
-    match sample.memory.fill(reader) {
-        Ok(()) => Ok(()),
-        Err(refusal) => Err(refusal),
-    }
+    sample.moment.fill(reader)?;
+    sample.counts.fill(reader)?;
+    sample.state.fill(reader)?;
+    sample.costs.fill(reader)?;
+    sample.memory.fill(reader)?;
+    Ok(())
 }
 
 /// Reads the fields of a sample into an empty one, in place: a sample is large. It is not inlined,

@@ -13,8 +13,7 @@ ghost use Rattle.perf_sample_types.specs.Prelude.{Call, ReadsBorrowed, ReadsTabl
 
 use crate::sample::{Sample, empty_sample, fill_fields, least_len};
 use crate::sample_groups::{Costs, Counts, Memory, Moment, State};
-use perf_base::endian::Endian;
-use perf_base::refusal::{ReadResult, Refusal};
+use perf_base::{Endian, ReadResult, Refusal};
 use perf_buffers::input::Input;
 use perf_reader::reader::Reader;
 use std::boxed::Box;
@@ -26,10 +25,7 @@ fn pass_moment<'p, I: Input<'p>, E: Endian>(reader: &mut Reader<I, E>) -> ReadRe
         reader.old (fill_result (kinds result) read) reader.new }
 {
     let mut read = Moment::none();
-    match read.fill_by_field(reader) {
-        Ok(()) => Ok(()),
-        Err(refusal) => Err(refusal),
-    }
+    read.fill_by_field(reader)
 }
 
 // Reads the counters and the call chain of a sample that is refused, and keeps nothing.
@@ -40,10 +36,7 @@ fn pass_counts<'p, I: Input<'p>, E: Endian>(reader: &mut Reader<I, E>) -> ReadRe
         reader.old (fill_result (kinds result) read) reader.new }
 {
     let mut read = Counts::none();
-    match read.fill(reader) {
-        Ok(()) => Ok(()),
-        Err(refusal) => Err(refusal),
-    }
+    read.fill(reader)
 }
 
 // Reads the `State` group of a sample that is refused, and keeps nothing.
@@ -55,10 +48,7 @@ fn pass_state<'p, I: Input<'p>, E: Endian>(reader: &mut Reader<I, E>) -> ReadRes
         reader.old (fill_result (kinds result) read) reader.new }
 {
     let mut read = State::none();
-    match read.fill(reader) {
-        Ok(()) => Ok(()),
-        Err(refusal) => Err(refusal),
-    }
+    read.fill(reader)
 }
 
 // Reads the `Costs` group of a sample that is refused, and keeps nothing.
@@ -69,10 +59,7 @@ fn pass_costs<'p, I: Input<'p>, E: Endian>(reader: &mut Reader<I, E>) -> ReadRes
         reader.old (fill_result (kinds result) read) reader.new }
 {
     let mut read = Costs::none();
-    match read.fill(reader) {
-        Ok(()) => Ok(()),
-        Err(refusal) => Err(refusal),
-    }
+    read.fill(reader)
 }
 
 // Reads the `Memory` group of a sample that is refused, and keeps nothing.
@@ -84,10 +71,7 @@ fn pass_memory<'p, I: Input<'p>, E: Endian>(reader: &mut Reader<I, E>) -> ReadRe
         reader.old (fill_result (kinds result) read) reader.new }
 {
     let mut read = Memory::none();
-    match read.fill(reader) {
-        Ok(()) => Ok(()),
-        Err(refusal) => Err(refusal),
-    }
+    read.fill(reader)
 }
 
 // Why there is no sample if it gets no box, because the input is too short or memory ran out: the

@@ -17,9 +17,8 @@ use crate::sample_groups::{Costs, Counts, Memory, Moment, State};
 use crate::sample_parts::{
     AuxBytes, Branches, CallChain, InterruptRegisters, RawData, Stack, UserRegisters,
 };
-use perf_base::cow::CowSlice;
-use perf_base::error::ParseResult;
-use perf_types::read_group::ReadGroup;
+use perf_base::{CowSlice, ParseResult};
+use perf_types::ReadGroup;
 use std::alloc::Global;
 
 // A field that may own memory.

@@ -10,8 +10,7 @@ ghost use Rattle.perf_sample_types.specs.Prelude.{Call, Parts, ReadsBorrowed, Re
 ghost use Rattle.perf_words.specs.SetBits.{sample_flags_bits};
 
 use bitflags::Flags;
-use perf_base::endian::Endian;
-use perf_base::refusal::ReadResult;
+use perf_base::{Endian, ReadResult};
 use perf_buffers::input::Input;
 use perf_reader::reader::Reader;
 use perf_words::SampleFlags;

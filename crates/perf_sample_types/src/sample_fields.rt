@@ -9,9 +9,8 @@ ghost use Rattle.perf_sample_types.specs.SampleGetters.{fields_getters, no_gette
 
 use crate::registers::Registers;
 use crate::sample_clone::{clone_group, clone_list, clone_registers};
-use perf_base::cow::CowSlice;
-use perf_base::error::ParseResult;
-use perf_types::read_group::ReadGroup;
+use perf_base::{CowSlice, ParseResult};
+use perf_types::ReadGroup;
 use perf_words::{BranchEntry, DataSource, Txn};
 use std::alloc::Global;
 

@@ -10,9 +10,7 @@ ghost use Rattle.perf_types.specs.Prelude.{sample_flags_bits};
 
 use crate::sample::Sample;
 use bitflags::Flags;
-use perf_base::config::ParseConfig;
-use perf_base::endian::Endian;
-use perf_base::refusal::ReadResult;
+use perf_base::{Endian, ParseConfig, ReadResult};
 use perf_buffers::input::Input;
 use perf_reader::read::{HasTransition, ReadFrom};
 use perf_reader::reader::Reader;

@@ -10,7 +10,7 @@ use crate::registers::Registers;
 use crate::sample_parts::{
     AuxBytes, Branches, CallChain, Cpu, InterruptRegisters, RawData, Stack, Task, UserRegisters,
 };
-use perf_base::cow::CowSlice;
+use perf_base::CowSlice;
 use perf_words::BranchEntry;
 
 // A process and its thread, if either is present.

@@ -10,14 +10,11 @@ use crate::branches::read_branches;
 use crate::registers::Registers;
 use crate::sample_field::{ReadField, SampleField};
 use bitflags::Flags;
-use perf_base::cow::CowSlice;
-use perf_base::endian::Endian;
-use perf_base::refusal::{ReadResult, Refusal};
+use perf_base::{CowSlice, Endian, ReadResult, Refusal};
 use perf_buffers::input::Input;
 use perf_reader::read::ReadFrom;
 use perf_reader::reader::Reader;
-use perf_types::read_group::ReadGroup;
-use perf_types::read_value::ReadValue;
+use perf_types::{ReadGroup, ReadValue};
 use perf_words::{BranchEntry, DataSource, ReadFormat, Txn};
 
 impl SampleField for u64 {
@@ -31,10 +28,7 @@ impl SampleField for u64 {
 impl<'p, I: Input<'p>> ReadField<'p, I> for u64 {
     #[inline]
     fn read_field<E: Endian>(reader: &mut Reader<I, E>) -> ReadResult<Self> {
-        match reader.read_u64() {
-            Ok(number) => Ok(number),
-            Err(refusal) => Err(refusal),
-        }
+        reader.read_u64()
     }
 }
 
@@ -49,10 +43,7 @@ impl SampleField for DataSource {
 impl<'p, I: Input<'p>> ReadField<'p, I> for DataSource {
     #[inline]
     fn read_field<E: Endian>(reader: &mut Reader<I, E>) -> ReadResult<Self> {
-        match reader.read::<DataSource>() {
-            Ok(source) => Ok(source),
-            Err(refusal) => Err(refusal),
-        }
+        reader.read::<DataSource>()
     }
 }
 
@@ -67,10 +58,7 @@ impl SampleField for Txn {
 impl<'p, I: Input<'p>> ReadField<'p, I> for Txn {
     #[inline]
     fn read_field<E: Endian>(reader: &mut Reader<I, E>) -> ReadResult<Self> {
-        match reader.read::<Txn>() {
-            Ok(transaction) => Ok(transaction),
-            Err(refusal) => Err(refusal),
-        }
+        reader.read::<Txn>()
     }
 }
 
@@ -316,10 +304,7 @@ impl<'p, I: Input<'p>> ReadField<'p, I> for ReadGroup<'p> {
                 Err(refusal) => Err(refusal),
             };
         }
-        let value = match ReadValue::read(reader) {
-            Ok(value) => value,
-            Err(refusal) => return Err(refusal),
-        };
+        let value = ReadValue::read(reader)?;
         match ReadGroup::from_value(reader.alloc(), value) {
             Ok(group) => Ok(group),
             Err(_) => Err(Refusal::OutOfMemory),

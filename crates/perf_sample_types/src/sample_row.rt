@@ -13,8 +13,7 @@ ghost use Rattle.perf_words.specs.SetBits.{sample_flags_bits};
 use crate::sample_field::SampleField;
 use crate::sample_parts::{Cpu, Task};
 use bitflags::Flags;
-use perf_base::endian::Endian;
-use perf_base::reads::ReadCounter;
+use perf_base::{Endian, ReadCounter};
 use perf_reader::halves::{first_half, second_half};
 use perf_words::SampleFlags;
 

@@ -132,6 +132,3 @@ entries-back i l count left words front back is parts before last =
 -- ---- a product that fits into a word, and one that does not
 pub product_counted : (r : Option ℕ) (n len : ℕ) → SomeIff r (n < 18446744073709551616) n → r ≡ Some len → (n ≡ len) × (nat_lt n (2 ^ 64) ≡ true)
 product_counted r n len s is = (search rules, search rules)
-
-pub product_uncounted : (r : Option ℕ) (n : ℕ) → SomeIff r (n < 18446744073709551616) n → r ≡ None → nat_lt n (2 ^ 64) ≡ false
-product_uncounted r n s is = search rules

@@ -11,10 +11,3 @@ poked_len-four n = omega arith
 
 pub poked_len-least : (n m : ℕ) → n ≤ m → m % 8 ≡ 4 → poked_len n ≤ m
 poked_len-least n m enough four = omega arith
-
-pub both_parts : (addr : ℕ) {o n p m : List ℕ} → o ≡ p → n ≡ m →
-    ◌≡◌ {A = TextPokeValue} (record { addr = addr; old_bytes = o; new_bytes = n }) (record { addr = addr; old_bytes = p; new_bytes = m })
-both_parts addr old new = cc
-
-pub both_forms : {o n p m : List Bool} → o ≡ p → n ≡ m → o ++ n ≡ p ++ m
-both_forms old new = cc

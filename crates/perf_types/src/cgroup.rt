@@ -6,10 +6,7 @@ ghost use Rattle.perf_types.specs.CGroup.{cgroup, cgroup_value, IsBorrowedCGroup
 ghost use Rattle.perf_types.specs.Prelude.{ReadsInPlace, cow_items, text_of, IsClone, IsOwnedCopy};
 
 use crate::text::text;
-use perf_base::cow::CowSlice;
-use perf_base::endian::Endian;
-use perf_base::error::ParseResult;
-use perf_base::refusal::ReadResult;
+use perf_base::{CowSlice, Endian, ParseResult, ReadResult};
 use perf_buffers::input::Input;
 use perf_reader::read::{HasTransition, ReadFrom};
 use perf_reader::reader::Reader;

@@ -11,7 +11,7 @@ use crate::group_entry::GroupEntry;
 use crate::group_iter::GroupIter;
 use crate::read_group::ReadGroup;
 use crate::read_value::{ReadValue, TryFromGroupError};
-use perf_base::error::{ErrorKind, ParseResult};
+use perf_base::{ErrorKind, ParseResult};
 use std::alloc::Global;
 
 /// A call of [`GroupIter`].

@@ -4,8 +4,7 @@
 ghost use Rattle.perf_reader.specs.Prelude.{ReadsPlain};
 ghost use Rattle.perf_types.specs.ITraceStart.{itrace_start};
 
-use perf_base::endian::Endian;
-use perf_base::refusal::ReadResult;
+use perf_base::{Endian, ReadResult};
 use perf_buffers::input::Input;
 use perf_reader::read::{HasTransition, ReadFrom};
 use perf_reader::reader::Reader;

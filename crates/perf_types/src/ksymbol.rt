@@ -5,10 +5,7 @@ ghost use Rattle.perf_reader.specs.Prelude.{ReadsInPlace};
 ghost use Rattle.perf_types.specs.KSymbol.{ksymbol, ksymbol_value, IsBorrowedKSymbol, ksymbol_form};
 ghost use Rattle.perf_base.specs.Copies.{IsClone, IsOwnedCopy};
 
-use perf_base::cow::CowSlice;
-use perf_base::endian::Endian;
-use perf_base::error::ParseResult;
-use perf_base::refusal::ReadResult;
+use perf_base::{CowSlice, Endian, ParseResult, ReadResult};
 use perf_buffers::input::Input;
 use perf_reader::read::{HasTransition, ReadFrom};
 use perf_reader::reader::Reader;

@@ -7,10 +7,7 @@ ghost use Rattle.perf_types.specs.Prelude.{ReadsInPlace, cow_items, text_of, IsC
 
 use crate::mmap2::Place;
 use crate::text::text;
-use perf_base::cow::CowSlice;
-use perf_base::endian::Endian;
-use perf_base::error::ParseResult;
-use perf_base::refusal::ReadResult;
+use perf_base::{CowSlice, Endian, ParseResult, ReadResult};
 use perf_buffers::input::Input;
 use perf_reader::read::{HasTransition, ReadFrom};
 use perf_reader::reader::Reader;

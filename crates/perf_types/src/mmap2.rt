@@ -12,11 +12,8 @@ use crate::hex::Hex;
 use crate::mmap::Mmap;
 use crate::pair::{pair_in, read_pair};
 use crate::text::text;
-use perf_base::cow::CowSlice;
-use perf_base::endian::Endian;
-use perf_base::error::ParseResult;
-use perf_base::refusal::{ReadResult, Refusal};
 use perf_base::sys::PERF_RECORD_MISC_MMAP_BUILD_ID;
+use perf_base::{CowSlice, Endian, ParseResult, ReadResult, Refusal};
 use perf_buffers::input::Input;
 use perf_reader::read::{HasTransition, ReadFrom};
 use perf_reader::reader::Reader;
@@ -315,10 +312,10 @@ impl<'a> From<Mmap2<'a>> for Mmap<'a> {
 // The maximal size of a build id in bytes.
 const BUILD_ID_SIZE_MAX: u8 = 20;
 
-// Whether the record with this `misc` identifies its file by a build id.
+/// Whether the record with this `misc` identifies its file by a build id.
 #[inline]
 #[tactic(auto, using(crate::proofs::Flags::misc_bits))]
-fn has_build_id(misc: u16) -> bool
+pub fn has_build_id(misc: u16) -> bool
     ensures { result ≡ has_bit misc build_id_bit }
 {
     misc & PERF_RECORD_MISC_MMAP_BUILD_ID == PERF_RECORD_MISC_MMAP_BUILD_ID
@@ -386,15 +383,9 @@ fn read_detail<'p, I: Input<'p>, E: Endian>(reader: &mut Reader<I, E>) -> ReadRe
         reader.old (kinds result) reader.new }
 {
     if has_build_id(reader.config().misc()) {
-        match read_build_id(reader) {
-            Ok(detail) => Ok(detail),
-            Err(refusal) => Err(refusal),
-        }
+        read_build_id(reader)
     } else {
-        match read_inode(reader) {
-            Ok(detail) => Ok(detail),
-            Err(refusal) => Err(refusal),
-        }
+        read_inode(reader)
     }
 }
 

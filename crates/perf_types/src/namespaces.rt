@@ -8,10 +8,7 @@ ghost use Rattle.perf_types.specs.Namespaces as spaces;
 ghost use Rattle.perf_types.specs.Prelude.{Call, Reads, ReadsOne, ReadsPlain, NeedsNoMemory, kinds, words};
 ghost use Rattle.perf_types.specs.Prelude.{cow_items, IsClone, flat_map, option_copied};
 
-use perf_base::cow::CowSlice;
-use perf_base::endian::Endian;
-use perf_base::error::ParseResult;
-use perf_base::refusal::{ReadResult, Refusal};
+use perf_base::{CowSlice, Endian, ParseResult, ReadResult, Refusal};
 use perf_buffers::input::Input;
 use perf_reader::read::{HasTransition, ReadFrom};
 use perf_reader::reader::Reader;

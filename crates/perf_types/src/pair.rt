@@ -5,8 +5,7 @@ ghost use Rattle.perf_base.specs.Layout.{value};
 ghost use Rattle.perf_types.specs.Pair.{pair};
 ghost use Rattle.perf_types.specs.Prelude.{Call, Reads, NeedsNoMemory, kinds};
 
-use perf_base::endian::Endian;
-use perf_base::refusal::ReadResult;
+use perf_base::{Endian, ReadResult};
 use perf_buffers::input::Input;
 use perf_reader::reader::Reader;
 

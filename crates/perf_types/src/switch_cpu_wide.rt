@@ -7,9 +7,8 @@ ghost use Rattle.perf_types.specs.SwitchCpuWide.{other_pid, other_tid, switch_cp
 ghost use Rattle.perf_base.specs.Misc.{switch_out_bit};
 ghost use Rattle.perf_words.specs.Bits.{has_bit};
 
-use perf_base::endian::Endian;
-use perf_base::refusal::ReadResult;
 use perf_base::sys::PERF_RECORD_MISC_SWITCH_OUT;
+use perf_base::{Endian, ReadResult};
 use perf_buffers::input::Input;
 use perf_reader::read::{HasTransition, ReadFrom};
 use perf_reader::reader::Reader;
@@ -56,10 +55,10 @@ impl SwitchCpuWide {
     }
 }
 
-// Whether the record with this `misc` reports that a task left its CPU.
+/// Whether the record with this `misc` reports that a task left its CPU.
 #[inline]
 #[tactic(auto, using(crate::proofs::Flags::misc_bits))]
-fn is_switch_out(misc: u16) -> bool
+pub fn is_switch_out(misc: u16) -> bool
     ensures { result ≡ has_bit misc switch_out_bit }
 {
     misc & PERF_RECORD_MISC_SWITCH_OUT == PERF_RECORD_MISC_SWITCH_OUT

@@ -7,10 +7,7 @@ ghost use Rattle.perf_types.specs.TextPoke.{text_poke, text_poke_value, poked_le
 ghost use Rattle.perf_types.specs.TextPoke.{IsBorrowedTextPoke, text_poke_form};
 ghost use Rattle.perf_base.specs.Copies.{IsClone, IsOwnedCopy};
 
-use perf_base::cow::CowSlice;
-use perf_base::endian::Endian;
-use perf_base::error::ParseResult;
-use perf_base::refusal::{ReadResult, Refusal};
+use perf_base::{CowSlice, Endian, ParseResult, ReadResult, Refusal};
 use perf_buffers::input::Input;
 use perf_reader::read::{HasTransition, ReadFrom};
 use perf_reader::reader::Reader;

@@ -4,17 +4,11 @@
 use crate::checks::check_parsed_text;
 use crate::groups::{of_none, single_with_id, with_ids, without_ids};
 use bitflags::Flags;
-use perf_base::cow::CowSlice;
-use perf_base::error::ParseResult;
+use perf_base::{CowSlice, ParseResult};
 use perf_sample_types::registers::Registers;
-use perf_types::cgroup::CGroup;
-use perf_types::comm::Comm;
-use perf_types::ksymbol::KSymbol;
-use perf_types::mmap::Mmap;
-use perf_types::mmap2::{Mmap2, MmapDetail};
-use perf_types::namespaces::{NamespaceEntry, Namespaces};
-use perf_types::read_group::ReadGroup;
-use perf_types::text_poke::TextPoke;
+use perf_types::{
+    CGroup, Comm, KSymbol, Mmap, Mmap2, MmapDetail, NamespaceEntry, Namespaces, ReadGroup, TextPoke,
+};
 use perf_words::flags::KSymbolFlags;
 use perf_words::named::KSymbolType;
 use perf_words::{ReadFormat, SampleRegsAbi};

@@ -3,10 +3,8 @@
 use crate::check;
 use crate::checks::check_text;
 use anyhow::anyhow;
-use perf_base::config::ParseConfig;
-use perf_base::cow::CowSlice;
 use perf_base::endian::Little;
-use perf_base::error::{ErrorKind, ParseError};
+use perf_base::{CowSlice, ErrorKind, ParseConfig, ParseError};
 use perf_event_data::parse::Parser;
 use perf_test_helpers::asks::next_record;
 use std::alloc::{AllocError, AllocFailed, Global};

@@ -2,14 +2,9 @@
 
 use crate::checks::{check_answers, check_debug, check_parsed_text};
 use bitflags::Flags;
-use perf_base::cow::CowSlice;
-use perf_base::error::ParseResult;
-use perf_types::group_entry::GroupEntry;
-use perf_types::group_iter::GroupIter;
+use perf_base::{CowSlice, ParseResult};
 use perf_types::group_laws::{EntryCall, entry_call, entry_calls, through_a_group};
-use perf_types::read::Read;
-use perf_types::read_group::ReadGroup;
-use perf_types::read_value::{ReadValue, TryFromGroupError};
+use perf_types::{GroupEntry, GroupIter, Read, ReadGroup, ReadValue, TryFromGroupError};
 use perf_words::ReadFormat;
 use std::alloc::{AllocError, Global};
 use std::process::Abort;

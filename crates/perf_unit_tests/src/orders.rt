@@ -5,10 +5,9 @@ ghost use Rattle.std.specs.Int.{w16, w32, w64, from_le_bytes};
 
 use crate::cases::{Case, Request, check_cases, kind_of};
 use crate::checks::{check_answer, check_same};
-use perf_base::config::ParseConfig;
 use perf_base::endian::{Big, Dynamic, Endian, Little, Native};
-use perf_base::error::{ErrorKind, ParseError, ParseResult};
 use perf_base::sys::perf_event_header;
+use perf_base::{ErrorKind, ParseConfig, ParseError, ParseResult};
 use perf_event_data::parse::{ParseBuf, Parser};
 use perf_test_helpers::orders::Counting;
 use perf_test_helpers::runs::text_of_runs;

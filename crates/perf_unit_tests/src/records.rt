@@ -2,20 +2,15 @@
 
 use crate::checks::{check_debug, check_numbers};
 use bitflags::Flags;
-use perf_base::cow::CowSlice;
 use perf_base::endian::Dynamic;
-use perf_base::error::{ErrorKind, ParseResult};
 use perf_base::laws::{dynamic_by_number, error_kind_by_number};
 use perf_base::sys::{perf_event_attr, perf_event_header};
+use perf_base::{CowSlice, ErrorKind, ParseResult};
 use perf_sample_types::sample_id::SampleId;
-use perf_types::aux_output_hw_id::AuxOutputHwId;
-use perf_types::aux_record::Aux;
-use perf_types::bpf_event::BpfEvent;
-use perf_types::itrace_start::ITraceStart;
 use perf_types::laws::namespace_entry_by_numbers;
-use perf_types::namespaces::NamespaceEntry;
-use perf_types::switch_cpu_wide::SwitchCpuWide;
-use perf_types::throttle::Throttle;
+use perf_types::{
+    Aux, AuxOutputHwId, BpfEvent, ITraceStart, NamespaceEntry, SwitchCpuWide, Throttle,
+};
 use perf_words::flags::AuxFlags;
 use perf_words::laws::{Compared, branch_type_by_number, read_format_by_number};
 use perf_words::named::BpfEventType;

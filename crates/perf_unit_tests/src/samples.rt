@@ -2,13 +2,12 @@
 
 use crate::checks::{check_debug, check_parsed_text};
 use bitflags::Flags;
-use perf_base::cow::CowSlice;
-use perf_base::error::ParseResult;
+use perf_base::{CowSlice, ParseResult};
 use perf_sample_types::registers::Registers;
 use perf_sample_types::sample::Sample;
 use perf_sample_types::sample_fields::SampleFields;
 use perf_sample_types::sample_id::SampleId;
-use perf_types::read_group::ReadGroup;
+use perf_types::ReadGroup;
 use perf_words::{BranchEntry, DataSource, ReadFormat, SampleRegsAbi, Txn};
 use std::alloc::Global;
 use std::process::Abort;

@@ -1,8 +1,7 @@
 //! The sizes of values that are made for each read.
 
 use crate::checks::check_debug;
-use perf_base::reads::ReadCounter;
-use perf_base::refusal::Refusal;
+use perf_base::{ReadCounter, Refusal};
 use std::mem::size_of;
 
 #[test]

@@ -8,8 +8,7 @@ use perf_event_data::sys::{
 use perf_event_data::{Sample, SampleFields};
 use perf_records::record::Record;
 use perf_test_helpers::texts::write_record;
-use perf_types::lost::Lost;
-use perf_types::lost_samples::LostSamples;
+use perf_types::{Lost, LostSamples};
 use std::alloc::{AllocError, Global};
 
 #[test]

@@ -6,7 +6,7 @@ use Rattle.perf_reader.specs.ReaderState.{ReaderState, state_of}
 use Rattle.perf_parser.specs.Steps.{HasTaken, TakesStep, TakesSteps}
 use Rattle.perf_parser.specs.declared.runs.RunEnd.TheVariants as end
 use Rattle.perf_parser.proofs.Ending.{same_state}
-use Rattle.perf_parser.proofs.Stepping.{taken_none, taken_more, steps_stop, steps_limit, steps_end}
+use Rattle.perf_parser.proofs.Stepping.{taken_none, taken_more, steps_stop, steps_end}
 use Rattle.perf_parser.proofs.steps.run_steps.Goals as goal
 
 pub loop-count-init : goal.loop-count-init
@@ -53,13 +53,3 @@ returns-in-Err-clause-run g c =
     subst (λ (m : ReaderState). TakesSteps g.T.Step.kind start c.args.state.now c.args.limit c.loop-count.count (Some c.end_of-end.result) m c.step.new.state)
     (sym (same_state g.B.ParseBuf.source g.E.Endian.order c.end_of-end.new.reader c.step.new.reader after.buf after.config after.reads))
     (steps_stop g.T.Step.kind start c.args.state.now c.args.limit here new c.loop-count.state c.step.new.state c.loop-count.count c.in-Err.stop c.end_of-end.result c.loop-count-test.true i.1 i.2 c.in-Err.ensures.step after.end)
-
-pub returns-clause-run : goal.returns-clause-run
-returns-clause-run g c =
-    let source = λ (o : Outer g.row.B.Denot). g.B.ParseBuf.source o.buf in
-    let start : ReaderState = state_of source g.E.Endian.order c.args.reader.now in
-    let here : ReaderState = state_of source g.E.Endian.order c.loop-count.reader in
-    let i = c.loop-count.invariant in
-    let all : c.loop-count.count ≡ c.args.limit = omega (arith, c.loop-count-test.false, c.loop-count.auto.count-end) in
-    steps_limit g.T.Step.kind start c.args.state.now c.args.limit here c.loop-count.state
-    (subst (λ (n : ℕ). HasTaken g.T.Step.kind start n here c.loop-count.state) all i.1) (subst (λ (n : ℕ). g.T.Step.kind.so_far start c.args.state.now n true c.loop-count.state) all i.2)

@@ -97,34 +97,3 @@ returns-clause-call g c =
     aux_read f v w r x c.in_ok-aux.ensures.call (
     last_read f v w r x y c.in_ok-last.ensures.call (
     tail_read f v w r x y _ c.saturating_sub.ensures c.in_ok-read_zero_tail.ensures.call)))))))
-
-pub returns-in_err-front-clause-memory : goal.returns-in_err-front-clause-memory
-returns-in_err-front-clause-memory g c =
-    let up : c.from_residual.result ≡ Err c.in_err-front.field-0.0 = came_up _ _ c.from_residual.ensures in rw up c.in_err-front.ensures.memory
-
-pub returns-clause-memory : goal.returns-clause-memory
-returns-clause-memory g c = tt
-
-pub returns-in_err-event-clause-memory : goal.returns-in_err-event-clause-memory
-returns-in_err-event-clause-memory g c =
-    let up : c.from_residual-in_err-event.result ≡ Err c.in_err-event.field-0.0 = came_up _ _ c.from_residual-in_err-event.ensures in rw up c.in_err-event.ensures.memory
-
-pub returns-in_err-wakeup-clause-memory : goal.returns-in_err-wakeup-clause-memory
-returns-in_err-wakeup-clause-memory g c =
-    let up : c.from_residual-in_err-wakeup.result ≡ Err c.in_err-wakeup.field-0.0 = came_up _ _ c.from_residual-in_err-wakeup.ensures in rw up c.in_err-wakeup.ensures.memory
-
-pub returns-in_err-registers-clause-memory : goal.returns-in_err-registers-clause-memory
-returns-in_err-registers-clause-memory g c =
-    let up : c.from_residual-in_err-registers.result ≡ Err c.in_err-registers.field-0.0 = came_up _ _ c.from_residual-in_err-registers.ensures in rw up c.in_err-registers.ensures.memory
-
-pub returns-in_err-aux-clause-memory : goal.returns-in_err-aux-clause-memory
-returns-in_err-aux-clause-memory g c =
-    let up : c.from_residual-in_err-aux.result ≡ Err c.in_err-aux.field-0.0 = came_up _ _ c.from_residual-in_err-aux.ensures in rw up c.in_err-aux.ensures.memory
-
-pub returns-in_err-last-clause-memory : goal.returns-in_err-last-clause-memory
-returns-in_err-last-clause-memory g c =
-    let up : c.from_residual-in_err-last.result ≡ Err c.in_err-last.field-0.0 = came_up _ _ c.from_residual-in_err-last.ensures in rw up c.in_err-last.ensures.memory
-
-pub returns-in_err-read_zero_tail-clause-memory : goal.returns-in_err-read_zero_tail-clause-memory
-returns-in_err-read_zero_tail-clause-memory g c =
-    let up : c.from_residual-in_err-read_zero_tail.result ≡ Err c.in_err-read_zero_tail.field-0.0 = came_up _ _ c.from_residual-in_err-read_zero_tail.ensures in rw up c.in_err-read_zero_tail.ensures.memory

@@ -1,5 +1,5 @@
-use Rattle.std.proofs.Common.{◌≡◌, ◌/◌, ◌++◌, ◌∷◌, [], ℕ, zero, suc, List, length, take, drop, map, refl, sym, ◌∙◌, ap, arith}
-use Rattle.std.proofs.lemmas.List.{take_all, take_more_set, map_more}
+use Rattle.std.proofs.Common.{◌≡◌, ◌/◌, ◌∷◌, ℕ, zero, suc, List, length, take, drop, map, refl, sym, ◌∙◌, ap, arith}
+use Rattle.std.proofs.lemmas.List.{take_all}
 use Rattle.std.specs.Simd.{first_chunks}
 use Rattle.perf_base.specs.Layout.{words_of}
 use Rattle.perf_base.specs.Order.{Order}
@@ -9,20 +9,6 @@ use Rattle.perf_reader.proofs.blocks.convert.Goals as goal
 words_chunks : (o : Order) (k : ℕ) (bytes : List ℕ) → map o.eight (first_chunks 8 k bytes) ≡ words_of o k bytes
 words_chunks o zero bytes = refl
 words_chunks o (suc k) bytes = ap (λ (ys : List ℕ). o.eight (take 8 bytes) ∷ ys) (words_chunks o k (drop 8 bytes))
-
-pub loop-i-init : goal.loop-i-init
-loop-i-init g c = refl
-
-pub loop-i-preserved : goal.loop-i-preserved
-loop-i-preserved g c =
-    let o : Order = g.E.Endian.order c.args.order.now in
-    let i = c.loop-i.i in
-    let chunks : List (List ℕ) = c.as_chunks.result.0.now in
-    let n : length chunks ≡ length c.args.bytes.now / 8 = c.as_chunks.ensures.front_len in
-    take_more_set c.loop-i.numbers i c.convert_u64.result (omega arith)
-    ∙ ap (λ (ys : List ℕ). ys ++ c.convert_u64.result ∷ []) c.loop-i.invariant
-    ∙ ap (λ (x : ℕ). map o.eight (take i chunks) ++ x ∷ []) c.convert_u64.ensures
-    ∙ sym (map_more o.eight chunks i [] (omega (arith, n, c.requires, c.loop-i-test.true)))
 
 pub returns : goal.returns
 returns g c =

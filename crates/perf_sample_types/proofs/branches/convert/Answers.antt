@@ -9,20 +9,6 @@ use Rattle.perf_words.specs.declared.branch.BranchEntry.{BranchEntry}
 use Rattle.perf_sample_types.proofs.BranchLists.{branch_words}
 use Rattle.perf_sample_types.proofs.branches.convert.Goals as goal
 
-pub loop-i-init : goal.loop-i-init
-loop-i-init g c = refl
-
-pub loop-i-preserved : goal.loop-i-preserved
-loop-i-preserved g c =
-    let o : Order = g.E.Endian.order c.args.order.now in
-    let i = c.loop-i.i in
-    let chunks : List (List ℕ) = c.as_chunks.result.0.now in
-    let n : length chunks ≡ length c.args.bytes.now / 24 = c.as_chunks.ensures.front_len in
-    take_more_set c.loop-i.branches i c.branch_in.result (omega arith)
-    ∙ ap (λ (ys : List BranchEntry). ys ++ c.branch_in.result ∷ []) c.loop-i.invariant
-    ∙ ap (λ (x : BranchEntry). map (branch_of o) (take i chunks) ++ x ∷ []) c.branch_in.ensures
-    ∙ sym (map_more (branch_of o) chunks i [] (omega (arith, n, c.requires, c.loop-i-test.true)))
-
 pub returns : goal.returns
 returns g c =
     let o : Order = g.E.Endian.order c.args.order.now in

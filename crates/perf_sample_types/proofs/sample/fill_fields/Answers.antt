@@ -1,61 +1,67 @@
-use Rattle.std.proofs.Common.{refl, subst, sym}
+use Rattle.std.proofs.Common.{◌≡◌, Err, refl, subst, sym}
 use Rattle.std.specs.Prelude.{IsTrue}
+use Rattle.perf_types.proofs.Readings.{came_up}
 use Rattle.perf_sample_types.proofs.GroupRuns.{group_after, group_stops, groups_give, of_groups}
 use Rattle.perf_sample_types.proofs.sample.fill_fields.Goals as goal
 
-pub returns-in-Err : goal.returns-in-Err
-returns-in-Err g c =
+pub returns-in_err-fill : goal.returns-in_err-fill
+returns-in_err-fill g c =
+    let up : c.from_residual.result ≡ Err c.in_err-fill.field-0.0 = came_up _ _ c.from_residual.ensures in rw up (
     record {
       call = of_groups _ _ (λ t w. tt) (
-          group_stops _ _ _ _ (λ left m. refl) c.in-Err.ensures.call);
-    }
+          group_stops _ _ _ _ (λ left m. refl) c.in_err-fill.ensures.call);
+    })
 
-pub returns-in-Err-fill : goal.returns-in-Err-fill
-returns-in-Err-fill g c =
+pub returns-in_err-fill-2 : goal.returns-in_err-fill-2
+returns-in_err-fill-2 g c =
+    let up : c.from_residual-in_err-fill-2.result ≡ Err c.in_err-fill-2.field-0.0 = came_up _ _ c.from_residual-in_err-fill-2.ensures in rw up (
     record {
       call = of_groups _ _ (λ t w. tt) (
-          group_after _ _ _ _ c.in-Ok.ensures.call (
-          group_stops _ _ _ _ (λ left m. refl) c.in-Err-fill.ensures.call));
-    }
+          group_after _ _ _ _ c.in_ok-fill.ensures.call (
+          group_stops _ _ _ _ (λ left m. refl) c.in_err-fill-2.ensures.call));
+    })
 
-pub returns-in-Err-fill-2 : goal.returns-in-Err-fill-2
-returns-in-Err-fill-2 g c =
+pub returns-in_err-fill-3 : goal.returns-in_err-fill-3
+returns-in_err-fill-3 g c =
+    let up : c.from_residual-in_err-fill-3.result ≡ Err c.in_err-fill-3.field-0.0 = came_up _ _ c.from_residual-in_err-fill-3.ensures in rw up (
     record {
       call = of_groups _ _ (λ t w. tt) (
-          group_after _ _ _ _ c.in-Ok.ensures.call (
-          group_after _ _ _ _ c.in-Ok-fill.ensures.call (
-          group_stops _ _ _ _ (λ left m. refl) c.in-Err-fill-2.ensures.call)));
-    }
+          group_after _ _ _ _ c.in_ok-fill.ensures.call (
+          group_after _ _ _ _ c.in_ok-fill-2.ensures.call (
+          group_stops _ _ _ _ (λ left m. refl) c.in_err-fill-3.ensures.call)));
+    })
 
-pub returns-in-Err-fill-3 : goal.returns-in-Err-fill-3
-returns-in-Err-fill-3 g c =
+pub returns-in_err-fill-4 : goal.returns-in_err-fill-4
+returns-in_err-fill-4 g c =
+    let up : c.from_residual-in_err-fill-4.result ≡ Err c.in_err-fill-4.field-0.0 = came_up _ _ c.from_residual-in_err-fill-4.ensures in rw up (
     record {
       call = of_groups _ _ (λ t w. tt) (
-          group_after _ _ _ _ c.in-Ok.ensures.call (
-          group_after _ _ _ _ c.in-Ok-fill.ensures.call (
-          group_after _ _ _ _ c.in-Ok-fill-2.ensures.call (
-          group_stops _ _ _ _ (λ left m. refl) c.in-Err-fill-3.ensures.call))));
-    }
+          group_after _ _ _ _ c.in_ok-fill.ensures.call (
+          group_after _ _ _ _ c.in_ok-fill-2.ensures.call (
+          group_after _ _ _ _ c.in_ok-fill-3.ensures.call (
+          group_stops _ _ _ _ (λ left m. refl) c.in_err-fill-4.ensures.call))));
+    })
 
-pub returns-in-Err-fill-4 : goal.returns-in-Err-fill-4
-returns-in-Err-fill-4 g c =
+pub returns-in_err-fill-5 : goal.returns-in_err-fill-5
+returns-in_err-fill-5 g c =
+    let up : c.from_residual-in_err-fill-5.result ≡ Err c.in_err-fill-5.field-0.0 = came_up _ _ c.from_residual-in_err-fill-5.ensures in rw up (
     record {
       call = of_groups _ _ (λ t w. tt) (
-          group_after _ _ _ _ c.in-Ok.ensures.call (
-          group_after _ _ _ _ c.in-Ok-fill.ensures.call (
-          group_after _ _ _ _ c.in-Ok-fill-2.ensures.call (
-          group_after _ _ _ _ c.in-Ok-fill-3.ensures.call (
-          group_stops _ _ _ _ (λ left m. refl) c.in-Err-fill-4.ensures.call)))));
-    }
+          group_after _ _ _ _ c.in_ok-fill.ensures.call (
+          group_after _ _ _ _ c.in_ok-fill-2.ensures.call (
+          group_after _ _ _ _ c.in_ok-fill-3.ensures.call (
+          group_after _ _ _ _ c.in_ok-fill-4.ensures.call (
+          group_stops _ _ _ _ (λ left m. refl) c.in_err-fill-5.ensures.call)))));
+    })
 
-pub returns-in-Ok-fill-4 : goal.returns-in-Ok-fill-4
-returns-in-Ok-fill-4 g c =
+pub returns : goal.returns
+returns g c =
     record {
-      call = of_groups _ _ (λ t w. ((c.in-Ok-fill-2.ensures.call.answer (c.in-Ok-fill.ensures.call.told (c.in-Ok.ensures.call.told t))).1 (subst IsTrue (sym c.in-Ok-fill.ensures.call.whole) (subst IsTrue (sym c.in-Ok.ensures.call.whole) w)), (c.in-Ok-fill-4.ensures.call.answer (c.in-Ok-fill-3.ensures.call.told (c.in-Ok-fill-2.ensures.call.told (c.in-Ok-fill.ensures.call.told (c.in-Ok.ensures.call.told t))))).1 (subst IsTrue (sym c.in-Ok-fill-3.ensures.call.whole) (subst IsTrue (sym c.in-Ok-fill-2.ensures.call.whole) (subst IsTrue (sym c.in-Ok-fill.ensures.call.whole) (subst IsTrue (sym c.in-Ok.ensures.call.whole) w)))))) (
-          group_after _ _ _ _ c.in-Ok.ensures.call (
-          group_after _ _ _ _ c.in-Ok-fill.ensures.call (
-          group_after _ _ _ _ c.in-Ok-fill-2.ensures.call (
-          group_after _ _ _ _ c.in-Ok-fill-3.ensures.call (
-          group_after _ _ _ _ c.in-Ok-fill-4.ensures.call (
+      call = of_groups _ _ (λ t w. ((c.in_ok-fill-3.ensures.call.answer (c.in_ok-fill-2.ensures.call.told (c.in_ok-fill.ensures.call.told t))).1 (subst IsTrue (sym c.in_ok-fill-2.ensures.call.whole) (subst IsTrue (sym c.in_ok-fill.ensures.call.whole) w)), (c.in_ok-fill-5.ensures.call.answer (c.in_ok-fill-4.ensures.call.told (c.in_ok-fill-3.ensures.call.told (c.in_ok-fill-2.ensures.call.told (c.in_ok-fill.ensures.call.told t))))).1 (subst IsTrue (sym c.in_ok-fill-4.ensures.call.whole) (subst IsTrue (sym c.in_ok-fill-3.ensures.call.whole) (subst IsTrue (sym c.in_ok-fill-2.ensures.call.whole) (subst IsTrue (sym c.in_ok-fill.ensures.call.whole) w)))))) (
+          group_after _ _ _ _ c.in_ok-fill.ensures.call (
+          group_after _ _ _ _ c.in_ok-fill-2.ensures.call (
+          group_after _ _ _ _ c.in_ok-fill-3.ensures.call (
+          group_after _ _ _ _ c.in_ok-fill-4.ensures.call (
+          group_after _ _ _ _ c.in_ok-fill-5.ensures.call (
           groups_give _ _ (λ left m. refl)))))));
     }

@@ -9,9 +9,3 @@ pub returns-in-Err-clause-call : goal.returns-in-Err-clause-call
 returns-in-Err-clause-call g c =
     let same = c.error_of.ensures in
     answered _ _ _ _ _ c.read_u16.new.self _ _ c.in-Err.ensures.call same.error.kind_is same.buf same.config same.reads
-
-pub returns-in-Ok-clause-counted : goal.returns-in-Ok-clause-counted
-returns-in-Ok-clause-counted g c = c.in-Ok.ensures.counted
-
-pub returns-in-Err-clause-counted : goal.returns-in-Err-clause-counted
-returns-in-Err-clause-counted g c = c.error_of.ensures.reads ∙ c.in-Err.ensures.counted

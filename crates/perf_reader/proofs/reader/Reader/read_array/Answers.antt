@@ -1,7 +1,7 @@
 use Rattle.std.proofs.Common.{None, Some, refl}
 use Rattle.perf_base.specs.Refusals.{refusal_kind}
 use Rattle.perf_reader.specs.ReaderState.{ReaderState, state_of}
-use Rattle.perf_reader.proofs.Paying.{array_keeps, within_taken, within_failed}
+use Rattle.perf_reader.proofs.Paying.{array_keeps}
 use Rattle.perf_reader.proofs.Steps.{run_there, array_short}
 use Rattle.perf_reader.proofs.reader.Reader.read_array.Goals as goal
 
@@ -28,23 +28,3 @@ returns-in-Err-clause-call g c =
       answer = λ told kind. array_short old.order g.row.N old.source new.source (refusal_kind c.in-Err.refusal) old.reads new.reads (e.err told) c.tick.ensures kind;
       keeps = λ start p. array_keeps start old new g.row.N (Some (refusal_kind c.in-Err.refusal)) p c.requires c.tick.ensures e.stays e.can_fail (λ told. e.err told);
     }
-
-pub returns-in-Ok-clause-within : goal.returns-in-Ok-clause-within
-returns-in-Ok-clause-within g c = λ told.
-    within_taken (g.I.Input.source c.args.self.now.input) (g.I.Input.source c.take_array.new.input) g.row.N (c.in-Ok.ensures.ok told).0
-
-pub returns-in-Err-clause-within : goal.returns-in-Err-clause-within
-returns-in-Err-clause-within g c = λ told.
-    within_failed (g.I.Input.source c.args.self.now.input) (g.I.Input.source c.take_array.new.input) g.row.N (refusal_kind c.in-Err.refusal) (c.in-Err.ensures.err told)
-
-pub returns-in-Ok-clause-counted : goal.returns-in-Ok-clause-counted
-returns-in-Ok-clause-counted g c = c.tick.ensures
-
-pub returns-in-Err-clause-counted : goal.returns-in-Err-clause-counted
-returns-in-Err-clause-counted g c = c.tick.ensures
-
-pub returns-in-Ok-clause-memory : goal.returns-in-Ok-clause-memory
-returns-in-Ok-clause-memory g c = tt
-
-pub returns-in-Err-clause-memory : goal.returns-in-Err-clause-memory
-returns-in-Err-clause-memory g c = c.in-Err.ensures.memory

@@ -1,4 +1,4 @@
-use Rattle.std.proofs.Common.{rules, arith, ◌≡◌, ℕ, ◌-◌, List, ◌++◌, ◌∙◌, sym, ap, length, take, drop}
+use Rattle.std.proofs.Common.{arith, ◌≡◌, ℕ, ◌-◌, List, ◌++◌, ◌∙◌, sym, ap, length, take, drop}
 use Rattle.std.proofs.lemmas.List.{drop-drop, length-drop}
 use Rattle.std.proofs.Math.Seq.{take-add}
 use Rattle.perf_base.specs.Configured.{endian_of}
@@ -44,6 +44,3 @@ returns-clause-call g c =
           (omega (arith, a.0, b.0, left), head, b.2 ∙ ap (drop 7) a.2 ∙ drop-drop 7 1 old.source.left, omega (arith, a.3, b.3));
       keeps = λ start k. others.keeps start (one.keeps start k);
     }
-
-pub returns-in-Err-read_array-clause-call : goal.returns-in-Err-read_array-clause-call
-returns-in-Err-read_array-clause-call g c = search rules steps 1000000

@@ -31,27 +31,3 @@ returns-in-Err-clause-call g c =
       answer = λ told kind. rest_refused old.order old.source new.source (refusal_kind c.in-Err.refusal) old.reads new.reads (e.err told) kind;
       keeps = λ start p. rest_fails start old new (refusal_kind c.in-Err.refusal) p c.tick.ensures e.stays e.can_fail (λ told. e.err told);
     }
-
-pub returns-in-Ok-clause-whole : goal.returns-in-Ok-clause-whole
-returns-in-Ok-clause-whole g c = c.in-Ok.ensures.whole
-
-pub returns-in-Ok-clause-whole_memory : goal.returns-in-Ok-clause-whole_memory
-returns-in-Ok-clause-whole_memory g c = λ w. tt
-
-pub returns-in-Ok-clause-nothing : goal.returns-in-Ok-clause-nothing
-returns-in-Ok-clause-nothing g c = c.in-Ok.ensures.nothing
-
-pub returns-in-Ok-clause-counted : goal.returns-in-Ok-clause-counted
-returns-in-Ok-clause-counted g c = c.tick_if_any.ensures ∙ ap (λ n. c.args.self.now.reads + one_if_any n) c.len.ensures
-
-pub returns-in-Err-clause-whole : goal.returns-in-Err-clause-whole
-returns-in-Err-clause-whole g c = λ w. tt
-
-pub returns-in-Err-clause-whole_memory : goal.returns-in-Err-clause-whole_memory
-returns-in-Err-clause-whole_memory g c = c.in-Err.ensures.whole_memory
-
-pub returns-in-Err-clause-nothing : goal.returns-in-Err-clause-nothing
-returns-in-Err-clause-nothing g c = c.in-Err.ensures.nothing
-
-pub returns-in-Err-clause-counted : goal.returns-in-Err-clause-counted
-returns-in-Err-clause-counted g c = tt

@@ -54,12 +54,3 @@ returns-in-Err-clause-call g c =
       answer = λ told kind. zeros_short old.order c.args.len old.source new.source (refusal_kind c.in-Err.refusal) old.reads new.reads (e.err told) c.tick.ensures kind;
       keeps = λ start p. array_keeps start old new c.args.len (Some (refusal_kind c.in-Err.refusal)) p some c.tick.ensures e.stays e.can_fail (λ told. e.err told);
     }
-
-pub returns-then-len-eq0-clause-memory : goal.returns-then-len-eq0-clause-memory
-returns-then-len-eq0-clause-memory g c = tt
-
-pub returns-in-Ok-true-clause-memory : goal.returns-in-Ok-true-clause-memory
-returns-in-Ok-true-clause-memory g c = tt
-
-pub returns-in-Err-clause-memory : goal.returns-in-Err-clause-memory
-returns-in-Err-clause-memory g c = c.in-Err.ensures.memory

@@ -3,7 +3,7 @@ use Rattle.std.proofs.lemmas.Bool.Decides.{nat_tests}
 use Rattle.perf_base.specs.Refusals.{refusal_kind}
 use Rattle.perf_reader.specs.ReaderState.{ReaderState, state_of}
 use Rattle.perf_reader.proofs.Paying.{array_keeps}
-use Rattle.perf_reader.proofs.Steps.{padding_there, padding_short, padding_none}
+use Rattle.perf_reader.proofs.Steps.{padding_there, padding_short}
 use Rattle.perf_reader.proofs.reader.Reader.skip.Goals as goal
 
 pub returns-in-Ok-clause-call : goal.returns-in-Ok-clause-call
@@ -30,23 +30,4 @@ returns-in-Err-clause-call g c =
       told = e.stays.3;
       answer = λ told kind. padding_short old.order c.args.len old.source new.source (refusal_kind c.in-Err.refusal) old.reads new.reads (e.err told) c.tick.ensures kind;
       keeps = λ start p. array_keeps start old new c.args.len (Some (refusal_kind c.in-Err.refusal)) p some c.tick.ensures e.stays e.can_fail (λ told. e.err told);
-    }
-
-pub returns-then-len-eq0-clause-memory : goal.returns-then-len-eq0-clause-memory
-returns-then-len-eq0-clause-memory g c = tt
-
-pub returns-in-Ok-clause-memory : goal.returns-in-Ok-clause-memory
-returns-in-Ok-clause-memory g c = tt
-
-pub returns-in-Err-clause-memory : goal.returns-in-Err-clause-memory
-returns-in-Err-clause-memory g c = c.in-Err.ensures.memory
-
-pub returns-then-len-eq0-clause-call : goal.returns-then-len-eq0-clause-call
-returns-then-len-eq0-clause-call g c =
-    let old : ReaderState = state_of g.I.Input.source g.E.Endian.order c.args.self.now in record {
-      config = refl;
-      whole = refl;
-      told = λ told. told;
-      answer = λ told. padding_none old.order c.args.len old.source.left old.reads c.if-len-eq0.true;
-      keeps = λ start p. p;
     }

@@ -39,6 +39,3 @@ returns-clause-answer g c = λ reads.
     bytes_visited gives h settings (configuration_of under) order (g.E.Endian.order (endian_of under).now) frame borrowed parts id.reads made c.add.new.self output
     c.args.self.sized c.args.self.whole (omega (arith, i.parts.0, ap length same)) are (subst (λ (xs : List ℕ). id.reads ≡ id_reads settings order h xs) same i.reads) i.bound
     (c.set_misc.ensures.changed ∙ ap (under_misc h.misc) c.lent-under.ensures.same) (ap (λ e. g.E.Endian.order e.now) c.set_misc.ensures.endian ∙ ap g.E.Endian.order c.lent-under.ensures.order) visits (r.faults mine) cost c.add.ensures
-
-pub returns-clause-no_room : goal.returns-clause-no_room
-returns-clause-no_room g c = λ short. absurd (omega (arith, short, c.in-Ok.ensures.parts.0, ap length c.as_bytes-bytes.ensures, c.args.self.whole))

@@ -7,7 +7,7 @@ use Rattle.perf_sample_types.specs.SampleForms.{form_if, fields_form}
 use Rattle.perf_sample_types.specs.declared.sample_fields.Content.{Content}
 use Rattle.perf_sample_types.specs.declared.sample_fields.SampleFields.{SampleFields}
 use Rattle.perf_sample_types.specs.declared.sample_fields.Trace.{Trace}
-use Rattle.perf_sample_types.proofs.Forms.{all_front, all_back, four_ahead, four_stay}
+use Rattle.perf_sample_types.proofs.Forms.{all_back, four_ahead, four_stay}
 use Rattle.perf_types.proofs.Readings.{came_up}
 use Rattle.perf_sample_types.proofs.sample_fields.SampleFields.clone.Goals as goal
 
@@ -20,12 +20,6 @@ forms_stay : (t : Trace) (h : Content) (g : SampleFields) → trace_form t ≡ t
 forms_stay t h g trace content =
     four_stay (form_if read_group_form t.values) (form_if cow_form t.callchain) (form_if cow_form t.raw) (form_if cow_form t.lbr) (content_form h)
     (form_if read_group_form g.values) (form_if cow_form g.callchain) (form_if cow_form g.raw) (form_if cow_form g.lbr) (content_form (content_of g)) trace content
-
-pub returns-in_err-trace : goal.returns-in_err-trace
-returns-in_err-trace c =
-    let s = c.args.self.now in
-    let up : c.from_residual.result ≡ Err c.in_err-trace.field-0.0 = came_up _ _ c.from_residual.ensures in rw up (
-    record { same = tt; form_is = tt; refused = c.in_err-trace.ensures.refused; no_memory = λ all. c.in_err-trace.ensures.no_memory (all_front true (trace_form (trace_of s)) (content_form (content_of s)) (halves s all)) })
 
 pub returns-in_err-content : goal.returns-in_err-content
 returns-in_err-content c =

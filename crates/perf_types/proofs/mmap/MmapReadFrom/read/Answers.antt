@@ -5,7 +5,7 @@ use Rattle.perf_base.specs.FieldWords.{name}
 use Rattle.perf_types.specs.Mmap.{MmapValue, mmap_value}
 use Rattle.perf_types.specs.Mmap2.{place}
 use Rattle.perf_types.specs.declared.mmap2.Place.{Place}
-use Rattle.perf_reader.proofs.After.{call_after, call_stops, call_none, lent}
+use Rattle.perf_reader.proofs.After.{call_after, call_stops, lent}
 use Rattle.perf_types.proofs.Readings.{came_up}
 use Rattle.perf_types.proofs.mmap.MmapReadFrom.read.Goals as goal
 
@@ -32,12 +32,3 @@ returns-in_err-filename g c =
           call_after (λ _. place) (λ _. after) c.in_ok-place.ensures.call (
           call_stops {show = mmap_value} (λ _. name) (λ _. mapped c.in_ok-place.place) c.in_err-filename.ensures.call));
     })
-
-pub returns : goal.returns
-returns g c =
-    record {
-      call = lent _ _ _ (λ t w. (c.in_ok-filename.ensures.whole (subst IsTrue (sym c.in_ok-place.ensures.call.whole) w), tt)) (
-          call_after (λ _. place) (λ _. after) c.in_ok-place.ensures.call (
-          call_after (λ _. name) (λ _. mapped c.in_ok-place.place) c.in_ok-filename.ensures.call (
-          call_none {show = mmap_value})));
-    }

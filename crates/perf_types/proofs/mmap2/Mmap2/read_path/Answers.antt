@@ -3,7 +3,6 @@ use Rattle.std.specs.Prelude.{IsTrue}
 use Rattle.perf_base.specs.FieldWords.{name}
 use Rattle.perf_base.specs.Layout.{Parts, done, ◌>>=◌}
 use Rattle.perf_base.specs.Cow.{cow_items}
-use Rattle.perf_reader.proofs.Asked.{call_gives}
 use Rattle.perf_reader.proofs.After.{call_after, call_stops, lent}
 use Rattle.perf_types.specs.Mmap2.{Mmap2Value, mmap2_value}
 use Rattle.perf_types.specs.MmapDetail.{DetailValue, detail_value}
@@ -36,14 +35,3 @@ returns-in_err-filename g c =
           call_after (λ _. pair) (λ _ words. after c.args.place (detail_value c.args.detail) words) c.in_ok-prot.ensures.call (
           call_stops (λ _. name) (λ _ v. done (made c.args.place (detail_value c.args.detail) (c.in_ok-prot.prot, c.in_ok-prot.flags) v)) c.in_err-filename.ensures.call));
     })
-
-pub returns : goal.returns
-returns g c =
-    let read : List ℕ → Mmap2Value = λ (v : List ℕ). made c.args.place (detail_value c.args.detail) (c.in_ok-prot.prot, c.in_ok-prot.flags) v in
-    let valued : mmap2_value c.from_parts.result ≡ read (cow_items c.in_ok-filename.filename) = c.from_parts.ensures.value in
-    record {
-      call = lent _ _ _ (λ t w. (subst IsTrue (sym c.from_parts.ensures.form) (c.in_ok-filename.ensures.whole (subst IsTrue (sym c.in_ok-prot.ensures.call.whole) w)), tt)) (
-          call_after (λ _. pair) (λ _ words. after c.args.place (detail_value c.args.detail) words) c.in_ok-prot.ensures.call (
-          call_after (λ _. name) (λ _ v. done (read v)) c.in_ok-filename.ensures.call (
-          call_gives {show = mmap2_value} (λ _. read (cow_items c.in_ok-filename.filename)) (sym valued))));
-    }

@@ -3,9 +3,9 @@ use Rattle.perf_words.specs.SetBits.{read_format_bits}
 use Rattle.std.specs.Prelude.{nat_lt}
 use Rattle.perf_base.specs.Configuration.{Configuration}
 use Rattle.perf_base.specs.Configured.{configuration_of}
-use Rattle.perf_reader.proofs.After.{part_after, part_stops}
-use Rattle.perf_reader.proofs.Asked.{check_holds, check_fails, option_after, option_stops, words_after, words_stop, call_gives}
-use Rattle.perf_types.proofs.Blocks.{counted_blocks, product_counted, product_uncounted}
+use Rattle.perf_reader.proofs.After.{part_after}
+use Rattle.perf_reader.proofs.Asked.{check_holds, option_after, words_after, words_stop, call_gives}
+use Rattle.perf_types.proofs.Blocks.{product_counted}
 use Rattle.perf_types.specs.GroupEntry.{block_len}
 use Rattle.perf_types.proofs.Readings.{bit_is, came_up}
 use Rattle.perf_types.proofs.Flags.{contains_group, contains_time_enabled, contains_time_running, contains_counter_id, contains_counter_lost}
@@ -13,75 +13,6 @@ use Rattle.perf_types.specs.ReadFormat.{has_group, is_known, has_time_enabled, h
 use Rattle.perf_words.specs.Sets.{element_len}
 use Rattle.perf_types.specs.ReadGroup.{GroupRead, all_entries}
 use Rattle.perf_types.proofs.read_group.ReadGroupReadFrom.read.Goals as goal
-
-pub returns-then-not-contains : goal.returns-then-not-contains
-returns-then-not-contains g c =
-    let asked : read_format_bits c.read_format-format.result ≡ (configuration_of c.args.reader.now.config).read_format = c.read_format-format.ensures ∙ ap (λ k. (configuration_of k).read_format) c.config.ensures in
-    let grouped : has_group (configuration_of c.args.reader.now.config).read_format ≡ false = bit_is 3 _ _ _ _ asked (c.contains.ensures tt) (contains_group _) ∙ c.if-not-contains.true in
-    record { call = check_fails _ _ _ refl grouped }
-
-pub returns-then-not-is_known : goal.returns-then-not-is_known
-returns-then-not-is_known g c =
-    let asked : read_format_bits c.read_format-format.result ≡ (configuration_of c.args.reader.now.config).read_format = c.read_format-format.ensures ∙ ap (λ k. (configuration_of k).read_format) c.config.ensures in
-    let grouped : has_group (configuration_of c.args.reader.now.config).read_format ≡ true = bit_is 3 _ _ _ _ asked (c.contains.ensures tt) (contains_group _) ∙ c.if-not-contains.false in
-    let known : is_known (configuration_of c.args.reader.now.config).read_format ≡ false = ap is_known (sym asked) ∙ (sym c.is_known.ensures ∙ c.if-not-is_known.true) in
-    record { call = check_holds _ _ _ grouped (check_fails _ _ _ refl known) }
-
-pub returns-in_err-count : goal.returns-in_err-count
-returns-in_err-count g c =
-    let asked : read_format_bits c.read_format-format.result ≡ (configuration_of c.args.reader.now.config).read_format = c.read_format-format.ensures ∙ ap (λ k. (configuration_of k).read_format) c.config.ensures in
-    let grouped : has_group (configuration_of c.args.reader.now.config).read_format ≡ true = bit_is 3 _ _ _ _ asked (c.contains.ensures tt) (contains_group _) ∙ c.if-not-contains.false in
-    let known : is_known (configuration_of c.args.reader.now.config).read_format ≡ true = ap is_known (sym asked) ∙ (sym c.is_known.ensures ∙ c.if-not-is_known.false) in
-    let up : c.from_residual.result ≡ Err c.in_err-count.field-0.0 = came_up _ _ c.from_residual.ensures in rw up (
-    record {
-      call = check_holds _ _ _ grouped (check_holds _ _ _ known (
-          part_stops _ _ _ c.in_err-count.ensures.call));
-    })
-
-pub returns-in_err-time_enabled : goal.returns-in_err-time_enabled
-returns-in_err-time_enabled g c =
-    let asked : read_format_bits c.read_format-format.result ≡ (configuration_of c.args.reader.now.config).read_format = c.read_format-format.ensures ∙ ap (λ k. (configuration_of k).read_format) c.config.ensures in
-    let grouped : has_group (configuration_of c.args.reader.now.config).read_format ≡ true = bit_is 3 _ _ _ _ asked (c.contains.ensures tt) (contains_group _) ∙ c.if-not-contains.false in
-    let known : is_known (configuration_of c.args.reader.now.config).read_format ≡ true = ap is_known (sym asked) ∙ (sym c.is_known.ensures ∙ c.if-not-is_known.false) in
-    let enabled : has_time_enabled (configuration_of c.args.reader.now.config).read_format ≡ c.contains-2.result = bit_is 0 _ _ _ _ asked (c.contains-2.ensures tt) (contains_time_enabled _) in
-    let up : c.from_residual-in_err-time_enabled.result ≡ Err c.in_err-time_enabled.field-0.0 = came_up _ _ c.from_residual-in_err-time_enabled.ensures in rw up (
-    record {
-      call = check_holds _ _ _ grouped (check_holds _ _ _ known (
-          part_after _ _ _ c.in_ok-count.ensures.call (
-          option_stops _ _ _ _ (ap (λ k. has_time_enabled (configuration_of k).read_format) (c.in_ok-count.ensures.call.config) ∙ enabled) c.in_err-time_enabled.ensures.call)));
-    })
-
-pub returns-in_err-time_running : goal.returns-in_err-time_running
-returns-in_err-time_running g c =
-    let asked : read_format_bits c.read_format-format.result ≡ (configuration_of c.args.reader.now.config).read_format = c.read_format-format.ensures ∙ ap (λ k. (configuration_of k).read_format) c.config.ensures in
-    let grouped : has_group (configuration_of c.args.reader.now.config).read_format ≡ true = bit_is 3 _ _ _ _ asked (c.contains.ensures tt) (contains_group _) ∙ c.if-not-contains.false in
-    let known : is_known (configuration_of c.args.reader.now.config).read_format ≡ true = ap is_known (sym asked) ∙ (sym c.is_known.ensures ∙ c.if-not-is_known.false) in
-    let enabled : has_time_enabled (configuration_of c.args.reader.now.config).read_format ≡ c.contains-2.result = bit_is 0 _ _ _ _ asked (c.contains-2.ensures tt) (contains_time_enabled _) in
-    let running : has_time_running (configuration_of c.args.reader.now.config).read_format ≡ c.contains-3.result = bit_is 1 _ _ _ _ asked (c.contains-3.ensures tt) (contains_time_running _) in
-    let up : c.from_residual-in_err-time_running.result ≡ Err c.in_err-time_running.field-0.0 = came_up _ _ c.from_residual-in_err-time_running.ensures in rw up (
-    record {
-      call = check_holds _ _ _ grouped (check_holds _ _ _ known (
-          part_after _ _ _ c.in_ok-count.ensures.call (
-          option_after _ _ _ _ (ap (λ k. has_time_enabled (configuration_of k).read_format) (c.in_ok-count.ensures.call.config) ∙ enabled) c.in_ok-time_enabled.ensures.call (
-          option_stops _ _ _ _ (ap (λ k. has_time_running (configuration_of k).read_format) (c.in_ok-time_enabled.ensures.call.config ∙ c.in_ok-count.ensures.call.config) ∙ running) c.in_err-time_running.ensures.call))));
-    })
-
-pub returns-in-None : goal.returns-in-None
-returns-in-None g c =
-    let asked : read_format_bits c.read_format-format.result ≡ (configuration_of c.args.reader.now.config).read_format = c.read_format-format.ensures ∙ ap (λ k. (configuration_of k).read_format) c.config.ensures in
-    let grouped : has_group (configuration_of c.args.reader.now.config).read_format ≡ true = bit_is 3 _ _ _ _ asked (c.contains.ensures tt) (contains_group _) ∙ c.if-not-contains.false in
-    let known : is_known (configuration_of c.args.reader.now.config).read_format ≡ true = ap is_known (sym asked) ∙ (sym c.is_known.ensures ∙ c.if-not-is_known.false) in
-    let enabled : has_time_enabled (configuration_of c.args.reader.now.config).read_format ≡ c.contains-2.result = bit_is 0 _ _ _ _ asked (c.contains-2.ensures tt) (contains_time_enabled _) in
-    let running : has_time_running (configuration_of c.args.reader.now.config).read_format ≡ c.contains-3.result = bit_is 1 _ _ _ _ asked (c.contains-3.ensures tt) (contains_time_running _) in
-    let size : c.element_len.result ≡ element_len (configuration_of c.args.reader.now.config).read_format = c.element_len.ensures ∙ ap element_len asked in
-    let small : nat_lt (c.in_ok-count.count * element_len (configuration_of c.args.reader.now.config).read_format) (2 ^ 64) ≡ false = subst (λ k. nat_lt (c.in_ok-count.count * k) (2 ^ 64) ≡ false) size (product_uncounted _ _ c.checked_mul.ensures c.in-None.is) in
-    record {
-      call = check_holds _ _ _ grouped (check_holds _ _ _ known (
-          part_after _ _ _ c.in_ok-count.ensures.call (
-          option_after _ _ _ _ (ap (λ k. has_time_enabled (configuration_of k).read_format) (c.in_ok-count.ensures.call.config) ∙ enabled) c.in_ok-time_enabled.ensures.call (
-          option_after _ _ _ _ (ap (λ k. has_time_running (configuration_of k).read_format) (c.in_ok-time_enabled.ensures.call.config ∙ c.in_ok-count.ensures.call.config) ∙ running) c.in_ok-time_running.ensures.call (
-          check_fails _ _ _ refl (ap (λ k. nat_lt (c.in_ok-count.count * element_len (configuration_of k).read_format) (2 ^ 64)) (c.in_ok-time_running.ensures.call.config ∙ c.in_ok-time_enabled.ensures.call.config ∙ c.in_ok-count.ensures.call.config) ∙ small))))));
-    }
 
 pub returns-in_err-words : goal.returns-in_err-words
 returns-in_err-words g c =
@@ -127,13 +58,3 @@ returns g c =
           words_after _ _ _ (ap (λ k. c.in_ok-count.count * element_len (configuration_of k).read_format) (c.in_ok-time_running.ensures.call.config ∙ c.in_ok-time_enabled.ensures.call.config ∙ c.in_ok-count.ensures.call.config) ∙ many) c.in_ok-words.ensures.call (
           call_gives value (ap (λ k. value (configuration_of k)) (c.in_ok-words.ensures.call.config ∙ c.in_ok-time_running.ensures.call.config ∙ c.in_ok-time_enabled.ensures.call.config ∙ c.in_ok-count.ensures.call.config) ∙ rw (numbered, lossy) refl))))))));
     }
-
-pub invariant_of-result : goal.invariant_of-result
-invariant_of-result g c =
-    let w = read_format_bits c.read_format-format.result in
-    let numbered : has_id w ≡ c.contains-4.result = bit_is 2 _ _ _ _ refl (c.contains-4.ensures tt) (contains_counter_id _) in
-    let lossy : has_lost w ≡ c.contains-5.result = bit_is 4 _ _ _ _ refl (c.contains-5.ensures tt) (contains_counter_lost _) in
-    let size : c.element_len.result ≡ block_len c.contains-4.result c.contains-5.result = c.element_len.ensures ∙ (ap (λ b. block_len b (has_lost w)) numbered ∙ ap (λ b. block_len c.contains-4.result b) lossy) in
-    let fits = product_counted _ _ _ c.checked_mul.ensures c.in-Some.is in
-    let many : length c.in_ok-words.words.items ≡ c.in_ok-count.count * block_len c.contains-4.result c.contains-5.result = c.in_ok-words.ensures.length ∙ (sym fits.0 ∙ ap (λ k. c.in_ok-count.count * k) size) in
-    record { whole = ap (λ n. n % block_len c.contains-4.result c.contains-5.result) many ∙ counted_blocks c.contains-4.result c.contains-5.result c.in_ok-count.count }

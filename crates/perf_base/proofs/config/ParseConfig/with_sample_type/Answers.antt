@@ -1,5 +1,0 @@
-use Rattle.std.proofs.Common.{rules}
-use Rattle.perf_base.proofs.config.ParseConfig.with_sample_type.Goals as goal
-
-pub returns-clause-changed : goal.returns-clause-changed
-returns-clause-changed g c = search rules steps 300000

@@ -1,5 +1,0 @@
-use Rattle.std.proofs.Common.{rules}
-use Rattle.perf_base.proofs.endian.NativeEndian.convert_u16.Goals as goal
-
-pub returns : goal.returns
-returns c = search rules steps 300000

@@ -1,5 +1,0 @@
-use Rattle.std.proofs.Common.{rules}
-use Rattle.perf_base.proofs.reads.ReadCounter.new.Goals as goal
-
-pub returns : goal.returns
-returns c = search rules steps 300000

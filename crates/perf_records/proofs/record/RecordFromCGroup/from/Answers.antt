@@ -1,5 +1,0 @@
-use Rattle.std.proofs.Common.{refl}
-use Rattle.perf_records.proofs.record.RecordFromCGroup.from.Goals as goal
-
-pub returns : goal.returns
-returns c = refl

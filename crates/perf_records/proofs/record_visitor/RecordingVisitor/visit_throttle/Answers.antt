@@ -1,5 +1,0 @@
-use Rattle.std.proofs.Common.{refl}
-use Rattle.perf_records.proofs.record_visitor.RecordingVisitor.visit_throttle.Goals as goal
-
-pub returns : goal.returns
-returns g c = c.record.ensures _ refl (λ _. tt)

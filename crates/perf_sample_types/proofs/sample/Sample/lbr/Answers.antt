@@ -1,5 +1,0 @@
-use Rattle.std.proofs.Common.{rules}
-use Rattle.perf_sample_types.proofs.sample.Sample.lbr.Goals as goal
-
-pub returns-in_default : goal.returns-in_default
-returns-in_default c = search rules steps 300000
