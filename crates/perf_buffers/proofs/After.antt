@@ -1,11 +1,11 @@
 -- A call after others, and what its result states for all of them.
-use Rattle.std.proofs.Common.{◌≡◌, ℕ, ◌<◌, ◌≤◌, List, drop, arith, refl}
+use Rattle.std.proofs.Common.{◌≡◌, ℕ, List, drop, arith, refl}
 use Rattle.std.proofs.lemmas.Bool.Decides.{nat_tests}
-use Rattle.std.specs.Prelude.{Option, None, Some, Bool, true, false, nat_lt}
+use Rattle.std.specs.Prelude.{None, Some, Bool, true, false}
 use Rattle.perf_base.specs.declared.error.ErrorKind.{ErrorKind}
 use Rattle.perf_base.specs.declared.error.ErrorKind.TheVariants.{OutOfMemory}
 use Rattle.perf_buffers.specs.Buffer.{Source, faults_after}
-use Rattle.perf_buffers.specs.Room.{falls_short, makes_all_room, first_capacity}
+use Rattle.perf_buffers.specs.Room.{makes_all_room, first_capacity}
 use Rattle.perf_buffers.specs.Taking.{FailsToKeep, CanFail}
 
 -- all capacity is as much as requested

@@ -1,15 +1,10 @@
 -- A chunk that a buffer showed or refused, and what follows for the call that asked for it.
-use Rattle.std.proofs.Common.{◌≡◌, ℕ, ◌<◌, ◌≤◌, List, [], length, take, drop, sym, ◌∙◌, ap, arith, refl, rules}
-use Rattle.std.proofs.lemmas.List.{length-take-le, take-take, take-append-le}
-use denote.Enum.Bare.{sameb, same_true}
-use Rattle.std.specs.Prelude.{◌≢◌, Option, None, Some, Result, Ok, Err, IsErr, IsErrAnd, IsTrue, Bool, true, false, if◌then◌else◌, ◌++◌}
-use Rattle.perf_base.specs.Errors.{kind_of}
-use Rattle.perf_base.specs.contracts.error.ErrorKind.{the_type}
+use Rattle.std.proofs.Common.{◌≡◌, ℕ, ◌≤◌, List, [], length, take, ◌∙◌, ap, refl}
+use Rattle.std.specs.Prelude.{◌≢◌, Option, None, Some, IsTrue, Bool, false, if◌then◌else◌}
 use Rattle.perf_base.specs.declared.error.ErrorKind.{ErrorKind}
-use Rattle.perf_base.specs.declared.error.ErrorKind.TheVariants.{Eof, InvalidRecord, UnsupportedConfig, UnsupportedData, External, OutOfMemory}
-use Rattle.perf_base.specs.declared.error.ParseError.{ParseError}
-use Rattle.perf_buffers.specs.Buffer.{Source, BufferInvariant, Refuses, Shows, chunk_bytes, faults_after}
-use Rattle.perf_buffers.specs.Taking.{Moves, MovesWithin, Takes, FailsToTake, FailsToKeep, FailsInRest, CanFail, bytes_between}
+use Rattle.perf_base.specs.declared.error.ErrorKind.TheVariants.{Eof, OutOfMemory}
+use Rattle.perf_buffers.specs.Buffer.{Source, BufferInvariant, Shows, chunk_bytes, faults_after}
+use Rattle.perf_buffers.specs.Taking.{Takes, FailsToTake, FailsToKeep, FailsInRest, CanFail}
 use Rattle.perf_buffers.specs.declared.parsebuf.ParseBufChunk.{ParseBufChunk}
 
 -- calls that were not refused, and then another call

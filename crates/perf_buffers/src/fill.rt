@@ -134,7 +134,10 @@ pub(crate) fn append<'p, B: ParseBuf<'p>>(
 {
     let mut at = 0;
     while at < len {
-        at += append_some(buf, out, len - at)?;
+        at += match append_some(buf, out, len - at) {
+            Ok(count) => count,
+            Err(error) => return Err(error),
+        };
     }
     Ok(())
 }

@@ -51,9 +51,12 @@ pub fn take_zeros<'p, B: ParseBuf<'p>>(buf: &mut B, len: usize) -> ParseResult<b
     let mut at = 0;
     let mut zero = true;
     while at < len {
-        let taken = take_some_zeros(buf, len - at)?;
-        at += taken.0;
-        zero &= taken.1;
+        let (count, more) = match take_some_zeros(buf, len - at) {
+            Ok(taken) => taken,
+            Err(error) => return Err(error),
+        };
+        at += count;
+        zero &= more;
     }
     Ok(zero)
 }

@@ -5,7 +5,7 @@ use Rattle.perf_buffers.proofs.fill.append.Goals as goal
 
 pub loop-at-preserved : goal.loop-at-preserved
 loop-at-preserved g c =
-    let i = c.loop-at.invariant in let e = c.in_ok-at.ensures in let n = c.in_ok-at.field-0 in (
+    let i = c.loop-at.invariant in let e = c.in-Ok.ensures in let n = c.in-Ok.count in (
       omega (arith, i.0, e.count.1),
       stays_then (g.B.ParseBuf.source c.args.buf.now) (g.B.ParseBuf.source c.loop-at.buf) (g.B.ParseBuf.source c.append_some.new.buf) None i.1 e.stays,
       omega (arith, i.2, e.count.2),
