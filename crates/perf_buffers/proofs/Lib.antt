@@ -1,5 +1,4 @@
 pub mod Taking
 pub mod Options
-pub mod Hints
 pub mod Chunks
 pub mod After

@@ -1,6 +1,6 @@
 -- What is listed of a frame after its header.
 use Rattle.std.proofs.Common.{◌≡◌, ◌∷◌, [], ◌++◌, Ok, Err, sym, subst, true}
-use Rattle.std.specs.Prelude.{ℕ, IsTrue, Option, drop}
+use Rattle.std.specs.Prelude.{ℕ, IsTrue, Option, Result, IfErr, OnErr, OnOk, drop}
 use Rattle.perf_base.specs.Order.{Order}
 use Rattle.perf_base.specs.Refusals.{refusal_kind}
 use Rattle.perf_base.specs.declared.error.ErrorKind.{ErrorKind}
@@ -45,7 +45,7 @@ module _ {B E : Type 0} (source : B → Source) (hint : B → Option ℕ) (order
     called = same_call source order (ReadsFrameAfter h) old mid new (Err (refusal_kind r)) buf config reads call
 
     -- by the layout
-    pub lists_refused : ListsRefused h r was now → ListsFrame source hint order h old new was now (Ok tt)
+    lists_refused : ListsRefused h r was now → ListsFrame source hint order h old new was now (Ok tt)
     lists_refused listed =
         let P : ErrorKind → Type 0 = λ k. Call (λ (o : Outer B). source o.buf) order (ReadsFrameAfter h) old (Err k) new in record {
           within = still;
@@ -57,7 +57,7 @@ module _ {B E : Type 0} (source : B → Source) (hint : B → Option ℕ) (order
         }
 
     -- otherwise
-    pub lists_none : (e : Refusal) → (e ≡ r) × (IsTrue (of_layout (refusal_kind r)) → ⊥) → now ≡ was →
+    lists_none : (e : Refusal) → (e ≡ r) × (IsTrue (of_layout (refusal_kind r)) → ⊥) → now ≡ was →
         (IsTrue (source (buffer_of old)).told → IsTrue (source (buffer_of old)).whole → refusal_kind r ≡ OutOfMemory → (source (buffer_of mid)).left ≡ drop (length_after h) (source (buffer_of old)).left) →
         ListsFrame source hint order h old new was now (Err e)
     lists_none e stops kept spent = subst (λ x. ListsFrame source hint order h old new was now (Err x)) (sym stops.0) (record {
@@ -68,3 +68,10 @@ module _ {B E : Type 0} (source : B → Source) (hint : B → Option ℕ) (order
       stops = (stops.1, called);
       spent = λ told whole kind. subst (λ b. (source b).left ≡ drop (length_after h) (source (buffer_of old)).left) (sym buf) (spent told whole kind);
     })
+
+    -- whichever it was
+    pub lists_rest : (outcome : Result (Unit {0}) Refusal) → OnOk outcome (ListsRefused h r was now) → IfErr outcome (λ e. (e ≡ r) × (IsTrue (of_layout (refusal_kind r)) → ⊥)) → OnErr outcome (now ≡ was) →
+        (IsTrue (source (buffer_of old)).told → IsTrue (source (buffer_of old)).whole → refusal_kind r ≡ OutOfMemory → (source (buffer_of mid)).left ≡ drop (length_after h) (source (buffer_of old)).left) →
+        ListsFrame source hint order h old new was now outcome
+    lists_rest (Ok tt) listed stops kept spent = lists_refused listed
+    lists_rest (Err e) listed stops kept spent = lists_none e stops kept spent

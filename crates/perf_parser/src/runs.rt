@@ -134,10 +134,7 @@ fn list_answer<'p, B: ParseBuf<'p>, E: Endian>(
             list_record(frames, header, record);
             Ok(())
         }
-        Err(refusal) => match list_refused(reader, frames, header, refusal) {
-            Ok(()) => Ok(()),
-            Err(refusal) => Err(refusal),
-        },
+        Err(refusal) => list_refused(reader, frames, header, refusal),
     }
 }
 
@@ -172,10 +169,7 @@ fn list_sample<'p, B: ParseBuf<'p>, E: Endian>(
             list_boxed(frames, header, sample);
             Ok(())
         }
-        Err(refusal) => match list_refused(reader, frames, header, refusal) {
-            Ok(()) => Ok(()),
-            Err(refusal) => Err(refusal),
-        },
+        Err(refusal) => list_refused(reader, frames, header, refusal),
     }
 }
 

@@ -1,5 +1,5 @@
 -- What a call on a frame keeps.
-use Rattle.std.proofs.Common.{◌≡◌, ℕ, ◌+◌, ◌-◌, ◌≤◌, ◌<◌, [], length, drop, Bool, true, false, refl, arith, sym, ◌∙◌, ap, length-drop}
+use Rattle.std.proofs.Common.{◌≡◌, ℕ, ◌+◌, ◌-◌, ◌≤◌, ◌<◌, [], length, Bool, true, false, refl, arith, sym, ◌∙◌, ap, length-drop}
 use Rattle.std.proofs.lemmas.List.{drop_all}
 use Rattle.std.specs.Prelude.{Option, None, Some, IsTrue, ◌≢◌}
 use Rattle.perf_base.specs.declared.error.ErrorKind.{ErrorKind}

@@ -3,10 +3,8 @@ use Rattle.std.proofs.Common.{Bool, true, false, refl}
 use Rattle.std.specs.Prelude.{Option, Some, None, IfSome, IsTrue, ◌&&◌}
 use Rattle.perf_base.specs.Cow.{is_borrowed}
 use Rattle.perf_sample_types.specs.SampleGroups.{IsBorrowedSample}
-use Rattle.perf_types.specs.TextPoke.{IsBorrowedTextPoke}
 use Rattle.perf_sample_types.specs.declared.sample.Sample.{Sample}
-use Rattle.perf_types.specs.declared.text_poke.TextPoke.{TextPoke}
-use Rattle.perf_records.specs.Gives.{is_borrowed_sample, is_borrowed_text_poke}
+use Rattle.perf_records.specs.Gives.{is_borrowed_sample}
 
 borrowed_if : {X : Type 0} (f : X → Bool) (o : Option X) → IfSome o (λ x. IsTrue (f x)) → IsTrue (elim o [ Some x ↦ f x | None ↦ true ])
 borrowed_if f (Some x) p = p

@@ -21,6 +21,7 @@ use Rattle.perf_records.specs.declared.record.Record.TheVariants as record_of
 use Rattle.perf_records.specs.declared.record_type.RecordType.TheVariants as type
 use Rattle.perf_sample_types.specs.declared.sample.Sample.{Sample}
 use Rattle.perf_sample_types.specs.Sample.{sample}
+use Rattle.perf_sample_types.specs.SampleEmpty.{fill_result}
 use Rattle.perf_sample_types.specs.SampleBoxed.{boxed_value, IsBorrowedBox}
 use Rattle.perf_sample_types.specs.SampleGroups.{IsBorrowedSample}
 use Rattle.perf_reader.specs.TableRuns.{ReadsBorrowed}
@@ -78,19 +79,15 @@ module _ {I E : Type 0} {source : I → Source} {order : E → Order} (m : Metad
 
 -- ---- samples
 module _ {I E : Type 0} {source : I → Source} {order : E → Order} (m : MetadataValue) {a b : Reader I E} where
-  -- one that was read into a box
-  pub boxed_visit : (content : Box Sample Global) → Call source order (ReadsBorrowed sample boxed_value IsBorrowedBox) a (Ok content) b → Call source order (GivesType IsSampleOf m type.Sample) a (Ok content) b
-  boxed_visit content call = visited IsSampleOf m sample boxed_value sample_is (is_borrowed_sample content.value) true (refl, borrowed_sample content.value) (λ t w. sample_borrowed content.value ((call.answer t).1 w)) (λ is. refl) (of_said (λ transition. transition.0) call)
+  -- one that was read into a box, or refused
+  pub boxed_visit : (outcome : Result (Box Sample Global) ErrorKind) → Call source order (ReadsBorrowed sample boxed_value IsBorrowedBox) a outcome b → Call source order (GivesType IsSampleOf m type.Sample) a outcome b
+  boxed_visit (Ok content) call = visited IsSampleOf m sample boxed_value sample_is (is_borrowed_sample content.value) true (refl, borrowed_sample content.value) (λ t w. sample_borrowed content.value ((call.answer t).1 w)) (λ is. refl) (of_said (λ transition. transition.0) call)
+  boxed_visit (Err e) call = unvisited IsSampleOf m sample boxed_value sample_is true (λ t w no. let never : true ≡ false = no in absurd (cc)) (of_said (λ transition. transition.0) call)
 
-  pub unboxed_visit : (e : ErrorKind) → Call source order (ReadsBorrowed sample boxed_value IsBorrowedBox) a (Err e) b → Call source order (GivesType IsSampleOf m type.Sample) a (Err e) b
-  unboxed_visit e call = unvisited IsSampleOf m sample boxed_value sample_is true (λ t w no. let never : true ≡ false = no in absurd (cc)) (of_said (λ transition. transition.0) call)
-
-  -- one that was read into the place of another
-  pub placed_visit : (s : Sample) → Call source order (ReadsBorrowed sample sample_value IsBorrowedSample) a (Ok s) b → Call source order (GivesType (λ outcome (x : Unit {0}). IsSampleIn outcome s) m type.Sample) a (Ok tt) b
-  placed_visit s call = visited (λ outcome (x : Unit {0}). IsSampleIn outcome s) m sample sample_value sample_is (is_borrowed_sample s) true (refl, borrowed_sample s) (λ t w. sample_borrowed s ((call.answer t).1 w)) (λ is. refl) (of_said (λ transition. transition.0) call)
-
-  pub unplaced_visit : (s : Sample) (e : ErrorKind) → Call source order (ReadsBorrowed sample sample_value IsBorrowedSample) a (Err e) b → Call source order (GivesType (λ outcome (x : Unit {0}). IsSampleIn outcome s) m type.Sample) a (Err e) b
-  unplaced_visit s e call = unvisited (λ outcome (x : Unit {0}). IsSampleIn outcome s) m sample sample_value sample_is true (λ t w no. let never : true ≡ false = no in absurd (cc)) (of_said (λ transition. transition.0) call)
+  -- one that was read into the place of another, or refused
+  pub placed_visit : (s : Sample) (outcome : Result (Unit {0}) ErrorKind) → Call source order (ReadsBorrowed sample sample_value IsBorrowedSample) a (fill_result outcome s) b → Call source order (GivesType (λ seen (x : Unit {0}). IsSampleIn seen s) m type.Sample) a outcome b
+  placed_visit s (Ok tt) call = visited (λ outcome (x : Unit {0}). IsSampleIn outcome s) m sample sample_value sample_is (is_borrowed_sample s) true (refl, borrowed_sample s) (λ t w. sample_borrowed s ((call.answer t).1 w)) (λ is. refl) (of_said (λ transition. transition.0) call)
+  placed_visit s (Err e) call = unvisited (λ outcome (x : Unit {0}). IsSampleIn outcome s) m sample sample_value sample_is true (λ t w no. let never : true ≡ false = no in absurd (cc)) (of_said (λ transition. transition.0) call)
 
 -- a sample in its box is the record of its body
 module _ {I E : Type 0} {source : I → Source} {order : E → Order} (m : MetadataValue) {a b : Reader I E} where
@@ -109,6 +106,6 @@ body_transition h old new (Err e) v = v
 pub body_borrows : (h : perf_event_header) (from : Bool) (r : Record) → BelongsTo IsRecordOf h from r → IsTrue from → IsBorrowed r
 body_borrows h from r b whole = b.1.1 (b.4 whole)
 
-pub body_borrows_if : (h : perf_event_header) (from : Bool) (result : Result Record Refusal) → IfOk result (λ r. BelongsTo IsRecordOf h from r) → IsTrue from → IfOk result (λ r. IsBorrowed r)
+pub body_borrows_if : (h : perf_event_header) (from : Bool) (result : Result Record Refusal) → IfOk result (λ r. BelongsTo IsRecordOf h from r) → IsTrue from → IfOk (kinds result) IsBorrowed
 body_borrows_if h from (Ok r) b whole = body_borrows h from r b whole
 body_borrows_if h from (Err e) b whole = tt

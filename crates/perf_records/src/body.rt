@@ -13,6 +13,7 @@ use crate::visitor::Visitor;
 use perf_base::{Endian, ReadResult};
 use perf_buffers::input::Input;
 use perf_reader::reader::Reader;
+use perf_sample_types::read_sample;
 use perf_sample_types::sample::{empty_sample, fill_sample};
 use perf_types::{
     Aux, AuxOutputHwId, BpfEvent, CGroup, Comm, Exit, ITraceStart, KSymbol, Lost, LostSamples,
@@ -135,14 +136,8 @@ fn visit_sample<'p, I: Input<'p>, E: Endian, V: Visitor<'p>>(
     ensures call { Call I.source E.order (GivesType V.gives metadata RecordType.Sample)
         reader.old (kinds result) reader.new }
 {
-    let mut content = empty_sample();
-    match fill_sample(&mut content, reader) {
-        Ok(()) => Ok(visitor.visit_sample(content, metadata)),
-        Err(refusal) => {
-            drop(content);
-            Err(refusal)
-        }
-    }
+    read_sample!(reader, fill_sample, content = empty_sample() =>
+        visitor.visit_sample(content, metadata))
 }
 
 #[inline(never)]

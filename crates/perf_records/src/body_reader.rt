@@ -236,10 +236,7 @@ impl<'p, I: Input<'p>> ReadBody<'p, (), I> for AsSample {
         metadata: RecordMetadata,
         state: &mut (),
     ) -> ReadResult<Self::Output> {
-        match read_boxed_sample(reader) {
-            Ok(sample) => Ok(sample),
-            Err(refusal) => Err(refusal),
-        }
+        read_boxed_sample(reader)
     }
 }
 
@@ -277,9 +274,6 @@ impl<'p, I: Input<'p>> ReadBody<'p, Sample<'p>, I> for IntoSample {
         metadata: RecordMetadata,
         state: &mut Sample<'p>,
     ) -> ReadResult<Self::Output> {
-        match refill_sample(state, reader) {
-            Ok(()) => Ok(()),
-            Err(refusal) => Err(refusal),
-        }
+        refill_sample(state, reader)
     }
 }

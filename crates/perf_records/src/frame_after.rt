@@ -197,13 +197,7 @@ impl HasTransition for Record<'_> {
 impl<'p, B: ParseBuf<'p>> ReadFrom<'p, Outer<B>> for Record<'p> {
     #[inline]
     fn read<E: Endian>(reader: &mut Reader<Outer<B>, E>) -> ReadResult<Self> {
-        let header = match reader.read::<perf_event_header>() {
-            Ok(header) => header,
-            Err(refusal) => return Err(refusal),
-        };
-        match read_after(reader, header, AsRecord, &mut ()) {
-            Ok(record) => Ok(record),
-            Err(refusal) => Err(refusal),
-        }
+        let header = reader.read::<perf_event_header>()?;
+        read_after(reader, header, AsRecord, &mut ())
     }
 }

@@ -19,6 +19,7 @@ use perf_event_data::{
 };
 use perf_reader::reader::Reader;
 use perf_records::body_reader::{BodyReader, ByVisitor, IntoSample, OfBody, ReadBody, read_from};
+use perf_sample_types::read_sample;
 use perf_sample_types::sample::{empty_sample, fill_sample};
 use std::alloc::Global;
 
@@ -111,11 +112,7 @@ impl<'p, I: Input<'p>> ReadBody<'p, (), I> for SampleSum {
         metadata: RecordMetadata,
         state: &mut (),
     ) -> ReadResult<u64> {
-        let mut sample = empty_sample();
-        match fill_sample(&mut sample, reader) {
-            Ok(()) => Ok(sample_sum(&sample)),
-            Err(refusal) => Err(refusal),
-        }
+        read_sample!(reader, fill_sample, sample = empty_sample() => sample_sum(&sample))
     }
 }
 

@@ -1,50 +1,28 @@
--- The fields of a sample id, by which of them are present, and how many bytes they take.
+-- The two groups in which the fields of a sample id are read, and how many bytes they take.
 use Rattle.std.specs.Prelude.{◌≡◌, ℕ, ◌<◌, Ok, Err, IsTrue, length, drop}
 use Rattle.perf_base.specs.FieldWords.{u32_if, u64_if, gap_if}
 use Rattle.perf_base.specs.Layout.{Parts, done, ◌>>=◌, ◌>>◌}
 use Rattle.perf_reader.specs.Reading.{Transition, of_layout}
 use Rattle.perf_sample_types.specs.SampleId.{SampleIdValue, first_of}
-use Rattle.perf_sample_types.specs.declared.sample_id.Present.{Present}
+use Rattle.perf_sample_types.specs.SampleId.{has_tid, has_time, has_id, has_stream_id, has_cpu, has_identifier}
 use Rattle.perf_sample_types.specs.declared.sample_id.Origin.{Origin}
 
--- the fields that are present, one after another
-abbrev pub fields_of : Present → Parts SampleIdValue
-fields_of has = do
-  pid ← u32_if has.tid
-  tid ← u32_if has.tid
-  time ← u64_if has.time
-  id ← u64_if has.id
-  stream_id ← u64_if has.stream_id
-  cpu ← u32_if has.cpu
-  gap_if has.cpu 4
-  identifier ← u64_if has.identifier
-  done (record {
-    pid = pid;
-    tid = tid;
-    time = time;
-    id = first_of id identifier;
-    stream_id = stream_id;
-    cpu = cpu;
-  })
-
--- ---- in two groups, as they are read; `proofs/Origins` shows that they are the fields
-
--- the task, the time and the id
-abbrev pub origin : Present → Parts Origin
-origin has = do
-  pid ← u32_if has.tid
-  tid ← u32_if has.tid
-  time ← u64_if has.time
-  id ← u64_if has.id
+-- the task, the time and the id of a sample type
+abbrev pub origin : ℕ → Parts Origin
+origin sample_type = do
+  pid ← u32_if (has_tid sample_type)
+  tid ← u32_if (has_tid sample_type)
+  time ← u64_if (has_time sample_type)
+  id ← u64_if (has_id sample_type)
   done (record { pid = pid; tid = tid; time = time; id = id })
 
--- the fields after these
-abbrev pub after_origin : Present → Origin → Parts SampleIdValue
-after_origin has o = do
-  stream_id ← u64_if has.stream_id
-  cpu ← u32_if has.cpu
-  gap_if has.cpu 4
-  identifier ← u64_if has.identifier
+-- the fields after these; `proofs/Origins` shows that both are the fields
+abbrev pub after_origin : ℕ → Origin → Parts SampleIdValue
+after_origin sample_type o = do
+  stream_id ← u64_if (has_stream_id sample_type)
+  cpu ← u32_if (has_cpu sample_type)
+  gap_if (has_cpu sample_type) 4
+  identifier ← u64_if (has_identifier sample_type)
   done (record {
     pid = o.pid;
     tid = o.tid;

@@ -65,10 +65,8 @@ fn read_shown<'p, I: Input<'p>, E: Endian>(
     }
     let len = SIZE * count;
     convert(reader.endian(), &front[..len], branches);
-    match reader.pass(len, ReadCounter::of((NUMBERS * count) as u64)) {
-        Ok(()) => Ok(true),
-        Err(refusal) => Err(refusal),
-    }
+    reader.pass(len, ReadCounter::of((NUMBERS * count) as u64))?;
+    Ok(true)
 }
 
 // Reads n branches, one by one. The list is empty.
@@ -85,10 +83,7 @@ fn append_branches<'p, I: Input<'p>, E: Endian>(
 {
     for _ in 0..count {
         let mut numbers = [0; NUMBERS];
-        match reader.read_block(&mut numbers) {
-            Ok(()) => (),
-            Err(refusal) => return Err(refusal),
-        }
+        reader.read_block(&mut numbers)?;
         let [from, to, word] = numbers;
         if entries
             .push(BranchEntry::from_words(from, to, word))
@@ -121,11 +116,10 @@ pub(crate) fn read_branches<'p, I: Input<'p>, E: Endian>(
         if entries.resize(count, none).is_err() {
             return Err(Refusal::OutOfMemory);
         }
-        match read_shown(reader, entries.as_mut_slice()) {
-            Ok(true) => return Ok(entries),
-            Ok(false) => entries.clear(),
-            Err(refusal) => return Err(refusal),
+        if read_shown(reader, entries.as_mut_slice())? {
+            return Ok(entries);
         }
+        entries.clear();
     }
     append_branches(reader, entries, count)
 }

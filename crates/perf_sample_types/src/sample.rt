@@ -18,7 +18,6 @@ use crate::sample_made::{
     aux_of, branches_of, call_chain_of, cpu_of, interrupt_registers_of, raw_of, stack_of, task_of,
     user_registers_of,
 };
-use crate::sample_parts::Branches;
 use bitflags::Flags;
 use perf_base::{Endian, ParseConfig, ParseResult, ReadResult};
 use perf_buffers::input::Input;
@@ -103,10 +102,7 @@ impl<'a> Sample<'a> {
         ensures { result ≡
             (samples.getters_of (samples.sample_value self.now)).pid }
     {
-        match &self.moment.task {
-            Some(task) => task.pid,
-            None => None,
-        }
+        self.moment.task?.pid
     }
 
     /// Its thread (`PERF_SAMPLE_TID`).
@@ -115,10 +111,7 @@ impl<'a> Sample<'a> {
         ensures { result ≡
             (samples.getters_of (samples.sample_value self.now)).tid }
     {
-        match &self.moment.task {
-            Some(task) => task.tid,
-            None => None,
-        }
+        self.moment.task?.tid
     }
 
     /// When it happened, in nanoseconds of the event's clock (`PERF_SAMPLE_TIME`).
@@ -168,10 +161,7 @@ impl<'a> Sample<'a> {
         ensures { result ≡
             (samples.getters_of (samples.sample_value self.now)).cpu }
     {
-        match &self.moment.cpu {
-            Some(cpu) => Some(cpu.0),
-            None => None,
-        }
+        Some(self.moment.cpu?.0)
     }
 
     /// How many events the sample stands for (`PERF_SAMPLE_PERIOD`).
@@ -202,10 +192,7 @@ impl<'a> Sample<'a> {
         ensures { option_map (λ items. items.now) result ≡
             (samples.getters_of (samples.sample_value self.now)).callchain }
     {
-        match &self.counts.call_chain {
-            Some(chain) => Some(chain.0.as_slice()),
-            None => None,
-        }
+        Some(self.counts.call_chain.as_ref()?.0.as_slice())
     }
 
     /// Bytes that the event wrote, such as the fields of a tracepoint (`PERF_SAMPLE_RAW`).
@@ -214,10 +201,7 @@ impl<'a> Sample<'a> {
         ensures { option_map (λ bytes. bytes.now) result ≡
             (samples.getters_of (samples.sample_value self.now)).raw }
     {
-        match &self.state.raw {
-            Some(bytes) => Some(bytes.0.as_slice()),
-            None => None,
-        }
+        Some(self.state.raw.as_ref()?.0.as_slice())
     }
 
     /// The position of the newest branch in the hardware's own list (`PERF_SAMPLE_BRANCH_STACK` and
@@ -227,10 +211,7 @@ impl<'a> Sample<'a> {
         ensures { result ≡
             (samples.getters_of (samples.sample_value self.now)).lbr_hw_index }
     {
-        match &self.state.branches {
-            Some(branches) => branches.hw_index,
-            None => None,
-        }
+        self.state.branches.as_ref()?.hw_index
     }
 
     /// Branches, the newest first (`PERF_SAMPLE_BRANCH_STACK`).
@@ -239,15 +220,8 @@ impl<'a> Sample<'a> {
         ensures { option_map (λ entries. entries.now) result ≡
             (samples.getters_of (samples.sample_value self.now)).lbr }
     {
-        match &self.state.branches {
-            Some(
-                Branches {
-                    entries: Some(entries),
-                    ..
-                },
-            ) => Some(entries.as_slice()),
-            _ => None,
-        }
+        let branches = self.state.branches.as_ref()?;
+        Some(branches.entries.as_ref()?.as_slice())
     }
 
     /// The registers of the task's user-space code (`PERF_SAMPLE_REGS_USER`).
@@ -256,10 +230,7 @@ impl<'a> Sample<'a> {
         ensures { option_map (λ regs. registers_value regs.now) result ≡
             (samples.getters_of (samples.sample_value self.now)).regs_user }
     {
-        match &self.state.regs_user {
-            Some(registers) => Some(&registers.0),
-            None => None,
-        }
+        Some(&self.state.regs_user.as_ref()?.0)
     }
 
     /// What the kernel copied of the task's user stack, from its top on: as many bytes as were used
@@ -269,10 +240,7 @@ impl<'a> Sample<'a> {
         ensures { option_map (λ bytes. bytes.now) result ≡
             (samples.getters_of (samples.sample_value self.now)).stack_user }
     {
-        match &self.state.stack_user {
-            Some(bytes) => Some(bytes.0.as_slice()),
-            None => None,
-        }
+        Some(self.state.stack_user.as_ref()?.0.as_slice())
     }
 
     /// How costly the event was, such as a latency in cycles (`PERF_SAMPLE_WEIGHT` or
@@ -310,10 +278,7 @@ impl<'a> Sample<'a> {
         ensures { option_map (λ regs. registers_value regs.now) result ≡
             (samples.getters_of (samples.sample_value self.now)).regs_intr }
     {
-        match &self.costs.regs_intr {
-            Some(registers) => Some(&registers.0),
-            None => None,
-        }
+        Some(&self.costs.regs_intr.as_ref()?.0)
     }
 
     /// The physical address of [`Sample::addr`] (`PERF_SAMPLE_PHYS_ADDR`).
@@ -332,10 +297,7 @@ impl<'a> Sample<'a> {
         ensures { option_map (λ bytes. bytes.now) result ≡
             (samples.getters_of (samples.sample_value self.now)).aux }
     {
-        match &self.memory.aux {
-            Some(bytes) => Some(bytes.0.as_slice()),
-            None => None,
-        }
+        Some(self.memory.aux.as_ref()?.0.as_slice())
     }
 
     /// The id of the task's control group (`PERF_SAMPLE_CGROUP`).
@@ -387,6 +349,22 @@ impl<'a> Sample<'a> {
     }
 }
 
+/// Fills an empty place with a sample, and returns what is made of it there: a sample is large, and
+/// each function that it is passed through moves it. A sample that is refused is dropped.
+#[macro_export]
+macro_rules! read_sample {
+    ($reader:ident, $fill:ident, $sample:ident = $place:expr => $made:expr) => {{
+        let mut $sample = $place;
+        match $fill(&mut $sample, $reader) {
+            Ok(()) => Ok($made),
+            Err(refusal) => {
+                drop($sample);
+                Err(refusal)
+            }
+        }
+    }};
+}
+
 impl HasTransition for Sample<'_> {
     ghost transition = { ReadsBorrowed samples.sample samples.sample_value samples.IsBorrowedSample };
 }
@@ -398,14 +376,7 @@ impl HasTransition for Sample<'_> {
 impl<'p, I: Input<'p>> ReadFrom<'p, I> for Sample<'p> {
     #[inline]
     fn read<E: Endian>(reader: &mut Reader<I, E>) -> ReadResult<Self> {
-        let mut sample = empty_sample();
-        match fill_sample(&mut sample, reader) {
-            Ok(()) => Ok(sample),
-            Err(refusal) => {
-                drop(sample);
-                Err(refusal)
-            }
-        }
+        read_sample!(reader, fill_sample, sample = empty_sample() => sample)
     }
 }
 

@@ -11,6 +11,7 @@ ghost use Rattle.perf_sample_types.specs.SampleGroups as groups;
 ghost use Rattle.perf_sample_types.specs.Prelude as samples;
 ghost use Rattle.perf_sample_types.specs.Prelude.{Call, ReadsBorrowed, ReadsTable, kinds};
 
+use crate::read_sample;
 use crate::sample::{Sample, empty_sample, fill_fields, least_len};
 use crate::sample_groups::{Costs, Counts, Memory, Moment, State};
 use perf_base::{Endian, ReadResult, Refusal};
@@ -122,18 +123,12 @@ pub fn read_boxed_sample<'p, I: Input<'p>, E: Endian>(
     if reader.has_bytes(least_len(reader.config())) == Some(false) {
         return Err(refuse_sample(reader));
     }
-    let mut content = match Box::new(reader.alloc(), empty_sample()) {
-        Ok(content) => content,
+    let empty = match Box::new(reader.alloc(), empty_sample()) {
+        Ok(empty) => empty,
         Err(error) => {
             drop(error);
             return Err(refuse_sample(reader));
         }
     };
-    match fill_fields(&mut content, reader) {
-        Ok(()) => Ok(content),
-        Err(refusal) => {
-            drop(content);
-            Err(refusal)
-        }
-    }
+    read_sample!(reader, fill_fields, content = empty => content)
 }

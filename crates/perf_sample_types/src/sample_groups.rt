@@ -95,11 +95,10 @@ impl Moment {
             (λ _. ⊤))
             reader.old (fill_result (kinds result) self.new) reader.new }
     {
-        match self.fill_shown(reader) {
-            Ok(true) => Ok(()),
-            Ok(false) => self.fill_by_field(reader),
-            Err(refusal) => Err(refusal),
+        if self.fill_shown(reader)? {
+            return Ok(());
         }
+        self.fill_by_field(reader)
     }
 
     // Fills its places from the bytes that the input shows, and takes those. If they are too few,
@@ -127,10 +126,8 @@ impl Moment {
             None => return Ok(false),
         }
         let (len, reads) = row.into_taken(front.len());
-        match reader.pass(len, reads) {
-            Ok(()) => Ok(true),
-            Err(refusal) => Err(refusal),
-        }
+        reader.pass(len, reads)?;
+        Ok(true)
     }
 
     // Takes the fields of its places, which are empty. `None` if there are too few bytes.

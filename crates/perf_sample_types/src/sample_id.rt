@@ -1,9 +1,9 @@
 //! The sample id at the end of records.
-#![tactic(auto, using(perf_reader::proofs::Paying::chain))]
+#![tactic(auto, using(perf_reader::proofs::Paying::chain, crate::proofs::Flags::sample_flags))]
 
 ghost use Rattle.std.specs.Prelude.{◌≡◌, ◌*◌, if◌then◌else◌};
 ghost use Rattle.perf_sample_types.specs.SampleId as ids;
-ghost use Rattle.perf_sample_types.specs.SampleIdFields.{fields_of, origin, after_origin, TakesOrLacks};
+ghost use Rattle.perf_sample_types.specs.SampleIdFields.{origin, after_origin, TakesOrLacks};
 ghost use Rattle.perf_sample_types.specs.Prelude as samples;
 ghost use Rattle.perf_types.specs.Prelude.{Call, ReadsPlain, kinds, configuration_of};
 ghost use Rattle.perf_types.specs.Prelude.{sample_flags_bits};
@@ -138,7 +138,6 @@ impl SampleId {
     /// How many bytes the sample id of a record has under a configuration: eight for each of its
     /// flags that the sample type has, and none without `sample_id_all`.
     #[inline]
-    #[tactic(auto, using(crate::proofs::Flags::sample_flags))]
     pub fn estimate_len<E>(config: &ParseConfig<E>) -> usize
         ensures { result ≡ ids.sample_id_length (configuration_of config.now) }
     {
@@ -205,37 +204,6 @@ impl SampleId {
     }
 }
 
-// Which fields a sample id has.
-#[derive(Copy, Clone)]
-struct Present {
-    tid: bool,
-    time: bool,
-    id: bool,
-    stream_id: bool,
-    cpu: bool,
-    identifier: bool,
-}
-
-#[inline]
-#[tactic(auto, using(crate::proofs::Flags::sample_flags))]
-fn fields_of_type(flags: SampleFlags) -> Present
-    ensures tid { result.tid ≡ ids.has_tid (sample_flags_bits flags) }
-    ensures time { result.time ≡ ids.has_time (sample_flags_bits flags) }
-    ensures id { result.id ≡ ids.has_id (sample_flags_bits flags) }
-    ensures stream_id { result.stream_id ≡ ids.has_stream_id (sample_flags_bits flags) }
-    ensures cpu { result.cpu ≡ ids.has_cpu (sample_flags_bits flags) }
-    ensures identifier { result.identifier ≡ ids.has_identifier (sample_flags_bits flags) }
-{
-    Present {
-        tid: flags.contains(SampleFlags::TID),
-        time: flags.contains(SampleFlags::TIME),
-        id: flags.contains(SampleFlags::ID),
-        stream_id: flags.contains(SampleFlags::STREAM_ID),
-        cpu: flags.contains(SampleFlags::CPU),
-        identifier: flags.contains(SampleFlags::IDENTIFIER),
-    }
-}
-
 #[inline]
 fn padding_len(flag: bool) -> usize
     ensures { result ≡ (if flag then 4 else 0) }
@@ -255,16 +223,18 @@ struct Origin {
 #[inline]
 fn read_origin<'p, I: Input<'p>, E: Endian>(
     reader: &mut Reader<I, E>,
-    has: Present,
+    flags: SampleFlags,
 ) -> ReadResult<Origin>
-    ensures call { Call I.source E.order (ReadsPlain (λ _. origin has) (λ o. o))
+    ensures call { Call I.source E.order
+        (ReadsPlain (λ _. origin (sample_flags_bits flags)) (λ o. o))
         reader.old (kinds result) reader.new }
 {
+    let has_task = flags.contains(SampleFlags::TID);
     Ok(Origin {
-        pid: reader.read_u32_if(has.tid)?,
-        tid: reader.read_u32_if(has.tid)?,
-        time: reader.read_u64_if(has.time)?,
-        id: reader.read_u64_if(has.id)?,
+        pid: reader.read_u32_if(has_task)?,
+        tid: reader.read_u32_if(has_task)?,
+        time: reader.read_u64_if(flags.contains(SampleFlags::TIME))?,
+        id: reader.read_u64_if(flags.contains(SampleFlags::ID))?,
     })
 }
 
@@ -272,16 +242,18 @@ fn read_origin<'p, I: Input<'p>, E: Endian>(
 #[inline]
 fn read_after<'p, I: Input<'p>, E: Endian>(
     reader: &mut Reader<I, E>,
-    has: Present,
+    flags: SampleFlags,
     origin: Origin,
 ) -> ReadResult<SampleId>
-    ensures call { Call I.source E.order (ReadsPlain (λ _. after_origin has origin) (λ s. s))
+    ensures call { Call I.source E.order
+        (ReadsPlain (λ _. after_origin (sample_flags_bits flags) origin) (λ s. s))
         reader.old (kinds result) reader.new }
 {
-    let stream_id = reader.read_u64_if(has.stream_id)?;
-    let cpu = reader.read_u32_if(has.cpu)?;
-    reader.skip(padding_len(has.cpu))?;
-    let identifier = reader.read_u64_if(has.identifier)?;
+    let stream_id = reader.read_u64_if(flags.contains(SampleFlags::STREAM_ID))?;
+    let has_cpu = flags.contains(SampleFlags::CPU);
+    let cpu = reader.read_u32_if(has_cpu)?;
+    reader.skip(padding_len(has_cpu))?;
+    let identifier = reader.read_u64_if(flags.contains(SampleFlags::IDENTIFIER))?;
     let Origin { pid, tid, time, id } = origin;
     Ok(SampleId::from_parts(pid, tid, time, id.or(identifier), stream_id, cpu))
 }
@@ -290,13 +262,14 @@ fn read_after<'p, I: Input<'p>, E: Endian>(
 #[tactic(auto)]
 fn read_fields<'p, I: Input<'p>, E: Endian>(
     reader: &mut Reader<I, E>,
-    has: Present,
+    flags: SampleFlags,
 ) -> ReadResult<SampleId>
-    ensures call { Call I.source E.order (ReadsPlain (λ _. fields_of has) (λ s. s))
+    ensures call { Call I.source E.order
+        (ReadsPlain (λ _. ids.sample_id_fields (sample_flags_bits flags)) (λ s. s))
         reader.old (kinds result) reader.new }
 {
-    match read_origin(reader, has) {
-        Ok(origin) => read_after(reader, has, origin),
+    match read_origin(reader, flags) {
+        Ok(origin) => read_after(reader, flags, origin),
         Err(refusal) => Err(refusal),
     }
 }
@@ -313,14 +286,10 @@ impl<'p, I: Input<'p>> ReadFrom<'p, I> for SampleId {
     #[inline]
     fn read<E: Endian>(reader: &mut Reader<I, E>) -> ReadResult<Self> {
         let config = reader.config();
-        if config.sample_id_all() {
-            let has = fields_of_type(config.sample_type());
-            match read_fields(reader, has) {
-                Ok(id) => Ok(id),
-                Err(refusal) => Err(refusal),
-            }
-        } else {
-            Ok(SampleId::default())
+        if !config.sample_id_all() {
+            return Ok(SampleId::default());
         }
+        let sample_type = config.sample_type();
+        read_fields(reader, sample_type)
     }
 }

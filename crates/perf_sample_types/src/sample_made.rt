@@ -45,10 +45,7 @@ pub(crate) fn branches_of<'a>(
 pub(crate) fn cpu_of(number: Option<u32>) -> Option<Cpu>
     ensures is { outcome.number_in (option_map parts.cpu_value result) ≡ number }
 {
-    match number {
-        Some(number) => Some(Cpu(number)),
-        None => None,
-    }
+    Some(Cpu(number?))
 }
 
 // A call chain.
@@ -58,10 +55,7 @@ pub(crate) fn call_chain_of<'a>(addresses: Option<CowSlice<'a, u64>>) -> Option<
     ensures lists { forms.form_if forms.call_chain_form result ≡
         forms.form_if forms.cow_form addresses.entry }
 {
-    match addresses {
-        Some(addresses) => Some(CallChain(addresses)),
-        None => None,
-    }
+    Some(CallChain(addresses?))
 }
 
 // Raw bytes.
@@ -73,10 +67,7 @@ pub(crate) fn raw_of<'a>(bytes: Option<CowSlice<'a, u8>>) -> Option<RawData<'a>>
     ensures form { IfSome bytes.entry (λ b. IsTrue (is_borrowed b)) →
         IfSome result (λ b. IsTrue (is_borrowed b.0)) }
 {
-    match bytes {
-        Some(bytes) => Some(RawData(bytes)),
-        None => None,
-    }
+    Some(RawData(bytes?))
 }
 
 // A stack.
@@ -88,10 +79,7 @@ pub(crate) fn stack_of<'a>(bytes: Option<CowSlice<'a, u8>>) -> Option<Stack<'a>>
     ensures form { IfSome bytes.entry (λ b. IsTrue (is_borrowed b)) →
         IfSome result (λ b. IsTrue (is_borrowed b.0)) }
 {
-    match bytes {
-        Some(bytes) => Some(Stack(bytes)),
-        None => None,
-    }
+    Some(Stack(bytes?))
 }
 
 // Bytes of the AUX area.
@@ -103,10 +91,7 @@ pub(crate) fn aux_of<'a>(bytes: Option<CowSlice<'a, u8>>) -> Option<AuxBytes<'a>
     ensures form { IfSome bytes.entry (λ b. IsTrue (is_borrowed b)) →
         IfSome result (λ b. IsTrue (is_borrowed b.0)) }
 {
-    match bytes {
-        Some(bytes) => Some(AuxBytes(bytes)),
-        None => None,
-    }
+    Some(AuxBytes(bytes?))
 }
 
 // Registers of the task's user-space code.
@@ -116,10 +101,7 @@ pub(crate) fn user_registers_of<'a>(registers: Option<Registers<'a>>) -> Option<
     ensures lists { forms.form_if forms.user_form result ≡
         forms.form_if forms.registers_form registers.entry }
 {
-    match registers {
-        Some(registers) => Some(UserRegisters(registers)),
-        None => None,
-    }
+    Some(UserRegisters(registers?))
 }
 
 // Registers at the interrupt.
@@ -131,8 +113,5 @@ pub(crate) fn interrupt_registers_of<'a>(
     ensures lists { forms.form_if forms.interrupt_form result ≡
         forms.form_if forms.registers_form registers.entry }
 {
-    match registers {
-        Some(registers) => Some(InterruptRegisters(registers)),
-        None => None,
-    }
+    Some(InterruptRegisters(registers?))
 }

@@ -256,10 +256,7 @@ impl<'p, I: Input<'p>> ReadField<'p, I> for UserRegisters<'p> {
     #[tactic(auto, using(perf_reader::proofs::Paying::chain), unfolding(crate::specs::Sample::registers))]
     fn read_field<E: Endian>(reader: &mut Reader<I, E>) -> ReadResult<Self> {
         let mask = reader.config().regs_user();
-        match Registers::read_by(reader, mask) {
-            Ok(registers) => Ok(UserRegisters(registers)),
-            Err(refusal) => Err(refusal),
-        }
+        Ok(UserRegisters(Registers::read_by(reader, mask)?))
     }
 }
 
@@ -280,10 +277,7 @@ impl<'p, I: Input<'p>> ReadField<'p, I> for InterruptRegisters<'p> {
     #[tactic(auto, using(perf_reader::proofs::Paying::chain), unfolding(crate::specs::Sample::registers))]
     fn read_field<E: Endian>(reader: &mut Reader<I, E>) -> ReadResult<Self> {
         let mask = reader.config().regs_intr();
-        match Registers::read_by(reader, mask) {
-            Ok(registers) => Ok(InterruptRegisters(registers)),
-            Err(refusal) => Err(refusal),
-        }
+        Ok(InterruptRegisters(Registers::read_by(reader, mask)?))
     }
 }
 

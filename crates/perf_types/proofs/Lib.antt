@@ -1,6 +1,5 @@
 pub mod AtOnce
 pub mod Blocks
-mod Copies
 pub mod Entries
 pub mod Flags
 pub mod Nth

@@ -1,7 +1,7 @@
 -- How many bytes of code a TEXT_POKE record has: the least number that is at least the sum of both
 -- lengths and is four modulo eight. And its value and its form, from those of its byte strings.
-use Rattle.std.proofs.Common.{◌≡◌, ◌≤◌, ℕ, ◌%◌, List, Bool, ◌++◌, arith}
-use Rattle.perf_types.specs.TextPoke.{TextPokeValue, poked_len}
+use Rattle.std.proofs.Common.{◌≡◌, ◌≤◌, ℕ, ◌%◌, arith}
+use Rattle.perf_types.specs.TextPoke.{poked_len}
 
 pub poked_len-enough : (n : ℕ) → n ≤ poked_len n
 poked_len-enough n = omega arith

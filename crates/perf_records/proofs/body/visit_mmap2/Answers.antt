@@ -1,4 +1,3 @@
-use Rattle.perf_base.specs.Cow.{is_borrowed}
 use Rattle.perf_records.specs.Records.{mmap2_is, mmap2_value}
 use Rattle.perf_types.specs.Mmap2.{mmap2}
 use Rattle.perf_records.proofs.Seeing.{no_borrowed}

@@ -1,8 +1,9 @@
-use Rattle.std.proofs.Common.{rules, ◌≡◌, ℕ, List, ◌+◌, ◌*◌, ◌≤◌, ◌++◌, ◌∷◌, [], length, ap, sym, ◌∙◌, arith}
+use Rattle.std.proofs.Common.{rules, Err, ◌≡◌, ℕ, List, ◌+◌, ◌*◌, ◌≤◌, ◌++◌, ◌∷◌, [], length, ap, sym, ◌∙◌, arith}
 use Rattle.std.proofs.lemmas.List.{length-append}
 use Rattle.std.proofs.lemmas.List.Concat.{flat_map-append}
 use Rattle.std.specs.List.{flat_map}
 use Rattle.perf_base.specs.Refusals.{refusal_kind}
+use Rattle.perf_reader.proofs.After.{came_up}
 use Rattle.perf_reader.proofs.InRow.{row_none, row_cast, row_seen, row_further, row_ceases}
 use Rattle.perf_sample_types.specs.Branches.{branch_numbers}
 use Rattle.perf_words.specs.declared.branch.BranchEntry.{BranchEntry}
@@ -19,12 +20,13 @@ loop-init g c =
           (sym (ap (flat_map branch_numbers) c.requires)) (row_none s o c.args.reader.now),
     )
 
-pub returns-in-Err : goal.returns-in-Err
-returns-in-Err g c =
+pub returns-in_err-read_block : goal.returns-in_err-read_block
+returns-in_err-read_block g c =
     let s = g.I.Input.source in let o = g.E.Endian.order in
     let more : 3 * c.loop.counter + 3 ≤ 3 * c.args.count = omega (arith, c.loop-test.true) in
-    row_ceases s o (λ v. flat_map branch_numbers v.items) (λ (none : Unit {0}). c.read_block.new.numbers) (3 * c.loop.counter) 3 (3 * c.args.count) c.args.reader.now c.loop.reader c.read_block.new.self (flat_map branch_numbers c.loop.entries.items)
-    (refusal_kind c.in-Err.refusal) more c.loop.invariant.2 c.in-Err.ensures.call
+    let up : c.from_residual.result ≡ Err c.in_err-read_block.field-0.0 = came_up _ _ c.from_residual.ensures in
+    rw up (row_ceases s o (λ v. flat_map branch_numbers v.items) (λ (none : Unit {0}). c.read_block.new.numbers) (3 * c.loop.counter) 3 (3 * c.args.count) c.args.reader.now c.loop.reader c.read_block.new.self (flat_map branch_numbers c.loop.entries.items)
+    (refusal_kind c.in_err-read_block.field-0.0) more c.loop.invariant.2 c.in_err-read_block.ensures.call)
 
 pub loop-preserved : goal.loop-preserved
 loop-preserved g c =
@@ -44,5 +46,5 @@ loop-preserved g c =
       row_cast s o (3 * c.loop.counter + 3) (3 * (c.loop.counter + 1)) c.args.reader.now c.read_block.new.self (ys ++ zs) (flat_map branch_numbers c.push.new.self.items)
           count shown
           (row_further s o (3 * c.loop.counter) 3 c.args.reader.now c.loop.reader c.read_block.new.self ys zs c.loop.invariant.2
-          (row_seen s o (λ (none : Unit {0}). zs) 3 c.loop.reader c.read_block.new.self c.in-Ok.field-0 c.in-Ok.ensures.call)),
+          (row_seen s o (λ (none : Unit {0}). zs) 3 c.loop.reader c.read_block.new.self c.in_ok-read_block.field-0 c.in_ok-read_block.ensures.call)),
     )

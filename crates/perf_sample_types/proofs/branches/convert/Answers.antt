@@ -1,5 +1,5 @@
-use Rattle.std.proofs.Common.{◌≡◌, ◌/◌, ◌*◌, ◌++◌, ◌∷◌, [], ℕ, List, length, take, map, refl, sym, ◌∙◌, ap, arith}
-use Rattle.std.proofs.lemmas.List.{take_all, take_more_set, map_more}
+use Rattle.std.proofs.Common.{◌≡◌, ◌/◌, ◌*◌, ℕ, List, length, map, sym, ◌∙◌, ap, arith}
+use Rattle.std.proofs.lemmas.List.{take_all}
 use Rattle.std.specs.List.{flat_map}
 use Rattle.std.specs.Simd.{first_chunks}
 use Rattle.perf_base.specs.Layout.{words_of}

@@ -8,8 +8,8 @@ use Rattle.perf_reader.proofs.AtHand.{shown_there}
 use Rattle.perf_sample_types.specs.Branches.{branch_numbers}
 use Rattle.perf_sample_types.proofs.branches.read_shown.Goals as goal
 
-pub returns-in-Ok-clause-shown : goal.returns-in-Ok-clause-shown
-returns-in-Ok-clause-shown g c =
+pub returns-clause-shown : goal.returns-clause-shown
+returns-clause-shown g c =
     let source = g.I.Input.source in
     let order = g.E.Endian.order in
     let old : ReaderState = state_of source order c.args.reader.now in
@@ -22,7 +22,7 @@ returns-in-Ok-clause-shown g c =
     let shows = subst (λ i. IsTrue (source i).told → (length shown ≤ length (source i).left) × (shown ≡ take (length shown) (source i).left)) c.input.ensures c.shown_bytes-front.ensures in
     let made : ys ≡ words_of (order c.endian.result.now) (3 * n) (take (8 * (3 * n)) shown) =
     c.convert.ensures ∙ ap (λ k. words_of (order c.endian.result.now) (3 * n) (take k shown)) bytes in
-    let call = c.in-Ok.ensures.call in
+    let call = c.in_ok-pass.ensures.call in
     λ is. record {
       config = call.config;
       whole = call.whole;

@@ -1,6 +1,6 @@
-use Rattle.std.proofs.Common.{◌∙◌, sym}
+use Rattle.std.proofs.Common.{◌∙◌, sym, Ok, Err}
 use Rattle.perf_base.specs.Refusals.{refusal_kind}
-use Rattle.perf_records.proofs.Making.{boxed_body, boxed_visit, made_body, unboxed_body, unboxed_visit, unmade_body}
+use Rattle.perf_records.proofs.Making.{boxed_body, boxed_visit, made_body, unboxed_body, unmade_body}
 use Rattle.perf_records.proofs.body_reader.AsRecordReadBodyUnit.read_body.Goals as goal
 
 pub returns-in-Ok-Ok : goal.returns-in-Ok-Ok
@@ -11,7 +11,7 @@ returns-in-Ok-Err g c = record { call = λ any. unmade_body c.args.metadata c.in
 
 -- a sample
 pub returns-in-Ok : goal.returns-in-Ok
-returns-in-Ok g c = record { call = λ any. boxed_body c.args.metadata c.in-Ok.sample (sym c.ty.ensures ∙ c.if-ty-eq-PERF_RECORD_SAMPLE.true) (boxed_visit c.args.metadata c.in-Ok.sample c.in-Ok.ensures.call) }
+returns-in-Ok g c = record { call = λ any. boxed_body c.args.metadata c.in-Ok.sample (sym c.ty.ensures ∙ c.if-ty-eq-PERF_RECORD_SAMPLE.true) (boxed_visit c.args.metadata (Ok c.in-Ok.sample) c.in-Ok.ensures.call) }
 
 pub returns-in-Err : goal.returns-in-Err
-returns-in-Err g c = record { call = λ any. unboxed_body c.args.metadata (refusal_kind c.in-Err.refusal) (sym c.ty.ensures ∙ c.if-ty-eq-PERF_RECORD_SAMPLE.true) (unboxed_visit c.args.metadata (refusal_kind c.in-Err.refusal) c.in-Err.ensures.call) }
+returns-in-Err g c = record { call = λ any. unboxed_body c.args.metadata (refusal_kind c.in-Err.refusal) (sym c.ty.ensures ∙ c.if-ty-eq-PERF_RECORD_SAMPLE.true) (boxed_visit c.args.metadata (Err (refusal_kind c.in-Err.refusal)) c.in-Err.ensures.call) }

@@ -9,17 +9,17 @@ use Rattle.perf_records.proofs.Visiting.{visits_type}
 use Rattle.perf_reports.specs.Counting.{Adds}
 use Rattle.perf_reports.proofs.record_sums.SampleSumReadBodyUnit.read_body.Goals as goal
 
-pub returns : goal.returns
-returns g c =
+pub returns-in-Err-read_sample : goal.returns-in-Err-read_sample
+returns-in-Err-read_sample g c =
     let m = c.args.metadata in
-    let call = c.in-Err.ensures.call in record {
+    let call = c.in-Err-read_sample.ensures.call in record {
       call = λ ty. visits_type Adds m (ap type_of ty) (unvisited Adds m sample sample_value sample_is true (λ t w no. let never : true ≡ false = no in absurd (cc)) (of_said (λ says. says.0) call));
     }
 
-pub returns-in-Ok : goal.returns-in-Ok
-returns-in-Ok g c =
+pub returns-in-Ok-read_sample : goal.returns-in-Ok-read_sample
+returns-in-Ok-read_sample g c =
     let m = c.args.metadata in
-    let content = c.fill_sample.new.sample in
-    let call = c.in-Ok.ensures.call in record {
+    let content = c.read_sample-fill_sample.new.sample in
+    let call = c.in-Ok-read_sample.ensures.call in record {
       call = λ ty. visits_type Adds m (ap type_of ty) (visited Adds m sample sample_value sample_is (is_borrowed_sample content) true c.sample_sum.ensures (λ t w. sample_borrowed content ((call.answer t).1 w)) (λ is. refl) (of_said (λ says. says.0) call));
     }

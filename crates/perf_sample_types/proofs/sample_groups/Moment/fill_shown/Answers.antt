@@ -38,8 +38,8 @@ pass-requires g c =
     let few : c.into_taken-len.result.1 ≤ c.into_taken-len.result.0 = omega (arith, row.1, row.0, long, len, reads, c.new-row.ensures.reads) in
     search (rules, has, few)
 
-pub returns-in-Ok-clause-shown : goal.returns-in-Ok-clause-shown
-returns-in-Ok-clause-shown g c is =
+pub returns-clause-shown : goal.returns-clause-shown
+returns-clause-shown g c is =
     let source = g.I.Input.source in
     let settings : Configuration = configuration_of c.args.reader.now.config in
     let shown : List ℕ = c.shown_bytes-front.result.now in
@@ -49,6 +49,6 @@ returns-in-Ok-clause-shown g c is =
     let long : length c.new-row.result.left.now ≡ length shown = ap length c.new-row.ensures.left in
     let shows = subst (λ i. IsTrue (source i).told → (length shown ≤ length (source i).left) × (shown ≡ take (length shown) (source i).left)) c.input.ensures c.shown_bytes-front.ensures in
     let fields = subst (λ e. TakesFields (g.E.Endian.order e) (fields_under settings moment_fields) (moment_value c.take_fields.new.self) c.new-row.result c.take_fields.new.row) c.endian.ensures takes in
-    let call = subst (λ k. Call {X = Unit {0}} source g.E.Endian.order (PassesOver c.into_taken-len.result.0 k) c.args.reader.now (Ok tt) c.pass.new.self) c.into_taken-len.ensures.reads c.in-Ok.ensures.call in
+    let call = subst (λ k. Call {X = Unit {0}} source g.E.Endian.order (PassesOver c.into_taken-len.result.0 k) c.args.reader.now (Ok tt) c.pass.new.self) c.into_taken-len.ensures.reads c.in_ok-pass.ensures.call in
     row_call {source = source} {order = g.E.Endian.order} {a = c.args.reader.now} {b = c.pass.new.self} (λ s. fields_under s moment_fields) moment_value shown c.new-row.result c.take_fields.new.row c.into_taken-len.result.0 shows c.new-row.ensures.left c.new-row.ensures.reads c.into_taken-len.ensures.len fields
     call

@@ -2,9 +2,8 @@ use Rattle.std.proofs.Common.{◌≡◌, ℕ, List, Err, sym, subst}
 use Rattle.std.specs.Prelude.{IsTrue}
 use Rattle.perf_base.specs.FieldWords.{name}
 use Rattle.perf_base.specs.Layout.{Parts, done, ◌>>=◌}
-use Rattle.perf_base.specs.Cow.{cow_items}
 use Rattle.perf_reader.proofs.After.{call_after, call_stops, lent}
-use Rattle.perf_types.specs.Mmap2.{Mmap2Value, mmap2_value}
+use Rattle.perf_types.specs.Mmap2.{Mmap2Value}
 use Rattle.perf_types.specs.MmapDetail.{DetailValue, detail_value}
 use Rattle.perf_types.specs.Pair.{pair}
 use Rattle.perf_types.specs.declared.mmap2.Place.{Place}

@@ -1,4 +1,4 @@
-use Rattle.std.proofs.Common.{◌≡◌, ◌*◌, ◌^◌, ◌%◌, length, Err, ap, subst, refl, sym, ◌∙◌, true, false}
+use Rattle.std.proofs.Common.{◌≡◌, ◌*◌, ◌^◌, Err, ap, subst, refl, sym, ◌∙◌, true}
 use Rattle.perf_words.specs.SetBits.{read_format_bits}
 use Rattle.std.specs.Prelude.{nat_lt}
 use Rattle.perf_base.specs.Configuration.{Configuration}
@@ -6,7 +6,6 @@ use Rattle.perf_base.specs.Configured.{configuration_of}
 use Rattle.perf_reader.proofs.After.{part_after}
 use Rattle.perf_reader.proofs.Asked.{check_holds, option_after, words_after, words_stop, call_gives}
 use Rattle.perf_types.proofs.Blocks.{product_counted}
-use Rattle.perf_types.specs.GroupEntry.{block_len}
 use Rattle.perf_types.proofs.Readings.{bit_is, came_up}
 use Rattle.perf_types.proofs.Flags.{contains_group, contains_time_enabled, contains_time_running, contains_counter_id, contains_counter_lost}
 use Rattle.perf_types.specs.ReadFormat.{has_group, is_known, has_time_enabled, has_time_running, has_id, has_lost}

@@ -1,1 +1,0 @@
--- What a buffer's hint means.
