@@ -350,17 +350,14 @@ impl<'a> Sample<'a> {
 }
 
 /// Fills an empty place with a sample, and returns what is made of it there: a sample is large, and
-/// each function that it is passed through moves it. A sample that is refused is dropped.
+/// each function that it is passed to moves it.
 #[macro_export]
 macro_rules! read_sample {
     ($reader:ident, $fill:ident, $sample:ident = $place:expr => $made:expr) => {{
         let mut $sample = $place;
         match $fill(&mut $sample, $reader) {
             Ok(()) => Ok($made),
-            Err(refusal) => {
-                drop($sample);
-                Err(refusal)
-            }
+            Err(refusal) => Err(refusal),
         }
     }};
 }

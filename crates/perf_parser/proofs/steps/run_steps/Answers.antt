@@ -1,10 +1,9 @@
-use Rattle.std.proofs.Common.{◌≡◌, ℕ, Bool, true, false, sym, ◌∙◌, ap, subst, refl, Some, Ok, arith}
+use Rattle.std.proofs.Common.{Bool, true, false, sym, ◌∙◌, ap, subst, refl, Some, Ok}
 use Rattle.perf_base.specs.Configured.{configuration_of, endian_of}
 use Rattle.perf_base.specs.declared.config.ParseConfig.{ParseConfig}
 use Rattle.perf_buffers.specs.declared.outer.Outer.{Outer}
 use Rattle.perf_reader.specs.ReaderState.{ReaderState, state_of}
-use Rattle.perf_parser.specs.Steps.{HasTaken, TakesStep, TakesSteps}
-use Rattle.perf_parser.specs.declared.runs.RunEnd.TheVariants as end
+use Rattle.perf_parser.specs.Steps.{TakesStep, TakesSteps}
 use Rattle.perf_parser.proofs.Ending.{same_state}
 use Rattle.perf_parser.proofs.Stepping.{taken_none, taken_more, steps_stop, steps_end}
 use Rattle.perf_parser.proofs.steps.run_steps.Goals as goal

@@ -1,5 +1,3 @@
-use Rattle.std.proofs.Common.{◌∙◌, sym, ap, subst, Err}
-use Rattle.perf_base.specs.Refusals.{IsErrorOf}
 use Rattle.perf_records.proofs.Shown.{transition_call}
 use Rattle.perf_parser.proofs.Lifting.{lifted, answered}
 use Rattle.perf_parser.proofs.frames.RecordParseRecord.parse_with_header.Goals as goal

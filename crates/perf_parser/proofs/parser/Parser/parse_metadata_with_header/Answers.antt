@@ -1,6 +1,5 @@
-use Rattle.std.proofs.Common.{◌≡◌, Err, None, sym, ◌∙◌, subst}
+use Rattle.std.proofs.Common.{◌≡◌, Err, None, sym, subst}
 use Rattle.perf_base.specs.Errors.{kind_of}
-use Rattle.perf_base.specs.Refusals.{IsErrorOf}
 use Rattle.perf_base.specs.declared.error.ErrorKind.TheVariants.{OutOfMemory}
 use Rattle.perf_reader.specs.ReaderState.{ReaderState}
 use Rattle.perf_reader.proofs.Paying.{keeps_none}

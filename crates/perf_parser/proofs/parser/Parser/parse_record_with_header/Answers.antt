@@ -1,5 +1,3 @@
-use Rattle.std.proofs.Common.{◌∙◌, sym, ap, subst, Err}
-use Rattle.perf_base.specs.Refusals.{IsErrorOf}
 use Rattle.perf_parser.proofs.Lifting.{lifted, answered}
 use Rattle.perf_parser.proofs.parser.Parser.parse_record_with_header.Goals as goal
 

@@ -1,4 +1,3 @@
-use Rattle.std.proofs.Common.{◌∙◌}
 use Rattle.perf_parser.proofs.Lifting.{lifted, answered}
 use Rattle.perf_parser.proofs.parser.Parser.parse_u8.Goals as goal
 
