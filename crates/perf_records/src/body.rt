@@ -136,8 +136,9 @@ fn visit_sample<'p, I: Input<'p>, E: Endian, V: Visitor<'p>>(
     ensures call { Call I.source E.order (GivesType V.gives metadata RecordType.Sample)
         reader.old (kinds result) reader.new }
 {
-    read_sample!(reader, fill_sample, content = empty_sample() =>
-        visitor.visit_sample(content, metadata))
+    let mut content = empty_sample();
+    read_sample!(fill_sample, content, reader =>
+        visitor.visit_sample(content, metadata), drop(content))
 }
 
 #[inline(never)]

@@ -112,7 +112,8 @@ impl<'p, I: Input<'p>> ReadBody<'p, (), I> for SampleSum {
         metadata: RecordMetadata,
         state: &mut (),
     ) -> ReadResult<u64> {
-        read_sample!(reader, fill_sample, sample = empty_sample() => sample_sum(&sample))
+        let mut sample = empty_sample();
+        read_sample!(fill_sample, sample, reader => sample_sum(&sample), ())
     }
 }
 

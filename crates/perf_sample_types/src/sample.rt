@@ -349,17 +349,20 @@ impl<'a> Sample<'a> {
     }
 }
 
-/// Fills an empty place with a sample, and returns what is made of it there: a sample is large, and
-/// each function that it is passed to moves it.
+/// Fills a place with a sample, and returns what is made of it there; if it is refused, the second
+/// expression gives up the place. A sample is large, and each function that it is passed to moves
+/// it.
 #[macro_export]
 macro_rules! read_sample {
-    ($reader:ident, $fill:ident, $sample:ident = $place:expr => $made:expr) => {{
-        let mut $sample = $place;
+    ($fill:ident, $sample:ident, $reader:ident => $made:expr, $refused:expr) => {
         match $fill(&mut $sample, $reader) {
             Ok(()) => Ok($made),
-            Err(refusal) => Err(refusal),
+            Err(refusal) => {
+                $refused;
+                Err(refusal)
+            }
         }
-    }};
+    };
 }
 
 impl HasTransition for Sample<'_> {
@@ -373,7 +376,8 @@ impl HasTransition for Sample<'_> {
 impl<'p, I: Input<'p>> ReadFrom<'p, I> for Sample<'p> {
     #[inline]
     fn read<E: Endian>(reader: &mut Reader<I, E>) -> ReadResult<Self> {
-        read_sample!(reader, fill_sample, sample = empty_sample() => sample)
+        let mut sample = empty_sample();
+        read_sample!(fill_sample, sample, reader => sample, drop(sample))
     }
 }
 

@@ -123,12 +123,12 @@ pub fn read_boxed_sample<'p, I: Input<'p>, E: Endian>(
     if reader.has_bytes(least_len(reader.config())) == Some(false) {
         return Err(refuse_sample(reader));
     }
-    let empty = match Box::new(reader.alloc(), empty_sample()) {
-        Ok(empty) => empty,
+    let mut content = match Box::new(reader.alloc(), empty_sample()) {
+        Ok(content) => content,
         Err(error) => {
             drop(error);
             return Err(refuse_sample(reader));
         }
     };
-    read_sample!(reader, fill_fields, content = empty => content)
+    read_sample!(fill_fields, content, reader => content, drop(content))
 }
