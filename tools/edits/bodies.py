@@ -1,15 +1,29 @@
 #!/usr/bin/env python3
-"""Reports for each body of a joined must-fail edit whether the prover refuses it at its own goal.
+"""Shows that the prover refuses each wrong body of `crates/NAME/edits`, at a goal of the function that it changes.
 
-Usage, at the top of the repository: tools/edits/bodies.py CRATE[/EDIT]...
+    tools/edits/bodies.py [--jobs N] [--verbose] [--after LOG] [CRATE[/EDIT]..]
+
+Run it at the top of the repository, over the libraries that `rt ci` proved, or beside it with --after LOG: then it
+begins with a crate as soon as the log of `rt ci` names it as proved, with fewer checks at a time until that has ended.
+The README beside this file says how bodies are tried. A line says for each file of edits whether all its bodies were
+refused, and another for each body that was not. The last line is how many bodies were; the status is 1 if one was not.
 """
 
+import argparse
+import os
 import re
 import shutil
 import subprocess
 import sys
 import tempfile
+import threading
+import time
+from concurrent.futures import ThreadPoolExecutor
 from pathlib import Path
+
+sys.path.insert(0, str(Path(__file__).resolve().parent.parent))
+sys.dont_write_bytecode = True
+import kit  # noqa: E402
 
 FUNCTION = re.compile(r"\bfn\s+(\w+)")
 TRAIT = re.compile(r"(?:pub(?:\(\w+\))? )?trait (\w+)")
@@ -17,18 +31,22 @@ NOTE = re.compile(r"note: (?:\./)?(src/\S+?):(\d+):(\d+): (it is not proved .*)"
 GAVE_UP = re.compile(r"note: what antt said of .*?: (?:\./)?(src/\S+?):(\d+):(\d+): error: (.*)")
 UNREAD = re.compile(r"(?:\./)?src/\S+?:\d+:\d+: error: [^`].*")
 ERROR = re.compile(r"(?:\./)?proofs/(\S+?)/(\w+)\.antt:\d+:\d+: error: (.*)")
-# The functions that state the numbers of a set or of a named number.
-TABLES = ("flags", "names")
+PLACE = re.compile(r"(?:\./)?(src/\S+?):(\d+):\d+: error")
+ENDED = re.compile(r"only=\d+ proved=\d+")
 # Errors of proofs that name what the edit, or the refusal of a callee, removed.
 NAMES = re.compile(r"has no field|is not in scope|has no `|was not admitted|\(nearest:")
+PROVED = re.compile(r"rt: (\w+)(?: is kept:.*| proved)$")
 
 
 class Body:
     """The pairs of an edit that change one function, and the lines of that function."""
 
-    def __init__(self, line):
+    def __init__(self, edit, path, at, is_whole, line):
+        self.edit, self.path, self.at, self.is_whole = edit, path, at, is_whole
         self.line = self.first = self.last = line
-        self.names, self.owner, self.others, self.text = [], "", [], ""
+        self.pairs, self.names, self.owner, self.others, self.text = [], [], "", [], ""
+        self.known = set()
+        self.told = self.why = ""
 
     def place(self, lines):
         """Finds the function around the edited line, and the type whose impl contains it."""
@@ -49,10 +67,18 @@ class Body:
             elif text.startswith("}"):
                 self.owner, self.others = "", []
 
-    def at(self, line, column):
-        """The function at a place, if the edited line has several."""
-        names = FUNCTION.findall(self.text[:column]) if line == self.line else []
-        return names[-1] if names else self.names[0]
+    def functions(self):
+        """The names, below the crate, by which the prover knows the function that is to be refused."""
+        if self.at:
+            return self.at
+        module = "" if self.path == "src/lib.rt" else self.path[len("src/") : -len(".rt")].replace("/", "::")
+        _, _, new = self.pairs[0]
+        named = [it for it in FUNCTION.findall(new) if it in self.known] or self.names
+        return ["::".join(filter(None, [module, self.owner, named[0]]))]
+
+    def is_apart(self):
+        """Whether it is in no function, as a flag's number is, or in several: it is refused where the edit states."""
+        return self.is_whole or self.names == ["?"]
 
 
 def is_function(text):
@@ -79,6 +105,10 @@ def item_start(lines, at):
     return at
 
 
+def capital(name):
+    return name[:1].upper() + name[1:]
+
+
 def parts_of(header):
     """The trait of an impl, whether it has one, and what the impl is for."""
     return re.sub(r"^impl(<.*?>)? (?=[\w&\[])", "", header).rpartition(" for ")
@@ -92,17 +122,18 @@ def owner_of(header):
     name = re.match(r"&?\[?(\w+)", of)
     name = name[1] if name else ""
     if of.startswith("&"):
-        name = f"RefSlice{name}" if of.startswith("&[") else "Ref"
+        name = f"RefSlice{capital(name)}" if of.startswith("&[") else "Ref"
     else:
-        name = "Any" if len(name) == 1 else f"Array{name}" if of.startswith("[") else name
-    return name + (trait_of(trait) if is_trait else "")
+        name = "Any" if len(name) == 1 else f"Array{capital(name)}" if of.startswith("[") else name
+    return capital(name) + trait_of(trait) if is_trait else name
 
 
 def trait_of(trait):
     """A trait's part of such a name. A parameter, which is one letter, adds nothing."""
     name, _, of = re.sub(r"'\w+,?\s*", "", trait).replace("()", "Unit").partition("<")
     of = next((it for it in re.findall(r"&?[\w:]+", of) if len(it) > 1), "")
-    return name.split("::")[-1] + of.replace("::", "").replace("&", "Ref")
+    of = "".join(map(capital, of.replace("&", "Ref::").split("::")))
+    return capital(name.split("::")[-1]) + of
 
 
 def other_owners(header):
@@ -112,16 +143,21 @@ def other_owners(header):
 
 
 def read_edit(edit):
-    """The files that an edit changes, each with its pairs of old and new texts."""
-    pairs, old, files = [], "", {}
+    """The changes of an edit, each with its file, and where it is to be refused, if that is stated: of one change, or
+    before the first file of all, which then are one body."""
+    changes, path, old, at, whole = [], "", "", [], []
     for line in edit.read_text(encoding="utf-8").split("\n"):
-        if line.startswith("file: "):
-            pairs = files.setdefault(line[len("file: ") :].strip(), [])
-        elif line.startswith("old: "):
-            old = line[len("old: ") :]
+        word, _, rest = line.partition(": ")
+        if word == "file":
+            path, whole, at = rest.strip(), whole or at, []
+        elif word == "at":
+            at = rest.split()
+        elif word == "old":
+            old = rest
         elif line.startswith("new:"):
-            pairs.append((old, line[len("new:") :].removeprefix(" ")))
-    return files
+            changes.append((path, old, line[len("new:") :].removeprefix(" "), at))
+            at = []
+    return changes, whole
 
 
 def continues(old, new):
@@ -130,124 +166,242 @@ def continues(old, new):
     return adds or new.lstrip().startswith("*/")
 
 
-def applied(text, pairs):
-    """The edited text and its bodies. Each pair stays on its line, so that line numbers hold."""
-    bodies = []
-    for old, new in pairs:
+def bodies_of(edit, folder):
+    """The bodies of an edit, over the files of a crate's folder."""
+    changes, whole = read_edit(edit)
+    texts, found = {}, []
+    for path, old, new, at in changes:
+        text = texts.get(path) or (folder / path).read_text(encoding="utf-8")
         if text.count(old) != 1:
-            raise SystemExit(f"an old text is there {text.count(old)} times, and not once: {old}")
-        if not (bodies and continues(old, new)):
-            bodies.append(Body(text[: text.index(old)].count("\n") + 1))
-        text = text.replace(old, new)
-    lines = text.split("\n")
-    for body in bodies:
-        body.place(lines)
-    return text, joined(bodies)
+            raise ValueError(f"an old text of {edit.name} is in {path} {text.count(old)} times, and not once: {old}")
+        if not (found and (whole or found[-1].path == path and continues(old, new))):
+            found.append(Body(edit.stem, path, whole or at, bool(whole), text[: text.index(old)].count("\n") + 1))
+        found[-1].pairs.append((path, old, new))
+        texts[path] = text.replace(old, new)
+    for body in found:
+        body.place(texts[body.path].split("\n"))
+        body.known = set(FUNCTION.findall((folder / body.path).read_text(encoding="utf-8")))
+    return found if whole else joined(found)
 
 
 def joined(bodies):
     """The bodies, in which consecutive pairs in one function are one body."""
     kept = []
     for body in bodies:
-        if not kept or (kept[-1].first, kept[-1].last) != (body.first, body.last):
+        if kept and (kept[-1].path, kept[-1].first, kept[-1].last) == (body.path, body.first, body.last):
+            kept[-1].pairs += body.pairs
+        else:
             kept.append(body)
     return kept
 
 
-def refusal(body, path, output):
+def refusal(body, output):
     """What the prover reports at the function of a body, or nothing."""
     for line in output:
         note = NOTE.match(line) or GAVE_UP.match(line)
-        if note and note[1] == path and body.first <= int(note[2]) <= body.last:
-            return f"{body.at(int(note[2]), int(note[3]))}: {note[4]}"
+        if note and note[1] == body.path and body.first <= int(note[2]) <= body.last:
+            return note[4]
         error = ERROR.match(line)
-        if error and proves(body, path, error[1]) and not NAMES.search(error[3]):
-            return f"proofs/{error[1]}: {error[3]}"
+        if error and proves(body, error[1]) and not NAMES.search(error[3]):
+            return error[3]
     return ""
 
 
-def proves(body, path, folder):
-    """Whether a folder of proofs is that of a body's function: a method's is below its type. A
-    number outside any function is refused by the table of its own type."""
+def proves(body, folder):
+    """Whether a folder of proofs is that of a body's function: a method's is below its type."""
     *around, name = folder.split("/")
     if body.owner:
         owner = (around[-1].partition("+")[0] if around else "").lower()
-        own = body.owner.lower()
-        if body.names == ["?"]:
-            return name in TABLES and owner in (own, own + "flags")
-        return name in body.names and owner in (own, *(it.lower() for it in body.others))
-    module = "" if path == "src/lib.rt" else path[len("src/") : -len(".rt")]
+        return name in body.names and owner in (body.owner.lower(), *(it.lower() for it in body.others))
+    module = "" if body.path == "src/lib.rt" else body.path[len("src/") : -len(".rt")]
     return name in body.names and "/".join(around) == module
 
 
-def below(root, crate):
-    """The crates of the repository that a crate uses, directly or not."""
-    used = {}
-    for line in (root / "crates.txt").read_text(encoding="utf-8").split("\n"):
-        head, colon, names = line.partition("#")[0].partition(":")
-        if colon:
-            used[head.split()[0]] = names.split()
-    found, open_names = set(), [crate]
-    while open_names:
-        more = [it for it in used.get(open_names.pop(), []) if it in used and it not in found]
-        found.update(more)
-        open_names += more
+class Trial:
+    """A copy of a crate, in which its bodies are tried, several in each check."""
+
+    def __init__(self, run, name, room):
+        crate = kit.crate_of(run.rtlib, str(run.top), name)
+        self.name, self.folder, self.log = name, Path(room) / "crate", run.log
+        self.command = [run.rtlib.RATTLE, "check", *crate.words(["--jobs", "1"], keeps=False), "--incremental", f"{room}/kept"]
+        for part in run.rtlib.PARTS:
+            if os.path.isdir(f"{crate.folder}/{part}"):
+                shutil.copytree(f"{crate.folder}/{part}", self.folder / part)
+
+    def texts(self, bodies):
+        """The files with these bodies in them, as many as fit beside one another: each in a function of its own. What
+        is no function's is beside no function's body, which might be refused for it."""
+        texts, fitting, taken = {}, [], set()
+        for body in bodies:
+            changed = {path: self.text(path, texts) for path, _, _ in body.pairs}
+            for path, old, new in body.pairs:
+                changed[path] = changed[path].replace(old, new) if changed[path].count(old) == 1 else ""
+            place = body.path, body.first
+            if all(changed.values()) and place not in taken and body.is_apart() == (fitting or [body])[0].is_apart():
+                texts.update(changed)
+                fitting.append(body)
+                taken.add(place)
+        return texts, fitting
+
+    def text(self, path, texts):
+        return texts.get(path) or (self.folder / path).read_text(encoding="utf-8")
+
+    def check(self, texts, bodies):
+        """What the prover prints of the functions of these bodies, in lines."""
+        kept = {path: (self.folder / path).read_text(encoding="utf-8") for path in texts}
+        for path, text in texts.items():
+            (self.folder / path).write_text(text, encoding="utf-8")
+        only = [word for body in bodies for it in body.functions() for word in ("--only", it)]
+        # what rt ci still proves goes first
+        gently = [] if self.log.ended else ["nice", "-n", "19"]
+        ran = subprocess.run([*gently, *self.command, *only], cwd=self.folder, stdin=subprocess.DEVNULL,
+                             stdout=subprocess.PIPE, stderr=subprocess.STDOUT, errors="replace")
+        for path, text in kept.items():
+            (self.folder / path).write_text(text, encoding="utf-8")
+        return ran.stdout.split("\n")
+
+    def run(self, bodies):
+        """Tries all bodies, and notes with each what the prover said of it, or nothing. Those that do not fit beside
+        the others, or that another changed function stands in the way of, are tried after these."""
+        left, is_alone = bodies, False
+        while left:
+            texts, fitting = self.texts(left[:1] if is_alone else left)
+            if not fitting:
+                left.pop(0).why = "its old text is not there once"
+                continue
+            again = self.judge(fitting, self.check(texts, fitting))
+            is_alone = is_alone or len(again) == len(fitting)
+            left = [it for it in left if it not in fitting] + again
+
+    def judge(self, bodies, output):
+        """Notes what was refused, and returns the bodies to try again."""
+        failed = next((it for it in output if UNREAD.match(it)), "")
+        if not any(ENDED.match(it) for it in output):
+            failed = failed or next((it for it in output if "error" in it), "no verdict")
+        if failed:
+            return self.parted(bodies, failed)
+        lines = {it.split(": ")[0]: it.partition(": ")[2] for it in output if it.startswith("fn ")}
+        again = []
+        for body in bodies:
+            said = [lines.get(f"fn {self.name}::{it}", "") for it in body.functions()]
+            body.why = "; ".join(said)
+            if body.is_apart():
+                body.told = "" if any(it in ("", "proved") for it in said) else body.why
+            elif set(said) != {"proved"}:
+                body.told = refusal(body, output)
+                again += [body] if not body.told and len(bodies) > 1 else []
+        return again
+
+    def parted(self, bodies, failed):
+        """Tries the bodies without those that cannot be compiled, or read, and returns what is to be tried again."""
+        if len(bodies) == 1:
+            bodies[0].why = failed
+            return []
+        place = PLACE.match(failed)
+        own = [it for it in bodies if place and it.path == place[1] and it.first <= int(place[2]) <= it.last]
+        own = own or [it for it in bodies if any(f"`{name}`" in failed for name in it.functions())]
+        if not 0 < len(own) < len(bodies):
+            own = bodies[len(bodies) // 2 :]
+        texts, fitting = self.texts([it for it in bodies if it not in own])
+        return self.judge(fitting, self.check(texts, fitting)) + [it for it in bodies if it not in fitting]
+
+
+class Log:
+    """The log of an `rt ci` that may still run: which crates it has proved, and whether it has ended."""
+
+    def __init__(self, path):
+        self.path, self.proved, self.ended = path, set(), path is None
+
+    def look(self):
+        if self.path is None:
+            return
+        with open(self.path, encoding="utf-8", errors="replace") as it:
+            text = it.read()
+        lines = text.split("\n")
+        self.proved = {found[1] for found in map(PROVED.match, lines) if found}
+        self.ended = any(re.match(r"\d+ passed, \d+ failed", it) for it in lines)
+
+
+class Run:
+    """The bodies of all crates, tried beside one another."""
+
+    def __init__(self, options):
+        self.top, self.options = Path.cwd(), options
+        self.rtlib = kit.load_rt()
+        self.rtlib.Crate.cuts_libraries = True
+        self.log, self.print, self.bodies = Log(options.after), threading.Lock(), []
+
+    def crate(self, name, edits):
+        """Tries the bodies of a crate, and prints a line for each of its edits."""
+        found = []
+        try:
+            for edit in edits:
+                found += bodies_of(edit, self.top / "crates" / name)
+            self.bodies += found
+            with tempfile.TemporaryDirectory(prefix=f"bodies-{os.getpid()}-") as room:
+                Trial(self, name, room).run(found)
+        except (OSError, ValueError) as why:
+            with self.print:
+                print(f"{name}: {why}", flush=True)
+            self.bodies.append(Body(name, "", [], False, 0))
+        with self.print:
+            for edit in edits:
+                self.tell(name, edit.stem, [it for it in found if it.edit == edit.stem])
+
+    def tell(self, name, edit, bodies):
+        good = sum(bool(it.told) for it in bodies)
+        verdict = "refused" if bodies and good == len(bodies) else "NOT REFUSED"
+        print(f"{verdict}: {name}/{edit}: {good} of {len(bodies)} at their own goal", flush=True)
+        for body in bodies:
+            if self.options.verbose or not body.told:
+                why = body.told or "NOT REFUSED AT ITS OWN GOAL: " + body.why
+                print(f"    {body.path}:{body.line} {' '.join(body.functions())}: {why[:160]}", flush=True)
+
+    def lanes(self):
+        return self.options.jobs if self.log.ended else max(1, self.options.jobs // 2)
+
+    def all(self, wanted):
+        """Tries the crates in the order in which they are proved, the largest of those that are ready first."""
+        with ThreadPoolExecutor(self.options.jobs) as pool:
+            running = []
+            while wanted or running:
+                self.log.look()
+                for ended in [it for it in running if it.done()]:
+                    running.remove(ended)
+                    ended.result()
+                ready = [it for it in wanted if self.log.path is None or it in self.log.proved]
+                ready.sort(key=lambda it: -sum(edit.stat().st_size for edit in wanted[it]))
+                for name in ready[: max(0, self.lanes() - len(running))]:
+                    running.append(pool.submit(self.crate, name, wanted.pop(name)))
+                if not ready and self.log.ended and not running:
+                    break
+                time.sleep(0.5)
+        for name in wanted:
+            print(f"NOT TRIED: {name}: rt ci has not proved it", flush=True)
+            self.bodies.append(Body(name, "", [], False, 0))
+
+
+def edits_of(top, asked):
+    """The edits of each crate that is asked for, or of all."""
+    found = {}
+    for name in asked or sorted(it.parent.name for it in top.glob("crates/*/edits")):
+        crate, _, edit = name.partition("/")
+        found.setdefault(crate, []).extend(sorted((top / "crates" / crate / "edits").glob(f"{edit or '*'}.edit")))
     return found
 
 
-def copy_of(root, crate, room):
-    """A copy of the repository: kept answers of the crate, built libraries of those that it uses."""
-    for name in ("crates.txt", "HANDLES"):
-        shutil.copy2(root / name, room)
-    under = below(root, crate)
-    for folder in sorted((root / "crates").iterdir()):
-        left = ["out"] if folder.name not in under | {crate} else []
-        left += ["incremental"] if folder.name in under else []
-        shutil.copytree(folder, room / "crates" / folder.name, ignore=shutil.ignore_patterns(*left))
-
-
-def check(edit, folder):
-    """Checks the copy under an edit, prints the result for each body, and counts."""
-    kept = {it: (folder / it).read_text(encoding="utf-8") for it in read_edit(edit)}
-    changed = {it: applied(kept[it], pairs) for it, pairs in read_edit(edit).items()}
-    bodies = [(path, body) for path, (_, found) in changed.items() for body in found]
-    if len(bodies) < 2:
-        return 0, 0
-    for path, (text, _) in changed.items():
-        (folder / path).write_text(text, encoding="utf-8")
-    ran = subprocess.run(["rt", "check"], cwd=folder, capture_output=True, errors="replace")
-    for path, text in kept.items():
-        (folder / path).write_text(text, encoding="utf-8")
-    print(f"{edit.name}: {len(bodies)} bodies", flush=True)
-    return told(bodies, ran.stdout.split("\n") + ran.stderr.split("\n")), len(bodies)
-
-
-def told(bodies, output):
-    """Prints what the prover reported of each body, and counts those that it refused."""
-    unread = next((it for it in output if UNREAD.match(it)), "")
-    if not any(it.startswith("logic=") for it in output):
-        unread = unread or "no verdict: " + next((it for it in output if "error" in it), "?")
-    good = 0
-    for path, body in bodies:
-        said = "" if unread else refusal(body, path, output)
-        good += bool(said)
-        said = said[:120] or unread or f"{body.names[0]}: NOT REFUSED AT ITS OWN GOAL"
-        print(f"  {path}:{body.line} {body.owner} {said}", flush=True)
-    return good
-
-
-def main(asked):
-    root, good, total = Path.cwd(), 0, 0
-    for crate, _, name in (it.partition("/") for it in asked):
-        with tempfile.TemporaryDirectory(prefix="bodies-") as room:
-            copy_of(root, crate, Path(room))
-            folder = Path(room) / "crates" / crate
-            for edit in sorted((root / "crates" / crate / "must-fail").glob(f"{name or '*'}.edit")):
-                refused, bodies = check(edit, folder)
-                good, total = good + refused, total + bodies
-    print(f"{good} of {total} bodies refused at their own goal")
-    return 0 if good == total else 1
+def main():
+    words = argparse.ArgumentParser(description=__doc__, formatter_class=argparse.RawDescriptionHelpFormatter)
+    words.add_argument("--jobs", type=int, default=min(4, len(os.sched_getaffinity(0))))
+    words.add_argument("--verbose", action="store_true")
+    words.add_argument("--after", metavar="LOG")
+    words.add_argument("crates", nargs="*", metavar="CRATE[/EDIT]")
+    run = Run(words.parse_args())
+    run.all(edits_of(run.top, run.options.crates))
+    good = sum(bool(it.told) for it in run.bodies)
+    print(f"{good} of {len(run.bodies)} bodies refused at their own goal")
+    return 0 if run.bodies and good == len(run.bodies) else 1
 
 
 if __name__ == "__main__":
-    sys.exit(main(sys.argv[1:]))
+    sys.exit(main())
