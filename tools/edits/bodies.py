@@ -27,12 +27,15 @@ import kit  # noqa: E402
 
 FUNCTION = re.compile(r"\bfn\s+(\w+)")
 TRAIT = re.compile(r"(?:pub(?:\(\w+\))? )?trait (\w+)")
+TYPE = re.compile(r"^(?:pub(?:\(\w+\))? )?(?:struct|enum|union) (\w+)", re.MULTILINE)
 NOTE = re.compile(r"note: (?:\./)?(src/\S+?):(\d+):(\d+): (it is not proved .*)")
 GAVE_UP = re.compile(r"note: what antt said of .*?: (?:\./)?(src/\S+?):(\d+):(\d+): error: (.*)")
 UNREAD = re.compile(r"(?:\./)?src/\S+?:\d+:\d+: error: [^`].*")
 ERROR = re.compile(r"(?:\./)?proofs/(\S+?)/(\w+)\.antt:\d+:\d+: error: (.*)")
 PLACE = re.compile(r"(?:\./)?(src/\S+?):(\d+):\d+: error")
-ENDED = re.compile(r"only=\d+ proved=\d+")
+ENDED = re.compile(r"only=\d+ holes=\d+")
+# What a check past holes says of a function that is proved, if what it calls is.
+HOLDS = re.compile(r"no holes|depends on a hole in|proved$")
 # Errors of proofs that name what the edit, or the refusal of a callee, removed.
 NAMES = re.compile(r"has no field|is not in scope|has no `|was not admitted|\(nearest:")
 PROVED = re.compile(r"rt: (\w+)(?: is kept:.*| proved)$")
@@ -45,8 +48,9 @@ class Body:
         self.edit, self.path, self.at, self.is_whole = edit, path, at, is_whole
         self.line = self.first = self.last = line
         self.pairs, self.names, self.owner, self.others, self.text = [], [], "", [], ""
-        self.known = set()
-        self.told = self.why = ""
+        # the functions of its file, and the module of its type
+        self.known, self.home = set(), None
+        self.told, self.why, self.is_declared = "", "", False
 
     def place(self, lines):
         """Finds the function around the edited line, and the type whose impl contains it."""
@@ -60,25 +64,30 @@ class Body:
             self.names = FUNCTION.findall(lines[own - 1])
         self.names += FUNCTION.findall(self.text) or ["?"]
         for text in lines[: self.first]:
+            trait = TRAIT.match(text)
             if text.startswith("impl"):
                 self.owner, self.others = owner_of(text), other_owners(text)
-            elif trait := TRAIT.match(text):
-                self.owner, self.others = trait[1], []
-            elif text.startswith("}"):
-                self.owner, self.others = "", []
+            elif trait or text.startswith("}"):
+                self.owner, self.others = trait[1] if trait else "", []
+            self.is_declared = bool(trait) or self.is_declared and not text.startswith("}")
 
     def functions(self):
-        """The names, below the crate, by which the prover knows the function that is to be refused."""
+        """The names, below the crate, by which the prover knows the function that is to be refused: that of a method
+        which is no trait's begins with the module of its type."""
         if self.at:
             return self.at
-        module = "" if self.path == "src/lib.rt" else self.path[len("src/") : -len(".rt")].replace("/", "::")
         _, _, new = self.pairs[0]
         named = [it for it in FUNCTION.findall(new) if it in self.known] or self.names
+        module = self.home if self.home is not None and not self.others else module_of(self.path)
         return ["::".join(filter(None, [module, self.owner, named[0]]))]
 
     def is_apart(self):
         """Whether it is in no function, as a flag's number is, or in several: it is refused where the edit states."""
         return self.is_whole or self.names == ["?"]
+
+
+def module_of(path):
+    return "" if path == "src/lib.rt" else path[len("src/") : -len(".rt")].replace("/", "::")
 
 
 def is_function(text):
@@ -178,10 +187,35 @@ def bodies_of(edit, folder):
             found.append(Body(edit.stem, path, whole or at, bool(whole), text[: text.index(old)].count("\n") + 1))
         found[-1].pairs.append((path, old, new))
         texts[path] = text.replace(old, new)
+    files, types = texts_of(folder), types_of(folder)
     for body in found:
         body.place(texts[body.path].split("\n"))
-        body.known = set(FUNCTION.findall((folder / body.path).read_text(encoding="utf-8")))
+        body.known, body.home = set(FUNCTION.findall(files[body.path])), types.get(body.owner)
     return found if whole else joined(found)
+
+
+def functions_of(folder):
+    """The names of the functions that stand in the source of a crate, but for those that traits declare, as the prover
+    knows them."""
+    found = set()
+    for path, text in texts_of(folder).items():
+        lines, types = text.split("\n"), types_of(folder)
+        for line in [at for at, it in enumerate(lines, 1) if is_function(it)]:
+            body = Body("", path, [], False, line)
+            body.pairs = [(path, "", lines[line - 1])]
+            body.place(lines)
+            body.known, body.home = set(body.names), types.get(body.owner)
+            found.update([] if body.is_declared else body.functions())
+    return found
+
+
+def texts_of(folder):
+    return {f"src/{it.relative_to(folder / 'src')}": it.read_text(encoding="utf-8") for it in folder.glob("src/**/*.rt")}
+
+
+def types_of(folder):
+    """The module of each type that stands in the source of a crate."""
+    return {name: module_of(path) for path, text in texts_of(folder).items() for name in TYPE.findall(text)}
 
 
 def joined(bodies):
@@ -213,8 +247,7 @@ def proves(body, folder):
     if body.owner:
         owner = (around[-1].partition("+")[0] if around else "").lower()
         return name in body.names and owner in (body.owner.lower(), *(it.lower() for it in body.others))
-    module = "" if body.path == "src/lib.rt" else body.path[len("src/") : -len(".rt")]
-    return name in body.names and "/".join(around) == module
+    return name in body.names and "::".join(around) == module_of(body.path)
 
 
 class Trial:
@@ -222,11 +255,12 @@ class Trial:
 
     def __init__(self, run, name, room):
         crate = kit.crate_of(run.rtlib, str(run.top), name)
-        self.name, self.folder, self.log = name, Path(room) / "crate", run.log
-        self.command = [run.rtlib.RATTLE, "check", *crate.words(["--jobs", "1"], keeps=False), "--incremental", f"{room}/kept"]
-        for part in run.rtlib.PARTS:
-            if os.path.isdir(f"{crate.folder}/{part}"):
-                shutil.copytree(f"{crate.folder}/{part}", self.folder / part)
+        self.name, self.folder, self.source, self.log = name, Path(room) / "crate", Path(crate.folder), run.log
+        self.proofs, self.functions = self.source / "proofs", functions_of(self.source)
+        self.command = [run.rtlib.RATTLE, "check", *crate.words(["--jobs", "1"], keeps=False), "--allow-holes"]
+        self.command += ["--incremental", f"{room}/kept"]
+        for part in ("src", "specs"):
+            shutil.copytree(self.source / part, self.folder / part)
 
     def texts(self, bodies):
         """The files with these bodies in them, as many as fit beside one another: each in a function of its own. What
@@ -247,18 +281,33 @@ class Trial:
         return texts.get(path) or (self.folder / path).read_text(encoding="utf-8")
 
     def check(self, texts, bodies):
-        """What the prover prints of the functions of these bodies, in lines."""
-        kept = {path: (self.folder / path).read_text(encoding="utf-8") for path in texts}
+        """What the prover prints of the functions of these bodies, in lines. Other functions count as proved."""
+        shutil.rmtree(self.folder / "proofs", ignore_errors=True)
+        if self.proofs.is_dir():
+            shutil.copytree(self.proofs, self.folder / "proofs")
+        asked = {it for body in bodies for it in body.functions()}
+        for name in self.functions - asked:
+            self.assume(name)
         for path, text in texts.items():
             (self.folder / path).write_text(text, encoding="utf-8")
-        only = [word for body in bodies for it in body.functions() for word in ("--only", it)]
+        only = [word for it in sorted(asked) for word in ("--only", it)]
         # what rt ci still proves goes first
         gently = [] if self.log.ended else ["nice", "-n", "19"]
         ran = subprocess.run([*gently, *self.command, *only], cwd=self.folder, stdin=subprocess.DEVNULL,
                              stdout=subprocess.PIPE, stderr=subprocess.STDOUT, errors="replace")
-        for path, text in kept.items():
-            (self.folder / path).write_text(text, encoding="utf-8")
+        for path in texts:
+            shutil.copy2(self.source / path, self.folder / path)
         return ran.stdout.split("\n")
+
+    def assume(self, name):
+        """Puts a hole in the place of a function's proof: rt ci has proved it."""
+        folder, own = self.folder / "proofs" / name.replace("::", "/"), name.split("::")[-1]
+        for proof in ("Answers.antt", "Invariants.antt"):
+            (folder / proof).unlink(missing_ok=True)
+        folder.mkdir(parents=True, exist_ok=True)
+        module = f"Rattle.{self.name}.proofs.{name.replace('::', '.')}"
+        (folder / "Proof.antt").write_text(f"use {module}.Statement.{{statement}}\n\n"
+                                           f"pub {own}_spec : {{M : Type 1}} → statement M\n{own}_spec = ?\n", encoding="utf-8")
 
     def run(self, bodies):
         """Tries all bodies, and notes with each what the prover said of it, or nothing. Those that do not fit beside
@@ -286,8 +335,8 @@ class Trial:
             said = [lines.get(f"fn {self.name}::{it}", "") for it in body.functions()]
             body.why = "; ".join(said)
             if body.is_apart():
-                body.told = "" if any(it in ("", "proved") for it in said) else body.why
-            elif set(said) != {"proved"}:
+                body.told = "" if any(not it or HOLDS.match(it) for it in said) else body.why
+            elif not all(HOLDS.match(it) for it in said):
                 body.told = refusal(body, output)
                 again += [body] if not body.told and len(bodies) > 1 else []
         return again
