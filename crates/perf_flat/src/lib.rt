@@ -5,8 +5,6 @@
 mod accepted;
 pub mod attr;
 pub mod body;
-#[cfg(test)]
-mod call_tests;
 pub mod flat_config;
 pub mod flat_frame;
 pub mod identifier;
@@ -25,5 +23,3 @@ mod sample_lists;
 mod sample_made;
 pub mod split;
 mod string_bodies;
-#[cfg(test)]
-mod tests;

@@ -30,6 +30,10 @@ mod failing;
 #[cfg(test)]
 mod faults;
 #[cfg(test)]
+mod flat_calls;
+#[cfg(test)]
+mod flat_frames;
+#[cfg(test)]
 mod generated;
 #[cfg(test)]
 mod groups;

@@ -1,13 +1,13 @@
 //! Flat frames.
 
-use crate::flat_frame::FlatFrame;
-use crate::read::{read, read_into};
+use crate::checks::check_debug;
 use bitflags::Flags;
-use perf_base::ParseConfig;
-use perf_base::endian::Little;
+use perf_event_data::endian::Little;
+use perf_event_data::parse::ParseConfig;
+use perf_flat::flat_frame::FlatFrame;
+use perf_flat::read::{read, read_into};
 use perf_words::SampleFlags;
 use std::alloc::Global;
-use std::fmt::Debug;
 use std::mem::size_of;
 use std::process::Abort;
 
@@ -26,14 +26,6 @@ const SAMPLE: &[u8] =
 
 // A header whose size is below its own.
 const SMALL: &[u8] = b"\x03\0\0\0\0\0\x07\0";
-
-// Asserts the `{:?}` of a value.
-fn check_debug<T: Debug>(rt: &(impl AllocGlobal + Abort), value: &T, want: &str) {
-    match format!(in rt.alloc(); "{value:?}") {
-        Ok(text) => assert_eq!(rt; text.as_str(), want),
-        Err(_) => panic!(rt; "no memory"),
-    }
-}
 
 // The header, what was read or why nothing was, the first three numbers and the first span.
 fn parts_of(frame: FlatFrame) -> ([u32; 3], [u32; 3], [u64; 3], [u32; 2]) {
@@ -65,7 +57,7 @@ fn a_flat_frame_has_numbers_and_spans(rt: HostRuntime) {
     );
     check_debug(
         &rt,
-        &frames,
+        frames,
         "(Some(([3, 8192, 24], [3, 0, 0], [5, 7, 0], [16, 2])), \
          Some(([16, 0, 56], [16, 0, 0], [5, 7, 2], [24, 32])), \
          Some(([3, 8192, 24], [0, 1, 0], [0, 0, 0], [0, 0])), \
@@ -102,11 +94,7 @@ fn sample_parts(alloc: Global, bytes: &[u8]) -> Option<([u64; 5], [u32; 4])> {
 #[test]
 fn a_sample_has_its_lists_in_place(rt: HostRuntime) {
     let parts = sample_parts(rt.alloc(), SAMPLE);
-    check_debug(
-        &rt,
-        &parts,
-        "Some(([1063, 5, 7, 9, 4096], [40, 16, 60, 4]))",
-    );
+    check_debug(&rt, parts, "Some(([1063, 5, 7, 9, 4096], [40, 16, 60, 4]))");
 }
 
 #[test]
@@ -122,7 +110,7 @@ fn a_frame_is_written_in_place_or_left_as_it_was(rt: HostRuntime) {
     let small = read_into(&config, SMALL, &mut frame);
     check_debug(
         &rt,
-        &((absent, same), (comm, record), (small, parts_of(frame))),
+        ((absent, same), (comm, record), (small, parts_of(frame))),
         "((false, ([16, 0, 56], [16, 0, 0], [5, 7, 2], [24, 32])), \
          (true, ([3, 8192, 24], [3, 0, 0], [5, 7, 0], [16, 2])), \
          (true, ([3, 0, 7], [0, 2, 1], [0, 0, 0], [0, 0])))",
@@ -131,5 +119,5 @@ fn a_frame_is_written_in_place_or_left_as_it_was(rt: HostRuntime) {
 
 #[test]
 fn a_flat_frame_has_320_bytes(rt: HostRuntime) {
-    check_debug(&rt, &size_of::<FlatFrame>(), "320");
+    check_debug(&rt, size_of::<FlatFrame>(), "320");
 }

@@ -1,30 +1,22 @@
 //! Calls that read several frames, a frame in two pieces, and what is known of a frame.
 
-use crate::attr::read_attr;
-use crate::body::read_body;
-use crate::flat_config::FlatConfig;
-use crate::flat_frame::FlatFrame;
-use crate::identifier::identifier;
-use crate::many::read_many;
-use crate::read::read;
-use crate::split::read_split;
-use perf_base::ParseConfig;
-use perf_base::endian::{Dynamic, Little};
-use std::fmt::Debug;
+use crate::checks::check_debug;
+use perf_event_data::endian::{Dynamic, Little};
+use perf_event_data::parse::ParseConfig;
+use perf_flat::attr::read_attr;
+use perf_flat::body::read_body;
+use perf_flat::flat_config::FlatConfig;
+use perf_flat::flat_frame::FlatFrame;
+use perf_flat::identifier::identifier;
+use perf_flat::many::read_many;
+use perf_flat::read::read;
+use perf_flat::split::read_split;
 use std::process::Abort;
 
 // The thread 7 of the process 5 is called `sh`, a header whose size is below its own, and the
 // beginning of a header.
 const STREAM: &[u8] =
     b"\x03\0\0\0\0\x20\x18\0\x05\0\0\0\x07\0\0\0sh\0\0\0\0\0\0\x03\0\0\0\0\0\x07\0\x03\0\0\0\0";
-
-// Asserts the `{:?}` of a value.
-fn check_debug<T: Debug>(rt: &(impl AllocGlobal + Abort), value: &T, want: &str) {
-    match format!(in rt.alloc(); "{value:?}") {
-        Ok(text) => assert_eq!(rt; text.as_str(), want),
-        Err(_) => panic!(rt; "no memory"),
-    }
-}
 
 // The flat frame of a header alone.
 fn blank(rt: &(impl AllocGlobal + Abort)) -> FlatFrame {
@@ -45,12 +37,12 @@ fn many_frames_end_by_room_by_bytes_or_in_a_header(rt: HostRuntime) {
     let done = read_many(rt.alloc(), &config, &STREAM[..20], &mut frames);
     check_debug(
         &rt,
-        &(cut, first.numbers[1], second.reason),
+        (cut, first.numbers[1], second.reason),
         "(Ended { count: 2, taken: 32, how: 2 }, 7, 1)",
     );
     check_debug(
         &rt,
-        &(full, done),
+        (full, done),
         "(Ended { count: 1, taken: 24, how: 0 }, Ended { count: 1, taken: 20, how: 1 })",
     );
 }
@@ -79,7 +71,7 @@ fn a_frame_in_two_pieces_is_copied_if_it_is_in_both(rt: HostRuntime) {
     let [span, ..] = frame.spans;
     check_debug(
         &rt,
-        &(small, read, span, [room[16], room[17], room[18]]),
+        (small, read, span, [room[16], room[17], room[18]]),
         "(SplitEnd { how: 3, at: 0 }, SplitEnd { how: 0, at: 1 }, Span { at: 16, len: 2 }, [115, 104, 0])",
     );
     let whole = read_split(
@@ -102,7 +94,7 @@ fn a_frame_in_two_pieces_is_copied_if_it_is_in_both(rt: HostRuntime) {
     );
     check_debug(
         &rt,
-        &[whole, second, none, cut],
+        [whole, second, none, cut],
         "[SplitEnd { how: 0, at: 0 }, SplitEnd { how: 0, at: 0 }, SplitEnd { how: 1, at: 0 }, SplitEnd { how: 2, at: 0 }]",
     );
 }
@@ -121,7 +113,7 @@ fn an_identifier_is_first_in_a_sample_and_last_in_another_frame(rt: HostRuntime)
         identifier(COMM, &Little, false),
         identifier(&COMM[..31], &Little, true),
     );
-    check_debug(&rt, &found, "(Some(5), Some(6), None, None)");
+    check_debug(&rt, found, "(Some(5), Some(6), None, None)");
 }
 
 // An attribute of 64 bytes: IP, TID and TIME of a sample, and `sample_id_all`.
@@ -132,7 +124,7 @@ const ATTR: &[u8] = b"\0\0\0\0\x40\0\0\0\0\0\0\0\0\0\0\0\0\0\0\0\0\0\0\0\x07\0\0
 fn an_attribute_gives_a_configuration(rt: HostRuntime) {
     let flat = match read_attr(rt.alloc(), ATTR, Dynamic::Little) {
         Ok((flat, taken)) => {
-            check_debug(&rt, &taken, "64");
+            check_debug(&rt, taken, "64");
             flat
         }
         Err(_) => panic!(rt; "refused"),
@@ -145,7 +137,7 @@ fn an_attribute_gives_a_configuration(rt: HostRuntime) {
     ];
     check_debug(
         &rt,
-        &(flat.version, flat.order, numbers),
+        (flat.version, flat.order, numbers),
         "(1, 0, [7, 0, 262144, 0])",
     );
     let all = match flat.config() {
@@ -153,7 +145,7 @@ fn an_attribute_gives_a_configuration(rt: HostRuntime) {
         None => false,
     };
     let other = FlatConfig { version: 2, ..flat };
-    check_debug(&rt, &(all, other.config().is_none()), "(true, true)");
+    check_debug(&rt, (all, other.config().is_none()), "(true, true)");
 }
 
 #[test]
@@ -165,7 +157,7 @@ fn a_body_is_read_without_its_header(rt: HostRuntime) {
     let [span, ..] = frame.spans;
     check_debug(
         &rt,
-        &(read, frame.size, [first, second], span),
+        (read, frame.size, [first, second], span),
         "(true, 24, [5, 7], Span { at: 16, len: 2 })",
     );
 }
