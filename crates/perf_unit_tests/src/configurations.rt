@@ -39,18 +39,6 @@ fn check_config<E>(rt: &(impl AllocGlobal + Abort), config: &ParseConfig<E>, wan
 }
 
 #[test]
-fn a_configuration_is_what_its_attribute_specifies(rt: HostRuntime) {
-    check_config(&rt, &full(), FULL);
-    check_config(&rt, &ParseConfig::<Little>::default(), NOTHING);
-    let other = ParseConfig::<Little>::from(perf_event_attr {
-        flags: !(1 << 18),
-        branch_sample_type: !(1 << 17),
-        ..Default::default()
-    });
-    check_config(&rt, &other, NOTHING);
-}
-
-#[test]
 fn another_order_keeps_all_flags_and_masks(rt: HostRuntime) {
     let config = full().with_misc(3).with_endian(Dynamic::Big);
     check_config(&rt, &config, "([65543, 13], [true, true], [17, 34], 3)");

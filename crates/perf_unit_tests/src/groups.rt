@@ -126,30 +126,6 @@ fn five() -> ReadGroup<'static> {
     )
 }
 
-// How many entries there are, and the last.
-fn count_and_last() -> (usize, Option<GroupEntry>) {
-    let numbers = CowSlice::Borrowed(&[1, 2, 3, 4, 5]);
-    let group = ReadGroup::from_parts(ReadFormat::GROUP, 0, 0, numbers);
-    (group.entries().count(), group.entries().last())
-}
-
-#[test]
-fn entries_from_both_ends(rt: HostRuntime) {
-    let group = five();
-    let mut entries = group.entries();
-    let items = [entries.nth(1), entries.next_back(), entries.nth_back(1)];
-    let left = entries.len();
-    let after = [entries.next(), entries.next_back()];
-    check_debug(
-        &rt,
-        &(items, left, after, count_and_last()),
-        "([Some(GroupEntry { value: 2, id: None, lost: None }), \
-            Some(GroupEntry { value: 5, id: None, lost: None }), \
-            Some(GroupEntry { value: 3, id: None, lost: None })], 0, [None, None], \
-            (5, Some(GroupEntry { value: 5, id: None, lost: None })))",
-    );
-}
-
 // A copy of a group's entries while these advance: how many are left of both, and what the copy
 // returns from both ends.
 fn text_of_copy(alloc: Global, group: &ReadGroup<'_>) -> ParseResult<String> {
@@ -188,33 +164,6 @@ pub fn without_ids() -> ReadGroup<'static> {
 // No entries.
 pub fn of_none() -> ReadGroup<'static> {
     ReadGroup::from_parts(ReadFormat::GROUP, 0, 0, CowSlice::Borrowed(&[]))
-}
-
-#[test]
-fn entries_by_their_places(rt: HostRuntime) {
-    let group = with_ids();
-    let entries = [group.get(2), group.get(3), group.get(usize::MAX)];
-    check_debug(
-        &rt,
-        &entries,
-        "[Some(GroupEntry { value: 30, id: Some(2), lost: None }), None, None]",
-    );
-}
-
-#[test]
-fn entries_by_their_ids(rt: HostRuntime) {
-    let (group, others) = (with_ids(), without_ids());
-    let entries = [
-        group.get_by_id(2),
-        group.get_by_id(3),
-        others.get_by_id(0),
-        others.get_by_id(1),
-    ];
-    check_debug(
-        &rt,
-        &entries,
-        "[Some(GroupEntry { value: 20, id: Some(2), lost: None }), None, None, None]",
-    );
 }
 
 // The results of the calls of a read.
@@ -322,19 +271,4 @@ fn entry_of_another_group(rt: HostRuntime) {
         "[Some([Some(5), None, None, Some(0), None]), \
             Some([Some(8), None, None, Some(9), None]), Some([Some(8), None, None, None, None])]",
     );
-}
-
-// The error of a group that is no read of one counter.
-fn text_of_refusal(alloc: Global, group: ReadGroup<'_>) -> ParseResult<String> {
-    match ReadValue::try_from(group) {
-        Ok(read) => Ok(format!(in alloc; "{read:?}")?),
-        Err(error) => Ok(format!(in alloc; "{error}")?),
-    }
-}
-
-#[test]
-fn groups_of_none_or_several_are_no_read(rt: HostRuntime) {
-    let want = "can only convert groups with a single element to ReadValues";
-    check_parsed_text(&rt, text_of_refusal(rt.alloc(), of_none()), want);
-    check_parsed_text(&rt, text_of_refusal(rt.alloc(), with_ids()), want);
 }
