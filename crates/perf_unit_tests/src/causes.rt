@@ -20,10 +20,13 @@ use std::test::Fail;
 // The text of the fault that ends a run.
 fn text_of_fault<'p, B: ParseBuf<'p> + Drop>(alloc: Global, buf: B) -> Result<String, AllocError> {
     let mut parser = parser_of(alloc, buf, Little, &attribute(SampleFlags::IP.bits(), 0));
-    match read_records(&mut parser, 10).end {
-        RunEnd::Fault(error) => text_of_error(alloc, &error),
+    let run = read_records(&mut parser, 10);
+    let text = match &run.end {
+        RunEnd::Fault(error) => text_of_error(alloc, error),
         _ => String::from_str(alloc, "no fault"),
-    }
+    };
+    drop(run);
+    text
 }
 
 // Gives some bytes, and then fails.

@@ -2,14 +2,13 @@
 
 ghost use Rattle.std.specs.Prelude.{◌≡◌, true, false, None, Some, take, nat_lt};
 
-use crate::cases::kind_of;
+use crate::cases::{fault_of, kind_of};
 use crate::checks::check_same;
 use anyhow::anyhow;
 use perf_event_data::endian::Little;
 use perf_event_data::parse::{
     ErrorKind, ParseBuf, ParseBufChunk, ParseConfig, ParseError, ParseResult, Parser,
 };
-use perf_event_data::{RunEnd, read_records};
 use perf_test_helpers::runs::text_of_runs;
 use std::io;
 use std::io::{BufReader, Read};
@@ -116,17 +115,8 @@ fn a_fault_of_a_reader_has_it_as_its_cause(rt: HostRuntime) -> Result<(), Fail> 
         once: false,
     };
     let reader = BufReader::with_capacity(rt.alloc(), 7, reader)?;
-    let mut parser = Parser::new(rt.alloc(), reader, ParseConfig::<Little>::default());
-    let RunEnd::Fault(error) = read_records(&mut parser, 10).end else {
-        panic!(rt; "no fault");
-    };
-    let kind_and_cause = (error.kind(), error.cause().is_some());
-    check_same(
-        &rt,
-        "the fault",
-        kind_and_cause,
-        (ErrorKind::External, true),
-    );
+    let fault = fault_of(rt.alloc(), reader);
+    check_same(&rt, "the fault", fault, Some((ErrorKind::External, true)));
     Ok(())
 }
 

@@ -195,7 +195,7 @@ fn single_reads(rt: HostRuntime) {
     check_answers(&rt, &numbers_of_read(&single_with_id()), &want);
     check_debug(
         &rt,
-        &single_with_id(),
+        single_with_id(),
         "ReadValue { value: 3, time_enabled: None, time_running: None, id: Some(6), lost: None }",
     );
 }
@@ -215,7 +215,7 @@ fn read_and_clone() -> Result<(Read, Read), AllocError> {
 fn reads_are_cloned(rt: HostRuntime) {
     check_debug(
         &rt,
-        &read_and_clone(),
+        read_and_clone(),
         "Ok((Read { pid: 1, tid: 2, values: ReadValue { value: 3, time_enabled: Some(4), \
             time_running: Some(5), id: Some(6), lost: Some(7) } }, \
             Read { pid: 1, tid: 2, values: ReadValue { value: 3, time_enabled: Some(4), \
@@ -237,14 +237,22 @@ fn after_two_groups(alloc: Global) -> ParseResult<Result<ReadValue, TryFromGroup
     }
 }
 
+// Asserts that it is the read of one counter with every number.
+fn check_single(
+    rt: &(impl AllocGlobal + Abort),
+    answer: ParseResult<Result<ReadValue, TryFromGroupError>>,
+) {
+    let want = "Ok(Ok(ReadValue { value: 3, time_enabled: Some(4), time_running: Some(5), \
+        id: Some(6), lost: Some(7) }))";
+    check_debug(rt, answer, want);
+}
+
 #[test]
 fn a_read_is_the_same_after_a_group(rt: HostRuntime) {
     let alloc = rt.alloc();
-    let want = "Ok(Ok(ReadValue { value: 3, time_enabled: Some(4), time_running: Some(5), \
-        id: Some(6), lost: Some(7) }))";
-    check_debug(&rt, &after_a_group(alloc), want);
-    check_debug(&rt, &through_a_group(alloc, single()), want);
-    check_debug(&rt, &after_two_groups(alloc), want);
+    check_single(&rt, after_a_group(alloc));
+    check_single(&rt, through_a_group(alloc, single()));
+    check_single(&rt, after_two_groups(alloc));
 }
 
 // The results of a read that is made from the times of one group and the first entry of another.
@@ -267,7 +275,7 @@ fn entry_of_another_group(rt: HostRuntime) {
     ];
     check_debug(
         &rt,
-        &reads,
+        reads,
         "[Some([Some(5), None, None, Some(0), None]), \
             Some([Some(8), None, None, Some(9), None]), Some([Some(8), None, None, None, None])]",
     );

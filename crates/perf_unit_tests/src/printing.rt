@@ -5,8 +5,9 @@ use crate::checks::{check_same, check_that};
 use crate::runs::{PLAIN_64, PLAIN_100, join};
 use anyhow::{Result as AnyResult, bail};
 use perf_event_data::endian::Little;
-use perf_event_data::parse::{ParseConfig, Parser};
-use perf_event_data::{Record, RunEnd, read_records};
+use perf_event_data::parse::{ParseConfig, ParseResult, Parser};
+use perf_event_data::sys::perf_event_header;
+use perf_event_data::{Record, Run, RunEnd, read_records};
 use perf_reports::printing::{Report, print_recording};
 use perf_reports::{samples, tasks};
 use std::alloc::{AllocError, Global};
@@ -467,6 +468,27 @@ fn print_line(
     Ok(())
 }
 
+// Writes the lines of the frames of a run, and returns whether none was refused.
+fn print_frames(
+    alloc: Global,
+    output: &mut Output<'_>,
+    errors: &mut Output<'_>,
+    report: Report,
+    frames: &[(perf_event_header, ParseResult<Record<'_>>)],
+) -> AnyResult<bool> {
+    let mut clean = true;
+    for (_, answer) in frames {
+        match answer {
+            Ok(record) => print_line(alloc, output, report, record)?,
+            Err(error) => {
+                clean = false;
+                write!(errors, "{error}\n")?;
+            }
+        }
+    }
+    Ok(clean)
+}
+
 // What `print_recording` does, with each line written by itself.
 fn print_by_lines(
     alloc: Global,
@@ -480,24 +502,25 @@ fn print_by_lines(
     let mut parser = parser.after_attribute()?;
     let mut clean = true;
     for _ in 0..u64::MAX {
-        let run = read_records(&mut parser, 256);
-        for (_, answer) in &run.frames {
-            match answer {
-                Ok(record) => print_line(alloc, output, report, record)?,
-                Err(error) => {
-                    clean = false;
-                    write!(errors, "{error}\n")?;
-                }
-            }
-        }
-        match run.end {
-            RunEnd::Limit => {}
-            RunEnd::Done => break,
-            RunEnd::CutHeader => bail!("the input ends inside a header"),
-            RunEnd::Fault(error) => return Err(error.into()),
+        let Run { frames, end } = read_records(&mut parser, 256);
+        let printed = print_frames(alloc, output, errors, report, &frames);
+        drop(frames);
+        clean &= printed?;
+        if is_last(end)? {
+            break;
         }
     }
     Ok(clean)
+}
+
+// Whether a run that ended so is the last, if it ended without an error.
+fn is_last(end: RunEnd) -> AnyResult<bool> {
+    match end {
+        RunEnd::Limit => Ok(false),
+        RunEnd::Done => Ok(true),
+        RunEnd::CutHeader => bail!("the input ends inside a header"),
+        RunEnd::Fault(error) => Err(error.into()),
+    }
 }
 
 // A recording that may fail after its bytes, and two outputs with this capacity.

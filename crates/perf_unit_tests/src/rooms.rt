@@ -15,8 +15,10 @@ use std::test::Fail;
 // How many frames a run over a buffer lists, and the capacity of its list.
 fn room<'p, B: ParseBuf<'p> + Drop>(alloc: Global, buf: B, limit: usize) -> (usize, usize) {
     let mut parser = Parser::new(alloc, buf, ParseConfig::<Little>::default());
-    let frames = read_records(&mut parser, limit).frames;
-    (frames.len(), frames.capacity())
+    let run = read_records(&mut parser, limit);
+    let room = (run.frames.len(), run.frames.capacity());
+    drop(run);
+    room
 }
 
 // The same over a slice, a buffered reader and pieces.

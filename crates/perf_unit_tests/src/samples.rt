@@ -348,7 +348,7 @@ fn branches_need_no_index(rt: HostRuntime) {
 fn check_id(rt: &(impl AllocGlobal + Abort), id: SampleId) {
     check_debug(
         rt,
-        &(
+        (
             (id.pid(), id.tid(), id.cpu()),
             (id.time(), id.id(), id.stream_id()),
         ),
