@@ -14,7 +14,6 @@ use perf_words::named::KSymbolType;
 use perf_words::{ReadFormat, SampleRegsAbi};
 use std::alloc::{AllocError, Global};
 use std::fmt::Debug;
-use std::process::Abort;
 
 // A value that is cloned.
 trait CloneText: Debug + Sized + Drop {
@@ -251,23 +250,14 @@ macro_rules! owned_copies {
 // Owned records are made from a local copy of these bytes, which is gone when they are returned.
 const ANONYMOUS: [u8; 6] = *b"//anon";
 
-// Asserts the text of a list and of its copies.
-fn check_items(
-    rt: &(impl AllocGlobal + Abort),
-    answer: ParseResult<CowSlice<'_, u64>>,
-    want: &str,
-) {
-    check_parsed_text(rt, text_with_copies(rt.alloc(), answer), want);
-}
-
 #[test]
 fn items_keep_their_order(rt: HostRuntime) {
     let items = CowSlice::Borrowed(&[3u64, 2, 1]);
     let want = copies!("", "([3, 2, 1]) ([3, 2, 1], 3, false)");
-    check_items(&rt, Ok(items), want);
+    check_parsed_text(&rt, text_with_copies(rt.alloc(), Ok(items)), want);
     let none: CowSlice<'_, u64> = CowSlice::Borrowed(&[]);
     let want = copies!("", "([]) ([], 0, true)");
-    check_items(&rt, Ok(none), want);
+    check_parsed_text(&rt, text_with_copies(rt.alloc(), Ok(none)), want);
 }
 
 fn comm(pid: u32, tid: u32, name: &[u8]) -> Comm<'_> {
@@ -311,23 +301,18 @@ const NAMES: [(u32, u32, &[u8], &str); 3] = [
     ),
 ];
 
-// Asserts the text of a name of a task and of its copies.
-fn check_comm(rt: &(impl AllocGlobal + Abort), answer: ParseResult<Comm<'_>>, want: &str) {
-    check_parsed_text(rt, text_with_copies(rt.alloc(), answer), want);
-}
-
 #[test]
 fn a_name_of_a_task(rt: HostRuntime) {
     for (pid, tid, name, want) in NAMES {
         let comm = comm(pid, tid, name);
-        check_comm(&rt, Ok(comm), want);
+        check_parsed_text(&rt, text_with_copies(rt.alloc(), Ok(comm)), want);
     }
     let want = owned_copies!(
         "Comm { pid: 4112, tid: 1280, comm: ",
         "([47, 47, 97, 110, 111, 110]) } Some(\"//anon\")"
     );
     let comm = owned_comm(rt.alloc());
-    check_comm(&rt, comm, want);
+    check_parsed_text(&rt, text_with_copies(rt.alloc(), comm), want);
 }
 
 fn group_of_tasks(id: u64, path: &[u8]) -> CGroup<'_> {
@@ -342,11 +327,6 @@ fn owned_group_of_tasks(alloc: Global) -> ParseResult<CGroup<'static>> {
     group_of_tasks(7, &bytes).into_owned(alloc)
 }
 
-// Asserts the text of a control group and of its copies.
-fn check_cgroup(rt: &(impl AllocGlobal + Abort), answer: ParseResult<CGroup<'_>>, want: &str) {
-    check_parsed_text(rt, text_with_copies(rt.alloc(), answer), want);
-}
-
 #[test]
 fn a_control_group(rt: HostRuntime) {
     let want = copies!(
@@ -354,16 +334,16 @@ fn a_control_group(rt: HostRuntime) {
         "([2, 3]) } Some(\"\\u{2}\\u{3}\")"
     );
     let group = group_of_tasks(1, &[2, 3]);
-    check_cgroup(&rt, Ok(group), want);
+    check_parsed_text(&rt, text_with_copies(rt.alloc(), Ok(group)), want);
     let want = copies!("CGroup { id: 7, path: ", "([47, 255]) } None");
     let group = group_of_tasks(7, &[0x2f, 0xff]);
-    check_cgroup(&rt, Ok(group), want);
+    check_parsed_text(&rt, text_with_copies(rt.alloc(), Ok(group)), want);
     let want = owned_copies!(
         "CGroup { id: 7, path: ",
         "([47, 47, 97, 110, 111, 110]) } Some(\"//anon\")"
     );
     let group = owned_group_of_tasks(rt.alloc());
-    check_cgroup(&rt, group, want);
+    check_parsed_text(&rt, text_with_copies(rt.alloc(), group), want);
 }
 
 fn symbol(addr: u64, len: u32, name: &[u8]) -> KSymbol<'_> {
@@ -381,11 +361,6 @@ fn owned_symbol(alloc: Global) -> ParseResult<KSymbol<'static>> {
     symbol(4096, 64, &bytes).into_owned(alloc)
 }
 
-// Asserts the text of a symbol and of its copies.
-fn check_symbol(rt: &(impl AllocGlobal + Abort), answer: ParseResult<KSymbol<'_>>, want: &str) {
-    check_parsed_text(rt, text_with_copies(rt.alloc(), answer), want);
-}
-
 #[test]
 fn a_symbol_of_the_kernel(rt: HostRuntime) {
     let want = copies!(
@@ -393,19 +368,19 @@ fn a_symbol_of_the_kernel(rt: HostRuntime) {
         "([3, 4]) }"
     );
     let bpf = symbol(1, 2, &[3, 4]);
-    check_symbol(&rt, Ok(bpf), want);
+    check_parsed_text(&rt, text_with_copies(rt.alloc(), Ok(bpf)), want);
     let want = copies!(
         "KSymbol { addr: 4096, len: 64, ksym_type: KSymbolType(1), flags: KSymbolFlags(1), name: ",
         "([98, 112, 102]) }"
     );
     let bpf = symbol(4096, 64, b"bpf");
-    check_symbol(&rt, Ok(bpf), want);
+    check_parsed_text(&rt, text_with_copies(rt.alloc(), Ok(bpf)), want);
     let want = owned_copies!(
         "KSymbol { addr: 4096, len: 64, ksym_type: KSymbolType(1), flags: KSymbolFlags(1), name: ",
         "([47, 47, 97, 110, 111, 110]) }"
     );
     let bpf = owned_symbol(rt.alloc());
-    check_symbol(&rt, bpf, want);
+    check_parsed_text(&rt, text_with_copies(rt.alloc(), bpf), want);
 }
 
 fn owned_mapping(alloc: Global) -> ParseResult<Mmap<'static>> {
@@ -419,11 +394,6 @@ fn owned_mapping(alloc: Global) -> ParseResult<Mmap<'static>> {
         filename: CowSlice::Borrowed(&bytes),
     };
     mapping.into_owned(alloc)
-}
-
-// Asserts the text of a mapping and of its copies.
-fn check_mapping(rt: &(impl AllocGlobal + Abort), answer: ParseResult<Mmap<'_>>, want: &str) {
-    check_parsed_text(rt, text_with_copies(rt.alloc(), answer), want);
 }
 
 #[test]
@@ -440,13 +410,13 @@ fn a_mapping(rt: HostRuntime) {
         "Mmap { pid: 1, tid: 2, addr: 3, len: 4, pgoff: 5, filename: ",
         "([6, 7]) } Some(\"\\u{6}\\u{7}\")"
     );
-    check_mapping(&rt, Ok(mapping), want);
+    check_parsed_text(&rt, text_with_copies(rt.alloc(), Ok(mapping)), want);
     let want = owned_copies!(
         "Mmap { pid: 1, tid: 2, addr: 4096, len: 8192, pgoff: 512, filename: ",
         "([47, 47, 97, 110, 111, 110]) } Some(\"//anon\")"
     );
     let mapping = owned_mapping(rt.alloc());
-    check_mapping(&rt, mapping, want);
+    check_parsed_text(&rt, text_with_copies(rt.alloc(), mapping), want);
 }
 
 // A mapping of a file by its inode.
@@ -472,15 +442,6 @@ fn by_another_inode() -> Mmap2<'static> {
     Mmap2::from_parts(1, 2, 4096, 8192, 0, 5, 2, filename, detail)
 }
 
-// Asserts the text of a longer record of a mapping and of its copies.
-fn check_longer_mapping(
-    rt: &(impl AllocGlobal + Abort),
-    answer: ParseResult<Mmap2<'_>>,
-    want: &str,
-) {
-    check_parsed_text(rt, text_with_copies(rt.alloc(), answer), want);
-}
-
 #[test]
 fn mappings_by_an_inode(rt: HostRuntime) {
     let want = copies!(
@@ -488,14 +449,14 @@ fn mappings_by_an_inode(rt: HostRuntime) {
         "([8, 9]), detail: Default { maj: 10, min: 11, ino: 12, ino_generation: 13 } } \
             ((Some(10), Some(11), Some(12), Some(13)), None, Some(\"\\u{8}\\t\"))"
     );
-    check_longer_mapping(&rt, Ok(by_inode()), want);
+    check_parsed_text(&rt, text_with_copies(rt.alloc(), Ok(by_inode())), want);
     let want = copies!(
         "Mmap2 { pid: 1, tid: 2, addr: 4096, len: 8192, pgoff: 0, prot: 5, flags: 2, filename: ",
         "([97, 98]), detail: Default { maj: 8, min: 1, ino: 99, ino_generation: 3 } } \
             ((Some(8), Some(1), Some(99), Some(3)), None, Some(\"ab\"))"
     );
     let mapping = by_another_inode();
-    check_longer_mapping(&rt, Ok(mapping), want);
+    check_parsed_text(&rt, text_with_copies(rt.alloc(), Ok(mapping)), want);
 }
 
 // A mapping of a program by its build id, followed by another byte.
@@ -551,7 +512,7 @@ fn mappings_by_a_build_id(rt: HostRuntime) {
         "([8, 9]), detail: BuildId { build_id: 0a0b0c } } \
             ((None, None, None, None), Some([10, 11, 12]), Some(\"\\u{8}\\t\"))"
     );
-    check_longer_mapping(&rt, Ok(by_build_id()), want);
+    check_parsed_text(&rt, text_with_copies(rt.alloc(), Ok(by_build_id())), want);
     let want = owned_copies!(
         "Mmap2 { pid: 1, tid: 2, addr: 4096, len: 8192, pgoff: 0, prot: 5, flags: 2, filename: ",
         "([97, 98]), detail: BuildId { build_id: 0102030405060708090a0b0c0d0e0f1011121314 } } \
@@ -559,26 +520,33 @@ fn mappings_by_a_build_id(rt: HostRuntime) {
             16, 17, 18, 19, 20]), Some(\"ab\"))"
     );
     let whole = by_whole_build_id(rt.alloc());
-    check_longer_mapping(&rt, whole, want);
+    check_parsed_text(&rt, text_with_copies(rt.alloc(), whole), want);
     let want = copies!(
         "Mmap2 { pid: 1, tid: 2, addr: 4096, len: 8192, pgoff: 0, prot: 5, flags: 2, filename: ",
         "([97, 98]), detail: BuildId { build_id: 0102 } } \
             ((None, None, None, None), Some([1, 2]), Some(\"ab\"))"
     );
     let short = by_short_build_id();
-    check_longer_mapping(&rt, short, want);
+    check_parsed_text(&rt, text_with_copies(rt.alloc(), short), want);
     let want = owned_copies!(
         "Mmap2 { pid: 1, tid: 2, addr: 4096, len: 8192, pgoff: 512, prot: 5, flags: 6, filename: ",
         "([47, 47, 97, 110, 111, 110]), detail: BuildId { build_id: 0102 } } \
             ((None, None, None, None), Some([1, 2]), Some(\"//anon\"))"
     );
     let owned = owned_by_build_id(rt.alloc());
-    check_longer_mapping(&rt, owned, want);
+    check_parsed_text(&rt, text_with_copies(rt.alloc(), owned), want);
 }
 
 // The shorter record of a mapping that owns its path.
 fn shorter_owned_mapping(alloc: Global) -> ParseResult<Mmap<'static>> {
-    by_build_id().into_owned(alloc)?.to_mmap(alloc)
+    match by_build_id().into_owned(alloc) {
+        Ok(owned) => {
+            let shorter = owned.to_mmap(alloc);
+            drop(owned);
+            shorter
+        }
+        Err(error) => Err(error),
+    }
 }
 
 // That of a clone.
@@ -593,21 +561,29 @@ fn shorter_mappings(rt: HostRuntime) {
         "Mmap { pid: 1, tid: 2, addr: 3, len: 4, pgoff: 5, filename: ",
         "([8, 9]) } Some(\"\\u{8}\\t\")"
     );
-    check_mapping(&rt, by_inode().to_mmap(alloc), want);
+    check_parsed_text(
+        &rt,
+        text_with_copies(alloc, by_inode().to_mmap(alloc)),
+        want,
+    );
     let want = owned_copies!(
         "Mmap { pid: 1, tid: 2, addr: 3, len: 4, pgoff: 5, filename: ",
         "([8, 9]) } Some(\"\\u{8}\\t\")"
     );
-    check_mapping(&rt, shorter_owned_mapping(alloc), want);
+    check_parsed_text(
+        &rt,
+        text_with_copies(alloc, shorter_owned_mapping(alloc)),
+        want,
+    );
     let want = copies!(
         "Mmap { pid: 1, tid: 2, addr: 4096, len: 8192, pgoff: 0, filename: ",
         "([97, 98]) } Some(\"ab\")"
     );
     let mapping = by_another_inode().to_mmap(alloc);
-    check_mapping(&rt, mapping, want);
-    check_mapping(&rt, shorter_clone(alloc), want);
+    check_parsed_text(&rt, text_with_copies(alloc, mapping), want);
+    check_parsed_text(&rt, text_with_copies(alloc, shorter_clone(alloc)), want);
     let mapping = by_another_inode().into_mmap();
-    check_mapping(&rt, Ok(mapping), want);
+    check_parsed_text(&rt, text_with_copies(alloc, Ok(mapping)), want);
 }
 
 fn poke<'a>(addr: u64, old: &'a [u8], new: &'a [u8]) -> TextPoke<'a> {
@@ -623,11 +599,6 @@ fn owned_poke(alloc: Global) -> ParseResult<TextPoke<'static>> {
     poke(16, &bytes[..1], &bytes[1..]).to_owned(alloc)
 }
 
-// Asserts the text of a change of code and of its copies.
-fn check_poke(rt: &(impl AllocGlobal + Abort), answer: ParseResult<TextPoke<'_>>, want: &str) {
-    check_parsed_text(rt, text_with_copies(rt.alloc(), answer), want);
-}
-
 #[test]
 fn a_change_of_code(rt: HostRuntime) {
     let want = copies!(
@@ -636,31 +607,26 @@ fn a_change_of_code(rt: HostRuntime) {
         "([3, 4]) }"
     );
     let event = poke(1, &[2], &[3, 4]);
-    check_poke(&rt, Ok(event), want);
+    check_parsed_text(&rt, text_with_copies(rt.alloc(), Ok(event)), want);
     let want = copies!(
         "TextPoke { addr: 16, old_bytes: ",
         "([]), new_bytes: ",
         "([170]) }"
     );
     let event = poke(16, &[], &[0xaa]);
-    check_poke(&rt, Ok(event), want);
+    check_parsed_text(&rt, text_with_copies(rt.alloc(), Ok(event)), want);
     let want = owned_copies!(
         "TextPoke { addr: 16, old_bytes: ",
         "([170]), new_bytes: ",
         "([187, 204]) }"
     );
     let event = owned_poke(rt.alloc());
-    check_poke(&rt, event, want);
+    check_parsed_text(&rt, text_with_copies(rt.alloc(), event), want);
 }
 
 fn group_of_counters() -> ReadGroup<'static> {
     let numbers = CowSlice::Borrowed(&[3, 4, 5, 6]);
     ReadGroup::from_parts(ReadFormat::from_bits_retain(0x0d), 1, 2, numbers)
-}
-
-// Asserts the text of a group of counters and of its copies.
-fn check_group(rt: &(impl AllocGlobal + Abort), answer: ParseResult<ReadGroup<'_>>, want: &str) {
-    check_parsed_text(rt, text_with_copies(rt.alloc(), answer), want);
 }
 
 #[test]
@@ -673,27 +639,27 @@ fn a_group_of_counters(rt: HostRuntime) {
             [Some(GroupEntry { value: 3, id: Some(4), lost: None }), \
             Some(GroupEntry { value: 5, id: Some(6), lost: None })])"
     );
-    check_group(&rt, Ok(group_of_counters()), want);
+    check_parsed_text(&rt, text_with_copies(alloc, Ok(group_of_counters())), want);
     let want = copies!(
         "ReadGroup { time_enabled: None, time_running: None, with_id: true, with_lost: false, \
             words: ",
         "([10, 1, 20, 2, 30, 2]) } ((3, false, None, None), \
             [Some(GroupEntry { value: 10, id: Some(1), lost: None }), None])"
     );
-    check_group(&rt, Ok(with_ids()), want);
+    check_parsed_text(&rt, text_with_copies(alloc, Ok(with_ids())), want);
     let want = copies!(
         "ReadGroup { time_enabled: Some(7), time_running: Some(8), with_id: false, \
             with_lost: true, words: ",
         "([10, 1]) } ((1, false, Some(7), Some(8)), \
             [Some(GroupEntry { value: 10, id: None, lost: Some(1) }), None])"
     );
-    check_group(&rt, Ok(without_ids()), want);
+    check_parsed_text(&rt, text_with_copies(alloc, Ok(without_ids())), want);
     let want = copies!(
         "ReadGroup { time_enabled: None, time_running: None, with_id: false, with_lost: false, \
             words: ",
         "([]) } ((0, true, None, None), [None, None])"
     );
-    check_group(&rt, Ok(of_none()), want);
+    check_parsed_text(&rt, text_with_copies(alloc, Ok(of_none())), want);
 }
 
 #[test]
@@ -706,7 +672,7 @@ fn a_group_of_one_read(rt: HostRuntime) {
             Some(GroupEntry { value: 3, id: Some(6), lost: None })])"
     );
     let group = ReadGroup::from_value(rt.alloc(), single_with_id());
-    check_group(&rt, group, want);
+    check_parsed_text(&rt, text_with_copies(rt.alloc(), group), want);
 }
 
 fn registers(values: CowSlice<'_, u64>) -> Registers<'_> {
@@ -722,24 +688,15 @@ fn owned_registers(alloc: Global) -> ParseResult<Registers<'static>> {
     Ok(registers(CowSlice::Borrowed(&[6, 7]).into_owned(alloc)?))
 }
 
-// Asserts the text of registers and of their clone.
-fn check_registers(
-    rt: &(impl AllocGlobal + Abort),
-    answer: ParseResult<Registers<'_>>,
-    want: &str,
-) {
-    check_parsed_text(rt, text_with_clone(rt.alloc(), answer), want);
-}
-
 #[test]
 fn registers_of_a_task(rt: HostRuntime) {
     let want =
         clones!("Borrowed": "Registers { abi: SampleRegsAbi(2), mask: 5, regs: ", "([6, 7]) }");
     let borrowed = registers(CowSlice::Borrowed(&[6, 7]));
-    check_registers(&rt, Ok(borrowed), want);
+    check_parsed_text(&rt, text_with_clone(rt.alloc(), Ok(borrowed)), want);
     let want = clones!("Owned": "Registers { abi: SampleRegsAbi(2), mask: 5, regs: ", "([6, 7]) }");
     let owned = owned_registers(rt.alloc());
-    check_registers(&rt, owned, want);
+    check_parsed_text(&rt, text_with_clone(rt.alloc(), owned), want);
 }
 
 const NETWORK: [NamespaceEntry; 1] = [NamespaceEntry { dev: 3, inode: 4 }];
@@ -762,11 +719,6 @@ fn owned_spaces(alloc: Global) -> ParseResult<Namespaces<'static>> {
     Ok(spaces(CowSlice::Borrowed(&NETWORK).into_owned(alloc)?))
 }
 
-// Asserts the text of namespaces and of their clone.
-fn check_spaces(rt: &(impl AllocGlobal + Abort), answer: ParseResult<Namespaces<'_>>, want: &str) {
-    check_parsed_text(rt, text_with_clone(rt.alloc(), answer), want);
-}
-
 #[test]
 fn namespaces_of_a_task(rt: HostRuntime) {
     let want = clones!("Borrowed":
@@ -775,14 +727,14 @@ fn namespaces_of_a_task(rt: HostRuntime) {
             ([Some(NamespaceEntry { dev: 3, inode: 4 }), None, None], [None, None, None])"
     );
     let borrowed = spaces(CowSlice::Borrowed(&NETWORK));
-    check_spaces(&rt, Ok(borrowed), want);
+    check_parsed_text(&rt, text_with_clone(rt.alloc(), Ok(borrowed)), want);
     let want = clones!("Owned":
         "Namespaces { pid: 1, tid: 2, namespaces: ",
         "([NamespaceEntry { dev: 3, inode: 4 }]) } \
             ([Some(NamespaceEntry { dev: 3, inode: 4 }), None, None], [None, None, None])"
     );
     let owned = owned_spaces(rt.alloc());
-    check_spaces(&rt, owned, want);
+    check_parsed_text(&rt, text_with_clone(rt.alloc(), owned), want);
     let want = clones!("Borrowed":
         "Namespaces { pid: 1, tid: 2, namespaces: ",
         "([NamespaceEntry { dev: 3, inode: 4 }, NamespaceEntry { dev: 5, inode: 6 }]) } \
@@ -790,5 +742,5 @@ fn namespaces_of_a_task(rt: HostRuntime) {
             inode: 6 }), None], [None, None, None])"
     );
     let borrowed = spaces(CowSlice::Borrowed(&NETWORK_AND_NAME));
-    check_spaces(&rt, Ok(borrowed), want);
+    check_parsed_text(&rt, text_with_clone(rt.alloc(), Ok(borrowed)), want);
 }

@@ -38,30 +38,40 @@ const CALLS: [EntryCall; 8] = [
     EntryCall::NthBack(6),
 ];
 
+// ID and LOST of a read format.
+const ID: u64 = 4;
+
+const LOST: u64 = 16;
+
+// A number that is there if a read format has a bit.
+fn number_under(format: u64, bit: u64, number: u64) -> Option<u64> {
+    if format & bit == 0 {
+        None
+    } else {
+        Some(number)
+    }
+}
+
 // Whether it is the entry with that value in that form.
-fn is_entry(format: ReadFormat, entry: Option<GroupEntry>, value: Option<u64>) -> bool {
-    match (entry, value) {
-        (None, None) => true,
-        (Some(entry), Some(value)) => {
-            let id = format
-                .contains(ReadFormat::ID)
-                .then_some(value.wrapping_add(100));
-            let lost = format
-                .contains(ReadFormat::LOST)
-                .then_some(value.wrapping_add(200));
-            entry.value() == value && entry.id() == id && entry.lost() == lost
-        }
-        _ => false,
+fn has_numbers(format: u64, entry: &GroupEntry, value: u64) -> bool {
+    let id = number_under(format, ID, value.wrapping_add(100));
+    let lost = number_under(format, LOST, value.wrapping_add(200));
+    entry.value() == value && entry.id() == id && entry.lost() == lost
+}
+
+// The same of an entry and a value that may be absent.
+fn is_entry(format: u64, entry: Option<GroupEntry>, value: Option<u64>) -> bool {
+    match entry {
+        Some(entry) => match value {
+            Some(value) => has_numbers(format, &entry, value),
+            None => false,
+        },
+        None => value.is_none(),
     }
 }
 
 // Whether four calls, by their indices in `CALLS`, return what those of a list's iterator do.
-fn goes_as_a_list(
-    entries: GroupIter<'_>,
-    format: ReadFormat,
-    values: &[u64],
-    calls: [usize; 4],
-) -> bool {
+fn goes_as_a_list(entries: GroupIter<'_>, format: u64, values: &[u64], calls: [usize; 4]) -> bool {
     let mut entries = entries;
     let mut list = values.iter().copied();
     for place in calls {
@@ -85,9 +95,10 @@ fn check_mixtures(rt: &impl Abort, format: ReadFormat, numbers: CowSlice<'_, u64
     assert_eq!(rt; numbers.len() % format.element_len(), 0);
     let group = ReadGroup::from_parts(format, 0, 0, numbers);
     assert_eq!(rt; group.len(), values.len());
+    let bits = format.bits();
     for code in 0..4096usize {
         let calls = [code, code / 8, code / 64, code / 512];
-        assert!(rt; goes_as_a_list(group.entries(), format, values, calls));
+        assert!(rt; goes_as_a_list(group.entries(), bits, values, calls));
     }
 }
 
