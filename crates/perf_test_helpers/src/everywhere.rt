@@ -118,7 +118,7 @@ pub fn text_everywhere<E: Endian + Copy>(
 ) -> Result<String, AllocError> {
     let mut text = text_over_bytes(alloc, bytes, asked, Buffer::Slice)?;
     let mut others = String::new(alloc);
-    for buffer in OTHERS {
+    for &buffer in &OTHERS {
         let actual = text_over_bytes(alloc, bytes, asked, buffer)?;
         add_other(&mut others, actual.as_str(), text.as_str())?;
     }

@@ -346,7 +346,7 @@ pub fn differences<E: Endian + Copy>(
     };
     let mut text = text_over_bytes(alloc, bytes, &asked, Buffer::Slice)?;
     let mut others = String::new(alloc);
-    for (way, buffer) in [
+    for &(way, buffer) in &[
         (Way::Records, other),
         (Way::Frames, Buffer::Slice),
         (Way::Frames, other),

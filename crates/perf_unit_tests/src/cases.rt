@@ -68,14 +68,14 @@ fn check_over<'p, B: ParseBuf<'p> + Drop>(
 /// Asserts the result over a slice, buffered readers and pieces.
 pub fn check_case(rt: &(impl AllocGlobal + Abort), case: &Case<'_>) {
     check_over(rt, case.bytes, case);
-    for capacity in [1, 7, 8192] {
+    for &capacity in &[1, 7, 8192] {
         match BufReader::with_capacity(rt.alloc(), capacity, case.bytes) {
             Ok(reader) => check_over(rt, reader, case),
             Err(_) => panic!(rt; "no memory"),
         }
     }
-    for most in [1, 3, 7, 64] {
-        for borrowed in [true, false] {
+    for &most in &[1, 3, 7, 64] {
+        for &borrowed in &[true, false] {
             check_over(rt, PieceBuf::new(case.bytes, most, borrowed), case);
         }
     }

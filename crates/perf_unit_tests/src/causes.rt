@@ -101,9 +101,9 @@ const COUNTS: [usize; 6] = [0, 1, 4, 8, 16, 24];
 
 #[test]
 fn a_run_ends_by_the_error_of_its_reader(rt: HostRuntime) -> Result<(), Fail> {
-    for frame in FRAMES {
-        for count in COUNTS {
-            for capacity in [1, 7, 8192] {
+    for &frame in &FRAMES {
+        for &count in &COUNTS {
+            for &capacity in &[1, 7, 8192] {
                 let bytes = &frame[..count.min(frame.len())];
                 let reader = BufReader::with_capacity(rt.alloc(), capacity, Failing { bytes })?;
                 check_text(&rt, text_of_fault(rt.alloc(), reader), BY_CAUSE);
@@ -116,7 +116,7 @@ fn a_run_ends_by_the_error_of_its_reader(rt: HostRuntime) -> Result<(), Fail> {
 // Asserts the text of the fault without a hint, with one that is too large, and with one that is
 // too small for a body.
 fn check_broken(rt: &(impl AllocGlobal + Abort), bytes: &[u8], has_message: bool, want: &str) {
-    for hint in [None, Some(1000), Some(3)] {
+    for &hint in &[None, Some(1000), Some(3)] {
         let buf = Breaking {
             bytes,
             hint,
@@ -128,8 +128,8 @@ fn check_broken(rt: &(impl AllocGlobal + Abort), bytes: &[u8], has_message: bool
 
 #[test]
 fn a_run_ends_by_the_error_of_its_buffer(rt: HostRuntime) {
-    for frame in FRAMES {
-        for count in COUNTS {
+    for &frame in &FRAMES {
+        for &count in &COUNTS {
             let bytes = &frame[..count.min(frame.len())];
             check_broken(&rt, bytes, false, BY_CAUSE);
             check_broken(&rt, bytes, true, BY_MESSAGE);

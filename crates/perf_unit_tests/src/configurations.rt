@@ -53,7 +53,7 @@ const MISCS: [(u16, &str); 3] = [
 
 #[test]
 fn another_misc_keeps_the_rest(rt: HostRuntime) {
-    for (misc, want) in MISCS {
+    for &(misc, want) in &MISCS {
         check_config(&rt, &full().with_misc(0x5555).with_misc(misc), want);
     }
 }
@@ -70,7 +70,7 @@ const SAMPLE_TYPES: [(u64, &str); 3] = [
 
 #[test]
 fn another_sample_type_keeps_the_rest(rt: HostRuntime) {
-    for (sample_type, want) in SAMPLE_TYPES {
+    for &(sample_type, want) in &SAMPLE_TYPES {
         let sample_type = SampleFlags::from_bits_retain(sample_type);
         let config = full().with_misc(7).with_sample_type(sample_type);
         check_config(&rt, &config, want);
@@ -87,7 +87,7 @@ const READ_FORMATS: [(u64, &str); 4] = [
 
 #[test]
 fn another_read_format_keeps_the_rest(rt: HostRuntime) {
-    for (read_format, want) in READ_FORMATS {
+    for &(read_format, want) in &READ_FORMATS {
         let read_format = ReadFormat::from_bits_retain(read_format);
         let config = full().with_misc(7).with_read_format(read_format);
         check_config(&rt, &config, want);

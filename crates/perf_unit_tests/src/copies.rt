@@ -303,7 +303,7 @@ const NAMES: [(u32, u32, &[u8], &str); 3] = [
 
 #[test]
 fn a_name_of_a_task(rt: HostRuntime) {
-    for (pid, tid, name, want) in NAMES {
+    for &(pid, tid, name, want) in &NAMES {
         let comm = comm(pid, tid, name);
         check_parsed_text(&rt, text_with_copies(rt.alloc(), Ok(comm)), want);
     }

@@ -56,7 +56,7 @@ const KINDS: [(ErrorKind, &str); 6] = [
 
 #[test]
 fn an_error_is_written_with_its_message(rt: HostRuntime) {
-    for (kind, want) in KINDS {
+    for &(kind, want) in &KINDS {
         check_parsed_text(&rt, ParseError::custom(kind, "why"), want);
     }
 }
@@ -93,7 +93,7 @@ const INPUT_ERRORS: [(io::ErrorKind, &str); 4] = [
 
 #[test]
 fn an_input_error_is_an_early_end_or_external(rt: HostRuntime) {
-    for (kind, want) in INPUT_ERRORS {
+    for &(kind, want) in &INPUT_ERRORS {
         check_parsed_text(&rt, io::Error::from(kind).into(), want);
     }
 }

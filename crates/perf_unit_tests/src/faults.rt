@@ -77,8 +77,8 @@ fn check_reader(
     limits: &[usize],
     want: &str,
 ) -> Result<(), Fail> {
-    for kind in IO_KINDS {
-        for capacity in [1, 7, 8192] {
+    for &kind in &IO_KINDS {
+        for &capacity in &[1, 7, 8192] {
             let reader = Faulty {
                 bytes: TWO,
                 before: Some(before),
@@ -200,7 +200,7 @@ const FAULTS: [((u64, u64), &[usize], &str); 5] = [
 
 #[test]
 fn a_run_goes_on_after_counted_faults(rt: HostRuntime) -> Result<(), Fail> {
-    for (faults, limits, want) in FAULTS {
+    for &(faults, limits, want) in &FAULTS {
         check_counted(&rt, 16, faults, limits, want)?;
     }
     Ok(())
@@ -216,7 +216,7 @@ fn a_counted_fault_ends_the_run_wherever_it_comes(rt: HostRuntime) -> Result<(),
 
 #[test]
 fn a_fault_is_no_end_of_the_rest(rt: HostRuntime) {
-    for before in [0, 3, 32] {
+    for &before in &[0, 3, 32] {
         let buf = Counting {
             bytes: TWO,
             before,

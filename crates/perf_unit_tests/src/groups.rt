@@ -118,7 +118,7 @@ fn check_group(
 
 #[test]
 fn mixtures_of_calls(rt: HostRuntime) {
-    for (bits, numbers) in GROUPS {
+    for &(bits, numbers) in &GROUPS {
         let format = ReadFormat::from_bits_retain(bits);
         for count in 0..7usize {
             let len = count.saturating_mul(format.element_len());

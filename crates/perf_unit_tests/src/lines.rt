@@ -68,7 +68,7 @@ const NAMES: [(&[u8], &str); 9] = [
 
 #[test]
 fn a_name_cannot_forge_a_line(rt: HostRuntime) {
-    for (name, want) in NAMES {
+    for &(name, want) in &NAMES {
         let record = Record::Comm(Comm {
             pid: 1,
             tid: 2,

@@ -277,9 +277,9 @@ fn text_of_end(alloc: Global, outcome: AnyResult<bool>) -> Result<String, AllocE
 }
 
 // Asserts what is printed of a recording, however many bytes a read gives.
-fn check_printed(rt: &(impl AllocGlobal + Abort), case: Printed<'_>) -> Result<(), AllocError> {
+fn check_printed(rt: &(impl AllocGlobal + Abort), case: &Printed<'_>) -> Result<(), AllocError> {
     let bytes = join(rt.alloc(), case.attr, case.after)?;
-    for most in [1, 7, 8192] {
+    for &most in &[1, 7, 8192] {
         let log = Cell::new(1);
         let input = Input {
             log: &log,
@@ -299,7 +299,7 @@ fn check_printed(rt: &(impl AllocGlobal + Abort), case: Printed<'_>) -> Result<(
 
 #[test]
 fn recordings_are_printed(rt: HostRuntime) -> Result<(), AllocError> {
-    for case in PRINTED {
+    for case in &PRINTED {
         check_printed(&rt, case)?;
     }
     Ok(())
@@ -324,7 +324,7 @@ fn an_early_refusal_is_not_forgotten(rt: HostRuntime) -> Result<(), AllocError> 
         errors: TOO_SMALL,
         end: "refused",
     };
-    check_printed(&rt, case)
+    check_printed(&rt, &case)
 }
 
 // ---- what is written at a time
@@ -408,7 +408,7 @@ fn a_write_is_of_whole_lines(rt: HostRuntime) -> Result<(), AllocError> {
 fn a_long_line_has_a_write_of_its_own(rt: HostRuntime) -> Result<(), AllocError> {
     // Lines of 12 bytes, of 10 more than the name, and of 12 bytes: the second fits with both
     // others, with the first, with none.
-    for (len, writes) in [
+    for &(len, writes) in &[
         (4062, 1),
         (4063, 2),
         (4074, 2),
@@ -603,7 +603,7 @@ fn check_orders(
         room: usize::MAX,
         errors: usize::MAX,
     };
-    for room in ROOMS {
+    for &room in &ROOMS {
         check_gathered(rt, Case { room, ..whole })?;
         check_gathered(
             rt,
@@ -613,7 +613,7 @@ fn check_orders(
             },
         )?;
     }
-    for (cut, fault) in [(0, true), (3, false), (3, true), (21, false)] {
+    for &(cut, fault) in &[(0, true), (3, false), (3, true), (21, false)] {
         let case = Case {
             bytes: &bytes[..bytes.len().saturating_sub(cut)],
             fault: fault.then_some(io::ErrorKind::Other),
@@ -626,8 +626,8 @@ fn check_orders(
 
 #[test]
 fn lines_go_out_in_order(rt: HostRuntime) -> Result<(), AllocError> {
-    for count in [0, 1, 300, 700] {
-        for refused in [7, 1_000] {
+    for &count in &[0, 1, 300, 700] {
+        for &refused in &[7, 1_000] {
             let input = names_that_grow(rt.alloc(), count, refused)?;
             check_orders(&rt, input.as_slice(), Report::Tasks)?;
         }
@@ -637,7 +637,7 @@ fn lines_go_out_in_order(rt: HostRuntime) -> Result<(), AllocError> {
 
 #[test]
 fn long_lines_go_out_in_order(rt: HostRuntime) -> Result<(), AllocError> {
-    for len in [4_074, 4_075, 5_000, 40_000, 60_000] {
+    for &len in &[4_074, 4_075, 5_000, 40_000, 60_000] {
         let input = long_name(rt.alloc(), len)?;
         check_orders(&rt, input.as_slice(), Report::Tasks)?;
     }
@@ -648,7 +648,7 @@ fn long_lines_go_out_in_order(rt: HostRuntime) -> Result<(), AllocError> {
 #[test]
 fn escaped_names_go_out_in_order(rt: HostRuntime) -> Result<(), AllocError> {
     let mut input = Vec::from_slice(rt.alloc(), &PLAIN_64)?;
-    for name in [
+    for &name in &[
         b"sh\nexit 1".as_slice(),
         b"a\xffb",
         b"\x1b[2J",

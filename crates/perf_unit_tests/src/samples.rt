@@ -330,7 +330,7 @@ const ALONE: [(Option<u32>, Option<u32>, Option<u64>, &str); 4] = [
 
 #[test]
 fn a_sample_has_the_fields_alone_that_are_given(rt: HostRuntime) {
-    for (pid, tid, index, want) in ALONE {
+    for &(pid, tid, index, want) in &ALONE {
         check_parsed_text(&rt, text_alone(rt.alloc(), (pid, tid), index, None), want);
     }
 }

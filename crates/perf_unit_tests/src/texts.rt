@@ -55,7 +55,7 @@ const MANY: [(usize, usize, &str); 5] = [
 
 #[test]
 fn frames_are_numbered_on_from_batch_to_batch(rt: HostRuntime) -> Result<(), AllocError> {
-    for (count, limit, end) in MANY {
+    for &(count, limit, end) in &MANY {
         check_many(&rt, count, limit, end)?;
     }
     Ok(())
@@ -91,7 +91,7 @@ const KINDS: [(ErrorKind, &str); 6] = [
 
 #[test]
 fn each_kind_has_its_name(rt: HostRuntime) -> ParseResult<()> {
-    for (kind, text) in KINDS {
+    for &(kind, text) in &KINDS {
         let header = perf_event_header {
             type_: 1,
             misc: 2,
@@ -200,7 +200,7 @@ const STATUSES: [(Outcome, u8); 5] = [
 
 #[test]
 fn each_outcome_has_its_status(rt: HostRuntime) {
-    for (outcome, status) in STATUSES {
+    for &(outcome, status) in &STATUSES {
         check_same(&rt, "the status", outcome.status(), status);
     }
 }

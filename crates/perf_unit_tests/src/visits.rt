@@ -236,7 +236,7 @@ const CALLS: &str = "mmap; lost; comm; exit; throttle; unthrottle; \
 #[test]
 fn each_type_has_its_call(rt: HostRuntime) -> Result<(), Fail> {
     let bytes = zero_frames(rt.alloc())?;
-    for (name, visitor) in [("a visitor", Gives::Names), ("own calls", Gives::OwnCalls)] {
+    for &(name, visitor) in &[("a visitor", Gives::Names), ("own calls", Gives::OwnCalls)] {
         let case = Case {
             name,
             request: Request::Visited(visitor),

@@ -53,7 +53,7 @@ const MIXED: &[u8] =
 
 fn config() -> ParseConfig<Little> {
     let mut sample_type = 0;
-    for field in FIELDS {
+    for &field in &FIELDS {
         sample_type |= field.bits();
     }
     ParseConfig::from(ids_attribute(sample_type))
