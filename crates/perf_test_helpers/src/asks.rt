@@ -118,13 +118,6 @@ fn write_list<'p, B: ParseBuf<'p>, E: Endian>(
     }
 }
 
-fn write_array_of<'p, B: ParseBuf<'p>, E: Endian, const N: usize>(
-    text: &mut String,
-    parser: &mut Parser<B, E>,
-) -> Result<(), AllocError> {
-    write_debug(text, <[u8; N]>::parse(parser))
-}
-
 // Arrays of bytes.
 fn write_array<'p, B: ParseBuf<'p>, E: Endian>(
     text: &mut String,
@@ -132,10 +125,10 @@ fn write_array<'p, B: ParseBuf<'p>, E: Endian>(
     name: &str,
 ) -> Result<(), AllocError> {
     match name {
-        "[u8;0]" => write_array_of::<B, E, 0>(text, parser),
-        "[u8;1]" => write_array_of::<B, E, 1>(text, parser),
-        "[u8;2]" => write_array_of::<B, E, 2>(text, parser),
-        "[u8;4]" => write_array_of::<B, E, 4>(text, parser),
+        "[u8;0]" => write_debug(text, <[u8; 0]>::parse(parser)),
+        "[u8;1]" => write_debug(text, <[u8; 1]>::parse(parser)),
+        "[u8;2]" => write_debug(text, <[u8; 2]>::parse(parser)),
+        "[u8;4]" => write_debug(text, <[u8; 4]>::parse(parser)),
         _ => write_body(text, parser, name),
     }
 }
