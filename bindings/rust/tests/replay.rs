@@ -112,10 +112,13 @@ fn entries(all: impl IntoIterator<Item = Option<GroupEntry>>) -> String {
 fn group(group: &ReadGroup<'_>) -> String {
     let mut all = group.entries();
     let first = entries([all.next(), all.next(), all.next()]);
-    let by_places = entries([group.get(0), group.get(1), group.get(2)]);
-    let by_ids = entries([1, 2, 3, 0xBD, 0xBE].map(|id| group.get_by_id(id)));
+    let by_places = entries([0, 1, 2, 3, usize::MAX].map(|place| group.get(place)));
+    let by_ids = entries([0, 1, 2, 3, 0xBD, 0xBE].map(|id| group.get_by_id(id)));
     let times = [group.time_enabled(), group.time_running()];
-    let is_one = ReadValue::try_from(group.clone()).is_ok();
+    let is_one = match ReadValue::try_from(group.clone()) {
+        Ok(_) => "true".to_owned(),
+        Err(error) => error.to_string(),
+    };
     let (len, is_empty) = (group.len(), group.is_empty());
     format!("{len} {is_empty} {times:?} {first} {by_places} {by_ids} {is_one}")
 }
@@ -125,12 +128,11 @@ fn both_ends(group: &ReadGroup<'_>) -> String {
     let taken = entries([all.nth(1), all.next_back(), all.nth_back(1)]);
     let times = [group.time_enabled(), group.time_running()];
     let left = all.len();
-    let next = entries([all.next()]);
-    let next = next
-        .trim_start_matches('[')
-        .trim_end_matches(']')
-        .to_owned();
-    format!("{} {times:?} {taken} {left} {next}", group.len())
+    let next = entries([all.next(), all.next_back()]);
+    let (count, last) = (group.entries().count(), entries([group.entries().last()]));
+    let last = last.trim_start_matches('[').trim_end_matches(']');
+    let len = group.len();
+    format!("{len} {times:?} {taken} {left} {next} {count} {last}")
 }
 
 fn registers(registers: &Registers<'_>) -> String {

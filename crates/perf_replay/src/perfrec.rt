@@ -57,7 +57,7 @@ fn words(alloc: Global, line: &str) -> Result<Vec<String>, AllocError> {
 pub fn text_of(alloc: Global, line: &str, stream: &[u8]) -> Result<String> {
     let request = command(&words(alloc, line)?).context("no words of perfrec")?;
     let mut text = text_in_pieces(alloc, request, stream, 1)?;
-    for piece in [7, 8192] {
+    for &piece in &[7, 8192] {
         let other = text_in_pieces(alloc, request, stream, piece)?;
         if other.as_str() != text.as_str() {
             write!(text, " but {other}")?;

@@ -1,6 +1,6 @@
 //! What a parser is asked for, one thing after another, and the results as text.
 
-use crate::everywhere::{TextOver, parser_of, text_everywhere};
+use crate::everywhere::{Asked, Request, text_everywhere};
 use crate::texts::{
     Found, FrameLine, FromBothEnds, OfGroup, WriteText, write_answer, write_config, write_last,
     write_semicolon,
@@ -187,7 +187,10 @@ fn next_sample<'p, B: ParseBuf<'p>, E: Endian>(
     alloc: Global,
     parser: &mut Parser<B, E>,
 ) -> ParseResult<Record<'p>> {
-    Record::from_sample(alloc, Sample::parse(parser)?)
+    match Sample::parse(parser) {
+        Ok(sample) => Record::from_sample(alloc, sample),
+        Err(error) => Err(error),
+    }
 }
 
 fn write_next_record<'p, B: ParseBuf<'p>, E: Endian>(
@@ -203,6 +206,13 @@ fn write_next_record<'p, B: ParseBuf<'p>, E: Endian>(
             with_spaces,
         },
     )
+}
+
+/// The next attribute.
+pub fn next_attribute<'p, B: ParseBuf<'p>, E: Endian>(
+    parser: &mut Parser<B, E>,
+) -> ParseResult<perf_event_attr> {
+    perf_event_attr::parse(parser)
 }
 
 /// The next group of counters.
@@ -258,7 +268,7 @@ fn write_beside<'p, B: ParseBuf<'p>, E: Endian>(
         "ReadValue" => write_debug(text, ReadValue::parse(parser)),
         "ReadGroup" => write_answer(text, next_group(parser)),
         "both_ends" => write_both_ends(text, next_group(parser)),
-        "perf_event_attr" => write_debug(text, perf_event_attr::parse(parser)),
+        "perf_event_attr" => write_debug(text, next_attribute(parser)),
         "SampleId" => write_debug(text, SampleId::parse(parser)),
         "config" => write_config(text, parser.config()),
         "Record" => write_next_record(text, parser, false),
@@ -339,14 +349,24 @@ fn write_inside<'p, E: Endian>(
     answer: ParseResult<(Parser<ParseBufCursor<'p>, E>, RecordMetadata)>,
     words: &str,
 ) -> Result<(), AllocError> {
-    write_semicolon(text)?;
     match answer {
         Ok((mut inner, metadata)) => {
-            write!(text, "{metadata:?}")?;
-            write_answers(text, &mut inner, words)
+            let written = write_frame(text, &mut inner, &metadata, words);
+            drop(inner);
+            written
         }
         Err(error) => write!(text, "{error}"),
     }
+}
+
+fn write_frame<'p, B: ParseBuf<'p>, E: Endian>(
+    text: &mut String,
+    inner: &mut Parser<B, E>,
+    metadata: &RecordMetadata,
+    words: &str,
+) -> Result<(), AllocError> {
+    write!(text, "{metadata:?}")?;
+    write_answers(text, inner, words)
 }
 
 fn write_inside_after_header<'p, B: ParseBuf<'p>, E: Endian>(
@@ -357,7 +377,7 @@ fn write_inside_after_header<'p, B: ParseBuf<'p>, E: Endian>(
     write_semicolon(text)?;
     match next_header(parser) {
         Ok(header) => {
-            write!(text, "{header:?}")?;
+            write!(text, "{header:?}; ")?;
             write_inside(text, parser.parse_metadata_with_header(header), words)
         }
         Err(error) => write!(text, "{error}"),
@@ -372,7 +392,10 @@ fn write_part<'p, B: ParseBuf<'p>, E: Endian>(
 ) -> Result<(), AllocError> {
     let (first, words) = part.split_once(' ').unwrap_or((part, ""));
     match first {
-        "parse_metadata" => write_inside(text, parser.parse_metadata(), words),
+        "parse_metadata" => {
+            write_semicolon(text)?;
+            write_inside(text, parser.parse_metadata(), words)
+        }
         "parse_metadata_with_header" => write_inside_after_header(text, parser, words),
         _ => write_answers(text, parser, part),
     }
@@ -390,21 +413,16 @@ fn write_parts<'p, B: ParseBuf<'p>, E: Endian>(
     Ok(())
 }
 
-// The results of one parser.
-#[derive(Drop)]
-struct Answers<'a, E> {
-    endian: E,
-    attr: &'a perf_event_attr,
-    parts: &'a str,
-}
-
-impl<'p, B: ParseBuf<'p> + Drop, E: Endian + Copy> TextOver<'p, B> for Answers<'_, E> {
-    fn text_over(&self, alloc: Global, buf: B) -> Result<String, AllocError> {
-        let mut parser = parser_of(alloc, buf, self.endian, self.attr);
-        let mut text = String::new(alloc);
-        write_parts(&mut text, &mut parser, self.parts)?;
-        Ok(text)
-    }
+/// The results of a parser.
+pub fn text_of_answers<'p, B: ParseBuf<'p> + Drop, E: Endian>(
+    alloc: Global,
+    parser: Parser<B, E>,
+    parts: &str,
+) -> Result<String, AllocError> {
+    let mut parser = parser;
+    let mut text = String::new(alloc);
+    write_parts(&mut text, &mut parser, parts)?;
+    Ok(text)
 }
 
 /// What parsers over these bytes return under an attribute, over a slice, buffered readers and
@@ -417,10 +435,10 @@ pub fn text_of_calls<E: Endian + Copy>(
     attr: &perf_event_attr,
     parts: &str,
 ) -> Result<String, AllocError> {
-    let maker = Answers {
+    let asked = Asked {
         endian,
         attr,
-        parts,
+        request: Request::Calls(parts),
     };
-    text_everywhere(alloc, bytes, &maker)
+    text_everywhere(alloc, bytes, &asked)
 }

@@ -1,5 +1,7 @@
 //! A text over each of many buffers.
 
+use crate::asks::text_of_answers;
+use crate::runs::{Way, text_after, text_of_parser};
 use perf_event_data::PieceBuf;
 use perf_event_data::endian::{Endian, Native};
 use perf_event_data::parse::{ParseBuf, ParseConfig, Parser};
@@ -18,9 +20,37 @@ pub fn parser_of<'p, B: ParseBuf<'p>, E: Endian>(
     Parser::new(alloc, buf, config.with_endian(endian))
 }
 
-/// Makes a text from a buffer.
-pub trait TextOver<'p, B: ParseBuf<'p>> {
-    fn text_over(&self, alloc: Global, buf: B) -> Result<String, AllocError>;
+/// What a parser is asked for.
+#[derive(Copy, Clone)]
+pub enum Request<'a> {
+    /// Calls and types, one after another ([`crate::asks::text_of_calls`]).
+    Calls(&'a str),
+    /// Runs of this kind with these limits.
+    Runs(Way, &'a [usize]),
+    /// The attribute at the start, and the runs after it with these limits.
+    AfterAttribute(&'a [usize]),
+}
+
+/// What a parser is asked for, and what it is made with.
+#[derive(Drop)]
+pub struct Asked<'a, E> {
+    pub endian: E,
+    pub attr: &'a perf_event_attr,
+    pub request: Request<'a>,
+}
+
+// The text of a parser over a buffer.
+fn text_over<'p, B: ParseBuf<'p> + Drop, E: Endian + Copy>(
+    alloc: Global,
+    buf: B,
+    asked: &Asked<'_, E>,
+) -> Result<String, AllocError> {
+    let parser = parser_of(alloc, buf, asked.endian, asked.attr);
+    match asked.request {
+        Request::Calls(parts) => text_of_answers(alloc, parser, parts),
+        Request::Runs(way, limits) => text_of_parser(alloc, parser, way, limits),
+        Request::AfterAttribute(limits) => text_after(alloc, parser, asked.endian, limits),
+    }
 }
 
 /// A buffer over a slice.
@@ -30,10 +60,8 @@ pub enum Buffer {
     Slice,
     /// A buffered reader of this capacity, which is at least 1.
     Reader(usize),
-    /// Pieces of at most this many bytes, at least 1, that live as long as the input.
-    External(usize),
-    /// Pieces that do not live as long as the input.
-    Temporary(usize),
+    /// Pieces of at most this many bytes, at least 1, and whether they live as long as the input.
+    Pieces(usize, bool),
 }
 
 /// Buffers that show less than all bytes, or do not show them as long.
@@ -41,60 +69,34 @@ pub const OTHERS: [Buffer; 11] = [
     Buffer::Reader(1),
     Buffer::Reader(7),
     Buffer::Reader(8192),
-    Buffer::External(1),
-    Buffer::Temporary(1),
-    Buffer::External(3),
-    Buffer::Temporary(3),
-    Buffer::External(7),
-    Buffer::Temporary(7),
-    Buffer::External(64),
-    Buffer::Temporary(64),
+    Buffer::Pieces(1, true),
+    Buffer::Pieces(1, false),
+    Buffer::Pieces(3, true),
+    Buffer::Pieces(3, false),
+    Buffer::Pieces(7, true),
+    Buffer::Pieces(7, false),
+    Buffer::Pieces(64, true),
+    Buffer::Pieces(64, false),
 ];
 
-// The text over that buffer.
-fn text_over_buffer<'p, B: ParseBuf<'p>, S: TextOver<'p, B>>(
-    alloc: Global,
-    buf: B,
-    maker: &S,
-) -> Result<String, AllocError> {
-    maker.text_over(alloc, buf)
-}
-
 /// The text over a buffer of these bytes.
-pub fn text_over_bytes<'p, S>(
+pub fn text_over_bytes<E: Endian + Copy>(
     alloc: Global,
-    bytes: &'p [u8],
-    maker: &S,
+    bytes: &[u8],
+    asked: &Asked<'_, E>,
     buffer: Buffer,
-) -> Result<String, AllocError>
-where
-    S: TextOver<'p, &'p [u8]> + TextOver<'p, BufReader<&'p [u8]>> + TextOver<'p, PieceBuf<'p>>,
-{
-    match buffer {
-        Buffer::Slice => text_over_buffer(alloc, bytes, maker),
-        Buffer::Reader(capacity) => text_over_reader(alloc, bytes, maker, capacity.max(1)),
-        Buffer::External(most) => text_over_buffer(
-            alloc,
-            PieceBuf::new(bytes, most.max(1), true),
-            maker,
-        ),
-        Buffer::Temporary(most) => text_over_buffer(
-            alloc,
-            PieceBuf::new(bytes, most.max(1), false),
-            maker,
-        ),
-    }
-}
-
-fn text_over_reader<'p, S: TextOver<'p, BufReader<&'p [u8]>>>(
-    alloc: Global,
-    bytes: &'p [u8],
-    maker: &S,
-    capacity: usize,
 ) -> Result<String, AllocError> {
-    match BufReader::with_capacity(alloc, capacity, bytes) {
-        Ok(reader) => text_over_buffer(alloc, reader, maker),
-        Err(_) => Err(AllocError),
+    match buffer {
+        Buffer::Slice => text_over(alloc, bytes, asked),
+        Buffer::Reader(capacity) => {
+            match BufReader::with_capacity(alloc, capacity.max(1), bytes) {
+                Ok(reader) => text_over(alloc, reader, asked),
+                Err(_) => Err(AllocError),
+            }
+        }
+        Buffer::Pieces(most, lasts) => {
+            text_over(alloc, PieceBuf::new(bytes, most.max(1), lasts), asked)
+        }
     }
 }
 
@@ -109,18 +111,15 @@ pub fn add_other(others: &mut String, actual: &str, first: &str) -> Result<(), A
 
 /// The text over a slice, buffered readers and pieces of these bytes: one text if it is the same
 /// over all of them, and otherwise the others after it.
-pub fn text_everywhere<'p, S>(
+pub fn text_everywhere<E: Endian + Copy>(
     alloc: Global,
-    bytes: &'p [u8],
-    maker: &S,
-) -> Result<String, AllocError>
-where
-    S: TextOver<'p, &'p [u8]> + TextOver<'p, BufReader<&'p [u8]>> + TextOver<'p, PieceBuf<'p>>,
-{
-    let mut text = maker.text_over(alloc, bytes)?;
+    bytes: &[u8],
+    asked: &Asked<'_, E>,
+) -> Result<String, AllocError> {
+    let mut text = text_over_bytes(alloc, bytes, asked, Buffer::Slice)?;
     let mut others = String::new(alloc);
-    for buffer in OTHERS {
-        let actual = text_over_bytes(alloc, bytes, maker, buffer)?;
+    for &buffer in &OTHERS {
+        let actual = text_over_bytes(alloc, bytes, asked, buffer)?;
         add_other(&mut others, actual.as_str(), text.as_str())?;
     }
     text.push_str(others.as_str())?;

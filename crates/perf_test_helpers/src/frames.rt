@@ -38,7 +38,7 @@ const FRAMES: [(u8, u8); 22] = [
 /// A frame of each type, in their order, and one of an unknown type, all with bodies of zero bytes.
 pub fn zero_frames(alloc: Global) -> Result<Vec<u8>, AllocError> {
     let mut bytes = Vec::new(alloc);
-    for (ty, size) in FRAMES {
+    for &(ty, size) in &FRAMES {
         let end = bytes.len().saturating_add(usize::from(size));
         bytes.extend_from_slice(&[ty, 0, 0, 0, 0, 0, size, 0])?;
         bytes.resize(end, 0)?;

@@ -2,8 +2,10 @@
 
 ghost use Rattle.std.specs.Prelude.{⊤};
 
-use crate::asks::next_record;
-use crate::everywhere::{Buffer, TextOver, add_other, parser_of, text_everywhere, text_over_bytes};
+use crate::asks::{next_attribute, next_record};
+use crate::everywhere::{
+    Asked, Buffer, Request, add_other, parser_of, text_everywhere, text_over_bytes,
+};
 use crate::texts::{FrameLine, WriteText, write_config, write_error, write_frame, write_last};
 use perf_event_data::endian::{Endian, Little, Native};
 use perf_event_data::parse::{ErrorKind, ParseBuf, ParseConfig, ParseError, ParseResult, Parser};
@@ -101,12 +103,12 @@ pub fn text_of_runs_under<'p, B: ParseBuf<'p> + Drop, E: Endian>(
     )
 }
 
-// What makes a run.
+/// What makes a run.
 #[derive(Copy, Clone)]
-enum Way {
-    // The run that lists records.
+pub enum Way {
+    /// The run that lists records.
     Records,
-    // The run that hands out frames.
+    /// The run that hands out frames.
     Frames,
 }
 
@@ -124,8 +126,8 @@ impl Way {
     }
 }
 
-// The runs of a parser with these limits, in turn.
-fn text_of_parser<'p, B: ParseBuf<'p> + Drop, E: Endian>(
+/// The runs of a parser with these limits, in turn.
+pub fn text_of_parser<'p, B: ParseBuf<'p> + Drop, E: Endian>(
     alloc: Global,
     parser: Parser<B, E>,
     way: Way,
@@ -154,51 +156,34 @@ fn write_runs<'p, B: ParseBuf<'p>, E: Endian>(
     Ok(())
 }
 
-// What comes after the attribute at the start of the bytes; or its error.
-fn text_after<'p, B: ParseBuf<'p> + Drop>(
+/// What comes after the attribute at the start of a parser's bytes; or its error.
+pub fn text_after<'p, B: ParseBuf<'p> + Drop, E: Endian>(
     alloc: Global,
-    buf: B,
+    parser: Parser<B, E>,
+    endian: E,
     limits: &[usize],
 ) -> Result<String, AllocError> {
-    let mut parser = Parser::new(alloc, buf, ParseConfig::<Little>::default());
-    let mut text = String::new(alloc);
+    let mut parser = parser;
     match next_attribute(&mut parser) {
-        Ok(attr) => write_under_own(&mut text, parser, attr, limits)?,
-        Err(error) => write!(text, "{error}")?,
+        Ok(attr) => text_under_own(alloc, parser, endian, attr, limits),
+        Err(error) => format!(in alloc; "{error}"),
     }
-    Ok(text)
 }
 
-// Writes an attribute's size, its configuration and the runs after it.
-fn write_under_own<'p, B: ParseBuf<'p> + Drop>(
-    text: &mut String,
-    parser: Parser<B, Little>,
+// An attribute's size, its configuration and the runs after it.
+fn text_under_own<'p, B: ParseBuf<'p> + Drop, E: Endian>(
+    alloc: Global,
+    parser: Parser<B, E>,
+    endian: E,
     attr: perf_event_attr,
     limits: &[usize],
-) -> Result<(), AllocError> {
-    write!(text, "{} ", attr.size)?;
-    let config = ParseConfig::<Native>::from(attr).with_endian(Little);
-    write_config(text, &config)?;
+) -> Result<String, AllocError> {
+    let mut text = format!(in alloc; "{} ", attr.size)?;
+    let config = ParseConfig::<Native>::from(attr).with_endian(endian);
+    write_config(&mut text, &config)?;
     let mut parser = parser.reconfigure(config);
-    write_runs(text, &mut parser, Way::Records, limits)
-}
-
-fn next_attribute<'p, B: ParseBuf<'p>, E: Endian>(
-    parser: &mut Parser<B, E>,
-) -> ParseResult<perf_event_attr> {
-    parser.parse()
-}
-
-// Runs of one parser after the attribute that comes first.
-#[derive(Drop)]
-struct AfterAttribute<'a> {
-    limits: &'a [usize],
-}
-
-impl<'p, B: ParseBuf<'p> + Drop> TextOver<'p, B> for AfterAttribute<'_> {
-    fn text_over(&self, alloc: Global, buf: B) -> Result<String, AllocError> {
-        text_after(alloc, buf, self.limits)
-    }
+    write_runs(&mut text, &mut parser, Way::Records, limits)?;
+    Ok(text)
 }
 
 /// The attribute at the start of these bytes and the runs after it, over a slice, buffered readers
@@ -208,23 +193,12 @@ pub fn text_after_attribute(
     bytes: &[u8],
     limits: &[usize],
 ) -> Result<String, AllocError> {
-    text_everywhere(alloc, bytes, &AfterAttribute { limits })
-}
-
-// Runs of one parser.
-#[derive(Drop)]
-struct Runs<'a, E> {
-    way: Way,
-    endian: E,
-    attr: &'a perf_event_attr,
-    limits: &'a [usize],
-}
-
-impl<'p, B: ParseBuf<'p> + Drop, E: Endian + Copy> TextOver<'p, B> for Runs<'_, E> {
-    fn text_over(&self, alloc: Global, buf: B) -> Result<String, AllocError> {
-        let parser = parser_of(alloc, buf, self.endian, self.attr);
-        text_of_parser(alloc, parser, self.way, self.limits)
-    }
+    let asked = Asked {
+        endian: Little,
+        attr: &perf_event_attr::default(),
+        request: Request::AfterAttribute(limits),
+    };
+    text_everywhere(alloc, bytes, &asked)
 }
 
 // Lists the frames of a run, each with its record.
@@ -251,7 +225,10 @@ impl<'p> FrameLister<'p> {
             Ok(frame) => (frame.header(), frame.record(self.alloc, config)),
             Err(bad) => (bad.header(), Err(bad.error())),
         };
-        self.frames.push(pair).is_ok()
+        let pushed = self.frames.push(pair);
+        let is_listed = pushed.is_ok();
+        drop(pushed);
+        is_listed
     }
 }
 
@@ -335,15 +312,14 @@ pub fn runs_everywhere<E: Endian + Copy>(
     attr: &perf_event_attr,
     limits: &[usize],
 ) -> Result<String, AllocError> {
-    let mut maker = Runs {
-        way: Way::Records,
+    let mut asked = Asked {
         endian,
         attr,
-        limits,
+        request: Request::Runs(Way::Records, limits),
     };
-    let mut text = text_everywhere(alloc, bytes, &maker)?;
-    maker.way = Way::Frames;
-    let by_frames = text_everywhere(alloc, bytes, &maker)?;
+    let mut text = text_everywhere(alloc, bytes, &asked)?;
+    asked.request = Request::Runs(Way::Frames, limits);
+    let by_frames = text_everywhere(alloc, bytes, &asked)?;
     if by_frames.as_str() != text.as_str() {
         write!(text, " but by frames {by_frames}")?;
     }
@@ -363,21 +339,20 @@ pub fn differences<E: Endian + Copy>(
     attr: &perf_event_attr,
     other: Buffer,
 ) -> Result<String, AllocError> {
-    let mut maker = Runs {
-        way: Way::Records,
+    let mut asked = Asked {
         endian,
         attr,
-        limits: &[usize::MAX],
+        request: Request::Runs(Way::Records, &[usize::MAX]),
     };
-    let mut text = maker.text_over(alloc, bytes)?;
+    let mut text = text_over_bytes(alloc, bytes, &asked, Buffer::Slice)?;
     let mut others = String::new(alloc);
-    for (way, buffer) in [
+    for &(way, buffer) in &[
         (Way::Records, other),
         (Way::Frames, Buffer::Slice),
         (Way::Frames, other),
     ] {
-        maker.way = way;
-        let actual = text_over_bytes(alloc, bytes, &maker, buffer)?;
+        asked.request = Request::Runs(way, &[usize::MAX]);
+        let actual = text_over_bytes(alloc, bytes, &asked, buffer)?;
         add_other(&mut others, actual.as_str(), text.as_str())?;
     }
     let of_slice = text_of_slice(alloc, bytes, endian, attr)?;
@@ -389,19 +364,19 @@ pub fn differences<E: Endian + Copy>(
     Ok(text)
 }
 
-/// Writes the `{:?}` of a record, or the kind of its error, and returns whether it is an error.
+/// Writes the `{:?}` of a record, or the kind of its error, and returns whether it is a record.
 pub fn write_debug_record(
     text: &mut String,
     answer: ParseResult<Record<'_>>,
 ) -> Result<bool, AllocError> {
-    match answer {
-        Ok(record) => write!(text, "{record:?}; ")?,
-        Err(error) => {
-            write_error(text, &error)?;
-            return Ok(false);
-        }
-    }
-    Ok(true)
+    let written = match &answer {
+        Ok(record) => write!(text, "{record:?}; "),
+        Err(error) => write_error(text, error),
+    };
+    let is_record = answer.is_ok();
+    drop(answer);
+    written?;
+    Ok(is_record)
 }
 
 /// The `{:?}` of the records of a slice, one after another, and why there is no further one. Bytes

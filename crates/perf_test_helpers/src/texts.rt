@@ -170,8 +170,9 @@ fn write_named_spaces(text: &mut String, spaces: &Namespaces<'_>) -> Result<(), 
     write!(text, " {names:?}")
 }
 
-// A group of counters: how many and whether none, its times, the first three entries in order and
-// by index, those of the ids 1, 2, 3, 0xBD and 0xBE, and whether it is that of one counter.
+// A group of counters: how many and whether none, its times, the first three entries in order, those
+// at 0, 1, 2, 3 and the greatest index, those of the ids 0, 1, 2, 3, 0xBD and 0xBE, and whether it is
+// that of one counter, or why not.
 impl WriteText for ReadGroup<'_> {
     fn write_text(&self, text: &mut String) -> Result<(), AllocError> {
         write_entries(text, self)?;
@@ -196,7 +197,10 @@ impl WriteText for OfGroup<'_> {
 }
 
 fn write_if_one(text: &mut String, group: ReadGroup<'_>) -> Result<(), AllocError> {
-    write!(text, " {}", ReadValue::try_from(group).is_ok())
+    match ReadValue::try_from(group) {
+        Ok(_) => text.push_str(" true"),
+        Err(error) => write!(text, " {error}"),
+    }
 }
 
 fn write_entries(text: &mut String, group: &ReadGroup<'_>) -> Result<(), AllocError> {
@@ -209,8 +213,15 @@ fn write_entries(text: &mut String, group: &ReadGroup<'_>) -> Result<(), AllocEr
 }
 
 fn write_entries_by_id(text: &mut String, group: &ReadGroup<'_>) -> Result<(), AllocError> {
-    let by_places = [group.get(0), group.get(1), group.get(2)];
+    let by_places = [
+        group.get(0),
+        group.get(1),
+        group.get(2),
+        group.get(3),
+        group.get(usize::MAX),
+    ];
     let by_ids = [
+        group.get_by_id(0),
         group.get_by_id(1),
         group.get_by_id(2),
         group.get_by_id(3),
@@ -221,8 +232,8 @@ fn write_entries_by_id(text: &mut String, group: &ReadGroup<'_>) -> Result<(), A
 }
 
 /// A group of counters whose entries are taken from both ends: how many there are and its times,
-/// the second entry, the last of the rest and the last but one of that, how many are left then, and
-/// the next one.
+/// the second entry, the last of the rest and the last but one of that, how many are left then, the
+/// next one from either end, and then the count and the last of all.
 #[derive(Drop)]
 pub struct FromBothEnds<'a>(pub ReadGroup<'a>);
 
@@ -230,7 +241,9 @@ impl WriteText for FromBothEnds<'_> {
     fn write_text(&self, text: &mut String) -> Result<(), AllocError> {
         let times = [self.0.time_enabled(), self.0.time_running()];
         write!(text, "{} {times:?}", self.0.len())?;
-        write_from_both_ends(text, self.0.entries())
+        write_from_both_ends(text, self.0.entries())?;
+        let (count, last) = (self.0.entries().count(), self.0.entries().last());
+        write!(text, " {count} {last:?}")
     }
 }
 
@@ -238,5 +251,5 @@ fn write_from_both_ends(text: &mut String, entries: GroupIter<'_>) -> Result<(),
     let mut entries = entries;
     let items = [entries.nth(1), entries.next_back(), entries.nth_back(1)];
     write!(text, " {items:?} {}", entries.len())?;
-    write!(text, " {:?}", entries.next())
+    write!(text, " {:?}", [entries.next(), entries.next_back()])
 }

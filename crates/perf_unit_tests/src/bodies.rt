@@ -30,18 +30,17 @@ fn write_metadata(text: &mut String, metadata: &RecordMetadata) -> Result<(), Al
     )
 }
 
-// Appends the results of the parser of a body.
-fn text_after<'p, E: Endian>(
-    mut text: String,
-    mut inner: Parser<ParseBufCursor<'p>, E>,
+// Writes the results of the parser of a body.
+fn write_body<'p, E: Endian>(
+    text: &mut String,
+    inner: &mut Parser<ParseBufCursor<'p>, E>,
     body: Body,
-) -> ParseResult<String> {
+) -> ParseResult<()> {
     match body {
-        Body::Sample => write_sample(&mut text, &mut inner, false)?,
-        Body::SampleByClosure => write_sample(&mut text, &mut inner, true)?,
-        Body::Closures => write_closures(&mut text, &mut inner)?,
+        Body::Sample => write_sample(text, inner, false),
+        Body::SampleByClosure => write_sample(text, inner, true),
+        Body::Closures => write_closures(text, inner),
     }
-    Ok(text)
 }
 
 /// What is known of a frame besides its body, and the results of the parser of its body.
@@ -50,8 +49,12 @@ pub fn text_of_frame<'p, B: ParseBuf<'p>, E: Endian>(
     parser: &mut Parser<B, E>,
     body: Body,
 ) -> ParseResult<String> {
-    let (inner, metadata) = parser.parse_metadata()?;
+    let (mut inner, metadata) = parser.parse_metadata()?;
     let mut text = String::new(alloc);
-    write_metadata(&mut text, &metadata)?;
-    text_after(text, inner, body)
+    let of_metadata = write_metadata(&mut text, &metadata);
+    let of_body = write_body(&mut text, &mut inner, body);
+    drop(inner);
+    of_metadata?;
+    of_body?;
+    Ok(text)
 }

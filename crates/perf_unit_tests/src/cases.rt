@@ -5,9 +5,9 @@ use crate::checks::check_answer;
 use crate::orders::{OrderRequest, text_by_order};
 use crate::own_types::{Own, text_of_own};
 use crate::visits::{Gives, text_of_visits};
-use perf_event_data::PieceBuf;
 use perf_event_data::endian::Little;
 use perf_event_data::parse::{ErrorKind, ParseBuf, ParseConfig, ParseResult, Parser};
+use perf_event_data::{PieceBuf, RunEnd, read_records};
 use std::alloc::Global;
 use std::io::BufReader;
 use std::process::Abort;
@@ -68,14 +68,14 @@ fn check_over<'p, B: ParseBuf<'p> + Drop>(
 /// Asserts the result over a slice, buffered readers and pieces.
 pub fn check_case(rt: &(impl AllocGlobal + Abort), case: &Case<'_>) {
     check_over(rt, case.bytes, case);
-    for capacity in [1, 7, 8192] {
+    for &capacity in &[1, 7, 8192] {
         match BufReader::with_capacity(rt.alloc(), capacity, case.bytes) {
             Ok(reader) => check_over(rt, reader, case),
             Err(_) => panic!(rt; "no memory"),
         }
     }
-    for most in [1, 3, 7, 64] {
-        for borrowed in [true, false] {
+    for &most in &[1, 3, 7, 64] {
+        for &borrowed in &[true, false] {
             check_over(rt, PieceBuf::new(case.bytes, most, borrowed), case);
         }
     }
@@ -86,6 +86,18 @@ pub fn check_cases(rt: &(impl AllocGlobal + Abort), cases: &[Case<'_>]) {
     for case in cases {
         check_case(rt, case);
     }
+}
+
+/// The kind of the fault that ends a run over a buffer, and whether it has a cause.
+pub fn fault_of<'p, B: ParseBuf<'p> + Drop>(alloc: Global, buf: B) -> Option<(ErrorKind, bool)> {
+    let mut parser = little(alloc, buf);
+    let run = read_records(&mut parser, 10);
+    let found = match &run.end {
+        RunEnd::Fault(error) => Some((error.kind(), error.cause().is_some())),
+        _ => None,
+    };
+    drop(run);
+    found
 }
 
 /// The kind of an error.

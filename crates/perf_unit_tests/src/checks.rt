@@ -41,7 +41,7 @@ pub fn check_parsed_text(rt: &impl Abort, actual: ParseResult<String>, want: &st
 }
 
 /// Asserts the `{:?}` of a value: all of its fields, and of each list whether it is borrowed.
-pub fn check_debug<T: Debug>(rt: &(impl AllocGlobal + Abort), value: &T, want: &str) {
+pub fn check_debug<T: Debug + Drop>(rt: &(impl AllocGlobal + Abort), value: T, want: &str) {
     check_text(rt, format!(in rt.alloc(); "{value:?}"), want);
 }
 

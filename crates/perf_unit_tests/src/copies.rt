@@ -303,7 +303,7 @@ const NAMES: [(u32, u32, &[u8], &str); 3] = [
 
 #[test]
 fn a_name_of_a_task(rt: HostRuntime) {
-    for (pid, tid, name, want) in NAMES {
+    for &(pid, tid, name, want) in &NAMES {
         let comm = comm(pid, tid, name);
         check_parsed_text(&rt, text_with_copies(rt.alloc(), Ok(comm)), want);
     }
@@ -539,7 +539,14 @@ fn mappings_by_a_build_id(rt: HostRuntime) {
 
 // The shorter record of a mapping that owns its path.
 fn shorter_owned_mapping(alloc: Global) -> ParseResult<Mmap<'static>> {
-    by_build_id().into_owned(alloc)?.to_mmap(alloc)
+    match by_build_id().into_owned(alloc) {
+        Ok(owned) => {
+            let shorter = owned.to_mmap(alloc);
+            drop(owned);
+            shorter
+        }
+        Err(error) => Err(error),
+    }
 }
 
 // That of a clone.

@@ -102,7 +102,7 @@ fn whole(answer: ParseResult<(Counts, RunEnd)>) -> Option<Counts> {
 }
 
 // Asserts what is counted of a stream.
-fn check_counted(rt: &(impl AllocGlobal + Abort), case: Counted<'_>) {
+fn check_counted(rt: &(impl AllocGlobal + Abort), case: &Counted<'_>) {
     let answer = if case.is_big {
         count_stream(rt.alloc(), case.input, Big, case.with_attr)
     } else {
@@ -113,7 +113,7 @@ fn check_counted(rt: &(impl AllocGlobal + Abort), case: Counted<'_>) {
 
 #[test]
 fn streams_are_counted(rt: HostRuntime) {
-    for case in COUNTED {
+    for case in &COUNTED {
         check_counted(&rt, case);
     }
 }
@@ -133,5 +133,5 @@ fn many_frames_add_up(rt: HostRuntime) {
             checksum: 300 * 16_843_266,
         },
     };
-    check_counted(&rt, case);
+    check_counted(&rt, &case);
 }

@@ -48,13 +48,20 @@ fn write_after<'p, B: ParseBuf<'p>>(
     Ok(write!(text, "{kind:?} {shows} {:?}", empty.as_slice())?)
 }
 
+// Writes what a cursor gives and shows.
+fn write_cursor(text: &mut String, cursor: &mut ParseBufCursor<'_>) -> ParseResult<()> {
+    write!(text, "{:?}: ", cursor.as_slice())?;
+    write_both(text, cursor)
+}
+
 // What a cursor over the first three bytes of a buffer gives and shows, and what the buffer does
 // after it.
 fn text_of_cursor<'p, B: ParseBuf<'p> + Drop>(alloc: Global, buf: B) -> ParseResult<String> {
     let (mut buf, mut text) = (buf, String::new(alloc));
     let mut cursor = ParseBufCursor::new(alloc, &mut buf, 3)?;
-    write!(text, "{:?}: ", cursor.as_slice())?;
-    write_both(&mut text, &mut cursor)?;
+    let of_cursor = write_cursor(&mut text, &mut cursor);
+    drop(cursor);
+    of_cursor?;
     write_after(&mut text, alloc, &mut buf)?;
     Ok(text)
 }
@@ -79,14 +86,14 @@ fn a_cursor_over_a_slice_borrows_it(rt: HostRuntime) -> Result<(), Fail> {
 
 #[test]
 fn a_cursor_over_bytes_that_do_not_last_keeps_its_own(rt: HostRuntime) -> Result<(), Fail> {
-    for n in [1, 3, 64] {
+    for &n in &[1, 3, 64] {
         check_parsed_text(
             &rt,
             text_of_cursor(rt.alloc(), PieceBuf::new(BYTES, n, false)),
             OWN,
         );
     }
-    for n in [1, 7, 8192] {
+    for &n in &[1, 7, 8192] {
         let reader = BufReader::with_capacity(rt.alloc(), n, BYTES)?;
         check_parsed_text(&rt, text_of_cursor(rt.alloc(), reader), OF_A_READER);
     }
@@ -95,7 +102,7 @@ fn a_cursor_over_bytes_that_do_not_last_keeps_its_own(rt: HostRuntime) -> Result
 
 #[test]
 fn a_cursor_borrows_what_one_borrowed_piece_has(rt: HostRuntime) {
-    for (n, want) in [(1, OWN), (3, LENT), (64, LENT)] {
+    for &(n, want) in &[(1, OWN), (3, LENT), (64, LENT)] {
         check_parsed_text(
             &rt,
             text_of_cursor(rt.alloc(), PieceBuf::new(BYTES, n, true)),

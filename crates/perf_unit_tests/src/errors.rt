@@ -1,11 +1,10 @@
 //! The texts of errors, and lists that may be borrowed.
 
-use crate::check;
-use crate::checks::check_text;
+use crate::checks::{check_same, check_text};
 use anyhow::anyhow;
 use perf_base::endian::Little;
-use perf_base::{CowSlice, ErrorKind, ParseConfig, ParseError};
-use perf_event_data::parse::Parser;
+use perf_base::{CowSlice, ErrorKind, ParseConfig, ParseError, ParseResult};
+use perf_event_data::parse::{ParseBuf, Parser};
 use perf_test_helpers::asks::next_record;
 use std::alloc::{AllocError, AllocFailed, Global};
 use std::io::{self, BufReader, Read};
@@ -57,7 +56,7 @@ const KINDS: [(ErrorKind, &str); 6] = [
 
 #[test]
 fn an_error_is_written_with_its_message(rt: HostRuntime) {
-    for (kind, want) in KINDS {
+    for &(kind, want) in &KINDS {
         check_parsed_text(&rt, ParseError::custom(kind, "why"), want);
     }
 }
@@ -94,7 +93,7 @@ const INPUT_ERRORS: [(io::ErrorKind, &str); 4] = [
 
 #[test]
 fn an_input_error_is_an_early_end_or_external(rt: HostRuntime) {
-    for (kind, want) in INPUT_ERRORS {
+    for &(kind, want) in &INPUT_ERRORS {
         check_parsed_text(&rt, io::Error::from(kind).into(), want);
     }
 }
@@ -132,16 +131,24 @@ impl Read for Failing {
     }
 }
 
+// The kind of an error, and whether it has a cause.
+fn kind_and_cause<T: Drop>(answer: ParseResult<T>) -> Option<(ErrorKind, bool)> {
+    match answer {
+        Ok(_) => None,
+        Err(error) => Some((error.kind(), error.cause().is_some())),
+    }
+}
+
+// Those of the error of the next record.
+fn fault_of_record<'p, B: ParseBuf<'p> + Drop>(alloc: Global, buf: B) -> Option<(ErrorKind, bool)> {
+    let mut parser = Parser::new(alloc, buf, ParseConfig::<Little>::default());
+    kind_and_cause(next_record(&mut parser))
+}
+
 #[test]
 fn a_fault_keeps_its_cause(rt: HostRuntime) -> Result<(), Fail> {
     let reader = BufReader::with_capacity(rt.alloc(), 8, Failing)?;
-    let mut parser = Parser::new(rt.alloc(), reader, ParseConfig::<Little>::default());
-    match next_record(&mut parser) {
-        Err(error) => {
-            let parts = (error.kind(), error.cause().is_some());
-            check!(rt; parts, (ErrorKind::External, true));
-        }
-        Ok(_) => panic!(rt; "a record of a reader that fails"),
-    }
+    let fault = fault_of_record(rt.alloc(), reader);
+    check_same(&rt, "the fault", fault, Some((ErrorKind::External, true)));
     Ok(())
 }

@@ -57,7 +57,7 @@ fn check_reads(
         text,
         outcome,
     };
-    for most in [1, 7, 8192] {
+    for &most in &[1, 7, 8192] {
         check_run(rt, Failing { bytes, most, fault }, Little, actual);
     }
 }
@@ -95,7 +95,7 @@ const FAULTS: [(&[u8], io::ErrorKind, &str); 3] = [
 
 #[test]
 fn a_fault_of_the_reader_ends_the_text(rt: HostRuntime) {
-    for (bytes, kind, text) in FAULTS {
+    for &(bytes, kind, text) in &FAULTS {
         check_reads(&rt, false, bytes, Some(kind), text, Outcome::Faulted);
     }
 }
@@ -117,7 +117,7 @@ const INSIDE: [(usize, io::ErrorKind, &str); 9] = [
 #[test]
 fn a_fault_inside_the_attribute_is_no_refusal(rt: HostRuntime) -> Result<(), AllocError> {
     let input = join(rt.alloc(), &PLAIN_72, &FIVE_LOST)?;
-    for (count, kind, text) in INSIDE {
+    for &(count, kind, text) in &INSIDE {
         let bytes = &input[..count.min(input.len())];
         check_reads(&rt, true, bytes, Some(kind), text, Outcome::Faulted);
     }
@@ -133,7 +133,7 @@ const ENDING: [(&[u8], &str, Outcome); 3] = [
 
 #[test]
 fn a_reader_may_give_one_byte_a_read(rt: HostRuntime) -> Result<(), AllocError> {
-    for (bytes, text, outcome) in ENDING {
+    for &(bytes, text, outcome) in &ENDING {
         check_reads(&rt, false, bytes, None, text, outcome);
     }
     let input = join(rt.alloc(), &PLAIN_72, &TWO)?;
@@ -220,8 +220,8 @@ fn nothing_is_written_after_a_failure(rt: HostRuntime) {
     let text = REFUSED_TEXT.as_bytes();
     for room in 0..text.len() {
         let output = &text[..room.min(text.len())];
-        for most in [1, 4, 8192] {
-            for fails in [true, false] {
+        for &most in &[1, 4, 8192] {
+            for &fails in &[true, false] {
                 let limits = Limits {
                     most,
                     room,
@@ -238,7 +238,7 @@ fn nothing_is_written_after_a_failure(rt: HostRuntime) {
 #[test]
 fn a_writer_may_take_one_byte_a_write(rt: HostRuntime) {
     let text = REFUSED_TEXT.as_bytes();
-    for most in [1, 4] {
+    for &most in &[1, 4] {
         let limits = Limits {
             most,
             room: text.len(),
@@ -258,8 +258,8 @@ const ROOMS: [(usize, &[u8]); 3] = [
 
 #[test]
 fn a_writer_that_fails_stops_the_run(rt: HostRuntime) {
-    for (room, output) in ROOMS {
-        for fails in [false, true] {
+    for &(room, output) in &ROOMS {
+        for &fails in &[false, true] {
             let limits = Limits {
                 most: 4,
                 room,
@@ -351,8 +351,8 @@ const READS: [(usize, usize, usize); 5] = [
 
 #[test]
 fn all_reading_comes_before_all_writing(rt: HostRuntime) {
-    for fault in [None, Some(io::ErrorKind::Other)] {
-        for (limit, piece, reads) in READS {
+    for &fault in &[None, Some(io::ErrorKind::Other)] {
+        for &(limit, piece, reads) in &READS {
             check_order_of_calls(&rt, fault, limit, piece.max(1), reads);
         }
     }
@@ -397,7 +397,7 @@ const WITHOUT_MEMORY: &str = "end fault OutOfMemory\n";
 #[test]
 fn a_refused_order_ends_the_text_out_of_memory(rt: HostRuntime) -> Result<(), AllocError> {
     let input = join(rt.alloc(), &PLAIN_64, &FIVE_LOST)?;
-    for (limit, bytes, text, outcome) in [
+    for &(limit, bytes, text, outcome) in &[
         (10, PLAIN_64.as_slice(), WITHOUT_MEMORY, Outcome::Faulted),
         (10, input.as_slice(), WITHOUT_MEMORY, Outcome::Faulted),
         (0, input.as_slice(), WITHOUT_MEMORY, Outcome::Faulted),
@@ -421,7 +421,7 @@ fn a_refused_order_ends_the_text_out_of_memory(rt: HostRuntime) -> Result<(), Al
 
 #[test]
 fn a_run_without_an_attribute_borrows_its_order(rt: HostRuntime) {
-    for (bytes, text, outcome) in ENDING {
+    for &(bytes, text, outcome) in &ENDING {
         let actual = RunCase {
             limit: 10,
             with_attr: false,

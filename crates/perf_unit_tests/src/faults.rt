@@ -2,14 +2,13 @@
 
 ghost use Rattle.std.specs.Prelude.{◌≡◌, true, false, None, Some, take, nat_lt};
 
-use crate::cases::kind_of;
+use crate::cases::{fault_of, kind_of};
 use crate::checks::check_same;
 use anyhow::anyhow;
 use perf_event_data::endian::Little;
 use perf_event_data::parse::{
     ErrorKind, ParseBuf, ParseBufChunk, ParseConfig, ParseError, ParseResult, Parser,
 };
-use perf_event_data::{RunEnd, read_records};
 use perf_test_helpers::runs::text_of_runs;
 use std::io;
 use std::io::{BufReader, Read};
@@ -78,8 +77,8 @@ fn check_reader(
     limits: &[usize],
     want: &str,
 ) -> Result<(), Fail> {
-    for kind in IO_KINDS {
-        for capacity in [1, 7, 8192] {
+    for &kind in &IO_KINDS {
+        for &capacity in &[1, 7, 8192] {
             let reader = Faulty {
                 bytes: TWO,
                 before: Some(before),
@@ -116,17 +115,8 @@ fn a_fault_of_a_reader_has_it_as_its_cause(rt: HostRuntime) -> Result<(), Fail> 
         once: false,
     };
     let reader = BufReader::with_capacity(rt.alloc(), 7, reader)?;
-    let mut parser = Parser::new(rt.alloc(), reader, ParseConfig::<Little>::default());
-    let RunEnd::Fault(error) = read_records(&mut parser, 10).end else {
-        panic!(rt; "no fault");
-    };
-    let kind_and_cause = (error.kind(), error.cause().is_some());
-    check_same(
-        &rt,
-        "the fault",
-        kind_and_cause,
-        (ErrorKind::External, true),
-    );
+    let fault = fault_of(rt.alloc(), reader);
+    check_same(&rt, "the fault", fault, Some((ErrorKind::External, true)));
     Ok(())
 }
 
@@ -210,7 +200,7 @@ const FAULTS: [((u64, u64), &[usize], &str); 5] = [
 
 #[test]
 fn a_run_goes_on_after_counted_faults(rt: HostRuntime) -> Result<(), Fail> {
-    for (faults, limits, want) in FAULTS {
+    for &(faults, limits, want) in &FAULTS {
         check_counted(&rt, 16, faults, limits, want)?;
     }
     Ok(())
@@ -226,7 +216,7 @@ fn a_counted_fault_ends_the_run_wherever_it_comes(rt: HostRuntime) -> Result<(),
 
 #[test]
 fn a_fault_is_no_end_of_the_rest(rt: HostRuntime) {
-    for before in [0, 3, 32] {
+    for &before in &[0, 3, 32] {
         let buf = Counting {
             bytes: TWO,
             before,

@@ -38,30 +38,40 @@ const CALLS: [EntryCall; 8] = [
     EntryCall::NthBack(6),
 ];
 
+// ID and LOST of a read format.
+const ID: u64 = 4;
+
+const LOST: u64 = 16;
+
+// A number that is there if a read format has a bit.
+fn number_under(format: u64, bit: u64, number: u64) -> Option<u64> {
+    if format & bit == 0 {
+        None
+    } else {
+        Some(number)
+    }
+}
+
 // Whether it is the entry with that value in that form.
-fn is_entry(format: ReadFormat, entry: Option<GroupEntry>, value: Option<u64>) -> bool {
-    match (entry, value) {
-        (None, None) => true,
-        (Some(entry), Some(value)) => {
-            let id = format
-                .contains(ReadFormat::ID)
-                .then_some(value.wrapping_add(100));
-            let lost = format
-                .contains(ReadFormat::LOST)
-                .then_some(value.wrapping_add(200));
-            entry.value() == value && entry.id() == id && entry.lost() == lost
-        }
-        _ => false,
+fn has_numbers(format: u64, entry: &GroupEntry, value: u64) -> bool {
+    let id = number_under(format, ID, value.wrapping_add(100));
+    let lost = number_under(format, LOST, value.wrapping_add(200));
+    entry.value() == value && entry.id() == id && entry.lost() == lost
+}
+
+// The same of an entry and a value that may be absent.
+fn is_entry(format: u64, entry: Option<GroupEntry>, value: Option<u64>) -> bool {
+    match entry {
+        Some(entry) => match value {
+            Some(value) => has_numbers(format, &entry, value),
+            None => false,
+        },
+        None => value.is_none(),
     }
 }
 
 // Whether four calls, by their indices in `CALLS`, return what those of a list's iterator do.
-fn goes_as_a_list(
-    entries: GroupIter<'_>,
-    format: ReadFormat,
-    values: &[u64],
-    calls: [usize; 4],
-) -> bool {
+fn goes_as_a_list(entries: GroupIter<'_>, format: u64, values: &[u64], calls: [usize; 4]) -> bool {
     let mut entries = entries;
     let mut list = values.iter().copied();
     for place in calls {
@@ -85,9 +95,10 @@ fn check_mixtures(rt: &impl Abort, format: ReadFormat, numbers: CowSlice<'_, u64
     assert_eq!(rt; numbers.len() % format.element_len(), 0);
     let group = ReadGroup::from_parts(format, 0, 0, numbers);
     assert_eq!(rt; group.len(), values.len());
+    let bits = format.bits();
     for code in 0..4096usize {
         let calls = [code, code / 8, code / 64, code / 512];
-        assert!(rt; goes_as_a_list(group.entries(), format, values, calls));
+        assert!(rt; goes_as_a_list(group.entries(), bits, values, calls));
     }
 }
 
@@ -107,7 +118,7 @@ fn check_group(
 
 #[test]
 fn mixtures_of_calls(rt: HostRuntime) {
-    for (bits, numbers) in GROUPS {
+    for &(bits, numbers) in &GROUPS {
         let format = ReadFormat::from_bits_retain(bits);
         for count in 0..7usize {
             let len = count.saturating_mul(format.element_len());
@@ -124,30 +135,6 @@ fn five() -> ReadGroup<'static> {
         0,
         CowSlice::Borrowed(&[1, 2, 3, 4, 5]),
     )
-}
-
-// How many entries there are, and the last.
-fn count_and_last() -> (usize, Option<GroupEntry>) {
-    let numbers = CowSlice::Borrowed(&[1, 2, 3, 4, 5]);
-    let group = ReadGroup::from_parts(ReadFormat::GROUP, 0, 0, numbers);
-    (group.entries().count(), group.entries().last())
-}
-
-#[test]
-fn entries_from_both_ends(rt: HostRuntime) {
-    let group = five();
-    let mut entries = group.entries();
-    let items = [entries.nth(1), entries.next_back(), entries.nth_back(1)];
-    let left = entries.len();
-    let after = [entries.next(), entries.next_back()];
-    check_debug(
-        &rt,
-        &(items, left, after, count_and_last()),
-        "([Some(GroupEntry { value: 2, id: None, lost: None }), \
-            Some(GroupEntry { value: 5, id: None, lost: None }), \
-            Some(GroupEntry { value: 3, id: None, lost: None })], 0, [None, None], \
-            (5, Some(GroupEntry { value: 5, id: None, lost: None })))",
-    );
 }
 
 // A copy of a group's entries while these advance: how many are left of both, and what the copy
@@ -190,33 +177,6 @@ pub fn of_none() -> ReadGroup<'static> {
     ReadGroup::from_parts(ReadFormat::GROUP, 0, 0, CowSlice::Borrowed(&[]))
 }
 
-#[test]
-fn entries_by_their_places(rt: HostRuntime) {
-    let group = with_ids();
-    let entries = [group.get(2), group.get(3), group.get(usize::MAX)];
-    check_debug(
-        &rt,
-        &entries,
-        "[Some(GroupEntry { value: 30, id: Some(2), lost: None }), None, None]",
-    );
-}
-
-#[test]
-fn entries_by_their_ids(rt: HostRuntime) {
-    let (group, others) = (with_ids(), without_ids());
-    let entries = [
-        group.get_by_id(2),
-        group.get_by_id(3),
-        others.get_by_id(0),
-        others.get_by_id(1),
-    ];
-    check_debug(
-        &rt,
-        &entries,
-        "[Some(GroupEntry { value: 20, id: Some(2), lost: None }), None, None, None]",
-    );
-}
-
 // The results of the calls of a read.
 fn numbers_of_read(read: &ReadValue) -> [Option<u64>; 5] {
     [
@@ -246,7 +206,7 @@ fn single_reads(rt: HostRuntime) {
     check_answers(&rt, &numbers_of_read(&single_with_id()), &want);
     check_debug(
         &rt,
-        &single_with_id(),
+        single_with_id(),
         "ReadValue { value: 3, time_enabled: None, time_running: None, id: Some(6), lost: None }",
     );
 }
@@ -266,7 +226,7 @@ fn read_and_clone() -> Result<(Read, Read), AllocError> {
 fn reads_are_cloned(rt: HostRuntime) {
     check_debug(
         &rt,
-        &read_and_clone(),
+        read_and_clone(),
         "Ok((Read { pid: 1, tid: 2, values: ReadValue { value: 3, time_enabled: Some(4), \
             time_running: Some(5), id: Some(6), lost: Some(7) } }, \
             Read { pid: 1, tid: 2, values: ReadValue { value: 3, time_enabled: Some(4), \
@@ -288,14 +248,22 @@ fn after_two_groups(alloc: Global) -> ParseResult<Result<ReadValue, TryFromGroup
     }
 }
 
+// Asserts that it is the read of one counter with every number.
+fn check_single(
+    rt: &(impl AllocGlobal + Abort),
+    answer: ParseResult<Result<ReadValue, TryFromGroupError>>,
+) {
+    let want = "Ok(Ok(ReadValue { value: 3, time_enabled: Some(4), time_running: Some(5), \
+        id: Some(6), lost: Some(7) }))";
+    check_debug(rt, answer, want);
+}
+
 #[test]
 fn a_read_is_the_same_after_a_group(rt: HostRuntime) {
     let alloc = rt.alloc();
-    let want = "Ok(Ok(ReadValue { value: 3, time_enabled: Some(4), time_running: Some(5), \
-        id: Some(6), lost: Some(7) }))";
-    check_debug(&rt, &after_a_group(alloc), want);
-    check_debug(&rt, &through_a_group(alloc, single()), want);
-    check_debug(&rt, &after_two_groups(alloc), want);
+    check_single(&rt, after_a_group(alloc));
+    check_single(&rt, through_a_group(alloc, single()));
+    check_single(&rt, after_two_groups(alloc));
 }
 
 // The results of a read that is made from the times of one group and the first entry of another.
@@ -318,23 +286,8 @@ fn entry_of_another_group(rt: HostRuntime) {
     ];
     check_debug(
         &rt,
-        &reads,
+        reads,
         "[Some([Some(5), None, None, Some(0), None]), \
             Some([Some(8), None, None, Some(9), None]), Some([Some(8), None, None, None, None])]",
     );
-}
-
-// The error of a group that is no read of one counter.
-fn text_of_refusal(alloc: Global, group: ReadGroup<'_>) -> ParseResult<String> {
-    match ReadValue::try_from(group) {
-        Ok(read) => Ok(format!(in alloc; "{read:?}")?),
-        Err(error) => Ok(format!(in alloc; "{error}")?),
-    }
-}
-
-#[test]
-fn groups_of_none_or_several_are_no_read(rt: HostRuntime) {
-    let want = "can only convert groups with a single element to ReadValues";
-    check_parsed_text(&rt, text_of_refusal(rt.alloc(), of_none()), want);
-    check_parsed_text(&rt, text_of_refusal(rt.alloc(), with_ids()), want);
 }

@@ -157,7 +157,7 @@ const TYPES: [(u8, &str, &str); 3] = [
 // as the input and with bytes that do not.
 fn check_rule(rt: &(impl AllocGlobal + Abort), bytes: &[u8], ahead: usize, rule: Rule, want: &str) {
     let attr = attribute(SampleFlags::IP.bits(), 0);
-    for borrowed in [true, false] {
+    for &borrowed in &[true, false] {
         let calls = Cell::new(0);
         let buf = Hinting::new(bytes, ahead, borrowed, rule, &calls);
         check_text(
@@ -172,7 +172,7 @@ fn check_rule(rt: &(impl AllocGlobal + Abort), bytes: &[u8], ahead: usize, rule:
 // 2,048 that are left to fetch are fewer than its body has.
 #[test]
 fn what_is_unread_is_less_than_a_frame_that_was_read_ahead(rt: HostRuntime) -> Result<(), Fail> {
-    for (ty, _, want) in TYPES {
+    for &(ty, _, want) in &TYPES {
         let mut bytes = Vec::new(rt.alloc());
         push_frame(&mut bytes, ty, SIZE)?;
         bytes.resize(10240, 0)?;
@@ -198,12 +198,12 @@ const RULES: [(Option<usize>, Option<usize>, bool); 10] = [
 
 #[test]
 fn the_hint_after_the_header_counts(rt: HostRuntime) -> Result<(), Fail> {
-    for (ty, record, refused) in TYPES {
+    for &(ty, record, refused) in &TYPES {
         let mut bytes = Vec::new(rt.alloc());
         push_frame(&mut bytes, ty, SIZE)?;
-        for (before, after, is_record) in RULES {
+        for &(before, after, is_record) in &RULES {
             let want = if is_record { record } else { refused };
-            for ahead in [8192, 64] {
+            for &ahead in &[8192, 64] {
                 check_rule(&rt, &bytes, ahead, Rule::Around(before, after), want);
             }
         }
@@ -248,13 +248,13 @@ fn calls_of_chunk(
 
 #[test]
 fn a_frame_in_one_chunk_takes_two_calls(rt: HostRuntime) -> Result<(), Fail> {
-    for (ty, last) in LAST {
+    for &(ty, last) in &LAST {
         let mut bytes = Vec::new(rt.alloc());
         for _ in 0..5 {
             push_frame(&mut bytes, ty, 24)?;
         }
-        for rule in [Rule::Left, Rule::Around(None, None)] {
-            for borrowed in [true, false] {
+        for &rule in &[Rule::Left, Rule::Around(None, None)] {
+            for &borrowed in &[true, false] {
                 let actual = calls_of_chunk(rt.alloc(), &bytes, borrowed, rule, last)?;
                 check_same(
                     &rt,

@@ -1,11 +1,24 @@
 //! Lines of tasks and of samples that the recordings do not contain.
 
-use crate::checks::check_same;
+use crate::checks::check_text;
 use perf_event_data::parse::ParseResult;
 use perf_event_data::{Comm, CowSlice, Mmap2, MmapDetail, Record, Sample, SampleFields};
 use perf_reports::printing::Report;
 use perf_reports::{samples, tasks};
+use std::alloc::{AllocError, Global};
 use std::process::Abort;
+
+// The line of a record, or `none`.
+fn text_of_line(alloc: Global, report: Report, record: &Record<'_>) -> Result<String, AllocError> {
+    let line = match report {
+        Report::Tasks => tasks::line_of(alloc, record)?,
+        Report::Samples => samples::line_of(alloc, record)?,
+    };
+    match line {
+        Some(line) => Ok(line),
+        None => String::from_str(alloc, "none"),
+    }
+}
 
 // Asserts the line of a record, or that there is none.
 fn check_line(
@@ -14,18 +27,11 @@ fn check_line(
     answer: ParseResult<Record<'_>>,
     want: &str,
 ) {
-    let Ok(record) = answer else {
-        panic!(rt; "no record");
-    };
-    let line = match report {
-        Report::Tasks => tasks::line_of(rt.alloc(), &record),
-        Report::Samples => samples::line_of(rt.alloc(), &record),
-    };
-    match line {
-        Ok(Some(line)) => check_same(rt, "the line", line.as_str(), want),
-        Ok(None) => check_same(rt, "the line", "none", want),
-        Err(_) => panic!(rt; "no memory"),
+    match &answer {
+        Ok(record) => check_text(rt, text_of_line(rt.alloc(), report, record), want),
+        Err(_) => panic!(rt; "no record"),
     }
+    drop(answer);
 }
 
 const BUILD_ID: [u8; 20] = [
@@ -62,7 +68,7 @@ const NAMES: [(&[u8], &str); 9] = [
 
 #[test]
 fn a_name_cannot_forge_a_line(rt: HostRuntime) {
-    for (name, want) in NAMES {
+    for &(name, want) in &NAMES {
         let record = Record::Comm(Comm {
             pid: 1,
             tid: 2,

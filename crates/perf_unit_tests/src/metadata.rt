@@ -29,7 +29,7 @@ fn a_sample_id_has_eight_bytes_for_each_flag(rt: HostRuntime) {
     check!(rt; length(attribute(all, 0)), 0);
     check!(rt; length(ids_attribute(0)), 0);
     check!(rt; length(ids_attribute(all)), 48);
-    for field in FIELDS {
+    for &field in &FIELDS {
         let (alone, others) = (field.bits(), all & !field.bits());
         assert_eq!(rt; length(ids_attribute(alone)), 8, "of {alone}");
         assert_eq!(rt; length(ids_attribute(others)), 40, "of {others}");

@@ -8,7 +8,7 @@ use crate::checks::{check_answer, check_same};
 use perf_base::endian::{Big, Dynamic, Endian, Little, Native};
 use perf_base::sys::perf_event_header;
 use perf_base::{ErrorKind, ParseConfig, ParseError, ParseResult};
-use perf_event_data::parse::{ParseBuf, Parser};
+use perf_event_data::parse::{Parse, ParseBuf, Parser};
 use perf_test_helpers::orders::Counting;
 use perf_test_helpers::runs::text_of_runs;
 use std::alloc::Global;
@@ -141,7 +141,7 @@ fn text_of_refusals<'p, B: ParseBuf<'p>, E: Endian>(
     parser: &mut Parser<B, E>,
 ) -> ParseResult<String> {
     let first = kind_of(parser.parse_metadata());
-    let header = parser.parse::<perf_event_header>()?;
+    let header = perf_event_header::parse(parser)?;
     let second = kind_of(parser.parse_metadata_with_header(header));
     let left = text_of_left(alloc, parser)?;
     Ok(format!(in alloc; "{first:?} {header:?} {second:?} {left}")?)
@@ -328,7 +328,7 @@ fn text_of_parser<'p, B: ParseBuf<'p>>(
     parser: &mut Parser<B, Dynamic>,
 ) -> ParseResult<String> {
     let orders = [*parser.endian(), *parser.config().endian()];
-    let header = parser.parse::<perf_event_header>()?;
+    let header = perf_event_header::parse(parser)?;
     Ok(format!(in alloc; "{orders:?} {header:?}")?)
 }
 

@@ -149,7 +149,7 @@ fn text_of_lists<'p, B: ParseBuf<'p>, E: Endian>(
 ) -> ParseResult<String> {
     let OwnList { numbers } = parser.parse()?;
     let slice = parser.parse::<OwnSlice>()?.numbers;
-    let kind = kind_of(parser.parse::<OwnList>());
+    let kind = kind_of(OwnList::parse(parser));
     Ok(format!(in alloc; "{numbers:?} {slice:?} {kind:?}")?)
 }
 
@@ -179,7 +179,7 @@ fn text_of_evens<'p, B: ParseBuf<'p>, E: Endian>(
     parser: &mut Parser<B, E>,
 ) -> ParseResult<String> {
     let Even(number) = parser.parse()?;
-    Ok(match parser.parse::<Even>() {
+    Ok(match Even::parse(parser) {
         Ok(Even(other)) => format!(in alloc; "{number} {other}")?,
         Err(error) => format!(in alloc; "{number} {:?} {:?}", error.kind(), error.message())?,
     })

@@ -30,7 +30,8 @@ impl PartialVisitor for OwnCalls {
         "unimplemented"
     }
 
-    fn visit_mmap(self, _content: Mmap<'_>, _metadata: RecordMetadata) -> Self::Output {
+    fn visit_mmap(self, content: Mmap<'_>, _metadata: RecordMetadata) -> Self::Output {
+        drop(content);
         "mmap"
     }
 
@@ -38,7 +39,8 @@ impl PartialVisitor for OwnCalls {
         "lost"
     }
 
-    fn visit_comm(self, _content: Comm<'_>, _metadata: RecordMetadata) -> Self::Output {
+    fn visit_comm(self, content: Comm<'_>, _metadata: RecordMetadata) -> Self::Output {
+        drop(content);
         "comm"
     }
 
@@ -62,11 +64,13 @@ impl PartialVisitor for OwnCalls {
         "read"
     }
 
-    fn visit_sample(self, _content: Sample<'_>, _metadata: RecordMetadata) -> Self::Output {
+    fn visit_sample(self, content: Sample<'_>, _metadata: RecordMetadata) -> Self::Output {
+        drop(content);
         "sample"
     }
 
-    fn visit_mmap2(self, _content: Mmap2<'_>, _metadata: RecordMetadata) -> Self::Output {
+    fn visit_mmap2(self, content: Mmap2<'_>, _metadata: RecordMetadata) -> Self::Output {
+        drop(content);
         "mmap2"
     }
 
@@ -94,11 +98,13 @@ impl PartialVisitor for OwnCalls {
         "switch_cpu_wide"
     }
 
-    fn visit_namespaces(self, _content: Namespaces<'_>, _metadata: RecordMetadata) -> Self::Output {
+    fn visit_namespaces(self, content: Namespaces<'_>, _metadata: RecordMetadata) -> Self::Output {
+        drop(content);
         "namespaces"
     }
 
-    fn visit_ksymbol(self, _content: KSymbol<'_>, _metadata: RecordMetadata) -> Self::Output {
+    fn visit_ksymbol(self, content: KSymbol<'_>, _metadata: RecordMetadata) -> Self::Output {
+        drop(content);
         "ksymbol"
     }
 
@@ -106,11 +112,13 @@ impl PartialVisitor for OwnCalls {
         "bpf_event"
     }
 
-    fn visit_cgroup(self, _content: CGroup<'_>, _metadata: RecordMetadata) -> Self::Output {
+    fn visit_cgroup(self, content: CGroup<'_>, _metadata: RecordMetadata) -> Self::Output {
+        drop(content);
         "cgroup"
     }
 
-    fn visit_text_poke(self, _content: TextPoke<'_>, _metadata: RecordMetadata) -> Self::Output {
+    fn visit_text_poke(self, content: TextPoke<'_>, _metadata: RecordMetadata) -> Self::Output {
+        drop(content);
         "text_poke"
     }
 
@@ -122,7 +130,8 @@ impl PartialVisitor for OwnCalls {
         "aux_output_hw_id"
     }
 
-    fn visit_unknown(self, _bytes: CowSlice<'_, u8>, _metadata: RecordMetadata) -> Self::Output {
+    fn visit_unknown(self, bytes: CowSlice<'_, u8>, _metadata: RecordMetadata) -> Self::Output {
+        drop(bytes);
         "unknown"
     }
 }
@@ -174,7 +183,8 @@ impl PartialVisitor for Mappings<'_> {
         self.moment_of("unimplemented", &metadata)
     }
 
-    fn visit_mmap(self, _content: Mmap<'_>, metadata: RecordMetadata) -> Self::Output {
+    fn visit_mmap(self, content: Mmap<'_>, metadata: RecordMetadata) -> Self::Output {
+        drop(content);
         self.moment_of("mmap", &metadata)
     }
 }

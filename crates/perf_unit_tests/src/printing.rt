@@ -5,8 +5,9 @@ use crate::checks::{check_same, check_that};
 use crate::runs::{PLAIN_64, PLAIN_100, join};
 use anyhow::{Result as AnyResult, bail};
 use perf_event_data::endian::Little;
-use perf_event_data::parse::{ParseConfig, Parser};
-use perf_event_data::{Record, RunEnd, read_records};
+use perf_event_data::parse::{ParseConfig, ParseResult, Parser};
+use perf_event_data::sys::perf_event_header;
+use perf_event_data::{Record, Run, RunEnd, read_records};
 use perf_reports::printing::{Report, print_recording};
 use perf_reports::{samples, tasks};
 use std::alloc::{AllocError, Global};
@@ -276,9 +277,9 @@ fn text_of_end(alloc: Global, outcome: AnyResult<bool>) -> Result<String, AllocE
 }
 
 // Asserts what is printed of a recording, however many bytes a read gives.
-fn check_printed(rt: &(impl AllocGlobal + Abort), case: Printed<'_>) -> Result<(), AllocError> {
+fn check_printed(rt: &(impl AllocGlobal + Abort), case: &Printed<'_>) -> Result<(), AllocError> {
     let bytes = join(rt.alloc(), case.attr, case.after)?;
-    for most in [1, 7, 8192] {
+    for &most in &[1, 7, 8192] {
         let log = Cell::new(1);
         let input = Input {
             log: &log,
@@ -298,7 +299,7 @@ fn check_printed(rt: &(impl AllocGlobal + Abort), case: Printed<'_>) -> Result<(
 
 #[test]
 fn recordings_are_printed(rt: HostRuntime) -> Result<(), AllocError> {
-    for case in PRINTED {
+    for case in &PRINTED {
         check_printed(&rt, case)?;
     }
     Ok(())
@@ -323,7 +324,7 @@ fn an_early_refusal_is_not_forgotten(rt: HostRuntime) -> Result<(), AllocError> 
         errors: TOO_SMALL,
         end: "refused",
     };
-    check_printed(&rt, case)
+    check_printed(&rt, &case)
 }
 
 // ---- what is written at a time
@@ -407,7 +408,7 @@ fn a_write_is_of_whole_lines(rt: HostRuntime) -> Result<(), AllocError> {
 fn a_long_line_has_a_write_of_its_own(rt: HostRuntime) -> Result<(), AllocError> {
     // Lines of 12 bytes, of 10 more than the name, and of 12 bytes: the second fits with both
     // others, with the first, with none.
-    for (len, writes) in [
+    for &(len, writes) in &[
         (4062, 1),
         (4063, 2),
         (4074, 2),
@@ -467,6 +468,27 @@ fn print_line(
     Ok(())
 }
 
+// Writes the lines of the frames of a run, and returns whether none was refused.
+fn print_frames(
+    alloc: Global,
+    output: &mut Output<'_>,
+    errors: &mut Output<'_>,
+    report: Report,
+    frames: &[(perf_event_header, ParseResult<Record<'_>>)],
+) -> AnyResult<bool> {
+    let mut clean = true;
+    for (_, answer) in frames {
+        match answer {
+            Ok(record) => print_line(alloc, output, report, record)?,
+            Err(error) => {
+                clean = false;
+                write!(errors, "{error}\n")?;
+            }
+        }
+    }
+    Ok(clean)
+}
+
 // What `print_recording` does, with each line written by itself.
 fn print_by_lines(
     alloc: Global,
@@ -480,24 +502,25 @@ fn print_by_lines(
     let mut parser = parser.after_attribute()?;
     let mut clean = true;
     for _ in 0..u64::MAX {
-        let run = read_records(&mut parser, 256);
-        for (_, answer) in &run.frames {
-            match answer {
-                Ok(record) => print_line(alloc, output, report, record)?,
-                Err(error) => {
-                    clean = false;
-                    write!(errors, "{error}\n")?;
-                }
-            }
-        }
-        match run.end {
-            RunEnd::Limit => {}
-            RunEnd::Done => break,
-            RunEnd::CutHeader => bail!("the input ends inside a header"),
-            RunEnd::Fault(error) => return Err(error.into()),
+        let Run { frames, end } = read_records(&mut parser, 256);
+        let printed = print_frames(alloc, output, errors, report, &frames);
+        drop(frames);
+        clean &= printed?;
+        if is_last(end)? {
+            break;
         }
     }
     Ok(clean)
+}
+
+// Whether a run that ended so is the last, if it ended without an error.
+fn is_last(end: RunEnd) -> AnyResult<bool> {
+    match end {
+        RunEnd::Limit => Ok(false),
+        RunEnd::Done => Ok(true),
+        RunEnd::CutHeader => bail!("the input ends inside a header"),
+        RunEnd::Fault(error) => Err(error.into()),
+    }
 }
 
 // A recording that may fail after its bytes, and two outputs with this capacity.
@@ -580,7 +603,7 @@ fn check_orders(
         room: usize::MAX,
         errors: usize::MAX,
     };
-    for room in ROOMS {
+    for &room in &ROOMS {
         check_gathered(rt, Case { room, ..whole })?;
         check_gathered(
             rt,
@@ -590,7 +613,7 @@ fn check_orders(
             },
         )?;
     }
-    for (cut, fault) in [(0, true), (3, false), (3, true), (21, false)] {
+    for &(cut, fault) in &[(0, true), (3, false), (3, true), (21, false)] {
         let case = Case {
             bytes: &bytes[..bytes.len().saturating_sub(cut)],
             fault: fault.then_some(io::ErrorKind::Other),
@@ -603,8 +626,8 @@ fn check_orders(
 
 #[test]
 fn lines_go_out_in_order(rt: HostRuntime) -> Result<(), AllocError> {
-    for count in [0, 1, 300, 700] {
-        for refused in [7, 1_000] {
+    for &count in &[0, 1, 300, 700] {
+        for &refused in &[7, 1_000] {
             let input = names_that_grow(rt.alloc(), count, refused)?;
             check_orders(&rt, input.as_slice(), Report::Tasks)?;
         }
@@ -614,7 +637,7 @@ fn lines_go_out_in_order(rt: HostRuntime) -> Result<(), AllocError> {
 
 #[test]
 fn long_lines_go_out_in_order(rt: HostRuntime) -> Result<(), AllocError> {
-    for len in [4_074, 4_075, 5_000, 40_000, 60_000] {
+    for &len in &[4_074, 4_075, 5_000, 40_000, 60_000] {
         let input = long_name(rt.alloc(), len)?;
         check_orders(&rt, input.as_slice(), Report::Tasks)?;
     }
@@ -625,7 +648,7 @@ fn long_lines_go_out_in_order(rt: HostRuntime) -> Result<(), AllocError> {
 #[test]
 fn escaped_names_go_out_in_order(rt: HostRuntime) -> Result<(), AllocError> {
     let mut input = Vec::from_slice(rt.alloc(), &PLAIN_64)?;
-    for name in [
+    for &name in &[
         b"sh\nexit 1".as_slice(),
         b"a\xffb",
         b"\x1b[2J",

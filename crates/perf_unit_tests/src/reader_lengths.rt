@@ -54,7 +54,7 @@ fn check_piece(rt: &(impl AllocGlobal + Abort), bytes: &[u8], with_attr: bool, p
 #[test]
 fn a_reader_fills_a_piece_at_a_time(rt: HostRuntime) -> Result<(), AllocError> {
     let with_attr = join(rt.alloc(), &PLAIN_72, &TWO)?;
-    for piece in [1usize, 7, 8192] {
+    for &piece in &[1usize, 7, 8192] {
         check_piece(&rt, &TWO, false, piece.max(1));
         check_piece(&rt, &with_attr, true, piece.max(1));
     }

@@ -3,7 +3,7 @@
 use crate::check;
 use crate::checks::check_text;
 use perf_event_data::endian::Little;
-use perf_event_data::parse::{ParseConfig, Parser};
+use perf_event_data::parse::{Parse, ParseConfig, Parser};
 use perf_event_data::sys::perf_event_attr;
 use perf_event_data::{Read, ReadGroup, ReadValue};
 use perf_test_helpers::asks::next_group;
@@ -40,7 +40,7 @@ fn check_read(rt: &(impl AllocGlobal + Abort), read: &ReadValue, want: &str) {
 #[test]
 fn a_read_as_a_group_and_back(rt: HostRuntime) -> Result<(), Fail> {
     let mut parser = Parser::new(rt.alloc(), &SEVEN[8..], with_format(ALL_OF_ONE));
-    let read = parser.parse::<Read>()?;
+    let read = Read::parse(&mut parser)?;
     let group = ReadGroup::from_value(rt.alloc(), read.values)?;
     check!(rt; group.len(), 1);
     let want = "ReadValue { value: 3, time_enabled: Some(4), time_running: Some(5), id: Some(6), \

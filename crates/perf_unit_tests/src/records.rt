@@ -45,7 +45,7 @@ fn check_cut(
     items.truncate(5);
     check_debug(rt, &items, left);
     for (at, want) in parts {
-        check_debug(rt, &parts_of(rt.alloc(), &items, at), want);
+        check_debug(rt, parts_of(rt.alloc(), &items, at), want);
     }
 }
 
@@ -122,8 +122,8 @@ fn entries_and_words() -> [[bool; 2]; 4] {
 #[test]
 fn equal_values_hash_alike(rt: HostRuntime) {
     let want = "[[false, false], [true, true], [false, false], [true, true]]";
-    check_debug(&rt, &orders_and_kinds(), want);
-    check_debug(&rt, &entries_and_words(), want);
+    check_debug(&rt, orders_and_kinds(), want);
+    check_debug(&rt, entries_and_words(), want);
 }
 
 #[test]
@@ -133,7 +133,7 @@ fn defaults_are_zero(rt: HostRuntime) {
     let numbers = (attr.size, attr.sample_type, attr.clockid, attr.config3);
     check_debug(
         &rt,
-        &(header, numbers),
+        (header, numbers),
         "(perf_event_header { type_: 0, misc: 0, size: 0 }, (0, 0, 0, 0))",
     );
 }
@@ -146,7 +146,7 @@ fn sample_ids(rt: HostRuntime) {
     let event = [none.time(), id.time(), id.id(), id.stream_id()];
     check_debug(
         &rt,
-        &(task, event),
+        (task, event),
         "((Some(3), Some(4), Some(8)), [None, Some(5), Some(6), Some(7)])",
     );
 }
@@ -171,7 +171,7 @@ fn clones() -> Result<(Throttle, ITraceStart, Aux), AllocError> {
 fn records_of_numbers_are_cloned(rt: HostRuntime) {
     check_debug(
         &rt,
-        &clones(),
+        clones(),
         "Ok((Throttle { time: 9255003132036915216, id: 67801181601177744, \
             stream_id: 13758438582646587119 }, ITraceStart { pid: 1, tid: 2 }, \
             Aux { aux_offset: 4096, aux_size: 64, flags: AuxFlags(4) }))",
@@ -198,7 +198,7 @@ fn plain_records(rt: HostRuntime) {
     check_numbers(&rt, &numbers, &[1, 2, 2, 9, 8]);
     check_debug(
         &rt,
-        &(into, NETWORK),
+        (into, NETWORK),
         "(In { pid: 1, tid: 2 }, NamespaceEntry { dev: 3, inode: 4 })",
     );
 }

@@ -15,8 +15,10 @@ use std::test::Fail;
 // How many frames a run over a buffer lists, and the capacity of its list.
 fn room<'p, B: ParseBuf<'p> + Drop>(alloc: Global, buf: B, limit: usize) -> (usize, usize) {
     let mut parser = Parser::new(alloc, buf, ParseConfig::<Little>::default());
-    let frames = read_records(&mut parser, limit).frames;
-    (frames.len(), frames.capacity())
+    let run = read_records(&mut parser, limit);
+    let room = (run.frames.len(), run.frames.capacity());
+    drop(run);
+    room
 }
 
 // The same over a slice, a buffered reader and pieces.
@@ -38,7 +40,7 @@ const OF_NOTHING: [(&[u8], usize); 5] = [
 
 #[test]
 fn a_list_of_nothing_has_no_room(rt: HostRuntime) -> Result<(), Fail> {
-    for (bytes, limit) in OF_NOTHING {
+    for &(bytes, limit) in &OF_NOTHING {
         let actual = rooms(rt.alloc(), bytes, limit)?;
         check_same(&rt, "the rooms", actual, [(0, 0); 3]);
     }
@@ -70,7 +72,7 @@ fn check_one(rt: &impl Abort, (count, room): (usize, usize)) {
 
 #[test]
 fn a_list_of_one_frame_has_little_room(rt: HostRuntime) -> Result<(), Fail> {
-    for limit in [1, 10, 256, usize::MAX] {
+    for &limit in &[1, 10, 256, usize::MAX] {
         for actual in rooms(rt.alloc(), &FIVE_LOST, limit)? {
             check_one(&rt, actual);
         }

@@ -75,7 +75,7 @@ pub fn check_run<R: Read + Copy, E: Endian + Copy>(
     order: E,
     case: RunCase<'_>,
 ) {
-    for piece in [1usize, 7, 8192] {
+    for &piece in &[1usize, 7, 8192] {
         let (limit, with_attr) = (case.limit, case.with_attr);
         let mut output = Vec::new(rt.alloc());
         let piece = piece.max(1);

@@ -97,7 +97,7 @@ const BODIES: [(SampleFlags, u64, u64, &[Part], u64); 8] = [
 ];
 
 fn check_count(rt: &(impl AllocGlobal + Abort), count: u64) {
-    for (sample_type, read_format, branch_sample_type, rest, most) in BODIES {
+    for &(sample_type, read_format, branch_sample_type, rest, most) in &BODIES {
         let mut attr = attribute(sample_type.bits(), read_format);
         attr.branch_sample_type = branch_sample_type;
         check_most(rt, attr, U64(count), rest, most);
@@ -106,7 +106,7 @@ fn check_count(rt: &(impl AllocGlobal + Abort), count: u64) {
 
 #[test]
 fn a_hostile_count_converts_no_more_than_the_numbers_of_its_body(rt: HostRuntime) {
-    for count in HOSTILE {
+    for &count in &HOSTILE {
         check_count(&rt, count);
     }
     let rest = [U64(1), U64(2)];

@@ -86,7 +86,11 @@ fn sample_of_a_clone<'a>(alloc: Global, fields: &SampleFields<'a>) -> ParseResul
 // Writes the results of a copy of a sample.
 fn write_copy(text: &mut String, copy: ParseResult<Sample<'_>>) -> ParseResult<()> {
     match copy {
-        Ok(sample) => write_sample(text, &sample),
+        Ok(sample) => {
+            let written = write_sample(text, &sample);
+            drop(sample);
+            written
+        }
         Err(error) => Err(error),
     }
 }
@@ -99,7 +103,10 @@ fn write_with_clone(text: &mut String, alloc: Global, sample: &Sample<'_>) -> Pa
 
 // Writes the results of a sample of these fields, and of its clone.
 fn write_fields(text: &mut String, alloc: Global, fields: SampleFields<'_>) -> ParseResult<()> {
-    write_with_clone(text, alloc, &Sample::from_fields(fields))
+    let sample = Sample::from_fields(fields);
+    let written = write_with_clone(text, alloc, &sample);
+    drop(sample);
+    written
 }
 
 // The text of a sample of a clone of these fields, of one of the fields, and of its clone.
@@ -195,66 +202,63 @@ fn a_sample_answers_each_of_its_fields(rt: HostRuntime) {
     check_parsed_text(&rt, actual, want);
 }
 
-// An owned list.
-fn owned_list<'a, T: Copy>(alloc: Global, items: &'a [T]) -> ParseResult<Option<CowSlice<'a, T>>> {
-    Ok(Some(CowSlice::Borrowed(items).into_owned(alloc)?))
+// Replaces a list by an owned one with the same items.
+fn own_list<T: Copy>(alloc: Global, place: &mut Option<CowSlice<'_, T>>) -> ParseResult<()> {
+    if let Some(list) = place.take() {
+        *place = Some(list.into_owned(alloc)?);
+    }
+    Ok(())
 }
 
-// Registers 0 and 2 of a task of 64 bits, with these owned values.
-fn owned_registers(alloc: Global, values: &[u64]) -> ParseResult<Option<Registers<'_>>> {
-    Ok(Some(Registers {
-        abi: SampleRegsAbi::ABI_64,
-        mask: 5,
-        regs: CowSlice::Borrowed(values).into_owned(alloc)?,
-    }))
+// The same of a group.
+fn own_group(alloc: Global, place: &mut Option<ReadGroup<'_>>) -> ParseResult<()> {
+    if let Some(group) = place.take() {
+        *place = Some(group.into_owned(alloc)?);
+    }
+    Ok(())
 }
 
-// Replaces a group and registers by owned ones with the same values.
+// The same of registers.
+fn own_registers(alloc: Global, place: &mut Option<Registers<'_>>) -> ParseResult<()> {
+    if let Some(registers) = place.take() {
+        let Registers { abi, mask, regs } = registers;
+        let regs = regs.into_owned(alloc)?;
+        *place = Some(Registers { abi, mask, regs });
+    }
+    Ok(())
+}
+
+// The same of the group and the registers.
 fn own_groups(alloc: Global, fields: &mut SampleFields<'_>) -> ParseResult<()> {
-    let words = CowSlice::Borrowed(&[110]);
-    let group = ReadGroup::from_parts(ReadFormat::GROUP, 0, 0, words);
-    fields.values = Some(group.into_owned(alloc)?);
-    fields.regs_user = owned_registers(alloc, &[118, 119])?;
-    fields.regs_intr = owned_registers(alloc, &[125, 126])?;
-    Ok(())
+    own_group(alloc, &mut fields.values)?;
+    own_registers(alloc, &mut fields.regs_user)?;
+    own_registers(alloc, &mut fields.regs_intr)
 }
 
-// The same of the call chain and the branches.
-fn own_calls<'a>(
-    alloc: Global,
-    fields: &mut SampleFields<'a>,
-    branches: &'a [BranchEntry],
-) -> ParseResult<()> {
-    fields.callchain = owned_list(alloc, &[111, 112])?;
-    fields.lbr = owned_list(alloc, branches)?;
-    Ok(())
-}
-
-// The same of the bytes.
-fn own_bytes(alloc: Global, fields: &mut SampleFields<'_>) -> ParseResult<()> {
-    fields.raw = owned_list(alloc, &[113])?;
-    fields.stack_user = owned_list(alloc, &[120, 121])?;
-    fields.aux = owned_list(alloc, &[128, 129, 130])?;
-    Ok(())
+// The same of the call chain, the branches and the bytes.
+fn own_lists(alloc: Global, fields: &mut SampleFields<'_>) -> ParseResult<()> {
+    own_list(alloc, &mut fields.callchain)?;
+    own_list(alloc, &mut fields.lbr)?;
+    own_list(alloc, &mut fields.raw)?;
+    own_list(alloc, &mut fields.stack_user)?;
+    own_list(alloc, &mut fields.aux)
 }
 
 // Replaces each list by an owned one.
-fn own_lists<'a>(
-    alloc: Global,
-    fields: &mut SampleFields<'a>,
-    branches: &'a [BranchEntry],
-) -> ParseResult<()> {
+fn own_all(alloc: Global, fields: &mut SampleFields<'_>) -> ParseResult<()> {
     own_groups(alloc, fields)?;
-    own_calls(alloc, fields, branches)?;
-    own_bytes(alloc, fields)
+    own_lists(alloc, fields)
 }
 
 // The text of a sample with every field that owns its lists.
 fn text_of_owned(alloc: Global, branches: &[BranchEntry]) -> ParseResult<String> {
     let mut fields = every_field(branches);
-    match own_lists(alloc, &mut fields, branches) {
+    match own_all(alloc, &mut fields) {
         Ok(()) => text_with_copies(alloc, fields),
-        Err(error) => Err(error),
+        Err(error) => {
+            drop(fields);
+            Err(error)
+        }
     }
 }
 
@@ -326,7 +330,7 @@ const ALONE: [(Option<u32>, Option<u32>, Option<u64>, &str); 4] = [
 
 #[test]
 fn a_sample_has_the_fields_alone_that_are_given(rt: HostRuntime) {
-    for (pid, tid, index, want) in ALONE {
+    for &(pid, tid, index, want) in &ALONE {
         check_parsed_text(&rt, text_alone(rt.alloc(), (pid, tid), index, None), want);
     }
 }
@@ -348,7 +352,7 @@ fn branches_need_no_index(rt: HostRuntime) {
 fn check_id(rt: &(impl AllocGlobal + Abort), id: SampleId) {
     check_debug(
         rt,
-        &(
+        (
             (id.pid(), id.tid(), id.cpu()),
             (id.time(), id.id(), id.stream_id()),
         ),

@@ -65,7 +65,8 @@ impl<'a> Visitor<'a> for Names {
         "unimplemented"
     }
 
-    fn visit_mmap(self, _content: Mmap<'a>, _metadata: RecordMetadata) -> Self::Output {
+    fn visit_mmap(self, content: Mmap<'a>, _metadata: RecordMetadata) -> Self::Output {
+        drop(content);
         "mmap"
     }
 
@@ -73,7 +74,8 @@ impl<'a> Visitor<'a> for Names {
         "lost"
     }
 
-    fn visit_comm(self, _content: Comm<'a>, _metadata: RecordMetadata) -> Self::Output {
+    fn visit_comm(self, content: Comm<'a>, _metadata: RecordMetadata) -> Self::Output {
+        drop(content);
         "comm"
     }
 
@@ -97,11 +99,13 @@ impl<'a> Visitor<'a> for Names {
         "read"
     }
 
-    fn visit_sample(self, _content: Sample<'a>, _metadata: RecordMetadata) -> Self::Output {
+    fn visit_sample(self, content: Sample<'a>, _metadata: RecordMetadata) -> Self::Output {
+        drop(content);
         "sample"
     }
 
-    fn visit_mmap2(self, _content: Mmap2<'a>, _metadata: RecordMetadata) -> Self::Output {
+    fn visit_mmap2(self, content: Mmap2<'a>, _metadata: RecordMetadata) -> Self::Output {
+        drop(content);
         "mmap2"
     }
 
@@ -129,11 +133,13 @@ impl<'a> Visitor<'a> for Names {
         "switch_cpu_wide"
     }
 
-    fn visit_namespaces(self, _content: Namespaces<'a>, _metadata: RecordMetadata) -> Self::Output {
+    fn visit_namespaces(self, content: Namespaces<'a>, _metadata: RecordMetadata) -> Self::Output {
+        drop(content);
         "namespaces"
     }
 
-    fn visit_ksymbol(self, _content: KSymbol<'a>, _metadata: RecordMetadata) -> Self::Output {
+    fn visit_ksymbol(self, content: KSymbol<'a>, _metadata: RecordMetadata) -> Self::Output {
+        drop(content);
         "ksymbol"
     }
 
@@ -141,11 +147,13 @@ impl<'a> Visitor<'a> for Names {
         "bpf_event"
     }
 
-    fn visit_cgroup(self, _content: CGroup<'a>, _metadata: RecordMetadata) -> Self::Output {
+    fn visit_cgroup(self, content: CGroup<'a>, _metadata: RecordMetadata) -> Self::Output {
+        drop(content);
         "cgroup"
     }
 
-    fn visit_text_poke(self, _content: TextPoke<'a>, _metadata: RecordMetadata) -> Self::Output {
+    fn visit_text_poke(self, content: TextPoke<'a>, _metadata: RecordMetadata) -> Self::Output {
+        drop(content);
         "text_poke"
     }
 
@@ -157,7 +165,8 @@ impl<'a> Visitor<'a> for Names {
         "aux_output_hw_id"
     }
 
-    fn visit_unknown(self, _bytes: CowSlice<'a, u8>, _metadata: RecordMetadata) -> Self::Output {
+    fn visit_unknown(self, bytes: CowSlice<'a, u8>, _metadata: RecordMetadata) -> Self::Output {
+        drop(bytes);
         "unknown"
     }
 }
@@ -227,7 +236,7 @@ const CALLS: &str = "mmap; lost; comm; exit; throttle; unthrottle; \
 #[test]
 fn each_type_has_its_call(rt: HostRuntime) -> Result<(), Fail> {
     let bytes = zero_frames(rt.alloc())?;
-    for (name, visitor) in [("a visitor", Gives::Names), ("own calls", Gives::OwnCalls)] {
+    for &(name, visitor) in &[("a visitor", Gives::Names), ("own calls", Gives::OwnCalls)] {
         let case = Case {
             name,
             request: Request::Visited(visitor),

@@ -53,7 +53,7 @@ const MIXED: &[u8] =
 
 fn config() -> ParseConfig<Little> {
     let mut sample_type = 0;
-    for field in FIELDS {
+    for &field in &FIELDS {
         sample_type |= field.bits();
     }
     ParseConfig::from(ids_attribute(sample_type))
@@ -172,11 +172,22 @@ fn write_sample_in_place<'p>(
     frame: &Frame<'_, 'p>,
 ) -> Result<(), AllocError> {
     let mut place: Sample<'p> = older_sample();
-    match frame.sample_into(alloc, &config(), &mut place) {
+    let is_written = write_sample_into(text, alloc, frame, &mut place);
+    drop(place);
+    is_written
+}
+
+fn write_sample_into<'p>(
+    text: &mut String,
+    alloc: Global,
+    frame: &Frame<'_, 'p>,
+    place: &mut Sample<'p>,
+) -> Result<(), AllocError> {
+    match frame.sample_into(alloc, &config(), place) {
         Ok(is_put) => write!(text, "{is_put}")?,
         Err(error) => write_error(text, &error)?,
     }
-    write_fields(text, &place)
+    write_fields(text, place)
 }
 
 // A sample with the address 1, and no other field.

@@ -98,7 +98,7 @@ fn element_lens() -> [usize; 4] {
 
 #[test]
 fn numbers_inside_sets(rt: HostRuntime) {
-    check_debug(&rt, &element_lens(), "[1, 2, 2, 3]");
+    check_debug(&rt, element_lens(), "[1, 2, 2, 3]");
     let format = AuxFlags::from_bits_retain(0x0103).pmu_format_type();
     let abort = Txn::from_bits_retain(0xdead_beef_0000_0004).abort();
     let numbers = [
@@ -147,7 +147,7 @@ fn names(rt: HostRuntime) {
     let code_page_size = Some(SampleFlags::CODE_PAGE_SIZE.bits());
     let want = [code_page_size, None, Some(0x1ff_ffff), Some(15)];
     check_answers(&rt, &numbers, &want);
-    check_debug(&rt, &name, "\"NA\"");
+    check_debug(&rt, name, "\"NA\"");
 }
 
 #[test]
@@ -161,7 +161,7 @@ fn debug_texts(rt: HostRuntime) {
     );
     check_debug(
         &rt,
-        &words,
+        words,
         "(SampleFlags(4), BranchType(6), BranchEntry { from: 1, to: 2, word: 3 }, DataSource { \
             mem_op: MemOp(2), mem_lvl: MemLevel(0), mem_snoop: MemSnoop(0), mem_lock: MemLock(0), \
             mem_dtlb: MemDtlb(0), mem_lvl_num: MemLevelNum(0), mem_remote: false, \
