@@ -77,7 +77,7 @@ class Body:
         if self.at:
             return self.at
         _, _, new = self.pairs[0]
-        named = [it for it in FUNCTION.findall(new) if it in self.known] or self.names
+        named = [it for it in [*FUNCTION.findall(new), *self.names] if it in self.known] or self.names
         module = self.home if self.home is not None and not self.others else module_of(self.path)
         return ["::".join(filter(None, [module, self.owner, named[0]]))]
 
