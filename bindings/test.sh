@@ -104,7 +104,7 @@ check_recordings() {
         return
     }
     for stream in "$crates"/perf_tasks/stdin "$crates"/perf_samples/stdin "$top"/examples/*.stream; do
-        for words in "little attr" "native 100 attr" "big attr" "big"; do
+        for words in "little 1000000 attr" "native 100 attr" "big 1000000 attr" "big 1000000"; do
             "$perfrec" $words <"$stream" >"$work/theirs" 2>/dev/null
             echo "status $?" >>"$work/theirs"
             "$1/perfrec" $words <"$stream" >"$work/text"
@@ -115,10 +115,37 @@ check_recordings() {
 }
 
 check_counts() {
-    "$1/perfrec" count $(cat "$crates/perf_count/args") <"$crates/perf_count/stdin" >"$work/text"
+    "$1/perf_count" $(cat "$crates/perf_count/args") <"$crates/perf_count/stdin" >"$work/text"
     compare "counts of crates/perf_count" "$crates/perf_count/stdout" "$work/text"
-    "$1/perfrec" count little 1 </dev/null >/dev/null 2>&1
+    "$1/perf_count" little 1 </dev/null >/dev/null 2>&1
     [ $? = 2 ] && pass "counts take no limit" || fail "counts with a limit"
+    if count=$(program perf_count); then
+        for words in "" --help "little 1" "little attr attr" "--help little"; do
+            usage "$count" $words >"$work/theirs"
+            usage "$1/perf_count" $words >"$work/text"
+            compare "usage of perf_count $words" "$work/theirs" "$work/text"
+        done
+    else
+        skip "usage of the proved perf_count: it is not given"
+    fi
+}
+
+# What a program prints on its two outputs for words that are no command, and its status.
+usage() {
+    "$@" </dev/null 2>"$work/log"
+    echo "status $?, and on standard error:"
+    cat "$work/log"
+}
+
+# The arguments of perfrec.
+check_words() {
+    try "words of perfrec" "$top/bindings/words_test.sh" "$1/perfrec"
+    [ -z "$sanitize" ] || try "words of perfrec, sanitized" "$top/bindings/words_test.sh" "$2/perfrec"
+    if perfrec=$(program perfrec); then
+        try "the same by the proved perfrec" "$top/bindings/words_test.sh" "$perfrec"
+    else
+        skip "words by the proved perfrec: it is not given"
+    fi
 }
 
 # The first list is read by all programs, plain and sanitized.
@@ -133,7 +160,7 @@ check_streams() {
     if command -v valgrind >/dev/null; then
         try "generated streams, under valgrind" valgrind -q --error-exitcode=9 "$1/replay" "$work/list"
     fi
-    try "counts of generated streams" python3 "$top/bindings/streams.py" counts "$work/list" "$1/perfrec" count
+    try "counts of generated streams" python3 "$top/bindings/streams.py" counts "$work/list" "$1/perf_count"
     if count=$(program perf_count); then
         try "the same by the proved perf_count" python3 "$top/bindings/streams.py" counts "$work/list" "$count"
     else
@@ -185,6 +212,7 @@ build plain ""
 [ -z "$sanitize" ] || build sanitized $sanitize
 check_texts "$work/plain"
 check_recordings "$work/plain"
+check_words "$work/plain" "$work/sanitized"
 check_counts "$work/plain"
 check_streams "$work/plain" "$work/sanitized"
 run_programs plain "plain"

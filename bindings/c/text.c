@@ -416,7 +416,7 @@ int print_run(FILE *out, const struct command *command, const uint8_t *bytes, si
 
 /* ---- the words of a command, and the bytes of a file */
 
-/* A number of decimal digits alone, below 2^64. Returns 0 for other words. */
+/* A number of the digits 0 to 9 alone, one or more, below 2^64. Returns 0 for other words. */
 static int read_limit(const char *word, uint64_t *limit)
 {
     const char *at;
@@ -431,20 +431,17 @@ static int read_limit(const char *word, uint64_t *limit)
     return at != word;
 }
 
+int read_order(const char *word, uint32_t *order)
+{
+    *order = strcmp(word, "big") == 0 ? PED_BIG : PED_LITTLE;
+    return *order == PED_BIG || strcmp(word, "little") == 0 || strcmp(word, "native") == 0;
+}
+
 int read_command(int count, char **words, struct command *command)
 {
-    command->limit = UINT64_MAX;
-    command->with_attr = count > 1 && strcmp(words[count - 1], "attr") == 0;
-    count -= command->with_attr;
-    if (count < 1 || count > 2) {
-        return 0;
-    }
-    command->order = strcmp(words[0], "big") == 0 ? PED_BIG : PED_LITTLE;
-    if (command->order == PED_LITTLE && strcmp(words[0], "little") != 0
-        && strcmp(words[0], "native") != 0) {
-        return 0;
-    }
-    return count == 1 || read_limit(words[1], &command->limit);
+    command->with_attr = count == 3 && strcmp(words[2], "attr") == 0;
+    return (count == 2 || command->with_attr) && read_order(words[0], &command->order)
+        && read_limit(words[1], &command->limit);
 }
 
 uint8_t *read_file(FILE *file, size_t *len)

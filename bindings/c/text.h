@@ -12,7 +12,10 @@ struct command {
     int with_attr;  /* whether an attribute is in front of the frames */
 };
 
-/* The command of these words, little|big|native [LIMIT] [attr]. Returns 0 for other words. */
+/* The byte order of this name, little, big or native. Returns 0 for another word. */
+int read_order(const char *word, uint32_t *order);
+
+/* The command of these words, little|big|native LIMIT [attr]. Returns 0 for other words. */
 int read_command(int count, char **words, struct command *command);
 
 /* The configuration of a command, which for `attr` is that of the attribute in front; `taken` is how many

@@ -2,12 +2,12 @@
 """Tests perf_event_data, the module beside this file, over a shared object of the library:
 
     PERF_EVENT_DATA_SO=libperf_event_data.so python3 bindings/python/test.py [PERFREC]
-    python3 bindings/python/test.py perfrec little|big|native [LIMIT] [attr] < STREAM
+    python3 bindings/python/test.py perfrec little|big|native LIMIT [attr] < STREAM
 
 The first form compares: lines of `perfrec`, `perf_tasks` and `perf_samples` with those that the repository
 expects; with PERFREC, the program that `rt run` makes in crates/perfrec, also the lines of all recordings.
 Then it tries the calls, and measures. A line is what passed, failed or was skipped; the status is 0 if
-nothing failed. The second form prints what `perfrec` prints, and has its status.
+nothing failed. The second form prints what `perfrec` prints, and has its arguments and its status.
 """
 
 import array
@@ -37,6 +37,7 @@ ORDERS = {
               " regs_intr phys_addr aux cgroup data_page_size code_page_size",
     "mmap2": "pid tid addr len pgoff maj min ino ino_generation build_id prot flags filename",
     "namespaces": "pid tid namespaces"}
+USAGE = "usage: perfrec little|big|native LIMIT [attr]"
 results = {"passed": 0, "FAILED": 0, "skipped": 0}
 
 
@@ -90,18 +91,26 @@ def line(index, frame):
     return head + " ".join([NAMES[frame.read], *words])
 
 
-def perfrec(words, data):
-    """The lines that `perfrec` prints, and its status; None for words that it does not know."""
-    match = re.fullmatch(r"(little|big|native)( \d+)?( attr)?", " ".join(words))
-    if not match or int(match[2] or 0) >= 1 << 64:
+def command(words):
+    """The byte order, the limit, and whether there is an attribute; None for words that are no command."""
+    if len(words) not in (2, 3) or words[0] not in ("little", "big", "native") or words[2:] not in ([], ["attr"]):
         return None
-    config, start = ped.Config(ped.BIG if match[1] == "big" else ped.LITTLE), 0
-    if match[3]:
+    digits = words[1].lstrip("0")
+    if not re.fullmatch("[0-9]+", words[1]) or len(digits) > 20 or int(digits or 0) >= 1 << 64:
+        return None
+    return ped.BIG if words[0] == "big" else ped.LITTLE, int(digits or 0), len(words) == 3
+
+
+def perfrec(words, data):
+    """The lines that `perfrec` prints, and its status, for words that are a command."""
+    order, limit, with_attr = command(words)
+    config, start = ped.Config(order), 0
+    if with_attr:
         try:
-            config, start = ped.read_attribute(data, config.order)
+            config, start = ped.read_attribute(data, order)
         except ValueError as refusal:
             return [f"attr refused {refusal}"], 2
-    frames = ped.Frames(data, config, start, int(match[2]) if match[2] else sys.maxsize)
+    frames = ped.Frames(data, config, start, limit)
     lines = [line(index, frame) for index, frame in enumerate(frames)]
     status = any(frames.column("refusal")) or frames.end == "cut header"
     return [*lines, "end " + frames.end.removesuffix(" header")], int(status)
@@ -171,10 +180,11 @@ def compare_texts(program):
     if not program:
         tell("skipped", "text of the recordings: PERFREC is not given")
         return
+    words = ["little", "1000000", "attr"]
     for path in RECORDINGS:
         with path.open("rb") as stream:
-            theirs = subprocess.run([program, "little", "attr"], stdin=stream, capture_output=True, text=True).stdout
-        lines, _status = perfrec(["little", "attr"], path.read_bytes())
+            theirs = subprocess.run([program, *words], stdin=stream, capture_output=True, text=True).stdout
+        lines, _status = perfrec(words, path.read_bytes())
         compare(f"text of {path.relative_to(TOP)}", theirs.splitlines(), lines)
 
 
@@ -211,6 +221,33 @@ def replay(what, cases):
         elif word and word[0] != "#":
             words = rest.split() if word == "perfrec" else None
     check(f"{what}: {runs} runs, {differences} differ", runs > 0 and differences == 0)
+
+
+# ---- the arguments of perfrec
+
+# No digits, what `int` or another language reads as a number, 2^64 and more, digits of other scripts.
+NO_LIMITS = ["", "x", "-1", "+1", " 1", "1 ", "1\n", "0x10", "1_0", "1.0", "18446744073709551616", "1" + "0" * 5000,
+             "\u0661\u0660", "\uff11", "\u00b2", "attr", "little", "--help"]
+NO_COMMANDS = [[], ["little"], ["attr"], ["--help"], ["middle", "3"], ["Little", "3"], ["little 3"], ["", "3"],
+               ["attr", "1"], ["1", "little"], ["--help", "little", "3"],
+               *(["little", limit, *rest] for limit in NO_LIMITS for rest in ([], ["attr"])),
+               *(["big", "1", third] for third in ("", "ATTR", "attr ", "1", "little", "--help")),
+               *(["native", "1", "attr", fourth] for fourth in ("", "attr", "--help"))]
+
+
+def try_words():
+    found = [words for words in NO_COMMANDS if command(words) is not None]
+    for words in found:
+        print(f"    {words} are a command")
+    check(f"{len(NO_COMMANDS)} lines of other words are no command", not found)
+    limits = {"0": 0, "007": 7, "18446744073709551615": 2**64 - 1, "0" * 5000 + "18446744073709551615": 2**64 - 1}
+    orders = {"little": ped.LITTLE, "big": ped.BIG, "native": ped.LITTLE}
+    check("an order and a limit are a command, and with attr", all(
+        command([name, digits, *rest]) == (order, limit, bool(rest))
+        for name, order in orders.items() for digits, limit in limits.items() for rest in ([], ["attr"])))
+    for words in [], ["--help"], ["little"], ["little", "1", "attr", "attr"]:
+        ran = subprocess.run([sys.executable, __file__, "perfrec", *words], input="", capture_output=True, text=True)
+        check(f"the usage for {words}", (ran.returncode, ran.stdout, ran.stderr) == (2, "", USAGE + "\n"))
 
 
 # ---- the header
@@ -421,17 +458,17 @@ def measure():
 
 def main():
     if sys.argv[1:2] == ["perfrec"]:
-        answer = perfrec(sys.argv[2:], sys.stdin.buffer.read())
-        if answer is None:
-            print("usage: test.py perfrec little|big|native [LIMIT] [attr] < STREAM", file=sys.stderr)
+        if command(sys.argv[2:]) is None:
+            print(USAGE, file=sys.stderr)
             return 2
-        print("\n".join(answer[0]))
-        return answer[1]
+        lines, status = perfrec(sys.argv[2:], sys.stdin.buffer.read())
+        print("\n".join(lines))
+        return status
     compare_texts(sys.argv[1] if len(sys.argv) > 1 else None)
     replay("runs of crates/perf_replay", (CRATES / "perf_replay/stdin").read_text())
     streams = [sys.executable, TOP / "bindings/streams.py", "list", "1", "200"]
     replay("generated streams", subprocess.run(streams, capture_output=True, text=True, check=True).stdout)
-    for call in (compare_header, try_inputs, try_memory, try_sequence, try_frames, try_wrong_bytes, try_numpy, measure):
+    for call in (try_words, compare_header, try_inputs, try_memory, try_sequence, try_frames, try_wrong_bytes, try_numpy, measure):
         call()
     print(", ".join(f"{number} {result.lower()}" for result, number in results.items()))
     return 1 if results["FAILED"] else 0

@@ -26,6 +26,8 @@ if [ "${LINTS:-}" != no ]; then
     RUSTDOCFLAGS="-D warnings" cargo doc --offline --quiet --no-deps --document-private-items
 fi
 cargo test --offline --quiet
+cargo build --offline --quiet --example perfrec
+../words_test.sh "$CARGO_TARGET_DIR/debug/examples/perfrec"
 if command -v python3 >/dev/null; then
     ../streams.py list 1 200 >"$CARGO_TARGET_DIR/list"
     PERF_EVENT_DATA_CASES=$CARGO_TARGET_DIR/list cargo test --offline --quiet --test replay other

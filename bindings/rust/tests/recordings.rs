@@ -45,7 +45,7 @@ fn counted(name: &str) -> BTreeMap<String, u64> {
 
 /// The lines of a stream that begins with an attribute, without the last line.
 fn frames(name: &str) -> Vec<String> {
-    let (mut lines, _) = text::run("little attr", &file(name));
+    let (mut lines, _) = text::run("little 1000000 attr", &file(name));
     assert_eq!(lines.pop().as_deref(), Some("end done"));
     lines
 }

@@ -63,7 +63,7 @@ fn the_frames_of_the_formats_have_their_lines() {
         0x59, 0x1b, 0, 0, 1, 0, 0, 0, 0x40, 0x4b, 0x4c, 0, 0, 0, 0, 0,
     ]);
     stream.extend([2, 0, 0, 0, 0, 0, 7, 0]);
-    let (lines, status) = text::run("little", &stream);
+    let (lines, status) = text::run("little 10", &stream);
     let expected = [
         "0 4 0 32 Exit pid=7001 ppid=1 tid=7001 ptid=1 time=5000000",
         "1 2 0 7 refused InvalidRecord",

@@ -118,7 +118,7 @@ fn check_command(
     Ok(())
 }
 
-const COMMANDS: [(&str, &str, OrderName, usize); 5] = [
+const COMMANDS: [(&str, &str, OrderName, usize); 7] = [
     ("little", "10", OrderName::Little, 10),
     ("big", "0", OrderName::Big, 0),
     ("native", "007", OrderName::Native, 7),
@@ -129,6 +129,18 @@ const COMMANDS: [(&str, &str, OrderName, usize); 5] = [
         usize::MAX,
     ),
     ("little", "00000000000000000000000001", OrderName::Little, 1),
+    (
+        "big",
+        "0000018446744073709551615",
+        OrderName::Big,
+        usize::MAX,
+    ),
+    (
+        "native",
+        "18446744073709551614",
+        OrderName::Native,
+        usize::MAX - 1,
+    ),
 ];
 
 #[test]
@@ -149,37 +161,71 @@ fn an_order_and_a_limit_are_a_command(rt: HostRuntime) -> Result<(), AllocError>
     Ok(())
 }
 
-// Arguments that are no command: digits that are no limit, names that are no byte order, a wrong
-// third argument, too few arguments, and arguments in other places.
-const NO_COMMANDS: [&[&str]; 28] = [
-    &["little", ""],
-    &["little", "+1"],
-    &["little", "-1"],
-    &["little", "1 "],
-    &["little", "1x"],
-    &["little", "0x1"],
-    &["little", "18446744073709551616"],
-    &["little", "99999999999999999999"],
+// Arguments that are no command: too few, names that are no byte order, digits that are no limit or
+// of another script, arguments in other places, a wrong third argument, and too many.
+const NO_COMMANDS: [&[&str]; 62] = [
+    &[],
+    &["--help"],
+    &["-h"],
+    &["little"],
+    &["big"],
+    &["native"],
+    &["3"],
+    &["attr"],
     &["middle", "3"],
     &["Little", "3"],
+    &["BIG", "3"],
     &["", "3"],
     &["little ", "3"],
+    &[" little", "3"],
+    &["little 3"],
+    &["--help", "3"],
+    &["3", "little"],
+    &["little", ""],
+    &["little", "x"],
+    &["little", "1x"],
+    &["little", "-1"],
+    &["little", "+1"],
+    &["little", " 1"],
+    &["little", "1 "],
+    &["little", "0x1"],
+    &["little", "0x10"],
+    &["little", "1_0"],
+    &["little", "1.0"],
+    &["little", "1e1"],
+    &["little", "18446744073709551616"],
+    &["little", "00018446744073709551616"],
+    &["little", "99999999999999999999"],
+    &["little", "340282366920938463463374607431768211456"],
+    &["little", "\u{661}\u{660}"],
+    &["little", "1\u{660}"],
+    &["little", "\u{ff11}"],
+    &["little", "--help"],
+    &["little", "little"],
+    &["little", "attr"],
+    &["little", "attr", "3"],
+    &["attr", "little", "3"],
+    &["attr", "3", "attr"],
+    &["big", "x", "attr"],
+    &["native", "", "attr"],
+    &["native", "18446744073709551616", "attr"],
+    &["little", "\u{661}", "attr"],
     &["little", "3", ""],
     &["little", "3", "Attr"],
+    &["little", "3", "ATTR"],
+    &["little", "3", " attr"],
     &["little", "3", "attr "],
     &["little", "3", "attrs"],
     &["little", "3", "att"],
     &["little", "3", "3"],
-    &[],
-    &["little"],
-    &["attr"],
-    &["little", "attr"],
-    &["little", "attr", "3"],
-    &["attr", "little", "3"],
-    &["big", "x", "attr"],
-    &["attr", "3", "attr"],
+    &["little", "3", "little"],
+    &["little", "3", "--help"],
+    &["--help", "little", "3"],
+    &["middle", "3", "attr"],
     &["little", "3", "attr", "attr"],
     &["little", "3", "attr", ""],
+    &["little", "3", "attr", "--help"],
+    &["little", "3", "4", "attr"],
 ];
 
 #[test]

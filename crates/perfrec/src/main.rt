@@ -1,32 +1,31 @@
 //! Prints the records that Linux wrote for performance events, a line each.
 //!
-//! `perfrec little|big|native [LIMIT] [attr]` reads records from standard input, in the byte order
+//! `perfrec little|big|native LIMIT [attr]` reads records from standard input, in the byte order
 //! that is named, and writes at most LIMIT lines to standard output, and a last one that states how
-//! reading ended. Without LIMIT all records have a line. With `attr` the input begins with an
-//! attribute, which determines how the records after it are read.
+//! reading ended. LIMIT is one or more of the digits 0 to 9, with a value of at most 2^64 - 1. With
+//! `attr` the input begins with an attribute, which determines how the records after it are read.
+//! For any other arguments, `--help` too, it reads nothing, and prints one line with the usage on
+//! standard error and nothing on standard output.
 //!
 //! The exit status is 0 if every record could be read, 1 if one was refused or the input ends inside
 //! a header, 2 if the attribute was refused and for other arguments, and 3 if reading, writing or
 //! an allocation failed. With 2 and 3 the reason is printed on standard error, and with 1 what to try
-//! if there is no `attr`.
-//! `--help` alone prints the usage, with the status 0.
+//! if there is no `attr`. If the arguments themselves cannot be read, nothing is printed, and the
+//! status is 3.
 #![tactic(auto)]
 
+ghost use Rattle.std.specs.Prelude.{◌≡◌};
+
 use perf_event_data::endian::{Big, Endian, Little, Native};
-use perf_lines::args::{command, unlimited_command};
+use perf_lines::args::command;
 use perf_lines::command::{Command, OrderName};
 use perf_lines::outcome::Outcome;
 use perf_lines::run::run;
-use perf_text::usage::print_usage;
 use std::process::ExitCode;
 use std::{env, io};
 
-// What is printed for `--help` and for arguments that are not known.
-const USAGE: &str = "usage: perfrec little|big|native [LIMIT] [attr] < STREAM
-Prints a line for each record, at most LIMIT lines if there is one, and then how reading ended.
-With attr the stream begins with an attribute, as examples/perf-data-to-stream.sh writes it.
-Status: 0 if no record was refused, 1 if one was or the last header is cut, 2 if the attribute was
-refused or for other arguments, 3 if reading, writing or memory failed.";
+// The line that is printed for arguments that are no command.
+const USAGE: &str = "usage: perfrec little|big|native LIMIT [attr]";
 
 // How many bytes are read at a time.
 const PIECE: usize = 8192;
@@ -35,9 +34,8 @@ fn main(rt: HostRuntime) -> ExitCode {
     let Ok(words) = words_of(&rt) else {
         return ExitCode::from(Outcome::Faulted.status());
     };
-    let Some(command) = command(&words).or_else(|| unlimited_command(&words)) else {
-        let status = print_usage(&rt, &words, USAGE).unwrap_or(Outcome::Stopped.status());
-        return ExitCode::from(status);
+    let Some(command) = command(&words) else {
+        return ExitCode::from(print_usage(&rt));
     };
     let outcome = match command.order {
         OrderName::Little => run_command(&rt, Little, command),
@@ -49,6 +47,15 @@ fn main(rt: HostRuntime) -> ExitCode {
         let _ = rt.eprintln(why);
     }
     ExitCode::from(outcome.status())
+}
+
+// Prints the usage on standard error, and returns the exit status for arguments that are no command.
+// If standard error fails, the status alone reports it.
+fn print_usage(rt: &impl Eprint) -> u8
+    ensures { result ≡ 2 }
+{
+    let _ = rt.eprintln(USAGE);
+    2
 }
 
 // Why there may be fewer lines than records. What is refused without an attribute may be no records.

@@ -322,24 +322,75 @@ pub fn line(index: u64, header: perf_event_header, found: &ParseResult<Record<'_
     format!("{index} {type_} {misc} {size} {}", answer(found))
 }
 
-/// What `perfrec` prints for these words over a stream, in lines, and its status. The words are an
-/// order, and possibly a limit and `attr`.
-pub fn run(words: &str, stream: &[u8]) -> (Vec<String>, u8) {
-    let mut words = words.split_whitespace();
-    let order = words.next();
-    let mut limit = u64::MAX;
-    let mut with_attr = false;
-    for word in words {
-        match word {
-            "attr" => with_attr = true,
-            number => limit = number.parse().expect("a limit"),
-        }
+/// A byte order that a word names.
+#[derive(Copy, Clone, Debug, PartialEq, Eq)]
+pub enum OrderName {
+    Little,
+    Big,
+    Native,
+}
+
+/// What the words after the program's name ask for.
+#[derive(Copy, Clone, Debug, PartialEq, Eq)]
+pub struct Command {
+    pub order: OrderName,
+    /// The maximum number of frames to print.
+    pub limit: u64,
+    /// Whether the stream begins with an attribute.
+    pub with_attr: bool,
+}
+
+fn order_named(word: &str) -> Option<OrderName> {
+    match word {
+        "little" => Some(OrderName::Little),
+        "big" => Some(OrderName::Big),
+        "native" => Some(OrderName::Native),
+        _ => None,
     }
+}
+
+/// `parse` alone would also accept a sign.
+fn limit_named(word: &str) -> Option<u64> {
+    if !word.bytes().all(|byte| byte.is_ascii_digit()) {
+        return None;
+    }
+    word.parse().ok()
+}
+
+/// What these words ask for: the name of a byte order, a limit in decimal digits alone, and then
+/// `attr` if the stream begins with an attribute. `None` for any other words.
+pub fn command(words: &[impl AsRef<str>]) -> Option<Command> {
+    let words: Vec<&str> = words.iter().map(AsRef::as_ref).collect();
+    let (order, limit, with_attr) = match words[..] {
+        [order, limit] => (order, limit, false),
+        [order, limit, "attr"] => (order, limit, true),
+        _ => return None,
+    };
+    Some(Command {
+        order: order_named(order)?,
+        limit: limit_named(limit)?,
+        with_attr,
+    })
+}
+
+/// What `perfrec` prints for these words, which are a command, over a stream, in lines, and its
+/// status.
+pub fn run(words: &str, stream: &[u8]) -> (Vec<String>, u8) {
+    let words: Vec<&str> = words.split_whitespace().collect();
+    run_command(command(&words).expect("a command"), stream)
+}
+
+/// What `perfrec` prints for a command over a stream, in lines, and its status.
+pub fn run_command(command: Command, stream: &[u8]) -> (Vec<String>, u8) {
+    let Command {
+        order,
+        limit,
+        with_attr,
+    } = command;
     match order {
-        Some("little") => run_in(Little, limit, with_attr, stream),
-        Some("big") => run_in(Big, limit, with_attr, stream),
-        Some("native") => run_in(Native, limit, with_attr, stream),
-        other => panic!("no order: {other:?}"),
+        OrderName::Little => run_in(Little, limit, with_attr, stream),
+        OrderName::Big => run_in(Big, limit, with_attr, stream),
+        OrderName::Native => run_in(Native, limit, with_attr, stream),
     }
 }
 

@@ -1,5 +1,16 @@
+/* Prints how many frames a stream on standard input has, how many of them were refused, and a checksum
+ * of the others, as the program `perf_count` of the library does, with the same arguments and statuses:
+ * from flat frames alone. */
 #include <linux/perf_event.h>
-#include "count.h"
+#include <stdlib.h>
+#include <string.h>
+#include "text.h"
+
+static const char usage[] =
+    "usage: perf_count little|big|native [attr] < STREAM\n"
+    "Prints how many frames there are, how many of them were refused, and a checksum of the others.\n"
+    "With attr the stream begins with an attribute, as examples/perf-data-to-stream.sh writes it.\n"
+    "Status: 0 if no frame was refused, 1 if one was or on an error, 2 for other arguments.\n";
 
 /* How many frames are read at a time. */
 enum { FRAMES = 64 };
@@ -81,7 +92,8 @@ static uint32_t count_frames(struct counts *counts, const struct ped_config *con
     return ended.how;
 }
 
-int print_counts(FILE *out, const struct command *command, const uint8_t *bytes, size_t len)
+/* Prints the counts of a stream, and returns the status. */
+static int print_counts(FILE *out, const struct command *command, const uint8_t *bytes, size_t len)
 {
     struct ped_config config;
     struct counts counts = {0, 0, 0};
@@ -94,4 +106,38 @@ int print_counts(FILE *out, const struct command *command, const uint8_t *bytes,
     fprintf(out, "%llu %llu %llu\n", (unsigned long long)counts.records,
             (unsigned long long)counts.refused, (unsigned long long)counts.checksum);
     return counts.refused > 0 || end != PED_DONE;
+}
+
+/* The command of these words, little|big|native [attr]. Returns 0 for other words. */
+static int read_words(int count, char **words, struct command *command)
+{
+    command->limit = UINT64_MAX;
+    command->with_attr = count == 2 && strcmp(words[1], "attr") == 0;
+    return (count == 1 || command->with_attr) && read_order(words[0], &command->order);
+}
+
+/* Prints the usage, on standard output for `--help` alone, and returns the status. */
+static int print_usage(int count, char **words)
+{
+    int is_asked = count == 1 && strcmp(words[0], "--help") == 0;
+    fputs(usage, is_asked ? stdout : stderr);
+    return !is_asked ? 2 : fflush(stdout) != 0;
+}
+
+int main(int count, char **words)
+{
+    struct command command;
+    size_t len;
+    uint8_t *bytes;
+    int status;
+    if (!read_words(count - 1, words + 1, &command)) {
+        return print_usage(count - 1, words + 1);
+    }
+    bytes = read_file(stdin, &len);
+    if (bytes == NULL || ferror(stdin)) {
+        return 1;
+    }
+    status = print_counts(stdout, &command, bytes, len);
+    free(bytes);
+    return fflush(stdout) == 0 ? status : 1;
 }
