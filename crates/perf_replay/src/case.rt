@@ -5,6 +5,7 @@ use anyhow::{Context, Result, bail};
 use perf_event_data::endian::Dynamic;
 use perf_event_data::sys::perf_event_attr;
 use perf_test_helpers::asks::text_of_calls;
+use perf_test_helpers::everywhere::add_other;
 use perf_test_helpers::runs::{runs_everywhere, text_after_attribute, text_of_records};
 use perf_test_helpers::sample_bytes::{Part, frames, put_parts};
 use std::alloc::{AllocError, Global};
@@ -129,10 +130,7 @@ impl<'a> Case<'a> {
     }
 
     fn text_of_requests(&self) -> Result<String> {
-        let bytes = match self.order {
-            Dynamic::Big => &self.big,
-            Dynamic::Little => &self.little,
-        };
+        let bytes = self.bytes(self.order);
         Ok(text_of_calls(self.alloc, bytes, self.order, &self.attr, self.request)?)
     }
 
@@ -156,14 +154,26 @@ impl<'a> Case<'a> {
 
     // The result in one order, and that in the other one if it differs.
     fn text_of_sample(&self) -> Result<String> {
-        let frame = frames(self.alloc, false, &self.little)?;
-        let mut text = self.text_of_body(Dynamic::Little, &self.little, &frame)?;
-        let frame = frames(self.alloc, true, &self.big)?;
-        let other = self.text_of_body(Dynamic::Big, &self.big, &frame)?;
+        let mut text = self.text_in_order(Dynamic::Little)?;
+        let other = self.text_in_order(Dynamic::Big)?;
         if other.as_str() != text.as_str() {
             write!(text, " but {other}")?;
         }
         Ok(text)
+    }
+
+    // The bytes in a byte order.
+    fn bytes(&self, order: Dynamic) -> &[u8] {
+        match order {
+            Dynamic::Big => &self.big,
+            Dynamic::Little => &self.little,
+        }
+    }
+
+    fn text_in_order(&self, order: Dynamic) -> Result<String> {
+        let body = self.bytes(order);
+        let frame = frames(self.alloc, order == Dynamic::Big, body)?;
+        self.text_of_body(order, body, &frame)
     }
 
     // The result of a body: the sample, or the kind of its error; how many bytes are left after a
@@ -172,20 +182,35 @@ impl<'a> Case<'a> {
     fn text_of_body(&self, order: Dynamic, body: &[u8], frame: &[u8]) -> Result<String> {
         let request = text_of_calls(self.alloc, body, order, &self.attr, "Sample left")?;
         let (sample, left) = request.as_str().split_once("; ").context("one answer")?;
+        let mut text = String::from_str(self.alloc, sample)?;
+        self.write_left(&mut text, sample, left)?;
         let size = body.len().saturating_add(8);
+        self.write_frame(&mut text, sample, size, order, frame)?;
+        Ok(text)
+    }
+
+    fn write_left(&self, text: &mut String, sample: &str, left: &str) -> Result<(), AllocError> {
+        let is_other = sample.starts_with("Sample") && left != self.request;
+        if is_other || left.contains(' ') {
+            write!(text, ", {left} left")
+        } else {
+            Ok(())
+        }
+    }
+
+    fn write_frame(
+        &self,
+        text: &mut String,
+        sample: &str,
+        size: usize,
+        order: Dynamic,
+        frame: &[u8],
+    ) -> Result<(), AllocError> {
         let want = format!(in self.alloc;
             "0 9 2 {size} {sample}; 1 13 0 16 LostSamples lost=5; done"
         )?;
         let actual = runs_everywhere(self.alloc, frame, order, &self.attr, &[10])?;
-        let mut text = String::from_str(self.alloc, sample)?;
-        let is_other = sample.starts_with("Sample") && left != self.request;
-        if is_other || left.contains(' ') {
-            write!(text, ", {left} left")?;
-        }
-        if actual.as_str() != want.as_str() {
-            write!(text, " but {actual}")?;
-        }
-        Ok(text)
+        add_other(text, actual.as_str(), want.as_str())
     }
 }
 

@@ -232,11 +232,23 @@ fn write_both_ends(
     }
 }
 
-fn write_values(text: &mut String, answer: ParseResult<Sample<'_>>) -> Result<(), AllocError> {
-    match answer {
+// A sample with the text of its group.
+fn write_values<'p, B: ParseBuf<'p>, E: Endian>(
+    text: &mut String,
+    parser: &mut Parser<B, E>,
+) -> Result<(), AllocError> {
+    match Sample::parse(parser) {
         Ok(sample) => write_last(text, OfGroup(sample)),
         Err(error) => write!(text, "{error}"),
     }
+}
+
+fn write_sample<'p, B: ParseBuf<'p>, E: Endian>(
+    text: &mut String,
+    parser: &mut Parser<B, E>,
+) -> Result<(), AllocError> {
+    let answer = next_sample(*text.allocator(), parser);
+    write_last(text, answer)
 }
 
 fn write_body<'p, B: ParseBuf<'p>, E: Endian>(
@@ -291,8 +303,8 @@ fn write_part_of_sample<'p, B: ParseBuf<'p>, E: Endian>(
         "DataSource" => write_answer(text, DataSource::parse(parser)),
         "Txn" => write_debug(text, Txn::parse(parser)),
         "SampleRegsAbi" => write_debug(text, SampleRegsAbi::parse(parser)),
-        "Sample" => write_last(text, next_sample(*text.allocator(), parser)),
-        "values" => write_values(text, Sample::parse(parser)),
+        "Sample" => write_sample(text, parser),
+        "values" => write_values(text, parser),
         _ => write!(text, "what is {name}?"),
     }
 }

@@ -53,15 +53,25 @@ fn write_clones(text: &mut String, frames: &[Frame<'_>]) -> Result<(), AllocErro
 // Each frame of a run; what clones of its records give, if that differs; and how the run ended.
 impl WriteText for Run<'_> {
     fn write_text(&self, text: &mut String) -> Result<(), AllocError> {
-        let mut actual = String::new(*text.allocator());
-        let mut again = String::new(*text.allocator());
-        write_frames(&mut actual, &self.frames)?;
-        write_clones(&mut again, &self.frames)?;
-        text.push_str(actual.as_str())?;
-        if again.as_str() != actual.as_str() {
-            write!(text, "and not {again}")?;
-        }
+        let start = text.len();
+        write_frames(text, &self.frames)?;
+        write_other_clones(text, start, &self.frames)?;
         write_end(text, &self.end)
+    }
+}
+
+// Writes what clones of the records give, if it is not the text from `start` on.
+fn write_other_clones(
+    text: &mut String,
+    start: usize,
+    frames: &[Frame<'_>],
+) -> Result<(), AllocError> {
+    let mut again = String::new(*text.allocator());
+    write_clones(&mut again, frames)?;
+    if text.as_str().get(start..) == Some(again.as_str()) {
+        Ok(())
+    } else {
+        write!(text, "and not {again}")
     }
 }
 

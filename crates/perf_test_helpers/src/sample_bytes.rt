@@ -18,14 +18,18 @@ pub enum Part<'a> {
 /// Appends the bytes of a body.
 pub fn put_parts(bytes: &mut Vec<u8>, is_big: bool, parts: &[Part]) -> Result<(), AllocError> {
     for part in parts {
-        match part {
-            Part::U16(number) => put_number(bytes, is_big, &mut number.to_le_bytes())?,
-            Part::U32(number) => put_number(bytes, is_big, &mut number.to_le_bytes())?,
-            Part::U64(number) => put_number(bytes, is_big, &mut number.to_le_bytes())?,
-            Part::Bytes(some) => bytes.extend_from_slice(some)?,
-        }
+        put_part(bytes, is_big, part)?;
     }
     Ok(())
+}
+
+fn put_part(bytes: &mut Vec<u8>, is_big: bool, part: &Part) -> Result<(), AllocError> {
+    match part {
+        Part::U16(number) => put_number(bytes, is_big, &mut number.to_le_bytes()),
+        Part::U32(number) => put_number(bytes, is_big, &mut number.to_le_bytes()),
+        Part::U64(number) => put_number(bytes, is_big, &mut number.to_le_bytes()),
+        Part::Bytes(some) => bytes.extend_from_slice(some),
+    }
 }
 
 // Appends the bytes of a number, which are passed with the least significant first.

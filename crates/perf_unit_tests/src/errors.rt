@@ -1,13 +1,14 @@
 //! The texts of errors, and lists that may be borrowed.
 
 use crate::checks::{check_same, check_text};
+use crate::failing::Failing;
 use anyhow::anyhow;
 use perf_base::endian::Little;
 use perf_base::{CowSlice, ErrorKind, ParseConfig, ParseError, ParseResult};
 use perf_event_data::parse::{ParseBuf, Parser};
 use perf_test_helpers::asks::next_record;
 use std::alloc::{AllocError, AllocFailed, Global};
-use std::io::{self, BufReader, Read};
+use std::io::{self, BufReader};
 use std::process::Abort;
 use std::test::Fail;
 
@@ -121,16 +122,6 @@ fn a_list_reads_alike_borrowed_and_owned(rt: HostRuntime) {
     );
 }
 
-// A reader that fails.
-#[derive(Drop)]
-struct Failing;
-
-impl Read for Failing {
-    fn read(&mut self, _buf: &mut [u8]) -> io::Result<usize> {
-        Err(io::ErrorKind::UnexpectedEof.into())
-    }
-}
-
 // The kind of an error, and whether it has a cause.
 fn kind_and_cause<T: Drop>(answer: ParseResult<T>) -> Option<(ErrorKind, bool)> {
     match answer {
@@ -147,7 +138,12 @@ fn fault_of_record<'p, B: ParseBuf<'p> + Drop>(alloc: Global, buf: B) -> Option<
 
 #[test]
 fn a_fault_keeps_its_cause(rt: HostRuntime) -> Result<(), Fail> {
-    let reader = BufReader::with_capacity(rt.alloc(), 8, Failing)?;
+    let failing = Failing {
+        bytes: &[],
+        most: 8,
+        fault: Some(io::ErrorKind::UnexpectedEof),
+    };
+    let reader = BufReader::with_capacity(rt.alloc(), 8, failing)?;
     let fault = fault_of_record(rt.alloc(), reader);
     check_same(&rt, "the fault", fault, Some((ErrorKind::External, true)));
     Ok(())

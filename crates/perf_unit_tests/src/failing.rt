@@ -1,15 +1,14 @@
 //! Readers, writers and byte orders that fail.
 
-ghost use Rattle.std.specs.Prelude.{◌<◌, true};
-ghost use Rattle.std.specs.Int.{w16, w32, w64, from_le_bytes};
+ghost use Rattle.std.specs.Prelude.{◌<◌};
 
 use crate::checks::check_same;
+use crate::orders::Single;
 use crate::runs::{
     FIVE_LOST, PLAIN_64, PLAIN_72, PLAIN_100, REFUSED, REFUSED_TEXT, RunCase, TEXT, TWO, check_run,
     join,
 };
-use perf_event_data::endian::{Endian, Little};
-use perf_event_data::parse::{ParseError, ParseResult};
+use perf_event_data::endian::Little;
 use perf_lines::outcome::Outcome;
 use perf_lines::output::write_whole;
 use perf_lines::run::run;
@@ -21,12 +20,12 @@ use std::process::Abort;
 
 // ---- readers
 
-// Gives some bytes, at most `most` at a time, and then ends, or fails with each read.
+/// Gives some bytes, at most `most` at a time, and then ends, or fails with each read.
 #[derive(Copy, Clone)]
-struct Failing<'a> {
-    bytes: &'a [u8],
-    most: usize,
-    fault: Option<io::ErrorKind>,
+pub struct Failing<'a> {
+    pub bytes: &'a [u8],
+    pub most: usize,
+    pub fault: Option<io::ErrorKind>,
 }
 
 impl Read for Failing<'_> {
@@ -359,36 +358,6 @@ fn all_reading_comes_before_all_writing(rt: HostRuntime) {
 }
 
 // ---- byte orders
-
-// Little endian. There is never memory for a second one.
-#[derive(Copy, Clone)]
-struct Single;
-
-impl Endian for Single {
-    ghost order = { λ _. record {
-      two = from_le_bytes w16;
-      four = from_le_bytes w32;
-      eight = from_le_bytes w64;
-    } };
-
-    ghost may_refuse = { λ _. true };
-
-    fn convert_u16(&self, bytes: [u8; 2]) -> u16 {
-        u16::from_le_bytes(bytes)
-    }
-
-    fn convert_u32(&self, bytes: [u8; 4]) -> u32 {
-        u32::from_le_bytes(bytes)
-    }
-
-    fn convert_u64(&self, bytes: [u8; 8]) -> u64 {
-        u64::from_le_bytes(bytes)
-    }
-
-    fn duplicate(&self) -> ParseResult<Self> {
-        Err(ParseError::out_of_memory())
-    }
-}
 
 const WITHOUT_MEMORY: &str = "end fault OutOfMemory\n";
 

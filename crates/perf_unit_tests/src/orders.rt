@@ -95,9 +95,9 @@ impl Endian for Words {
     }
 }
 
-// Little endian. There is never memory for a second one.
+/// Little endian. There is never memory for a second one.
 #[derive(Copy, Clone)]
-struct Single;
+pub struct Single;
 
 impl Endian for Single {
     ghost order = { λ _. record {
@@ -132,7 +132,9 @@ fn text_of_left<'p, B: ParseBuf<'p>, E: Endian>(
 ) -> ParseResult<String> {
     let number = parser.parse_u64()?;
     let rest = parser.parse_rest()?;
-    Ok(format!(in alloc; "{number} {:?}", rest.as_slice())?)
+    let text = format!(in alloc; "{number} {:?}", rest.as_slice());
+    drop(rest);
+    Ok(text?)
 }
 
 // Takes the frame, for whose body there is no parser, and reads the next one.

@@ -179,10 +179,14 @@ fn text_of_evens<'p, B: ParseBuf<'p>, E: Endian>(
     parser: &mut Parser<B, E>,
 ) -> ParseResult<String> {
     let Even(number) = parser.parse()?;
-    Ok(match Even::parse(parser) {
-        Ok(Even(other)) => format!(in alloc; "{number} {other}")?,
-        Err(error) => format!(in alloc; "{number} {:?} {:?}", error.kind(), error.message())?,
-    })
+    match Even::parse(parser) {
+        Ok(Even(other)) => Ok(format!(in alloc; "{number} {other}")?),
+        Err(error) => Ok(text_of_odd(alloc, number, &error)?),
+    }
+}
+
+fn text_of_odd(alloc: Global, number: u8, error: &ParseError) -> Result<String, AllocError> {
+    format!(in alloc; "{number} {:?} {:?}", error.kind(), error.message())
 }
 
 /// The results of a parser for types of a user's own.

@@ -76,11 +76,12 @@ fn text_of_first<T: WriteFrame>(
     writer: T,
 ) -> Result<String, AllocError> {
     let mut text = String::new(alloc);
-    match frames(bytes, Little).next() {
-        Some(Ok(frame)) => writer.write(&mut text, alloc, &frame)?,
-        Some(Err(_)) => text.push_str("no whole frame")?,
-        None => text.push_str("no frame")?,
-    }
+    let written = match frames(bytes, Little).next() {
+        Some(Ok(frame)) => writer.write(&mut text, alloc, &frame),
+        Some(Err(_)) => text.push_str("no whole frame"),
+        None => text.push_str("no frame"),
+    };
+    written?;
     Ok(text)
 }
 
