@@ -8,38 +8,16 @@
 two compilers, as FOLDER/llvm/libperf_event_c.a and FOLDER/rattle/libperf_event_c.a. The status is 0 if the first was
 made, and 77, after a line that says why, if none could be. A line also says if the second could not be made.
 """
-import importlib.machinery
-import importlib.util
 import os
-import shutil
 import subprocess
 import sys
 import tempfile
 
 sys.dont_write_bytecode = True
+sys.path.insert(0, os.path.join(os.path.dirname(os.path.realpath(__file__)), "..", "tools"))
+from kit import crate_of, load_rt  # noqa: E402
+
 CRATE = "perf_event_c"
-
-
-def load_rt():
-    """The part of `rt` that knows how crates are built."""
-    rt = shutil.which("rt")
-    if rt is None:
-        raise OSError("there is no rt on the path")
-    file = os.path.join(os.path.dirname(os.path.realpath(rt)), "rtlib.py")
-    loader = importlib.machinery.SourceFileLoader("rtlib", file)
-    made = importlib.util.module_from_spec(importlib.util.spec_from_loader("rtlib", loader))
-    sys.modules["rtlib"] = made
-    loader.exec_module(made)
-    return made
-
-
-def crate_of(rtlib):
-    top = os.getcwd()
-    crate = rtlib.Crate(f"{top}/crates/{CRATE}", top, {})
-    absent = [it.name for it in crate.below() if not os.path.isdir(it.rlib)]
-    if absent:
-        raise OSError(f"rt ci left no library of {', '.join(absent)}")
-    return crate
 
 
 def run(rtlib, crate, *words):
@@ -54,7 +32,7 @@ def run(rtlib, crate, *words):
 def make_archives(folder):
     """Checks the crate, and builds it by each compiler."""
     rtlib = load_rt()
-    crate = crate_of(rtlib)
+    crate = crate_of(rtlib, os.getcwd(), CRATE)
     words = crate.words(["--jobs", str(min(len(os.sched_getaffinity(0)), 2))], keeps=False)
     with tempfile.TemporaryDirectory() as room:
         run(rtlib, crate, "check", *words, "-o", f"{room}/checked")
