@@ -53,7 +53,7 @@ class Body:
 
 
 def module_of(path):
-    return "" if path == "src/lib.rt" else path[len("src/") : -len(".rt")].replace("/", "::")
+    return "" if path in ("src/lib.rt", "src/main.rt") else path[len("src/") : -len(".rt")].replace("/", "::")
 
 
 def is_function(text):

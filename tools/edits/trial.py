@@ -64,7 +64,8 @@ class Trial:
         self.command = [run.rtlib.RATTLE, "check", *crate.words(["--jobs", "1"], keeps=False), "--allow-holes"]
         self.command += ["--incremental", f"{room}/kept"]
         for part in ("src", "specs"):
-            shutil.copytree(self.source / part, self.folder / part)
+            if (self.source / part).is_dir():
+                shutil.copytree(self.source / part, self.folder / part)
 
     def texts(self, bodies):
         """The files with these bodies in them, as many as fit beside one another: each in a function of its own. What
