@@ -16,7 +16,7 @@ class Body:
         self.pairs, self.names, self.owner, self.others, self.text = [], [], "", [], ""
         # the functions of its file, and the module of its type
         self.known, self.home = set(), None
-        self.told, self.why, self.is_declared = "", "", False
+        self.told, self.why, self.tries, self.is_declared = "", "", 0, False
 
     def place(self, lines):
         """Finds the function around the edited line, and the type whose impl contains it."""

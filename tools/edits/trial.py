@@ -131,16 +131,18 @@ class Trial:
 
     def run(self, bodies):
         """Tries all bodies, and notes with each what the prover said of it, or nothing. Those that do not fit beside
-        the others, or that another changed function stands in the way of, are tried after these."""
-        left, is_alone = bodies, False
-        while left:
-            texts, fitting = self.texts(left[:1] if is_alone else left)
+        the others, or that another changed function stands in the way of, are tried after these, and at last alone."""
+        left, alone = list(bodies), []
+        while left or alone:
+            texts, fitting = self.texts(left or alone[:1])
             if not fitting:
-                left.pop(0).why = "its old text is not there once"
+                (left or alone).pop(0).why = "its old text is not there once"
                 continue
             again = self.judge(fitting, self.check(texts, fitting))
-            is_alone = is_alone or len(again) == len(fitting)
-            left = [it for it in left if it not in fitting] + again
+            left, alone = ([it for it in group if it not in fitting] for group in (left, alone))
+            for body in again:
+                body.tries += 1
+                (alone if body.tries > 1 or len(again) == len(fitting) else left).append(body)
 
     def judge(self, bodies, output):
         """Notes what was refused, and returns the bodies to try again."""
