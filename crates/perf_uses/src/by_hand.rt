@@ -28,6 +28,5 @@ pub fn mapping_after<'p, B: ParseBuf<'p>, E: Endian>(
 
     // Whether the record has an inode or a build id depends on a bit of `misc`.
     let config = body.config().duplicate()?.with_misc(metadata.misc());
-    let mut body = body.reconfigure(config);
-    Ok(Some(body.parse()?))
+    body.reconfigure(config).parse().map(Some)
 }

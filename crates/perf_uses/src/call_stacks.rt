@@ -25,6 +25,14 @@ fn fold_chain(alloc: Global, chain: &[u64]) -> Result<String, AllocError> {
     Ok(stack)
 }
 
+// The call chain of a sample as one text, or `None` if it has none.
+fn fold_sample(alloc: Global, sample: &Sample<'_>) -> Result<Option<String>, AllocError> {
+    match sample.callchain() {
+        Some(chain) => Ok(Some(fold_chain(alloc, chain)?)),
+        None => Ok(None),
+    }
+}
+
 /// Makes a text of the call chain of a sample, and `None` of another record.
 #[derive(Copy, Clone)]
 pub struct Folding {
@@ -46,10 +54,9 @@ impl PartialVisitor for Folding {
     }
 
     fn visit_sample(self, sample: Sample<'_>, _metadata: RecordMetadata) -> Self::Output {
-        match sample.callchain() {
-            Some(chain) => Ok(Some(fold_chain(self.alloc, chain)?)),
-            None => Ok(None),
-        }
+        let stack = fold_sample(self.alloc, &sample);
+        drop(sample);
+        stack
     }
 }
 

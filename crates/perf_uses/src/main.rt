@@ -30,8 +30,12 @@ use crate::stamped::Stamped;
 use crate::with_attribute::open_recording;
 use anyhow::Result;
 use perf_event_data::endian::{Endian, Little};
-use perf_event_data::parse::{ParseBuf, ParseConfig, Parser};
-use perf_event_data::{Mmap2, Record, RecordVisitor, frames, read_records};
+use perf_event_data::parse::{ParseBuf, ParseConfig, ParseResult, Parser};
+use perf_event_data::sys::perf_event_header;
+use perf_event_data::{
+    Comm, Exit, Frame, Mmap2, Record, RecordMetadata, RecordVisitor, frames, read_records,
+};
+use std::alloc::Global;
 use std::io::Read;
 
 // Prints the times of samples.
@@ -91,6 +95,20 @@ fn print_mappings<'p, B: ParseBuf<'p>>(
     Ok(())
 }
 
+// The COMM after a header, with its metadata, or `None` if the record is another.
+fn comm_after<'p, B: ParseBuf<'p>>(
+    alloc: Global,
+    parser: &mut Parser<B, Little>,
+    header: perf_event_header,
+) -> ParseResult<Option<(RecordMetadata, Comm<'p>)>> {
+    let visitor = Stamped(RecordVisitor::new(alloc));
+    let (metadata, record) = parser.parse_record_with_header(visitor, header)?;
+    match record? {
+        Record::Comm(comm) => Ok(Some((metadata, comm))),
+        _ => Ok(None),
+    }
+}
+
 // Prints when tasks got their names, by a visitor.
 fn print_names<'p, B: ParseBuf<'p>>(
     rt: &(impl AllocGlobal + Print),
@@ -100,14 +118,24 @@ fn print_names<'p, B: ParseBuf<'p>>(
         let Some(header) = next_header(parser)? else {
             break;
         };
-        let visitor = Stamped(RecordVisitor::new(rt.alloc()));
-        let (metadata, record) = parser.parse_record_with_header(visitor, header)?;
-        if let Record::Comm(comm) = record? {
+        if let Some((metadata, comm)) = comm_after(rt.alloc(), parser, header)? {
             let time = metadata.sample_id().time().unwrap_or(0);
             println!(rt; "{time} {} is {}", comm.tid, comm.comm_os().unwrap_or("?"))?;
         }
     }
     Ok(())
+}
+
+// The EXIT in a frame, or `None` if its record is another.
+fn exit_in(
+    alloc: Global,
+    config: &ParseConfig<Little>,
+    frame: &Frame<'_, '_>,
+) -> ParseResult<Option<Exit>> {
+    match frame.record(alloc, config)? {
+        Record::Exit(exit) => Ok(Some(exit)),
+        _ => Ok(None),
+    }
 }
 
 // Prints when tasks ended, by frames.
@@ -118,7 +146,7 @@ fn print_ends(
 ) -> Result<()> {
     for frame in frames(records, Little) {
         let Ok(frame) = frame else { continue };
-        if let Record::Exit(exit) = frame.record(rt.alloc(), config)? {
+        if let Some(exit) = exit_in(rt.alloc(), config, &frame)? {
             let metadata = frame.metadata(rt.alloc(), config)?;
             let time = metadata.sample_id().time().unwrap_or(0);
             println!(rt; "{time} {} ended", exit.tid)?;
@@ -158,13 +186,15 @@ fn print_mark(rt: &(impl AllocGlobal + Print), mark: &Mark<'_>) -> Result<()> {
 }
 
 // Prints the marks among some frames.
-fn print_marks(rt: &(impl AllocGlobal + Print), bytes: &[u8]) -> Result<()> {
-    let mut parser = Parser::new(rt.alloc(), bytes, ParseConfig::<Little>::default());
+fn print_marks<'p, B: ParseBuf<'p>>(
+    rt: &(impl AllocGlobal + Print),
+    parser: &mut Parser<B, Little>,
+) -> Result<()> {
     for _ in 0..u64::MAX {
-        let Some(header) = next_header(&mut parser)? else {
+        let Some(header) = next_header(parser)? else {
             break;
         };
-        if let Some(mark) = mark_after(&mut parser, header)? {
+        if let Some(mark) = mark_after(parser, header)? {
             print_mark(rt, &mark)?;
         }
     }
@@ -174,16 +204,35 @@ fn print_marks(rt: &(impl AllocGlobal + Print), bytes: &[u8]) -> Result<()> {
 // A span of version 2, and one of version 3, which is refused.
 const SPANS: &[u8] = b"\x02\0\x64\0\0\0\0\0\0\0\x07\0\0\0\0\0\0\0\x04\0load\x03\0";
 
-// Prints the spans at the start of some bytes.
-fn print_spans(rt: &(impl AllocGlobal + Print), bytes: &[u8]) -> Result<()> {
-    let mut parser = Parser::new(rt.alloc(), bytes, ParseConfig::<Little>::default());
+// Prints a span.
+fn print_span(rt: &(impl AllocGlobal + Print), span: &Span<'_>) -> Result<()> {
+    let label = String::from_utf8_lossy(rt.alloc(), span.label.as_slice())?;
+    println!(rt; "{label} from {} for {}", span.start, span.duration)?;
+    Ok(())
+}
+
+// Prints two spans.
+fn print_spans<'p, B: ParseBuf<'p>>(
+    rt: &(impl AllocGlobal + Print),
+    parser: &mut Parser<B, Little>,
+) -> Result<()> {
     for _ in 0..2 {
         match parser.parse::<Span>() {
-            Ok(span) => {
-                let label = String::from_utf8_lossy(rt.alloc(), span.label.as_slice())?;
-                println!(rt; "{label} from {} for {}", span.start, span.duration)?;
-            }
+            Ok(span) => print_span(rt, &span)?,
             Err(error) => println!(rt; "{error}")?,
+        }
+    }
+    Ok(())
+}
+
+// Prints how many samples each LOST_SAMPLES among some records counts.
+fn print_lost(
+    rt: &impl Print,
+    frames: &[(perf_event_header, ParseResult<Record<'_>>)],
+) -> Result<()> {
+    for (_, record) in frames {
+        if let Ok(Record::LostSamples(record)) = record {
+            println!(rt; "{} lost", record.lost)?;
         }
     }
     Ok(())
@@ -195,42 +244,102 @@ fn print_losses<'p, B: ParseBuf<'p>, E: Endian>(
     parser: &mut Parser<B, E>,
 ) -> Result<()> {
     let run = read_records(parser, 10);
-    for (_, record) in run.frames.iter() {
-        if let Ok(Record::LostSamples(record)) = record {
-            println!(rt; "{} lost", record.lost)?;
-        }
-    }
-    Ok(())
+    print_lost(rt, &run.frames)
+}
+
+// Prints the mappings of a recording.
+fn print_mappings_of(rt: &(impl AllocGlobal + Print), recording: &[u8]) -> Result<()> {
+    let mut parser = open_recording(rt.alloc(), recording)?;
+    print_mappings(rt, &mut parser)
+}
+
+// Prints when the tasks of a recording got their names.
+fn print_names_of(rt: &(impl AllocGlobal + Print), recording: &[u8]) -> Result<()> {
+    let mut parser = open_recording(rt.alloc(), recording)?;
+    print_names(rt, &mut parser)
+}
+
+// Prints what a recording contains, of which these are the configuration and the records.
+fn print_contents(
+    rt: &(impl AllocGlobal + Print),
+    recording: &[u8],
+    config: &ParseConfig<Little>,
+    records: &[u8],
+) -> Result<()> {
+    print_times(rt, config, records)?;
+    print_counts(rt, recording)?;
+    print_stacks(rt, config, records)?;
+    print_mappings_of(rt, recording)?;
+    print_names_of(rt, recording)?;
+    print_ends(rt, config, records)
 }
 
 // Prints what a recording contains.
 fn print_recording(rt: &(impl AllocGlobal + Print), recording: &[u8]) -> Result<()> {
     let mut parser = open_recording(rt.alloc(), recording)?;
     let records = parser.parse_rest()?;
-    print_times(rt, parser.config(), records.as_slice())?;
-    print_counts(rt, recording)?;
-    print_stacks(rt, parser.config(), records.as_slice())?;
-    print_mappings(rt, &mut open_recording(rt.alloc(), recording)?)?;
-    print_names(rt, &mut open_recording(rt.alloc(), recording)?)?;
-    print_ends(rt, parser.config(), records.as_slice())
+    print_contents(rt, recording, parser.config(), records.as_slice())
+}
+
+// Prints the mapping above.
+fn print_given_mapping(rt: &(impl AllocGlobal + Print)) -> Result<()> {
+    let mut parser = Parser::new(rt.alloc(), MAPPING, ParseConfig::<Little>::default());
+    print_mappings(rt, &mut parser)
+}
+
+// Prints the marks among the frames above.
+fn print_given_marks(rt: &(impl AllocGlobal + Print)) -> Result<()> {
+    let mut parser = Parser::new(rt.alloc(), MARKS, ParseConfig::<Little>::default());
+    print_marks(rt, &mut parser)
+}
+
+// Prints the mark whose body is above.
+fn print_given_body(rt: &(impl AllocGlobal + Print)) -> Result<()> {
+    let mark = mark_in(rt.alloc(), BODY)?;
+    print_mark(rt, &mark)
+}
+
+// Prints the spans above.
+fn print_given_spans(rt: &(impl AllocGlobal + Print)) -> Result<()> {
+    let mut parser = Parser::new(rt.alloc(), SPANS, ParseConfig::<Little>::default());
+    print_spans(rt, &mut parser)
+}
+
+// Prints the loss whose number has its higher half first.
+fn print_swapped_loss(rt: &(impl AllocGlobal + Print)) -> Result<()> {
+    let by_halves = ParseConfig::<Little>::default().with_endian(HighWordFirst);
+    let mut parser = Parser::new(rt.alloc(), SWAPPED, by_halves);
+    print_losses(rt, &mut parser)
+}
+
+// Prints the losses in the ring above.
+fn print_ring_losses(rt: &(impl AllocGlobal + Print)) -> Result<()> {
+    let ring = Ring::new(&RING[12..], &RING[..12]);
+    let mut parser = Parser::new(rt.alloc(), ring, ParseConfig::<Little>::default());
+    print_losses(rt, &mut parser)
+}
+
+// Prints the first of these losses, from a buffer that owns its bytes.
+fn print_received_loss(rt: &(impl AllocGlobal + Print)) -> Result<()> {
+    let buffer = Received::new(Vec::from_slice(rt.alloc(), &RING[12..28])?);
+    let mut parser = Parser::new(rt.alloc(), buffer, ParseConfig::<Little>::default());
+    print_losses(rt, &mut parser)
+}
+
+// Prints what the uses make of the bytes above.
+fn print_given(rt: &(impl AllocGlobal + Print)) -> Result<()> {
+    print_given_mapping(rt)?;
+    print_given_marks(rt)?;
+    print_given_body(rt)?;
+    print_given_spans(rt)?;
+    print_swapped_loss(rt)?;
+    print_ring_losses(rt)?;
+    print_received_loss(rt)
 }
 
 fn main(rt: HostRuntime) -> Result<()> {
     let mut recording = Vec::new(rt.alloc());
     rt.stdin().read_to_end(&mut recording)?;
     print_recording(&rt, recording.as_slice())?;
-
-    let plain = ParseConfig::<Little>::default();
-    print_mappings(&rt, &mut Parser::new(rt.alloc(), MAPPING, plain))?;
-    print_marks(&rt, MARKS)?;
-    print_mark(&rt, &mark_in(rt.alloc(), BODY)?)?;
-    print_spans(&rt, SPANS)?;
-    let by_halves = ParseConfig::<Little>::default().with_endian(HighWordFirst);
-    print_losses(&rt, &mut Parser::new(rt.alloc(), SWAPPED, by_halves))?;
-    let ring = Ring::new(&RING[12..], &RING[..12]);
-    let plain = ParseConfig::<Little>::default();
-    print_losses(&rt, &mut Parser::new(rt.alloc(), ring, plain))?;
-    let buffer = Received::new(Vec::from_slice(rt.alloc(), &RING[12..28])?);
-    let plain = ParseConfig::<Little>::default();
-    print_losses(&rt, &mut Parser::new(rt.alloc(), buffer, plain))
+    print_given(&rt)
 }

@@ -50,7 +50,7 @@ pub fn mark_after<'p, B: ParseBuf<'p>, E: Endian>(
     if metadata.ty() != MARK {
         return Ok(None);
     }
-    Ok(Some(body.parse()?))
+    body.parse().map(Some)
 }
 
 /// The mark that bytes begin with.
