@@ -4,6 +4,7 @@ import re
 
 FUNCTION = re.compile(r"\bfn\s+(\w+)")
 TRAIT = re.compile(r"(?:pub(?:\(\w+\))? )?trait (\w+)")
+DECLARED = re.compile(r"^(?:pub(?:\(\w+\))? )?trait (\w+)", re.MULTILINE)
 TYPE = re.compile(r"^(?:pub(?:\(\w+\))? )?(?:struct|enum|union) (\w+)", re.MULTILINE)
 
 
@@ -14,8 +15,8 @@ class Body:
         self.edit, self.path, self.at, self.is_whole = edit, path, at, is_whole
         self.line = self.first = self.last = line
         self.pairs, self.names, self.owner, self.others, self.text = [], [], "", [], ""
-        # the functions of its file, and the module of its type
-        self.known, self.home = set(), None
+        # the functions of its file, the traits of its crate, and the module of its type
+        self.known, self.traits, self.home = set(), set(), None
         self.told, self.why, self.tries, self.is_declared = "", "", 0, False
 
     def place(self, lines):
@@ -45,7 +46,8 @@ class Body:
         _, _, new = self.pairs[0]
         named = [it for it in [*FUNCTION.findall(new), *self.names] if it in self.known] or self.names
         module = self.home if self.home is not None and not self.others else module_of(self.path)
-        return ["::".join(filter(None, [module, self.owner, named[0]]))]
+        is_taken = self.others and self.owner in self.traits
+        return ["::".join(filter(None, [module, self.others[0] if is_taken else self.owner, named[0]]))]
 
     def is_apart(self):
         """Whether it is in no function, as a flag's number is, or in several: it is refused where the edit states."""
@@ -157,6 +159,7 @@ def bodies_of(edit, folder):
     for body in found:
         body.place(texts[body.path].split("\n"))
         body.known, body.home = set(FUNCTION.findall(files[body.path])), types.get(body.owner)
+        body.traits = traits_of(folder)
     return found if whole else joined(found)
 
 
@@ -170,7 +173,7 @@ def functions_of(folder):
             body = Body("", path, [], False, line)
             body.pairs = [(path, "", lines[line - 1])]
             body.place(lines)
-            body.known, body.home = set(body.names), types.get(body.owner)
+            body.known, body.traits, body.home = set(body.names), traits_of(folder), types.get(body.owner)
             found.update([] if body.is_declared else body.functions())
     return found
 
@@ -182,6 +185,10 @@ def texts_of(folder):
 def types_of(folder):
     """The module of each type that stands in the source of a crate."""
     return {name: module_of(path) for path, text in texts_of(folder).items() for name in TYPE.findall(text)}
+
+
+def traits_of(folder):
+    return {name for text in texts_of(folder).values() for name in DECLARED.findall(text)}
 
 
 def joined(bodies):
