@@ -155,25 +155,24 @@ def bodies_of(edit, folder):
             found.append(Body(edit.stem, path, whole or at, bool(whole), text[: text.index(old)].count("\n") + 1))
         found[-1].pairs.append((path, old, new))
         texts[path] = text.replace(old, new)
-    files, types = texts_of(folder), types_of(folder)
+    files, types, traits = texts_of(folder), types_of(folder), traits_of(folder)
     for body in found:
         body.place(texts[body.path].split("\n"))
-        body.known, body.home = set(FUNCTION.findall(files[body.path])), types.get(body.owner)
-        body.traits = traits_of(folder)
+        body.known, body.traits, body.home = set(FUNCTION.findall(files[body.path])), traits, types.get(body.owner)
     return found if whole else joined(found)
 
 
 def functions_of(folder):
     """The names of the functions that stand in the source of a crate, but for those that traits declare, as the prover
     knows them."""
-    found = set()
+    found, types, traits = set(), types_of(folder), traits_of(folder)
     for path, text in texts_of(folder).items():
-        lines, types = text.split("\n"), types_of(folder)
+        lines = text.split("\n")
         for line in [at for at, it in enumerate(lines, 1) if is_function(it)]:
             body = Body("", path, [], False, line)
             body.pairs = [(path, "", lines[line - 1])]
             body.place(lines)
-            body.known, body.traits, body.home = set(body.names), traits_of(folder), types.get(body.owner)
+            body.known, body.traits, body.home = set(body.names), traits, types.get(body.owner)
             found.update([] if body.is_declared else body.functions())
     return found
 
