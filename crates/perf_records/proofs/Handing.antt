@@ -7,6 +7,7 @@ use Rattle.perf_base.specs.declared.error.ErrorKind.{ErrorKind}
 use Rattle.perf_base.specs.declared.error.ErrorKind.TheVariants.{Eof, InvalidRecord, UnsupportedConfig, UnsupportedData, External, OutOfMemory}
 use Rattle.perf_base.specs.declared.sys.perf_event_header.{perf_event_header}
 use Rattle.perf_buffers.specs.Buffer.{Source}
+use Rattle.perf_base.specs.declared.refusal.Refusal.TheVariants as why
 use Rattle.perf_buffers.specs.Taking.{FailsToKeep}
 use Rattle.perf_reader.specs.Reading.{of_layout}
 use Rattle.perf_base.specs.Header.{header_of}
@@ -16,7 +17,7 @@ use Rattle.perf_records.specs.Frames.{frame_length}
 use Rattle.perf_records.proofs.Headers.{frame_body, header_alone}
 use Rattle.perf_records.specs.Sights.{Sight, bad, whole, sight_after, sight_in, HandsAfter}
 
-unfinished : (h : perf_event_header) (bytes : List ℕ) (borrowed : Bool) → 8 ≤ h.size → length bytes < length_after h → sight_after h bytes borrowed ≡ bad h Eof
+unfinished : (h : perf_event_header) (bytes : List ℕ) (borrowed : Bool) → 8 ≤ h.size → length bytes < length_after h → sight_after h bytes borrowed ≡ bad h why.Eof
 unfinished h bytes borrowed sized short =
     let a : nat_lt h.size 8 ≡ false = le-ltb h.size 8 sized in
     let b : nat_lt (length bytes) (length_after h) ≡ true = lt-ltb (length bytes) (length_after h) short in
@@ -30,7 +31,7 @@ finished h bytes borrowed sized fits =
 
 -- a frame that is unfinished was passed on as that
 pub hands_unfinished : {S : Type 0} (gets : S → Sight → Bool → S → Type 0) (h : perf_event_header) (old new : Source) (was now : S) (go : Bool) → 8 ≤ h.size → (length_after h ≡ 0 → ⊥) →
-    (IsTrue old.told → FailsToKeep old (length_after h) Eof new) → gets was (bad h Eof) go now → HandsAfter gets h old was go new now
+    (IsTrue old.told → FailsToKeep old (length_after h) Eof new) → gets was (bad h why.Eof) go now → HandsAfter gets h old was go new now
 hands_unfinished {S} gets h old new was now go sized some fails got = by old.told refl
   where
     P : Sight → Type 0

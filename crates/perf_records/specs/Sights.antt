@@ -2,9 +2,8 @@
 use Rattle.std.specs.Prelude.{◌≡◌, ℕ, IsTrue, List, Bool, Result, Ok, Err, length, take, drop, nat_lt, if◌then◌else◌}
 use Rattle.perf_base.specs.Header.{header_of}
 use Rattle.perf_base.specs.Order.{Order}
-use Rattle.perf_base.specs.Refusals.{refusal_kind}
-use Rattle.perf_base.specs.declared.error.ErrorKind.{ErrorKind}
-use Rattle.perf_base.specs.declared.error.ErrorKind.TheVariants.{Eof, InvalidRecord}
+use Rattle.perf_base.specs.declared.refusal.Refusal.{Refusal}
+use Rattle.perf_base.specs.declared.refusal.Refusal.TheVariants.{Eof, SmallHeader}
 use Rattle.perf_base.specs.declared.sys.perf_event_header.{perf_event_header}
 use Rattle.perf_buffers.specs.Buffer.{Source, chunk_bytes, chunk_is_borrowed}
 use Rattle.perf_records.specs.Answers.{length_after}
@@ -15,18 +14,18 @@ use Rattle.perf_records.specs.declared.frame_handler.BadFrame.{BadFrame}
 -- whether they live as long as the input; or a header without a whole frame after it, and why.
 pub data Sight : Type 0 where
   whole : perf_event_header → List ℕ → Bool → Sight
-  bad : perf_event_header → ErrorKind → Sight
+  bad : perf_event_header → Refusal → Sight
 
 -- what a handler gets
 abbrev pub sight_of : Result Frame BadFrame → Sight
 sight_of (Ok f) = whole f.header (chunk_bytes f.rest) (chunk_is_borrowed f.rest)
-sight_of (Err b) = bad b.header (refusal_kind b.refusal)
+sight_of (Err b) = bad b.header b.refusal
 
 -- What is found there, by the header and all bytes after it, which live as long as the input or
 -- not: a size below the header's own is refused, and so is a frame that is unfinished.
 abbrev pub sight_after : perf_event_header → List ℕ → Bool → Sight
 sight_after h bytes borrowed =
-    if nat_lt h.size 8 then bad h InvalidRecord
+    if nat_lt h.size 8 then bad h SmallHeader
     else (if nat_lt (length bytes) (length_after h) then bad h Eof
     else whole h (take (length_after h) bytes) borrowed)
 

@@ -1,6 +1,6 @@
 //! One whole frame, in place.
 
-ghost use Rattle.std.specs.Prelude.{◌≡◌, ◌≤◌, length, IfErr};
+ghost use Rattle.std.specs.Prelude.{◌≡◌, ◌≤◌, length, true, IfErr};
 ghost use Rattle.perf_records.specs.FrameReadings.{HasNoRoom};
 ghost use Rattle.perf_records.specs.Prelude.{configuration_of, endian_of, length_after, GivesFrameBytes};
 ghost use Rattle.perf_records.specs.Prelude.{NoRoomForId};
@@ -53,10 +53,35 @@ impl<'c, 'p> Frame<'c, 'p> {
         self.rest.as_bytes()
     }
 
-    /// Makes an output from the frame's body, under a configuration and the frame's own `misc`, and
-    /// returns it with the number of elementary reads made after the header.
+    /// Whether its bytes live as long as the input. If so, what is read from the frame borrows its
+    /// byte strings; otherwise it copies them.
     #[inline]
-    pub fn read<S, E: Endian, M: BodyReader<'p, S>>(
+    pub fn is_borrowed(&self) -> bool
+        ensures { result ≡ chunk_is_borrowed self.now.rest }
+    {
+        match self.rest {
+            ParseBufChunk::External(_) => true,
+            ParseBufChunk::Temporary(_) => false,
+        }
+    }
+
+    /// The same frame, whose bytes count as bytes that live as long as the input. A record, a visit
+    /// or a sample that is read from it borrows its byte strings, for as long as this frame is
+    /// shown: no byte string is copied, even if the frame itself lives only until the buffer
+    /// advances.
+    #[inline]
+    pub fn borrowed(&self) -> Frame<'_, '_>
+        ensures header { result.header ≡ self.now.header }
+        ensures rest { chunk_bytes result.rest ≡ chunk_bytes self.now.rest }
+        ensures lasts { chunk_is_borrowed result.rest ≡ true }
+    {
+        Frame::new(self.header, ParseBufChunk::External(self.rest.as_bytes()))
+    }
+
+    // Makes an output from the frame's body, under a configuration and the frame's own `misc`, and
+    // returns it with the number of elementary reads made after the header.
+    #[inline]
+    pub(crate) fn read<S, E: Endian, M: BodyReader<'p, S>>(
         self,
         alloc: Global,
         config: &ParseConfig<E>,

@@ -183,7 +183,7 @@ pub fn hand_after<'p, B: ParseBuf<'p>, E: Endian, H: FrameHandler<'p, E>>(
             if !is_eof(refusal) {
                 return Err(refusal);
             }
-            let bad = BadFrame::new(header, refusal);
+            let bad = BadFrame::new(header, Refusal::Eof);
             Ok(handler.frame(reader.config(), Err(bad)))
         }
     }

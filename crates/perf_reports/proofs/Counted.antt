@@ -7,15 +7,13 @@ use Rattle.std.proofs.lemmas.List.Sums.{sum_by-append}
 use Rattle.perf_base.specs.Errors.{kind_of}
 use Rattle.perf_base.specs.Header.{header_of}
 use Rattle.perf_base.specs.Order.{Order}
-use Rattle.perf_base.specs.Refusals.{IsErrorOf}
 use Rattle.perf_base.specs.declared.error.ErrorKind.{ErrorKind}
-use Rattle.perf_base.specs.declared.error.ErrorKind.TheVariants.{Eof, InvalidRecord}
+use Rattle.perf_base.specs.declared.error.ErrorKind.TheVariants.{Eof, InvalidRecord, External, OutOfMemory}
 use Rattle.perf_base.specs.declared.error.ParseError.{ParseError}
-use Rattle.perf_base.specs.declared.refusal.Refusal.{Refusal}
 use Rattle.perf_base.specs.declared.sys.perf_event_header.{perf_event_header}
-use Rattle.perf_buffers.specs.Buffer.{Source}
+use Rattle.perf_buffers.specs.Buffer.{Source, BufferInvariant}
 use Rattle.perf_reader.specs.ReaderState.{ReaderState}
-use Rattle.perf_reader.specs.Reading.{of_layout}
+use Rattle.perf_reader.specs.Reading.{of_layout, is_external}
 use Rattle.perf_reader.proofs.Paying.{last_moved}
 use Rattle.perf_base.specs.Configuration.{Configuration, under_misc}
 use Rattle.perf_base.specs.Attribute.{attribute}
@@ -26,14 +24,15 @@ use Rattle.perf_base.specs.Layout.{Parts, done, map_parts, layout, value}
 use Rattle.perf_base.proofs.Algebra.{then_inv}
 use Rattle.perf_base.proofs.Tables.{layout_run, run_layout}
 use Rattle.perf_sample_types.specs.Sample.{SampleValue, sample}
+use Rattle.perf_sample_types.specs.SampleGetters.{getters_of}
+use Rattle.perf_sample_types.specs.SampleGroups.{sample_value}
+use Rattle.perf_sample_types.specs.declared.sample.Sample.{Sample}
 use Rattle.perf_sample_types.proofs.LeastSamples.{short_sample}
-use Rattle.perf_base.specs.declared.refusal.Refusal.TheVariants.{NoRoomForId}
+use Rattle.perf_base.specs.declared.refusal.Refusal.TheVariants as why
 use Rattle.perf_records.specs.Bodies.{body, body_of_type, unread}
-use Rattle.perf_records.specs.FrameReadings.{metadata_in}
+use Rattle.perf_records.specs.FrameReadings.{FrameGives, PutsSample, metadata_in}
 use Rattle.perf_records.specs.Metadata.{MetadataValue, id_length}
 use Rattle.perf_records.specs.RecordTypes.{type_of}
-use Rattle.perf_records.specs.Shown.{GivesFrameBytes}
-use Rattle.perf_records.specs.Gives.{GivesWholeBody}
 use Rattle.perf_records.specs.Answers.{FrameParts, parts_of, length_after, split_after, record_in, answer_after, answer_of_frame, answers}
 use Rattle.perf_records.specs.Frames.{frame_length, first_frames, frames, drop_frames}
 use Rattle.perf_records.specs.Records.{RecordValue, sample_is}
@@ -41,12 +40,12 @@ use Rattle.perf_records.specs.Sights.{Sight, whole, bad, sight_after, sight_in}
 use Rattle.perf_records.proofs.FrameList.{frames_first, frames_short}
 use Rattle.perf_records.proofs.Handing.{finished}
 use Rattle.perf_records.proofs.Headers.{answer_whole}
-use Rattle.perf_parser.specs.FrameRuns.{Handed, HandsFirst, EndsFrames}
-use Rattle.perf_parser.specs.Runs.{EndsWith, MovesWithinFrame}
+use Rattle.perf_parser.specs.FrameRuns.{Handed, HandsFirst, EndsFrames, frames_refusal}
+use Rattle.perf_parser.specs.Runs.{EndsWith, MovesWithinFrame, RunInvariant, end_refusal}
 use Rattle.perf_parser.specs.declared.runs.RunEnd.{RunEnd}
 use Rattle.perf_parser.proofs.Handing.{moved_by}
 use Rattle.perf_parser.proofs.Listing.{AreThere, there_fits, there_next, after_on, frames_fit}
-use Rattle.perf_reports.specs.Counting.{modulo_word, frame_sum, counts_of, plus, sight_header, sight_answer, counted_sight, IsRefused, IsFault, EndsBy, CountsSight, CountsRun, RefusesSight, SumsAnswer, Adds, record_sum, attribute_in}
+use Rattle.perf_reports.specs.Counting.{modulo_word, frame_sum, counts_of, plus, sight_header, sight_answer, counted_sight, IsRefused, RanOut, EndsBy, CountsSight, CountsRun, RefusesSight, SumsAnswer, Adds, record_sum, sample_sum, attribute_in}
 use Rattle.perf_reports.specs.declared.counting.FrameCounter.{FrameCounter}
 use Rattle.perf_reports.specs.declared.counts.Counts.{Counts}
 
@@ -69,10 +68,10 @@ split_take c o h bytes fits =
     let t : take (length_after h) (take (length_after h) bytes) ≡ take (length_after h) bytes = take-take (length_after h) (length_after h) bytes (omega arith) in
     rw (a, b, t) refl
 
-sight_small : (h : perf_event_header) (bytes : List ℕ) (borrowed : Bool) → h.size < 8 → sight_after h bytes borrowed ≡ bad h InvalidRecord
+sight_small : (h : perf_event_header) (bytes : List ℕ) (borrowed : Bool) → h.size < 8 → sight_after h bytes borrowed ≡ bad h why.SmallHeader
 sight_small h bytes borrowed small = let a : nat_lt h.size 8 ≡ true = lt-ltb h.size 8 small in rw a refl
 
-sight_short : (h : perf_event_header) (bytes : List ℕ) (borrowed : Bool) → 8 ≤ h.size → length bytes < length_after h → sight_after h bytes borrowed ≡ bad h Eof
+sight_short : (h : perf_event_header) (bytes : List ℕ) (borrowed : Bool) → 8 ≤ h.size → length bytes < length_after h → sight_after h bytes borrowed ≡ bad h why.Eof
 sight_short h bytes borrowed sized short =
     let a : nat_lt h.size 8 ≡ false = le-ltb h.size 8 sized in
     let b : nat_lt (length bytes) (length_after h) ≡ true = lt-ltb (length bytes) (length_after h) short in
@@ -189,7 +188,7 @@ module _ (c : Configuration) (o : Order) (all : Bool) where
 
   -- the counter ended the run at the last of them, and did not count that one
   but_last_counted : (xs : List Answered) (fs : List (List ℕ)) (was now : FrameCounter) → Headed fs → was.counts ≡ counts_of xs → Handed gets o all was fs false now →
-      (k : ℕ) × (suc k ≡ length fs) × (now.counts ≡ counts_of (xs ++ map (pair_of c o) (take k fs))) × IsFault now.refusal
+      (k : ℕ) × (suc k ≡ length fs) × (now.counts ≡ counts_of (xs ++ map (pair_of c o) (take k fs))) × RanOut now.error
   but_last_counted xs [] was now headed so_far p = let never : false ≡ true = p.1 in absurd (cc)
   but_last_counted xs (frame ∷ fs) was now headed so_far p = elim p.2 [
     | inl more ↦
@@ -230,20 +229,21 @@ taken_within o bytes left p =
     let n : length left ≡ length bytes - frame_length o bytes = ap length p ∙ length-drop (frame_length o bytes) bytes in
     (moved.0, omega (arith, n), last_moved old new moved)
 
-not_of_layout : {a b : ErrorKind} → a ≡ b → (IsTrue (of_layout b) → ⊥) → IsTrue (of_layout a) → ⊥
-not_of_layout same other = λ h. other (subst (λ (k : ErrorKind). IsTrue (of_layout k)) same h)
+-- being out of memory is none of the layout's refusals
+no_layout : (e : ParseError) → kind_of e ≡ OutOfMemory → IsTrue (of_layout (kind_of e)) → ⊥
+no_layout e out layout = subst (λ (k : ErrorKind). IsTrue (of_layout k)) out layout
 
-ended_by : (o : Order) (limit k : ℕ) (bytes left : List ℕ) (refusal : Option Refusal) (e : RunEnd) → k < limit → IsFault refusal → EndsBy refusal e →
+ended_by : (o : Order) (limit k : ℕ) (bytes left : List ℕ) (error : Option ParseError) (e : RunEnd) → k < limit → RanOut error → EndsBy error e →
     left ≡ drop_frames o (k + 1) bytes → EndsWith o limit bytes k e left
-ended_by o limit k bytes left None e below fault by after = absurd fault
-ended_by o limit k bytes left (Some r) e below fault by after =
-    subst (λ (x : RunEnd). EndsWith o limit bytes k x left) (sym by.1)
-    (below, not_of_layout by.2.kind_is fault, taken_within o (drop_frames o k bytes) left (after ∙ after_on o k bytes))
+ended_by o limit k bytes left None e below out by after = absurd out
+ended_by o limit k bytes left (Some x) e below out by after =
+    subst (λ (y : RunEnd). EndsWith o limit bytes k y left) (sym by)
+    (below, no_layout x out, taken_within o (drop_frames o k bytes) left (after ∙ after_on o k bytes))
 
 -- the end of a run over frames that were handed to a counter
 abbrev pub IsRunEnd : Option RunEnd → FrameCounter → RunEnd → Type 0
 IsRunEnd (Some x) now e = e ≡ x
-IsRunEnd None now e = EndsBy now.refusal e
+IsRunEnd None now e = EndsBy now.error e
 
 pub run_counts : (old : ReaderState) (limit count : ℕ) (ended : Option RunEnd) (e : RunEnd) (was now : FrameCounter) (left : List ℕ) → was.counts ≡ counts_of [] →
     HandsFirst (λ s x. CountsSight s old.settings old.order x) old count ended was now → EndsFrames old.order limit old.source.left count ended left → IsRunEnd ended now e →
@@ -263,21 +263,50 @@ run_counts old limit count None e was now left none handed ends is =
     let one_more : k + 1 ≡ count = omega (arith, r.1, handed.0) in (
       k,
       r.2 ∙ ap counts_of (fewer_answers c o k count bytes (omega (arith, one_more)) handed.0),
-      ended_by o limit k bytes left now.refusal e (omega (arith, one_more, ends.1)) r.3 is (ends.2 ∙ ap (λ n. drop_frames o n bytes) (sym one_more)),
+      ended_by o limit k bytes left now.error e (omega (arith, one_more, ends.1)) r.3 is (ends.2 ∙ ap (λ n. drop_frames o n bytes) (sym one_more)),
     )
+
+-- how a run ended in which memory ran out
+ended_out : (error : Option ParseError) (e : RunEnd) → RanOut error → EndsBy error e → end_refusal e ≡ Some OutOfMemory
+ended_out None e out by = absurd out
+ended_out (Some x) e out by = ap end_refusal by ∙ ap Some out
+
+-- a fault of the buffer ends a run as such, and nothing else does
+pub run_keeps : (old : ReaderState) (n count : ℕ) (ended : Option RunEnd) (e : RunEnd) (was now : FrameCounter) (new : ReaderState) → was.counts ≡ counts_of [] →
+    HandsFirst (λ s x. CountsSight s old.settings old.order x) old count ended was now → IsRunEnd ended now e → RunInvariant old n (frames_refusal ended) new →
+    BufferInvariant old.source (end_refusal e) new.source × (is_external (end_refusal e) ≡ true → IsTrue old.source.can_fault)
+run_keeps old n count (Some x) e was now new none handed is p =
+    let kind : end_refusal e ≡ end_refusal x = ap end_refusal is in
+    (subst (λ (k : Option ErrorKind). BufferInvariant old.source k new.source) (sym kind) p.buffer, (λ external. p.fault (sym (ap is_external kind) ∙ external)))
+run_keeps old n count None e was now new none handed is p =
+    let fs : List (List ℕ) = first_frames old.order count old.source.left in
+    let r = but_last_counted old.settings old.order old.source.whole [] fs was now (frames_headed old.order count old.source.left) none handed.1 in
+    let kind : end_refusal e ≡ Some OutOfMemory = ended_out now.error e r.3 is in
+    (subst (λ (k : Option ErrorKind). BufferInvariant old.source k new.source) (sym kind) p.buffer, (λ external. let never : false ≡ true = sym (ap is_external kind) ∙ external in absurd (cc)))
 
 -- ---- what is summed of a frame
 
 -- what a visit of a frame summed
-pub visited_sum : (h : perf_event_header) (c : Configuration) (o : Order) (bytes : List ℕ) (borrowed : Bool) (r : Result ℕ Refusal) (k : ℕ) →
-    GivesFrameBytes Adds h c o bytes borrowed r k → SumsAnswer (answer_after c o h bytes) r
-visited_sum h c o bytes borrowed (Ok sum) k v = (v.0.0, v.0.6.0, v.0.3)
-visited_sum h c o bytes borrowed (Err e) k v = λ layout. (v.0 layout).0
+pub visited_sum : (h : perf_event_header) (c : Configuration) (o : Order) (bytes : List ℕ) (borrowed : Bool) (r : Result ℕ ParseError) →
+    FrameGives Adds h c o bytes borrowed r → SumsAnswer (answer_after c o h bytes) r
+visited_sum h c o bytes borrowed (Ok sum) v = (v.0, v.5, v.3)
+visited_sum h c o bytes borrowed (Err e) v = (v.0, v.2)
 
--- the same without the claim that the bytes are borrowed from the input
-pub less_borrowed : (m : MetadataValue) (o : Order) (p : Parts RecordValue) (bytes : List ℕ) (borrowed : Bool) (r : Result ℕ ErrorKind) (k : ℕ) → GivesWholeBody Adds m o p bytes true r k → GivesWholeBody Adds m o p bytes borrowed r k
-less_borrowed m o p bytes borrowed (Ok sum) k v = (v.0, v.1, v.2, v.3, v.4, (λ is. v.5 refl), v.6)
-less_borrowed m o p bytes borrowed (Err e) k v = (v.0, (λ is. v.1 refl))
+-- the sum of a sample that was read into a place
+pub placed_sum : (h : perf_event_header) (c : Configuration) (o : Order) (bytes : List ℕ) (borrowed : Bool) (r : Result Bool ParseError) (put : Bool) (now : Sample) (sum : ℕ) →
+    FrameGives (λ e x. PutsSample e x now) h c o bytes borrowed r → r ≡ Ok put → sum ≡ modulo_word (sample_sum (getters_of (sample_value now))) →
+    SumsAnswer (answer_after c o h bytes) (Ok sum)
+placed_sum h c o bytes borrowed r put now sum gives is same =
+    let v = subst (λ (q : Result Bool ParseError). FrameGives (λ e x. PutsSample e x now) h c o bytes borrowed q) is gives in
+    let value : sample_is (sample_value now) ≡ v.0 = v.3.1.0 in
+    (v.0, v.5, same ∙ ap (λ r. modulo_word (record_sum r)) value)
+
+-- a sample that is refused sums nothing
+pub placed_refused : (h : perf_event_header) (c : Configuration) (o : Order) (bytes : List ℕ) (borrowed : Bool) (r : Result Bool ParseError) (e : ParseError) (now : Sample) →
+    FrameGives (λ e x. PutsSample e x now) h c o bytes borrowed r → r ≡ Err e → SumsAnswer (answer_after c o h bytes) (Err e)
+placed_refused h c o bytes borrowed r e now gives is =
+    let v = subst (λ (q : Result Bool ParseError). FrameGives (λ e x. PutsSample e x now) h c o bytes borrowed q) is gives in
+    (v.0, v.2)
 
 -- a type that the kernel does not have: its body is all bytes, whatever they are
 unread_says : (o : Order) (ty : ℕ) (bytes : List ℕ) → layout o (unread ty) bytes ≡ Ok (value o bytes 0 (unread ty))
@@ -297,16 +326,16 @@ unknown_adds c o h bytes m none is = by (split_after c o h bytes) refl
     by (Ok parts) e = (value o parts.body 0 (unread h.type_), ap (record_in c o h) e ∙ unknown_says c o h parts none, refl)
     by (Err k) e = let never : Ok m ≡ metadata_in (Err k) = is ∙ ap metadata_in e in absurd (cc)
 
-pub unknown_refused : (c : Configuration) (o : Order) (h : perf_event_header) (bytes : List ℕ) (x : ParseError) → Err (kind_of x) ≡ metadata_in (split_after c o h bytes) → IsErrorOf x NoRoomForId →
-    SumsAnswer (answer_after c o h bytes) (Err NoRoomForId)
-unknown_refused c o h bytes x is why = by (split_after c o h bytes) refl
+pub unknown_refused : (c : Configuration) (o : Order) (h : perf_event_header) (bytes : List ℕ) (x : ParseError) → Err (kind_of x) ≡ metadata_in (split_after c o h bytes) → kind_of x ≡ InvalidRecord →
+    SumsAnswer (answer_after c o h bytes) (Err x)
+unknown_refused c o h bytes x is invalid = by (split_after c o h bytes) refl
   where
-    by : (s : Result FrameParts ErrorKind) → split_after c o h bytes ≡ s → SumsAnswer (answer_after c o h bytes) (Err NoRoomForId)
+    by : (s : Result FrameParts ErrorKind) → split_after c o h bytes ≡ s → SumsAnswer (answer_after c o h bytes) (Err x)
     by (Ok parts) e = let never : Err (kind_of x) ≡ metadata_in (Ok parts) = is ∙ ap metadata_in e in absurd (cc)
     by (Err k) e =
         let same : Err (kind_of x) ≡ metadata_in (Err k) = is ∙ ap metadata_in e in
         let kind : kind_of x ≡ k = cc in
-        λ layout. ap (record_in c o h) e ∙ ap Err (sym kind ∙ why.kind_is)
+        ((λ layout. ap (record_in c o h) e ∙ ap Err (sym kind)), (λ external. let never : External ≡ InvalidRecord = sym external ∙ invalid in absurd (cc)))
 
 -- ---- what a counter counts of one frame
 
@@ -314,9 +343,9 @@ pub sums_seen : (h : perf_event_header) (c : Configuration) (o : Order) (bytes :
     ((r : RecordValue) → sum ≡ modulo_word (record_sum r) → now.counts ≡ plus was.counts (counts_of ((h, Ok r) ∷ []))) → CountsSight was c o (whole h bytes borrowed) true now
 sums_seen h c o bytes borrowed sum was now says added = added says.0 says.2 ∙ ap (λ a. plus was.counts (counts_of ((h, a) ∷ []))) (sym says.1)
 
-pub refuses_seen : (h : perf_event_header) (c : Configuration) (o : Order) (bytes : List ℕ) (borrowed : Bool) (e : Refusal) (was now : FrameCounter) (go : Bool) → SumsAnswer (answer_after c o h bytes) (Err e) →
+pub refuses_seen : (h : perf_event_header) (c : Configuration) (o : Order) (bytes : List ℕ) (borrowed : Bool) (e : ParseError) (was now : FrameCounter) (go : Bool) → SumsAnswer (answer_after c o h bytes) (Err e) →
     RefusesSight e was go now → CountsSight was c o (whole h bytes borrowed) go now
-refuses_seen h c o bytes borrowed e was now true says p = p.1 h ∙ ap (λ a. plus was.counts (counts_of ((h, a) ∷ []))) (sym (says p.0))
+refuses_seen h c o bytes borrowed e was now true says p = p.1 h ∙ ap (λ a. plus was.counts (counts_of ((h, a) ∷ []))) (sym (says.0 p.0))
 refuses_seen h c o bytes borrowed e was now false says p = p
 
 -- ---- the attribute of a stream

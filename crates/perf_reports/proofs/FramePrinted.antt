@@ -1,9 +1,9 @@
 -- What a printer has printed of the frames that were handed to it.
-use Rattle.perf_base.specs.declared.refusal.Refusal.{Refusal}
 use Rattle.perf_records.specs.Records.{record_value, sample_is, sample_value}
 use Rattle.perf_records.specs.Answers.{answer_after}
-use Rattle.perf_records.specs.Shown.{GivesFrameBytes}
-use Rattle.perf_records.specs.Gives.{IsRecordOf, IsSampleIn}
+use Rattle.perf_records.specs.FrameReadings.{FrameGives, PutsSample}
+use Rattle.perf_records.specs.Gives.{IsRecordOf}
+use Rattle.perf_records.specs.declared.frame.Frame.{Frame}
 use Rattle.perf_records.specs.declared.record.Record.{Record}
 use Rattle.perf_sample_types.specs.declared.sample.Sample.{Sample}
 use Rattle.std.proofs.Common.{◌≡◌, ℕ, ◌+◌, ◌-◌, ◌≤◌, Bool, true, false, List, [], ◌∷◌, ◌++◌, ◌∙◌, ◌&&◌, Option, Some, None, length, take, drop, map, arith, refl, sym, ap, subst, append_assoc, append-nil, inl, inr, Ok, Err, string_bytes}
@@ -15,6 +15,7 @@ use Rattle.std.proofs.lemmas.List.Folds.{list_all-append}
 use Rattle.std.specs.Io.KnownBytes.{Appends}
 use Rattle.std.specs.Prelude.{IsTrue, Result, is_ok, codes, OnOk, IfOk, IfErr}
 use Rattle.perf_base.specs.Configuration.{Configuration}
+use Rattle.perf_buffers.specs.Buffer.{chunk_bytes}
 use Rattle.perf_base.specs.Errors.{error_text, kind_of}
 use Rattle.perf_base.specs.Order.{Order}
 use Rattle.perf_base.specs.Refusals.{error_kinds}
@@ -311,15 +312,21 @@ module _ {W E : Type 0} (out : W → Option (List ℕ)) (err : E → Option (Lis
 -- ---- what was read of a frame
 
 -- its record
-pub record_said : (h : perf_event_header) (c : Configuration) (o : Order) (bytes : List ℕ) (borrowed : Bool) (r : Result Record Refusal) (k : ℕ) (x : Record) →
-    GivesFrameBytes IsRecordOf h c o bytes borrowed r k → r ≡ Ok x → answer_after c o h bytes ≡ Ok (record_value x)
-record_said h c o bytes borrowed r k x visits is =
-    let said = (subst (λ (q : Result Record Refusal). GivesFrameBytes IsRecordOf h c o bytes borrowed q k) is visits).0 in
-    said.6.0 ∙ ap Ok (sym said.3.0)
+pub record_read : (h : perf_event_header) (c : Configuration) (o : Order) (bytes : List ℕ) (borrowed : Bool) (r : Result Record ParseError) (x : Record) →
+    FrameGives IsRecordOf h c o bytes borrowed r → r ≡ Ok x → answer_after c o h bytes ≡ Ok (record_value x)
+record_read h c o bytes borrowed r x gives is =
+    let v = subst (λ (q : Result Record ParseError). FrameGives IsRecordOf h c o bytes borrowed q) is gives in
+    v.5 ∙ ap Ok (sym v.3.0)
 
 -- its sample, read into the place of another
-pub sample_said : (h : perf_event_header) (c : Configuration) (o : Order) (bytes : List ℕ) (borrowed : Bool) (r : Result (Unit {0}) Refusal) (k : ℕ) (now : Sample) →
-    GivesFrameBytes (λ seen output. IsSampleIn seen now) h c o bytes borrowed r k → r ≡ Ok tt → answer_after c o h bytes ≡ Ok (sample_is (sample_value now))
-sample_said h c o bytes borrowed r k now visits is =
-    let said = (subst (λ (q : Result (Unit {0}) Refusal). GivesFrameBytes (λ seen output. IsSampleIn seen now) h c o bytes borrowed q k) is visits).0 in
-    said.6.0 ∙ ap Ok (sym said.3.0)
+pub sample_read : (h : perf_event_header) (c : Configuration) (o : Order) (bytes : List ℕ) (borrowed : Bool) (r : Result Bool ParseError) (put : Bool) (now : Sample) →
+    FrameGives (λ e x. PutsSample e x now) h c o bytes borrowed r → r ≡ Ok put → answer_after c o h bytes ≡ Ok (sample_is (sample_value now))
+sample_read h c o bytes borrowed r put now gives is =
+    let v = subst (λ (q : Result Bool ParseError). FrameGives (λ e x. PutsSample e x now) h c o bytes borrowed q) is gives in
+    v.5 ∙ ap Ok (sym v.3.1.0)
+
+-- the same result of a frame whose bytes count as borrowed
+pub same_answer : (c : Configuration) (o : Order) (f b : Frame) {r : Result RecordValue ErrorKind} → b.header ≡ f.header → chunk_bytes b.rest ≡ chunk_bytes f.rest →
+    answer_after c o b.header (chunk_bytes b.rest) ≡ r → answer_after c o f.header (chunk_bytes f.rest) ≡ r
+same_answer c o f b header rest read =
+    ap (λ h. answer_after c o h (chunk_bytes f.rest)) (sym header) ∙ ap (answer_after c o b.header) (sym rest) ∙ read

@@ -1,17 +1,18 @@
 -- What is counted of the results of frames.
 use Rattle.std.specs.Prelude.{ℕ, ◌+◌, ◌%◌, ◌^◌, List, [], ◌∷◌, length, sum, sum_by, count_by, unwrap_or}
 use Rattle.std.specs.Prelude.{Result, Ok, Err, is_err, IfOk, Option, Some, None, Bool, true, false, IsTrue}
-use Rattle.std.specs.Prelude.{◌≡◌, take, drop}
+use Rattle.std.specs.Prelude.{◌≡◌, ◌≢◌, take, drop}
 use Rattle.perf_base.specs.Attribute.{attribute}
 use Rattle.perf_base.specs.Configuration.{Configuration, plain, configured_by}
 use Rattle.perf_base.specs.Layout.{layout}
 use Rattle.perf_base.specs.Order.{Order}
-use Rattle.perf_base.specs.Refusals.{refusal_kind, IsErrorOf}
+use Rattle.perf_base.specs.Errors.{kind_of}
+use Rattle.perf_base.specs.Refusals.{refusal_kind}
 use Rattle.perf_base.specs.declared.error.ParseError.{ParseError}
-use Rattle.perf_base.specs.declared.refusal.Refusal.{Refusal}
 use Rattle.perf_base.specs.declared.sys.perf_event_attr.{perf_event_attr}
 use Rattle.perf_base.specs.declared.sys.perf_event_header.{perf_event_header}
 use Rattle.perf_base.specs.declared.error.ErrorKind.{ErrorKind}
+use Rattle.perf_base.specs.declared.error.ErrorKind.TheVariants.{External, OutOfMemory}
 use Rattle.perf_types.specs.declared.exit.Exit.{Exit}
 use Rattle.perf_types.specs.declared.lost.Lost.{Lost}
 use Rattle.perf_types.specs.Mmap.{MmapValue}
@@ -120,7 +121,7 @@ sight_header (bad h e) = h
 -- the result of a whole frame, or why none follows the header
 abbrev pub sight_answer : Configuration → Order → Sight → Result RecordValue ErrorKind
 sight_answer c o (whole h bytes borrowed) = answer_after c o h bytes
-sight_answer c o (bad h e) = Err e
+sight_answer c o (bad h e) = Err (refusal_kind e)
 
 -- a frame is refused
 abbrev pub IsRefused : Result RecordValue ErrorKind → Type 0
@@ -130,33 +131,34 @@ IsRefused answer = IfOk answer (λ value. ⊥)
 abbrev pub counted_sight : Configuration → Order → Sight → Counts
 counted_sight c o sight = counts_of ((sight_header sight, sight_answer c o sight) ∷ [])
 
--- a run was ended by a refusal that is none of the layout's
-abbrev pub IsFault : Option Refusal → Type 0
-IsFault None = ⊥
-IsFault (Some e) = IsTrue (of_layout (refusal_kind e)) → ⊥
+-- a run was ended because memory ran out
+abbrev pub RanOut : Option ParseError → Type 0
+RanOut None = ⊥
+RanOut (Some e) = kind_of e ≡ OutOfMemory
 
--- how a run ends that a refusal ended: with the error that it becomes
-abbrev pub EndsBy : Option Refusal → RunEnd → Type 0
+-- how a run ends that an error ended: with that error
+abbrev pub EndsBy : Option ParseError → RunEnd → Type 0
 EndsBy None e = Unit {0}
-EndsBy (Some refusal) e = (x : ParseError) × (e ≡ Fault x) × IsErrorOf x refusal
+EndsBy (Some x) e = e ≡ Fault x
 
 -- A counter was handed a frame, and returned whether the run goes on. If so, the frame was counted,
--- once; if not, a fault or a failed allocation ended the run, and the frame was not counted.
+-- once; if not, memory ran out, which ended the run, and the frame was not counted.
 abbrev pub CountsSight : FrameCounter → Configuration → Order → Sight → Bool → FrameCounter → Type 0
 CountsSight was c o sight true now = now.counts ≡ plus was.counts (counted_sight c o sight)
-CountsSight was c o sight false now = (now.counts ≡ was.counts) × IsFault now.refusal
+CountsSight was c o sight false now = (now.counts ≡ was.counts) × RanOut now.error
 
 -- A refused frame was counted, whatever its header, or ended the run.
-abbrev pub RefusesSight : Refusal → FrameCounter → Bool → FrameCounter → Type 0
-RefusesSight refusal was true now = IsTrue (of_layout (refusal_kind refusal))
-    × ((h : perf_event_header) → now.counts ≡ plus was.counts (counts_of ((h, Err (refusal_kind refusal)) ∷ [])))
-RefusesSight refusal was false now = (now.counts ≡ was.counts) × IsFault now.refusal
+abbrev pub RefusesSight : ParseError → FrameCounter → Bool → FrameCounter → Type 0
+RefusesSight error was true now = IsTrue (of_layout (kind_of error))
+    × ((h : perf_event_header) → now.counts ≡ plus was.counts (counts_of ((h, Err (kind_of error)) ∷ [])))
+RefusesSight error was false now = (now.counts ≡ was.counts) × RanOut now.error
 
 -- What a record adds was summed, if the result is a record; otherwise it was refused with the kind
--- of the result, or for a fault or a failed allocation.
-abbrev pub SumsAnswer : Result RecordValue ErrorKind → Result ℕ Refusal → Type 0
+-- of the result, or because memory ran out.
+abbrev pub SumsAnswer : Result RecordValue ErrorKind → Result ℕ ParseError → Type 0
 SumsAnswer answer (Ok sum) = (value : RecordValue) × (answer ≡ Ok value) × (sum ≡ modulo_word (record_sum value))
-SumsAnswer answer (Err e) = IsTrue (of_layout (refusal_kind e)) → answer ≡ Err (refusal_kind e)
+SumsAnswer answer (Err e) =
+    (IsTrue (of_layout (kind_of e)) → answer ≡ Err (kind_of e)) × (kind_of e ≢ External)
 
 -- ---- what is counted of a stream
 

@@ -70,5 +70,5 @@ error_lines answers = flat_map error_line answers
 -- whether printing stopped because memory ran out
 abbrev pub is_memory : Stopped → Bool
 is_memory (Memory e) = true
-is_memory (Frame e) = true
+is_memory Frame = true
 is_memory (Output e) = false

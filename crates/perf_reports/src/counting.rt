@@ -1,23 +1,22 @@
 //! Counting the frames that a run hands out.
 
-ghost use Rattle.std.specs.Prelude.{◌≡◌, [], None, IsTrue, false, true};
+ghost use Rattle.std.specs.Prelude.{◌≡◌, ◌≢◌, [], None, true};
 ghost use Rattle.perf_base.specs.Configured.{configuration_of, endian_of};
-ghost use Rattle.perf_base.specs.Refusals.{refusal_kind};
+ghost use Rattle.perf_base.specs.Errors.{kind_of};
 ghost use Rattle.perf_buffers.specs.Prelude.{chunk_bytes};
-ghost use Rattle.perf_reader.specs.Reading.{of_layout};
 ghost use Rattle.perf_records.specs.Answers.{answer_after};
 ghost use Rattle.perf_records.specs.RecordTypes.{type_of};
 ghost use Rattle.perf_reports.specs.Counting.{counts_of, CountsSight, EndsBy, IsRefused, RefusesSight};
 ghost use Rattle.perf_reports.specs.Counting.{SumsAnswer};
 
 use crate::counts::Counts;
-use crate::record_sums::Sum;
-use perf_base::{Kept, ReadResult, Refusal};
+use crate::record_sums::SumVisitor;
+use crate::sums::sample_sum;
 use perf_event_data::endian::Endian;
-use perf_event_data::parse::{ErrorKind, ParseConfig};
+use perf_event_data::parse::{ErrorKind, ParseConfig, ParseError, ParseResult};
 use perf_event_data::sys::PERF_RECORD_SAMPLE;
-use perf_event_data::{BadFrame, Frame, FrameHandler, RunEnd};
-use perf_sample_types::sample::{Sample, empty_sample, least_len};
+use perf_event_data::{BadFrame, Frame, FrameHandler, RunEnd, Sample, SampleFields};
+use perf_sample_types::sample::least_len;
 use std::alloc::Global;
 
 /// Counts the frames that a run hands to it. If memory runs out for one, it ends the run and does
@@ -28,7 +27,7 @@ pub(crate) struct FrameCounter<'p> {
     // What was counted so far.
     counts: Counts,
     // Why it ended the run, if it did.
-    refusal: Option<Refusal>,
+    error: Option<ParseError>,
     // The place that samples are read into.
     sample: Sample<'p>,
 }
@@ -41,8 +40,8 @@ impl<'p> FrameCounter<'p> {
         FrameCounter {
             alloc,
             counts: Counts::NONE,
-            refusal: None,
-            sample: empty_sample(),
+            error: None,
+            sample: Sample::from_fields(SampleFields::default()),
         }
     }
 
@@ -54,29 +53,32 @@ impl<'p> FrameCounter<'p> {
     }
 
     /// How the run ended, if the counter ended it.
-    pub(crate) fn end(&self) -> RunEnd
-        ensures { EndsBy self.now.refusal result }
+    pub(crate) fn end(&mut self) -> RunEnd
+        ensures end { EndsBy self.old.error result }
+        ensures counts { self.new.counts ≡ self.old.counts }
     {
-        match self.refusal {
-            Some(refusal) => RunEnd::Fault(Kept::none().error_of(refusal)),
+        match self.error.take() {
+            Some(error) => RunEnd::Fault(error),
             None => RunEnd::Limit,
         }
     }
 
-    // Counts a frame that was refused. A fault or a failed allocation ends the run instead.
-    #[inline]
-    fn refuse(&mut self, refusal: Refusal) -> bool
-        ensures { RefusesSight refusal self.old result self.new }
+    // Counts a frame that was refused. If memory ran out, the run ends instead.
+    #[cold]
+    fn refuse(&mut self, error: ParseError) -> bool
+        requires { kind_of error ≢ ErrorKind.External }
+        ensures { RefusesSight error self.old result self.new }
     {
-        match refusal.kind() {
+        match error.kind() {
             ErrorKind::External | ErrorKind::OutOfMemory => {
-                self.refusal = Some(refusal);
+                self.error = Some(error);
                 false
             }
             ErrorKind::Eof
             | ErrorKind::InvalidRecord
             | ErrorKind::UnsupportedConfig
             | ErrorKind::UnsupportedData => {
+                drop(error);
                 self.counts.add_refused();
                 true
             }
@@ -94,22 +96,29 @@ fn is_short_sample<E: Endian>(config: &ParseConfig<E>, frame: &Frame<'_, '_>) ->
     frame.header().type_ == PERF_RECORD_SAMPLE && frame.rest().len() < least_len(config)
 }
 
-// What the record of a frame adds to the checksum. A record of a type that the kernel does not have
-// adds nothing, and is not read.
+// What the record of a frame adds to the checksum. A sample whose bytes live as long as the input is
+// read into a place that is kept for the next; nothing is kept of any other frame, so that no byte
+// string is copied. A record of a type that the kernel does not have adds nothing, and is not read.
 #[inline]
 fn frame_sum<'p, E: Endian>(
     alloc: Global,
     config: &ParseConfig<E>,
-    frame: Frame<'_, 'p>,
+    frame: &Frame<'_, 'p>,
     place: &mut Sample<'p>,
-) -> ReadResult<u64>
+) -> ParseResult<u64>
     ensures { SumsAnswer (answer_after (configuration_of config.now)
-        (E.order (endian_of config.now)) frame.entry.header (chunk_bytes frame.entry.rest)) result }
+        (E.order (endian_of config.now)) frame.now.header (chunk_bytes frame.now.rest)) result }
 {
+    if frame.header().type_ == PERF_RECORD_SAMPLE && frame.is_borrowed() {
+        return match frame.sample_into(alloc, config, place) {
+            Ok(_) => Ok(sample_sum(place)),
+            Err(error) => Err(error),
+        };
+    }
     if frame.kind().is_none() {
         return unknown_sum(alloc, config, frame);
     }
-    frame.read(alloc, config, Sum, place).0
+    frame.borrowed().visit(alloc, config, SumVisitor)
 }
 
 // What the record of a frame adds, if its type is one of the kernel's.
@@ -117,15 +126,15 @@ fn frame_sum<'p, E: Endian>(
 fn unknown_sum<E: Endian>(
     alloc: Global,
     config: &ParseConfig<E>,
-    frame: Frame<'_, '_>,
-) -> ReadResult<u64>
-    requires { type_of frame.header.type_ ≡ None }
+    frame: &Frame<'_, '_>,
+) -> ParseResult<u64>
+    requires { type_of frame.now.header.type_ ≡ None }
     ensures { SumsAnswer (answer_after (configuration_of config.now)
-        (E.order (endian_of config.now)) frame.entry.header (chunk_bytes frame.entry.rest)) result }
+        (E.order (endian_of config.now)) frame.now.header (chunk_bytes frame.now.rest)) result }
 {
     match frame.metadata(alloc, config) {
         Ok(_) => Ok(0),
-        Err(_) => Err(Refusal::NoRoomForId),
+        Err(error) => Err(error),
     }
 }
 
@@ -140,12 +149,12 @@ impl<'p, E: Endian> FrameHandler<'p, E> for FrameCounter<'p> {
                     self.counts.add_refused();
                     return true;
                 }
-                match frame_sum(self.alloc, config, frame, &mut self.sample) {
+                match frame_sum(self.alloc, config, &frame, &mut self.sample) {
                     Ok(sum) => {
                         self.counts.add_record(frame.header(), sum);
                         true
                     }
-                    Err(refusal) => self.refuse(refusal),
+                    Err(error) => self.refuse(error),
                 }
             }
             Err(_) => {

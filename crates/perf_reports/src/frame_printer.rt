@@ -1,11 +1,10 @@
 //! Printing the frames that a run hands out.
 
 ghost use Rattle.std.specs.Prelude.{◌≡◌, ◌++◌, ℕ, [], take, true, false, None, Some, Err, IsTrue};
-ghost use Rattle.std.specs.Prelude.{OnOk, IfErr, string_bytes, Result};
+ghost use Rattle.std.specs.Prelude.{◌≢◌, OnOk, IfErr, string_bytes, Result};
 ghost use Rattle.std.specs.Io.KnownBytes.{Appends};
 ghost use Rattle.perf_base.specs.Configured.{configuration_of, endian_of};
 ghost use Rattle.perf_base.specs.Errors.{kind_of};
-ghost use Rattle.perf_base.specs.Refusals.{refusal_kind};
 ghost use Rattle.perf_base.specs.declared.error.ErrorKind.{ErrorKind as Kind};
 ghost use Rattle.perf_base.specs.declared.sys.perf_event_header.{perf_event_header};
 ghost use Rattle.perf_reader.specs.Reading.{of_layout};
@@ -15,13 +14,10 @@ ghost use Rattle.perf_reports.specs.FramePrinting.{PrintsAnswer, PrintsSight, fr
 ghost use Rattle.perf_reports.specs.Printing.{is_memory};
 
 use crate::printing::{Found, Lines, Report, Stopped};
-use perf_base::{Kept, Refusal};
 use perf_event_data::endian::Endian;
 use perf_event_data::parse::{ErrorKind, ParseConfig, ParseError};
 use perf_event_data::sys::PERF_RECORD_SAMPLE;
-use perf_event_data::{BadFrame, Frame, FrameHandler, RunEnd};
-use perf_records::body_reader::{AsRecord, IntoSample};
-use perf_sample_types::sample::empty_sample;
+use perf_event_data::{BadFrame, Frame, FrameHandler, RunEnd, Sample, SampleFields};
 use std::alloc::Global;
 use std::io::Write;
 
@@ -118,24 +114,24 @@ impl<W: Write, E: Write> FramePrinter<W, E> {
         }
     }
 
-    // Prints why the record of a frame was refused. After a fault or a failed allocation printing
-    // stops, and the lines before it are written.
+    // Prints why the record of a frame was refused. If memory ran out, printing stops, and the lines
+    // before it are written.
     #[cold]
     #[inline(never)]
-    fn refuse(&mut self, refusal: Refusal) -> Result<(), Stopped>
+    fn refuse(&mut self, error: &ParseError) -> Result<(), Stopped>
+        requires { kind_of error.now ≢ Kind.External }
         ensures { (h : perf_event_header) → (answer : Result RecordValue Kind) →
-            (IsTrue (of_layout (refusal_kind refusal)) → answer ≡ Err (refusal_kind refusal)) →
+            (IsTrue (of_layout (kind_of error.now)) → answer ≡ Err (kind_of error.now)) →
             PrintsAnswer W.contents E.contents self.old (h, answer) result self.new }
     {
-        match refusal.kind() {
+        match error.kind() {
             ErrorKind::External | ErrorKind::OutOfMemory => {
-                let why = Stopped::Frame(refusal);
-                Err(self.lines.stop(&mut self.output, why))
+                Err(self.lines.stop(&mut self.output, Stopped::Frame))
             }
             ErrorKind::Eof
             | ErrorKind::InvalidRecord
             | ErrorKind::UnsupportedConfig
-            | ErrorKind::UnsupportedData => self.print_error(&Kept::none().error_of(refusal)),
+            | ErrorKind::UnsupportedData => self.print_error(error),
         }
     }
 
@@ -152,14 +148,16 @@ impl<W: Write, E: Write> FramePrinter<W, E> {
             (configuration_of config.now) (O.order (endian_of config.now)) frame.entry) result
             self.new }
     {
-        let mut sample = empty_sample();
-        let (read, _reads) = frame.read(self.alloc, config, IntoSample, &mut sample);
-        match read {
-            Ok(()) => {
+        let mut sample = Sample::from_fields(SampleFields::default());
+        match frame
+            .borrowed()
+            .sample_into(self.alloc, config, &mut sample)
+        {
+            Ok(_) => {
                 let found = Found::Sample(&sample);
                 self.lines.add(&mut self.output, self.report, found)
             }
-            Err(refusal) => self.refuse(refusal),
+            Err(error) => self.refuse(&error),
         }
     }
 
@@ -174,13 +172,12 @@ impl<W: Write, E: Write> FramePrinter<W, E> {
             (configuration_of config.now) (O.order (endian_of config.now)) frame.entry) result
             self.new }
     {
-        let (read, _reads) = frame.read(self.alloc, config, AsRecord, &mut ());
-        match read {
+        match frame.borrowed().record(self.alloc, config) {
             Ok(record) => {
                 let found = Found::Record(&record);
                 self.lines.add(&mut self.output, self.report, found)
             }
-            Err(refusal) => self.refuse(refusal),
+            Err(error) => self.refuse(&error),
         }
     }
 

@@ -11,9 +11,8 @@ ghost use Rattle.perf_reports.specs.Printing.{Grows, GrowsWithin};
 use crate::frame_printer::FramePrinter;
 use crate::{samples, tasks};
 use anyhow::{Result, bail};
-use perf_base::{Kept, Refusal};
 use perf_event_data::endian::{Endian, Little};
-use perf_event_data::parse::{ParseBuf, ParseConfig, Parser};
+use perf_event_data::parse::{ParseBuf, ParseConfig, ParseError, Parser};
 use perf_event_data::{Record, RunEnd, Sample, each_frame};
 use std::alloc::{AllocError, Global};
 use std::error::Error;
@@ -73,8 +72,8 @@ pub(crate) enum Found<'a, 'p> {
 pub(crate) enum Stopped {
     // There was no memory for a line.
     Memory(AllocError),
-    // There was no memory for the record of a frame. Kept without its error, which is large.
-    Frame(Refusal),
+    // There was no memory for the record of a frame. Its error, which is large, is made at the end.
+    Frame,
     // An output failed.
     Output(io::Error),
 }
@@ -83,7 +82,7 @@ impl fmt::Display for Stopped {
     fn fmt<W: fmt::Write>(&self, f: &mut fmt::Formatter<W>) -> fmt::Result {
         match self {
             Stopped::Memory(error) => write!(f, "{error}"),
-            Stopped::Frame(refusal) => write!(f, "{}", Kept::none().error_of(*refusal)),
+            Stopped::Frame => write!(f, "{}", ParseError::out_of_memory()),
             Stopped::Output(error) => write!(f, "{error}"),
         }
     }
@@ -277,7 +276,7 @@ fn print_records<'p, B: ParseBuf<'p>, O: Endian, W: Write, E: Write>(
     for _ in 0..u64::MAX {
         let end = match print_frames(parser, printer) {
             Ok(end) => end,
-            Err(Stopped::Frame(refusal)) => return Err(Kept::none().error_of(refusal).into()),
+            Err(Stopped::Frame) => return Err(ParseError::out_of_memory().into()),
             Err(stopped) => return Err(stopped.into()),
         };
         if !goes_on(end)? {

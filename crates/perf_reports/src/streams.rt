@@ -2,13 +2,16 @@
 
 ghost use Rattle.std.specs.Prelude.{◌≡◌, true, Ok, Err, IsTrue, IfOk, IfErr};
 ghost use Rattle.perf_base.specs.Configured.{configuration_of, endian_of};
+ghost use Rattle.perf_buffers.specs.Prelude.{BufferInvariant};
 ghost use Rattle.perf_parser.specs.Prelude.{buffer_of, config_of, kind_of, of_layout};
+ghost use Rattle.perf_parser.specs.Runs.{end_refusal};
+ghost use Rattle.perf_reader.specs.Reading.{is_external};
 ghost use Rattle.perf_reports.specs.Counting.{CountsRun, CountsStream, attribute_in};
 
 use crate::counting::FrameCounter;
 use crate::counts::Counts;
 use perf_event_data::endian::{Endian, Native};
-use perf_event_data::parse::{ParseBuf, ParseConfig, ParseResult, Parser};
+use perf_event_data::parse::{ErrorKind, ParseBuf, ParseConfig, ParseResult, Parser};
 use perf_event_data::{RunEnd, each_frame};
 use std::alloc::Global;
 
@@ -30,6 +33,15 @@ pub fn count_stream<'p, B: ParseBuf<'p> + Drop, E: Endian>(
     ensures refused { IsTrue (B.source input).told → IfErr result (λ e.
         IsTrue (of_layout (kind_of e)) → (with_attr ≡ true)
         × (attribute_in (E.order endian) (B.source input).left ≡ Err (kind_of e))) }
+
+    // A fault comes only from an input that can fault, and the attribute is out of memory only if
+    // the order's duplicate is.
+    ensures fault { IsTrue (B.source input).told → IfOk result (λ counted.
+        is_external (end_refusal counted.1) ≡ true → IsTrue (B.source input).can_fault) }
+    ensures attribute_fault { IfErr result (λ e. kind_of e ≡ ErrorKind.External →
+        IsTrue (B.source input).can_fault) }
+    ensures attribute_memory { IsTrue (B.source input).told → IfErr result (λ e.
+        kind_of e ≡ ErrorKind.OutOfMemory → IsTrue (E.may_refuse endian)) }
 {
     let plain = ParseConfig::<Native>::default().with_endian(endian);
     let mut parser = Parser::new(alloc, input, plain);
@@ -55,6 +67,14 @@ pub fn count_records<'p, B: ParseBuf<'p>, E: Endian>(
         CountsRun (configuration_of (config_of parser.old)) (E.order (endian_of (config_of parser.old)))
         MOST_FRAMES (B.source (buffer_of parser.old)).left result.0 result.1
         (B.source (buffer_of parser.new)).left }
+
+    // A fault of the buffer ends it as such, and nothing else does.
+    ensures buffer { IsTrue (B.source (buffer_of parser.old)).told →
+        BufferInvariant (B.source (buffer_of parser.old)) (end_refusal result.1)
+        (B.source (buffer_of parser.new)) }
+    ensures fault { IsTrue (B.source (buffer_of parser.old)).told →
+        is_external (end_refusal result.1) ≡ true →
+        IsTrue (B.source (buffer_of parser.old)).can_fault }
 {
     let mut counter = FrameCounter::new(alloc);
     let run = each_frame(parser, MOST_FRAMES, &mut counter);

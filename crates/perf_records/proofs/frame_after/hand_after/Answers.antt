@@ -4,6 +4,7 @@ use Rattle.perf_base.specs.Configured.{configuration_of, endian_of}
 use Rattle.perf_base.specs.Refusals.{refusal_kind}
 use Rattle.perf_base.specs.declared.error.ErrorKind.{ErrorKind}
 use Rattle.perf_base.specs.declared.error.ErrorKind.TheVariants.{Eof}
+use Rattle.perf_base.specs.declared.refusal.Refusal.TheVariants as why
 use Rattle.perf_base.specs.declared.config.ParseConfig.{ParseConfig}
 use Rattle.perf_buffers.specs.Buffer.{Source}
 use Rattle.perf_buffers.specs.Taking.{FailsToKeep}
@@ -25,10 +26,10 @@ returns-else-not-is_eof-clause-handed g c =
     let kind : refusal_kind c.in-Err.refusal ≡ Eof = c.if-not-is_eof.ensures.eof refl in
     let b = c.new-bad-in-Err.ensures in
     let config : c.config-in-Err.result.now ≡ c.args.reader.now.config = c.config-in-Err.ensures ∙ e.config in
-    let P : ParseConfig g.row.E.Denot → Type 0 = λ k. g.H.FrameHandler.gets c.args.handler.now (configuration_of k) (g.E.Endian.order (endian_of k)) (bad h Eof) go now in
-    let as-refused : g.H.FrameHandler.gets c.args.handler.now (configuration_of c.config-in-Err.result.now) (g.E.Endian.order (endian_of c.config-in-Err.result.now)) (bad c.new-bad-in-Err.result.header (refusal_kind c.new-bad-in-Err.result.refusal)) go now =
-    subst (λ s. g.H.FrameHandler.gets s (configuration_of c.config-in-Err.result.now) (g.E.Endian.order (endian_of c.config-in-Err.result.now)) (bad c.new-bad-in-Err.result.header (refusal_kind c.new-bad-in-Err.result.refusal)) go now) e.same c.frame-in-Err.ensures in
-    let outcome : bad c.new-bad-in-Err.result.header (refusal_kind c.new-bad-in-Err.result.refusal) ≡ bad h Eof = ap (λ k. bad k (refusal_kind c.new-bad-in-Err.result.refusal)) b.header ∙ ap (λ r. bad h (refusal_kind r)) b.refusal ∙ ap (bad h) kind in
-    let got : gets c.args.handler.now (bad h Eof) go now = subst P config (subst (λ x. g.H.FrameHandler.gets c.args.handler.now (configuration_of c.config-in-Err.result.now) (g.E.Endian.order (endian_of c.config-in-Err.result.now)) x go now) outcome as-refused) in
+    let P : ParseConfig g.row.E.Denot → Type 0 = λ k. g.H.FrameHandler.gets c.args.handler.now (configuration_of k) (g.E.Endian.order (endian_of k)) (bad h why.Eof) go now in
+    let as-refused : g.H.FrameHandler.gets c.args.handler.now (configuration_of c.config-in-Err.result.now) (g.E.Endian.order (endian_of c.config-in-Err.result.now)) (bad c.new-bad-in-Err.result.header c.new-bad-in-Err.result.refusal) go now =
+    subst (λ s. g.H.FrameHandler.gets s (configuration_of c.config-in-Err.result.now) (g.E.Endian.order (endian_of c.config-in-Err.result.now)) (bad c.new-bad-in-Err.result.header c.new-bad-in-Err.result.refusal) go now) e.same c.frame-in-Err.ensures in
+    let outcome : bad c.new-bad-in-Err.result.header c.new-bad-in-Err.result.refusal ≡ bad h why.Eof = ap (λ k. bad k c.new-bad-in-Err.result.refusal) b.header ∙ ap (bad h) b.refusal in
+    let got : gets c.args.handler.now (bad h why.Eof) go now = subst P config (subst (λ x. g.H.FrameHandler.gets c.args.handler.now (configuration_of c.config-in-Err.result.now) (g.E.Endian.order (endian_of c.config-in-Err.result.now)) x go now) outcome as-refused) in
     hands_unfinished gets h old new c.args.handler.now now go sized (λ none. let never : false ≡ true = (e.nothing none).0 in absurd (cc))
     (λ told. subst (λ (k : ErrorKind). FailsToKeep old (length_after h) k new) kind (e.err.1 told)) got

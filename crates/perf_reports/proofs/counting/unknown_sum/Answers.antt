@@ -1,8 +1,14 @@
 use Rattle.perf_base.specs.Configured.{configuration_of, endian_of}
 use Rattle.perf_buffers.specs.Prelude.{chunk_bytes}
-use Rattle.perf_reports.proofs.Counted.{unknown_adds}
+use Rattle.perf_reports.proofs.Counted.{unknown_adds, unknown_refused}
 use Rattle.perf_reports.proofs.counting.unknown_sum.Goals as goal
 
 pub returns-in-Ok : goal.returns-in-Ok
 returns-in-Ok g c =
-    unknown_adds (configuration_of c.args.config.now) (g.E.Endian.order (endian_of c.args.config.now)) c.args.frame.header (chunk_bytes c.args.frame.rest) c.in-Ok.field-0 c.requires c.in-Ok.ensures.parts
+    let f = c.args.frame.now in
+    unknown_adds (configuration_of c.args.config.now) (g.E.Endian.order (endian_of c.args.config.now)) f.header (chunk_bytes f.rest) c.in-Ok.field-0 c.requires c.in-Ok.ensures.parts
+
+pub returns-in-Err : goal.returns-in-Err
+returns-in-Err g c =
+    let f = c.args.frame.now in
+    unknown_refused (configuration_of c.args.config.now) (g.E.Endian.order (endian_of c.args.config.now)) f.header (chunk_bytes f.rest) c.in-Err.error c.in-Err.ensures.parts c.in-Err.ensures.no_room.kind_is

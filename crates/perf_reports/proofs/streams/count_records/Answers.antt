@@ -6,7 +6,7 @@ use Rattle.perf_reader.specs.ReaderState.{ReaderState}
 use Rattle.perf_reports.specs.Counting.{CountsRun, EndsBy}
 use Rattle.perf_reports.specs.declared.counts.Counts.{Counts}
 use Rattle.perf_reports.specs.declared.streams.TheConstants.{MOST_FRAMES}
-use Rattle.perf_reports.proofs.Counted.{IsRunEnd, run_counts}
+use Rattle.perf_reports.proofs.Counted.{IsRunEnd, run_counts, run_keeps}
 use Rattle.perf_reports.proofs.streams.count_records.Goals as goal
 use Rattle.perf_reports.proofs.streams.count_records.Goals.{in-Some, in-None}
 
@@ -19,7 +19,31 @@ returns-clause-counts g c = λ told.
     let e = c.match-run.end in
     let ended : IsRunEnd run.result.end now e = elim c.match-run.branch [
       | in-Some w ↦ subst (λ (x : Option RunEnd). IsRunEnd x now e) (sym w.in-Some.is) w.end-is
-      | in-None w ↦ subst (λ (x : Option RunEnd). IsRunEnd x now e) (sym w.in-None.is) (subst (λ (x : RunEnd). EndsBy now.refusal x) (sym w.end-is) w.end-end.ensures)
+      | in-None w ↦ subst (λ (x : Option RunEnd). IsRunEnd x now e) (sym w.in-None.is) (subst (λ (x : RunEnd). EndsBy now.error x) (sym w.end-is) w.end-end.ensures.end)
     ] in
-    subst (λ (k : Counts). CountsRun old.settings old.order MOST_FRAMES old.source.left k e left) (sym c.counts.ensures)
+    subst (λ (k : Counts). CountsRun old.settings old.order MOST_FRAMES old.source.left k e left) (sym (c.counts.ensures))
     (run_counts old MOST_FRAMES run.result.count run.result.end e c.new-counter.result now left c.new-counter.ensures (run.ensures.handed told) (run.ensures.end told) ended)
+
+pub returns-clause-buffer : goal.returns-clause-buffer
+returns-clause-buffer g c = λ told.
+    let old : ReaderState = state_of g.B.ParseBuf.source g.E.Endian.order c.args.parser.now in
+    let run = c.each_frame-run in
+    let now = run.new.handler in
+    let e = c.match-run.end in
+    let ended : IsRunEnd run.result.end now e = elim c.match-run.branch [
+      | in-Some w ↦ subst (λ (x : Option RunEnd). IsRunEnd x now e) (sym w.in-Some.is) w.end-is
+      | in-None w ↦ subst (λ (x : Option RunEnd). IsRunEnd x now e) (sym w.in-None.is) (subst (λ (x : RunEnd). EndsBy now.error x) (sym w.end-is) w.end-end.ensures.end)
+    ] in
+    (run_keeps old _ run.result.count run.result.end e c.new-counter.result now _ c.new-counter.ensures (run.ensures.handed told) ended run.ensures.keeps).0
+
+pub returns-clause-fault : goal.returns-clause-fault
+returns-clause-fault g c = λ told.
+    let old : ReaderState = state_of g.B.ParseBuf.source g.E.Endian.order c.args.parser.now in
+    let run = c.each_frame-run in
+    let now = run.new.handler in
+    let e = c.match-run.end in
+    let ended : IsRunEnd run.result.end now e = elim c.match-run.branch [
+      | in-Some w ↦ subst (λ (x : Option RunEnd). IsRunEnd x now e) (sym w.in-Some.is) w.end-is
+      | in-None w ↦ subst (λ (x : Option RunEnd). IsRunEnd x now e) (sym w.in-None.is) (subst (λ (x : RunEnd). EndsBy now.error x) (sym w.end-is) w.end-end.ensures.end)
+    ] in
+    (run_keeps old _ run.result.count run.result.end e c.new-counter.result now _ c.new-counter.ensures (run.ensures.handed told) ended run.ensures.keeps).1

@@ -49,3 +49,13 @@ returns-in-Err-clause-refused g c = λ told known.
     let same : (source (buffer_of p.result)).left ≡ bytes = ap (λ (b : g.row.B.Denot). (source b).left) p.ensures.buf in
     let with : c.args.with_attr ≡ true = search rules in
     (with, ap (λ (x : Order). attribute_in x bytes) (sym order) ∙ ap (attribute_in (g.E.Endian.order (endian_of (config_of p.result)))) (sym same) ∙ attribute_refused (g.E.Endian.order (endian_of (config_of p.result))) (source (buffer_of p.result)).left (kind_of c.in-Err.error) (c.in-Err.ensures.refused here known))
+
+pub returns-in-Ok-clause-fault : goal.returns-in-Ok-clause-fault
+returns-in-Ok-clause-fault g c = λ told external.
+    let source = g.B.ParseBuf.source in
+    let p = c.new-parser in
+    let here : IsTrue (source (buffer_of p.result)).told = subst (λ (b : g.row.B.Denot). IsTrue (source b).told) (sym p.ensures.buf) told in
+    let start = state_of source g.E.Endian.order p.result in
+    let kept = (c.in-Ok.ensures.keeps start (keeps_none start)).buffer in
+    let faulted = c.count_records-in-Ok.ensures.fault (kept.3 here) external in
+    subst (λ (b : g.row.B.Denot). IsTrue (source b).can_fault) p.ensures.buf (kept.1 faulted)

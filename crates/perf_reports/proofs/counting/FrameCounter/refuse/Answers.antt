@@ -1,10 +1,10 @@
 use Rattle.std.proofs.Common.{rules}
 use Rattle.std.specs.Prelude.{IsTrue}
-use Rattle.perf_base.specs.Refusals.{refusal_kind}
+use Rattle.perf_base.specs.Errors.{kind_of}
 use Rattle.perf_reader.specs.Reading.{of_layout}
 use Rattle.perf_reports.proofs.counting.FrameCounter.refuse.Goals as goal
 
 pub returns-in-Eof : goal.returns-in-Eof
 returns-in-Eof c =
-    let kind : IsTrue (of_layout (refusal_kind c.args.refusal)) = search rules in
-    (kind, (λ h. c.add_refused.ensures h (refusal_kind c.args.refusal)))
+    let kind : IsTrue (of_layout (kind_of c.args.error)) = search rules in
+    (kind, (λ h. c.add_refused.ensures h (kind_of c.args.error)))
