@@ -231,7 +231,7 @@ taken_within o bytes left p =
 
 -- being out of memory is none of the layout's refusals
 no_layout : (e : ParseError) → kind_of e ≡ OutOfMemory → IsTrue (of_layout (kind_of e)) → ⊥
-no_layout e out layout = subst (λ (k : ErrorKind). IsTrue (of_layout k)) out layout
+no_layout e out known = let never : false ≡ true = subst (λ (k : ErrorKind). IsTrue (of_layout k)) out known in absurd (cc)
 
 ended_by : (o : Order) (limit k : ℕ) (bytes left : List ℕ) (error : Option ParseError) (e : RunEnd) → k < limit → RanOut error → EndsBy error e →
     left ≡ drop_frames o (k + 1) bytes → EndsWith o limit bytes k e left

@@ -28,7 +28,7 @@ use Rattle.perf_records.specs.Sights.{Sight, sight_in}
 use Rattle.perf_parser.specs.FrameRuns.{Handed, HandsFirst, went_on}
 use Rattle.perf_parser.specs.declared.runs.RunEnd.{RunEnd}
 use Rattle.perf_reader.specs.ReaderState.{ReaderState}
-use Rattle.perf_reports.specs.FramePrinting.{Answered, by_kinds, TellsErrors, all_clean, Prints, StopsAt, PrintsAnswer, PrintsSight, PrintsFirst, answers_of}
+use Rattle.perf_reports.specs.FramePrinting.{Answered, frame_answer, by_kinds, TellsErrors, all_clean, Prints, StopsAt, PrintsAnswer, PrintsSight, PrintsFirst, answers_of}
 use Rattle.perf_reports.specs.Printing.{text_of_record, printed_answer, printed_answers, error_line, error_lines, Grows, GrowsWithin, is_memory}
 use Rattle.perf_reports.specs.declared.frame_printer.FramePrinter.{FramePrinter}
 use Rattle.perf_reports.specs.declared.printing.Report.{Report}
@@ -326,7 +326,6 @@ sample_read h c o bytes borrowed r put now gives is =
     v.5 ∙ ap Ok (sym v.3.1.0)
 
 -- the same result of a frame whose bytes count as borrowed
-pub same_answer : (c : Configuration) (o : Order) (f b : Frame) {r : Result RecordValue ErrorKind} → b.header ≡ f.header → chunk_bytes b.rest ≡ chunk_bytes f.rest →
-    answer_after c o b.header (chunk_bytes b.rest) ≡ r → answer_after c o f.header (chunk_bytes f.rest) ≡ r
-same_answer c o f b header rest read =
-    ap (λ h. answer_after c o h (chunk_bytes f.rest)) (sym header) ∙ ap (answer_after c o b.header) (sym rest) ∙ read
+pub same_answer : (c : Configuration) (o : Order) (f b : Frame) → b.header ≡ f.header → chunk_bytes b.rest ≡ chunk_bytes f.rest → frame_answer c o b ≡ frame_answer c o f
+same_answer c o f b header rest =
+    ap (λ h. (h, answer_after c o h (chunk_bytes b.rest))) header ∙ ap (λ bytes. (f.header, answer_after c o f.header bytes)) rest

@@ -110,10 +110,7 @@ fn frame_sum<'p, E: Endian>(
         (E.order (endian_of config.now)) frame.now.header (chunk_bytes frame.now.rest)) result }
 {
     if frame.header().type_ == PERF_RECORD_SAMPLE && frame.is_borrowed() {
-        return match frame.sample_into(alloc, config, place) {
-            Ok(_) => Ok(sample_sum(place)),
-            Err(error) => Err(error),
-        };
+        return kept_sum(alloc, config, frame, place);
     }
     if frame.kind().is_none() {
         return unknown_sum(alloc, config, frame);
@@ -121,7 +118,25 @@ fn frame_sum<'p, E: Endian>(
     frame.borrowed().visit(alloc, config, SumVisitor)
 }
 
-// What the record of a frame adds, if its type is one of the kernel's.
+// What a sample adds that is read into the place of the one before.
+#[inline]
+fn kept_sum<'p, E: Endian>(
+    alloc: Global,
+    config: &ParseConfig<E>,
+    frame: &Frame<'_, 'p>,
+    place: &mut Sample<'p>,
+) -> ParseResult<u64>
+    requires { frame.now.header.type_ ≡ 9 }
+    ensures { SumsAnswer (answer_after (configuration_of config.now)
+        (E.order (endian_of config.now)) frame.now.header (chunk_bytes frame.now.rest)) result }
+{
+    match frame.sample_into(alloc, config, place) {
+        Ok(_) => Ok(sample_sum(place)),
+        Err(error) => Err(error),
+    }
+}
+
+// What the record of a frame adds whose type is none of the kernel's.
 #[inline]
 fn unknown_sum<E: Endian>(
     alloc: Global,

@@ -138,21 +138,17 @@ impl<W: Write, E: Write> FramePrinter<W, E> {
     // Prints the line of a sample without a box for it. It is not inlined, so that only samples pay
     // for the space of one, which is large.
     #[inline(never)]
-    fn print_sample<O: Endian>(
+    fn print_sample<'p, O: Endian>(
         &mut self,
         config: &ParseConfig<O>,
-        frame: Frame<'_, '_>,
+        frame: &Frame<'_, 'p>,
     ) -> Result<(), Stopped>
-        requires { frame.header.type_ ≡ 9 }
+        requires { frame.now.header.type_ ≡ 9 }
         ensures { PrintsAnswer W.contents E.contents self.old (frame_answer
-            (configuration_of config.now) (O.order (endian_of config.now)) frame.entry) result
-            self.new }
+            (configuration_of config.now) (O.order (endian_of config.now)) frame.now) result self.new }
     {
-        let mut sample = Sample::from_fields(SampleFields::default());
-        match frame
-            .borrowed()
-            .sample_into(self.alloc, config, &mut sample)
-        {
+        let mut sample: Sample<'p> = Sample::from_fields(SampleFields::default());
+        match frame.sample_into(self.alloc, config, &mut sample) {
             Ok(_) => {
                 let found = Found::Sample(&sample);
                 self.lines.add(&mut self.output, self.report, found)
@@ -166,13 +162,12 @@ impl<W: Write, E: Write> FramePrinter<W, E> {
     fn print_record<O: Endian>(
         &mut self,
         config: &ParseConfig<O>,
-        frame: Frame<'_, '_>,
+        frame: &Frame<'_, '_>,
     ) -> Result<(), Stopped>
         ensures { PrintsAnswer W.contents E.contents self.old (frame_answer
-            (configuration_of config.now) (O.order (endian_of config.now)) frame.entry) result
-            self.new }
+            (configuration_of config.now) (O.order (endian_of config.now)) frame.now) result self.new }
     {
-        match frame.borrowed().record(self.alloc, config) {
+        match frame.record(self.alloc, config) {
             Ok(record) => {
                 let found = Found::Record(&record);
                 self.lines.add(&mut self.output, self.report, found)
@@ -181,21 +176,21 @@ impl<W: Write, E: Write> FramePrinter<W, E> {
         }
     }
 
-    // Prints the line of a whole frame.
+    // Prints the line of a whole frame, whose bytes are borrowed for as long as it is shown.
     #[inline]
     fn print_frame<O: Endian>(
         &mut self,
         config: &ParseConfig<O>,
-        frame: Frame<'_, '_>,
+        frame: &Frame<'_, '_>,
     ) -> Result<(), Stopped>
         ensures { PrintsAnswer W.contents E.contents self.old (frame_answer
-            (configuration_of config.now) (O.order (endian_of config.now)) frame.entry) result
-            self.new }
+            (configuration_of config.now) (O.order (endian_of config.now)) frame.now) result self.new }
     {
-        if frame.header().type_ == PERF_RECORD_SAMPLE {
-            self.print_sample(config, frame)
+        let shown = frame.borrowed();
+        if shown.header().type_ == PERF_RECORD_SAMPLE {
+            self.print_sample(config, &shown)
         } else {
-            self.print_record(config, frame)
+            self.print_record(config, &shown)
         }
     }
 
@@ -211,7 +206,7 @@ impl<W: Write, E: Write> FramePrinter<W, E> {
             result self.new }
     {
         match frame {
-            Ok(frame) => self.print_frame(config, frame),
+            Ok(frame) => self.print_frame(config, &frame),
             Err(bad) => self.print_error(&bad.error()),
         }
     }

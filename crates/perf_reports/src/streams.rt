@@ -78,9 +78,10 @@ pub fn count_records<'p, B: ParseBuf<'p>, E: Endian>(
 {
     let mut counter = FrameCounter::new(alloc);
     let run = each_frame(parser, MOST_FRAMES, &mut counter);
+    let counts = counter.counts();
     let end = match run.end {
         Some(end) => end,
         None => counter.end(),
     };
-    (counter.counts(), end)
+    (counts, end)
 }

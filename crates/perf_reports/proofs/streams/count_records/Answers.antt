@@ -21,7 +21,7 @@ returns-clause-counts g c = λ told.
       | in-Some w ↦ subst (λ (x : Option RunEnd). IsRunEnd x now e) (sym w.in-Some.is) w.end-is
       | in-None w ↦ subst (λ (x : Option RunEnd). IsRunEnd x now e) (sym w.in-None.is) (subst (λ (x : RunEnd). EndsBy now.error x) (sym w.end-is) w.end-end.ensures.end)
     ] in
-    subst (λ (k : Counts). CountsRun old.settings old.order MOST_FRAMES old.source.left k e left) (sym (c.counts.ensures))
+    subst (λ (k : Counts). CountsRun old.settings old.order MOST_FRAMES old.source.left k e left) (sym c.counts-counts.ensures)
     (run_counts old MOST_FRAMES run.result.count run.result.end e c.new-counter.result now left c.new-counter.ensures (run.ensures.handed told) (run.ensures.end told) ended)
 
 pub returns-clause-buffer : goal.returns-clause-buffer
