@@ -35,7 +35,7 @@ agrees "version in the header" "$version" "$header" 's/^#define PED_RELEASE "\(.
 
 structs=$(sed -n 's/^STRUCT_VERSION = \([0-9]*\).*/\1/p' "$here/python/perf_event_data.py")
 agrees "structs in the header" "$structs" "$header" 's/^#define PED_VERSION \([0-9]*\).*/\1/p'
-agrees "structs in the library" "$structs" "$top/crates/perf_flat/src/flat_config.rt" \
+agrees "structs in the library" "$structs" "$top/crates/perf_flat/src/config.rt" \
     's/^pub const CONFIG_VERSION: u32 = \([0-9]*\);/\1/p'
 agrees "structs in Rust" "$structs" "$here/rust/src/ffi.rs" 's/.*const [A-Z_]*VERSION: u32 = \([0-9]*\);/\1/p'
 exit $status

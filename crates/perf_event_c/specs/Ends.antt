@@ -6,20 +6,20 @@ use Rattle.perf_records.specs.Frames.{frames, first_frames, drop_frames}
 use Rattle.perf_base.specs.declared.endian.Dynamic.{Dynamic}
 use Rattle.perf_base.specs.declared.error.ErrorKind.{ErrorKind}
 use Rattle.perf_base.specs.declared.sys.perf_event_attr.{perf_event_attr}
-use Rattle.perf_flat.specs.Configs.{flat_config_of}
-use Rattle.perf_flat.specs.Flat.{IsFlat, first_frame, kind_number}
+use Rattle.perf_flat.specs.FlatConfigs.{flat_config_of}
+use Rattle.perf_flat.specs.Flat.{IsFlat, first_frame, kind_code}
 use Rattle.perf_flat.specs.Many.{AreFlat, first_bytes, many_end}
-use Rattle.perf_flat.specs.Split.{split_frame, split_how, split_at, bytes_at, copied_to}
-use Rattle.perf_flat.specs.declared.flat_frame.FlatFrame.{FlatFrame}
-use Rattle.perf_flat.specs.declared.many.Ended.{Ended}
-use Rattle.perf_flat.specs.declared.split.SplitEnd.{SplitEnd}
-use Rattle.perf_event_c.specs.Configs.{settings_of, order_of_config}
-use Rattle.perf_flat.specs.declared.flat_config.FlatConfig.{FlatConfig}
+use Rattle.perf_flat.specs.Split.{split_frame, split_how, split_at, span_bytes, copied_to}
+use Rattle.perf_flat.specs.declared.frame.FlatFrame.{FlatFrame}
+use Rattle.perf_flat.specs.declared.read.Ended.{Ended}
+use Rattle.perf_flat.specs.declared.read.SplitEnd.{SplitEnd}
+use Rattle.perf_event_c.specs.CallerConfigs.{configuration_by, order_of_config}
+use Rattle.perf_flat.specs.declared.config.FlatConfig.{FlatConfig}
 
 -- The frame at the front of bytes is read: it states what its answer is.
 abbrev pub StatesFirst : FlatConfig → List ℕ → FlatFrame → Type 0
 StatesFirst c bytes f =
-    IsFlat (settings_of c) (order_of_config c) (first_frame (order_of_config c) bytes) f
+    IsFlat (configuration_by c) (order_of_config c) (first_frame (order_of_config c) bytes) f
 
 -- Several frames are read, as many as there is room for: the first frames of the bytes, each at its
 -- place, with nothing changed after them; how many they are, how many bytes they have, and how that
@@ -42,7 +42,7 @@ pub record ReadsSplit (s : Configuration) (o : Order) (first second : List ℕ)
   pub read : e.how ≡ 0 → IsFlat s o (split_frame o first second) new
   pub unread : e.how ≢ 0 → new ≡ old
   pub place : e.how ≡ 0 →
-      take (length (split_frame o first second)) (bytes_at e.at first second new_scratch) ≡
+      take (length (split_frame o first second)) (span_bytes e.at first second new_scratch) ≡
       split_frame o first second
   pub scratch : new_scratch ≡ copied_to e.at (split_frame o first second) old_scratch
 
@@ -53,7 +53,7 @@ abbrev pub ReadsAttribute : Dynamic → Result perf_event_attr ErrorKind → (re
 ReadsAttribute o (Ok a) result old new old_taken new_taken =
     (result ≡ 0) × (new ≡ flat_config_of a o) × (new_taken ≡ a.size)
 ReadsAttribute o (Err e) result old new old_taken new_taken =
-    (result ≡ kind_number e) × (new ≡ old) × (new_taken ≡ old_taken)
+    (result ≡ kind_code e) × (new ≡ old) × (new_taken ≡ old_taken)
 
 -- whether a number of C means yes
 abbrev pub is_yes : ℕ → Bool

@@ -1,2 +1,2 @@
-pub mod Configs
+pub mod CallerConfigs
 pub mod Ends

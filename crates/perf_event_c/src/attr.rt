@@ -3,34 +3,18 @@
 ghost use Rattle.std.specs.Prelude.{◌≡◌, ◌≤◌, true, false, length};
 ghost use Rattle.perf_base.specs.Attribute.{attribute};
 ghost use Rattle.perf_base.specs.Layout.{layout};
-ghost use Rattle.perf_flat.specs.Configs as plain;
-ghost use Rattle.perf_flat.specs.Flat as flat;
-ghost use Rattle.perf_event_c.specs.Configs as configs;
+ghost use Rattle.perf_flat.specs.FlatConfigs as plain;
+ghost use Rattle.perf_event_c.specs.CallerConfigs as configs;
 ghost use Rattle.perf_event_c.specs.Ends.{ReadsAttribute};
 
 use crate::order::order_by;
-use perf_base::ErrorKind;
 use perf_flat::attr::read_attr;
-use perf_flat::flat_config::FlatConfig;
+use perf_flat::config::FlatConfig;
+use perf_flat::refusals::kind_code;
 use std::alloc::Global;
 
 /// In place of the kind of a refusal: `order` is no byte order.
 pub const NO_ORDER: u32 = 3;
-
-// The kind of a refusal as a number.
-#[inline]
-fn kind_number(kind: ErrorKind) -> u32
-    ensures { result ≡ flat.kind_number kind }
-{
-    match kind {
-        ErrorKind::Eof => 1,
-        ErrorKind::InvalidRecord => 2,
-        ErrorKind::UnsupportedConfig => 3,
-        ErrorKind::UnsupportedData => 4,
-        ErrorKind::External => 5,
-        ErrorKind::OutOfMemory => 6,
-    }
-}
 
 /// Reads the attribute at the front of bytes, `struct perf_event_attr`: writes the configuration that
 /// it gives to `config` and its size in bytes to `taken`, and returns 0.
@@ -61,6 +45,6 @@ pub extern "C" fn ped_read_attr(
             *taken = size;
             0
         }
-        Err(refusal) => kind_number(refusal.kind()),
+        Err(refusal) => u32::from(kind_code(refusal.kind())),
     }
 }

@@ -1,14 +1,14 @@
 //! The record of a body alone.
 
 ghost use Rattle.std.specs.Prelude.{◌≡◌, ◌<◌, ◌≤◌, true, false, length};
-ghost use Rattle.perf_flat.specs.Bodies.{IsFlatBody, header_before};
-ghost use Rattle.perf_flat.specs.Configs.{is_known};
-ghost use Rattle.perf_event_c.specs.Configs as configs;
+ghost use Rattle.perf_flat.specs.FlatBodies.{IsFlatBody, header_before};
+ghost use Rattle.perf_flat.specs.FlatConfigs.{is_valid};
+ghost use Rattle.perf_event_c.specs.CallerConfigs as configs;
 
 use crate::ends::{LIMIT, LONG_BODY, NOT_READ};
-use perf_flat::body::read_body;
-use perf_flat::flat_config::FlatConfig;
-use perf_flat::flat_frame::FlatFrame;
+use perf_flat::config::FlatConfig;
+use perf_flat::frame::FlatFrame;
+use perf_flat::read::read_body;
 use std::alloc::Global;
 
 /// Reads the record of a type from its body, after its header and its sample id were taken off,
@@ -25,12 +25,12 @@ pub extern "C" fn ped_read_body(
     body: &[u8],
     frame: &mut FlatFrame,
 ) -> u32
-    ensures other { is_known config.now ≡ false →
+    ensures other { is_valid config.now ≡ false →
         (result ≡ NOT_READ) × (frame.new ≡ frame.old) }
-    ensures long { is_known config.now ≡ true → 65528 ≤ length body.now →
+    ensures long { is_valid config.now ≡ true → 65528 ≤ length body.now →
         (result ≡ LONG_BODY) × (frame.new ≡ frame.old) }
-    ensures frame { is_known config.now ≡ true → length body.now < 65528 →
-        (result ≡ LIMIT) × IsFlatBody (configs.settings_of config.now)
+    ensures frame { is_valid config.now ≡ true → length body.now < 65528 →
+        (result ≡ LIMIT) × IsFlatBody (configs.configuration_by config.now)
         (configs.order_of_config config.now) (header_before type_ misc body.now) body.now frame.new }
 {
     let Some(settings) = config.config() else {

@@ -3,12 +3,12 @@
 ghost use Rattle.std.specs.Prelude.{◌≡◌, ◌<◌, true, false};
 ghost use Rattle.perf_base.specs.Header.{header_of};
 ghost use Rattle.perf_records.specs.FrameNumbers.{IsIdentifierRead};
-ghost use Rattle.perf_flat.specs.Identifying as place;
-ghost use Rattle.perf_event_c.specs.Configs as configs;
+ghost use Rattle.perf_flat.specs.Identifiers as place;
+ghost use Rattle.perf_event_c.specs.CallerConfigs as configs;
 ghost use Rattle.perf_event_c.specs.Ends as ends;
 
 use crate::order::order_by;
-use perf_flat::identifier::identifier;
+use perf_flat::read::identifier;
 
 /// Writes the kernel's own number of the event that wrote the frame at the front of bytes to `id`,
 /// and returns 1. It is for use before the configuration of the frame is known, if all events have
@@ -24,7 +24,7 @@ pub extern "C" fn ped_identifier(bytes: &[u8], order: u32, sample_id_all: u32, i
         place.first_identifier (configs.order_numbered order) (ends.is_yes sample_id_all) bytes.now }
     ensures read { let o = configs.order_numbered order in configs.is_order order ≡ true →
         place.has_whole o bytes.now ≡ true →
-        place.has_identifier (ends.is_yes sample_id_all) (header_of o bytes.now).type_ ≡ true →
+        place.carries_identifier (ends.is_yes sample_id_all) (header_of o bytes.now).type_ ≡ true →
         IsIdentifierRead o (header_of o bytes.now) (place.first_rest o bytes.now)
         (ends.written result id.new) }
 {

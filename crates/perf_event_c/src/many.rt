@@ -1,14 +1,14 @@
 //! Several frames at once.
 
 ghost use Rattle.std.specs.Prelude.{◌≡◌, true, false};
-ghost use Rattle.perf_flat.specs.Configs.{is_known};
-ghost use Rattle.perf_event_c.specs.Configs as configs;
+ghost use Rattle.perf_flat.specs.FlatConfigs.{is_valid};
+ghost use Rattle.perf_event_c.specs.CallerConfigs as configs;
 ghost use Rattle.perf_event_c.specs.Ends.{ReadsMany};
 
 use crate::ends::NOT_READ;
-use perf_flat::flat_config::FlatConfig;
-use perf_flat::flat_frame::FlatFrame;
-use perf_flat::many::{Ended, read_many};
+use perf_flat::config::FlatConfig;
+use perf_flat::frame::FlatFrame;
+use perf_flat::read::{Ended, read_many};
 use std::alloc::Global;
 
 /// Writes the first frames of bytes to `frames`, as many as there is room for, and returns how many
@@ -22,10 +22,10 @@ pub extern "C" fn ped_read_many(
     bytes: &[u8],
     frames: &mut [FlatFrame],
 ) -> Ended
-    ensures other { is_known config.now ≡ false →
+    ensures other { is_valid config.now ≡ false →
         (result ≡ record { count = 0; taken = 0; how = NOT_READ }) × (frames.new ≡ frames.old) }
-    ensures frames { is_known config.now ≡ true →
-        ReadsMany (configs.settings_of config.now) (configs.order_of_config config.now) bytes.now
+    ensures frames { is_valid config.now ≡ true →
+        ReadsMany (configs.configuration_by config.now) (configs.order_of_config config.now) bytes.now
         frames.old frames.new result }
 {
     let Some(settings) = config.config() else {

@@ -1,8 +1,8 @@
 //! Byte orders as numbers.
 
 ghost use Rattle.std.specs.Prelude.{◌≡◌, true, false, MatchOption};
-ghost use Rattle.perf_flat.specs.Configs as flat;
-ghost use Rattle.perf_event_c.specs.Configs.{is_order};
+ghost use Rattle.perf_flat.specs.FlatConfigs as flat;
+ghost use Rattle.perf_event_c.specs.CallerConfigs.{is_order};
 
 use perf_base::endian::Dynamic;
 

@@ -1,12 +1,12 @@
 //! The frame at the front of bytes.
 
 ghost use Rattle.std.specs.Prelude.{◌≡◌, ◌<◌, ◌≤◌, true, false, length};
-ghost use Rattle.perf_flat.specs.Configs.{is_known};
+ghost use Rattle.perf_flat.specs.FlatConfigs.{is_valid};
 ghost use Rattle.perf_event_c.specs.Ends.{StatesFirst};
 
 use crate::ends::{CUT_HEADER, DONE, LIMIT, NOT_READ};
-use perf_flat::flat_config::FlatConfig;
-use perf_flat::flat_frame::FlatFrame;
+use perf_flat::config::FlatConfig;
+use perf_flat::frame::FlatFrame;
 use perf_flat::read::read_into;
 use std::alloc::Global;
 
@@ -22,13 +22,13 @@ pub extern "C" fn ped_read(
     bytes: &[u8],
     frame: &mut FlatFrame,
 ) -> u32
-    ensures other { is_known config.now ≡ false →
+    ensures other { is_valid config.now ≡ false →
         (result ≡ NOT_READ) × (frame.new ≡ frame.old) }
-    ensures done { is_known config.now ≡ true → length bytes.now ≡ 0 →
+    ensures done { is_valid config.now ≡ true → length bytes.now ≡ 0 →
         (result ≡ DONE) × (frame.new ≡ frame.old) }
-    ensures cut { is_known config.now ≡ true → 0 < length bytes.now → length bytes.now < 8 →
+    ensures cut { is_valid config.now ≡ true → 0 < length bytes.now → length bytes.now < 8 →
         (result ≡ CUT_HEADER) × (frame.new ≡ frame.old) }
-    ensures frame { is_known config.now ≡ true → 8 ≤ length bytes.now →
+    ensures frame { is_valid config.now ≡ true → 8 ≤ length bytes.now →
         (result ≡ LIMIT) × StatesFirst config.now bytes.now frame.new }
 {
     let Some(settings) = config.config() else {

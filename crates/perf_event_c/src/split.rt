@@ -1,14 +1,14 @@
 //! A frame in two pieces.
 
 ghost use Rattle.std.specs.Prelude.{◌≡◌, true, false};
-ghost use Rattle.perf_flat.specs.Configs.{is_known};
-ghost use Rattle.perf_event_c.specs.Configs as configs;
+ghost use Rattle.perf_flat.specs.FlatConfigs.{is_valid};
+ghost use Rattle.perf_event_c.specs.CallerConfigs as configs;
 ghost use Rattle.perf_event_c.specs.Ends.{ReadsSplit};
 
 use crate::ends::NOT_READ;
-use perf_flat::flat_config::FlatConfig;
-use perf_flat::flat_frame::FlatFrame;
-use perf_flat::split::{SplitEnd, read_split};
+use perf_flat::config::FlatConfig;
+use perf_flat::frame::FlatFrame;
+use perf_flat::read::{SplitEnd, read_split};
 use std::alloc::Global;
 
 /// Writes the frame at the front of two pieces to `frame`, as if the second followed the first in
@@ -25,11 +25,11 @@ pub extern "C" fn ped_read_split(
     scratch: &mut [u8],
     frame: &mut FlatFrame,
 ) -> SplitEnd
-    ensures other { is_known config.now ≡ false →
+    ensures other { is_valid config.now ≡ false →
         (result ≡ record { how = NOT_READ; at = 0 }) × (frame.new ≡ frame.old)
         × (scratch.new ≡ scratch.old) }
-    ensures frame { is_known config.now ≡ true →
-        ReadsSplit (configs.settings_of config.now) (configs.order_of_config config.now)
+    ensures frame { is_valid config.now ≡ true →
+        ReadsSplit (configs.configuration_by config.now) (configs.order_of_config config.now)
         first.now second.now scratch.old scratch.new frame.old frame.new result }
 {
     let Some(settings) = config.config() else {

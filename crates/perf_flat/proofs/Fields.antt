@@ -12,14 +12,14 @@ use Rattle.perf_base.specs.declared.error.ErrorKind.TheVariants.{InvalidRecord}
 use Rattle.perf_sample_types.specs.Sample.{FieldValue, number_is, task_is, numbers_are, bytes_are, plain, task, cpu, call_chain, raw, raw_padding, stack, sized_bytes, has_one}
 use Rattle.perf_sample_types.specs.SampleGetters.{numbers_in, bytes_in}
 use Rattle.perf_sample_types.proofs.FlaggedFields.{flag_asked}
-use Rattle.perf_flat.specs.Filled.{low_word, span}
-use Rattle.perf_flat.specs.Places.{IsBodyOf, left_of, Reads, ReadsFor, PassesNumbers}
-use Rattle.perf_flat.specs.SamplePlaces.{InFrames}
+use Rattle.perf_flat.specs.Arrays.{low_u32, span}
+use Rattle.perf_flat.specs.CursorReads.{IsBodyOf, left_of, ReadsParts, ReadsFor, PassesNumbers}
+use Rattle.perf_flat.specs.SampleReads.{InFrames}
 use Rattle.perf_flat.specs.Samples.{HasList, HasString}
 use Rattle.perf_flat.specs.Strings.{HasBytes, HasNumbers}
-use Rattle.perf_flat.specs.declared.flat_frame.Span.{Span}
-use Rattle.perf_flat.specs.declared.places.Places.{Places}
-use Rattle.perf_flat.proofs.Reading.{then_reads, all_read, Passed, passed_part, passed_there, passed_fits, still_fresh, refuses_not}
+use Rattle.perf_flat.specs.declared.frame.Span.{Span}
+use Rattle.perf_flat.specs.declared.cursor.BodyCursor.{BodyCursor}
+use Rattle.perf_flat.proofs.CursorRuns.{then_reads, all_read, Passed, passed_part, passed_there, passed_fits, still_fresh, refuses_not}
 
 -- ---- present or absent
 
@@ -27,40 +27,40 @@ use Rattle.perf_flat.proofs.Reading.{then_reads, all_read, Passed, passed_part, 
 pub flag_is : (bit : ℕ) {word type : ℕ} {result b : Bool} → word ≡ type → result ≡ (bit_and word (2 ^ bit) == 2 ^ bit) → result ≡ b → has_one type (bit ∷ []) ≡ b
 flag_is bit asked e is = flag_asked bit asked ∙ sym e ∙ is
 
-pub slot_there : {o : Order} {a b : Places} {v : FieldValue} (present : Bool) (p : Parts FieldValue) → present ≡ true → Reads o p v a b → Reads o (slot (present_if present p)) (Some v) a b
+pub slot_there : {o : Order} {a b : BodyCursor} {v : FieldValue} (present : Bool) (p : Parts FieldValue) → present ≡ true → ReadsParts o p v a b → ReadsParts o (slot (present_if present p)) (Some v) a b
 slot_there true p is reads = then_reads p (λ x. done (Some x)) reads all_read
 slot_there false p is reads = absurd (cc)
 
-pub slot_none : {o : Order} {a : Places} (present : Bool) (p : Parts FieldValue) → present ≡ false → Reads o (slot (present_if present p)) None a a
+pub slot_none : {o : Order} {a : BodyCursor} (present : Bool) (p : Parts FieldValue) → present ≡ false → ReadsParts o (slot (present_if present p)) None a a
 slot_none true p is = absurd (cc)
 slot_none false p is = all_read
 
-pub there_for : {o : Order} {a b : Places} (has : List ℕ → Option FieldValue → Type 0) (present : Bool) (p : Parts FieldValue) → present ≡ true →
+pub there_for : {o : Order} {a b : BodyCursor} (has : List ℕ → Option FieldValue → Type 0) (present : Bool) (p : Parts FieldValue) → present ≡ true →
     ReadsFor o p (λ v. InFrames a.bytes.now (λ frame. has frame (Some v))) a b → ReadsFor o (slot (present_if present p)) (λ v. InFrames a.bytes.now (λ frame. has frame v)) a b
 there_for has present p is read = record { value = Some read.value; reads = slot_there present p is read.reads; holds = read.holds }
 
-pub none_for : {o : Order} {a : Places} (has : List ℕ → Option FieldValue → Type 0) (present : Bool) (p : Parts FieldValue) → present ≡ false → ((frame : List ℕ) → has frame None) →
+pub none_for : {o : Order} {a : BodyCursor} (has : List ℕ → Option FieldValue → Type 0) (present : Bool) (p : Parts FieldValue) → present ≡ false → ((frame : List ℕ) → has frame None) →
     ReadsFor o (slot (present_if present p)) (λ v. InFrames a.bytes.now (λ frame. has frame v)) a a
 none_for has present p is none = record { value = None; reads = slot_none present p is; holds = λ ok frame body. none frame }
 
 -- ---- numbers
 
-pub plain_read : {o : Order} {a b : Places} {n : ℕ} → Reads o u64 n a b → Reads o plain (number_is n) a b
+pub plain_read : {o : Order} {a b : BodyCursor} {n : ℕ} → ReadsParts o u64 n a b → ReadsParts o plain (number_is n) a b
 plain_read one = then_reads u64 (λ n. done (number_is n)) one all_read
 
-pub task_read : {o : Order} {a b d : Places} {pid tid : ℕ} → Reads o u32 pid a b → Reads o u32 tid b d → Reads o task (task_is (Some pid) (Some tid)) a d
+pub task_read : {o : Order} {a b d : BodyCursor} {pid tid : ℕ} → ReadsParts o u32 pid a b → ReadsParts o u32 tid b d → ReadsParts o task (task_is (Some pid) (Some tid)) a d
 task_read {o} {a} {b} {d} {pid} {tid} one two = then_reads u32 (λ pid. u32 >>= λ tid. done (task_is (Some pid) (Some tid))) one (then_reads u32 (λ tid. done (task_is (Some pid) (Some tid))) two all_read)
 
 -- unused bytes
-pub passed_over : (o : Order) (n : ℕ) (a b : Places) (s : Span) → a.at ≤ length a.bytes.now → Passed n a s b → Reads {A = Unit {0}} o (gap n) tt a b
+pub passed_over : (o : Order) (n : ℕ) (a b : BodyCursor) (s : Span) → a.at ≤ length a.bytes.now → Passed n a s b → ReadsParts {A = Unit {0}} o (gap n) tt a b
 passed_over o n a b s within passed = passed_part o (padding n) n a b s refl within passed
 
-pub cpu_read : {o : Order} {a b d : Places} {number : ℕ} → Reads o u32 number a b → Reads {A = Unit {0}} o (gap 4) tt b d → Reads o cpu (number_is number) a d
+pub cpu_read : {o : Order} {a b d : BodyCursor} {number : ℕ} → ReadsParts o u32 number a b → ReadsParts {A = Unit {0}} o (gap 4) tt b d → ReadsParts o cpu (number_is number) a d
 cpu_read {o} {a} {b} {d} {number} one two = then_reads u32 (λ number. gap 4 >>= λ _. done (number_is number)) one (then_reads (gap 4) (λ _. done (number_is number)) two all_read)
 
 -- ---- lists
 
-pub chain_read : (o : Order) (count : ℕ) (a b d : Places) (s : Span) → Reads o u64 count a b → PassesNumbers o count b s d →
+pub chain_read : (o : Order) (count : ℕ) (a b d : BodyCursor) (s : Span) → ReadsParts o u64 count a b → PassesNumbers o count b s d →
     ReadsFor o call_chain (λ v. InFrames a.bytes.now (λ frame. HasList o frame s (numbers_in (Some v)))) a d
 chain_read o count a b d s one list = record {
   value = numbers_are list.value;
@@ -71,13 +71,13 @@ chain_read o count a b d s one list = record {
 }
 
 -- n bytes were passed over, and they are at the span in each frame of the body
-pub record PassesBytes (o : Order) (n : ℕ) (a : Places) (s : Span) (b : Places) : Type 0 where
+pub record PassesBytes (o : Order) (n : ℕ) (a : BodyCursor) (s : Span) (b : BodyCursor) : Type 0 where
   pub contents : List ℕ
-  pub reads : Reads o (bytes n) contents a b
+  pub reads : ReadsParts o (bytes n) contents a b
   pub long : b.refusal ≡ None → length contents ≡ n
   pub there : b.refusal ≡ None → InFrames a.bytes.now (λ frame. HasBytes frame s contents)
 
-pub passed_bytes : (o : Order) (n : ℕ) (a b : Places) (s : Span) → a.at ≤ length a.bytes.now → Passed n a s b → PassesBytes o n a s b
+pub passed_bytes : (o : Order) (n : ℕ) (a b : BodyCursor) (s : Span) → a.at ≤ length a.bytes.now → Passed n a s b → PassesBytes o n a s b
 passed_bytes o n a b s within passed = record {
   contents = take n (left_of a);
   reads = passed_part o (byte_string n) n a b s refl within passed;
@@ -85,7 +85,7 @@ passed_bytes o n a b s within passed = record {
   there = λ ok frame is. passed_there n a b s within passed ok frame is;
 }
 
-pub sized_read : (o : Order) (size : ℕ) (a b d : Places) (s : Span) → Reads o u64 size a b → PassesBytes o size b s d →
+pub sized_read : (o : Order) (size : ℕ) (a b d : BodyCursor) (s : Span) → ReadsParts o u64 size a b → PassesBytes o size b s d →
     ReadsFor o sized_bytes (λ v. InFrames a.bytes.now (λ frame. HasString frame s (bytes_in (Some v)))) a d
 sized_read o size a b d s one list = record {
   value = bytes_are list.contents;
@@ -93,7 +93,7 @@ sized_read o size a b d s one list = record {
   holds = λ ok frame is. list.there ok frame (subst (IsBodyOf frame) (sym one.bytes) is);
 }
 
-pub raw_read : (o : Order) (len : ℕ) (a b d e : Places) (s : Span) → Reads o u32 len a b → PassesBytes o len b s d → Reads {A = Unit {0}} o (gap (raw_padding len)) tt d e →
+pub raw_read : (o : Order) (len : ℕ) (a b d e : BodyCursor) (s : Span) → ReadsParts o u32 len a b → PassesBytes o len b s d → ReadsParts {A = Unit {0}} o (gap (raw_padding len)) tt d e →
     ReadsFor o raw (λ v. InFrames a.bytes.now (λ frame. HasString frame s (bytes_in (Some v)))) a e
 raw_read o len a b d e s one list rest = record {
   value = bytes_are list.contents;
@@ -103,20 +103,20 @@ raw_read o len a b d e s one list rest = record {
 }
 
 -- the used part of a stack
-used_there : (frame contents : List ℕ) (s : Span) (used : ℕ) → length frame < 2 ^ 32 → used ≤ length contents → HasBytes frame s contents → HasBytes frame (span s.at (low_word used)) (take used contents)
+used_there : (frame contents : List ℕ) (s : Span) (used : ℕ) → length frame < 2 ^ 32 → used ≤ length contents → HasBytes frame s contents → HasBytes frame (span s.at (low_u32 used)) (take used contents)
 used_there frame contents s used short fits has =
     let inside : s.at + s.len ≤ length frame = has.inside in
     let left : length (drop s.at frame) ≡ length frame - s.at = length-drop s.at frame in
     let long : length contents ≡ s.len = sym (ap length has.there) ∙ length-take-le s.len (drop s.at frame) (omega arith) in
-    let small : low_word used ≡ used = omega arith in
+    let small : low_u32 used ≡ used = omega arith in
     record {
       inside = omega arith;
       there = ap (λ n. take n (drop s.at frame)) small ∙ sym (take-take used s.len (drop s.at frame) (omega arith)) ∙ ap (take used) has.there;
     }
 
-pub stack_read : (o : Order) (size : ℕ) (used : Option ℕ) (a b d e f : Places) (s : Span) → Reads o u64 size a b → PassesBytes o size b s d →
-    Reads o (part (optional (nat_lt 0 size) w8) done) used d e → Reads {A = Unit {0}} o (require (nat_le (unwrap_or used 0) size) InvalidRecord) tt e f →
-    ReadsFor o stack (λ v. InFrames a.bytes.now (λ frame. HasString frame (span s.at (low_word (unwrap_or used 0))) (bytes_in (Some v)))) a f
+pub stack_read : (o : Order) (size : ℕ) (used : Option ℕ) (a b d e f : BodyCursor) (s : Span) → ReadsParts o u64 size a b → PassesBytes o size b s d →
+    ReadsParts o (part (optional (nat_lt 0 size) w8) done) used d e → ReadsParts {A = Unit {0}} o (require (nat_le (unwrap_or used 0) size) InvalidRecord) tt e f →
+    ReadsFor o stack (λ v. InFrames a.bytes.now (λ frame. HasString frame (span s.at (low_u32 (unwrap_or used 0))) (bytes_in (Some v)))) a f
 stack_read o size used a b d e f s one list two three =
     let end : List ℕ → Option ℕ → Parts FieldValue = λ xs used. done (bytes_are (take (unwrap_or used 0) xs)) in
     let after : List ℕ → Option ℕ → Parts FieldValue = λ xs used. require (nat_le (unwrap_or used 0) size) InvalidRecord >>= λ _. end xs used in

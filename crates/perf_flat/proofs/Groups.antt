@@ -6,18 +6,18 @@ use Rattle.perf_base.specs.Order.{Order}
 use Rattle.perf_base.specs.Table.{present_if, slot, table}
 use Rattle.perf_sample_types.specs.Sample.{FieldValue, SampleValue, plain, has_one}
 use Rattle.perf_sample_types.proofs.FlaggedFields.{flag_asked}
-use Rattle.perf_flat.specs.Places.{Reads, ReadsFor}
-use Rattle.perf_flat.specs.SamplePlaces.{ReadsFields}
-use Rattle.perf_flat.specs.declared.places.Places.{Places}
-use Rattle.perf_flat.proofs.Reading.{then_reads, all_read, still_fresh}
+use Rattle.perf_flat.specs.CursorReads.{ReadsParts, ReadsFor}
+use Rattle.perf_flat.specs.SampleReads.{ReadsFields}
+use Rattle.perf_flat.specs.declared.cursor.BodyCursor.{BodyCursor}
+use Rattle.perf_flat.proofs.CursorRuns.{then_reads, all_read, still_fresh}
 
 -- no field is left
-pub none_left : {o : Order} {a : Places} → ReadsFields o [] [] a a
+pub none_left : {o : Order} {a : BodyCursor} → ReadsFields o [] [] a a
 none_left = record { chain = λ others rest end reads. reads; bytes = refl; fresh = λ ok. ok }
 
 -- a field, and then those after it
-pub next_field : {o : Order} {field : Option (Parts FieldValue)} {fields : List (Option (Parts FieldValue))} {v : Option FieldValue} {vs : SampleValue} {a b d : Places} →
-    Reads o (slot field) v a b → ReadsFields o fields vs b d → ReadsFields o (field ∷ fields) (v ∷ vs) a d
+pub next_field : {o : Order} {field : Option (Parts FieldValue)} {fields : List (Option (Parts FieldValue))} {v : Option FieldValue} {vs : SampleValue} {a b d : BodyCursor} →
+    ReadsParts o (slot field) v a b → ReadsFields o fields vs b d → ReadsFields o (field ∷ fields) (v ∷ vs) a d
 next_field {o} {field} {fields} {v} {vs} {a} {b} {d} first next = record {
   chain = λ others rest end reads.
       then_reads (slot field) (λ v. table (fields ++ others) >>= λ vs. done (v ∷ vs)) first
@@ -27,10 +27,10 @@ next_field {o} {field} {fields} {v} {vs} {a} {b} {d} first next = record {
 }
 
 -- a field of one flag
-pub flag_field : {o : Order} {v : Option FieldValue} {a b : Places} (bit : ℕ) {word type : ℕ} → word ≡ type →
-    Reads o (slot (present_if (bit_and word (2 ^ bit) == 2 ^ bit) plain)) v a b → Reads o (slot (present_if (has_one type (bit ∷ [])) plain)) v a b
-flag_field {o} {v} {a} {b} bit asked reads = subst (λ t. Reads o (slot (present_if t plain)) v a b) (sym (flag_asked bit asked)) reads
+pub flag_field : {o : Order} {v : Option FieldValue} {a b : BodyCursor} (bit : ℕ) {word type : ℕ} → word ≡ type →
+    ReadsParts o (slot (present_if (bit_and word (2 ^ bit) == 2 ^ bit) plain)) v a b → ReadsParts o (slot (present_if (has_one type (bit ∷ [])) plain)) v a b
+flag_field {o} {v} {a} {b} bit asked reads = subst (λ t. ReadsParts o (slot (present_if t plain)) v a b) (sym (flag_asked bit asked)) reads
 
 -- a field by its test
-pub tested : {o : Order} {is : Option FieldValue → Type 0} {a b : Places} {t u : Bool} (p : Parts FieldValue) → t ≡ u → ReadsFor o (slot (present_if t p)) is a b → ReadsFor o (slot (present_if u p)) is a b
+pub tested : {o : Order} {is : Option FieldValue → Type 0} {a b : BodyCursor} {t u : Bool} (p : Parts FieldValue) → t ≡ u → ReadsFor o (slot (present_if t p)) is a b → ReadsFor o (slot (present_if u p)) is a b
 tested {o} {is} {a} {b} p same reads = subst (λ t. ReadsFor o (slot (present_if t p)) is a b) same reads

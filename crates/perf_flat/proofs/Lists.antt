@@ -22,43 +22,43 @@ use Rattle.perf_types.specs.ReadValue.{SingleRead, read_value}
 use Rattle.perf_sample_types.specs.Branches.{branches_of}
 use Rattle.perf_sample_types.specs.Registers.{register_count}
 use Rattle.perf_sample_types.specs.Sample.{FieldValue, group_is, branches_are, registers_are, values, branch_stack, registers}
-use Rattle.perf_flat.specs.BodyPlaces.{counter_read}
-use Rattle.perf_flat.specs.Filled.{no_span}
-use Rattle.perf_flat.specs.Numbers.{or_zero}
-use Rattle.perf_flat.specs.Places.{IsBodyOf, Reads, ReadsFor, PassesNumbers}
-use Rattle.perf_flat.specs.SamplePlaces.{IsCounters, IsBranches, IsRegisters, counters_numbers}
-use Rattle.perf_flat.specs.Samples.{HasBranches, HasEntries, HasEntriesIf, entry_numbers}
+use Rattle.perf_flat.specs.BodyReads.{counter_read}
+use Rattle.perf_flat.specs.Arrays.{no_span}
+use Rattle.perf_base.specs.Attribute.{or_zero}
+use Rattle.perf_flat.specs.CursorReads.{IsBodyOf, ReadsParts, ReadsFor, PassesNumbers}
+use Rattle.perf_flat.specs.SampleReads.{IsCounters, IsBranches, IsRegisters, counters_numbers}
+use Rattle.perf_flat.specs.Samples.{HasBranches, HasEntries, HasEntriesIf, group_entry_numbers}
 use Rattle.perf_flat.specs.Strings.{HasNumbers}
-use Rattle.perf_flat.specs.declared.flat_frame.Span.{Span}
-use Rattle.perf_flat.specs.declared.places.Places.{Places}
-use Rattle.perf_flat.specs.declared.sample_lists.Branches.{Branches}
-use Rattle.perf_flat.specs.declared.sample_lists.Counters.{Counters}
-use Rattle.perf_flat.specs.declared.sample_lists.Registers.{Registers}
+use Rattle.perf_flat.specs.declared.frame.Span.{Span}
+use Rattle.perf_flat.specs.declared.cursor.BodyCursor.{BodyCursor}
+use Rattle.perf_flat.specs.declared.sample.Branches.{Branches}
+use Rattle.perf_flat.specs.declared.sample.Counters.{Counters}
+use Rattle.perf_flat.specs.declared.sample.Registers.{Registers}
 use Rattle.perf_flat.proofs.Fields.{slot_there, slot_none}
-use Rattle.perf_flat.proofs.Reading.{then_reads, all_read, checked, absurd_of}
+use Rattle.perf_flat.proofs.CursorRuns.{then_reads, all_read, checked, absurd_of}
 
 -- ---- present or absent
 
-pub there_is : {o : Order} {a b : Places} (is : Option FieldValue → Type 0) (present : Bool) (p : Parts FieldValue) → present ≡ true →
+pub there_is : {o : Order} {a b : BodyCursor} (is : Option FieldValue → Type 0) (present : Bool) (p : Parts FieldValue) → present ≡ true →
     ReadsFor o p (λ v. is (Some v)) a b → ReadsFor o (slot (present_if present p)) is a b
 there_is is present p there read = record { value = Some read.value; reads = slot_there present p there read.reads; holds = read.holds }
 
-pub none_is : {o : Order} {a : Places} (is : Option FieldValue → Type 0) (present : Bool) (p : Parts FieldValue) → present ≡ false → is None → ReadsFor o (slot (present_if present p)) is a a
+pub none_is : {o : Order} {a : BodyCursor} (is : Option FieldValue → Type 0) (present : Bool) (p : Parts FieldValue) → present ≡ false → is None → ReadsFor o (slot (present_if present p)) is a a
 none_is is present p absent none = record { value = None; reads = slot_none present p absent; holds = λ ok. none }
 
 -- the same value, in another form
-pub mapped_is : {A B : Type 0} {o : Order} {a b : Places} (f : A → B) (is : B → Type 0) (p : Parts A) → ReadsFor o p (λ v. is (f v)) a b → ReadsFor o (map_parts f p) is a b
+pub mapped_is : {A B : Type 0} {o : Order} {a b : BodyCursor} (f : A → B) (is : B → Type 0) (p : Parts A) → ReadsFor o p (λ v. is (f v)) a b → ReadsFor o (map_parts f p) is a b
 mapped_is f is p read = record { value = f read.value; reads = then_reads p (λ v. done (f v)) read.reads all_read; holds = read.holds }
 
 -- ---- registers
 
-pub registers_read : (o : Order) (mask abi count : ℕ) (a b d : Places) (s : Span) (made : Registers) → count ≡ register_count mask abi → made.abi ≡ abi → made.regs ≡ s →
-    Reads o u64 abi a b → PassesNumbers o count b s d → ReadsFor o (registers mask) (λ v. IsRegisters o a.bytes.now (Some v) made) a d
+pub registers_read : (o : Order) (mask abi count : ℕ) (a b d : BodyCursor) (s : Span) (made : Registers) → count ≡ register_count mask abi → made.abi ≡ abi → made.regs ≡ s →
+    ReadsParts o u64 abi a b → PassesNumbers o count b s d → ReadsFor o (registers mask) (λ v. IsRegisters o a.bytes.now (Some v) made) a d
 unfolding registers
 registers_read o mask abi count a b d s made many kind at one list = record {
   value = registers_are (record { abi = abi; mask = mask; regs = list.value });
   reads = then_reads u64 (λ abi. numbers (register_count mask abi) >>= λ regs. done (registers_are (record { abi = abi; mask = mask; regs = regs }))) one
-      (then_reads (numbers (register_count mask abi)) (λ regs. done (registers_are (record { abi = abi; mask = mask; regs = regs }))) (subst (λ n. Reads o (numbers n) list.value b d) many list.reads) all_read);
+      (then_reads (numbers (register_count mask abi)) (λ regs. done (registers_are (record { abi = abi; mask = mask; regs = regs }))) (subst (λ n. ReadsParts o (numbers n) list.value b d) many list.reads) all_read);
   holds = λ ok. record {
     abi = kind;
     regs = λ frame is.
@@ -84,8 +84,8 @@ branches_long (suc n) (x ∷ y ∷ z ∷ xs) e = ap suc (branches_long n xs (ome
 branches_counted : (count : ℕ) (xs : List ℕ) → length xs ≡ 3 * count → length (branches_of xs) ≡ count
 branches_counted count xs e = branches_long count xs (omega arith)
 
-pub branches_read : (o : Order) (c : Configuration) (count : ℕ) (hw : Option ℕ) (a b d e : Places) (s : Span) (made : Branches) → made.hw_index ≡ hw → made.entries ≡ s →
-    Reads o u64 count a b → Reads o (u64_if c.branch_hw_index) hw b d → PassesNumbers o (3 * count) d s e → ReadsFor o (branch_stack c) (λ v. IsBranches o a.bytes.now (Some v) made) a e
+pub branches_read : (o : Order) (c : Configuration) (count : ℕ) (hw : Option ℕ) (a b d e : BodyCursor) (s : Span) (made : Branches) → made.hw_index ≡ hw → made.entries ≡ s →
+    ReadsParts o u64 count a b → ReadsParts o (u64_if c.branch_hw_index) hw b d → PassesNumbers o (3 * count) d s e → ReadsFor o (branch_stack c) (λ v. IsBranches o a.bytes.now (Some v) made) a e
 unfolding branch_stack
 branches_read o c count hw a b d e s made index at one two list = record {
   value = branches_are hw (Some (branches_of list.value));
@@ -114,7 +114,7 @@ no_branches o body made index at = record { hw_index = index; entries = λ frame
 -- ---- counters
 
 -- a check that holds reads nothing
-pub holds_read : {o : Order} {a : Places} {kind : ErrorKind} (t : Bool) → t ≡ true → Reads {A = Unit {0}} o (require t kind) tt a a
+pub holds_read : {o : Order} {a : BodyCursor} {kind : ErrorKind} (t : Bool) → t ≡ true → ReadsParts {A = Unit {0}} o (require t kind) tt a a
 holds_read {o} {a} {kind} true is = checked true (Kept kind) refl (λ _. refl) (λ _. refl) (λ other. absurd_of true refl other)
 holds_read false is = absurd (cc)
 
@@ -122,10 +122,10 @@ holds_read false is = absurd (cc)
 abbrev single : ℕ → (te tr id lost : Option ℕ) → SingleRead
 single value te tr id lost = record { value = value; time_enabled = te; time_running = tr; id = id; lost = lost }
 
-pub single_read : (o : Order) (c : Configuration) (value : ℕ) (te tr id lost : Option ℕ) (a b d e f g h i : Places) →
-    Reads {A = Unit {0}} o (require (not (has_group c.read_format)) UnsupportedConfig) tt a b → Reads {A = Unit {0}} o (require (is_known c.read_format) UnsupportedConfig) tt b d → Reads o u64 value d e →
-    Reads o (u64_if (has_time_enabled c.read_format)) te e f → Reads o (u64_if (has_time_running c.read_format)) tr f g → Reads o (u64_if (has_id c.read_format)) id g h → Reads o (u64_if (has_lost c.read_format)) lost h i →
-    Reads o (read_value c) (single value te tr id lost) a i
+pub single_read : (o : Order) (c : Configuration) (value : ℕ) (te tr id lost : Option ℕ) (a b d e f g h i : BodyCursor) →
+    ReadsParts {A = Unit {0}} o (require (not (has_group c.read_format)) UnsupportedConfig) tt a b → ReadsParts {A = Unit {0}} o (require (is_known c.read_format) UnsupportedConfig) tt b d → ReadsParts o u64 value d e →
+    ReadsParts o (u64_if (has_time_enabled c.read_format)) te e f → ReadsParts o (u64_if (has_time_running c.read_format)) tr f g → ReadsParts o (u64_if (has_id c.read_format)) id g h → ReadsParts o (u64_if (has_lost c.read_format)) lost h i →
+    ReadsParts o (read_value c) (single value te tr id lost) a i
 single_read o c value te tr id lost a b d e f g h i alone known one two three four five =
     let r : ℕ = c.read_format in
     let last : ℕ → Option ℕ → Option ℕ → Option ℕ → Parts SingleRead = λ v te tr id. u64_if (has_lost r) >>= λ lost. done (single v te tr id lost) in
@@ -143,7 +143,7 @@ pub single_counters : (o : Order) (c : Configuration) (body : List ℕ) (made : 
     IsCounters c.read_format o body (Some (group_is (group_of (counter_read made)))) made
 single_counters o c body made alone many at = record {
   numbers = ap (λ n. or_zero made.time_enabled ∷ or_zero made.time_running ∷ n ∷ made.value ∷ or_zero made.id ∷ or_zero made.lost ∷ []) many
-      ∙ ap (λ (g : Bool). or_zero made.time_enabled ∷ or_zero made.time_running ∷ 1 ∷ entry_numbers (if g then None else Some (record { value = made.value; id = made.id; lost = made.lost }))) (sym alone);
+      ∙ ap (λ (g : Bool). or_zero made.time_enabled ∷ or_zero made.time_running ∷ 1 ∷ group_entry_numbers (if g then None else Some (record { value = made.value; id = made.id; lost = made.lost }))) (sym alone);
   entries = λ frame is. subst (λ g. HasEntriesIf g o frame made.entries (group_of (counter_read made))) (sym alone) at;
 }
 
@@ -174,10 +174,10 @@ grouped c te tr words = record {
   entries = all_entries (has_id c.read_format) (has_lost c.read_format) words;
 }
 
-pub group_read : (o : Order) (c : Configuration) (count : ℕ) (te tr : Option ℕ) (a b d e f g h : Places) (s : Span) (made : Counters) → has_group c.read_format ≡ true →
+pub group_read : (o : Order) (c : Configuration) (count : ℕ) (te tr : Option ℕ) (a b d e f g h : BodyCursor) (s : Span) (made : Counters) → has_group c.read_format ≡ true →
     counters_numbers made ≡ or_zero te ∷ or_zero tr ∷ count ∷ 0 ∷ 0 ∷ 0 ∷ [] → made.entries ≡ s →
-    Reads {A = Unit {0}} o (require (is_known c.read_format) UnsupportedConfig) tt a b → Reads o u64 count b d → Reads o (u64_if (has_time_enabled c.read_format)) te d e →
-    Reads o (u64_if (has_time_running c.read_format)) tr e f → Reads {A = Unit {0}} o (require (nat_lt (count * element_len c.read_format) (2 ^ 64)) InvalidRecord) tt f g →
+    ReadsParts {A = Unit {0}} o (require (is_known c.read_format) UnsupportedConfig) tt a b → ReadsParts o u64 count b d → ReadsParts o (u64_if (has_time_enabled c.read_format)) te d e →
+    ReadsParts o (u64_if (has_time_running c.read_format)) tr e f → ReadsParts {A = Unit {0}} o (require (nat_lt (count * element_len c.read_format) (2 ^ 64)) InvalidRecord) tt f g →
     PassesNumbers o (count * element_len c.read_format) g s h → ReadsFor o (read_group c) (λ group. IsCounters c.read_format o a.bytes.now (Some (group_is group)) made) a h
 group_read o c count te tr a b d e f g h s made many numbers_are at known one two three fits list =
     let r : ℕ = c.read_format in
@@ -199,8 +199,8 @@ group_read o c count te tr a b d e f g h s made many numbers_are at known one tw
           let same = one.bytes ∙ known.bytes in
           let front = fits.bytes ∙ three.bytes ∙ two.bytes ∙ same in
           record {
-            numbers = numbers_are ∙ ap (λ n. or_zero te ∷ or_zero tr ∷ n ∷ entry_numbers None) (sym long)
-                ∙ ap (λ (g : Bool). or_zero te ∷ or_zero tr ∷ length (all_entries (has_id r) (has_lost r) list.value) ∷ entry_numbers (if g then None else only_entry (all_entries (has_id r) (has_lost r) list.value))) (sym many);
+            numbers = numbers_are ∙ ap (λ n. or_zero te ∷ or_zero tr ∷ n ∷ group_entry_numbers None) (sym long)
+                ∙ ap (λ (g : Bool). or_zero te ∷ or_zero tr ∷ length (all_entries (has_id r) (has_lost r) list.value) ∷ group_entry_numbers (if g then None else only_entry (all_entries (has_id r) (has_lost r) list.value))) (sym many);
             entries = λ frame is.
                 let there = has.1 frame (subst (IsBodyOf frame) (sym front) is) in
                 subst (λ g. HasEntriesIf g o frame made.entries (grouped c te tr list.value)) (sym many)
@@ -219,7 +219,7 @@ pub no_counters : (c : Configuration) (o : Order) (body : List ℕ) (made : Coun
 no_counters c o body made numbers at = record { numbers = numbers; entries = λ frame is. at }
 
 -- what is read of counters, by whether they are a group
-pub values_alone : (o : Order) (c : Configuration) (a b : Places) (made : Counters) → has_group c.read_format ≡ false →
+pub values_alone : (o : Order) (c : Configuration) (a b : BodyCursor) (made : Counters) → has_group c.read_format ≡ false →
     ReadsFor o (read_value c) (λ one. IsCounters c.read_format o a.bytes.now (Some (group_is (group_of one))) made) a b → ReadsFor o (values c) (λ v. IsCounters c.read_format o a.bytes.now (Some v) made) a b
 unfolding values
 values_alone o c a b made alone read = go (has_group c.read_format) alone
@@ -228,7 +228,7 @@ values_alone o c a b made alone read = go (has_group c.read_format) alone
     go true is = absurd (cc)
     go false is = mapped_is (λ one. group_is (group_of one)) (λ v. IsCounters c.read_format o a.bytes.now (Some v) made) (read_value c) read
 
-pub values_grouped : (o : Order) (c : Configuration) (a b : Places) (made : Counters) → has_group c.read_format ≡ true →
+pub values_grouped : (o : Order) (c : Configuration) (a b : BodyCursor) (made : Counters) → has_group c.read_format ≡ true →
     ReadsFor o (read_group c) (λ group. IsCounters c.read_format o a.bytes.now (Some (group_is group)) made) a b → ReadsFor o (values c) (λ v. IsCounters c.read_format o a.bytes.now (Some v) made) a b
 unfolding values
 values_grouped o c a b made many read = go (has_group c.read_format) many
@@ -256,5 +256,5 @@ few_numbers read_format = go (has_bit read_format 2) (has_bit read_format 4)
     go false false = omega arith
 
 -- a number by the flag of a read format
-pub format_is : {o : Order} {a b : Places} {n : Option ℕ} {word format : ℕ} (bit : ℕ) → word ≡ format → Reads o (u64_if (bit_and word (2 ^ bit) == 2 ^ bit)) n a b → Reads o (u64_if (has_bit format bit)) n a b
-format_is {o} {a} {b} {n} {word} {format} bit asked read = subst (λ t. Reads o (u64_if t) n a b) (contains_bit word bit ∙ ap (λ w. has_bit w bit) asked) read
+pub format_is : {o : Order} {a b : BodyCursor} {n : Option ℕ} {word format : ℕ} (bit : ℕ) → word ≡ format → ReadsParts o (u64_if (bit_and word (2 ^ bit) == 2 ^ bit)) n a b → ReadsParts o (u64_if (has_bit format bit)) n a b
+format_is {o} {a} {b} {n} {word} {format} bit asked read = subst (λ t. ReadsParts o (u64_if t) n a b) (contains_bit word bit ∙ ap (λ w. has_bit w bit) asked) read

@@ -8,9 +8,9 @@ use Rattle.perf_base.specs.Order.{Order}
 use Rattle.perf_sample_types.specs.SampleId.{SampleIdValue, one_if, no_sample_id, sample_id_fields, sample_id_flags, has_tid, has_time, has_id, has_stream_id, has_cpu, has_identifier}
 use Rattle.perf_records.specs.FrameNumbers.{eight_at, bytes_of, first_half, second_half, task_field, time_field, id_field, cpu_field, identifier_field}
 use Rattle.perf_records.proofs.IdNumbers.{there, id_pid, id_tid, id_time, id_id, id_cpu}
-use Rattle.perf_flat.specs.SampleIds.{TakesLast, TakesId, EndsWith}
-use Rattle.perf_flat.specs.declared.sample_ids.FrameEnd.{FrameEnd}
-use Rattle.perf_flat.specs.declared.sample_ids.LastField.{LastField}
+use Rattle.perf_flat.specs.SampleIds.{TakesLast, TakesId, EndsWithId}
+use Rattle.perf_flat.specs.declared.sample_id.FrameEnd.{FrameEnd}
+use Rattle.perf_flat.specs.declared.sample_id.LastField.{LastField}
 
 -- ---- fields that are taken off one after another
 
@@ -138,14 +138,14 @@ id_taken {bytes} {identifier} {cpu} {stream_id} {id} {time} {task} {pid_is} {tid
     }
 
 -- there are too few bytes
-pub ends_short : (o : Order) (n : ℕ) (parts : Parts SampleIdValue) (bytes : List ℕ) {result : Option FrameEnd} → result ≡ None → length bytes < n → EndsWith o n parts bytes result
-ends_short o n parts bytes is short = subst (λ r. EndsWith o n parts bytes r) (sym is) short
+pub ends_short : (o : Order) (n : ℕ) (parts : Parts SampleIdValue) (bytes : List ℕ) {result : Option FrameEnd} → result ≡ None → length bytes < n → EndsWithId o n parts bytes result
+ends_short o n parts bytes is short = subst (λ r. EndsWithId o n parts bytes r) (sym is) short
 
 -- ---- by the type of the frame
 
 -- a frame that has one
-pub type_there : (o : Order) (t : ℕ) (bytes : List ℕ) (result : Option FrameEnd) (carries all : Bool) → carries ≡ true → all ≡ true → EndsWith o (8 * sample_id_flags t) (sample_id_fields t) bytes result →
-    EndsWith o (if carries then (if all then 8 * sample_id_flags t else 0) else 0) (if carries then (if all then sample_id_fields t else done no_sample_id) else done no_sample_id) bytes result
+pub type_there : (o : Order) (t : ℕ) (bytes : List ℕ) (result : Option FrameEnd) (carries all : Bool) → carries ≡ true → all ≡ true → EndsWithId o (8 * sample_id_flags t) (sample_id_fields t) bytes result →
+    EndsWithId o (if carries then (if all then 8 * sample_id_flags t else 0) else 0) (if carries then (if all then sample_id_fields t else done no_sample_id) else done no_sample_id) bytes result
 type_there o t bytes result true true is is_all ends = ends
 type_there o t bytes result true false is is_all ends = absurd (cc)
 type_there o t bytes result false all is is_all ends = absurd (cc)

@@ -11,32 +11,32 @@ use Rattle.perf_base.specs.Table.{table}
 use Rattle.perf_records.specs.Records.{sample_is}
 use Rattle.perf_sample_types.specs.Sample.{FieldValue, SampleValue, number_is, sample, sample_fields, fields_under, moment_fields, count_fields, state_fields, cost_fields, memory_fields, values, branch_stack, registers}
 use Rattle.perf_sample_types.specs.SampleGetters.{number_in}
-use Rattle.perf_flat.specs.Filled.{filled, filled_spans}
-use Rattle.perf_flat.specs.Numbers.{or_zero}
+use Rattle.perf_flat.specs.Arrays.{filled, filled_spans}
+use Rattle.perf_base.specs.Attribute.{or_zero}
 use Rattle.perf_flat.specs.Flat.{StatesId}
-use Rattle.perf_flat.specs.Places.{IsBodyOf, left_of, cut_short, run_at, read_to, Reads, SameHead, HoldsRecord, PlacesRecord}
-use Rattle.perf_flat.specs.SampleMade.{made_numbers, made_spans, made_ids}
-use Rattle.perf_flat.specs.SamplePlaces.{ReadsFields, ReadsCounts, ReadsState, ReadsCosts, ReadsMemory, moment_values, event_values}
+use Rattle.perf_flat.specs.CursorReads.{IsBodyOf, left_of, cut_short, run_at, read_to, ReadsParts, SameHead, HoldsRecord, WritesRecord}
+use Rattle.perf_flat.specs.SampleContents.{made_numbers, made_spans, made_ids}
+use Rattle.perf_flat.specs.SampleReads.{ReadsFields, ReadsCounts, ReadsState, ReadsCosts, ReadsMemory, moment_values, event_values}
 use Rattle.perf_flat.specs.Samples.{HasSampleSpans, sample_numbers}
 use Rattle.perf_flat.specs.Spans.{HasSpans}
-use Rattle.perf_flat.specs.declared.flat_frame.FlatFrame.{FlatFrame}
-use Rattle.perf_flat.specs.declared.places.Places.{Places}
-use Rattle.perf_flat.specs.declared.sample_groups.Counts.{Counts}
-use Rattle.perf_flat.specs.declared.sample_groups.Event.{Event}
-use Rattle.perf_flat.specs.declared.sample_groups.Moment.{Moment}
-use Rattle.perf_flat.specs.declared.sample_made.Sample.{Sample}
-use Rattle.perf_flat.proofs.Reading.{then_reads, all_read}
+use Rattle.perf_flat.specs.declared.frame.FlatFrame.{FlatFrame}
+use Rattle.perf_flat.specs.declared.cursor.BodyCursor.{BodyCursor}
+use Rattle.perf_flat.specs.declared.sample.Counts.{Counts}
+use Rattle.perf_flat.specs.declared.sample.Event.{Event}
+use Rattle.perf_flat.specs.declared.sample.Moment.{Moment}
+use Rattle.perf_flat.specs.declared.sample.Sample.{Sample}
+use Rattle.perf_flat.proofs.CursorRuns.{then_reads, all_read}
 use Rattle.std.specs.Prelude.{take, drop}
 
 -- ---- its fields, one group after another
 
 -- a whole table is a sample
-of_table : (o : Order) (c : Configuration) (vs : SampleValue) (a b : Places) → Reads o (table (fields_under c sample_fields)) vs a b → Reads o (sample c) vs a b
+of_table : (o : Order) (c : Configuration) (vs : SampleValue) (a b : BodyCursor) → ReadsParts o (table (fields_under c sample_fields)) vs a b → ReadsParts o (sample c) vs a b
 unfolding sample
 of_table o c vs a b reads = reads
 
 -- the value of a sample by that of its groups
-abbrev pub sample_values : (made : Sample) (o : Order) (c : Configuration) {b d e f g : Places} → ReadsCounts c o made.counts b d → ReadsState c o made.state d e → ReadsCosts c o made.costs e f → ReadsMemory c o made.memory f g → SampleValue
+abbrev pub sample_values : (made : Sample) (o : Order) (c : Configuration) {b d e f g : BodyCursor} → ReadsCounts c o made.counts b d → ReadsState c o made.state d e → ReadsCosts c o made.costs e f → ReadsMemory c o made.memory f g → SampleValue
 sample_values made o c counts state costs memory =
     moment_values made.moment ++ (event_values made.event ++ ((counts.values ∷ counts.call_chain ∷ [])
     ++ ((state.raw ∷ state.branches ∷ state.regs_user ∷ state.stack_user ∷ [])
@@ -44,9 +44,9 @@ sample_values made o c counts state costs memory =
     ++ ((option_map number_is made.memory.phys_addr ∷ option_map number_is made.memory.cgroup ∷ option_map number_is made.memory.data_page_size
     ∷ option_map number_is made.memory.code_page_size ∷ memory.aux ∷ []) ++ [])))))
 
-pub sample_read : (o : Order) (c : Configuration) (made : Sample) {a m b d e f g : Places} → ReadsFields o (fields_under c (take 5 moment_fields)) (moment_values made.moment) a m →
+pub sample_read : (o : Order) (c : Configuration) (made : Sample) {a m b d e f g : BodyCursor} → ReadsFields o (fields_under c (take 5 moment_fields)) (moment_values made.moment) a m →
     ReadsFields o (fields_under c (drop 5 moment_fields)) (event_values made.event) m b → (counts : ReadsCounts c o made.counts b d) → (state : ReadsState c o made.state d e) →
-    (costs : ReadsCosts c o made.costs e f) → (memory : ReadsMemory c o made.memory f g) → Reads o (map_parts sample_is (sample c)) (sample_is (sample_values made o c counts state costs memory)) a g
+    (costs : ReadsCosts c o made.costs e f) → (memory : ReadsMemory c o made.memory f g) → ReadsParts o (map_parts sample_is (sample c)) (sample_is (sample_values made o c counts state costs memory)) a g
 sample_read o c made {a} {m} {b} {d} {e} {f} {g} moment event counts state costs memory =
     let Fields : Type 0 = List (Option (Parts FieldValue)) in
     let fields_5 : Fields = fields_under c memory_fields ++ [] in
@@ -65,7 +65,7 @@ sample_read o c made {a} {m} {b} {d} {e} {f} {g} moment event counts state costs
     (costs.fields.chain fields_5 values_5 g (memory.fields.chain [] [] g all_read))))))) all_read
 
 -- after a refusal nothing that is read counts
-refused_reads : {A : Type 0} {o : Order} {p : Parts A} {v : A} {a : Places} {e : Refusal} → a.refusal ≡ Some e → Reads o p v a a
+refused_reads : {A : Type 0} {o : Order} {p : Parts A} {v : A} {a : BodyCursor} {e : Refusal} → a.refusal ≡ Some e → ReadsParts o p v a a
 unfolding run_at read_to
 refused_reads {A} {o} {p} {v} {a} {e} refused = record {
   run = ap (λ r. elim r as (λ _. Ran A) [ Some e ↦ stopped (refusal_kind e) [] | None ↦ cut_short (run_parts o p (left_of a)) ]) refused
@@ -74,12 +74,12 @@ refused_reads {A} {o} {p} {v} {a} {e} refused = record {
 }
 
 -- a sample that was refused in its first three groups
-abbrev pub first_values : Moment → Event → (o : Order) (c : Configuration) {made : Counts} {b d : Places} → ReadsCounts c o made b d → SampleValue
+abbrev pub first_values : Moment → Event → (o : Order) (c : Configuration) {made : Counts} {b d : BodyCursor} → ReadsCounts c o made b d → SampleValue
 first_values moment event o c counts = moment_values moment ++ (event_values event ++ ((counts.values ∷ counts.call_chain ∷ []) ++ []))
 
-pub sample_stopped : (o : Order) (c : Configuration) (moment : Moment) (event : Event) (made : Counts) {a m b d : Places} (e : Refusal) → ReadsFields o (fields_under c (take 5 moment_fields)) (moment_values moment) a m →
+pub sample_stopped : (o : Order) (c : Configuration) (moment : Moment) (event : Event) (made : Counts) {a m b d : BodyCursor} (e : Refusal) → ReadsFields o (fields_under c (take 5 moment_fields)) (moment_values moment) a m →
     ReadsFields o (fields_under c (drop 5 moment_fields)) (event_values event) m b → (counts : ReadsCounts c o made b d) → d.refusal ≡ Some e →
-    Reads o (map_parts sample_is (sample c)) (sample_is (first_values moment event o c counts)) a d
+    ReadsParts o (map_parts sample_is (sample c)) (sample_is (first_values moment event o c counts)) a d
 sample_stopped o c moment event made {a} {m} {b} {d} e one two three refused =
     let Fields : Type 0 = List (Option (Parts FieldValue)) in
     let fields_3 : Fields = fields_under c state_fields ++ (fields_under c cost_fields ++ (fields_under c memory_fields ++ [])) in
@@ -103,7 +103,7 @@ cons_is : {x y : ℕ} {xs ys : List ℕ} → x ≡ y → xs ≡ ys → x ∷ xs 
 cons_is {x} {y} {xs} {ys} one others = ap (λ n. n ∷ xs) one ∙ ap (λ ns. y ∷ ns) others
 
 -- what a flat frame has of it
-pub sample_holds : (o : Order) (c : Configuration) (body : List ℕ) (made : Sample) (old new : FlatFrame) {a m b d e f g : Places} → a.bytes.now ≡ body →
+pub sample_holds : (o : Order) (c : Configuration) (body : List ℕ) (made : Sample) (old new : FlatFrame) {a m b d e f g : BodyCursor} → a.bytes.now ≡ body →
     ReadsFields o (fields_under c (take 5 moment_fields)) (moment_values made.moment) a m → ReadsFields o (fields_under c (drop 5 moment_fields)) (event_values made.event) m b →
     (counts : ReadsCounts c o made.counts b d) → (state : ReadsState c o made.state d e) → (costs : ReadsCosts c o made.costs e f) → (memory : ReadsMemory c o made.memory f g) →
     new.numbers ≡ filled (made_numbers made) → new.spans ≡ filled_spans (made_spans made) → StatesId (made_ids made) new → SameHead old new → g.refusal ≡ None →
@@ -151,14 +151,14 @@ unfolding sample values branch_stack registers
 sample_under misc c = refl
 
 -- the same record under the frame's own misc
-pub sample_placed : (misc : ℕ) (c : Configuration) (o : Order) (bytes : List ℕ) (old : FlatFrame) (told : Option Refusal) (new : FlatFrame) → PlacesRecord c o (map_parts sample_is (sample c)) bytes old told new →
-    PlacesRecord (under_misc misc c) o (map_parts sample_is (sample (under_misc misc c))) bytes old told new
-unfolding PlacesRecord
+pub sample_placed : (misc : ℕ) (c : Configuration) (o : Order) (bytes : List ℕ) (old : FlatFrame) (told : Option Refusal) (new : FlatFrame) → WritesRecord c o (map_parts sample_is (sample c)) bytes old told new →
+    WritesRecord (under_misc misc c) o (map_parts sample_is (sample (under_misc misc c))) bytes old told new
+unfolding WritesRecord
 sample_placed misc c o bytes old told new places = go told places
   where
     same : map_parts sample_is (sample (under_misc misc c)) ≡ map_parts sample_is (sample c)
     same = ap (map_parts sample_is) (sample_under misc c)
 
-    go : (r : Option Refusal) → PlacesRecord c o (map_parts sample_is (sample c)) bytes old r new → PlacesRecord (under_misc misc c) o (map_parts sample_is (sample (under_misc misc c))) bytes old r new
+    go : (r : Option Refusal) → WritesRecord c o (map_parts sample_is (sample c)) bytes old r new → WritesRecord (under_misc misc c) o (map_parts sample_is (sample (under_misc misc c))) bytes old r new
     go None p = (p.0, ap (λ q. layout o q bytes) same ∙ p.1, record { numbers = p.2.numbers; spans = p.2.spans; ids = p.2.ids; head = p.2.head })
     go (Some e) p = ap (λ q. layout o q bytes) same ∙ p

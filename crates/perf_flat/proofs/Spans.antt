@@ -3,13 +3,13 @@ use Rattle.std.proofs.Common.{◌≡◌, ℕ, zero, suc, ◌+◌, ◌-◌, ◌^�
 use Rattle.std.specs.Prelude.{replicate, min, Option, Some, None}
 use Rattle.std.proofs.lemmas.List.{length-drop, length-take, drop-drop, drop-replicate, get_or-append_right}
 use Rattle.perf_reader.proofs.AtOnce.{in_front}
-use Rattle.perf_flat.specs.Contents.{span_of_bytes}
-use Rattle.perf_flat.specs.Filled.{low_word, no_span, filled_spans}
-use Rattle.perf_flat.specs.Places.{IsBodyOf}
+use Rattle.perf_flat.specs.Arrays.{span_of_bytes}
+use Rattle.perf_flat.specs.Arrays.{low_u32, no_span, filled_spans}
+use Rattle.perf_flat.specs.CursorReads.{IsBodyOf}
 use Rattle.perf_flat.specs.Samples.{HasString}
 use Rattle.perf_flat.specs.Strings.{span_at, if_there, HasBytes, NoSpansFrom, HasStrings}
-use Rattle.perf_flat.specs.declared.flat_frame.Span.{Span}
-use Rattle.perf_flat.proofs.Steps.{Stands}
+use Rattle.perf_flat.specs.declared.frame.Span.{Span}
+use Rattle.perf_flat.proofs.TrimmedBytes.{Stands}
 
 -- ---- spans of no bytes
 
@@ -72,11 +72,11 @@ stands_there frame body is s bytes stands =
     let inside : s + n ≤ length body = stands.inside in
     let rest : length (drop 8 frame) ≡ length frame - 8 = length-drop 8 frame in
     let front : length body ≡ min k (length (drop 8 frame)) = ap length is.is ∙ length-take k (drop 8 frame) in
-    let place : low_word (8 + s) ≡ 8 + s = omega arith in
-    let long : low_word n ≡ n = omega arith in
+    let place : low_u32 (8 + s) ≡ 8 + s = omega arith in
+    let long : low_u32 n ≡ n = omega arith in
     let same : take n (drop (8 + s) frame) ≡ bytes =
     sym (ap (take n) (drop-drop s 8 frame)) ∙ sym (in_front s n k (drop 8 frame) (omega arith)) ∙ sym (ap (λ b. take n (drop s b)) is.is) ∙ stands.there in
     record {
       inside = omega arith;
-      there = ap (λ m. take m (drop (low_word (8 + s)) frame)) long ∙ ap (λ m. take n (drop m frame)) place ∙ same;
+      there = ap (λ m. take m (drop (low_u32 (8 + s)) frame)) long ∙ ap (λ m. take n (drop m frame)) place ∙ same;
     }

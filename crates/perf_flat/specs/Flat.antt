@@ -20,11 +20,12 @@ use Rattle.perf_records.specs.RecordTypes.{type_of}
 use Rattle.perf_sample_types.specs.SampleGetters.{sample_id_of}
 use Rattle.perf_sample_types.specs.SampleId.{SampleIdValue}
 use Rattle.perf_words.specs.Bits.{has_bit}
-use Rattle.perf_flat.specs.Filled.{filled, filled_spans}
-use Rattle.perf_flat.specs.Numbers.{numbers_of, or_zero}
+use Rattle.perf_flat.specs.Arrays.{filled, filled_spans}
+use Rattle.perf_base.specs.Attribute.{or_zero}
+use Rattle.perf_flat.specs.RecordNumbers.{numbers_of}
 use Rattle.perf_flat.specs.Samples.{sample_numbers, sample_present}
 use Rattle.perf_flat.specs.Spans.{HasSpans}
-use Rattle.perf_flat.specs.declared.flat_frame.FlatFrame.{FlatFrame}
+use Rattle.perf_flat.specs.declared.frame.FlatFrame.{FlatFrame}
 
 -- ---- the parts of a flat frame that are numbers by themselves
 
@@ -48,29 +49,29 @@ format_of c ty =
     if ty == 8 || (ty == 9 && has_bit c.sample_type 4) then c.read_format else 0
 
 -- the kind of a refusal as a number
-abbrev pub kind_number : ErrorKind → ℕ
-kind_number kind.Eof = 1
-kind_number kind.InvalidRecord = 2
-kind_number kind.UnsupportedConfig = 3
-kind_number kind.UnsupportedData = 4
-kind_number kind.External = 5
-kind_number kind.OutOfMemory = 6
+abbrev pub kind_code : ErrorKind → ℕ
+kind_code kind.Eof = 1
+kind_code kind.InvalidRecord = 2
+kind_code kind.UnsupportedConfig = 3
+kind_code kind.UnsupportedData = 4
+kind_code kind.External = 5
+kind_code kind.OutOfMemory = 6
 
 -- the reason of a refusal, as a number: 0 for its kind alone
-abbrev pub reason_number : Refusal → ℕ
-reason_number why.Eof = 0
-reason_number why.SmallHeader = 1
-reason_number why.NoRoomForId = 2
-reason_number why.BuildIdLength = 3
-reason_number why.UsedStack = 4
-reason_number why.SingleRead = 5
-reason_number why.GroupRead = 6
-reason_number why.ReadFormat = 7
-reason_number why.GroupLength = 8
-reason_number why.AttributeSize = 9
-reason_number why.AttributeTail = 10
-reason_number why.OutOfMemory = 0
-reason_number (why.Kept kind) = 0
+abbrev pub reason_code : Refusal → ℕ
+reason_code why.Eof = 0
+reason_code why.SmallHeader = 1
+reason_code why.NoRoomForId = 2
+reason_code why.BuildIdLength = 3
+reason_code why.UsedStack = 4
+reason_code why.SingleRead = 5
+reason_code why.GroupRead = 6
+reason_code why.ReadFormat = 7
+reason_code why.GroupLength = 8
+reason_code why.AttributeSize = 9
+reason_code why.AttributeTail = 10
+reason_code why.OutOfMemory = 0
+reason_code (why.Kept kind) = 0
 
 -- ---- a record
 
@@ -138,7 +139,7 @@ empty_frame h refusal reason = record {
 -- the flat frame of a header without a record, and why there is none
 abbrev pub refused_frame : perf_event_header → Refusal → FlatFrame
 refused_frame h told =
-    empty_frame h (kind_number (refusal_kind told)) (reason_number told)
+    empty_frame h (kind_code (refusal_kind told)) (reason_code told)
 
 -- It is refused with a kind, and has a reason of that kind. A size below 8, and a whole frame without
 -- space for its sample id, have reasons of their own.

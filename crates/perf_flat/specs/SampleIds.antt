@@ -5,8 +5,8 @@ use Rattle.std.specs.Prelude.{Option, Some, None, MatchOption, if◌then◌else�
 use Rattle.perf_base.specs.Layout.{Parts, value}
 use Rattle.perf_base.specs.Order.{Order}
 use Rattle.perf_sample_types.specs.SampleId.{SampleIdValue, one_if}
-use Rattle.perf_flat.specs.declared.sample_ids.FrameEnd.{FrameEnd}
-use Rattle.perf_flat.specs.declared.sample_ids.LastField.{LastField}
+use Rattle.perf_flat.specs.declared.sample_id.FrameEnd.{FrameEnd}
+use Rattle.perf_flat.specs.declared.sample_id.LastField.{LastField}
 
 -- A field of eight bytes was taken off the end of bytes, if it is present: its bytes, and those before
 -- it.
@@ -23,6 +23,6 @@ pub record TakesId (o : Order) (n : ℕ) (parts : Parts SampleIdValue) (bytes : 
   pub body : made.body.now ≡ take (length bytes - n) bytes
 
 -- They were taken off, or there are fewer bytes.
-abbrev pub EndsWith : Order → ℕ → Parts SampleIdValue → List ℕ → Option FrameEnd → Type 0
-EndsWith o n parts bytes result =
+abbrev pub EndsWithId : Order → ℕ → Parts SampleIdValue → List ℕ → Option FrameEnd → Type 0
+EndsWithId o n parts bytes result =
     MatchOption result (length bytes < n) (λ made. TakesId o n parts bytes made)

@@ -13,10 +13,10 @@ use Rattle.perf_sample_types.specs.Sample.{SampleValue}
 use Rattle.perf_sample_types.specs.SampleGetters.{getters_of}
 use Rattle.perf_words.specs.Bits.{has_bit}
 use Rattle.perf_words.specs.Branch.{Branch}
-use Rattle.perf_flat.specs.Filled.{no_span}
-use Rattle.perf_flat.specs.Numbers.{or_zero}
+use Rattle.perf_flat.specs.Arrays.{no_span}
+use Rattle.perf_base.specs.Attribute.{or_zero}
 use Rattle.perf_flat.specs.Strings.{span_at, HasBytes, HasNumbers}
-use Rattle.perf_flat.specs.declared.flat_frame.Span.{Span}
+use Rattle.perf_flat.specs.declared.frame.Span.{Span}
 
 -- ---- numbers
 
@@ -26,9 +26,9 @@ abi_of (Some registers) = registers.abi
 abi_of None = 0
 
 -- a counter: its value, its id, and how many of its samples were lost
-abbrev pub entry_numbers : Option GroupEntry → List ℕ
-entry_numbers (Some entry) = entry.value ∷ or_zero entry.id ∷ or_zero entry.lost ∷ []
-entry_numbers None = 0 ∷ 0 ∷ 0 ∷ []
+abbrev pub group_entry_numbers : Option GroupEntry → List ℕ
+group_entry_numbers (Some entry) = entry.value ∷ or_zero entry.id ∷ or_zero entry.lost ∷ []
+group_entry_numbers None = 0 ∷ 0 ∷ 0 ∷ []
 
 -- The counters that were read: how long they were enabled and ran, how many there are, and without
 -- GROUP the one counter.
@@ -37,8 +37,8 @@ counter_numbers read_format (Some read) =
     or_zero read.time_enabled ∷
     or_zero read.time_running ∷
     length read.entries ∷
-    entry_numbers (if has_group read_format then None else only_entry read.entries)
-counter_numbers read_format None = 0 ∷ 0 ∷ 0 ∷ entry_numbers None
+    group_entry_numbers (if has_group read_format then None else only_entry read.entries)
+counter_numbers read_format None = 0 ∷ 0 ∷ 0 ∷ group_entry_numbers None
 
 -- the numbers of a sample
 abbrev pub sample_numbers : (read_format : ℕ) → SampleValue → List ℕ

@@ -5,7 +5,7 @@ use Rattle.perf_types.specs.Namespaces.{entries_of}
 use Rattle.perf_records.specs.Records.{RecordValue, namespaces_is, sample_is}
 use Rattle.perf_flat.specs.Samples.{HasSampleSpans}
 use Rattle.perf_flat.specs.Strings.{span_at, strings_of, HasNumbers, HasStrings, NoSpansFrom}
-use Rattle.perf_flat.specs.declared.flat_frame.Span.{Span}
+use Rattle.perf_flat.specs.declared.frame.Span.{Span}
 
 -- The spans of a record: those of its byte strings, or of its lists.
 abbrev pub HasSpans : (read_format : ℕ) → Order → (frame : List ℕ) → List Span → RecordValue → Type 0

@@ -25,8 +25,8 @@ abbrev pub split_at : Order → (first second : List ℕ) → (how : ℕ) → �
 split_at o first second how = if how == 0 && is_in_both o first second then 1 else 0
 
 -- the bytes that its spans count in: those of the copy, or of the first piece that is not empty
-abbrev pub bytes_at : (place : ℕ) → (first second scratch : List ℕ) → List ℕ
-bytes_at place first second scratch =
+abbrev pub span_bytes : (place : ℕ) → (first second scratch : List ℕ) → List ℕ
+span_bytes place first second scratch =
     if place == 1 then scratch else (if length first == 0 then second else first)
 
 -- what the room for a copy has afterwards: the frame at its front, if that is copied

@@ -7,8 +7,8 @@ use Rattle.perf_records.specs.Records.{RecordValue, mmap_is, comm_is}
 use Rattle.perf_records.specs.Records.{mmap2_is}
 use Rattle.perf_records.specs.Records.{ksymbol_is, bpf_event_is}
 use Rattle.perf_records.specs.Records.{cgroup_is, text_poke_is, unknown_is}
-use Rattle.perf_flat.specs.Filled.{no_span}
-use Rattle.perf_flat.specs.declared.flat_frame.Span.{Span}
+use Rattle.perf_flat.specs.Arrays.{no_span}
+use Rattle.perf_flat.specs.declared.frame.Span.{Span}
 
 -- a span of a flat frame
 abbrev pub span_at : List Span → ℕ → Span

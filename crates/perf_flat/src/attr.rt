@@ -6,9 +6,9 @@ ghost use Rattle.perf_base.specs.Dynamic.{order_of};
 ghost use Rattle.perf_base.specs.Layout.{layout};
 ghost use Rattle.perf_base.specs.Refusals.{refusal_kind};
 ghost use Rattle.perf_base.specs.declared.sys.perf_event_attr.{perf_event_attr};
-ghost use Rattle.perf_flat.specs.Configs.{flat_config_of};
+ghost use Rattle.perf_flat.specs.FlatConfigs.{flat_config_of};
 
-use crate::flat_config::FlatConfig;
+use crate::config::FlatConfig;
 use perf_base::endian::{Dynamic, Native};
 use perf_base::sys::perf_event_attr;
 use perf_base::{ParseConfig, Refusal};

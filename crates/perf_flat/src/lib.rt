@@ -2,24 +2,12 @@
 //! lists are places in the frame.
 #![tactic(auto)]
 
-mod accepted;
 pub mod attr;
-pub mod body;
-pub mod flat_config;
-pub mod flat_frame;
-pub mod identifier;
-pub mod many;
-mod mapping_bodies;
-mod named_bodies;
-mod placed;
-mod places;
-mod plain_bodies;
+mod bodies;
+pub mod config;
+mod cursor;
+pub mod frame;
 pub mod read;
-mod refusals;
-mod sample_fields;
-mod sample_groups;
-mod sample_ids;
-mod sample_lists;
-mod sample_made;
-pub mod split;
-mod string_bodies;
+pub mod refusals;
+mod sample;
+mod sample_id;

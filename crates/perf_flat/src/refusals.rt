@@ -3,14 +3,14 @@
 ghost use Rattle.std.specs.Prelude.{◌≡◌};
 ghost use Rattle.perf_flat.specs.Flat as flat;
 
-use crate::flat_frame::{FlatFrame, NUMBERS, SPANS, Span};
+use crate::frame::{FlatFrame, NUMBERS, SPANS, Span};
 use perf_base::sys::perf_event_header;
 use perf_base::{ErrorKind, Refusal};
 
-// The kind of a refusal as a number.
+/// The kind of a refusal as a number, which [`FlatFrame`] has as its `refusal`.
 #[inline]
-fn kind_number(kind: ErrorKind) -> u16
-    ensures { result ≡ flat.kind_number kind }
+pub fn kind_code(kind: ErrorKind) -> u16
+    ensures { result ≡ flat.kind_code kind }
 {
     match kind {
         ErrorKind::Eof => 1,
@@ -24,8 +24,8 @@ fn kind_number(kind: ErrorKind) -> u16
 
 // The reason of a refusal, as a number.
 #[inline]
-fn reason_number(refusal: Refusal) -> u16
-    ensures { result ≡ flat.reason_number refusal }
+fn reason_code(refusal: Refusal) -> u16
+    ensures { result ≡ flat.reason_code refusal }
 {
     match refusal {
         Refusal::Eof | Refusal::OutOfMemory | Refusal::Kept(_) => 0,
@@ -44,7 +44,7 @@ fn reason_number(refusal: Refusal) -> u16
 
 // The flat frame of a header alone.
 #[inline]
-#[tactic(auto, unfolding(crate::specs::Filled::filled, crate::specs::Filled::filled_spans))]
+#[tactic(auto, unfolding(crate::specs::Arrays::filled, crate::specs::Arrays::filled_spans))]
 pub(crate) fn empty_frame(header: perf_event_header, refusal: u16, reason: u16) -> FlatFrame
     ensures { result ≡ flat.empty_frame header refusal reason }
 {
@@ -73,5 +73,5 @@ pub(crate) fn empty_frame(header: perf_event_header, refusal: u16, reason: u16) 
 pub(crate) fn refuse_frame(header: perf_event_header, refusal: Refusal, frame: &mut FlatFrame)
     ensures { frame.new ≡ flat.refused_frame header refusal }
 {
-    *frame = empty_frame(header, kind_number(refusal.kind()), reason_number(refusal));
+    *frame = empty_frame(header, kind_code(refusal.kind()), reason_code(refusal));
 }

@@ -4,13 +4,9 @@ use crate::checks::check_debug;
 use perf_event_data::endian::{Dynamic, Little};
 use perf_event_data::parse::ParseConfig;
 use perf_flat::attr::read_attr;
-use perf_flat::body::read_body;
-use perf_flat::flat_config::FlatConfig;
-use perf_flat::flat_frame::FlatFrame;
-use perf_flat::identifier::identifier;
-use perf_flat::many::read_many;
-use perf_flat::read::read;
-use perf_flat::split::read_split;
+use perf_flat::config::FlatConfig;
+use perf_flat::frame::FlatFrame;
+use perf_flat::read::{identifier, read, read_body, read_many, read_split};
 use std::process::Abort;
 
 // The thread 7 of the process 5 is called `sh`, a header whose size is below its own, and the

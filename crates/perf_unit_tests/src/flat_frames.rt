@@ -4,7 +4,7 @@ use crate::checks::check_debug;
 use bitflags::Flags;
 use perf_event_data::endian::Little;
 use perf_event_data::parse::ParseConfig;
-use perf_flat::flat_frame::FlatFrame;
+use perf_flat::frame::FlatFrame;
 use perf_flat::read::{read, read_into};
 use perf_words::SampleFlags;
 use std::alloc::Global;

@@ -1,6 +1,6 @@
 use Rattle.std.proofs.Common.{◌∙◌, ap}
 use Rattle.perf_flat.specs.Flat.{refused_frame}
-use Rattle.perf_flat.proofs.Framing.{bad_refused}
+use Rattle.perf_flat.proofs.FrameAnswers.{bad_refused}
 use Rattle.perf_flat.proofs.read.bad_frame.Goals as goal
 
 pub returns : goal.returns

@@ -3,7 +3,7 @@ use Rattle.perf_base.specs.Configured.{configuration_of, endian_of}
 use Rattle.perf_buffers.specs.Buffer.{chunk_bytes, chunk_is_borrowed}
 use Rattle.perf_records.specs.Sights.{sight_of}
 use Rattle.perf_flat.specs.Flat.{IsBad, IsFlatAfter}
-use Rattle.perf_flat.proofs.Framing.{whole_first, bad_first}
+use Rattle.perf_flat.proofs.FrameAnswers.{whole_first, bad_first}
 use Rattle.perf_flat.proofs.read.flat_first.Goals as goal
 
 pub returns-in-Ok : goal.returns-in-Ok

@@ -8,7 +8,7 @@ use Rattle.perf_records.specs.Metadata.{id_length, id_of_type}
 use Rattle.perf_sample_types.specs.SampleId.{SampleIdValue}
 use Rattle.perf_flat.specs.Flat.{CarriesNumbers, IsFlatAfter, refused_frame}
 use Rattle.perf_flat.specs.SampleIds.{TakesId}
-use Rattle.perf_flat.proofs.Framing.{room_split, end_placed, list_placed, list_refused, list_lacks}
+use Rattle.perf_flat.proofs.FrameAnswers.{room_split, end_placed, list_placed, list_refused, list_lacks}
 use Rattle.perf_flat.proofs.read.flat_frame.Goals as goal
 
 pub returns-in-None : goal.returns-in-None
@@ -21,8 +21,8 @@ returns-in-None g c =
     list_lacks settings order f.header (chunk_bytes f.rest) c.refuse_frame.new.frame f.sized f.whole (omega (arith, c.in-None.ensures, long, room, f.whole))
     (c.refuse_frame.ensures ∙ ap (λ h. refused_frame h NoRoomForId) c.header-header.ensures)
 
-pub returns-in-Some-record_contents : goal.returns-in-Some-record_contents
-returns-in-Some-record_contents g c =
+pub returns-in-Some-put_record : goal.returns-in-Some-put_record
+returns-in-Some-put_record g c =
     let f = c.args.whole in
     let k = c.header-header.result in
     let settings = configuration_of c.args.config.now in
@@ -33,16 +33,16 @@ returns-in-Some-record_contents g c =
     subst (λ xs. TakesId order (id_length settings k.type_) (id_of_type settings k.type_) xs end) c.rest.ensures c.in-Some.ensures in
     let sized = ap (λ (h : perf_event_header). h.size) c.header-header.ensures in
     let split = room_split settings order k bytes (omega (arith, sized, f.sized)) (omega (arith, sized, f.whole)) takes.room in
-    let put = c.record_contents in
-    let e = c.in-Some-record_contents.refusal in
-    let refused = c.in-Some-record_contents.ensures in
+    let put = c.put_record in
+    let e = c.in-Some-put_record.refusal in
+    let refused = c.in-Some-put_record.ensures in
     let places = end_placed settings order bytes end k c.put_head.new.frame (Some e) put.new.frame takes refused in
-    subst (λ h. IsFlatAfter settings order h bytes c.refuse_frame-in-Some-record_contents.new.frame) c.header-header.ensures
+    subst (λ h. IsFlatAfter settings order h bytes c.refuse_frame-in-Some-put_record.new.frame) c.header-header.ensures
     (list_refused settings order k bytes (parts_of settings order k bytes) e c.put_head.new.frame put.new.frame _ (omega (arith, sized, f.sized)) (omega (arith, sized, f.whole)) split places takes.room
-    c.refuse_frame-in-Some-record_contents.ensures)
+    c.refuse_frame-in-Some-put_record.ensures)
 
-pub returns-in-None-record_contents : goal.returns-in-None-record_contents
-returns-in-None-record_contents g c =
+pub returns-in-None-put_record : goal.returns-in-None-put_record
+returns-in-None-put_record g c =
     let f = c.args.whole in
     let k = c.header-header.result in
     let settings = configuration_of c.args.config.now in
@@ -54,8 +54,8 @@ returns-in-None-record_contents g c =
     let sized = ap (λ (h : perf_event_header). h.size) c.header-header.ensures in
     let split = room_split settings order k bytes (omega (arith, sized, f.sized)) (omega (arith, sized, f.whole)) takes.room in
     let head = c.put_head in
-    let put = c.record_contents in
-    let accepted = c.in-None-record_contents.ensures in
+    let put = c.put_record in
+    let accepted = c.in-None-put_record.ensures in
     let places = end_placed settings order bytes end k head.new.frame None put.new.frame takes accepted in
     let carries = subst (λ (own : SampleIdValue). CarriesNumbers settings own head.new.frame.numbers head.new.frame) takes.id head.ensures.numbers in
     let short : length bytes + 8 < 2 ^ 32 = omega (arith, f.whole, f.sized, head.ensures.size, sized) in

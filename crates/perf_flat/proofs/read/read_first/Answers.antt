@@ -1,7 +1,7 @@
 use Rattle.std.proofs.Common.{ap, arith, ◌∙◌}
 use Rattle.perf_base.specs.Configured.{endian_of}
 use Rattle.perf_records.specs.Sights.{sight_of}
-use Rattle.perf_flat.proofs.Framing.{at_front, nothing_there}
+use Rattle.perf_flat.proofs.FrameAnswers.{at_front, nothing_there}
 use Rattle.perf_flat.proofs.read.read_first.Goals as goal
 
 pub returns-in-Some : goal.returns-in-Some

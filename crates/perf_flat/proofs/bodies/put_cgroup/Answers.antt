@@ -1,0 +1,27 @@
+use Rattle.std.proofs.Common.{refl, subst}
+use Rattle.perf_base.specs.FieldWords.{name}
+use Rattle.perf_base.specs.Layout.{done, map_parts}
+use Rattle.perf_flat.proofs.RecordWrites.{next_number}
+use Rattle.perf_flat.proofs.CursorRuns.{then_reads, all_read}
+use Rattle.perf_flat.proofs.Spans.{one_string}
+use Rattle.perf_flat.specs.CursorReads.{IsBodyOf}
+use Rattle.perf_records.specs.Records.{cgroup_is}
+use Rattle.perf_types.specs.CGroup.{cgroup}
+use Rattle.perf_flat.proofs.bodies.put_cgroup.Goals as goal
+
+pub returns : goal.returns
+returns g c = λ settings.
+    let order = g.E.Endian.order c.args.order.now in
+    let start = c.new-cursor in
+    let id_at = c.read_u64-id in
+    let last = c.name-path.ensures order in
+    c.finish.ensures settings order (map_parts cgroup_is cgroup) (cgroup_is (record { id = id_at.result; path = last.value })) c.args.body.now (record {
+      start = start.result;
+      whole = start.ensures.bytes;
+      front = start.ensures.at;
+      fresh = start.ensures.refusal;
+      reads = next_number id_at.ensures (then_reads name (λ x. done (cgroup_is (record { id = id_at.result; path = x }))) last.reads all_read);
+      words = λ ok. refl;
+      there = λ ok frame is. one_string frame c.name-path.result last.value (last.holds ok frame (subst (IsBodyOf frame) last.reads.bytes is));
+      ids = λ own. refl;
+    })

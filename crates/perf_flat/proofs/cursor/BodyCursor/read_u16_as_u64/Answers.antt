@@ -1,0 +1,13 @@
+use Rattle.std.proofs.Common.{refl, ◌∙◌}
+use Rattle.perf_base.specs.Layout.{w2}
+use Rattle.perf_flat.proofs.CursorRuns.{number_fits, number_lacks}
+use Rattle.perf_flat.proofs.cursor.BodyCursor.read_u16_as_u64.Goals as goal
+
+pub returns-in-Some-clause-reads : goal.returns-in-Some-clause-reads
+returns-in-Some-clause-reads g c =
+    let word = c.in-Some.ensures in
+    number_fits (g.E.Endian.order c.args.order.now) w2 c.args.self.now _ c.in-Some.bytes.now c.from.result c.args.self.now.within word.cases.0 (word.variant.0 refl) (c.from.ensures ∙ c.convert_u16.ensures) refl refl refl
+
+pub returns-in-None-clause-reads : goal.returns-in-None-clause-reads
+returns-in-None-clause-reads g c =
+    number_lacks (g.E.Endian.order c.args.order.now) w2 c.args.self.now _ 0 c.args.self.now.within c.in-None.ensures.cases c.refuse.ensures.refusal c.refuse.ensures.bytes
