@@ -179,10 +179,10 @@ first_headed : (o : Order) (bytes : List ℕ) → 8 ≤ length bytes → 8 ≤ l
 first_headed o bytes fits = omega (arith, length-take (frame_length o bytes) bytes)
 
 -- what is there, by the header and the bytes after that
-sight_small : (h : perf_event_header) (bytes : List ℕ) → h.size < 8 → sight_after h bytes true ≡ bad h InvalidRecord
+sight_small : (h : perf_event_header) (bytes : List ℕ) → h.size < 8 → sight_after h bytes true ≡ bad h why.SmallHeader
 sight_small h bytes small = let a : nat_lt h.size 8 ≡ true = lt-ltb h.size 8 small in rw a refl
 
-sight_short : (h : perf_event_header) (bytes : List ℕ) → 8 ≤ h.size → length bytes < length_after h → sight_after h bytes true ≡ bad h Eof
+sight_short : (h : perf_event_header) (bytes : List ℕ) → 8 ≤ h.size → length bytes < length_after h → sight_after h bytes true ≡ bad h why.Eof
 sight_short h bytes sized short =
     let a : nat_lt h.size 8 ≡ false = le-ltb h.size 8 sized in
     let b : nat_lt (length bytes) (length_after h) ≡ true = lt-ltb (length bytes) (length_after h) short in
@@ -223,7 +223,7 @@ whole_first c o bytes rest h borrowed fits seen =
     ]
 
 -- no whole frame is there
-pub bad_first : (c : Configuration) (o : Order) (bytes : List ℕ) (h : perf_event_header) (e : ErrorKind) (f : FlatFrame) → 8 ≤ length bytes → sight_in o bytes true ≡ bad h e →
+pub bad_first : (c : Configuration) (o : Order) (bytes : List ℕ) (h : perf_event_header) (e : Refusal) (f : FlatFrame) → 8 ≤ length bytes → sight_in o bytes true ≡ bad h e →
     ((rest : List ℕ) → IsBad h rest → IsFlatAfter c o h rest f) → IsFlat c o (first_frame o bytes) f
 bad_first c o bytes h e f fits seen flat =
     let k : perf_event_header = header_of o bytes in

@@ -6,6 +6,8 @@ use Rattle.std.proofs.lemmas.List.{length-drop, drop-take}
 use Rattle.perf_base.specs.Header.{header_of}
 use Rattle.perf_base.specs.Order.{Order}
 use Rattle.perf_base.specs.declared.error.ErrorKind.{ErrorKind}
+use Rattle.perf_base.specs.declared.refusal.Refusal.{Refusal}
+use Rattle.perf_base.specs.declared.refusal.Refusal.TheVariants as why
 use Rattle.perf_base.specs.declared.error.ErrorKind.TheVariants.{Eof, InvalidRecord}
 use Rattle.perf_base.specs.declared.sys.perf_event_header.{perf_event_header}
 use Rattle.perf_records.specs.Answers.{length_after}
@@ -22,10 +24,10 @@ rest_is o bytes =
     ap (λ n. drop 8 (take n bytes)) (frame_body h) ∙ drop-take 8 (length_after h) bytes
 
 -- what is there if no whole frame is
-sight_small : (h : perf_event_header) (bytes : List ℕ) → h.size < 8 → sight_after h bytes true ≡ bad h InvalidRecord
+sight_small : (h : perf_event_header) (bytes : List ℕ) → h.size < 8 → sight_after h bytes true ≡ bad h why.SmallHeader
 sight_small h bytes small = let a : nat_lt h.size 8 ≡ true = lt-ltb h.size 8 small in rw a refl
 
-sight_short : (h : perf_event_header) (bytes : List ℕ) → 8 ≤ h.size → length bytes < length_after h → sight_after h bytes true ≡ bad h Eof
+sight_short : (h : perf_event_header) (bytes : List ℕ) → 8 ≤ h.size → length bytes < length_after h → sight_after h bytes true ≡ bad h why.Eof
 sight_short h bytes sized short =
     let a : nat_lt h.size 8 ≡ false = le-ltb h.size 8 sized in
     let b : nat_lt (length bytes) (length_after h) ≡ true = lt-ltb (length bytes) (length_after h) short in
@@ -82,7 +84,7 @@ whole_is o bytes rest h borrowed fits seen =
       ]
     ]
 
-pub bad_is : (o : Order) (bytes : List ℕ) (h : perf_event_header) (e : ErrorKind) → 8 ≤ length bytes → sight_in o bytes true ≡ bad h e → has_whole o bytes ≡ false
+pub bad_is : (o : Order) (bytes : List ℕ) (h : perf_event_header) (e : Refusal) → 8 ≤ length bytes → sight_in o bytes true ≡ bad h e → has_whole o bytes ≡ false
 bad_is o bytes h e fits seen =
     let k : perf_event_header = header_of o bytes in
     let after : List ℕ = drop 8 bytes in
@@ -103,7 +105,7 @@ whole_at o p bytes left rest h borrowed xs same front e =
     let there = at_front o p bytes left (whole h rest borrowed) xs same front e in
     whole_is o bytes rest h borrowed there.0 there.1
 
-pub bad_at : (o p : Order) (bytes left : List ℕ) (h : perf_event_header) (e : ErrorKind) (xs : List Sight) → p ≡ o → left ≡ bytes → sights p left ≡ bad h e ∷ xs → has_whole o bytes ≡ false
+pub bad_at : (o p : Order) (bytes left : List ℕ) (h : perf_event_header) (e : Refusal) (xs : List Sight) → p ≡ o → left ≡ bytes → sights p left ≡ bad h e ∷ xs → has_whole o bytes ≡ false
 bad_at o p bytes left h e xs same front steps =
     let there = at_front o p bytes left (bad h e) xs same front steps in
     bad_is o bytes h e there.0 there.1
