@@ -1,4 +1,3 @@
-pub mod Args
 pub mod Fields
 pub mod SampleText
 pub mod Text

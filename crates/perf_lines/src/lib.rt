@@ -2,8 +2,6 @@
 //! reader to a writer.
 #![tactic(auto)]
 
-pub mod args;
-pub mod command;
 mod fields;
 pub mod line;
 pub mod outcome;

@@ -4,9 +4,10 @@ ghost use Rattle.std.specs.Prelude.{◌<◌};
 
 use anyhow::{Context, Result};
 use perf_event_data::endian::{Big, Endian, Little, Native};
-use perf_lines::args::command;
-use perf_lines::command::{Command, OrderName};
 use perf_lines::run::run;
+use perf_text::args::command;
+use perf_text::command::Command;
+use perf_text::order::OrderName;
 use std::alloc::{AllocError, Global};
 
 // The lines that are written, one after another, and the status.

@@ -1,3 +1,4 @@
+pub mod Args
 pub mod Numbers
 pub mod Orders
 pub mod Strips

@@ -1,7 +1,10 @@
 //! What the lines and the arguments of the programs share: a short text that is written backward
-//! (`strip`), the names of byte orders (`order`), and what a program prints of itself (`usage`).
+//! (`strip`), the names of byte orders (`order`), what arguments ask for (`args`, `command`), and what a
+//! program prints of itself (`usage`).
 #![tactic(auto)]
 
+pub mod args;
+pub mod command;
 mod hexadecimal;
 pub mod order;
 pub mod strip;

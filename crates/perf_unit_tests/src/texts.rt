@@ -6,10 +6,11 @@ use perf_event_data::Record;
 use perf_event_data::endian::Little;
 use perf_event_data::parse::{ErrorKind, ParseError, ParseResult};
 use perf_event_data::sys::perf_event_header;
-use perf_lines::args::command;
-use perf_lines::command::{Command, OrderName};
 use perf_lines::line::line_of;
 use perf_lines::outcome::Outcome;
+use perf_text::args::command;
+use perf_text::command::Command;
+use perf_text::order::OrderName;
 use std::alloc::{AllocError, Global};
 use std::process::Abort;
 

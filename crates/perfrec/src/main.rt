@@ -17,10 +17,11 @@
 ghost use Rattle.std.specs.Prelude.{◌≡◌};
 
 use perf_event_data::endian::{Big, Endian, Little, Native};
-use perf_lines::args::command;
-use perf_lines::command::{Command, OrderName};
 use perf_lines::outcome::Outcome;
 use perf_lines::run::run;
+use perf_text::args::command;
+use perf_text::command::Command;
+use perf_text::order::OrderName;
 use std::process::ExitCode;
 use std::{env, io};
 

@@ -1,6 +1,6 @@
 //! The arguments of the program.
 
-pub use perf_text::order::OrderName;
+use crate::order::OrderName;
 
 /// What the arguments of the program ask for.
 #[derive(Copy, Clone, Debug, PartialEq, Eq)]

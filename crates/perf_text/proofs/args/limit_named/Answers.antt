@@ -7,8 +7,8 @@ use Rattle.std.specs.Str.{all_ascii_digits}
 use Rattle.std.specs.Str.Parse.{digits_value}
 use Rattle.std.proofs.lemmas.Bool.Decides.{nat_tests}
 use Rattle.std.proofs.lemmas.Str.Parse.{numerals_by_value, tells_all_ascii_digits, parse_digits}
-use Rattle.perf_lines.specs.Args.{limit_named}
-use Rattle.perf_lines.proofs.args.limit_named.Goals as goal
+use Rattle.perf_text.specs.Args.{limit_named}
+use Rattle.perf_text.proofs.args.limit_named.Goals as goal
 
 -- two forms of one test
 all_digits : (bs : List ℕ) → all_ascii_digits bs ≡ list_all is_ascii_digit bs

@@ -3,10 +3,11 @@
 ghost use Rattle.std.specs.Prelude.{◌≡◌, map, string_bytes};
 ghost use Rattle.std.specs.Char.{is_ascii_digit};
 ghost use Rattle.std.specs.List.{list_all};
-ghost use Rattle.perf_lines.specs.Args.{limit_named, command_with_limit, command_of};
-ghost use Rattle.perf_lines.specs.Args.{command_without_limit, unlimited_command_of};
+ghost use Rattle.perf_text.specs.Args.{limit_named, command_with_limit, command_of};
+ghost use Rattle.perf_text.specs.Args.{command_without_limit, unlimited_command_of};
 
-use crate::command::{Command, OrderName};
+use crate::command::Command;
+use crate::order::OrderName;
 
 /// What the arguments of the program ask for: the name of a byte order, a limit in decimal digits
 /// alone, and then `attr` if the input begins with an attribute. `None` for any other arguments.

@@ -5,7 +5,7 @@ use Rattle.std.specs.Char.{is_ascii_digit}
 use Rattle.std.specs.List.{list_all}
 use Rattle.std.specs.Str.{bytes_eq}
 use Rattle.std.specs.Str.Parse.{digits_value}
-use Rattle.perf_lines.specs.declared.command.Command.{Command}
+use Rattle.perf_text.specs.declared.command.Command.{Command}
 use Rattle.perf_text.specs.Orders.{order_named}
 
 -- a limit: decimal digits, at least one, whose value fits 64 bits
