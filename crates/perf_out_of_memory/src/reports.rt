@@ -34,7 +34,7 @@ const SAMPLES: &[u8] = b"\0\0\0\0\x40\0\0\0\0\0\0\0\0\0\0\0\0\0\0\0\0\0\0\0\x21\
 
 // How printing ended.
 #[derive(Copy, Clone, PartialEq)]
-enum Printed {
+enum Ending {
     // With all lines.
     All,
     // Out of memory, after this many lines.
@@ -56,9 +56,14 @@ fn whole_lines(text: &[u8]) -> Option<usize> {
 
 // How a recording is printed. What is printed is compared with these lines, if any are given, and
 // otherwise counted.
-fn printed(alloc: Global, recording: &[u8], report: Report, lines: &[u8], most: usize) -> Printed {
-    let (outcome, output, errors) =
-        print_buffer(alloc, recording, Page::new(), Page::new(), report);
+fn printed(alloc: Global, recording: &[u8], report: Report, lines: &[u8], most: usize) -> Ending {
+    let (outcome, output, errors) = print_buffer(
+        alloc,
+        recording,
+        Page::new(),
+        Page::new(),
+        report,
+    );
     let mut errors = errors;
     let is_all = match &outcome {
         Ok(clean) => *clean,
@@ -69,12 +74,12 @@ fn printed(alloc: Global, recording: &[u8], report: Report, lines: &[u8], most: 
     };
     let (text, error) = (output.text(), errors.text());
     if !lines.is_empty() && !lines.starts_with(text) {
-        return Printed::Other;
+        return Ending::Other;
     }
     match whole_lines(text) {
-        Some(count) if is_all && count == most && error.is_empty() => Printed::All,
-        Some(count) if !is_all && error == b"out of memory".as_slice() => Printed::Starved(count),
-        _ => Printed::Other,
+        Some(count) if is_all && count == most && error.is_empty() => Ending::All,
+        Some(count) if !is_all && error == b"out of memory".as_slice() => Ending::Starved(count),
+        _ => Ending::Other,
     }
 }
 
@@ -82,10 +87,10 @@ fn printed(alloc: Global, recording: &[u8], report: Report, lines: &[u8], most: 
 fn a_report_of_tasks(rt: HostRuntime) {
     let found = printed(rt.alloc(), TASKS, Report::Tasks, LINES, 3);
     let wanted = [
-        Printed::All,
-        Printed::Starved(2),
-        Printed::Starved(0),
-        Printed::Starved(1),
+        Ending::All,
+        Ending::Starved(2),
+        Ending::Starved(0),
+        Ending::Starved(1),
     ];
     tell(&rt, "a report of tasks", found, &wanted);
 }
@@ -93,7 +98,7 @@ fn a_report_of_tasks(rt: HostRuntime) {
 #[test]
 fn a_report_of_samples(rt: HostRuntime) {
     let found = printed(rt.alloc(), SAMPLES, Report::Samples, b"", 2);
-    let wanted = [Printed::All, Printed::Starved(1), Printed::Starved(0)];
+    let wanted = [Ending::All, Ending::Starved(1), Ending::Starved(0)];
     tell(&rt, "a report of samples", found, &wanted);
 }
 

@@ -1,8 +1,8 @@
 //! How many requests for memory calls make, and what they return if one is refused.
 //!
-//! Each test makes its calls over bytes that are the same in each run, and then prints how many of the next
-//! requests are granted before one is refused. If the request R of the test is refused and G are
-//! granted after its calls, they made R - 1 - G requests.
+//! Each test makes its calls over bytes that are the same in each run, and then prints how many of
+//! the next requests are granted before one is refused. If the request R of the test is refused and
+//! G are granted after its calls, they made R - 1 - G requests.
 
 ghost use Rattle.std.specs.Prelude.{⊤};
 
@@ -47,12 +47,15 @@ pub fn tell<T: PartialEq + Copy>(
     let place = wanted.iter().position(|it| *it == found);
     let _ = println!(rt; "{name}: result {place:?}, {count} granted");
     assert!(rt; place.is_some(), "{name}: another result");
-    assert!(rt; place == Some(0) || count == MOST, "{name}: another result, with each request granted");
+    assert!(rt;
+        place == Some(0) || count == MOST,
+        "{name}: another result, with each request granted"
+    );
 }
 
 // What calls returned, one bit for each: a value, a refusal for its bytes, or out of memory; and a sum
 // of the values.
-#[derive(Copy, Clone, PartialEq, Drop)]
+#[derive(Copy, Clone, PartialEq)]
 struct Tally {
     given: u32,
     refused: u32,
@@ -82,7 +85,7 @@ impl Tally {
 }
 
 // A tally without a call out of memory.
-const fn fed(given: u32, refused: u32, sum: u64) -> Tally {
+fn fed(given: u32, refused: u32, sum: u64) -> Tally {
     Tally {
         given,
         refused,
@@ -223,7 +226,12 @@ fn visits_of_plain_numbers_and_byte_strings(rt: HostRuntime) {
 
 // What may be found of the two chains: both, one of them, or the other.
 const OF_CHAINS: [Tally; 3] = [
-    fed(3, 0, 63),
+    Tally {
+        given: 3,
+        refused: 0,
+        starved: 0,
+        sum: 63,
+    },
     Tally {
         given: 2,
         refused: 0,
@@ -371,11 +379,15 @@ fn numbers_of(alloc: Global, bytes: &[u8]) -> u64 {
     for frame in frames(bytes, Little) {
         let Ok(frame) = frame else { continue };
         let (pid, tid) = (frame.pid(&config), frame.tid(&config));
-        let numbers = [frame.time(&config), frame.id(&config), frame.identifier(&Little)];
-        for number in numbers {
+        let numbers = [
+            frame.time(&config),
+            frame.id(&config),
+            frame.identifier(&Little),
+        ];
+        for &number in &numbers {
             sum = sum.wrapping_add(number.unwrap_or(0));
         }
-        for number in [pid, tid, frame.cpu(&config)] {
+        for &number in &[pid, tid, frame.cpu(&config)] {
             sum = sum.wrapping_add(u64::from(number.unwrap_or(0)));
         }
         if let Ok(metadata) = frame.metadata(alloc, &config) {
@@ -494,7 +506,7 @@ fn flat_sum(alloc: Global) -> u64 {
     let [first, second, _] = frames;
     let sums = [frame, first, second, into, split];
     let mut sum = many.count as u64 + u64::from(is_read) + u64::from(end.how == 0);
-    for found in sums {
+    for found in &sums {
         let [ip, ..] = found.numbers;
         sum = sum.wrapping_add(ip);
     }
@@ -504,5 +516,10 @@ fn flat_sum(alloc: Global) -> u64 {
 #[test]
 fn flat_frames(rt: HostRuntime) {
     let found = flat_sum(rt.alloc());
-    tell(&rt, "flat frames", found, &[2 + 1 + 1 + (1 + 1 + 2 + 2 + 1) + 1]);
+    tell(
+        &rt,
+        "flat frames",
+        found,
+        &[2 + 1 + 1 + (1 + 1 + 2 + 2 + 1) + 1],
+    );
 }

@@ -188,7 +188,10 @@ impl Refused {
 
     // An attribute of 64 bytes with its fields, and the frame after it.
     fn recording(&self, alloc: Global) -> Result<Vec<u8>, AllocError> {
-        let mut bytes = Vec::from_slice(alloc, b"\0\0\0\0\x40\0\0\0\0\0\0\0\0\0\0\0\0\0\0\0\0\0\0\0")?;
+        let mut bytes = Vec::from_slice(
+            alloc,
+            b"\0\0\0\0\x40\0\0\0\0\0\0\0\0\0\0\0\0\0\0\0\0\0\0\0",
+        )?;
         for &field in &[self.sample_type, self.read_format, self.flags, 0, 0] {
             bytes.extend_from_slice(&field.to_le_bytes())?;
         }
@@ -327,7 +330,13 @@ fn by_sample_into(
 fn by_printing(alloc: Global, row: &Refused) -> Result<String, AllocError> {
     let (mut output, mut errors) = (Vec::new(alloc), Vec::new(alloc));
     let bytes = row.recording(alloc)?;
-    let outcome = print_recording(alloc, bytes.as_slice(), &mut output, &mut errors, Report::Samples);
+    let outcome = print_recording(
+        alloc,
+        bytes.as_slice(),
+        &mut output,
+        &mut errors,
+        Report::Samples,
+    );
     match (outcome, str::from_utf8(&errors)) {
         (Ok(false), Ok(text)) if output.is_empty() => {
             String::from_str(alloc, text.strip_suffix("\n").unwrap_or("no line"))
@@ -368,7 +377,12 @@ fn each_call_tells_why_a_frame_is_refused(rt: HostRuntime) -> Result<(), AllocEr
     for row in &REFUSED {
         for &call in &CALLS {
             let text = by(rt.alloc(), call, row)?;
-            check_same(&rt, row.name, (call, text.as_str()), (call, want(call, row)));
+            check_same(
+                &rt,
+                row.name,
+                (call, text.as_str()),
+                (call, want(call, row)),
+            );
         }
     }
     Ok(())
