@@ -1,10 +1,11 @@
 #!/usr/bin/env bash
 # Runs the tests of the crate `perf_out_of_memory` with the first allocation of each test refused, and
-# then with the second, the third, the fourth and the sixteenth. Records of a slice are the same, and a sample with
-# only raw bytes makes one allocation. With a buffered reader, which makes the first allocation, a run
+# then with the second, the third, the fourth and the sixteenth. Records of a slice are the same, and a
+# sample with only raw bytes makes one allocation. With a buffered reader, which makes the first allocation, a run
 # over nothing makes none, and one that lists a sample allocates capacity for the frame, then for the
 # sample, and then for its call chain. If capacity for one answer is refused, it is requested again.
-# The sixteenth request comes after the calls of each test of `requests` and `reports`: how many are
+# The fourth request of a report is for the line of its second frame, or for the list in it: the first line
+# is printed. The sixteenth request comes after the calls of each test of `requests` and `reports`: how many are
 # granted before it tells how many requests the calls made.
 set -eu
 cd "$(dirname "$0")/../../crates/perf_out_of_memory"
@@ -64,7 +65,9 @@ third=$!
 check 4 \
     'a call chain: 1 listed, out of memory' \
     'a short chain: 1 listed, done' \
-    'a chain alone: 0 listed, out of memory'
+    'a chain alone: 0 listed, out of memory' \
+    'a report of tasks: result Some(1)' \
+    'a report of samples: result Some(1)'
 wait "$third"
 
 # A list of records has capacity for all frames that are shown at once; a reader makes a request of its own. A
@@ -89,4 +92,4 @@ counts \
     2 'samples with a list, into a place' \
     4 'records with a box and a list' \
     5 'a report of samples' \
-    7 'a report of tasks'
+    6 'a report of tasks'

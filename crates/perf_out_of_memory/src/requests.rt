@@ -35,6 +35,16 @@ fn granted(alloc: Global) -> usize {
     MOST
 }
 
+// The place of the first of these values that equals another.
+fn place_of<T: PartialEq>(found: &T, wanted: &[T]) -> Option<usize> {
+    for (place, value) in wanted.iter().enumerate() {
+        if *value == *found {
+            return Some(place);
+        }
+    }
+    None
+}
+
 /// Prints what a test found, and how many requests are granted after its calls. It is what it has to
 /// be, or, after a refused request, what it may be then.
 pub fn tell<T: PartialEq + Copy>(
@@ -44,7 +54,7 @@ pub fn tell<T: PartialEq + Copy>(
     wanted: &[T],
 ) {
     let count = granted(rt.alloc());
-    let place = wanted.iter().position(|it| *it == found);
+    let place = place_of(&found, wanted);
     let _ = println!(rt; "{name}: result {place:?}, {count} granted");
     assert!(rt; place.is_some(), "{name}: another result");
     assert!(rt;
@@ -197,14 +207,14 @@ const CHAINS: &[u8] = b"\x09\0\0\0\0\0\x28\0\x01\0\0\0\0\0\0\0\x02\0\0\0\0\0\0\0
     \x0A\0\0\0\0\0\0\0\x14\0\0\0\0\0\0\0\
     \x09\0\0\0\0\0\x20\0\x02\0\0\0\0\0\0\0\x01\0\0\0\0\0\0\0\x1E\0\0\0\0\0\0\0";
 
-fn plain() -> perf_event_attr {
+fn with_raw() -> perf_event_attr {
     perf_event_attr {
         sample_type: SampleFlags::IP.bits() | SampleFlags::RAW.bits(),
         ..Default::default()
     }
 }
 
-fn chains() -> perf_event_attr {
+fn with_chains() -> perf_event_attr {
     perf_event_attr {
         sample_type: SampleFlags::IP.bits() | SampleFlags::CALLCHAIN.bits(),
         ..Default::default()
@@ -214,13 +224,13 @@ fn chains() -> perf_event_attr {
 #[test]
 fn samples_of_plain_numbers_and_byte_strings(rt: HostRuntime) {
     let name = "samples without a list, into a place";
-    let found = tally_of(rt.alloc(), PLAIN, plain(), Call::SampleInto);
+    let found = tally_of(rt.alloc(), PLAIN, with_raw(), Call::SampleInto);
     tell(&rt, name, found, &[fed(3, 0, 3)]);
 }
 
 #[test]
 fn visits_of_plain_numbers_and_byte_strings(rt: HostRuntime) {
-    let found = tally_of(rt.alloc(), PLAIN, plain(), Call::Visit);
+    let found = tally_of(rt.alloc(), PLAIN, with_raw(), Call::Visit);
     tell(&rt, "visits without a list", found, &[fed(3, 0, 3)]);
 }
 
@@ -249,19 +259,19 @@ const OF_CHAINS: [Tally; 3] = [
 #[test]
 fn samples_with_a_list(rt: HostRuntime) {
     let name = "samples with a list, into a place";
-    let found = tally_of(rt.alloc(), CHAINS, chains(), Call::SampleInto);
+    let found = tally_of(rt.alloc(), CHAINS, with_chains(), Call::SampleInto);
     tell(&rt, name, found, &OF_CHAINS);
 }
 
 #[test]
 fn visits_with_a_list(rt: HostRuntime) {
-    let found = tally_of(rt.alloc(), CHAINS, chains(), Call::Visit);
+    let found = tally_of(rt.alloc(), CHAINS, with_chains(), Call::Visit);
     tell(&rt, "visits with a list", found, &OF_CHAINS);
 }
 
 #[test]
 fn records_with_a_list(rt: HostRuntime) {
-    let found = tally_of(rt.alloc(), CHAINS, chains(), Call::Record);
+    let found = tally_of(rt.alloc(), CHAINS, with_chains(), Call::Record);
     tell(&rt, "records with a box and a list", found, &OF_CHAINS);
 }
 
@@ -271,7 +281,7 @@ const RECORDS: &[u8] = b"\x03\0\0\0\0\0\x18\0\x01\0\0\0\x02\0\0\0sh\0\0\0\0\0\0\
 
 #[test]
 fn records_of_numbers_and_byte_strings(rt: HostRuntime) {
-    let found = tally_of(rt.alloc(), RECORDS, plain(), Call::Record);
+    let found = tally_of(rt.alloc(), RECORDS, with_raw(), Call::Record);
     tell(&rt, "records without a list", found, &[fed(7, 0, 0)]);
 }
 
@@ -338,7 +348,7 @@ fn refused_of(alloc: Global, call: Call) -> (u32, u32) {
         Call::SampleInto => Call::Record,
         other => other,
     };
-    let namespaces = tally_of(alloc, LYING_NAMESPACES, plain(), of_records);
+    let namespaces = tally_of(alloc, LYING_NAMESPACES, with_raw(), of_records);
     (refused, namespaces.refused)
 }
 
@@ -486,7 +496,7 @@ fn a_list_of_records_of_a_reader(rt: HostRuntime) {
 // What flat frames have, by each call that makes one, of frames of samples: the sum of the first
 // number of each.
 fn flat_sum(alloc: Global) -> u64 {
-    let config = ParseConfig::<Little>::from(chains());
+    let config = ParseConfig::<Little>::from(with_chains());
     let Some(frame) = read(alloc, &config, CHAINS) else {
         return 0;
     };
@@ -504,22 +514,19 @@ fn flat_sum(alloc: Global) -> u64 {
         &mut split,
     );
     let [first, second, _] = frames;
-    let sums = [frame, first, second, into, split];
-    let mut sum = many.count as u64 + u64::from(is_read) + u64::from(end.how == 0);
-    for found in &sums {
+    let mut sum = identifier(CHAINS, &Little, false).unwrap_or(0);
+    for found in &[frame, first, second, into, split] {
         let [ip, ..] = found.numbers;
         sum = sum.wrapping_add(ip);
     }
-    sum.wrapping_add(identifier(CHAINS, &Little, false).unwrap_or(0))
+    match (many.count, is_read, end.how) {
+        (2, true, 0) => sum,
+        _ => 0,
+    }
 }
 
 #[test]
 fn flat_frames(rt: HostRuntime) {
     let found = flat_sum(rt.alloc());
-    tell(
-        &rt,
-        "flat frames",
-        found,
-        &[2 + 1 + 1 + (1 + 1 + 2 + 2 + 1) + 1],
-    );
+    tell(&rt, "flat frames", found, &[1 + (1 + 1 + 2 + 2 + 1)]);
 }
