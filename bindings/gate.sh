@@ -56,6 +56,12 @@ python_face() {
     face "Python" "python3" env PERF_EVENT_DATA_SO="$shared" python3 bindings/python/test.py $perfrec
 }
 
+replay=crates/perf_replay/out/perf_replay
+if [ -x $replay ]; then
+    face "lying counts and sizes, in 128 MiB" "python3 timeout" bindings/lies_test.sh $replay
+else
+    echo "skipped: lying counts and sizes: no proved perf_replay"
+fi
 mkdir "$work/llvm" || exit 2
 archive=$work/llvm/libperf_event_c.a
 second=$work/rattle/libperf_event_c.a

@@ -2,10 +2,11 @@
 """Streams made from a seed, for the programs that print records or count them:
 
     streams.py list SEED COUNT      a list of that many streams, in the form of crates/perf_replay/stdin
+    streams.py lies SEED COUNT      a list of streams with nothing but frames whose counts lie, and in part their sizes
     streams.py counts LIST PROGRAM [WORD..]
                                     compares what PROGRAM WORD.. counts in each stream of a list with what its text says
 
-The first two are the recordings of examples/. Each other stream is generated, or is a piece of a recording; two in three are
+The first two of `list` are the recordings of examples/. Each other stream is generated, or is a piece of a recording; two in three are
 mutated. All 21 types and unknown ones are there, in both byte orders, with and without an attribute. The same seed gives the
 same list. Its text is that of tools/answers/page.py, which is written from docs/FORMATS.md alone; the program `perf_replay`
 and bindings/c/replay.c read the list.
@@ -220,6 +221,33 @@ class Maker:
         return bytes(made)
 
 
+class Liar(Maker):
+    """Makes frames each of whose counts is more than there is, up to all bits."""
+
+    def __init__(self, seed):
+        super().__init__(seed)
+        self.sample_type = self.random.choice([1 << bit for bit in (4, 5, 10, 11, 12, 13, 18, 20)]) | self.some_bits() % 2**25
+        self.masks = [self.random.choice([1, 0xFF0FFF, 2**64 - 1]) for _ in range(2)]
+        self.read_format = self.random.randrange(32)
+
+    def count(self, actual, bits=64):
+        kind = self.random.randrange(4)
+        if kind == 0:
+            return (actual + self.random.randrange(1, 300)) % 2**bits
+        if kind == 1:
+            return 2 ** self.random.randrange(bits - 4, bits) // self.random.choice([1, 3, 8, 24])
+        # what would be a list of 1 MB to 4 GB
+        return 2 ** self.random.randrange(bits // 4, min(bits, 30)) + actual if kind == 2 else self.random.getrandbits(bits)
+
+    def frame(self):
+        type_ = self.random.choice([SAMPLE, SAMPLE, SAMPLE, 16, 20])
+        made = self.body(type_, 0)
+        size = 8 + len(made)
+        if self.is_one_in(6):
+            size = self.random.choice([0, 7, 8, size + 1, size + 8, 65535, self.number(16)]) % 2**16
+        return self.one("I", type_) + self.one("H", 0) + self.one("H", size) + made
+
+
 def piece_of(maker, recording):
     """The attribute of a recording, and some frames of it, one after another."""
     start = struct.unpack_from("<I", recording, 4)[0]
@@ -251,6 +279,13 @@ def stream_of(maker, recordings):
         words[0] = "native"
     limit = maker.random.choice([0, 1, 3]) if maker.is_one_in(8) else NO_LIMIT
     return stream, [words[0], str(limit), *words[1:]]
+
+
+def lying_stream(seed):
+    """An attribute and lying frames after it, and the words of `perfrec` by which they are read."""
+    liar = Liar(seed)
+    order = "little" if liar.order == "<" else "big"
+    return liar.attribute() + liar.frames(), [order, str(NO_LIMIT), "attr"]
 
 
 def write_case(name, stream, words):
@@ -321,6 +356,10 @@ def compare_counts(file, program):
 def main(words):
     if len(words) == 3 and words[0] == "list" and words[2].isdigit():
         write_list(words[1], int(words[2]))
+        return 0
+    if len(words) == 3 and words[0] == "lies" and words[2].isdigit():
+        for index in range(int(words[2])):
+            write_case(f"lies_{words[1]}_{index}", *lying_stream(f"{words[1]}/lies/{index}"))
         return 0
     if len(words) >= 3 and words[0] == "counts":
         return 1 if compare_counts(words[1], words[2:]) else 0

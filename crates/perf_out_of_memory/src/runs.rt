@@ -2,8 +2,7 @@
 //!
 //! The first request for memory of each test is the reader's, and the next ones are the run's.
 
-ghost use Rattle.std.specs.Prelude.{◌≤◌};
-
+use crate::page::Page;
 use bitflags::Flags;
 use perf_event_data::endian::Little;
 use perf_event_data::parse::{ErrorKind, ParseConfig, ParseResult, Parser};
@@ -13,7 +12,7 @@ use perf_lines::line::line_of;
 use perf_lines::outcome::Outcome;
 use perf_lines::run::run;
 use std::alloc::Global;
-use std::io::{self, BufReader, Write};
+use std::io::BufReader;
 use std::process::Abort;
 
 // Whether a request for memory is granted, and whether the next one is.
@@ -151,27 +150,6 @@ fn a_call_chain_without_raw_bytes(rt: HostRuntime) {
 
 // ---- the text of a run
 
-// Keeps a text of at most 64 bytes.
-#[derive(Drop)]
-struct Page {
-    bytes: [u8; 64],
-    len: usize,
-    ghost within: { len ≤ 64 },
-}
-
-impl Write for Page {
-    fn write(&mut self, buf: &[u8]) -> io::Result<usize> {
-        let count = buf.len().min(64 - self.len);
-        self.bytes[self.len..self.len + count].copy_from_slice(&buf[..count]);
-        self.len += count;
-        Ok(count)
-    }
-
-    fn flush(&mut self) -> io::Result<()> {
-        Ok(())
-    }
-}
-
 // Whether this is the text of a run with a limit of no frames. Its first request is the reader's, and
 // the next ones are the text's.
 fn is_text(text: &[u8], outcome: Outcome) -> bool {
@@ -185,13 +163,10 @@ fn is_text(text: &[u8], outcome: Outcome) -> bool {
 
 #[test]
 fn the_text_of_a_run_without_a_reader(rt: HostRuntime) {
-    let mut page = Page {
-        bytes: [0; 64],
-        len: 0,
-    };
+    let mut page = Page::new();
     let empty: &[u8] = &[];
     let outcome = run(rt.alloc(), empty, &mut page, Little, 0, false, 8192);
-    let text = &page.bytes[..page.len];
+    let text = page.text();
     let _ = println!(rt; "a text: {outcome:?}, {} bytes", text.len());
     assert!(rt; is_text(text, outcome), "{outcome:?}");
 }
