@@ -37,11 +37,19 @@ class Log:
     def look(self):
         if self.path is None:
             return
-        with open(self.path, encoding="utf-8", errors="replace") as it:
-            text = it.read()
-        lines = text.split("\n")
+        lines = self.text().split("\n")
         self.proved = {found[1] for found in map(PROVED.match, lines) if found}
         self.ended = any(re.match(r"\d+ passed, \d+ failed", it) for it in lines)
+
+    def text(self):
+        with open(self.path, encoding="utf-8", errors="replace") as it:
+            return it.read()
+
+    def functions(self, crate):
+        """The functions of a crate that it names as proved, with those that do not stand in the source, such as how a type
+        is dropped. (A closure is left out: it is proved with its function.)"""
+        names = re.findall(rf"^fn {crate}::(\S+): proved$", self.text(), re.MULTILINE) if self.path else []
+        return {it for it in names if "fn" not in it.split("::")}
 
 
 class Run:
@@ -69,6 +77,12 @@ class Run:
         with self.print:
             for edit in edits:
                 self.tell(name, edit.stem, [it for it in found if it.edit == edit.stem])
+
+    def say(self, text):
+        """Prints what a check took, if that is asked for."""
+        if self.options.verbose:
+            with self.print:
+                print(text, flush=True)
 
     def tell(self, name, edit, bodies):
         good = sum(bool(it.told) for it in bodies)

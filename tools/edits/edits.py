@@ -17,7 +17,8 @@ class Body:
         self.pairs, self.names, self.owner, self.others, self.text = [], [], "", [], ""
         # the functions of its file, the traits of its crate, and the module of its type
         self.known, self.traits, self.home = set(), set(), None
-        self.told, self.why, self.tries, self.is_declared = "", "", 0, False
+        self.told, self.why, self.tries, self.number, self.is_declared = "", "", 0, 0, False
+        self.is_copied = True
 
     def place(self, lines):
         """Finds the function around the edited line, and the type whose impl contains it."""
@@ -48,6 +49,14 @@ class Body:
         module = self.home if self.home is not None and not self.others else module_of(self.path)
         is_taken = self.others and self.owner in self.traits
         return ["::".join(filter(None, [module, self.others[0] if is_taken else self.owner, named[0]]))]
+
+    def proves(self, folder):
+        """Whether a folder of proofs is that of its function: a method's is below its type."""
+        *around, name = folder.split("/")
+        if self.owner:
+            owner = (around[-1].partition("+")[0] if around else "").lower()
+            return name in self.names and owner in (self.owner.lower(), *(it.lower() for it in self.others))
+        return name in self.names and "::".join(around) == module_of(self.path)
 
     def is_apart(self):
         """Whether it is in no function, as a flag's number is, or in several: it is refused where the edit states."""

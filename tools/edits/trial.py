@@ -1,5 +1,6 @@
 """Tries wrong bodies of a crate, several in each check of a copy of it."""
 
+import os
 import re
 import shutil
 import signal
@@ -7,13 +8,14 @@ import subprocess
 import time
 from pathlib import Path
 
-from edits import functions_of, module_of
+from copies import copy_proof, insert, place_of
+from edits import functions_of
 from kit import crate_of
 
 # What the prover reports at a function, and in the files of its proof.
 NOTE = re.compile(r"note: (?:\./)?(src/\S+?):(\d+):(\d+): (it is not proved .*)")
 GAVE_UP = re.compile(r"note: what antt said of .*?: (?:\./)?(src/\S+?):(\d+):(\d+): error: (.*)")
-ERROR = re.compile(r"(?:\./)?proofs/(\S+?)/(\w+)\.antt:\d+:\d+: error: (.*)")
+ERROR = re.compile(r"(?:\./)?proofs/(\S+?)/\w+\.antt:\d+:\d+: error: (.*)")
 # Errors of proofs that name what the edit, or the refusal of a callee, removed.
 NAMES = re.compile(r"has no field|is not in scope|has no `|was not admitted|\(nearest:")
 # What it reports of a text that it cannot read, or compile, and of a proof of no function.
@@ -23,29 +25,32 @@ NO_PROOF = re.compile(r"\./proofs/(\S+)/Proof\.antt: error: ")
 # Its last line, and what it says of a function that is proved, if what it calls is.
 ENDED = re.compile(r"only=\d+ holes=\d+")
 HOLDS = re.compile(r"no holes|depends on a hole in|proved$")
+FUNCTION_LINE = re.compile(r"fn \w+::(\S+): (.*)")
 # What a check takes, in GB, if it is a large one.
 LEAST_MEMORY = 4
 
 
-def refusal(body, output):
+def refusal(place, output):
     """What the prover reports at the function of a body, or nothing."""
     for line in output:
         note = NOTE.match(line) or GAVE_UP.match(line)
-        if note and note[1] == body.path and body.first <= int(note[2]) <= body.last:
+        if note and note[1] == place.path and place.first <= int(note[2]) <= place.last:
             return note[4]
         error = ERROR.match(line)
-        if error and proves(body, error[1]) and not NAMES.search(error[3]):
-            return error[3]
+        if error and place.proves(error[1]) and not NAMES.search(error[2]):
+            return error[2]
     return ""
 
 
-def proves(body, folder):
-    """Whether a folder of proofs is that of a body's function: a method's is below its type."""
-    *around, name = folder.split("/")
-    if body.owner:
-        owner = (around[-1].partition("+")[0] if around else "").lower()
-        return name in body.names and owner in (body.owner.lower(), *(it.lower() for it in body.others))
-    return name in body.names and "::".join(around) == module_of(body.path)
+def is_refused(name, output):
+    """Whether the prover reports an open goal of a function, or an error in the files of its proof."""
+    for line in output:
+        said, error = FUNCTION_LINE.match(line), ERROR.match(line)
+        if said and said[1] == name and "did not prove `" in said[2]:
+            return True
+        if error and error[1].replace("/", "::") == name and not NAMES.search(error[2]):
+            return True
+    return False
 
 
 def free_memory():
@@ -55,49 +60,64 @@ def free_memory():
 
 
 class Trial:
-    """A copy of a crate, in which its bodies are tried, several in each check."""
+    """A copy of a crate, in which its bodies are tried, many in each check."""
 
     def __init__(self, run, name, room):
         crate = crate_of(run.rtlib, str(run.top), name)
-        self.name, self.folder, self.source, self.log = name, Path(room) / "crate", Path(crate.folder), run.log
-        self.proofs, self.functions = self.source / "proofs", functions_of(self.source)
+        self.name, self.folder, self.source, self.whole = name, Path(room) / "crate", Path(crate.folder), run
+        # the functions that count as proved, and other names that have no proof
+        self.functions, self.unknown = functions_of(self.source) | run.log.functions(name), set()
+        self.proofs = self.source / "proofs"
         self.command = [run.rtlib.RATTLE, "check", *crate.words(["--jobs", "1"], keeps=False), "--allow-holes"]
         self.command += ["--incremental", f"{room}/kept"]
         for part in ("src", "specs"):
             if (self.source / part).is_dir():
                 shutil.copytree(self.source / part, self.folder / part)
 
-    def texts(self, bodies):
-        """The files with these bodies in them, as many as fit beside one another: each in a function of its own. What
-        is no function's is beside no function's body, which might be refused for it."""
-        texts, fitting, taken = {}, [], set()
+    def places(self, bodies):
+        """The files with these bodies in them, and the place of each, of as many as fit beside one another: one in each
+        function that is not copied. What is no function's is beside no function's body, which might be refused for it."""
+        texts, places, taken = {}, [], set()
         for body in bodies:
+            place = place_of(body, self.text(body.path, {}))
             changed = {path: self.text(path, texts) for path, _, _ in body.pairs}
-            for path, old, new in body.pairs:
-                changed[path] = changed[path].replace(old, new) if changed[path].count(old) == 1 else ""
-            place = body.path, body.first
-            if all(changed.values()) and place not in taken and body.is_apart() == (fitting or [body])[0].is_apart():
+            if place.lines is None:
+                for path, old, new in body.pairs:
+                    changed[path] = changed[path].replace(old, new) if changed[path].count(old) == 1 else ""
+            fits = place.lines is not None or all(changed.values()) and (body.path, body.first) not in taken
+            if fits and body.is_apart() == (places[0].body if places else body).is_apart():
                 texts.update(changed)
-                fitting.append(body)
-                taken.add(place)
-        return texts, fitting
+                places.append(place)
+                taken.update([] if place.lines is not None else [(body.path, body.first)])
+        return {path: insert(text, [it for it in places if it.path == path]) for path, text in texts.items()}, places
 
     def text(self, path, texts):
         return texts.get(path) or (self.folder / path).read_text(encoding="utf-8")
 
-    def check(self, texts, bodies):
-        """What the prover prints of the functions of these bodies, in lines. Other functions count as proved."""
-        output = self.run_prover(texts, bodies)
+    def check(self, texts, places):
+        """What the prover prints of the functions of these bodies, in lines. Other functions count as proved, and from the
+        next check on also those that it names and that do not stand in the source, such as how a type is dropped."""
+        output = self.run_prover(texts, places)
         # (some of a trait's, say, have no proof of that name)
         unknown = {found[1].replace("/", "::") for found in map(NO_PROOF.match, output) if found}
+        self.unknown |= unknown
         self.functions -= unknown
-        return output if not unknown or any(ENDED.match(it) for it in output) else self.run_prover(texts, bodies)
+        if unknown and not any(ENDED.match(it) for it in output):
+            output = self.run_prover(texts, places)
+        tried = {it for place in places for it in place.functions}
+        named = {found[1] for found in map(FUNCTION_LINE.match, output) if found and HOLDS.match(found[2])}
+        # (a closure is proved with its function)
+        self.functions |= {it for it in named - tried - self.unknown if "fn" not in it.split("::")}
+        return output
 
-    def run_prover(self, texts, bodies):
+    def run_prover(self, texts, places):
         shutil.rmtree(self.folder / "proofs", ignore_errors=True)
         if self.proofs.is_dir():
             shutil.copytree(self.proofs, self.folder / "proofs")
-        asked = {it for body in bodies for it in body.functions()}
+        for place in places:
+            if place.lines is not None:
+                copy_proof(place, self.folder / "proofs")
+        asked = {it for place in places for it in place.functions}
         for name in self.functions - asked:
             self.assume(name)
         for path, text in texts.items():
@@ -113,9 +133,9 @@ class Trial:
 
     def started(self, only):
         """Runs the prover once there is memory for it. What rt ci still proves goes first."""
-        while free_memory() < LEAST_MEMORY and not self.log.ended:
+        while free_memory() < LEAST_MEMORY and not self.whole.log.ended:
             time.sleep(5)
-        gently = [] if self.log.ended else ["nice", "-n", "19"]
+        gently = [] if self.whole.log.ended else ["nice", "-n", "19"]
         return subprocess.run([*gently, *self.command, *only], cwd=self.folder, stdin=subprocess.DEVNULL,
                               stdout=subprocess.PIPE, stderr=subprocess.STDOUT, errors="replace")
 
@@ -132,46 +152,52 @@ class Trial:
     def run(self, bodies):
         """Tries all bodies, and notes with each what the prover said of it, or nothing. Those that do not fit beside
         the others, or that another changed function stands in the way of, are tried after these, and at last alone."""
+        for number, body in enumerate(bodies, 1):
+            body.number = number
         left, alone = list(bodies), []
         while left or alone:
-            texts, fitting = self.texts(left or alone[:1])
-            if not fitting:
+            texts, places = self.places(left or alone[:1])
+            if not places:
                 (left or alone).pop(0).why = "its old text is not there once"
                 continue
-            again = self.judge(fitting, self.check(texts, fitting))
-            left, alone = ([it for it in group if it not in fitting] for group in (left, alone))
+            began = time.monotonic()
+            again, tried = self.judge(places, self.check(texts, places)), [it.body for it in places]
+            left, alone = ([it for it in group if it not in tried] for group in (left, alone))
             for body in again:
-                body.tries += 1
-                (alone if body.tries > 1 or len(again) == len(fitting) else left).append(body)
+                body.tries, body.is_copied = body.tries + 1, False
+                (alone if body.tries > 1 or len(again) == len(tried) else left).append(body)
+            took, rest = time.monotonic() - began, len(left) + len(alone)
+            self.whole.say(f"{self.name}: {len(tried)} bodies in {took:.0f} seconds, {rest} left")
 
-    def judge(self, bodies, output):
+    def judge(self, places, output):
         """Notes what was refused, and returns the bodies to try again."""
         failed = next((it for it in output if UNREAD.match(it)), "")
         if not any(ENDED.match(it) for it in output):
             failed = failed or next((it for it in output if "error" in it), "no verdict")
         if failed:
-            return self.parted(bodies, failed)
+            return self.parted(places, failed)
         lines = {it.split(": ")[0]: it.partition(": ")[2] for it in output if it.startswith("fn ")}
         again = []
-        for body in bodies:
-            said = [lines.get(f"fn {self.name}::{it}", "") for it in body.functions()]
+        for place in places:
+            body, said = place.body, [lines.get(f"fn {self.name}::{it}", "") for it in place.functions]
             body.why = "; ".join(said)
             if body.is_apart():
-                body.told = "" if any(not it or HOLDS.match(it) for it in said) else body.why
+                body.told = body.why if all(is_refused(it, output) for it in place.functions) else ""
             elif not all(HOLDS.match(it) for it in said):
-                body.told = refusal(body, output)
-                again += [body] if not body.told and len(bodies) > 1 else []
+                body.told = refusal(place, output)
+                again += [body] if not body.told and (len(places) > 1 or place.lines is not None) else []
         return again
 
-    def parted(self, bodies, failed):
+    def parted(self, places, failed):
         """Tries the bodies without those that cannot be compiled, or read, and returns what is to be tried again."""
-        if len(bodies) == 1:
-            bodies[0].why = failed
-            return []
-        place = PLACE.match(failed)
-        own = [it for it in bodies if place and it.path == place[1] and it.first <= int(place[2]) <= it.last]
-        own = own or [it for it in bodies if any(f"`{name}`" in failed for name in it.functions())]
-        if not 0 < len(own) < len(bodies):
-            own = bodies[len(bodies) // 2 :]
-        texts, fitting = self.texts([it for it in bodies if it not in own])
-        return self.judge(fitting, self.check(texts, fitting)) + [it for it in bodies if it not in fitting]
+        if len(places) == 1:
+            places[0].body.why = failed
+            return [it.body for it in places if it.lines is not None]
+        at = PLACE.match(failed)
+        own = [it for it in places if at and it.path == at[1] and it.first <= int(at[2]) <= it.last]
+        own = own or [it for it in places if any(f"`{name}`" in failed for name in it.functions)]
+        if not 0 < len(own) < len(places):
+            own = places[len(places) // 2 :]
+        texts, fitting = self.places([it.body for it in places if it not in own])
+        tried = [it.body for it in fitting]
+        return self.judge(fitting, self.check(texts, fitting)) + [it.body for it in places if it.body not in tried]

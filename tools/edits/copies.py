@@ -1,0 +1,78 @@
+"""Copies of functions, each with a wrong body, beside the functions themselves: so many bodies are tried in one check,
+and none of them stands in another's way."""
+
+import re
+import shutil
+
+from edits import FUNCTION
+
+
+class Place:
+    """Where a body is tried: in a copy of its function, under a name of its own, or in the function itself. It has that
+    function's name, as the prover knows it, and its lines."""
+
+    def __init__(self, body, lines=None):
+        self.body, self.path, self.lines = body, body.path, lines
+        self.first, self.last, self.functions = body.first, body.last, body.functions()
+        if lines is not None:
+            self.functions = [self.functions[0] + suffix(body)]
+
+    def proves(self, folder):
+        """Whether a folder of proofs is that of the function."""
+        return self.body.proves(folder) if self.lines is None else folder.replace("/", "::") == self.functions[0]
+
+
+def suffix(body):
+    """What the name of a body's copy ends with."""
+    return f"_wrong{body.number}"
+
+
+def place_of(body, text):
+    """Where a body is tried, in a file as it stands. A trait's method is tried in itself, and so is a function that the
+    body writes again, or beside which it writes another."""
+    names = body.functions()
+    if not body.is_copied or body.others or body.is_declared or body.is_apart() or len(names) > 1:
+        return Place(body)
+    copy = "\n".join(text.split("\n")[body.first - 1 : body.last])
+    for path, old, new in body.pairs:
+        if path != body.path or copy.count(old) != 1 or FUNCTION.search(new):
+            return Place(body)
+        copy = copy.replace(old, new)
+    name = names[0].split("::")[-1]
+    copy, count = re.subn(rf"\bfn {name}\b", f"fn {name}{suffix(body)}", copy)
+    code = re.sub(r"/\*.*?\*/", "", copy, flags=re.DOTALL)
+    is_whole = count == 1 and all(code.count(it[0]) == code.count(it[1]) for it in ("{}", "()", "[]"))
+    return Place(body, copy.split("\n") if is_whole else None)
+
+
+def hides(body):
+    """Whether a body hides the rest of its function in a comment, as one that calls the function itself for that does."""
+    return any(new.endswith("/*") for _, _, new in body.pairs)
+
+
+def insert(text, places):
+    """A file with the copies that belong there, each after its function. It tells the places where their lines are now."""
+    lines, added = text.split("\n"), 0
+    for place in sorted(places, key=lambda it: it.last):
+        at = place.last + added
+        if place.lines is None:
+            place.first, place.last = place.first + added, at
+        else:
+            lines[at:at] = ["", *place.lines]
+            place.first, place.last = at + 2, at + 1 + len(place.lines)
+            added += 1 + len(place.lines)
+    return "\n".join(lines)
+
+
+def copy_proof(place, proofs):
+    """Gives a copy the files of its function's proof, with its own name in them: none if it hides what they prove."""
+    whole = place.body.functions()[0]
+    folder, name = proofs / whole.replace("::", "/"), whole.split("::")[-1]
+    if not folder.is_dir() or hides(place.body):
+        return
+    copied = folder.with_name(name + suffix(place.body))
+    shutil.copytree(folder, copied)
+    cited = re.compile(rf"((?:proofs|contracts)\.{re.escape(whole.replace('::', '.'))})(?![\w'-])|\b({name})(?=_spec\b)")
+    for file in copied.glob("*.antt"):
+        text = file.read_text(encoding="utf-8")
+        file.write_text(cited.sub(lambda it: it[0] + suffix(place.body), text), encoding="utf-8")
