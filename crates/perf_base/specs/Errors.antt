@@ -46,6 +46,15 @@ pub record IsMadeOf (e : ParseError) (kind : ErrorKind) (message : Option (List 
   pub message_is : message_of e ≡ message
   pub cause_is : cause_of e ≡ cause
 
+-- a kind that a layout can have: neither a fault nor out of memory
+abbrev pub of_layout : ErrorKind → Bool
+of_layout Eof = true
+of_layout InvalidRecord = true
+of_layout UnsupportedConfig = true
+of_layout UnsupportedData = true
+of_layout External = false
+of_layout OutOfMemory = false
+
 -- the text of a kind
 abbrev pub kind_text : ErrorKind → List ℕ
 kind_text Eof = codes "unexpected EOF during parsing"

@@ -3,7 +3,7 @@
 ghost use Rattle.std.specs.Prelude.{◌≡◌, ◌≤◌, if◌then◌else◌, Some, None, option_map, codes, length};
 ghost use Rattle.std.specs.Fmt.Cut.{cut_to};
 ghost use Rattle.perf_base.specs.Errors.{kind_text, kind_of, message_of, cause_of, error_text};
-ghost use Rattle.perf_base.specs.Errors.{IsMadeOf, is_unexpected_eof};
+ghost use Rattle.perf_base.specs.Errors.{IsMadeOf, is_unexpected_eof, of_layout};
 ghost use Rattle.perf_base.specs.declared.error.ErrorKind.TheVariants.{Eof, External, OutOfMemory};
 
 use std::alloc::{AllocError, AllocFailed};
@@ -35,6 +35,15 @@ pub enum ErrorKind {
 }
 
 impl ErrorKind {
+    /// Whether the bytes themselves are refused: it is neither a fault nor out of memory. A run goes
+    /// on after such a frame; [`ErrorKind::External`] and [`ErrorKind::OutOfMemory`] end it.
+    #[inline]
+    pub fn is_of_layout(&self) -> bool
+        ensures { result ≡ of_layout self.now }
+    {
+        !matches!(self, ErrorKind::External | ErrorKind::OutOfMemory)
+    }
+
     fn text(self) -> &'static str
         ensures { result.now ≡ kind_text self }
     {

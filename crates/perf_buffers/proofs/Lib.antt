@@ -1,4 +1,3 @@
 pub mod Taking
 pub mod Options
 pub mod Chunks
-pub mod After

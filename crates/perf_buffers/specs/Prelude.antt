@@ -14,5 +14,5 @@ pub use Rattle.perf_buffers.specs.Cursor.{cursor_left, cursor_is_borrowed, IsAtS
 pub use Rattle.perf_buffers.specs.Cursor.{ContentIsAtStart}
 pub use Rattle.perf_buffers.specs.Room.{falls_short, is_made_beforehand, makes_all_room, first_capacity}
 pub use Rattle.perf_buffers.specs.Taking.{Takes, FailsToTake, FailsToKeep, FailsInRest, CanFail}
-pub use Rattle.perf_buffers.specs.Taking.{FailsAfter, TakesAtOnce}
+pub use Rattle.perf_buffers.specs.Taking.{TakesAtOnce}
 pub use Rattle.perf_buffers.specs.FrameBytes.{GivesNextBytes}

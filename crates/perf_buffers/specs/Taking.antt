@@ -65,13 +65,3 @@ CanFail old (Some OutOfMemory) = Unit {0}
 abbrev pub TakesAtOnce : Source → ℕ → Bool → List ℕ → Source → Type 0
 TakesAtOnce old n true out new = Takes old n new × (out ≡ take n old.left)
 TakesAtOnce old n false out new = new.left ≡ old.left
-
--- What a refused copy of n bytes from a place on took: all, if there are too few; nothing, if out
--- of memory.
-abbrev pub FailsAfter : ErrorKind → ℕ → List ℕ → (old new : ℕ) → Type 0
-FailsAfter Eof n bytes old new = (length (drop old bytes) < n) × (drop new bytes ≡ [])
-FailsAfter External n bytes old new = ⊥
-FailsAfter InvalidRecord n bytes old new = ⊥
-FailsAfter UnsupportedConfig n bytes old new = ⊥
-FailsAfter UnsupportedData n bytes old new = ⊥
-FailsAfter OutOfMemory n bytes old new = new ≡ old

@@ -7,7 +7,6 @@ ghost use Rattle.perf_buffers.specs.Prelude.{CanFail, Takes, FailsToKeep, CallNe
 ghost use Rattle.perf_buffers.specs.Prelude as prelude;
 
 use crate::cut::cut;
-use crate::frame_input::after;
 use crate::parsebuf::{ParseBuf, ParseBufChunk};
 use perf_base::{CowSlice, ErrorKind, Kept, ParseError, ParseResult};
 use std::alloc::Global;
@@ -17,6 +16,18 @@ pub(crate) enum Content<'p> {
     Borrowed(&'p [u8]),
     // The bytes, and how many of them were taken.
     Own(Vec<u8>, usize),
+}
+
+// The bytes from a place on.
+#[inline]
+fn after(bytes: &[u8], place: usize) -> &[u8]
+    ensures { result.now ≡ drop place bytes.now }
+{
+    if place < bytes.len() {
+        &bytes[place..]
+    } else {
+        &[]
+    }
 }
 
 /// The bytes of one frame: borrowed from the input, or owned.

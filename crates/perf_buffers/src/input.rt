@@ -1,7 +1,8 @@
 //! The sources of bytes for calls inside this library.
 //!
-//! An input returns the bytes that are requested, or a [`Refusal`] of two bytes. A slice and the
-//! bytes of a frame are inputs themselves; any other buffer is one as an
+//! An input returns the bytes that are requested, or a [`Refusal`] of two bytes. A slice is an input
+//! itself, and bytes that are borrowed for a short time are one as
+//! [`TransientBytes`](crate::transient::TransientBytes); any other buffer is one as an
 //! [`Outer`](crate::outer::Outer).
 
 ghost use Rattle.std.specs.Prelude.{◌≡◌, ℕ, ◌<◌, ◌≤◌, [], length, take, drop, true, false, Some};

@@ -4,7 +4,6 @@
 pub mod cursor;
 mod cut;
 mod fill;
-mod frame_input;
 pub mod frame_reader;
 pub mod input;
 pub mod outer;

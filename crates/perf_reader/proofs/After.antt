@@ -110,20 +110,6 @@ module _ {I E : Type 0} {source : I → Source} {order : E → Order} where
         keeps = first.keeps;
       }) next
 
-  -- one that was refused
-  pub part_stops : {X Y B : Type 0} {show : Y → B} {a b : Reader I E} {e : ErrorKind} (shape : Shape) (view : X → ShapeValue shape) (k : Configuration → ShapeValue shape → Parts B) →
-      Call source order (ReadsOne shape view) a (Err e) b → Call source order (Reads (λ s. part shape (k s)) show) a (Err e) b
-  part_stops {X} {Y} {B} {show} {a} {b} {e} shape view k first =
-      call_stops {view = view} {show = show} (λ _. part shape done) k (record {
-        config = first.config;
-        whole = first.whole;
-        told = first.told;
-        answer = λ t kind.
-            let old : ReaderState = state_of source order a in
-            places_took old.order (part shape done) old.source.left old.reads ∙ ap (then_take (λ v left m. took v left m)) (first.answer t kind);
-        keeps = first.keeps;
-      })
-
   -- a call for which no memory is taken, and one of which that is not stated
   pub plain : {Y B : Type 0} {a b : Reader I E} {outcome : Result Y ErrorKind} (p : Configuration → Parts B) (show : Y → B) →
       (IsTrue (source a.input).told → NeedsNoMemory outcome) → Call source order (Reads p show) a outcome b → Call source order (ReadsPlain p show) a outcome b

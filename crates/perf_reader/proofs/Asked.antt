@@ -1,6 +1,6 @@
 -- Parts that a configuration asks for, and checks, as calls one after another find them.
-use Rattle.std.proofs.Common.{◌≡◌, ℕ, List, [], ◌∷◌, Bool, true, false, refl, sym, ◌∙◌, ap, subst, arith}
-use Rattle.std.specs.Prelude.{◌≢◌, Result, Ok, Err, Option, Some, None, IsTrue, IfOk}
+use Rattle.std.proofs.Common.{◌≡◌, ℕ, List, [], ◌∷◌, Bool, true, refl, sym, ◌∙◌, ap, subst}
+use Rattle.std.specs.Prelude.{Result, Ok, Err, Option, IsTrue, IfOk}
 use Rattle.perf_base.specs.Configuration.{Configuration}
 use Rattle.perf_base.specs.Configured.{configuration_of, endian_of}
 use Rattle.perf_base.specs.Layout.{Parts, Width, done, part, check, optional, words}
@@ -8,25 +8,15 @@ use Rattle.perf_base.specs.Order.{Order}
 use Rattle.perf_base.specs.Table.{present_if}
 use Rattle.perf_base.specs.Took.{Took, took, quit, take_parts, took_by_places}
 use Rattle.perf_base.specs.declared.error.ErrorKind.{ErrorKind}
-use Rattle.perf_base.specs.declared.error.ErrorKind.TheVariants.{Eof, InvalidRecord, UnsupportedConfig, UnsupportedData, External, OutOfMemory}
 use Rattle.perf_base.proofs.Took.{places_took, then_take}
 use Rattle.perf_buffers.specs.Buffer.{Source}
 use Rattle.perf_reader.specs.Calls.{Call}
 use Rattle.perf_reader.specs.ReaderState.{ReaderState, state_of}
-use Rattle.perf_reader.specs.Reading.{Transition, AnswersRun, Reads, ReadsOne, CallInvariant, of_layout}
+use Rattle.perf_reader.specs.Reading.{Transition, AnswersRun, Reads, ReadsOne}
 use Rattle.perf_reader.specs.TableRuns.{ReadsBorrowed, ReadsField, ReadsTable, before, field_took, table_took}
 use Rattle.perf_reader.specs.declared.reader.Reader.{Reader}
 use Rattle.perf_reader.proofs.After.{call_after, call_stops}
 use Rattle.perf_reader.proofs.TableRuns.{places_table}
-
--- a refusal at once keeps everything
-refused_at_once : (e : ErrorKind) → IsTrue (of_layout e) → (start m : ReaderState) → CallInvariant start None m → CallInvariant start (Some e) m
-refused_at_once Eof kind start m h = record { buffer = (h.buffer.0, h.buffer.1, h.buffer.2, h.buffer.3); fault = λ x. cc; cost = λ t. let c = h.cost t in (c.0, omega (arith, c.1)); place = h.place }
-refused_at_once InvalidRecord kind start m h = record { buffer = (h.buffer.0, h.buffer.1, h.buffer.2, h.buffer.3); fault = λ x. cc; cost = λ t. let c = h.cost t in (c.0, omega (arith, c.1)); place = h.place }
-refused_at_once UnsupportedConfig kind start m h = record { buffer = (h.buffer.0, h.buffer.1, h.buffer.2, h.buffer.3); fault = λ x. cc; cost = λ t. let c = h.cost t in (c.0, omega (arith, c.1)); place = h.place }
-refused_at_once UnsupportedData kind start m h = record { buffer = (h.buffer.0, h.buffer.1, h.buffer.2, h.buffer.3); fault = λ x. cc; cost = λ t. let c = h.cost t in (c.0, omega (arith, c.1)); place = h.place }
-refused_at_once External kind start m h = cc
-refused_at_once OutOfMemory kind start m h = cc
 
 -- the fields of a table, if f does what is left to do with their values; it is opened only when a proof asks for it
 unfoldable pub Row : {X A : Type 0} → (Took (List (Option A)) → Took (List (Option A))) → (Configuration → List (Option (Parts A))) → (X → List (Option A)) → Transition X
@@ -50,20 +40,6 @@ module _ {I E : Type 0} {source : I → Source} {order : E → Order} where
         keeps = next.keeps;
       }
 
-  -- one that does not hold
-  pub check_fails : {Y B : Type 0} {show : Y → B} {a : Reader I E} (t : Configuration → Bool) (e : ErrorKind) (k : Configuration → Parts B) →
-      IsTrue (of_layout e) → t (configuration_of a.config) ≡ false → Call source order (Reads (λ s. check (t s) e (k s)) show) a (Err e) a
-  check_fails {Y} {B} {show} {a} t e k kind fails =
-      let old : ReaderState = state_of source order a in record {
-        config = refl;
-        whole = refl;
-        told = λ h. h;
-        answer = λ h outcome.
-            places_took old.order (check (t old.settings) e (k old.settings)) old.source.left old.reads
-            ∙ ap (λ b. take_parts old.order (check b e (k old.settings)) old.source.left old.reads) fails;
-        keeps = λ start. refused_at_once e kind start old;
-      }
-
   -- a number that is present, or absent
   pub option_after : {Y B : Type 0} {show : Y → B} {a b c : Reader I E} {x : Option ℕ} {outcome : Result Y ErrorKind} (w : Width) (t : Configuration → Bool) (present : Bool) (k : Configuration → Option ℕ → Parts B) →
       t (configuration_of a.config) ≡ present → Call {X = Option ℕ} source order (ReadsOne (optional present w) (λ o. o)) a (Ok x) b → Call source order (Reads (λ s. k s x) show) b outcome c →
@@ -80,23 +56,6 @@ module _ {I E : Type 0} {source : I → Source} {order : E → Order} where
             ∙ ap (then_take (λ v left m. took v left m)) (first.answer h);
         keeps = first.keeps;
       }) next
-
-  -- one that was refused
-  pub option_stops : {Y B : Type 0} {show : Y → B} {a b : Reader I E} {e : ErrorKind} (w : Width) (t : Configuration → Bool) (present : Bool) (k : Configuration → Option ℕ → Parts B) →
-      t (configuration_of a.config) ≡ present → Call {X = Option ℕ} source order (ReadsOne (optional present w) (λ o. o)) a (Err e) b →
-      Call source order (Reads (λ s. part (optional (t s) w) (k s)) show) a (Err e) b
-  option_stops {Y} {B} {show} {a} {b} {e} w t present k same first =
-      call_stops {X = Option ℕ} {view = λ o. o} {show = show} (λ s. part (optional (t s) w) done) k (record {
-        config = first.config;
-        whole = first.whole;
-        told = first.told;
-        answer = λ h kind.
-            let old : ReaderState = state_of source order a in
-            places_took old.order (part (optional (t old.settings) w) done) old.source.left old.reads
-            ∙ ap (λ i. take_parts old.order (part (optional i w) done) old.source.left old.reads) same
-            ∙ ap (then_take (λ v left m. took v left m)) (first.answer h kind);
-        keeps = first.keeps;
-      })
 
   -- a given count of numbers
   pub words_after : {X Y B : Type 0} {view : X → List ℕ} {show : Y → B} {a b c : Reader I E} {x : X} {outcome : Result Y ErrorKind} (count : Configuration → ℕ) (n : ℕ) (k : Configuration → List ℕ → Parts B) →

@@ -6,7 +6,6 @@ pub mod HeaderAtOnce
 pub mod Stopping
 pub mod Paying
 pub mod Steps
-mod Single
 pub mod Trimming
 pub mod After
 pub mod TableRuns

@@ -1,9 +1,7 @@
 -- How the header of a run's next frame is read, and how a run stops if there is none.
-use Rattle.std.proofs.Common.{◌≡◌, ℕ, ◌+◌, ◌-◌, ◌<◌, ◌≤◌, List, [], ◌∷◌, length, take, drop, arith, refl, sym, ◌∙◌, ap, subst, length-drop, Ok, Err, None, Some, inl, inr}
-use Rattle.std.specs.Prelude.{IsTrue, Result, ◌⊎◌}
+use Rattle.std.proofs.Common.{◌≡◌, ℕ, ◌+◌, ◌-◌, ◌<◌, ◌≤◌, List, [], ◌∷◌, length, take, drop, arith, refl, sym, ◌∙◌, ap, subst, length-drop, inl, inr}
+use Rattle.std.specs.Prelude.{IsTrue, ◌⊎◌}
 use Rattle.std.proofs.lemmas.Bool.{cases_lt}
-use Rattle.perf_base.specs.Configured.{configuration_of, endian_of}
-use Rattle.perf_base.specs.Header.{header_of}
 use Rattle.perf_base.specs.Layout.{byte_string}
 use Rattle.perf_base.specs.Order.{Order}
 use Rattle.perf_base.specs.Refusals.{refusal_kind}
@@ -11,17 +9,14 @@ use Rattle.perf_base.specs.Took.{Took, took, quit, one_took}
 use Rattle.perf_base.specs.declared.error.ErrorKind.{ErrorKind}
 use Rattle.perf_base.specs.declared.error.ErrorKind.TheVariants.{Eof, InvalidRecord, UnsupportedConfig, UnsupportedData, External, OutOfMemory}
 use Rattle.perf_base.specs.declared.refusal.Refusal.{Refusal}
-use Rattle.perf_base.specs.declared.sys.perf_event_header.{perf_event_header}
 use Rattle.perf_buffers.specs.Buffer.{Source, Refuses}
 use Rattle.perf_buffers.specs.Taking.{MovesWithin, Takes}
 use Rattle.perf_buffers.proofs.Taking.{moves_more}
-use Rattle.perf_reader.specs.Calls.{Call}
-use Rattle.perf_reader.specs.Headers.{frame_length, MovesWithinFrame, ReadsHeader, ReadsShownHeader, StopsAt}
-use Rattle.perf_reader.specs.ReaderState.{ReaderState, state_of}
+use Rattle.perf_reader.specs.Headers.{frame_length, MovesWithinFrame, StopsAt}
+use Rattle.perf_reader.specs.ReaderState.{ReaderState}
 use Rattle.perf_reader.specs.Reading.{of_layout, last_of}
 use Rattle.perf_reader.specs.declared.header.Stop.{Stop}
 use Rattle.perf_reader.specs.declared.header.Stop.TheVariants as stop
-use Rattle.perf_reader.specs.declared.reader.Reader.{Reader}
 use Rattle.perf_reader.proofs.Paying.{last_moved, last_all, within_taken}
 use Rattle.perf_reader.proofs.Steps.{run_there, run_short}
 
@@ -131,45 +126,3 @@ stops_unshown old new r s eof other why told same count = elim (layout_or_not (r
       let long : length new.source.left ≡ length old.source.left = ap length same in
       subst (λ (x : Stop). StopsAt old x new) (sym (other (not_the_end (refusal_kind r) none))) (none, (omega (arith, long), omega (arith, long), same ∙ sym (last_all old.source.left) ∙ ap (λ k. last_of k old.source.left) (sym long)))
 ]
-
--- ---- after a look at the buffer
-
-module _ (old mid new : ReaderState) (settings : mid.settings ≡ old.settings) (order : mid.order ≡ old.order) (left : mid.source.left ≡ old.source.left) (reads : mid.reads ≡ old.reads) where
-  -- how it stops
-  pub looked_stops : (s : Stop) → StopsAt mid s new → StopsAt old s new
-  looked_stops stop.Done p = (sym left ∙ p.0, p.1, omega (arith, p.2, reads))
-  looked_stops stop.CutHeader p =
-      let long : length mid.source.left ≡ length old.source.left = ap length left in (omega (arith, p.0, long), omega (arith, p.1, long), p.2, omega (arith, p.3, reads))
-  looked_stops (stop.Refused r) p = (p.0, subst (λ o. MovesWithinFrame o old.source.left new.source.left) order (subst (λ xs. MovesWithinFrame mid.order xs new.source.left) left p.1))
-
-  -- which header it reads
-  pub looked_header : (outcome : Result perf_event_header ErrorKind) → ReadsHeader mid outcome new → ReadsHeader old outcome new
-  looked_header (Ok h) p =
-      let long : length mid.source.left ≡ length old.source.left = ap length left in
-      (omega (arith, p.0, long), p.1 ∙ ap (λ (o : Order). header_of o mid.source.left) order ∙ ap (header_of old.order) left, p.2 ∙ ap (drop 8) left, omega (arith, p.3, reads))
-  looked_header (Err e) p = tt
-
--- ---- a header that the buffer shows, or not all of it
-
-module _ {I E : Type 0} (source : I → Source) (order : E → Order) (old mid : Reader I E) where
-  -- one that the buffer shows
-  pub header_shown : (h : perf_event_header) → Call source order ReadsShownHeader old (Ok (Some h)) mid → Call source order ReadsHeader old (Ok h) mid
-  header_shown h a = record { config = a.config; whole = a.whole; told = a.told; answer = a.answer; keeps = a.keeps }
-
-  -- one of which it does not show all
-  module _ (new : Reader I E) (a : Call source order ReadsShownHeader old (Ok None) mid) where
-    pub header_cut : (outcome : Result perf_event_header ErrorKind) → Call source order ReadsHeader mid outcome new → Call source order ReadsHeader old outcome new
-    header_cut outcome b = record {
-      config = b.config ∙ a.config;
-      whole = b.whole ∙ a.whole;
-      told = λ told. b.told (a.told told);
-      answer = λ told.
-          let l = a.answer told in
-          looked_header (state_of source order old) (state_of source order mid) (state_of source order new) (ap configuration_of a.config) (ap (λ k. order (endian_of k)) a.config) l.0 l.1 outcome (b.answer (a.told told));
-      keeps = λ start p. b.keeps start (a.keeps start p);
-    }
-
-    pub header_stops : (s : Stop) → IsTrue (source old.input).told → StopsAt (state_of source order mid) s (state_of source order new) → StopsAt (state_of source order old) s (state_of source order new)
-    header_stops s told p =
-        let l = a.answer told in
-        looked_stops (state_of source order old) (state_of source order mid) (state_of source order new) (ap configuration_of a.config) (ap (λ k. order (endian_of k)) a.config) l.0 l.1 s p

@@ -94,6 +94,3 @@ took_groups {A} o (fields ∷ groups) bytes n =
 pub places_groups : {A : Type 0} (o : Order) (groups : List (List (Option (Parts A)))) (body : List ℕ) (n : ℕ) → groups_by_places o groups body n ≡ groups_took o groups body n
 unfolding groups_by_places
 places_groups o groups body n = places_took o (table (join_groups groups)) body n ∙ take_table o (join_groups groups) body n ∙ took_groups o groups body n
-
--- what reading a table, or groups of one, needs
-pub ruleset fields_in_row = (places_table, places_groups)

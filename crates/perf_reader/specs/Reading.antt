@@ -3,6 +3,7 @@
 use Rattle.std.specs.Prelude.{Option, Result, Ok, Err, Some, None, Bool, true, false, IsTrue, IfOk}
 use Rattle.std.specs.Prelude.{◌≡◌, ℕ, ◌+◌, ◌-◌, ◌≤◌, List, length, drop}
 use Rattle.perf_base.specs.Configuration.{Configuration}
+pub use Rattle.perf_base.specs.Errors.{of_layout}
 use Rattle.perf_base.specs.Layout.{Width, Shape, number, ShapeValue, Parts}
 pub use Rattle.perf_base.specs.LayoutReads.{one_if_refused}
 use Rattle.perf_base.specs.Refusals.{NeedsNoMemory}
@@ -19,15 +20,6 @@ use Rattle.perf_reader.specs.ReaderState.{ReaderState}
 -- a relation on a call: the state before it, the result, and the state after it
 abbrev pub Transition : Type 0 → Type 1
 Transition X = ReaderState → Result X ErrorKind → ReaderState → Type 0
-
--- a kind that a layout can have: neither a fault nor out of memory
-abbrev pub of_layout : ErrorKind → Bool
-of_layout Eof = true
-of_layout InvalidRecord = true
-of_layout UnsupportedConfig = true
-of_layout UnsupportedData = true
-of_layout External = false
-of_layout OutOfMemory = false
 
 -- The result is what a run made, seen through `view`; what is left and how many reads were made are
 -- those of the run. On a fault, or out of memory, nothing is stated.

@@ -556,7 +556,8 @@ impl<'p, I: Input<'p>, E: Endian> Reader<I, E> {
 // ---- counted lists of numbers, for which nothing is allocated from a claimed count alone
 impl<'p, I: Input<'p>, E: Endian> Reader<I, E> {
     /// Reads `count` items of `numbers` numbers each, up to the end of an input that has fewer, and
-    /// returns the refusal. None of them is kept, so no memory is needed.
+    /// returns the refusal. None of them is kept, so no memory is needed. If the input reports how
+    /// much it has, all numbers that are there are skipped at once.
     pub fn read_to_the_end(&mut self, numbers: usize, count: usize) -> Refusal
         requires { IsTrue (I.source (input_of self.old)).told →
             length (I.source (input_of self.old)).left < 8 * (numbers * count) }
@@ -565,6 +566,12 @@ impl<'p, I: Input<'p>, E: Endian> Reader<I, E> {
             (ReadsOne (words (numbers * count)) (λ numbers. numbers))
             self.old (Err (refusal_kind result)) self.new }
     {
+        if let Some(left) = self.input.remaining_hint() {
+            let whole = left / NUMBER_SIZE;
+            if let Err(refusal) = self.pass(NUMBER_SIZE * whole, ReadCounter::of(whole as u64)) {
+                return refusal;
+            }
+        }
         for _ in 0..count {
             for _ in 0..numbers {
                 if let Err(refusal) = self.read_u64() {
@@ -632,6 +639,7 @@ impl<'p, I: Input<'p>, E: Endian> Reader<I, E> {
         requires has { IsTrue (I.source (input_of self.old)).told →
             len ≤ length (I.source (input_of self.old)).left }
         requires few { reads ≤ len }
+        ensures memory { NeedsNoMemory (kinds result) }
         ensures call { Call I.source E.order (PassesOver len reads)
             self.old (kinds result) self.new }
     {
