@@ -14,13 +14,13 @@ one_if_any (suc n) = 1
 
 -- The reads of a part of n bytes that succeeds: one per number, and one for other bytes, if there
 -- are any.
-abbrev pub reads_of : Shape → ℕ → ℕ
-reads_of (number w) n = 1
-reads_of (optional b w) n = one_if_any n
-reads_of (byte_string k) n = one_if_any n
-reads_of (words k) n = k
-reads_of (padding k) n = one_if_any n
-reads_of rest n = one_if_any n
+abbrev pub part_reads : Shape → ℕ → ℕ
+part_reads (number w) n = 1
+part_reads (optional b w) n = one_if_any n
+part_reads (byte_string k) n = one_if_any n
+part_reads (words k) n = k
+part_reads (padding k) n = one_if_any n
+part_reads rest n = one_if_any n
 
 -- The reads of a part that fails with `left` bytes remaining: the last of the reads fails.
 abbrev pub failed_reads : Shape → ℕ → ℕ
@@ -32,7 +32,7 @@ abbrev pub reads : ℕ → List Spot → ℕ
 reads len [] = 0
 reads len (takes s n shape ∷ xs) =
     elim (nat_le (s + n) len)
-    [ true ↦ reads_of shape n + reads len xs | false ↦ failed_reads shape (len - s) ]
+    [ true ↦ part_reads shape n + reads len xs | false ↦ failed_reads shape (len - s) ]
 reads len (holds s t e ∷ xs) = elim t [ true ↦ reads len xs | false ↦ 0 ]
 
 -- The bytes consumed: all of them, if there are too few; those before a check that is false.
@@ -61,7 +61,7 @@ run_reads o (done v) bytes = 0
 run_reads o (part shape k) bytes =
     let n = size shape (length bytes) in
     elim (nat_le n (length bytes)) [
-      | true ↦ reads_of shape n + run_reads o (k (shape_value o shape (take n bytes))) (drop n bytes)
+      | true ↦ part_reads shape n + run_reads o (k (shape_value o shape (take n bytes))) (drop n bytes)
       | false ↦ failed_reads shape (length bytes)
     ]
 run_reads o (check t e p) bytes = elim t [ true ↦ run_reads o p bytes | false ↦ 0 ]

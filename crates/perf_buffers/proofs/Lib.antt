@@ -1,3 +1,3 @@
-pub mod Taking
+pub mod Takes
 pub mod Options
 pub mod Chunks

@@ -108,13 +108,13 @@ known_bytes None = []
 known_bytes (Some xs) = xs
 
 -- whether they are known
-abbrev pub is_known : Option (List ℕ) → Bool
-is_known None = false
-is_known (Some xs) = true
+abbrev pub has_known_bytes : Option (List ℕ) → Bool
+has_known_bytes None = false
+has_known_bytes (Some xs) = true
 
 -- why a reader with these bytes refuses: the end only if nothing is left
 abbrev pub RefusesReader : Option (List ℕ) → ErrorKind → Type 0
-RefusesReader old Eof = IsTrue (is_known old) → known_bytes old ≡ []
+RefusesReader old Eof = IsTrue (has_known_bytes old) → known_bytes old ≡ []
 RefusesReader old External = Unit {0}
 RefusesReader old InvalidRecord = ⊥
 RefusesReader old UnsupportedConfig = ⊥

@@ -8,7 +8,7 @@ pub use Rattle.perf_base.specs.Refusals.{refusal_kind, kinds, kind_if_refused, N
 pub use Rattle.perf_base.specs.Zeros.{all_zero}
 pub use Rattle.perf_base.specs.declared.error.ErrorKind.TheVariants.{Eof, OutOfMemory}
 pub use Rattle.perf_buffers.specs.Buffer.{Source, BufferInvariant, Shows, ShowsReady, Refuses, KeepsChunk}
-pub use Rattle.perf_buffers.specs.Buffer.{Advances, chunk_bytes, known_bytes, is_known, RefusesReader}
+pub use Rattle.perf_buffers.specs.Buffer.{Advances, chunk_bytes, known_bytes, has_known_bytes, RefusesReader}
 pub use Rattle.perf_buffers.specs.Buffer.{CallNeedsNoMemory, kind_if_failed, chunk_is_borrowed}
 pub use Rattle.perf_buffers.specs.Cursor.{cursor_left, cursor_is_borrowed, IsAtStart, content_left, content_is_borrowed}
 pub use Rattle.perf_buffers.specs.Cursor.{ContentIsAtStart}

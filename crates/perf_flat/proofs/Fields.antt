@@ -10,7 +10,7 @@ use Rattle.perf_base.specs.Order.{Order}
 use Rattle.perf_base.specs.Table.{present_if, slot}
 use Rattle.perf_base.specs.declared.error.ErrorKind.TheVariants.{InvalidRecord}
 use Rattle.perf_sample_types.specs.Sample.{FieldValue, number_is, task_is, numbers_are, bytes_are, plain, task, cpu, call_chain, raw, raw_padding, stack, sized_bytes, has_one}
-use Rattle.perf_sample_types.specs.SampleGetters.{numbers_in, bytes_in}
+use Rattle.perf_sample_types.specs.SampleGetters.{numbers_in, bytes_of_field}
 use Rattle.perf_sample_types.proofs.FlaggedFields.{flag_asked}
 use Rattle.perf_flat.specs.Arrays.{low_u32, span}
 use Rattle.perf_flat.specs.CursorReads.{IsBodyOf, left_of, ReadsParts, ReadsFor, PassesNumbers}
@@ -86,7 +86,7 @@ passed_bytes o n a b s within passed = record {
 }
 
 pub sized_read : (o : Order) (size : ℕ) (a b d : BodyCursor) (s : Span) → ReadsParts o u64 size a b → PassesBytes o size b s d →
-    ReadsFor o sized_bytes (λ v. InFrames a.bytes.now (λ frame. HasString frame s (bytes_in (Some v)))) a d
+    ReadsFor o sized_bytes (λ v. InFrames a.bytes.now (λ frame. HasString frame s (bytes_of_field (Some v)))) a d
 sized_read o size a b d s one list = record {
   value = bytes_are list.contents;
   reads = then_reads u64 (λ size. bytes size >>= λ xs. done (bytes_are xs)) one (then_reads (bytes size) (λ xs. done (bytes_are xs)) list.reads all_read);
@@ -94,7 +94,7 @@ sized_read o size a b d s one list = record {
 }
 
 pub raw_read : (o : Order) (len : ℕ) (a b d e : BodyCursor) (s : Span) → ReadsParts o u32 len a b → PassesBytes o len b s d → ReadsParts {A = Unit {0}} o (gap (raw_padding len)) tt d e →
-    ReadsFor o raw (λ v. InFrames a.bytes.now (λ frame. HasString frame s (bytes_in (Some v)))) a e
+    ReadsFor o raw (λ v. InFrames a.bytes.now (λ frame. HasString frame s (bytes_of_field (Some v)))) a e
 raw_read o len a b d e s one list rest = record {
   value = bytes_are list.contents;
   reads = then_reads u32 (λ len. bytes len >>= λ xs. (gap (raw_padding len) >>= λ _. done (bytes_are xs))) one
@@ -116,7 +116,7 @@ used_there frame contents s used short fits has =
 
 pub stack_read : (o : Order) (size : ℕ) (used : Option ℕ) (a b d e f : BodyCursor) (s : Span) → ReadsParts o u64 size a b → PassesBytes o size b s d →
     ReadsParts o (part (optional (nat_lt 0 size) w8) done) used d e → ReadsParts {A = Unit {0}} o (require (nat_le (unwrap_or used 0) size) InvalidRecord) tt e f →
-    ReadsFor o stack (λ v. InFrames a.bytes.now (λ frame. HasString frame (span s.at (low_u32 (unwrap_or used 0))) (bytes_in (Some v)))) a f
+    ReadsFor o stack (λ v. InFrames a.bytes.now (λ frame. HasString frame (span s.at (low_u32 (unwrap_or used 0))) (bytes_of_field (Some v)))) a f
 stack_read o size used a b d e f s one list two three =
     let end : List ℕ → Option ℕ → Parts FieldValue = λ xs used. done (bytes_are (take (unwrap_or used 0) xs)) in
     let after : List ℕ → Option ℕ → Parts FieldValue = λ xs used. require (nat_le (unwrap_or used 0) size) InvalidRecord >>= λ _. end xs used in

@@ -22,9 +22,9 @@ use Rattle.perf_records.specs.Records.{RecordValue}
 use Rattle.perf_sample_types.specs.SampleId.{SampleIdValue}
 use Rattle.perf_records.specs.Sights.{Sight, whole, bad, sight_after, sight_in}
 use Rattle.perf_records.proofs.FrameList.{next_sight, no_sight, some_sight}
-use Rattle.perf_records.proofs.Handing.{finished}
+use Rattle.perf_records.proofs.Handovers.{finished}
 use Rattle.perf_records.proofs.Headers.{frame_whole, frame_body, header_alone}
-use Rattle.perf_records.proofs.Splitting.{split_small, split_short, split_no_room, split_whole}
+use Rattle.perf_records.proofs.Splits.{split_small, split_short, split_no_room, split_whole}
 use Rattle.perf_flat.specs.Arrays.{filled}
 use Rattle.perf_flat.specs.Flat.{CarriesNumbers, StatesRecord, StatesRefusal, StatesAnswer, HasHeader, IsFlat, IsFlatAfter, IsBad, ids_of, numbers_under, refused_frame, first_frame}
 use Rattle.perf_flat.specs.CursorReads.{IsBodyOf, WritesRecord}

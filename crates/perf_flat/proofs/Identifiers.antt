@@ -13,7 +13,7 @@ use Rattle.perf_base.specs.declared.sys.perf_event_header.{perf_event_header}
 use Rattle.perf_records.specs.Answers.{length_after}
 use Rattle.perf_records.specs.FrameList.{sights}
 use Rattle.perf_records.specs.Sights.{Sight, whole, bad, sight_after, sight_in}
-use Rattle.perf_records.proofs.Handing.{finished}
+use Rattle.perf_records.proofs.Handovers.{finished}
 use Rattle.perf_records.proofs.Headers.{frame_body}
 use Rattle.perf_flat.specs.Identifiers.{has_whole, first_rest}
 use Rattle.perf_flat.proofs.FrameAnswers.{at_front}

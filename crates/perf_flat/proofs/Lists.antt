@@ -16,7 +16,7 @@ use Rattle.perf_words.specs.Bits.{has_bit}
 use Rattle.perf_words.specs.Sets.{element_len}
 use Rattle.perf_words.proofs.Contained.{contains_bit}
 use Rattle.perf_types.specs.GroupEntry.{block_len, blocks, entry_of}
-use Rattle.perf_types.specs.ReadFormat.{has_time_enabled, has_time_running, has_id, has_lost, has_group, is_known}
+use Rattle.perf_types.specs.ReadFormat.{has_time_enabled, has_time_running, has_counter_id, has_lost, has_group, has_known_bits}
 use Rattle.perf_types.specs.ReadGroup.{GroupRead, read_group, group_of, all_entries, only_entry}
 use Rattle.perf_types.specs.ReadValue.{SingleRead, read_value}
 use Rattle.perf_sample_types.specs.Branches.{branches_of}
@@ -123,20 +123,20 @@ abbrev single : ℕ → (te tr id lost : Option ℕ) → SingleRead
 single value te tr id lost = record { value = value; time_enabled = te; time_running = tr; id = id; lost = lost }
 
 pub single_read : (o : Order) (c : Configuration) (value : ℕ) (te tr id lost : Option ℕ) (a b d e f g h i : BodyCursor) →
-    ReadsParts {A = Unit {0}} o (require (not (has_group c.read_format)) UnsupportedConfig) tt a b → ReadsParts {A = Unit {0}} o (require (is_known c.read_format) UnsupportedConfig) tt b d → ReadsParts o u64 value d e →
-    ReadsParts o (u64_if (has_time_enabled c.read_format)) te e f → ReadsParts o (u64_if (has_time_running c.read_format)) tr f g → ReadsParts o (u64_if (has_id c.read_format)) id g h → ReadsParts o (u64_if (has_lost c.read_format)) lost h i →
+    ReadsParts {A = Unit {0}} o (require (not (has_group c.read_format)) UnsupportedConfig) tt a b → ReadsParts {A = Unit {0}} o (require (has_known_bits c.read_format) UnsupportedConfig) tt b d → ReadsParts o u64 value d e →
+    ReadsParts o (u64_if (has_time_enabled c.read_format)) te e f → ReadsParts o (u64_if (has_time_running c.read_format)) tr f g → ReadsParts o (u64_if (has_counter_id c.read_format)) id g h → ReadsParts o (u64_if (has_lost c.read_format)) lost h i →
     ReadsParts o (read_value c) (single value te tr id lost) a i
 single_read o c value te tr id lost a b d e f g h i alone known one two three four five =
     let r : ℕ = c.read_format in
     let last : ℕ → Option ℕ → Option ℕ → Option ℕ → Parts SingleRead = λ v te tr id. u64_if (has_lost r) >>= λ lost. done (single v te tr id lost) in
-    let third : ℕ → Option ℕ → Option ℕ → Parts SingleRead = λ v te tr. u64_if (has_id r) >>= λ id. last v te tr id in
+    let third : ℕ → Option ℕ → Option ℕ → Parts SingleRead = λ v te tr. u64_if (has_counter_id r) >>= λ id. last v te tr id in
     let second : ℕ → Option ℕ → Parts SingleRead = λ v te. u64_if (has_time_running r) >>= λ tr. third v te tr in
     let first : ℕ → Parts SingleRead = λ v. u64_if (has_time_enabled r) >>= λ te. second v te in
     let all : Parts SingleRead = u64 >>= λ v. first v in
-    then_reads (require (not (has_group r)) UnsupportedConfig) (λ _. require (is_known r) UnsupportedConfig >>= λ _. all) alone
-    (then_reads (require (is_known r) UnsupportedConfig) (λ _. all) known
+    then_reads (require (not (has_group r)) UnsupportedConfig) (λ _. require (has_known_bits r) UnsupportedConfig >>= λ _. all) alone
+    (then_reads (require (has_known_bits r) UnsupportedConfig) (λ _. all) known
     (then_reads u64 (λ v. first v) one (then_reads (u64_if (has_time_enabled r)) (λ te. second value te) two (then_reads (u64_if (has_time_running r)) (λ tr. third value te tr) three
-    (then_reads (u64_if (has_id r)) (λ id. last value te tr id) four (then_reads (u64_if (has_lost r)) (λ lost. done (single value te tr id lost)) five all_read))))))
+    (then_reads (u64_if (has_counter_id r)) (λ id. last value te tr id) four (then_reads (u64_if (has_lost r)) (λ lost. done (single value te tr id lost)) five all_read))))))
 
 -- the one counter of a sample
 pub single_counters : (o : Order) (c : Configuration) (body : List ℕ) (made : Counters) → has_group c.read_format ≡ false → made.count ≡ 1 → made.entries ≡ no_span →
@@ -169,14 +169,14 @@ abbrev grouped : Configuration → (te tr : Option ℕ) → List ℕ → GroupRe
 grouped c te tr words = record {
   time_enabled = te;
   time_running = tr;
-  with_id = has_id c.read_format;
+  with_id = has_counter_id c.read_format;
   with_lost = has_lost c.read_format;
-  entries = all_entries (has_id c.read_format) (has_lost c.read_format) words;
+  entries = all_entries (has_counter_id c.read_format) (has_lost c.read_format) words;
 }
 
 pub group_read : (o : Order) (c : Configuration) (count : ℕ) (te tr : Option ℕ) (a b d e f g h : BodyCursor) (s : Span) (made : Counters) → has_group c.read_format ≡ true →
     counters_numbers made ≡ or_zero te ∷ or_zero tr ∷ count ∷ 0 ∷ 0 ∷ 0 ∷ [] → made.entries ≡ s →
-    ReadsParts {A = Unit {0}} o (require (is_known c.read_format) UnsupportedConfig) tt a b → ReadsParts o u64 count b d → ReadsParts o (u64_if (has_time_enabled c.read_format)) te d e →
+    ReadsParts {A = Unit {0}} o (require (has_known_bits c.read_format) UnsupportedConfig) tt a b → ReadsParts o u64 count b d → ReadsParts o (u64_if (has_time_enabled c.read_format)) te d e →
     ReadsParts o (u64_if (has_time_running c.read_format)) tr e f → ReadsParts {A = Unit {0}} o (require (nat_lt (count * element_len c.read_format) (2 ^ 64)) InvalidRecord) tt f g →
     PassesNumbers o (count * element_len c.read_format) g s h → ReadsFor o (read_group c) (λ group. IsCounters c.read_format o a.bytes.now (Some (group_is group)) made) a h
 group_read o c count te tr a b d e f g h s made many numbers_are at known one two three fits list =
@@ -188,19 +188,19 @@ group_read o c count te tr a b d e f g h s made many numbers_are at known one tw
     let all : Parts GroupRead = u64 >>= λ n. first n in
     record {
       value = grouped c te tr list.value;
-      reads = then_reads (require (has_group r) UnsupportedConfig) (λ _. require (is_known r) UnsupportedConfig >>= λ _. all) (holds_read (has_group r) many)
-          (then_reads (require (is_known r) UnsupportedConfig) (λ _. all) known
+      reads = then_reads (require (has_group r) UnsupportedConfig) (λ _. require (has_known_bits r) UnsupportedConfig >>= λ _. all) (holds_read (has_group r) many)
+          (then_reads (require (has_known_bits r) UnsupportedConfig) (λ _. all) known
           (then_reads u64 (λ n. first n) one (then_reads (u64_if (has_time_enabled r)) (λ te. second count te) two (then_reads (u64_if (has_time_running r)) (λ tr. third count te tr) three
           (then_reads (require (nat_lt (count * element_len r) (2 ^ 64)) InvalidRecord) (λ _. last count te tr) fits
           (then_reads (numbers (count * element_len r)) (λ words. done (grouped c te tr words)) list.reads all_read))))));
       holds = λ ok.
           let has = list.holds ok in
-          let long : length (all_entries (has_id r) (has_lost r) list.value) ≡ count = entries_long (has_id r) (has_lost r) count list.value has.0 in
+          let long : length (all_entries (has_counter_id r) (has_lost r) list.value) ≡ count = entries_long (has_counter_id r) (has_lost r) count list.value has.0 in
           let same = one.bytes ∙ known.bytes in
           let front = fits.bytes ∙ three.bytes ∙ two.bytes ∙ same in
           record {
             numbers = numbers_are ∙ ap (λ n. or_zero te ∷ or_zero tr ∷ n ∷ group_entry_numbers None) (sym long)
-                ∙ ap (λ (g : Bool). or_zero te ∷ or_zero tr ∷ length (all_entries (has_id r) (has_lost r) list.value) ∷ group_entry_numbers (if g then None else only_entry (all_entries (has_id r) (has_lost r) list.value))) (sym many);
+                ∙ ap (λ (g : Bool). or_zero te ∷ or_zero tr ∷ length (all_entries (has_counter_id r) (has_lost r) list.value) ∷ group_entry_numbers (if g then None else only_entry (all_entries (has_counter_id r) (has_lost r) list.value))) (sym many);
             entries = λ frame is.
                 let there = has.1 frame (subst (IsBodyOf frame) (sym front) is) in
                 subst (λ g. HasEntriesIf g o frame made.entries (grouped c te tr list.value)) (sym many)
@@ -208,11 +208,11 @@ group_read o c count te tr a b d e f g h s made many numbers_are at known one tw
           };
     }
   where
-    group_there : (frame words : List ℕ) → length (all_entries (has_id c.read_format) (has_lost c.read_format) words) ≡ count → HasNumbers o frame s (count * element_len c.read_format) (λ are. are ≡ words) →
+    group_there : (frame words : List ℕ) → length (all_entries (has_counter_id c.read_format) (has_lost c.read_format) words) ≡ count → HasNumbers o frame s (count * element_len c.read_format) (λ are. are ≡ words) →
         HasEntries o frame s (grouped c te tr words)
     group_there frame words long has =
-        subst (λ n. HasNumbers o frame s (n * element_len c.read_format) (λ are. all_entries (has_id c.read_format) (has_lost c.read_format) are ≡ all_entries (has_id c.read_format) (has_lost c.read_format) words)) (sym long)
-        (record { inside = has.inside; many = has.many; there = ap (all_entries (has_id c.read_format) (has_lost c.read_format)) has.there })
+        subst (λ n. HasNumbers o frame s (n * element_len c.read_format) (λ are. all_entries (has_counter_id c.read_format) (has_lost c.read_format) are ≡ all_entries (has_counter_id c.read_format) (has_lost c.read_format) words)) (sym long)
+        (record { inside = has.inside; many = has.many; there = ap (all_entries (has_counter_id c.read_format) (has_lost c.read_format)) has.there })
 
 -- no counters
 pub no_counters : (c : Configuration) (o : Order) (body : List ℕ) (made : Counters) → counters_numbers made ≡ 0 ∷ 0 ∷ 0 ∷ 0 ∷ 0 ∷ 0 ∷ [] → made.entries ≡ no_span → IsCounters c.read_format o body None made

@@ -10,7 +10,7 @@ use Rattle.perf_base.specs.declared.refusal.Refusal.{Refusal}
 use Rattle.perf_base.specs.declared.sys.perf_event_header.{perf_event_header}
 use Rattle.perf_base.specs.Misc.{build_id_bit}
 use Rattle.perf_types.specs.MmapDetail.{DetailValue, inode, build_id, mmap_detail, maj_of, min_of, ino_of, ino_generation_of}
-use Rattle.perf_types.specs.Namespaces.{namespaces, entries_of}
+use Rattle.perf_types.specs.Namespaces.{namespaces, namespace_entries}
 use Rattle.perf_words.specs.Bits.{has_bit}
 use Rattle.perf_flat.specs.BodyReads.{IsDetail}
 use Rattle.perf_base.specs.Attribute.{or_zero}
@@ -112,7 +112,7 @@ detail_words {pid} {tid} {addr} {len} {pgoff} {prot} {flags} {body} {d} {made} i
 -- ---- NAMESPACES
 
 -- two for each entry
-entries_long : (n : ℕ) (xs : List ℕ) → length xs ≡ n + n → length (entries_of xs) ≡ n
+entries_long : (n : ℕ) (xs : List ℕ) → length xs ≡ n + n → length (namespace_entries xs) ≡ n
 entries_long zero [] e = refl
 entries_long zero (x ∷ xs) e = absurd (omega arith)
 entries_long (suc n) [] e = absurd (omega arith)
@@ -121,7 +121,7 @@ entries_long (suc n) (x ∷ y ∷ xs) e = ap suc (entries_long n xs (omega arith
 
 -- the record of these numbers
 abbrev pub task_namespaces : (pid tid : ℕ) → List ℕ → RecordValue
-task_namespaces pid tid words = namespaces_is (record { pid = pid; tid = tid; namespaces = entries_of words })
+task_namespaces pid tid words = namespaces_is (record { pid = pid; tid = tid; namespaces = namespace_entries words })
 
 pub namespaces_read : (o : Order) (pid tid count : ℕ) (words : List ℕ) (a b d e f : BodyCursor) → ReadsParts o u32 pid a b → ReadsParts o u32 tid b d → ReadsParts o u64 count d e → ReadsParts o (numbers (2 * count)) words e f →
     ReadsParts o (map_parts namespaces_is namespaces) (task_namespaces pid tid words) a f
@@ -132,14 +132,14 @@ namespaces_read o pid tid count words a b d e f one two three four =
     (then_reads (numbers (2 * count)) (λ words. done (task_namespaces pid tid words)) four all_read)))
 
 -- as many as its count
-pub entries_counted : (count : ℕ) (words : List ℕ) → length words ≡ 2 * count → length (entries_of words) ≡ count
+pub entries_counted : (count : ℕ) (words : List ℕ) → length words ≡ 2 * count → length (namespace_entries words) ≡ count
 entries_counted count words many = entries_long count words (omega arith)
 
 -- its list is in the frame
 pub entries_there : (c : Configuration) (o : Order) (frame : List ℕ) (s : Span) (pid tid count : ℕ) (words : List ℕ) → length words ≡ 2 * count → HasNumbers o frame s (2 * count) (λ are. are ≡ words) →
     HasSpans c.read_format o frame (filled_spans (s ∷ [])) (task_namespaces pid tid words)
 entries_there c o frame s pid tid count words long has =
-    let there : HasNumbers o frame s (2 * length (entries_of words)) (λ are. entries_of are ≡ entries_of words) =
-    subst (λ n. HasNumbers o frame s (2 * n) (λ are. entries_of are ≡ entries_of words)) (sym (entries_counted count words long))
-    (record { inside = has.inside; many = has.many; there = ap entries_of has.there }) in
-    (subst (λ x. HasNumbers o frame x (2 * length (entries_of words)) (λ are. entries_of are ≡ entries_of words)) (sym (first_of_one s)) there, none_after (s ∷ []) 1 refl)
+    let there : HasNumbers o frame s (2 * length (namespace_entries words)) (λ are. namespace_entries are ≡ namespace_entries words) =
+    subst (λ n. HasNumbers o frame s (2 * n) (λ are. namespace_entries are ≡ namespace_entries words)) (sym (entries_counted count words long))
+    (record { inside = has.inside; many = has.many; there = ap namespace_entries has.there }) in
+    (subst (λ x. HasNumbers o frame x (2 * length (namespace_entries words)) (λ are. namespace_entries are ≡ namespace_entries words)) (sym (first_of_one s)) there, none_after (s ∷ []) 1 refl)

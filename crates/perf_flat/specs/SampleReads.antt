@@ -122,11 +122,11 @@ pub record ReadsState (c : Configuration) (o : Order) (made : State) (old new : 
   pub fields : ReadsFields o (fields_under c state_fields)
       (raw ∷ branches ∷ regs_user ∷ stack_user ∷ []) old new
   pub raw_bytes : new.refusal ≡ None → InFrames old.bytes.now (λ frame.
-      samples.HasString frame made.raw (getters.bytes_in raw))
+      samples.HasString frame made.raw (getters.bytes_of_field raw))
   pub entries : new.refusal ≡ None → IsBranches o old.bytes.now branches made.branches
   pub registers : new.refusal ≡ None → IsRegisters o old.bytes.now regs_user made.regs_user
   pub stack : new.refusal ≡ None → InFrames old.bytes.now (λ frame.
-      samples.HasString frame made.stack_user (getters.bytes_in stack_user))
+      samples.HasString frame made.stack_user (getters.bytes_of_field stack_user))
 
 -- what it cost
 pub record ReadsCosts (c : Configuration) (o : Order) (made : Costs) (old new : BodyCursor) : Type 0 where
@@ -150,4 +150,4 @@ pub record ReadsMemory (c : Configuration) (o : Order) (made : Memory) (old new 
       aux ∷
       []) old new
   pub bytes : new.refusal ≡ None → InFrames old.bytes.now (λ frame.
-      samples.HasString frame made.aux (getters.bytes_in aux))
+      samples.HasString frame made.aux (getters.bytes_of_field aux))

@@ -437,7 +437,7 @@ impl BodyCursor<'_> {
     fn raw<E: Endian>(&mut self, order: &E, flags: SampleFlags) -> Span
         ensures { (c : Configuration) → sample_flags_bits flags ≡ c.sample_type →
             reads.ReadsSlotFor c (E.order order.now) (sample.at_flag 10 sample.raw)
-            (λ frame v. samples.HasString frame result (getters.bytes_in v)) self.old self.new }
+            (λ frame v. samples.HasString frame result (getters.bytes_of_field v)) self.old self.new }
     {
         if flags.contains(SampleFlags::RAW) {
             let len = u64::from(self.read_u32(order));
@@ -453,7 +453,7 @@ impl BodyCursor<'_> {
     fn stack<E: Endian>(&mut self, order: &E, flags: SampleFlags) -> Span
         ensures { (c : Configuration) → sample_flags_bits flags ≡ c.sample_type →
             reads.ReadsSlotFor c (E.order order.now) (sample.at_flag 13 sample.stack)
-            (λ frame v. samples.HasString frame result (getters.bytes_in v)) self.old self.new }
+            (λ frame v. samples.HasString frame result (getters.bytes_of_field v)) self.old self.new }
     {
         if flags.contains(SampleFlags::STACK_USER) {
             let size = self.read_u64(order);
@@ -473,7 +473,7 @@ impl BodyCursor<'_> {
     fn aux<E: Endian>(&mut self, order: &E, flags: SampleFlags) -> Span
         ensures { (c : Configuration) → sample_flags_bits flags ≡ c.sample_type →
             reads.ReadsSlotFor c (E.order order.now) (sample.at_flag 20 sample.sized_bytes)
-            (λ frame v. samples.HasString frame result (getters.bytes_in v)) self.old self.new }
+            (λ frame v. samples.HasString frame result (getters.bytes_of_field v)) self.old self.new }
     {
         if flags.contains(SampleFlags::AUX) {
             let size = self.read_u64(order);

@@ -6,7 +6,7 @@ use Rattle.std.proofs.lemmas.List.{take_all}
 use Rattle.std.specs.Prelude.{is_ok, if◌then◌else◌}
 use Rattle.std.specs.List.{flat_map}
 use Rattle.perf_sample_types.specs.Registers.{RegistersValue}
-use Rattle.perf_lines.specs.Fields.{with_spaces, present, word_as, words_of, with_commas}
+use Rattle.perf_lines.specs.Fields.{with_spaces, present, word_as, words_of_numbers, with_commas}
 use Rattle.perf_lines.specs.SampleText.{register_words}
 
 -- a text after a push that returned `Ok`
@@ -30,7 +30,7 @@ last_word result words word old middle new first grown =
     grown
 
 -- numbers that may be absent are written as words of their own
-pub spaced-words_of : (fields : List (List ℕ × Option ℕ)) → flat_map (λ f. present (λ n. codes " " ++ (f.0 ++ (codes "=" ++ decimal n))) f.1) fields ≡ with_spaces (words_of fields)
+pub spaced-words_of : (fields : List (List ℕ × Option ℕ)) → flat_map (λ f. present (λ n. codes " " ++ (f.0 ++ (codes "=" ++ decimal n))) f.1) fields ≡ with_spaces (words_of_numbers fields)
 spaced-words_of [] = refl
 spaced-words_of ((name, None) ∷ fields) = spaced-words_of fields
 spaced-words_of ((name, Some n) ∷ fields) = ap (λ rest. (codes " " ++ (name ++ (codes "=" ++ decimal n))) ++ rest) (spaced-words_of fields)

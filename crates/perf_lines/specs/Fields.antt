@@ -34,8 +34,8 @@ abbrev pub word_of : List ℕ → Option ℕ → List (List ℕ)
 word_of name n = word_as name decimal n
 
 -- the words of a list of names and numbers
-abbrev pub words_of : List (List ℕ × Option ℕ) → List (List ℕ)
-words_of numbers = flat_map (λ number. word_of number.0 number.1) numbers
+abbrev pub words_of_numbers : List (List ℕ × Option ℕ) → List (List ℕ)
+words_of_numbers numbers = flat_map (λ number. word_of number.0 number.1) numbers
 
 -- items separated by commas
 abbrev pub with_commas : {X : Type 0} → (X → List ℕ) → List X → List ℕ

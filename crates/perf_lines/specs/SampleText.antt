@@ -7,8 +7,8 @@ use Rattle.perf_types.specs.ReadGroup.{GroupRead}
 use Rattle.perf_sample_types.specs.Registers.{RegistersValue}
 use Rattle.perf_sample_types.specs.SampleGetters.{Getters}
 use Rattle.perf_words.specs.Branch.{Branch, mispred_of, predicted_of, in_tx_of, abort_of}
-use Rattle.perf_words.specs.Branch.{cycles_of, type_of}
-use Rattle.perf_lines.specs.Fields.{number, field, present, word_as, word_of, words_of, hex, with_commas}
+use Rattle.perf_words.specs.Branch.{cycles_of, branch_type_of}
+use Rattle.perf_lines.specs.Fields.{number, field, present, word_as, word_of, words_of_numbers, hex, with_commas}
 
 -- ---- items of lists
 
@@ -35,14 +35,14 @@ branch_item b =
     decimal b.from
     ++ after_colons (b.to ∷ digit_of (mispred_of b.word) ∷ digit_of (predicted_of b.word)
     ∷ digit_of (in_tx_of b.word) ∷ digit_of (abort_of b.word)
-    ∷ cycles_of b.word ∷ type_of b.word ∷ [])
+    ∷ cycles_of b.word ∷ branch_type_of b.word ∷ [])
 
 -- ---- fields of more than one number
 
 -- a read of counters: its times, if present, and a list of its counters
 abbrev pub group_words : Option GroupRead → List (List ℕ)
 group_words (Some g) =
-    words_of ((codes "time_enabled", g.time_enabled) ∷ (codes "time_running", g.time_running) ∷ [])
+    words_of_numbers ((codes "time_enabled", g.time_enabled) ∷ (codes "time_running", g.time_running) ∷ [])
     ++ (field (codes "values") (with_commas counter_item g.entries) ∷ [])
 group_words None = []
 
@@ -57,13 +57,13 @@ register_words abi regs None = []
 -- the instruction pointer, the task, the time, the address and the id
 abbrev pub moment_words : Getters → List (List ℕ)
 moment_words g =
-    words_of ((codes "ip", g.ip) ∷ (codes "pid", g.pid) ∷ (codes "tid", g.tid)
+    words_of_numbers ((codes "ip", g.ip) ∷ (codes "pid", g.pid) ∷ (codes "tid", g.tid)
     ∷ (codes "time", g.time) ∷ (codes "addr", g.addr) ∷ (codes "id", g.id) ∷ [])
 
 -- the stream id, the CPU, the period, the counters and the call chain
 abbrev pub count_words : Getters → List (List ℕ)
 count_words g =
-    words_of ((codes "stream_id", g.stream_id) ∷ (codes "cpu", g.cpu)
+    words_of_numbers ((codes "stream_id", g.stream_id) ∷ (codes "cpu", g.cpu)
     ∷ (codes "period", g.period) ∷ [])
     ++ (group_words g.values ++ word_as (codes "callchain") (with_commas decimal) g.callchain)
 
@@ -79,7 +79,7 @@ state_words g =
 -- the weight, the data source, the transaction, and the registers at the interrupt
 abbrev pub cost_words : Getters → List (List ℕ)
 cost_words g =
-    words_of ((codes "weight", g.weight) ∷ (codes "data_src", g.data_src)
+    words_of_numbers ((codes "weight", g.weight) ∷ (codes "data_src", g.data_src)
     ∷ (codes "transaction", g.transaction) ∷ [])
     ++ register_words (codes "regs_intr_abi") (codes "regs_intr") g.regs_intr
 
@@ -88,7 +88,7 @@ abbrev pub memory_words : Getters → List (List ℕ)
 memory_words g =
     word_of (codes "phys_addr") g.phys_addr
     ++ (word_as (codes "aux") hex g.aux
-    ++ words_of ((codes "cgroup", g.cgroup) ∷ (codes "data_page_size", g.data_page_size)
+    ++ words_of_numbers ((codes "cgroup", g.cgroup) ∷ (codes "data_page_size", g.data_page_size)
     ∷ (codes "code_page_size", g.code_page_size) ∷ []))
 
 -- ---- a whole sample

@@ -7,7 +7,7 @@ use Rattle.perf_reader.specs.ReaderState.{ReaderState}
 use Rattle.perf_reader.specs.Reading.{Transition, CallInvariant}
 use Rattle.perf_parser.specs.Calls.{KeepsInvariant}
 use Rattle.perf_parser.specs.Repeats.{ParsesInTurn, StopsShort}
-use Rattle.perf_parser.proofs.Paying.{chain}
+use Rattle.perf_parser.proofs.Calls.{chain}
 
 -- there was no memory for what was read
 keeps_refused : (start new : ReaderState) → CallInvariant start None new → CallInvariant start (Some OutOfMemory) new

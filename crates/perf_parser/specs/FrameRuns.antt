@@ -42,13 +42,13 @@ EndsFrames o limit bytes count None left =
     (0 < count) × (count ≤ limit) × (left ≡ drop_frames o count bytes)
 
 -- the reads of a run, by those of its frames
-abbrev pub CountsRun : (made : ℕ) → Option RunEnd → (old new : ℕ) → Type 0
-CountsRun made None old new = new ≡ old + made
-CountsRun made (Some e) old new = CountsMore made e old new
+abbrev pub CountsRunReads : (made : ℕ) → Option RunEnd → (old new : ℕ) → Type 0
+CountsRunReads made None old new = new ≡ old + made
+CountsRunReads made (Some e) old new = CountsMore made e old new
 
 -- two reads for each header, and those of its end
 abbrev pub CountsHeaders : (count : ℕ) → Option RunEnd → (old new : ℕ) → Type 0
-CountsHeaders count e old new = CountsRun (2 * count) e old new
+CountsHeaders count e old new = CountsRunReads (2 * count) e old new
 
 -- the kind of the fault that ended it, if one did
 abbrev pub frames_refusal : Option RunEnd → Option ErrorKind

@@ -30,7 +30,7 @@ use Rattle.perf_records.specs.declared.record.Record.{Record}
 use Rattle.perf_parser.specs.declared.runs.RunEnd.{RunEnd}
 use Rattle.perf_parser.specs.declared.runs.RunEnd.TheVariants as end
 pub use Rattle.perf_reader.specs.Headers.{ReadsHeader, StopsAt, stop_kind, stop_kinds}
-use Rattle.perf_parser.specs.FrameRuns.{EndsFrames, CountsRun, went_on, frames_refusal, one_if_run_ended}
+use Rattle.perf_parser.specs.FrameRuns.{EndsFrames, CountsRunReads, went_on, frames_refusal, one_if_run_ended}
 use Rattle.perf_parser.specs.Runs.{Pairs, RunInvariant, seen_answers, IsBorrowedAnswer, AllBorrowed}
 
 -- ---- how it stops
@@ -187,7 +187,7 @@ pub record TakesSteps {S : Type 0} (kind : StepKind S) (start : ReaderState) (fi
   pub there : IsTrue start.source.told → length (first_frames start.order k start.source.left) ≡ k
   pub ends : IsTrue start.source.told →
       EndsFrames start.order limit start.source.left k e new.source.left
-  pub reads : IsTrue start.source.told → CountsRun (reads_of_first kind start k) e start.reads new.reads
+  pub reads : IsTrue start.source.told → CountsRunReads (reads_of_first kind start k) e start.reads new.reads
   pub memory : IsTrue start.source.told → IsTrue start.source.whole →
       frames_refusal e ≡ Some OutOfMemory → kind.allocates
       × ((new.source.left ≡ drop_frames start.order k start.source.left)

@@ -41,7 +41,7 @@ use perf_sample_types::registers::Registers;
 /// }
 ///
 /// impl<'p, B: ParseBuf<'p>> Parse<'p, B> for Mark<'p> {
-///     #[tactic(auto, using(perf_parser::proofs::Paying::chain))]
+///     #[tactic(auto, using(perf_parser::proofs::Calls::chain))]
 ///     fn parse<E: Endian>(parser: &mut Parser<B, E>) -> ParseResult<Self> {
 ///         let id = parser.parse_u32()?;
 ///         let value = parser.parse_u64()?;

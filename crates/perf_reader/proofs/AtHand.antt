@@ -12,7 +12,7 @@ use Rattle.perf_buffers.specs.Buffer.{Source, BufferInvariant}
 use Rattle.perf_buffers.specs.Taking.{FailsToTake, Takes}
 use Rattle.perf_reader.specs.ReaderState.{ReaderState}
 use Rattle.perf_reader.specs.Reading.{of_layout, CallInvariant}
-use Rattle.perf_reader.proofs.Paying.{keeps_more, place_after}
+use Rattle.perf_reader.proofs.Calls.{keeps_more, place_after}
 
 -- they are present, so the layout does not refuse them
 pub never_short : (k n : ℕ) (o : Order) (old new : Source) (e : ErrorKind) (i j : ℕ) → n ≤ length old.left → FailsToTake old n e new → IsTrue (of_layout e) → one_took o (words k) old.left i ≡ quit e new.left j

@@ -16,7 +16,7 @@ use Rattle.perf_reader.specs.Calls.{Call}
 use Rattle.perf_reader.specs.ReaderState.{ReaderState, state_of}
 use Rattle.perf_reader.specs.Reading.{of_layout, CallInvariant, Reads}
 use Rattle.perf_reader.specs.declared.reader.Reader.{Reader}
-use Rattle.perf_reader.proofs.Paying.{keeps_more, place_after}
+use Rattle.perf_reader.proofs.Calls.{keeps_more, place_after}
 
 -- ---- the call
 

@@ -15,7 +15,7 @@ use Rattle.perf_buffers.specs.Buffer.{Source, BufferInvariant}
 use Rattle.perf_buffers.specs.Taking.{FailsToTake, Takes}
 use Rattle.perf_reader.specs.ReaderState.{ReaderState}
 use Rattle.perf_reader.specs.Reading.{of_layout, CallInvariant}
-use Rattle.perf_reader.proofs.Paying.{keeps_more, place_after}
+use Rattle.perf_reader.proofs.Calls.{keeps_more, place_after}
 
 -- one part, and then the others
 take_step : {A : Type 0} (o : Order) (shape : Shape) (k : ShapeValue shape → Parts A) (bytes : List ℕ) (n : ℕ) →

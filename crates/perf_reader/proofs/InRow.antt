@@ -7,7 +7,7 @@ use Rattle.std.specs.Prelude.{None, Some}
 use Rattle.perf_base.specs.Layout.{Shape, number, words, w8, ShapeValue, shape_value, words_of, size}
 use Rattle.perf_base.specs.Configured.{endian_of}
 use Rattle.perf_base.specs.Order.{Order}
-use Rattle.perf_base.specs.LayoutReads.{reads_of}
+use Rattle.perf_base.specs.LayoutReads.{part_reads}
 use Rattle.perf_base.specs.Took.{Took, took, quit, one_took}
 use Rattle.perf_base.specs.declared.config.ParseConfig.{ParseConfig}
 use Rattle.perf_base.specs.declared.error.ErrorKind.{ErrorKind}
@@ -24,13 +24,13 @@ record Stood (o : Order) (shape : Shape) (bytes : List ℕ) (n : ℕ) (v : Shape
   fits : size shape (length bytes) ≤ length bytes
   value_is : v ≡ shape_value o shape (take (size shape (length bytes)) bytes)
   left_is : left ≡ drop (size shape (length bytes)) bytes
-  reads_are : m ≡ n + reads_of shape (size shape (length bytes))
+  reads_are : m ≡ n + part_reads shape (size shape (length bytes))
 
 stood : (o : Order) (shape : Shape) (bytes : List ℕ) (n : ℕ) (v : ShapeValue shape) (left : List ℕ) (m : ℕ) → one_took o shape bytes n ≡ took v left m → Stood o shape bytes n v left m
 stood o shape bytes n v left m e = elim (cases_lt (length bytes) (size shape (length bytes))) [
   | inl short ↦ absurd (cc (took_no o shape bytes n short))
   | inr fits ↦
-      let both : took (shape_value o shape (take (size shape (length bytes)) bytes)) (drop (size shape (length bytes)) bytes) (n + reads_of shape (size shape (length bytes))) ≡ took v left m = sym (took_yes o shape bytes n fits) ∙ e in
+      let both : took (shape_value o shape (take (size shape (length bytes)) bytes)) (drop (size shape (length bytes)) bytes) (n + part_reads shape (size shape (length bytes))) ≡ took v left m = sym (took_yes o shape bytes n fits) ∙ e in
       record { fits = fits; value_is = cc; left_is = cc; reads_are = cc }
 ]
 

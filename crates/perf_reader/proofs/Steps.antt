@@ -10,7 +10,7 @@ use Rattle.perf_buffers.specs.Taking.{Takes, FailsToTake, FailsToKeep, FailsInRe
 use Rattle.perf_reader.specs.Reading.{of_layout}
 use Rattle.perf_base.specs.Order.{Order}
 use Rattle.perf_base.specs.Layout.{number, byte_string, rest, padding, optional, Width, w1, w2, w4, w8, bytes_in, number_of}
-use Rattle.perf_base.specs.LayoutReads.{one_if_any, reads_of}
+use Rattle.perf_base.specs.LayoutReads.{one_if_any, part_reads}
 use Rattle.perf_base.specs.Took.{took, quit, one_took}
 use Rattle.perf_base.proofs.Took.{took_yes, took_no, then_take}
 
@@ -47,7 +47,7 @@ pub run_none : (o : Order) (bytes : List ℕ) (n : ℕ) → one_took o (byte_str
 run_none o bytes n = took_yes o (byte_string 0) bytes n (omega arith) ∙ ap (took [] bytes) (omega arith)
 
 -- a number is made of its bytes
-width_some : (w : Width) → reads_of (byte_string (bytes_in w)) (bytes_in w) ≡ 1
+width_some : (w : Width) → part_reads (byte_string (bytes_in w)) (bytes_in w) ≡ 1
 width_some w1 = refl
 width_some w2 = refl
 width_some w4 = refl

@@ -1,5 +1,5 @@
 //! How the attribute of an event is read. Its fields are read in groups, one after another.
-#![tactic(auto, using(crate::proofs::Paying::chain))]
+#![tactic(auto, using(crate::proofs::Calls::chain))]
 
 ghost use Rattle.std.specs.Prelude.{◌≡◌, drop, IfOk, if◌then◌else◌};
 ghost use Rattle.perf_base.specs.Attribute.{attribute, is_attribute_size};

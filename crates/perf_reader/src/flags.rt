@@ -1,5 +1,5 @@
 //! How words with names, and sets of flags, are read.
-#![tactic(auto, using(crate::proofs::Paying::chain))]
+#![tactic(auto, using(crate::proofs::Calls::chain))]
 
 ghost use Rattle.perf_base.specs.FieldWords.{u16, u64};
 ghost use Rattle.perf_reader.specs.Prelude.{ReadsPlain};

@@ -8,7 +8,7 @@
 //! once if the input reports that it has eight (`Reader::read_header`), and number by number only
 //! if it has fewer or reports nothing (`Reader::read_header_by_number`), so that each number that
 //! is present counts.
-#![tactic(auto, using(crate::proofs::Paying::chain))]
+#![tactic(auto, using(crate::proofs::Calls::chain))]
 
 ghost use Rattle.std.specs.Prelude.{◌≡◌, ◌++◌};
 ghost use Rattle.perf_base.specs.Header.{header, header_of};

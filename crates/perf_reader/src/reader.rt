@@ -431,7 +431,7 @@ impl<'p, I: Input<'p>, E: Endian> Reader<I, E> {
     // The next `N` bytes, which are those of `numbers` numbers, and which the input has. They are
     // taken at once, and each number is a read.
     #[inline]
-    #[tactic(auto, using(crate::proofs::Paying::chain))]
+    #[tactic(auto, using(crate::proofs::Calls::chain))]
     fn take_at_once<const N: usize>(&mut self, numbers: usize) -> ReadResult<[u8; N]>
         requires some { 0 < numbers }
         requires room { numbers ≤ N }
@@ -727,7 +727,7 @@ impl<'p, I: Input<'p>, E: Endian> Reader<I, E> {
     /// All bytes that are left, without the zero bytes at their end: borrowed if the input is
     /// whole, or if none are left.
     #[inline]
-    #[tactic(auto, using(crate::proofs::Paying::chain))]
+    #[tactic(auto, using(crate::proofs::Calls::chain))]
     pub fn read_rest_trim_nul(&mut self) -> ReadResult<CowSlice<'p, u8>>
         ensures whole { IsTrue (I.source (input_of self.old)).whole →
             IfOk result (λ c. IsTrue (is_borrowed c)) }
@@ -776,7 +776,7 @@ impl<'p, I: Input<'p>, E: Endian> Reader<I, E> {
     // The next header, whose bytes the input has. They are taken at once, and each of its three
     // numbers is a read.
     #[inline]
-    #[tactic(auto, using(crate::proofs::Paying::chain))]
+    #[tactic(auto, using(crate::proofs::Calls::chain))]
     pub(crate) fn read_header(&mut self) -> ReadResult<perf_event_header>
         requires { IsTrue (I.source (input_of self.old)).told →
             8 ≤ length (I.source (input_of self.old)).left }
@@ -795,7 +795,7 @@ impl<'p, I: Input<'p>, E: Endian> Reader<I, E> {
 
     // The next header, a number at a time.
     #[inline]
-    #[tactic(auto, using(crate::proofs::Paying::chain))]
+    #[tactic(auto, using(crate::proofs::Calls::chain))]
     pub(crate) fn read_header_by_number(&mut self) -> ReadResult<perf_event_header>
         ensures call { Call I.source E.order (ReadsPlain (λ _. header) (λ h. h))
             self.old (kinds result) self.new }

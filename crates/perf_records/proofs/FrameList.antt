@@ -7,7 +7,7 @@ use Rattle.perf_base.specs.Order.{Order}
 use Rattle.perf_records.specs.FrameList.{sights}
 use Rattle.perf_records.specs.Frames.{frame_length, first_frames, frames}
 use Rattle.perf_records.specs.Sights.{Sight, sight_in}
-use Rattle.perf_records.proofs.Handing.{sight_alone}
+use Rattle.perf_records.proofs.Handovers.{sight_alone}
 
 -- fewer bytes than a header has are no frame
 pub frames_short : (o : Order) (n : ℕ) (bytes : List ℕ) → length bytes < 8 → first_frames o n bytes ≡ []

@@ -16,11 +16,11 @@ use Rattle.perf_base.specs.declared.error.ErrorKind.{ErrorKind}
 use Rattle.perf_base.specs.declared.error.ErrorKind.TheVariants.{Eof, InvalidRecord, UnsupportedConfig, UnsupportedData, External, OutOfMemory}
 use Rattle.perf_buffers.specs.Buffer.{Source}
 use Rattle.perf_buffers.specs.Taking.{MovesWithin}
-use Rattle.perf_buffers.proofs.Taking.{moves_more}
+use Rattle.perf_buffers.proofs.Takes.{moves_more}
 use Rattle.perf_reader.specs.ReaderState.{ReaderState}
 use Rattle.perf_reader.specs.Reading.{of_layout, is_external}
-use Rattle.perf_reader.proofs.Paying.{within_taken}
-use Rattle.perf_records.proofs.Keeping.{within_all}
+use Rattle.perf_reader.proofs.Calls.{within_taken}
+use Rattle.perf_records.proofs.Preservation.{within_all}
 use Rattle.perf_records.specs.Frames.{frame_length}
 use Rattle.perf_records.specs.Answers.{FrameParts, length_after, split_after, split_reads, id_reads, record_in, record_reads, answer_after, reads_after, of_frame, answer_of_frame, AnswersExactly, frame_reads, RefusesHeader}
 

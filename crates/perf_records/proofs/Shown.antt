@@ -13,12 +13,12 @@ use Rattle.perf_base.specs.declared.error.ErrorKind.{ErrorKind}
 use Rattle.perf_base.specs.declared.error.ErrorKind.TheVariants.{InvalidRecord}
 use Rattle.perf_buffers.specs.Buffer.{Source, BufferInvariant}
 use Rattle.perf_buffers.specs.Taking.{Takes, CanFail}
-use Rattle.perf_buffers.proofs.Taking.{takes_moves}
+use Rattle.perf_buffers.proofs.Takes.{takes_moves}
 use Rattle.perf_reader.specs.Calls.{Call}
 use Rattle.perf_reader.specs.NextFrame.{GivesNextFrame, FailsToReadFrame}
 use Rattle.perf_reader.specs.ReaderState.{ReaderState, state_of}
 use Rattle.perf_reader.specs.declared.reader.Reader.{Reader}
-use Rattle.perf_reader.proofs.Paying.{keeps_more, can_fault}
+use Rattle.perf_reader.proofs.Calls.{keeps_more, can_fault}
 use Rattle.perf_reader.specs.Reading.{is_external, one_if_refused, CallInvariant}
 use Rattle.perf_records.specs.Answers.{FrameParts, length_after, parts_of, id_reads, split_reads, split_after, record_in, record_reads, answer_after, reads_after, ReadsFrameAfter}
 use Rattle.perf_records.specs.Bodies.{body, needs_memory}
@@ -30,10 +30,10 @@ use Rattle.std.specs.Prelude.{Box, IfOk}
 use Rattle.std.specs.declared.alloc.Global.{Global}
 use Rattle.perf_records.specs.Gives.{Event, GivesWholeBody, GivesFrameAfter, BelongsTo, IsRecordOf, IsSampleOf}
 use Rattle.perf_records.specs.declared.record.Record.TheVariants as record_of
-use Rattle.perf_records.proofs.Finishing.{belongs, spares, visits_made, visits_keep, unsplit_visits}
-use Rattle.perf_records.proofs.Keeping.{moved_keeps, taken_pays, within_kept}
-use Rattle.perf_records.proofs.Making.{body_transition}
-use Rattle.perf_records.proofs.Splitting.{split_made, unsplit_cut}
+use Rattle.perf_records.proofs.FrameVisits.{belongs, spares, visits_made, visits_keep, unsplit_visits}
+use Rattle.perf_records.proofs.Preservation.{moved_keeps, taken_pays, within_kept}
+use Rattle.perf_records.proofs.VisitedRecords.{body_transition}
+use Rattle.perf_records.proofs.Splits.{split_made, unsplit_cut}
 
 -- the front of a front
 pub front_of : (chunk frame part : List ℕ) (n m : ℕ) → frame ≡ take n chunk → n ≤ length chunk → part ≡ take m frame → m ≤ n → take (length part) chunk ≡ part

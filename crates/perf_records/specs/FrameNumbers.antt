@@ -64,8 +64,8 @@ abbrev pub event_field : (sample_type : ℕ) → NumberField
 event_field t = if has_bit t 6 then id_field else identifier_field
 
 -- the place of a field under a sample type
-abbrev pub place_of : (sample_type : ℕ) → NumberField → Place
-place_of t field = record {
+abbrev pub field_place : (sample_type : ℕ) → NumberField → Place
+field_place t field = record {
   present = has_bit t field.flag;
   in_sample = bytes_of t field.in_sample;
   in_id = bytes_of t field.in_id;
@@ -85,7 +85,7 @@ bytes_at c place h bytes =
 
 -- the same of a field
 abbrev pub field_bytes : Configuration → NumberField → perf_event_header → List ℕ → Option (List ℕ)
-field_bytes c field h bytes = bytes_at c (place_of c.sample_type field) h bytes
+field_bytes c field h bytes = bytes_at c (field_place c.sample_type field) h bytes
 
 -- ---- numbers
 

@@ -2,7 +2,7 @@
 //!
 //! Each type is read in a function of its own, so that a call uses no more stack than that type
 //! needs.
-#![tactic(auto, using(perf_reader::proofs::Paying::chain))]
+#![tactic(auto, using(perf_reader::proofs::Calls::chain))]
 
 ghost use Rattle.perf_records.specs.Prelude.{Call, GivesBody, GivesType, GivesUnknown, kinds};
 ghost use Rattle.perf_records.specs.Prelude as prelude;

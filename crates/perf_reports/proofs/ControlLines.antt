@@ -7,7 +7,7 @@ use Rattle.perf_types.specs.declared.namespaces.NamespaceEntry.{NamespaceEntry}
 use Rattle.perf_types.specs.Mmap2.{Mmap2Value}
 use Rattle.perf_types.specs.MmapDetail.{DetailValue, inode_is, build_id_is}
 use Rattle.perf_records.specs.Records.{RecordValue, comm_is, mmap_is, mmap2_is, fork_is, exit_is, namespaces_is}
-use Rattle.perf_reports.specs.TaskLines.{HasNoControl, hex, hex_byte, letter, place, protection, file, namespace, escape_name, line, task_line, mmap2_line, line_of}
+use Rattle.perf_reports.specs.TaskLines.{HasNoControl, hex, hex_byte, letter, place, protection, file, namespace, escape_name, line, task_line, mmap2_line, task_line_of}
 use Rattle.perf_reports.proofs.Control.{Clean, no_control, clean_joined, clean_each, clean_decimal, clean_digits, clean_hex_byte, clean_escaped}
 use Rattle.perf_reports.proofs.Escaped.{picked}
 
@@ -64,7 +64,7 @@ mmap2_clean r =
     (spaced_clean (place r.addr r.len r.pgoff) (file r.detail ++ (32 ∷ (used ++ (32 ∷ name)))) (place_clean r.addr r.len r.pgoff)
     (spaced_clean (file r.detail) (used ++ (32 ∷ name)) (file_clean r.detail) (spaced_clean used name (protection_clean r.prot r.flags) (clean_escaped r.filename))))
 
-line_of_clean : (r : RecordValue) → Clean (unwrap_or (line_of r) [])
+line_of_clean : (r : RecordValue) → Clean (unwrap_or (task_line_of r) [])
 line_of_clean (comm_is r) = line_clean (codes "comm") r.pid r.tid (escape_name r.comm) refl (clean_escaped r.comm)
 line_of_clean (mmap_is r) =
     line_clean (codes "mmap") r.pid r.tid (place r.addr r.len r.pgoff ++ (32 ∷ escape_name r.filename)) refl
@@ -75,5 +75,5 @@ line_of_clean (exit_is r) = task_clean (codes "exit") r refl
 line_of_clean (namespaces_is r) = line_clean (codes "namespaces") r.pid r.tid (join_by namespace (codes ",") r.namespaces) refl (listed_clean r.namespaces)
 line_of_clean _ = refl
 
-pub line_has_no_control : (r : RecordValue) → HasNoControl (unwrap_or (line_of r) [])
-line_has_no_control r = no_control (unwrap_or (line_of r) []) (line_of_clean r)
+pub line_has_no_control : (r : RecordValue) → HasNoControl (unwrap_or (task_line_of r) [])
+line_has_no_control r = no_control (unwrap_or (task_line_of r) []) (line_of_clean r)

@@ -14,12 +14,12 @@ use Rattle.perf_base.specs.declared.sys.perf_event_header.{perf_event_header}
 use Rattle.perf_buffers.specs.Buffer.{Source, BufferInvariant}
 use Rattle.perf_reader.specs.ReaderState.{ReaderState}
 use Rattle.perf_reader.specs.Reading.{of_layout, is_external}
-use Rattle.perf_reader.proofs.Paying.{last_moved}
+use Rattle.perf_reader.proofs.Calls.{last_moved}
 use Rattle.perf_base.specs.Configuration.{Configuration, under_misc}
 use Rattle.perf_base.specs.Attribute.{attribute}
 use Rattle.perf_base.specs.Took.{took, took_by_places}
 use Rattle.perf_base.specs.declared.sys.perf_event_attr.{perf_event_attr}
-use Rattle.perf_records.proofs.Saying.{took_says}
+use Rattle.perf_records.proofs.LayoutResults.{took_result}
 use Rattle.perf_base.specs.Layout.{Parts, done, map_parts, layout, value}
 use Rattle.perf_base.proofs.Algebra.{then_inv}
 use Rattle.perf_base.proofs.Tables.{layout_run, run_layout}
@@ -38,13 +38,13 @@ use Rattle.perf_records.specs.Frames.{frame_length, first_frames, frames, drop_f
 use Rattle.perf_records.specs.Records.{RecordValue, sample_is}
 use Rattle.perf_records.specs.Sights.{Sight, whole, bad, sight_after, sight_in}
 use Rattle.perf_records.proofs.FrameList.{frames_first, frames_short}
-use Rattle.perf_records.proofs.Handing.{finished}
+use Rattle.perf_records.proofs.Handovers.{finished}
 use Rattle.perf_records.proofs.Headers.{answer_whole}
 use Rattle.perf_parser.specs.FrameRuns.{Handed, HandsFirst, EndsFrames, frames_refusal}
 use Rattle.perf_parser.specs.Runs.{EndsWith, MovesWithinFrame, RunInvariant, end_refusal}
 use Rattle.perf_parser.specs.declared.runs.RunEnd.{RunEnd}
-use Rattle.perf_parser.proofs.Handing.{moved_by}
-use Rattle.perf_parser.proofs.Listing.{AreThere, there_fits, there_next, after_on, frames_fit}
+use Rattle.perf_parser.proofs.FrameHandovers.{moved_by}
+use Rattle.perf_parser.proofs.Lists.{AreThere, there_fits, there_next, after_on, frames_fit}
 use Rattle.perf_reports.specs.Counting.{modulo_word, frame_sum, counts_of, plus, sight_header, sight_answer, counted_sight, IsRefused, RanOut, EndsBy, CountsSight, CountsRun, RefusesSight, SumsAnswer, Adds, record_sum, sample_sum, attribute_in}
 use Rattle.perf_reports.specs.declared.counting.FrameCounter.{FrameCounter}
 use Rattle.perf_reports.specs.declared.counts.Counts.{Counts}
@@ -352,7 +352,7 @@ refuses_seen h c o bytes borrowed e was now false says p = p
 
 pub attribute_read : (o : Order) (bytes left : List ℕ) (n m : ℕ) (a : perf_event_attr) → took_by_places o attribute bytes n ≡ took a left m → attribute_in o bytes ≡ Ok a
 unfolding attribute_in
-attribute_read o bytes left n m a h = (took_says o attribute bytes left n m a h).0
+attribute_read o bytes left n m a h = (took_result o attribute bytes left n m a h).0
 
 pub attribute_refused : (o : Order) (bytes : List ℕ) (e : ErrorKind) → layout o attribute bytes ≡ Err e → attribute_in o bytes ≡ Err e
 unfolding attribute_in

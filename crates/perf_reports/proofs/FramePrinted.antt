@@ -28,7 +28,7 @@ use Rattle.perf_records.specs.Sights.{Sight, sight_in}
 use Rattle.perf_parser.specs.FrameRuns.{Handed, HandsFirst, went_on}
 use Rattle.perf_parser.specs.declared.runs.RunEnd.{RunEnd}
 use Rattle.perf_reader.specs.ReaderState.{ReaderState}
-use Rattle.perf_reports.specs.FramePrinting.{Answered, frame_answer, by_kinds, TellsErrors, all_clean, Prints, StopsAt, PrintsAnswer, PrintsSight, PrintsFirst, answers_of}
+use Rattle.perf_reports.specs.FramePrinting.{Answered, frame_answer, by_kinds, TellsErrors, all_clean, Prints, StopsPrinting, PrintsAnswer, PrintsSight, PrintsFirst, answers_left}
 use Rattle.perf_reports.specs.Printing.{text_of_record, printed_answer, printed_answers, error_line, error_lines, Grows, GrowsWithin, is_memory}
 use Rattle.perf_reports.specs.declared.frame_printer.FramePrinter.{FramePrinter}
 use Rattle.perf_reports.specs.declared.printing.Report.{Report}
@@ -108,7 +108,7 @@ module _ {W E : Type 0} (out : W → Option (List ℕ)) (err : E → Option (Lis
 
   -- its line could not be added
   pub stops_line : (was now : FramePrinter W E) (h : perf_event_header) (v : RecordValue) (why : Stopped) → now.errors ≡ was.errors → GrowsWithin (out was.output) (out now.output) (waiting was ++ text_of_record was.report v) →
-      (IsTrue (is_memory why) → Appends (out was.output) (out now.output) (waiting was)) → StopsAt out err was (h, Ok v) why now
+      (IsTrue (is_memory why) → Appends (out was.output) (out now.output) (waiting was)) → StopsPrinting out err was (h, Ok v) why now
   stops_line was now h v why errors w refused = record {
     part = subst (λ s. GrowsWithin (out was.output) (out now.output) (waiting was ++ s)) (sym (append-nil (text_of_record was.report v))) w;
     refused = λ memory. (refused memory, ap err errors);
@@ -127,21 +127,21 @@ module _ {W E : Type 0} (out : W → Option (List ℕ)) (err : E → Option (Lis
 
   -- only a prefix of what was gathered was written
   pub stops_early : (was now : FramePrinter W E) (x : Answered) (why : Stopped) → (n : ℕ) × Appends (out was.output) (out now.output) (take n (waiting was)) →
-      (IsTrue (is_memory why) → Appends (out was.output) (out now.output) (waiting was) × (err now.errors ≡ err was.errors)) → StopsAt out err was x why now
+      (IsTrue (is_memory why) → Appends (out was.output) (out now.output) (waiting was) × (err now.errors ≡ err was.errors)) → StopsPrinting out err was x why now
   stops_early was now x why part refused = record {
     part = within (out was.output) (out now.output) (waiting was) (printed_answers was.report (x ∷ [])) part;
     refused = refused;
   }
 
   -- all of it was written, and then the output of errors failed
-  pub stops_told : (was now : FramePrinter W E) (x : Answered) (why : Stopped) → Appends (out was.output) (out now.output) (waiting was) → is_memory why ≡ false → StopsAt out err was x why now
+  pub stops_told : (was now : FramePrinter W E) (x : Answered) (why : Stopped) → Appends (out was.output) (out now.output) (waiting was) → is_memory why ≡ false → StopsPrinting out err was x why now
   stops_told was now x why written failed = record {
     part = longer (out was.output) (out now.output) (waiting was) (printed_answers was.report (x ∷ [])) (whole_within (out was.output) (out now.output) (waiting was) written);
     refused = λ memory. let never : true ≡ false = sym memory ∙ failed in absurd (cc);
   }
 
   -- the same, or an output failed before that
-  pub stops_failed : (was now : FramePrinter W E) (x : Answered) (why : Stopped) → (n : ℕ) × Appends (out was.output) (out now.output) (take n (waiting was)) → is_memory why ≡ false → StopsAt out err was x why now
+  pub stops_failed : (was now : FramePrinter W E) (x : Answered) (why : Stopped) → (n : ℕ) × Appends (out was.output) (out now.output) (take n (waiting was)) → is_memory why ≡ false → StopsPrinting out err was x why now
   stops_failed was now x why part failed = stops_early was now x why part (λ memory. let never : true ≡ false = sym memory ∙ failed in absurd (cc))
 
   -- the same result under another name
@@ -156,7 +156,7 @@ module _ {W E : Type 0} (out : W → Option (List ℕ)) (err : E → Option (Lis
   adds_line was now h a v (Err why) e report errors clean g w refused = prints_same was now h a (Ok v) (Err why) e (stops_line was now h v why errors w refused)
 
   -- keeping why it stopped changes nothing of what it printed
-  pub stops_kept : (was now kept : FramePrinter W E) (x : Answered) (why : Stopped) → kept.output ≡ now.output → kept.errors ≡ now.errors → StopsAt out err was x why now → StopsAt out err was x why kept
+  pub stops_kept : (was now kept : FramePrinter W E) (x : Answered) (why : Stopped) → kept.output ≡ now.output → kept.errors ≡ now.errors → StopsPrinting out err was x why now → StopsPrinting out err was x why kept
   stops_kept was now kept x why output errors p = record {
     part = subst (λ (o : W). GrowsWithin (out was.output) (out o) (waiting was ++ printed_answers was.report (x ∷ []))) (sym output) p.part;
     refused = λ memory. (subst (λ (o : W). Appends (out was.output) (out o) (waiting was)) (sym output) (p.refused memory).0, ap err errors ∙ (p.refused memory).1);
@@ -173,7 +173,7 @@ pub record StopsAfter {W E : Type 0} (out : W → Option (List ℕ)) (err : E �
   pub printed_first : Prints out err was xs mid
   pub why : Stopped
   pub kept : now.stopped ≡ Some why
-  pub stops : StopsAt out err mid x why now
+  pub stops : StopsPrinting out err mid x why now
 
 module _ {W E : Type 0} (out : W → Option (List ℕ)) (err : E → Option (List ℕ)) (c : Configuration) (o : Order) (all : Bool) where
   abbrev gets : FramePrinter W E → Sight → Bool → FramePrinter W E → Type 0
@@ -212,7 +212,7 @@ module _ {W E : Type 0} (out : W → Option (List ℕ)) (err : E → Option (Lis
       printed_first = prints_none out err was;
       why = last.0.0;
       kept = last.0.1;
-      stops = subst (λ (x : Answered). StopsAt out err was x last.0.0 now) (frame_pair c o frame p.0 headed.0) last.0.2;
+      stops = subst (λ (x : Answered). StopsPrinting out err was x last.0.0 now) (frame_pair c o frame p.0 headed.0) last.0.2;
     }
   ]
 
@@ -285,7 +285,7 @@ module _ {W E : Type 0} (out : W → Option (List ℕ)) (err : E → Option (Lis
 
   -- a run of a parser: it went on
   pub went_on_prints : (old : ReaderState) (count : ℕ) (ended : Option RunEnd) (e : RunEnd) (was now : FramePrinter W E) → ended ≡ Some e →
-      HandsFirst (λ s x. PrintsSight out err s old.settings old.order x) old count ended was now → Prints out err was (take count (answers_of old)) now
+      HandsFirst (λ s x. PrintsSight out err s old.settings old.order x) old count ended was now → Prints out err was (take count (answers_left old)) now
   went_on_prints old count ended e was now is handed =
       let c = old.settings in let o = old.order in
       let fs = first_frames o count old.source.left in
@@ -295,7 +295,7 @@ module _ {W E : Type 0} (out : W → Option (List ℕ)) (err : E → Option (Lis
 
   -- it was stopped
   pub stopped_prints : (old : ReaderState) (count : ℕ) (ended : Option RunEnd) (was now : FramePrinter W E) → ended ≡ None →
-      HandsFirst (λ s x. PrintsSight out err s old.settings old.order x) old count ended was now → StopsAfter out err was (take count (answers_of old)) now
+      HandsFirst (λ s x. PrintsSight out err s old.settings old.order x) old count ended was now → StopsAfter out err was (take count (answers_left old)) now
   stopped_prints old count ended was now is handed =
       let c = old.settings in let o = old.order in
       let fs = first_frames o count old.source.left in
@@ -305,7 +305,7 @@ module _ {W E : Type 0} (out : W → Option (List ℕ)) (err : E → Option (Lis
 
   -- all the answers are present
   pub there : (old : ReaderState) (count : ℕ) (ended : Option RunEnd) (was now : FramePrinter W E) →
-      HandsFirst (λ s x. PrintsSight out err s old.settings old.order x) old count ended was now → length (take count (answers_of old)) ≡ count
+      HandsFirst (λ s x. PrintsSight out err s old.settings old.order x) old count ended was now → length (take count (answers_left old)) ≡ count
   there old count ended was now handed =
       sym (ap length (first_answers old.settings old.order count old.source.left handed.0)) ∙ length-map (first_frames old.order count old.source.left) (pair_of old.settings old.order) ∙ handed.0
 

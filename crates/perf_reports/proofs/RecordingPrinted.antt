@@ -10,7 +10,7 @@ use Rattle.perf_reader.specs.ReaderState.{ReaderState}
 use Rattle.perf_records.specs.Answers.{answers}
 use Rattle.perf_records.specs.Frames.{stream_end, done}
 use Rattle.perf_reports.specs.Counting.{attribute_in}
-use Rattle.perf_reports.specs.FramePrinting.{Answered, TellsErrors, all_clean, PrintsAll, PrintsRecording, answers_of, recording_answers}
+use Rattle.perf_reports.specs.FramePrinting.{Answered, TellsErrors, all_clean, PrintsAll, PrintsRecording, answers_left, recording_answers}
 use Rattle.perf_reports.specs.Printing.{printed_answers, GrowsWithin}
 use Rattle.perf_reports.specs.declared.frame_printer.FramePrinter.{FramePrinter}
 use Rattle.perf_reports.specs.declared.printing.Report.{Report}
@@ -32,7 +32,7 @@ recording_is bytes attr is =
     ap (λ (r : Result perf_event_attr ErrorKind). elim r as (λ x. List Answered) [ Ok a ↦ answers (configured_by a) little (drop a.size bytes) | Err e ↦ [] ]) is
 
 -- its answers are those of the recording
-answers_are : (bytes : List ℕ) (attr : perf_event_attr) (state : ReaderState) → StandsAfter bytes attr state → answers_of state ≡ recording_answers bytes
+answers_are : (bytes : List ℕ) (attr : perf_event_attr) (state : ReaderState) → StandsAfter bytes attr state → answers_left state ≡ recording_answers bytes
 answers_are bytes attr state s =
     ap (λ (c : Configuration). answers c state.order state.source.left) s.settings
     ∙ ap (λ (o : Order). answers (configured_by attr) o state.source.left) s.order
@@ -41,10 +41,10 @@ answers_are bytes attr state s =
 
 module _ {W E : Type 0} (out : W → Option (List ℕ)) (err : E → Option (List ℕ)) where
   lines_are : (report : Report) (bytes : List ℕ) (attr : perf_event_attr) (was : FramePrinter W E) (state : ReaderState) → StandsAfter bytes attr state → waiting out err was ≡ [] → was.report ≡ report →
-      waiting out err was ++ printed_answers was.report (answers_of state) ≡ printed_answers report (recording_answers bytes)
+      waiting out err was ++ printed_answers was.report (answers_left state) ≡ printed_answers report (recording_answers bytes)
   lines_are report bytes attr was state s none same =
-      ap (λ (w : List ℕ). w ++ printed_answers was.report (answers_of state)) none
-      ∙ ap (λ (r : Report). printed_answers r (answers_of state)) same
+      ap (λ (w : List ℕ). w ++ printed_answers was.report (answers_left state)) none
+      ∙ ap (λ (r : Report). printed_answers r (answers_left state)) same
       ∙ ap (λ (xs : List Answered). printed_answers report xs) (answers_are bytes attr state s)
 
   -- all of it
@@ -58,19 +58,19 @@ module _ {W E : Type 0} (out : W → Option (List ℕ)) (err : E → Option (Lis
         s.attribute,
         sym (ap (λ (x : Order). stream_end x state.source.left) s.order ∙ ap (λ (xs : List ℕ). stream_end little xs) s.left) ∙ p.end,
         subst (λ (t : List ℕ). Appends o o2 t) (lines_are report bytes attr was state s none same)
-            (subst (λ (y : Option (List ℕ)). Appends o y (waiting out err was ++ printed_answers was.report (answers_of state))) b
-            (subst (λ (x : Option (List ℕ)). Appends x (out now.output) (waiting out err was ++ printed_answers was.report (answers_of state))) a p.lines)),
+            (subst (λ (y : Option (List ℕ)). Appends o y (waiting out err was ++ printed_answers was.report (answers_left state))) b
+            (subst (λ (x : Option (List ℕ)). Appends x (out now.output) (waiting out err was ++ printed_answers was.report (answers_left state))) a p.lines)),
         subst (λ (xs : List Answered). TellsErrors e e2 xs) there
-            (subst (λ (y : Option (List ℕ)). TellsErrors e y (answers_of state)) g
-            (subst (λ (x : Option (List ℕ)). TellsErrors x (err now.errors) (answers_of state)) f p.told)),
-        p.clean ∙ ap (λ (k : Bool). k && all_clean (answers_of state)) new ∙ ap (λ (xs : List Answered). all_clean xs) there,
+            (subst (λ (y : Option (List ℕ)). TellsErrors e y (answers_left state)) g
+            (subst (λ (x : Option (List ℕ)). TellsErrors x (err now.errors) (answers_left state)) f p.told)),
+        p.clean ∙ ap (λ (k : Bool). k && all_clean (answers_left state)) new ∙ ap (λ (xs : List Answered). all_clean xs) there,
       )
 
   -- a part of it
   pub recorded_part : (report : Report) (bytes : List ℕ) (attr : perf_event_attr) (was now : FramePrinter W E) (state : ReaderState) (o o2 : Option (List ℕ)) →
       StandsAfter bytes attr state → waiting out err was ≡ [] → was.report ≡ report → out was.output ≡ o → out now.output ≡ o2 →
-      GrowsWithin (out was.output) (out now.output) (waiting out err was ++ printed_answers was.report (answers_of state)) → GrowsWithin o o2 (printed_answers report (recording_answers bytes))
+      GrowsWithin (out was.output) (out now.output) (waiting out err was ++ printed_answers was.report (answers_left state)) → GrowsWithin o o2 (printed_answers report (recording_answers bytes))
   recorded_part report bytes attr was now state o o2 s none same a b p =
       subst (λ (t : List ℕ). GrowsWithin o o2 t) (lines_are report bytes attr was state s none same)
-      (subst (λ (y : Option (List ℕ)). GrowsWithin o y (waiting out err was ++ printed_answers was.report (answers_of state))) b
-      (subst (λ (x : Option (List ℕ)). GrowsWithin x (out now.output) (waiting out err was ++ printed_answers was.report (answers_of state))) a p))
+      (subst (λ (y : Option (List ℕ)). GrowsWithin o y (waiting out err was ++ printed_answers was.report (answers_left state))) b
+      (subst (λ (x : Option (List ℕ)). GrowsWithin x (out now.output) (waiting out err was ++ printed_answers was.report (answers_left state))) a p))

@@ -12,7 +12,7 @@ use Rattle.perf_parser.specs.declared.runs.RunEnd.TheVariants as end
 use Rattle.perf_reader.specs.ReaderState.{ReaderState}
 use Rattle.perf_records.specs.Answers.{answers, answer_of_frame}
 use Rattle.perf_records.specs.Frames.{frames, drop_frames, stream_end, done}
-use Rattle.perf_reports.specs.FramePrinting.{Answered, TellsErrors, all_clean, Prints, PrintsFirst, PrintsRun, PrintsAll, answers_of}
+use Rattle.perf_reports.specs.FramePrinting.{Answered, TellsErrors, all_clean, Prints, PrintsFirst, PrintsRun, PrintsAll, answers_left}
 use Rattle.perf_reports.specs.Printing.{printed_answers, Grows, GrowsWithin}
 use Rattle.perf_reports.specs.declared.frame_printer.FramePrinter.{FramePrinter}
 use Rattle.perf_records.proofs.FramesAfter.{frames_after, after_more, answers_after, end_after}
@@ -32,15 +32,15 @@ grows_whole (Some xs) (Some ys) waited waits text p q = ap (λ s. ys ++ s) q ∙
 module _ {W E : Type 0} (out : W → Option (List ℕ)) (err : E → Option (List ℕ)) where
   -- The first n answers of what a parser had were printed, and the bytes after them are left.
   pub record HasPrinted (was : FramePrinter W E) (old : ReaderState) (n : ℕ) (left : List ℕ) (now : FramePrinter W E) : Type 0 where
-    pub within : n ≤ length (answers_of old)
+    pub within : n ≤ length (answers_left old)
     pub left_is : left ≡ drop_frames old.order n old.source.left
-    pub prints : Prints out err was (take n (answers_of old)) now
+    pub prints : Prints out err was (take n (answers_left old)) now
 
   pub has_none : (p : FramePrinter W E) (old : ReaderState) → HasPrinted p old 0 old.source.left p
   has_none p old = record { within = omega arith; left_is = refl; prints = prints_none out err p }
 
   -- the answers of a run are those after the first n
-  answers_there : (old mid : ReaderState) (n : ℕ) → mid.settings ≡ old.settings → mid.order ≡ old.order → n ≤ length (answers_of old) → mid.source.left ≡ drop_frames old.order n old.source.left → answers_of mid ≡ drop n (answers_of old)
+  answers_there : (old mid : ReaderState) (n : ℕ) → mid.settings ≡ old.settings → mid.order ≡ old.order → n ≤ length (answers_left old) → mid.source.left ≡ drop_frames old.order n old.source.left → answers_left mid ≡ drop n (answers_left old)
   answers_there old mid n settings order within left =
       ap (λ c. answers c mid.order mid.source.left) settings ∙ ap (λ o. answers old.settings o mid.source.left) order ∙ ap (λ bytes. answers old.settings old.order bytes) left
       ∙ answers_after old.settings old.order n old.source.left (omega (arith, within, count_answers old.settings old.order old.source.left))
@@ -57,19 +57,19 @@ module _ {W E : Type 0} (out : W → Option (List ℕ)) (err : E → Option (Lis
 
   -- one more run
   pub has_more : (was mid now : FramePrinter W E) (old state : ReaderState) (n : ℕ) (left : List ℕ) (e : RunEnd) (limit : ℕ) →
-      state.settings ≡ old.settings → state.order ≡ old.order → HasPrinted was old n state.source.left mid → (r : PrintsRun out err mid state limit e left now) → waiting out err now ≡ [] → Prints out err was (take (n + r.0) (answers_of old)) now
+      state.settings ≡ old.settings → state.order ≡ old.order → HasPrinted was old n state.source.left mid → (r : PrintsRun out err mid state limit e left now) → waiting out err now ≡ [] → Prints out err was (take (n + r.0) (answers_left old)) now
   has_more was mid now old state n left e limit settings order h r none =
-      let all = answers_of old in
+      let all = answers_left old in
       let k : ℕ = r.0 in
-      let there : answers_of state ≡ drop n all = answers_there old state n settings order h.within h.left_is in
-      let run : Prints out err mid (take k (answers_of state)) now = prints_run mid now (answers_of state) k r.1 none r.2 r.3 in
+      let there : answers_left state ≡ drop n all = answers_there old state n settings order h.within h.left_is in
+      let run : Prints out err mid (take k (answers_left state)) now = prints_run mid now (answers_left state) k r.1 none r.2 r.3 in
       let next : Prints out err mid (take k (drop n all)) now = subst (λ (xs : List Answered). Prints out err mid (take k xs) now) there run in
       subst (λ (xs : List Answered). Prints out err was xs now) (sym (take-add n k all)) (prints_more out err was mid now (take n all) (take k (drop n all)) h.prints next)
 
-  count_more : (old state : ReaderState) (n k : ℕ) → state.settings ≡ old.settings → state.order ≡ old.order → n ≤ length (answers_of old) → state.source.left ≡ drop_frames old.order n old.source.left → k ≤ length (answers_of state) → n + k ≤ length (answers_of old)
+  count_more : (old state : ReaderState) (n k : ℕ) → state.settings ≡ old.settings → state.order ≡ old.order → n ≤ length (answers_left old) → state.source.left ≡ drop_frames old.order n old.source.left → k ≤ length (answers_left state) → n + k ≤ length (answers_left old)
   count_more old state n k settings order within left fits =
       let there = ap length (answers_there old state n settings order within left) in
-      omega (arith, fits, there, within, length-drop n (answers_of old))
+      omega (arith, fits, there, within, length-drop n (answers_left old))
 
   -- one more run, which reached its limit
   pub has_limit : (was mid now : FramePrinter W E) (old state : ReaderState) (n : ℕ) (left : List ℕ) (limit : ℕ) →
@@ -84,7 +84,7 @@ module _ {W E : Type 0} (out : W → Option (List ℕ)) (err : E → Option (Lis
   pub has_all : (was mid now : FramePrinter W E) (old state : ReaderState) (n : ℕ) (left : List ℕ) (limit : ℕ) (clean : Bool) →
       state.settings ≡ old.settings → state.order ≡ old.order → HasPrinted was old n state.source.left mid → (r : PrintsRun out err mid state limit end.Done left now) → waiting out err now ≡ [] → clean ≡ now.clean → PrintsAll out err was old clean now
   has_all was mid now old state n left limit clean settings order h r none is =
-      let all = answers_of old in
+      let all = answers_left old in
       let k : ℕ = r.0 in
       let fits : n ≤ length (frames old.order old.source.left) = omega (arith, h.within, count_answers old.settings old.order old.source.left) in
       let rest : k ≡ length (frames old.order (drop_frames old.order n old.source.left)) = r.4.1 ∙ ap (λ o. length (frames o state.source.left)) order ∙ ap (λ bytes. length (frames old.order bytes)) h.left_is in
@@ -108,17 +108,17 @@ module _ {W E : Type 0} (out : W → Option (List ℕ)) (err : E → Option (Lis
       subst (λ s. GrowsWithin a b s) (append_assoc (waiting out err was) first more ∙ ap (λ s. waiting out err was ++ s) whole) (longer a b (waiting out err was ++ first) more p)
 
   -- what was written so far
-  pub part_so_far : (was now : FramePrinter W E) (old : ReaderState) (n : ℕ) → Prints out err was (take n (answers_of old)) now → GrowsWithin (out was.output) (out now.output) (waiting out err was ++ printed_answers was.report (answers_of old))
-  part_so_far was now old n p = all_within (out was.output) (out now.output) was (answers_of old) n p.part
+  pub part_so_far : (was now : FramePrinter W E) (old : ReaderState) (n : ℕ) → Prints out err was (take n (answers_left old)) now → GrowsWithin (out was.output) (out now.output) (waiting out err was ++ printed_answers was.report (answers_left old))
+  part_so_far was now old n p = all_within (out was.output) (out now.output) was (answers_left old) n p.part
 
   -- and by a run that stopped
   pub part_more : (was mid now : FramePrinter W E) (old state : ReaderState) (n limit : ℕ) → state.settings ≡ old.settings → state.order ≡ old.order → HasPrinted was old n state.source.left mid →
-      GrowsWithin (out mid.output) (out now.output) (waiting out err mid ++ printed_answers mid.report (take limit (answers_of state))) → GrowsWithin (out was.output) (out now.output) (waiting out err was ++ printed_answers was.report (answers_of old))
+      GrowsWithin (out mid.output) (out now.output) (waiting out err mid ++ printed_answers mid.report (take limit (answers_left state))) → GrowsWithin (out was.output) (out now.output) (waiting out err was ++ printed_answers was.report (answers_left old))
   part_more was mid now old state n limit settings order h part =
-      let all = answers_of old in
+      let all = answers_left old in
       let first = printed_answers was.report (take n all) in
       let second = printed_answers was.report (take limit (drop n all)) in
-      let there : answers_of state ≡ drop n all = answers_there old state n settings order h.within h.left_is in
+      let there : answers_left state ≡ drop n all = answers_there old state n settings order h.within h.left_is in
       let part2 : GrowsWithin (out mid.output) (out now.output) (waiting out err mid ++ second) =
       subst (λ r. GrowsWithin (out mid.output) (out now.output) (waiting out err mid ++ printed_answers r (take limit (drop n all)))) h.prints.report
       (subst (λ (xs : List Answered). GrowsWithin (out mid.output) (out now.output) (waiting out err mid ++ printed_answers mid.report (take limit xs))) there part) in

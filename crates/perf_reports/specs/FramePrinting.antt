@@ -65,7 +65,7 @@ abbrev pub frame_answer : Configuration → Order → Frame → Answered
 frame_answer c o frame = (frame.header, answer_after c o frame.header (chunk_bytes frame.rest))
 
 -- what a printer has done when it stops at a frame
-pub record StopsAt {W E : Type 0} (out : W → Option (List ℕ)) (err : E → Option (List ℕ))
+pub record StopsPrinting {W E : Type 0} (out : W → Option (List ℕ)) (err : E → Option (List ℕ))
     (was : FramePrinter W E) (answer : Answered) (why : Stopped) (now : FramePrinter W E)
     : Type 0 where
   -- only a prefix of the lines was written
@@ -79,7 +79,7 @@ pub record StopsAt {W E : Type 0} (out : W → Option (List ℕ)) (err : E → O
 abbrev pub PrintsAnswer : {W E : Type 0} → (W → Option (List ℕ)) → (E → Option (List ℕ)) →
     FramePrinter W E → Answered → Result (Unit {0}) Stopped → FramePrinter W E → Type 0
 PrintsAnswer out err was answer (Ok x) now = Prints out err was (answer ∷ []) now
-PrintsAnswer out err was answer (Err why) now = StopsAt out err was answer why now
+PrintsAnswer out err was answer (Err why) now = StopsPrinting out err was answer why now
 
 -- the result of what a printer is handed
 abbrev pub sight_pair : Configuration → Order → Sight → Answered
@@ -93,11 +93,11 @@ PrintsSight out err was c o sight true now =
     Prints out err was (sight_pair c o sight ∷ []) now
 PrintsSight out err was c o sight false now =
     (why : Stopped) × (now.stopped ≡ Some why)
-    × StopsAt out err was (sight_pair c o sight) why now
+    × StopsPrinting out err was (sight_pair c o sight) why now
 
 -- the results of the frames that a parser has not read yet
-abbrev pub answers_of : ReaderState → List Answered
-answers_of m = answers m.settings m.order m.source.left
+abbrev pub answers_left : ReaderState → List Answered
+answers_left m = answers m.settings m.order m.source.left
 
 -- All lines and errors of the first k results were written, after the lines that were gathered.
 abbrev pub PrintsFirst : {W E : Type 0} → (W → Option (List ℕ)) → (E → Option (List ℕ)) →
@@ -112,11 +112,11 @@ PrintsFirst out err was answers k now =
 abbrev pub PrintsRun : {W E : Type 0} → (W → Option (List ℕ)) → (E → Option (List ℕ)) →
     FramePrinter W E → ReaderState → (limit : ℕ) → RunEnd → (left : List ℕ) → FramePrinter W E → Type 0
 PrintsRun out err was old limit e left now =
-    (k : ℕ) × PrintsFirst out err was (answers_of old) k now
+    (k : ℕ) × PrintsFirst out err was (answers_left old) k now
     × (now.report ≡ was.report)
-    × (now.clean ≡ (was.clean && all_clean (take k (answers_of old))))
+    × (now.clean ≡ (was.clean && all_clean (take k (answers_left old))))
     × EndsWith old.order limit old.source.left k e left
-    × (k ≤ length (answers_of old))
+    × (k ≤ length (answers_left old))
 
 -- All that a parser has not read yet was printed, and the bytes end after a frame: every line and
 -- every error was written, and it is known whether no frame was refused.
@@ -124,9 +124,9 @@ pub record PrintsAll {W E : Type 0} (out : W → Option (List ℕ)) (err : E →
     (was : FramePrinter W E) (old : ReaderState) (result : Bool) (now : FramePrinter W E)
     : Type 0 where
   pub lines : Appends (out was.output) (out now.output)
-      (string_bytes was.lines.gathered ++ printed_answers was.report (answers_of old))
-  pub told : TellsErrors (err was.errors) (err now.errors) (answers_of old)
-  pub clean : result ≡ (was.clean && all_clean (answers_of old))
+      (string_bytes was.lines.gathered ++ printed_answers was.report (answers_left old))
+  pub told : TellsErrors (err was.errors) (err now.errors) (answers_left old)
+  pub clean : result ≡ (was.clean && all_clean (answers_left old))
   pub end : stream_end old.order old.source.left ≡ done
 
 -- ---- a recording

@@ -24,8 +24,8 @@ found_value (found.Sample it) = sample_is (sample_value it.now)
 
 -- the line of a record in a report, if it has one
 abbrev pub line_in : Report → RecordValue → Option (List ℕ)
-line_in Tasks r = tasks.line_of r
-line_in Samples r = samples.line_of r
+line_in Tasks r = tasks.task_line_of r
+line_in Samples r = samples.sample_line_of r
 
 -- a line with a line feed after it, or nothing
 abbrev pub with_feed : Option (List ℕ) → List ℕ

@@ -62,6 +62,6 @@ abbrev pub sample_line : Getters → List ℕ
 sample_line g = moment g ++ (codes " " ++ (event g ++ chain g.callchain))
 
 -- the line of a record that is a sample
-abbrev pub line_of : RecordValue → Option (List ℕ)
-line_of (sample_is fields) = Some (sample_line (getters_of fields))
-line_of _ = None
+abbrev pub sample_line_of : RecordValue → Option (List ℕ)
+sample_line_of (sample_is fields) = Some (sample_line (getters_of fields))
+sample_line_of _ = None

@@ -138,11 +138,11 @@ namespaces_line r =
     line (codes "namespaces") r.pid r.tid (join_by namespace (codes ",") r.namespaces)
 
 -- the line of a record about a task
-abbrev pub line_of : RecordValue → Option (List ℕ)
-line_of (comm_is r) = Some (comm_line r)
-line_of (mmap_is r) = Some (mmap_line r)
-line_of (mmap2_is r) = Some (mmap2_line r)
-line_of (fork_is r) = Some (task_line (codes "fork") r)
-line_of (exit_is r) = Some (task_line (codes "exit") r)
-line_of (namespaces_is r) = Some (namespaces_line r)
-line_of _ = None
+abbrev pub task_line_of : RecordValue → Option (List ℕ)
+task_line_of (comm_is r) = Some (comm_line r)
+task_line_of (mmap_is r) = Some (mmap_line r)
+task_line_of (mmap2_is r) = Some (mmap2_line r)
+task_line_of (fork_is r) = Some (task_line (codes "fork") r)
+task_line_of (exit_is r) = Some (task_line (codes "exit") r)
+task_line_of (namespaces_is r) = Some (namespaces_line r)
+task_line_of _ = None

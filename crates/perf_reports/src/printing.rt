@@ -4,7 +4,7 @@ ghost use Rattle.std.specs.Prelude.{◌≡◌, ◌≤◌, ◌⊎◌, ◌++◌, �
 ghost use Rattle.std.specs.Prelude.{OnOk, IfOk, IfErr, if◌then◌else◌};
 ghost use Rattle.std.specs.Io.KnownBytes.{Appends};
 ghost use Rattle.perf_parser.specs.Prelude.{buffer_of, config_of, state_of};
-ghost use Rattle.perf_reports.specs.FramePrinting.{PrintsAll, PrintsFirst, PrintsRecording, PrintsRun, answers_of, recording_answers};
+ghost use Rattle.perf_reports.specs.FramePrinting.{PrintsAll, PrintsFirst, PrintsRecording, PrintsRun, answers_left, recording_answers};
 ghost use Rattle.perf_reports.specs.Printing.{found_value, text_of_record, printed_answers, is_memory};
 ghost use Rattle.perf_reports.specs.Printing.{Grows, GrowsWithin};
 
@@ -271,7 +271,7 @@ fn print_records<'p, B: ParseBuf<'p>, O: Endian, W: Write, E: Write>(
     ensures part { IsTrue (B.source (buffer_of parser.old)).told →
         GrowsWithin (W.contents printer.old.output) (W.contents printer.new.output)
         (string_bytes printer.old.lines.gathered ++ printed_answers printer.old.report
-        (answers_of (state_of B.source O.order parser.old))) }
+        (answers_left (state_of B.source O.order parser.old))) }
 {
     for _ in 0..u64::MAX {
         let end = match print_frames(parser, printer) {
@@ -302,10 +302,10 @@ fn print_frames<'p, B: ParseBuf<'p>, O: Endian, W: Write, E: Write>(
     ensures part { IsTrue (B.source (buffer_of parser.old)).told →
         GrowsWithin (W.contents printer.old.output) (W.contents printer.new.output)
         (string_bytes printer.old.lines.gathered ++ printed_answers printer.old.report
-        (take BATCH (answers_of (state_of B.source O.order parser.old)))) }
+        (take BATCH (answers_left (state_of B.source O.order parser.old)))) }
     ensures refused { IsTrue (B.source (buffer_of parser.old)).told → IfErr result (λ stopped.
         IsTrue (is_memory stopped) → (k : ℕ) × PrintsFirst W.contents E.contents printer.old
-        (answers_of (state_of B.source O.order parser.old)) k printer.new) }
+        (answers_left (state_of B.source O.order parser.old)) k printer.new) }
 {
     let run = each_frame(parser, BATCH, printer);
     match run.end {

@@ -5,7 +5,7 @@ ghost use Rattle.std.specs.Prelude.{string_bytes, Some, None, IfOk, OnOk, IsOk, 
 ghost use Rattle.std.specs.List.{flat_map};
 ghost use Rattle.perf_records.specs.Records as values;
 ghost use Rattle.perf_sample_types.specs.SampleGetters.{getters_of};
-ghost use Rattle.perf_text.specs.Strips.{text_of, room_of};
+ghost use Rattle.perf_text.specs.Strips.{strip_text, room_of};
 ghost use Rattle.perf_reports.specs.SampleLines as printed;
 
 use perf_event_data::{Record, Sample};
@@ -29,8 +29,8 @@ const ENTRIES: usize = ROOM / ENTRY;
 /// no memory.
 pub fn line_of(alloc: Global, found: &Record) -> Result<Option<String>, AllocError>
     ensures line { IfOk result (λ line.
-        option_map string_bytes line ≡ printed.line_of (values.record_value found.now)) }
-    ensures no_memory { printed.line_of (values.record_value found.now) ≡ None → IsOk result }
+        option_map string_bytes line ≡ printed.sample_line_of (values.record_value found.now)) }
+    ensures no_memory { printed.sample_line_of (values.record_value found.now) ≡ None → IsOk result }
 {
     let mut line = String::new(alloc);
     if push_line(&mut line, found)? {
@@ -43,10 +43,10 @@ pub fn line_of(alloc: Global, found: &Record) -> Result<Option<String>, AllocErr
 // Appends the line of a record that is a sample, and returns whether it is one.
 pub(crate) fn push_line(text: &mut String, found: &Record) -> Result<bool, AllocError>
     ensures line { OnOk result (string_bytes text.new
-        ≡ string_bytes text.old ++ unwrap_or (printed.line_of (values.record_value found.now)) []) }
+        ≡ string_bytes text.old ++ unwrap_or (printed.sample_line_of (values.record_value found.now)) []) }
     ensures told { IfOk result (λ told.
-        told ≡ is_some (printed.line_of (values.record_value found.now))) }
-    ensures no_memory { printed.line_of (values.record_value found.now) ≡ None → IsOk result }
+        told ≡ is_some (printed.sample_line_of (values.record_value found.now))) }
+    ensures no_memory { printed.sample_line_of (values.record_value found.now) ≡ None → IsOk result }
 {
     match found {
         Record::Sample(sample) => {
@@ -73,8 +73,8 @@ pub(crate) fn push_sample(text: &mut String, sample: &Sample) -> Result<(), Allo
 // Writes when the sample was taken, on which CPU, and in which process and thread.
 fn put_moment(strip: &mut Strip, sample: &Sample)
     requires { 83 ≤ room_of strip.old }
-    ensures text { text_of strip.new
-        ≡ printed.moment (getters_of (values.sample_value sample.now)) ++ text_of strip.old }
+    ensures text { strip_text strip.new
+        ≡ printed.moment (getters_of (values.sample_value sample.now)) ++ strip_text strip.old }
     ensures room { room_of strip.old ≤ room_of strip.new + 83 }
 {
     put_decimal_word(strip, wide(sample.tid()));
@@ -90,8 +90,8 @@ fn put_moment(strip: &mut Strip, sample: &Sample)
 // code.
 fn put_event(strip: &mut Strip, sample: &Sample)
     requires { 59 ≤ room_of strip.old }
-    ensures text { text_of strip.new
-        ≡ printed.event (getters_of (values.sample_value sample.now)) ++ text_of strip.old }
+    ensures text { strip_text strip.new
+        ≡ printed.event (getters_of (values.sample_value sample.now)) ++ strip_text strip.old }
     ensures room { room_of strip.old ≤ room_of strip.new + 59 }
 {
     strip.put(":");
@@ -106,7 +106,7 @@ fn put_event(strip: &mut Strip, sample: &Sample)
 #[inline]
 fn put_decimal_word(strip: &mut Strip, number: Option<u64>)
     requires { MOST_DIGITS ≤ room_of strip.old }
-    ensures text { text_of strip.new ≡ printed.decimal_word number ++ text_of strip.old }
+    ensures text { strip_text strip.new ≡ printed.decimal_word number ++ strip_text strip.old }
     ensures room { room_of strip.old ≤ room_of strip.new + MOST_DIGITS }
 {
     match number {
@@ -119,7 +119,7 @@ fn put_decimal_word(strip: &mut Strip, number: Option<u64>)
 #[inline]
 fn put_hex_word(strip: &mut Strip, number: Option<u64>)
     requires { MOST_HEX ≤ room_of strip.old }
-    ensures text { text_of strip.new ≡ printed.hex_word number ++ text_of strip.old }
+    ensures text { strip_text strip.new ≡ printed.hex_word number ++ strip_text strip.old }
     ensures room { room_of strip.old ≤ room_of strip.new + MOST_HEX }
 {
     match number {
@@ -167,7 +167,7 @@ fn push_entries(text: &mut String, strip: &mut Strip, entries: &[u64]) -> Result
 // Writes entries in place of the text.
 fn put_entries(strip: &mut Strip, entries: &[u64])
     requires { length entries.now ≤ ENTRIES }
-    ensures { text_of strip.new ≡ flat_map printed.entry entries.now }
+    ensures { strip_text strip.new ≡ flat_map printed.entry entries.now }
 {
     strip.clear();
     let mut left = entries.len();
@@ -181,7 +181,7 @@ fn put_entries(strip: &mut Strip, entries: &[u64])
 #[inline]
 fn put_entry(strip: &mut Strip, entry: u64)
     requires { ENTRY ≤ room_of strip.old }
-    ensures text { text_of strip.new ≡ printed.entry entry ++ text_of strip.old }
+    ensures text { strip_text strip.new ≡ printed.entry entry ++ strip_text strip.old }
     ensures room { room_of strip.old ≤ room_of strip.new + ENTRY }
 {
     if entry == CONTEXT_KERNEL {

@@ -4,7 +4,7 @@ ghost use Rattle.std.specs.Prelude.{◌≡◌, ◌+◌, ◌≤◌, ◌++◌, len
 ghost use Rattle.std.specs.Prelude.{string_bytes, Some, None, codes, IfOk, IfSome, IsOk, OnOk, []};
 ghost use Rattle.std.specs.List.{flat_map, join_by};
 ghost use Rattle.perf_records.specs.Records as values;
-ghost use Rattle.perf_text.specs.Strips.{text_of, room_of};
+ghost use Rattle.perf_text.specs.Strips.{strip_text, room_of};
 ghost use Rattle.perf_reports.specs.TaskLines as printed;
 
 use crate::names::push_name;
@@ -34,8 +34,8 @@ const BYTES: usize = ROOM / 2;
 /// a control character, a backslash or not part of UTF-8 becomes `\x` and two hexadecimal digits.
 pub fn line_of(alloc: Global, found: &Record) -> Result<Option<String>, AllocError>
     ensures line { IfOk result (λ line.
-        option_map string_bytes line ≡ printed.line_of (values.record_value found.now)) }
-    ensures no_memory { printed.line_of (values.record_value found.now) ≡ None → IsOk result }
+        option_map string_bytes line ≡ printed.task_line_of (values.record_value found.now)) }
+    ensures no_memory { printed.task_line_of (values.record_value found.now) ≡ None → IsOk result }
     ensures no_control { IfOk result (λ line.
         IfSome line (λ text. printed.HasNoControl (string_bytes text))) }
 {
@@ -50,10 +50,10 @@ pub fn line_of(alloc: Global, found: &Record) -> Result<Option<String>, AllocErr
 // Appends the line of a record about a task, and returns whether it is one.
 pub(crate) fn push_line(text: &mut String, found: &Record) -> Result<bool, AllocError>
     ensures line { OnOk result (string_bytes text.new
-        ≡ string_bytes text.old ++ unwrap_or (printed.line_of (values.record_value found.now)) []) }
+        ≡ string_bytes text.old ++ unwrap_or (printed.task_line_of (values.record_value found.now)) []) }
     ensures told { IfOk result (λ told.
-        told ≡ is_some (printed.line_of (values.record_value found.now))) }
-    ensures no_memory { printed.line_of (values.record_value found.now) ≡ None → IsOk result }
+        told ≡ is_some (printed.task_line_of (values.record_value found.now))) }
+    ensures no_memory { printed.task_line_of (values.record_value found.now) ≡ None → IsOk result }
 {
     match found {
         Record::Comm(comm) => push_comm(text, comm)?,
@@ -131,7 +131,7 @@ fn push_namespaces(text: &mut String, namespaces: &Namespaces) -> Result<(), All
 // Writes the kind of the line and the task before the rest of the line.
 fn put_head(strip: &mut Strip, what: &str, pid: u32, tid: u32)
     requires { (length what.now ≤ 16) × (59 ≤ room_of strip.old) }
-    ensures text { text_of strip.new ≡ printed.line what.now pid tid (text_of strip.old) }
+    ensures text { strip_text strip.new ≡ printed.line what.now pid tid (strip_text strip.old) }
     ensures room { room_of strip.old ≤ room_of strip.new + 59 }
 {
     strip.put(" ");
@@ -145,7 +145,7 @@ fn put_head(strip: &mut Strip, what: &str, pid: u32, tid: u32)
 // Writes the address of a mapping, its length, and its offset in the file.
 fn put_place(strip: &mut Strip, addr: u64, len: u64, pgoff: u64)
     requires { 56 ≤ room_of strip.old }
-    ensures text { text_of strip.new ≡ printed.place addr len pgoff ++ text_of strip.old }
+    ensures text { strip_text strip.new ≡ printed.place addr len pgoff ++ strip_text strip.old }
     ensures room { room_of strip.old ≤ room_of strip.new + 56 }
 {
     strip.put_hex(pgoff);
@@ -176,8 +176,8 @@ fn push_file(text: &mut String, strip: &mut Strip, map: &Mmap2) -> Result<(), Al
 // Writes a file by its device, its inode and its generation.
 fn put_inode(strip: &mut Strip, maj: u32, min: u32, ino: u64, generation: u64)
     requires { 79 ≤ room_of strip.old }
-    ensures text { text_of strip.new
-        ≡ printed.inode maj min ino generation ++ text_of strip.old }
+    ensures text { strip_text strip.new
+        ≡ printed.inode maj min ino generation ++ strip_text strip.old }
     ensures room { room_of strip.old ≤ room_of strip.new + 79 }
 {
     strip.put_number(generation);
@@ -222,7 +222,7 @@ fn push_protection(
 // Writes how mapped memory may be used: readable, writable, executable, and shared or private.
 fn put_protection(strip: &mut Strip, prot: u32, flags: u32)
     requires { 4 ≤ room_of strip.old }
-    ensures text { text_of strip.new ≡ printed.protection prot flags ++ text_of strip.old }
+    ensures text { strip_text strip.new ≡ printed.protection prot flags ++ strip_text strip.old }
     ensures room { room_of strip.new + 4 ≡ room_of strip.old }
 {
     put_letter(strip, flags, SHARED, "s", "p");
@@ -234,8 +234,8 @@ fn put_protection(strip: &mut Strip, prot: u32, flags: u32)
 // Writes one letter if a bit is set in a word, and another if it is not.
 fn put_letter(strip: &mut Strip, word: u32, bit: u32, set: &str, unset: &str)
     requires { ((length set.now ≡ 1) × (length unset.now ≡ 1)) × (1 ≤ room_of strip.old) }
-    ensures text { text_of strip.new
-        ≡ printed.letter word bit set.now unset.now ++ text_of strip.old }
+    ensures text { strip_text strip.new
+        ≡ printed.letter word bit set.now unset.now ++ strip_text strip.old }
     ensures room { room_of strip.new + 1 ≡ room_of strip.old }
 {
     let letter = if word & bit == 0 { unset } else { set };

@@ -17,7 +17,7 @@ use Rattle.perf_buffers.specs.Buffer.{Source}
 use Rattle.perf_reader.specs.Calls.{Call}
 use Rattle.perf_reader.specs.TableRuns.{ReadsTable, before}
 use Rattle.perf_reader.specs.declared.reader.Reader.{Reader}
-use Rattle.perf_reader.proofs.Asked.{Row, fields_give, of_row}
+use Rattle.perf_reader.proofs.RequestedParts.{Row, fields_give, of_row}
 use Rattle.perf_words.specs.Bits.{has_bit}
 use Rattle.perf_words.proofs.Contained.{contains_bit}
 use Rattle.perf_sample_types.specs.Sample.{has_one, fields_under, state_fields, cost_fields, memory_fields}

@@ -5,7 +5,7 @@ use Rattle.std.specs.List.{flat_map}
 use Rattle.std.specs.Simd.{first_chunks}
 use Rattle.perf_base.specs.Layout.{words_of}
 use Rattle.perf_base.specs.Order.{Order}
-use Rattle.perf_reader.proofs.Paying.{chain}
+use Rattle.perf_reader.proofs.Calls.{chain}
 use Rattle.perf_sample_types.specs.Branches.{branches_of, branch_numbers, branch_of}
 use Rattle.perf_words.specs.Branch.{Branch}
 

@@ -15,7 +15,7 @@ use Rattle.perf_reader.specs.Calls.{Call}
 use Rattle.perf_reader.specs.ReaderState.{ReaderState, state_of}
 use Rattle.perf_reader.specs.TableRuns.{ReadsBorrowed, ReadsField, before}
 use Rattle.perf_reader.specs.declared.reader.Reader.{Reader}
-use Rattle.perf_reader.proofs.Asked.{Row, field_after, field_stops}
+use Rattle.perf_reader.proofs.RequestedParts.{Row, field_after, field_stops}
 use Rattle.perf_reader.proofs.TableRuns.{field_there, field_absent}
 use Rattle.perf_words.specs.Bits.{has_bit}
 use Rattle.perf_words.proofs.Contained.{contains_bit}

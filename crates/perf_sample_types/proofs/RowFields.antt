@@ -6,7 +6,7 @@ use Rattle.std.specs.Prelude.{Option, Some, None, Ok, IsTrue}
 use Rattle.std.specs.Int.RustNames.{bit_and}
 use Rattle.perf_base.specs.Configuration.{Configuration}
 use Rattle.perf_base.specs.Layout.{Shape, ShapeValue, size, shape_value, Parts, done, part, number, padding, w4, w8}
-use Rattle.perf_base.specs.LayoutReads.{reads_of}
+use Rattle.perf_base.specs.LayoutReads.{part_reads}
 use Rattle.perf_base.specs.Order.{Order}
 use Rattle.perf_base.specs.Table.{present_if}
 use Rattle.perf_base.specs.Took.{Took, took, quit, take_parts}
@@ -28,7 +28,7 @@ use Rattle.perf_sample_types.proofs.FlaggedFields.{flag_asked}
 -- one part that is present, and then the others
 step : {A : Type 0} (o : Order) (shape : Shape) (k : ShapeValue shape → Parts A) (bytes : List ℕ) (n : ℕ) → size shape (length bytes) ≤ length bytes →
     take_parts o (part shape k) bytes n
-    ≡ take_parts o (k (shape_value o shape (take (size shape (length bytes)) bytes))) (drop (size shape (length bytes)) bytes) (n + reads_of shape (size shape (length bytes)))
+    ≡ take_parts o (k (shape_value o shape (take (size shape (length bytes)) bytes))) (drop (size shape (length bytes)) bytes) (n + part_reads shape (size shape (length bytes)))
 step {A} o shape k bytes n fits =
     ap (λ r. elim r as (λ r. Took A) [ took v left m ↦ take_parts o (k v) left m | quit e left m ↦ quit e left m ]) (took_yes o shape bytes n fits)
 

@@ -7,7 +7,7 @@ use Rattle.perf_base.specs.Order.{Order}
 use Rattle.perf_base.specs.Run.{ran, stopped, by_places}
 use Rattle.perf_base.specs.declared.error.ErrorKind.{ErrorKind}
 use Rattle.perf_base.proofs.Bridge.{places_run}
-use Rattle.perf_base.proofs.Standing.{Unchecked, unchecked_run}
+use Rattle.perf_base.proofs.UncheckedParts.{Unchecked, unchecked_run}
 use Rattle.perf_base.proofs.Tables.{run_layout}
 use Rattle.perf_sample_types.specs.SampleId.{SampleIdValue, one_if, sample_id_flags, sample_id_fields, no_sample_id, sample_id, sample_id_length}
 

@@ -14,7 +14,7 @@ use Rattle.perf_base.proofs.Tables.{splice_fields, cut_fields, tables_inv, cons_
 use Rattle.perf_sample_types.specs.Sample.{FieldValue, number_is, SampleValue, sample, sample_fields, settings_of, field_under, fields_under, plain}
 use Rattle.perf_sample_types.specs.SampleGetters.{field_at, number_in}
 use Rattle.perf_sample_types.specs.SampleId.{first_of}
-use Rattle.perf_sample_types.specs.SampleLaws.{no_field, table_field, id_field, flags_of, parts_of, is_there, with_flag, without_field, splice_field, without_bytes, said_id, said_identifier, ChangesField, KeepsId, SpliceLaw, CutLaw}
+use Rattle.perf_sample_types.specs.SampleLaws.{no_field, table_field, id_row, flags_of, row_parts, is_there, with_flag, without_field, splice_field, without_bytes, said_id, said_identifier, ChangesField, KeepsId, SpliceLaw, CutLaw}
 use Rattle.perf_sample_types.proofs.Closed.{sample_ended, front_closed, one_closed}
 use Rattle.perf_sample_types.proofs.LawFlags.{with_fields, without_fields, under_true, under_false}
 
@@ -66,13 +66,13 @@ plain_says o v front back e =
     (first.0, sym same)
 
 -- ID is a number if it is present
-id_says : (c : Configuration) (o : Order) (body : List ℕ) (vs : SampleValue) → is_there c id_field ≡ true → layout o (sample c) body ≡ Ok vs →
+id_says : (c : Configuration) (o : Order) (body : List ℕ) (vs : SampleValue) → is_there c id_row ≡ true → layout o (sample c) body ≡ Ok vs →
     (n : ℕ) × (said_id vs ≡ Some n)
 unfolding sample
 id_says c o body vs there e =
-    let at = said_at o (under c) id_field body _ vs (within c id_field (omega arith)) (layout_run o (table (under c)) body vs e) in
-    let is_plain : get_or (under c) id_field None ≡ Some plain = field_there c id_field (omega arith) ∙ under_true c (table_field id_field) there in
-    let says = plain_says o (field_at vs id_field) at.0 at.1 (ap (λ t. run_parts o (slot t) at.0) (sym is_plain) ∙ at.2) in
+    let at = said_at o (under c) id_row body _ vs (within c id_row (omega arith)) (layout_run o (table (under c)) body vs e) in
+    let is_plain : get_or (under c) id_row None ≡ Some plain = field_there c id_row (omega arith) ∙ under_true c (table_field id_row) there in
+    let says = plain_says o (field_at vs id_row) at.0 at.1 (ap (λ t. run_parts o (slot t) at.0) (sym is_plain) ∙ at.2) in
     (says.0, ap number_in says.1)
 
 -- ---- one field changed
@@ -80,8 +80,8 @@ id_says c o body vs there e =
 changed : (vs : SampleValue) (f : ℕ) (v : Option FieldValue) → f < length vs → ChangesField vs (set vs f v) f v
 changed vs f v h = record { field = get_or-set_same vs f v None h; others = λ g ne. get_or-set_other vs f g v None ne }
 
-keeps : (c : Configuration) (o : Order) (body : List ℕ) (vs us : SampleValue) → is_there c id_field ≡ true → layout o (sample c) body ≡ Ok vs →
-    field_at us id_field ≡ field_at vs id_field → KeepsId vs us
+keeps : (c : Configuration) (o : Order) (body : List ℕ) (vs us : SampleValue) → is_there c id_row ≡ true → layout o (sample c) body ≡ Ok vs →
+    field_at us id_row ≡ field_at vs id_row → KeepsId vs us
 keeps c o body vs us there e same =
     let says = id_says c o body vs there e in record {
       was = ap (λ t. first_of t (said_identifier vs)) says.1 ∙ sym says.1;
@@ -91,13 +91,13 @@ keeps c o body vs us there e same =
 -- ---- the laws
 
 spliced_layout : (c : Configuration) (o : Order) (f flag : ℕ) (body w : List ℕ) (vs : SampleValue) → f < 24 → is_there c f ≡ false →
-    Contains (flags_of f) flag → Spells o (parts_of c f) w → layout o (sample c) body ≡ Ok vs →
-    layout o (sample (with_flag c flag)) (splice_field c o body f w) ≡ Ok (set vs f (Some (value o w 0 (parts_of c f))))
+    Contains (flags_of f) flag → Spells o (row_parts c f) w → layout o (sample c) body ≡ Ok vs →
+    layout o (sample (with_flag c flag)) (splice_field c o body f w) ≡ Ok (set vs f (Some (value o w 0 (row_parts c f))))
 unfolding sample
 spliced_layout c o f flag body w vs h absent has s e =
     let none : get_or (under c) f None ≡ None = field_there c f h ∙ under_false c (table_field f) absent in
     ap (λ t. layout o (table t) (splice_field c o body f w)) (with_fields sample_fields c f flag refl refl h has)
-    ∙ splice_fields o (under c) f (parts_of c f) body w vs (within c f h) none (front_closed sample_fields c f sample_ended) (one_closed sample_fields f sample_ended (settings_of c)) e s
+    ∙ splice_fields o (under c) f (row_parts c f) body w vs (within c f h) none (front_closed sample_fields c f sample_ended) (one_closed sample_fields f sample_ended (settings_of c)) e s
 
 cut_layout : (c : Configuration) (o : Order) (f : ℕ) (body : List ℕ) (vs : SampleValue) → f < 24 → layout o (sample c) body ≡ Ok vs →
     layout o (sample (without_field c f)) (without_bytes c o body f) ≡ Ok (set vs f None)
@@ -108,12 +108,12 @@ cut_layout c o f body vs h e =
 
 pub sample_splice : (c : Configuration) (body w : List ℕ) (f : ℕ) → f < 24 → SpliceLaw c body f w
 sample_splice c body w f h o flag vs absent has s e =
-    let v : Option FieldValue = Some (value o w 0 (parts_of c f)) in
+    let v : Option FieldValue = Some (value o w 0 (row_parts c f)) in
     let only : ChangesField vs (set vs f v) f v = changed vs f v (rw (sample_counted c o body vs e) h) in (
       set vs f v,
       spliced_layout c o f flag body w vs h absent has s e,
       only,
-      λ there. keeps c o body vs (set vs f v) there e (only.others id_field (λ is. absurd (let both : is_there c f ≡ true = ap (is_there c) (sym is) ∙ there in cc))),
+      λ there. keeps c o body vs (set vs f v) there e (only.others id_row (λ is. absurd (let both : is_there c f ≡ true = ap (is_there c) (sym is) ∙ there in cc))),
     )
 
 pub sample_cut : (c : Configuration) (body : List ℕ) (f : ℕ) → f < 24 → CutLaw c body f

@@ -6,7 +6,7 @@ use Rattle.perf_base.specs.Order.{little, big}
 use Rattle.perf_base.specs.Splice.{Spells}
 use Rattle.perf_sample_types.specs.Sample.{number_is, task_is, bytes_are, SampleValue, sample}
 use Rattle.perf_sample_types.specs.SampleGetters.{getters_of}
-use Rattle.perf_sample_types.specs.SampleLaws.{flags_of, parts_of, is_there, with_flag, without_field, splice_field, without_bytes}
+use Rattle.perf_sample_types.specs.SampleLaws.{flags_of, row_parts, is_there, with_flag, without_field, splice_field, without_bytes}
 
 -- ---- the fields by their numbers
 
@@ -55,7 +55,7 @@ said_by_three = refl
 abbrev time : List ℕ
 time = 7 ∷ 0 ∷ 0 ∷ 0 ∷ 0 ∷ 0 ∷ 1 ∷ 0 ∷ []
 
-time_is_spelled : Spells little (parts_of three 3) time
+time_is_spelled : Spells little (row_parts three 3) time
 time_is_spelled = record { stand = refl; whole = refl }
 
 time_is_absent : is_there three 3 ≡ false
@@ -105,7 +105,7 @@ said_by_bit_3 = refl
 abbrev raw : List ℕ
 raw = 2 ∷ 0 ∷ 0 ∷ 0 ∷ 0xAA ∷ 0xBB ∷ 0 ∷ 0 ∷ []
 
-raw_is_spelled : Spells little (parts_of three 11) raw
+raw_is_spelled : Spells little (row_parts three 11) raw
 raw_is_spelled = record { stand = refl; whole = refl }
 
 raw_is_put_in : splice_field three little of_three 11 raw ≡ ip ++ tid ++ id ++ raw

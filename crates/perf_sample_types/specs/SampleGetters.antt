@@ -47,14 +47,14 @@ number_in (Some (number_is number)) = Some number
 number_in _ = None
 
 -- its process
-abbrev pub pid_in : Option FieldValue → Option ℕ
-pid_in (Some (task_is pid tid)) = pid
-pid_in _ = None
+abbrev pub pid_of_task : Option FieldValue → Option ℕ
+pid_of_task (Some (task_is pid tid)) = pid
+pid_of_task _ = None
 
 -- its thread
-abbrev pub tid_in : Option FieldValue → Option ℕ
-tid_in (Some (task_is pid tid)) = tid
-tid_in _ = None
+abbrev pub tid_of_task : Option FieldValue → Option ℕ
+tid_of_task (Some (task_is pid tid)) = tid
+tid_of_task _ = None
 
 -- its read of counters
 abbrev pub group_in : Option FieldValue → Option GroupRead
@@ -67,9 +67,9 @@ numbers_in (Some (numbers_are numbers)) = Some numbers
 numbers_in _ = None
 
 -- its bytes
-abbrev pub bytes_in : Option FieldValue → Option (List ℕ)
-bytes_in (Some (bytes_are bytes)) = Some bytes
-bytes_in _ = None
+abbrev pub bytes_of_field : Option FieldValue → Option (List ℕ)
+bytes_of_field (Some (bytes_are bytes)) = Some bytes
+bytes_of_field _ = None
 
 -- the hardware's index of its branches
 abbrev pub hw_index_in : Option FieldValue → Option ℕ
@@ -100,8 +100,8 @@ id_of vs = first_of (number_in (field_at vs 5)) (number_in (field_at vs 0))
 abbrev pub getters_of : SampleValue → Getters
 getters_of vs = record {
   ip = number_in (field_at vs 1);
-  pid = pid_in (field_at vs 2);
-  tid = tid_in (field_at vs 2);
+  pid = pid_of_task (field_at vs 2);
+  tid = tid_of_task (field_at vs 2);
   time = number_in (field_at vs 3);
   addr = number_in (field_at vs 4);
   id = id_of vs;
@@ -110,17 +110,17 @@ getters_of vs = record {
   period = number_in (field_at vs 8);
   values = group_in (field_at vs 9);
   callchain = numbers_in (field_at vs 10);
-  raw = bytes_in (field_at vs 11);
+  raw = bytes_of_field (field_at vs 11);
   lbr_hw_index = hw_index_in (field_at vs 12);
   lbr = branches_in (field_at vs 12);
   regs_user = registers_in (field_at vs 13);
-  stack_user = bytes_in (field_at vs 14);
+  stack_user = bytes_of_field (field_at vs 14);
   weight = number_in (field_at vs 15);
   data_src = number_in (field_at vs 16);
   transaction = number_in (field_at vs 17);
   regs_intr = registers_in (field_at vs 18);
   phys_addr = number_in (field_at vs 19);
-  aux = bytes_in (field_at vs 23);
+  aux = bytes_of_field (field_at vs 23);
   cgroup = number_in (field_at vs 20);
   data_page_size = number_in (field_at vs 21);
   code_page_size = number_in (field_at vs 22);

@@ -56,7 +56,7 @@ memory_value m =
     option_map number_is m.cgroup ∷
     option_map number_is m.data_page_size ∷
     option_map number_is m.code_page_size ∷
-    option_map parts.aux_value m.aux ∷
+    option_map parts.aux_area_value m.aux ∷
     []
 
 -- no byte of the raw bytes and of the stack was copied

@@ -26,20 +26,20 @@ abbrev pub table_field : ℕ → Field
 table_field f = get_or sample_fields f no_field
 
 -- the number of IDENTIFIER
-abbrev pub identifier_field : ℕ
-identifier_field = 0
+abbrev pub identifier_row : ℕ
+identifier_row = 0
 
 -- the number of ID
-abbrev pub id_field : ℕ
-id_field = 5
+abbrev pub id_row : ℕ
+id_row = 5
 
 -- the flags of field f, as bit numbers
 abbrev pub flags_of : ℕ → List ℕ
 flags_of f = (table_field f).flags
 
 -- the parts that make up field f
-abbrev pub parts_of : Configuration → ℕ → Parts FieldValue
-parts_of c f = (table_field f).parts (settings_of c)
+abbrev pub row_parts : Configuration → ℕ → Parts FieldValue
+row_parts c f = (table_field f).parts (settings_of c)
 
 -- field f is present
 abbrev pub is_there : Configuration → ℕ → Bool
@@ -82,11 +82,11 @@ without_bytes c o body f = take_out body (field_place c o body f) (field_place c
 
 -- the value of ID
 abbrev pub said_id : SampleValue → Option ℕ
-said_id fields = number_in (field_at fields id_field)
+said_id fields = number_in (field_at fields id_row)
 
 -- the value of IDENTIFIER
 abbrev pub said_identifier : SampleValue → Option ℕ
-said_identifier fields = number_in (field_at fields identifier_field)
+said_identifier fields = number_in (field_at fields identifier_row)
 
 -- Afterwards field f has the value v, and each other field the value it had before.
 pub record ChangesField (before after : SampleValue) (f : ℕ) (v : Option FieldValue) : Type 0 where
@@ -106,12 +106,12 @@ pub record KeepsId (before after : SampleValue) : Type 0 where
 abbrev pub SpliceLaw : Configuration → List ℕ → ℕ → List ℕ → Type 0
 SpliceLaw c body f w =
     (o : Order) (flag : ℕ) (before : SampleValue) →
-    is_there c f ≡ false → Contains (flags_of f) flag → Spells o (parts_of c f) w →
+    is_there c f ≡ false → Contains (flags_of f) flag → Spells o (row_parts c f) w →
     layout o (sample c) body ≡ Ok before →
     (after : SampleValue)
     × (layout o (sample (with_flag c flag)) (splice_field c o body f w) ≡ Ok after)
-    × ChangesField before after f (Some (value o w 0 (parts_of c f)))
-    × (is_there c id_field ≡ true → KeepsId before after)
+    × ChangesField before after f (Some (value o w 0 (row_parts c f)))
+    × (is_there c id_row ≡ true → KeepsId before after)
 
 -- If a body is a sample with field f, the body without the field's bytes is a sample under the
 -- configuration without the field's flags. The field is absent, each other has its old value. If ID
@@ -123,5 +123,5 @@ CutLaw c body f =
     (after : SampleValue)
     × (layout o (sample (without_field c f)) (without_bytes c o body f) ≡ Ok after)
     × ChangesField before after f None
-    × (f ≢ id_field → is_there c id_field ≡ true → KeepsId before after)
-    × (f ≡ id_field → (getters_of after).id ≡ said_identifier before)
+    × (f ≢ id_row → is_there c id_row ≡ true → KeepsId before after)
+    × (f ≡ id_row → (getters_of after).id ≡ said_identifier before)

@@ -51,8 +51,8 @@ abbrev pub stack_value : Stack → FieldValue
 stack_value s = bytes_are (cow_items s.0)
 
 -- bytes of the AUX area
-abbrev pub aux_value : AuxBytes → FieldValue
-aux_value a = bytes_are (cow_items a.0)
+abbrev pub aux_area_value : AuxBytes → FieldValue
+aux_area_value a = bytes_are (cow_items a.0)
 
 -- registers of the task's user-space code
 abbrev pub user_value : UserRegisters → FieldValue

@@ -32,7 +32,7 @@ impl<'p> Registers<'p> {
 
     /// Reads the registers of a mask.
     #[inline]
-    #[tactic(auto, using(perf_reader::proofs::Paying::chain))]
+    #[tactic(auto, using(perf_reader::proofs::Calls::chain))]
     pub fn read_by<I: Input<'p>, E: Endian>(
         reader: &mut Reader<I, E>,
         mask: u64,

@@ -1,5 +1,5 @@
 //! Samples that are read into a box.
-#![tactic(auto, using(perf_reader::proofs::Paying::chain))]
+#![tactic(auto, using(perf_reader::proofs::Calls::chain))]
 
 ghost use Rattle.std.specs.Prelude.{◌≡◌, ◌*◌, ◌%◌, ◌^◌, ⊤, true, count_ones, Err, IfOk};
 ghost use Rattle.perf_base.specs.Configured.{configuration_of};

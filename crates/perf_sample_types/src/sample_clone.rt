@@ -108,7 +108,7 @@ impl CloneField for InterruptRegisters<'_> {
 }
 
 impl CloneField for AuxBytes<'_> {
-    ghost value = { parts.aux_value };
+    ghost value = { parts.aux_area_value };
 
     ghost form = { forms.aux_form };
 

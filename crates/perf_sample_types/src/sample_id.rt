@@ -1,5 +1,5 @@
 //! The sample id at the end of records.
-#![tactic(auto, using(perf_reader::proofs::Paying::chain, crate::proofs::Flags::sample_flags))]
+#![tactic(auto, using(perf_reader::proofs::Calls::chain, crate::proofs::Flags::sample_flags))]
 
 ghost use Rattle.std.specs.Prelude.{◌≡◌, ◌*◌, if◌then◌else◌};
 ghost use Rattle.perf_sample_types.specs.SampleId as ids;

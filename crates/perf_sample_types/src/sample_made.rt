@@ -15,8 +15,8 @@ use perf_words::BranchEntry;
 
 // A process and its thread, if either is present.
 pub(crate) fn task_of(pid: Option<u32>, tid: Option<u32>) -> Option<Task>
-    ensures pid { outcome.pid_in (option_map parts.task_value result) ≡ pid }
-    ensures tid { outcome.tid_in (option_map parts.task_value result) ≡ tid }
+    ensures pid { outcome.pid_of_task (option_map parts.task_value result) ≡ pid }
+    ensures tid { outcome.tid_of_task (option_map parts.task_value result) ≡ tid }
 {
     match (pid, tid) {
         (None, None) => None,
@@ -60,7 +60,7 @@ pub(crate) fn call_chain_of<'a>(addresses: Option<CowSlice<'a, u64>>) -> Option<
 
 // Raw bytes.
 pub(crate) fn raw_of<'a>(bytes: Option<CowSlice<'a, u8>>) -> Option<RawData<'a>>
-    ensures is { outcome.bytes_in (option_map parts.raw_value result) ≡
+    ensures is { outcome.bytes_of_field (option_map parts.raw_value result) ≡
         option_map cow_items bytes.entry }
     ensures lists { forms.form_if forms.raw_form result ≡
         forms.form_if forms.cow_form bytes.entry }
@@ -72,7 +72,7 @@ pub(crate) fn raw_of<'a>(bytes: Option<CowSlice<'a, u8>>) -> Option<RawData<'a>>
 
 // A stack.
 pub(crate) fn stack_of<'a>(bytes: Option<CowSlice<'a, u8>>) -> Option<Stack<'a>>
-    ensures is { outcome.bytes_in (option_map parts.stack_value result) ≡
+    ensures is { outcome.bytes_of_field (option_map parts.stack_value result) ≡
         option_map cow_items bytes.entry }
     ensures lists { forms.form_if forms.stack_form result ≡
         forms.form_if forms.cow_form bytes.entry }
@@ -84,7 +84,7 @@ pub(crate) fn stack_of<'a>(bytes: Option<CowSlice<'a, u8>>) -> Option<Stack<'a>>
 
 // Bytes of the AUX area.
 pub(crate) fn aux_of<'a>(bytes: Option<CowSlice<'a, u8>>) -> Option<AuxBytes<'a>>
-    ensures is { outcome.bytes_in (option_map parts.aux_value result) ≡
+    ensures is { outcome.bytes_of_field (option_map parts.aux_area_value result) ≡
         option_map cow_items bytes.entry }
     ensures lists { forms.form_if forms.aux_form result ≡
         forms.form_if forms.cow_form bytes.entry }

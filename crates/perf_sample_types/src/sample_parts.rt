@@ -1,5 +1,5 @@
 //! The kinds of fields that a sample has, and how each is read.
-#![tactic(auto, using(perf_reader::proofs::Paying::chain))]
+#![tactic(auto, using(perf_reader::proofs::Calls::chain))]
 
 ghost use Rattle.std.specs.Prelude.{◌≡◌, ⊤, ℕ, ◌<◌, ◌^◌, IsTrue};
 ghost use Rattle.perf_sample_types.specs.Sample as sample;
@@ -225,7 +225,7 @@ pub(crate) struct AuxBytes<'a>(pub(crate) CowSlice<'a, u8>);
 impl SampleField for AuxBytes<'_> {
     ghost parts = { λ _. sample.sized_bytes };
 
-    ghost value = { parts.aux_value };
+    ghost value = { parts.aux_area_value };
 
     ghost borrowed = { λ aux. IsTrue (is_borrowed aux.0) };
 }
@@ -253,7 +253,7 @@ impl SampleField for UserRegisters<'_> {
 
 impl<'p, I: Input<'p>> ReadField<'p, I> for UserRegisters<'p> {
     #[inline]
-    #[tactic(auto, using(perf_reader::proofs::Paying::chain), unfolding(crate::specs::Sample::registers))]
+    #[tactic(auto, using(perf_reader::proofs::Calls::chain), unfolding(crate::specs::Sample::registers))]
     fn read_field<E: Endian>(reader: &mut Reader<I, E>) -> ReadResult<Self> {
         let mask = reader.config().regs_user();
         Ok(UserRegisters(Registers::read_by(reader, mask)?))
@@ -274,7 +274,7 @@ impl SampleField for InterruptRegisters<'_> {
 
 impl<'p, I: Input<'p>> ReadField<'p, I> for InterruptRegisters<'p> {
     #[inline]
-    #[tactic(auto, using(perf_reader::proofs::Paying::chain), unfolding(crate::specs::Sample::registers))]
+    #[tactic(auto, using(perf_reader::proofs::Calls::chain), unfolding(crate::specs::Sample::registers))]
     fn read_field<E: Endian>(reader: &mut Reader<I, E>) -> ReadResult<Self> {
         let mask = reader.config().regs_intr();
         Ok(InterruptRegisters(Registers::read_by(reader, mask)?))
@@ -290,7 +290,7 @@ impl SampleField for ReadGroup<'_> {
 }
 
 impl<'p, I: Input<'p>> ReadField<'p, I> for ReadGroup<'p> {
-    #[tactic(auto, using(perf_types::proofs::Flags::read_flags, perf_reader::proofs::Paying::chain), unfolding(crate::specs::Sample::values))]
+    #[tactic(auto, using(perf_types::proofs::Flags::read_flags, perf_reader::proofs::Calls::chain), unfolding(crate::specs::Sample::values))]
     fn read_field<E: Endian>(reader: &mut Reader<I, E>) -> ReadResult<Self> {
         if reader.config().read_format().contains(ReadFormat::GROUP) {
             return match ReadGroup::read(reader) {

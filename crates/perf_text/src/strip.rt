@@ -26,12 +26,12 @@ pub struct Strip {
 }
 
 impl Strip {
-    ghost use Rattle.perf_text.specs.Strips.{text_of, room_of};
+    ghost use Rattle.perf_text.specs.Strips.{strip_text, room_of};
 
     /// An empty strip.
     #[inline(always)]
     pub fn new() -> Strip
-        ensures text { text_of result ≡ [] }
+        ensures text { strip_text result ≡ [] }
         ensures room { room_of result ≡ ROOM }
     {
         Strip {
@@ -43,7 +43,7 @@ impl Strip {
     /// Removes the text.
     #[inline(always)]
     pub fn clear(&mut self)
-        ensures text { text_of self.new ≡ [] }
+        ensures text { strip_text self.new ≡ [] }
         ensures room { room_of self.new ≡ ROOM }
     {
         self.start = ROOM;
@@ -53,7 +53,7 @@ impl Strip {
     #[inline(always)]
     pub fn put(&mut self, word: &str)
         requires { length word.now ≤ room_of self.old }
-        ensures text { text_of self.new ≡ word.now ++ text_of self.old }
+        ensures text { strip_text self.new ≡ word.now ++ strip_text self.old }
         ensures room { room_of self.new + length word.now ≡ room_of self.old }
     {
         let start = self.start - word.len();
@@ -65,7 +65,7 @@ impl Strip {
     #[inline(always)]
     pub fn put_number(&mut self, number: u64)
         requires { MOST_DIGITS ≤ room_of self.old }
-        ensures text { text_of self.new ≡ decimal number ++ text_of self.old }
+        ensures text { strip_text self.new ≡ decimal number ++ strip_text self.old }
         ensures room { room_of self.old ≤ room_of self.new + MOST_DIGITS }
     {
         self.start = itoa::write_digits(number, &mut self.bytes, self.start);
@@ -75,8 +75,8 @@ impl Strip {
     #[inline(always)]
     pub fn put_present(&mut self, word: &str, number: Option<u64>)
         requires { length word.now + MOST_DIGITS ≤ room_of self.old }
-        ensures text { text_of self.new
-            ≡ present (λ n. word.now ++ decimal n) number ++ text_of self.old }
+        ensures text { strip_text self.new
+            ≡ present (λ n. word.now ++ decimal n) number ++ strip_text self.old }
         ensures room { room_of self.old ≤ room_of self.new + (length word.now + MOST_DIGITS) }
     {
         if let Some(number) = number {
@@ -90,8 +90,8 @@ impl Strip {
     pub fn put_each(&mut self, mark: &str, numbers: &[u64])
         requires mark { length mark.now ≤ 1 }
         requires room { (MOST_DIGITS + 1) * length numbers.now ≤ room_of self.old }
-        ensures text { text_of self.new
-            ≡ flat_map (λ n. mark.now ++ decimal n) numbers.now ++ text_of self.old }
+        ensures text { strip_text self.new
+            ≡ flat_map (λ n. mark.now ++ decimal n) numbers.now ++ strip_text self.old }
         ensures room { room_of self.old
             ≤ room_of self.new + (MOST_DIGITS + 1) * length numbers.now }
     {
@@ -107,7 +107,7 @@ impl Strip {
     #[inline]
     pub fn put_hex(&mut self, number: u64)
         requires { MOST_HEX ≤ room_of self.old }
-        ensures text { text_of self.new ≡ hex number ++ text_of self.old }
+        ensures text { strip_text self.new ≡ hex number ++ strip_text self.old }
         ensures room { room_of self.old ≤ room_of self.new + MOST_HEX }
     {
         let digits = put_digits(&mut self.bytes, self.start, number);
@@ -119,7 +119,7 @@ impl Strip {
     #[inline]
     pub fn put_hex_byte(&mut self, byte: u8)
         requires { 2 ≤ room_of self.old }
-        ensures text { text_of self.new ≡ hex_byte byte ++ text_of self.old }
+        ensures text { strip_text self.new ≡ hex_byte byte ++ strip_text self.old }
         ensures room { room_of self.new + 2 ≡ room_of self.old }
     {
         put_pair(&mut self.bytes, self.start, u64::from(byte));
@@ -130,7 +130,7 @@ impl Strip {
     #[inline]
     pub fn put_hex_bytes(&mut self, bytes: &[u8])
         requires { 2 * length bytes.now ≤ room_of self.old }
-        ensures text { text_of self.new ≡ flat_map hex_byte bytes.now ++ text_of self.old }
+        ensures text { strip_text self.new ≡ flat_map hex_byte bytes.now ++ strip_text self.old }
         ensures room { room_of self.new + 2 * length bytes.now ≡ room_of self.old }
     {
         let mut left = bytes.len();
@@ -143,7 +143,7 @@ impl Strip {
     /// The text.
     #[inline(always)]
     pub fn text(&self) -> &str
-        ensures { result.now ≡ text_of self.now }
+        ensures { result.now ≡ strip_text self.now }
     {
         unsafe { str::from_utf8_unchecked(&self.bytes[self.start..]) }
     }

@@ -7,7 +7,7 @@ use Rattle.std.proofs.lemmas.List.{length-map, length-drop, map-append, drop-dro
 use Rattle.std.proofs.lemmas.List.{take_all, take-append-le, drop-append-le}
 use Rattle.std.proofs.Math.Nat.{mul-le-mul_right, div-mul-le_self}
 use Rattle.std.proofs.lemmas.Option.{slice_get-map, slice_get_past}
-use Rattle.perf_reader.proofs.Paying.{chain}
+use Rattle.perf_reader.proofs.Calls.{chain}
 use Rattle.perf_types.proofs.Flags.{read_flags}
 use Rattle.perf_types.specs.GroupEntry.{blocks, block_len, entry_of, entries_of, entry_with_id}
 use Rattle.perf_types.specs.ReadGroup.{all_entries}

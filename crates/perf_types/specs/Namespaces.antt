@@ -56,9 +56,9 @@ namespace_entry = do
   done (record { dev = dev; inode = inode })
 
 -- pairs of numbers
-abbrev pub entries_of : List ℕ → List NamespaceEntry
-entries_of (dev ∷ inode ∷ words) = record { dev = dev; inode = inode } ∷ entries_of words
-entries_of _ = []
+abbrev pub namespace_entries : List ℕ → List NamespaceEntry
+namespace_entries (dev ∷ inode ∷ words) = record { dev = dev; inode = inode } ∷ namespace_entries words
+namespace_entries _ = []
 
 -- the numbers of an entry
 abbrev pub entry_numbers : NamespaceEntry → List ℕ
@@ -71,4 +71,4 @@ namespaces = do
   tid ← u32
   count ← u64
   words ← numbers (2 * count)
-  done (record { pid = pid; tid = tid; namespaces = entries_of words })
+  done (record { pid = pid; tid = tid; namespaces = namespace_entries words })

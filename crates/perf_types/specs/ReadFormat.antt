@@ -12,8 +12,8 @@ abbrev pub has_time_running : (read_format : ℕ) → Bool
 has_time_running read_format = has_bit read_format 1
 
 -- PERF_FORMAT_ID: the kernel's id of the event
-abbrev pub has_id : (read_format : ℕ) → Bool
-has_id read_format = has_bit read_format 2
+abbrev pub has_counter_id : (read_format : ℕ) → Bool
+has_counter_id read_format = has_bit read_format 2
 
 -- PERF_FORMAT_GROUP: all counters of a group at once
 abbrev pub has_group : (read_format : ℕ) → Bool
@@ -24,5 +24,5 @@ abbrev pub has_lost : (read_format : ℕ) → Bool
 has_lost read_format = has_bit read_format 4
 
 -- It has no bits other than those five.
-abbrev pub is_known : (read_format : ℕ) → Bool
-is_known read_format = nat_lt read_format (2 ^ 5)
+abbrev pub has_known_bits : (read_format : ℕ) → Bool
+has_known_bits read_format = nat_lt read_format (2 ^ 5)

@@ -9,8 +9,8 @@ use Rattle.perf_base.specs.Layout.{Parts, done, ◌>>=◌, ◌>>◌}
 use Rattle.perf_base.specs.FieldWords.{u64, u64_if, numbers, require}
 use Rattle.perf_base.specs.declared.error.ErrorKind.TheVariants as kind
 use Rattle.perf_words.specs.Sets.{element_len}
-use Rattle.perf_types.specs.ReadFormat.{has_time_enabled, has_time_running, has_id, has_lost}
-use Rattle.perf_types.specs.ReadFormat.{has_group, is_known}
+use Rattle.perf_types.specs.ReadFormat.{has_time_enabled, has_time_running, has_counter_id, has_lost}
+use Rattle.perf_types.specs.ReadFormat.{has_group, has_known_bits}
 use Rattle.perf_types.specs.ReadValue.{SingleRead}
 use Rattle.perf_types.specs.GroupEntry.{block_len, entries_of}
 use Rattle.perf_types.specs.declared.group_entry.GroupEntry.{GroupEntry}
@@ -46,9 +46,9 @@ abbrev pub group_with : (read_format time_enabled time_running : ℕ) → List �
 group_with read_format time_enabled time_running words = record {
   time_enabled = then_some (has_time_enabled read_format) time_enabled;
   time_running = then_some (has_time_running read_format) time_running;
-  with_id = has_id read_format;
+  with_id = has_counter_id read_format;
   with_lost = has_lost read_format;
-  entries = all_entries (has_id read_format) (has_lost read_format) words;
+  entries = all_entries (has_counter_id read_format) (has_lost read_format) words;
 }
 
 -- none of its numbers were copied
@@ -99,7 +99,7 @@ only_entry _ = None
 abbrev pub read_group : Configuration → Parts GroupRead
 read_group c = do
   require (has_group c.read_format) kind.UnsupportedConfig
-  require (is_known c.read_format) kind.UnsupportedConfig
+  require (has_known_bits c.read_format) kind.UnsupportedConfig
   count ← u64
   time_enabled ← u64_if (has_time_enabled c.read_format)
   time_running ← u64_if (has_time_running c.read_format)
@@ -108,7 +108,7 @@ read_group c = do
   done (record {
     time_enabled = time_enabled;
     time_running = time_running;
-    with_id = has_id c.read_format;
+    with_id = has_counter_id c.read_format;
     with_lost = has_lost c.read_format;
-    entries = all_entries (has_id c.read_format) (has_lost c.read_format) words;
+    entries = all_entries (has_counter_id c.read_format) (has_lost c.read_format) words;
   })

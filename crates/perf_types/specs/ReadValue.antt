@@ -6,8 +6,8 @@ use Rattle.perf_base.specs.Configuration.{Configuration}
 use Rattle.perf_base.specs.Layout.{Parts, done, ◌>>=◌, ◌>>◌}
 use Rattle.perf_base.specs.FieldWords.{u64, u64_if, require}
 use Rattle.perf_base.specs.declared.error.ErrorKind.TheVariants.{UnsupportedConfig}
-use Rattle.perf_types.specs.ReadFormat.{has_time_enabled, has_time_running, has_id, has_lost}
-use Rattle.perf_types.specs.ReadFormat.{has_group, is_known}
+use Rattle.perf_types.specs.ReadFormat.{has_time_enabled, has_time_running, has_counter_id, has_lost}
+use Rattle.perf_types.specs.ReadFormat.{has_group, has_known_bits}
 use Rattle.perf_types.specs.declared.read_value.ReadValue.{ReadValue}
 
 -- the read of one counter as plain numbers
@@ -37,7 +37,7 @@ read_with read_format value time_enabled time_running id lost = record {
   value = value;
   time_enabled = then_some (has_time_enabled read_format) time_enabled;
   time_running = then_some (has_time_running read_format) time_running;
-  id = then_some (has_id read_format) id;
+  id = then_some (has_counter_id read_format) id;
   lost = then_some (has_lost read_format) lost;
 }
 
@@ -49,11 +49,11 @@ not_one_text = codes "can only convert groups with a single element to ReadValue
 abbrev pub read_value : Configuration → Parts SingleRead
 read_value c = do
   require (not (has_group c.read_format)) UnsupportedConfig
-  require (is_known c.read_format) UnsupportedConfig
+  require (has_known_bits c.read_format) UnsupportedConfig
   value ← u64
   time_enabled ← u64_if (has_time_enabled c.read_format)
   time_running ← u64_if (has_time_running c.read_format)
-  id ← u64_if (has_id c.read_format)
+  id ← u64_if (has_counter_id c.read_format)
   lost ← u64_if (has_lost c.read_format)
   done (record {
     value = value;

@@ -1,5 +1,5 @@
 //! AUX_OUTPUT_HW_ID.
-#![tactic(auto, using(perf_reader::proofs::Paying::chain))]
+#![tactic(auto, using(perf_reader::proofs::Calls::chain))]
 
 ghost use Rattle.perf_reader.specs.Prelude.{ReadsPlain};
 ghost use Rattle.perf_types.specs.AuxOutputHwId.{aux_output_hw_id};

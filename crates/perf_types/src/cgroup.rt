@@ -1,5 +1,5 @@
 //! CGROUP.
-#![tactic(auto, using(perf_reader::proofs::Paying::chain))]
+#![tactic(auto, using(perf_reader::proofs::Calls::chain))]
 
 ghost use Rattle.std.specs.Prelude.{◌≡◌, option_map};
 ghost use Rattle.perf_types.specs.CGroup.{cgroup, cgroup_value, IsBorrowedCGroup, cgroup_form};

@@ -1,5 +1,5 @@
 //! COMM.
-#![tactic(auto, using(perf_reader::proofs::Paying::chain))]
+#![tactic(auto, using(perf_reader::proofs::Calls::chain))]
 
 ghost use Rattle.std.specs.Prelude.{◌≡◌, option_map};
 ghost use Rattle.perf_types.specs.Comm.{comm, comm_value, IsBorrowedComm, comm_form};

@@ -1,5 +1,5 @@
 //! KSYMBOL.
-#![tactic(auto, using(perf_reader::proofs::Paying::chain))]
+#![tactic(auto, using(perf_reader::proofs::Calls::chain))]
 
 ghost use Rattle.perf_reader.specs.Prelude.{ReadsInPlace};
 ghost use Rattle.perf_types.specs.KSymbol.{ksymbol, ksymbol_value, IsBorrowedKSymbol, ksymbol_form};

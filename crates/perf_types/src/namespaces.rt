@@ -1,5 +1,5 @@
 //! NAMESPACES. Nothing is allocated from a claimed count of entries alone.
-#![tactic(auto, using(perf_reader::proofs::Paying::chain))]
+#![tactic(auto, using(perf_reader::proofs::Calls::chain))]
 
 ghost use Rattle.std.specs.Prelude.{◌≡◌, ◌*◌, true, IfOk, slice_get};
 ghost use Rattle.perf_buffers.specs.Room.{falls_short};
@@ -174,7 +174,7 @@ impl HasTransition for Namespaces<'_> {
 
 impl<'p, I: Input<'p>> ReadFrom<'p, I> for Namespaces<'p> {
     #[inline]
-    #[tactic(auto, using(crate::proofs::Entries::entries_flat, perf_reader::proofs::Paying::chain))]
+    #[tactic(auto, using(crate::proofs::Entries::entries_flat, perf_reader::proofs::Calls::chain))]
     fn read<E: Endian>(reader: &mut Reader<I, E>) -> ReadResult<Self> {
         let pid = reader.read_u32()?;
         let tid = reader.read_u32()?;

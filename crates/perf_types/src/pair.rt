@@ -26,7 +26,7 @@ pub(crate) fn pair_in<E: Endian>(endian: &E, bytes: [u8; SIZE]) -> (u32, u32)
 
 // The next two numbers, at once if the input reports that it has them.
 #[inline]
-#[tactic(auto, using(perf_reader::proofs::Paying::chain))]
+#[tactic(auto, using(perf_reader::proofs::Calls::chain))]
 pub(crate) fn read_pair<'p, I: Input<'p>, E: Endian>(
     reader: &mut Reader<I, E>,
 ) -> ReadResult<(u32, u32)>

@@ -1,5 +1,5 @@
 //! READ.
-#![tactic(auto, using(perf_reader::proofs::Paying::chain))]
+#![tactic(auto, using(perf_reader::proofs::Calls::chain))]
 
 ghost use Rattle.perf_reader.specs.Prelude.{ReadsPlain};
 ghost use Rattle.perf_types.specs.Read.{read, task_read};

@@ -131,7 +131,7 @@ impl HasTransition for ReadValue {
 /// [`Refusal::ReadFormat`], both before the first number.
 impl<'p, I: Input<'p>> ReadFrom<'p, I> for ReadValue {
     #[inline]
-    #[tactic(auto, using(crate::proofs::Flags::read_flags, perf_reader::proofs::Paying::chain))]
+    #[tactic(auto, using(crate::proofs::Flags::read_flags, perf_reader::proofs::Calls::chain))]
     fn read<E: Endian>(reader: &mut Reader<I, E>) -> ReadResult<Self> {
         let format = reader.config().read_format();
         if format.contains(ReadFormat::GROUP) {

@@ -1,5 +1,5 @@
 //! SWITCH_CPU_WIDE.
-#![tactic(auto, using(perf_reader::proofs::Paying::chain))]
+#![tactic(auto, using(perf_reader::proofs::Calls::chain))]
 
 ghost use Rattle.std.specs.Prelude.{◌≡◌};
 ghost use Rattle.perf_reader.specs.Prelude.{ReadsPlain};

@@ -34,7 +34,7 @@ impl Layout for Task {
 }
 
 impl<'p, B: ParseBuf<'p>> Parse<'p, B> for Task {
-    #[tactic(auto, using(perf_parser::proofs::Paying::chain))]
+    #[tactic(auto, using(perf_parser::proofs::Calls::chain))]
     fn parse<E: Endian>(parser: &mut Parser<B, E>) -> ParseResult<Self> {
         let pid = parser.parse_u32()?;
         let tid = parser.parse_u32()?;
@@ -58,7 +58,7 @@ impl Layout for OwnSample {
 }
 
 impl<'p, B: ParseBuf<'p>> Parse<'p, B> for OwnSample {
-    #[tactic(auto, using(perf_parser::proofs::Paying::chain))]
+    #[tactic(auto, using(perf_parser::proofs::Calls::chain))]
     fn parse<E: Endian>(parser: &mut Parser<B, E>) -> ParseResult<Self> {
         let ip = parser.parse_u64()?;
         let task = parser.parse()?;
@@ -164,7 +164,7 @@ impl Layout for Even {
 }
 
 impl<'p, B: ParseBuf<'p>> Parse<'p, B> for Even {
-    #[tactic(auto, using(perf_parser::proofs::Paying::chain))]
+    #[tactic(auto, using(perf_parser::proofs::Calls::chain))]
     fn parse<E: Endian>(parser: &mut Parser<B, E>) -> ParseResult<Self> {
         let number = parser.parse_u8()?;
         if number % 2 == 1 {

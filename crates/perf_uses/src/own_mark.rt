@@ -32,7 +32,7 @@ impl Layout for Mark<'_> {
 }
 
 impl<'p, B: ParseBuf<'p>> Parse<'p, B> for Mark<'p> {
-    #[tactic(auto, using(perf_parser::proofs::Paying::chain))]
+    #[tactic(auto, using(perf_parser::proofs::Calls::chain))]
     fn parse<E: Endian>(parser: &mut Parser<B, E>) -> ParseResult<Self> {
         let id = parser.parse_u32()?;
         let value = parser.parse_u64()?;
@@ -54,7 +54,7 @@ pub fn mark_after<'p, B: ParseBuf<'p>, E: Endian>(
 }
 
 /// The mark that bytes begin with.
-#[tactic(auto, using(perf_records::proofs::Saying::took_says))]
+#[tactic(auto, using(perf_records::proofs::LayoutResults::took_result))]
 pub fn mark_in<'p>(alloc: Global, bytes: &'p [u8]) -> ParseResult<Mark<'p>>
     ensures { IfOk result (λ mark. layout little mark_parts bytes.now ≡ Ok (mark_value mark)) }
 {

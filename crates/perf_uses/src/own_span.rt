@@ -24,7 +24,7 @@ impl Layout for Span<'_> {
 }
 
 impl<'p, B: ParseBuf<'p>> Parse<'p, B> for Span<'p> {
-    #[tactic(auto, using(perf_parser::proofs::Paying::chain))]
+    #[tactic(auto, using(perf_parser::proofs::Calls::chain))]
     fn parse<E: Endian>(parser: &mut Parser<B, E>) -> ParseResult<Self> {
         let version = parser.parse_u16()?;
         if version != 2 {

@@ -1,7 +1,7 @@
 -- Words of the kernel, decoded by hand: the values of their fields.
 use Rattle.std.proofs.Common.{◌≡◌, true, false, refl}
 use Rattle.perf_words.specs.DataSource.{mem_op_of, mem_lvl_of, mem_snoop_of, mem_lock_of, mem_dtlb_of, mem_lvl_num_of, mem_remote_of, mem_blk_of, mem_hops_of, snoop_of}
-use Rattle.perf_words.specs.Branch.{mispred_of, predicted_of, in_tx_of, abort_of, cycles_of, type_of}
+use Rattle.perf_words.specs.Branch.{mispred_of, predicted_of, in_tx_of, abort_of, cycles_of, branch_type_of}
 use Rattle.perf_words.specs.Sets.{element_len}
 
 -- A load that hit the first cache level: no snoop, a forwarded line, level number 1, from another
@@ -27,13 +27,13 @@ record BranchIsRead : Type 0 where
   in_transaction : in_tx_of 0x51 ≡ false
   aborted : abort_of 0x51 ≡ false
   cycles : cycles_of 0x51 ≡ 5
-  kind : type_of 0x51 ≡ 0
+  kind : branch_type_of 0x51 ≡ 0
 
 branch_is_read : BranchIsRead
 branch_is_read = record { mispredicted = refl; predicted = refl; in_transaction = refl; aborted = refl; cycles = refl; kind = refl }
 
 -- the same branch as a return
-return_is_read : type_of 0x600051 ≡ 6
+return_is_read : branch_type_of 0x600051 ≡ 6
 return_is_read = refl
 
 -- two fields with every bit set fill their seven bits and no others

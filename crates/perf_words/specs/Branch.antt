@@ -30,5 +30,5 @@ abbrev pub cycles_of : ℕ → ℕ
 cycles_of word = bit_field word 4 16
 
 -- the kind of branch
-abbrev pub type_of : ℕ → ℕ
-type_of word = bit_field word 20 4
+abbrev pub branch_type_of : ℕ → ℕ
+branch_type_of word = bit_field word 20 4

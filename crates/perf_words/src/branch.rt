@@ -2,7 +2,7 @@
 
 ghost use Rattle.std.specs.Prelude.{◌≡◌};
 ghost use Rattle.perf_words.specs.Branch.{Branch, mispred_of, predicted_of, in_tx_of, abort_of};
-ghost use Rattle.perf_words.specs.Branch.{cycles_of, type_of};
+ghost use Rattle.perf_words.specs.Branch.{cycles_of, branch_type_of};
 
 use crate::field::bit_field;
 use crate::named::BranchType;
@@ -92,7 +92,7 @@ impl BranchEntry {
     /// The kind of branch: bits 20 to 23.
     #[inline]
     pub fn ty(&self) -> BranchType
-        ensures { result ≡ type_of self.now.word }
+        ensures { result ≡ branch_type_of self.now.word }
     {
         BranchType::new(bit_field(self.word, 20, 4) as u8)
     }

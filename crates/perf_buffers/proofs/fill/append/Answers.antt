@@ -1,6 +1,6 @@
 use Rattle.std.proofs.Common.{None, arith}
 use Rattle.perf_buffers.proofs.Chunks.{stays_then}
-use Rattle.perf_buffers.proofs.Taking.{takes_more, append_on}
+use Rattle.perf_buffers.proofs.Takes.{takes_more, append_on}
 use Rattle.perf_buffers.proofs.fill.append.Goals as goal
 
 pub loop-at-preserved : goal.loop-at-preserved

@@ -1,5 +1,5 @@
 use Rattle.std.proofs.Common.{rules, ◌≤◌, take, ap, ◌≡◌, ◌-◌, length, ◌∙◌}
-use Rattle.perf_buffers.proofs.Taking.{takes_more, take_on, length_on}
+use Rattle.perf_buffers.proofs.Takes.{takes_more, take_on, length_on}
 use Rattle.perf_buffers.proofs.fill.fill_on.Goals as goal
 
 pub loop-at-preserved : goal.loop-at-preserved

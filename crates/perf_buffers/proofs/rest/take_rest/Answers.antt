@@ -2,7 +2,7 @@ use Rattle.std.proofs.Common.{length, [], ◌≡◌, ◌∙◌, refl, None}
 use Rattle.perf_buffers.specs.Buffer.{Source}
 use Rattle.perf_buffers.proofs.Chunks.{stays_then}
 use Rattle.perf_buffers.proofs.Options.{some_matches}
-use Rattle.perf_buffers.proofs.Taking.{took_all}
+use Rattle.perf_buffers.proofs.Takes.{took_all}
 use Rattle.perf_buffers.proofs.rest.take_rest.Goals as goal
 
 pub returns-in-Ok-true : goal.returns-in-Ok-true

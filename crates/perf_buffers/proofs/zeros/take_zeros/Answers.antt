@@ -1,6 +1,6 @@
 use Rattle.std.proofs.Common.{None, refl, arith}
 use Rattle.perf_buffers.proofs.Chunks.{stays_then}
-use Rattle.perf_buffers.proofs.Taking.{takes_more, zero_on}
+use Rattle.perf_buffers.proofs.Takes.{takes_more, zero_on}
 use Rattle.perf_buffers.proofs.zeros.take_zeros.Goals as goal
 
 pub loop-at-preserved : goal.loop-at-preserved

@@ -4,7 +4,7 @@ use Rattle.perf_base.specs.Dynamic.{order_of}
 use Rattle.perf_base.specs.Refusals.{refusal_kind}
 use Rattle.perf_base.specs.declared.config.ParseConfig.{ParseConfig}
 use Rattle.perf_base.specs.declared.endian.Dynamic.{Dynamic}
-use Rattle.perf_reader.proofs.Paying.{keeps_none}
+use Rattle.perf_reader.proofs.Calls.{keeps_none}
 use Rattle.perf_records.specs.Shown.{slice_state}
 use Rattle.perf_flat.proofs.Attributes.{attr_read, attr_stops}
 use Rattle.perf_flat.proofs.attr.read_attr.Goals as goal

@@ -1,6 +1,6 @@
 use Rattle.std.proofs.Common.{◌≡◌, ◌≤◌, ◌*◌, ◌++◌, [], drop, length, decimal}
 use Rattle.std.specs.List.{flat_map}
-use Rattle.perf_text.specs.Strips.{text_of, room_of}
+use Rattle.perf_text.specs.Strips.{strip_text, room_of}
 use Rattle.perf_lines.specs.Fields.{present}
 use Rattle.perf_lines.proofs.fields.push_numbers.Given as goal
 
@@ -17,7 +17,7 @@ abbrev pub invariant-loop-left-2 : goal.invariant-loop-left-2
 invariant-loop-left-2 l = record {
   within : l.left ≤ length l.numbers;
   room : 36 * l.left ≤ room_of l.strip;
-  written : text_of l.strip ≡ flat_map (λ field. present (λ n. field.0.now ++ decimal n) field.1) (drop l.left l.numbers);
+  written : strip_text l.strip ≡ flat_map (λ field. present (λ n. field.0.now ++ decimal n) field.1) (drop l.left l.numbers);
 }
 
 abbrev pub decreases-loop-left-2 : goal.decreases-loop-left-2

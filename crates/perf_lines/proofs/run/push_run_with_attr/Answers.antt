@@ -6,8 +6,8 @@ use Rattle.perf_base.specs.Configured.{configuration_of, endian_of}
 use Rattle.perf_base.specs.Errors.{kind_of}
 use Rattle.perf_base.specs.declared.error.ErrorKind.TheVariants.{External}
 use Rattle.perf_reader.specs.Reading.{of_layout}
-use Rattle.perf_reader.proofs.Paying.{keeps_none}
-use Rattle.perf_records.proofs.Saying.{took_says}
+use Rattle.perf_reader.proofs.Calls.{keeps_none}
+use Rattle.perf_records.proofs.LayoutResults.{took_result}
 use Rattle.perf_parser.specs.ReaderState.{state_of}
 use Rattle.perf_lines.specs.Text.{stream_after_attribute, without_frames}
 use Rattle.perf_lines.proofs.Endings.{made_refused, made_after, read_attribute, refused_attribute, framed_as}
@@ -34,7 +34,7 @@ returns-in-Ok g c = λ told.
     let kept = c.in-Ok.ensures.keeps start (keeps_none start) in
     let read = c.in-Ok.ensures.read told in
     let framed = read_attribute start.order start.source.left now.source.left read.0
-    (took_says start.order attribute start.source.left now.source.left start.reads now.reads read.0 read.1).0 read.2
+    (took_result start.order attribute start.source.left now.source.left start.reads now.reads read.0 read.1).0 read.2
     ∙ framed_as (configured_by read.0) (configuration_of after.reader.config) (sym read.3) now.source.left now.source.left refl in
     made_after start.source.can_fault now.source.can_fault kept.buffer.1 start.order now.order c.args.limit
     (stream_after_attribute start.order start.source.left) now.source.left (string_bytes c.args.text.now)

@@ -2,7 +2,7 @@ use Rattle.std.proofs.Common.{◌≡◌, ◌++◌, ◌∙◌, ◌∷◌, [], Lis
 use Rattle.std.proofs.lemmas.Result.{on_ok_weaker}
 use Rattle.perf_sample_types.specs.SampleGetters.{Getters, getters_of}
 use Rattle.perf_sample_types.specs.SampleGroups.{sample_value}
-use Rattle.perf_lines.specs.Fields.{with_spaces, present, words_of, word_as, word_of, hex}
+use Rattle.perf_lines.specs.Fields.{with_spaces, present, words_of_numbers, word_as, word_of, hex}
 use Rattle.perf_lines.proofs.Spaced.{words_more, spaced-words_of, spaced-word_as}
 use Rattle.perf_lines.proofs.sample.push_memory.Goals as goal
 
@@ -21,7 +21,7 @@ returns c =
     ∙ ap (λ v. string_bytes c.push_present.new.text ++ present (λ items. codes " aux=" ++ hex items) v) c.aux.ensures
     ∙ ap (λ rest. string_bytes c.push_present.new.text ++ rest) (spaced-word_as (codes "aux") hex g.aux) in
     on_ok_weaker c.push_numbers.result
-    (λ last. words_more address (aux ++ words_of fields) _ _ _ first (words_more aux (words_of fields) _ _ _ second (last
+    (λ last. words_more address (aux ++ words_of_numbers fields) _ _ _ first (words_more aux (words_of_numbers fields) _ _ _ second (last
     ∙ rw (c.cgroup.ensures, c.data_page_size.ensures, c.code_page_size.ensures)
     (ap (λ rest. string_bytes c.push_bytes.new.text ++ rest) (spaced-words_of fields)))))
     c.push_numbers.ensures

@@ -1,9 +1,9 @@
 use Rattle.std.proofs.Common.{ℕ, ◌*◌, ◌+◌, ◌≡◌, ◌∙◌, ap, subst, refl, arith}
 use Rattle.perf_buffers.specs.declared.outer.Outer.{Outer}
 use Rattle.perf_reader.specs.ReaderState.{state_of}
-use Rattle.perf_parser.specs.FrameRuns.{CountsRun, frames_refusal, one_if_run_ended}
+use Rattle.perf_parser.specs.FrameRuns.{CountsRunReads, frames_refusal, one_if_run_ended}
 use Rattle.perf_parser.specs.Runs.{RunInvariant}
-use Rattle.perf_parser.proofs.Handing.{twice}
+use Rattle.perf_parser.proofs.FrameHandovers.{twice}
 use Rattle.perf_parser.proofs.frame_runs.each_frame.Goals as goal
 
 pub run_steps-requires : goal.run_steps-requires
@@ -24,7 +24,7 @@ returns-clause-whole_memory g c = λ told whole refused. (c.run_steps.ensures.ru
 pub returns-clause-reads : goal.returns-clause-reads
 returns-clause-reads g c = λ told.
     let run = c.run_steps.ensures.run in
-    subst (λ (n : ℕ). CountsRun n c.run_steps.result.end c.args.parser.now.reader.reads c.run_steps.new.reader.reads) (twice _ ∙ ap (λ (n : ℕ). 2 * n) (run.there told)) (run.reads told)
+    subst (λ (n : ℕ). CountsRunReads n c.run_steps.result.end c.args.parser.now.reader.reads c.run_steps.new.reader.reads) (twice _ ∙ ap (λ (n : ℕ). 2 * n) (run.there told)) (run.reads told)
 
 pub returns-clause-keeps : goal.returns-clause-keeps
 returns-clause-keeps g c =

@@ -1,6 +1,6 @@
-use Rattle.perf_records.proofs.Making.{body_borrows}
+use Rattle.perf_records.proofs.VisitedRecords.{body_borrows}
 use Rattle.perf_records.proofs.Shown.{transition_call}
-use Rattle.perf_parser.proofs.Answering.{lists_record, lists_rest}
+use Rattle.perf_parser.proofs.ListedAnswers.{lists_record, lists_rest}
 use Rattle.perf_parser.proofs.runs.list_answer.Goals as goal
 
 pub returns-in-Ok : goal.returns-in-Ok

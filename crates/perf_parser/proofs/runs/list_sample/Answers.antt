@@ -1,7 +1,7 @@
 use Rattle.perf_base.specs.Refusals.{refusal_kind}
 use Rattle.perf_records.specs.declared.record.Record.TheVariants as record_of
 use Rattle.perf_records.proofs.Shown.{boxed_call, unboxed_call}
-use Rattle.perf_parser.proofs.Answering.{lists_record, lists_rest}
+use Rattle.perf_parser.proofs.ListedAnswers.{lists_record, lists_rest}
 use Rattle.perf_parser.proofs.runs.list_sample.Goals as goal
 
 pub returns-in-Ok : goal.returns-in-Ok

@@ -5,8 +5,8 @@ use Rattle.perf_reader.specs.ReaderState.{ReaderState, state_of}
 use Rattle.perf_parser.specs.Steps.{StopsAt}
 use Rattle.perf_reader.specs.declared.header.Stop.{Stop}
 use Rattle.perf_reader.specs.declared.header.Stop.TheVariants as stop
-use Rattle.perf_reader.proofs.Stopping.{stops_unshown}
-use Rattle.perf_parser.proofs.Meeting.{room_stops, err_then}
+use Rattle.perf_reader.proofs.Stops.{stops_unshown}
+use Rattle.perf_parser.proofs.Lookaheads.{room_stops, err_then}
 use Rattle.perf_parser.proofs.runs.make_room.Goals as goal
 
 pub returns-in-Ok-clause-stop : goal.returns-in-Ok-clause-stop

@@ -1,7 +1,7 @@
 use Rattle.std.proofs.Common.{◌≡◌, ◌-◌, true, false, get_or, arith, sym, ◌∙◌}
 use Rattle.std.proofs.lemmas.Bool.Decides.{nat_tests}
 use Rattle.std.specs.Prelude.{◌==◌}
-use Rattle.perf_reader.proofs.Trimming.{without_zero, before_other}
+use Rattle.perf_reader.proofs.NameEnds.{without_zero, before_other}
 use Rattle.perf_reader.proofs.names.trimmed_len.Goals as goal
 
 pub loop-len-preserved : goal.loop-len-preserved

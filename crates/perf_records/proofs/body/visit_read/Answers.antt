@@ -1,6 +1,6 @@
 use Rattle.perf_records.specs.Records.{read_is, task_read}
 use Rattle.perf_types.specs.Read.{read}
-use Rattle.perf_records.proofs.Seeing.{no_plain}
+use Rattle.perf_records.proofs.TypeVisits.{no_plain}
 use Rattle.perf_records.proofs.body.visit_read.Goals as goal
 
 pub returns-in-Err : goal.returns-in-Err

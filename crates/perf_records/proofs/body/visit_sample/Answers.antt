@@ -2,8 +2,8 @@ use Rattle.std.proofs.Common.{◌≡◌, true, false, refl}
 use Rattle.perf_records.specs.Records.{sample_is, sample_value}
 use Rattle.perf_records.specs.Gives.{is_borrowed_sample}
 use Rattle.perf_sample_types.specs.Sample.{sample}
-use Rattle.perf_records.proofs.Lending.{sample_borrowed}
-use Rattle.perf_records.proofs.Seeing.{visited, unvisited, of_said}
+use Rattle.perf_records.proofs.BorrowedValues.{sample_borrowed}
+use Rattle.perf_records.proofs.TypeVisits.{visited, unvisited, of_said}
 use Rattle.perf_records.proofs.body.visit_sample.Goals as goal
 
 pub returns-in-Err-read_sample : goal.returns-in-Err-read_sample

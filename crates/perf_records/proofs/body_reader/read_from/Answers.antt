@@ -5,11 +5,11 @@ use Rattle.perf_base.specs.Refusals.{kinds, kind_if_refused}
 use Rattle.perf_base.specs.declared.config.ParseConfig.{ParseConfig}
 use Rattle.perf_buffers.specs.Buffer.{Source}
 use Rattle.perf_reader.specs.ReaderState.{ReaderState, state_of}
-use Rattle.perf_reader.proofs.Paying.{keeps_none}
+use Rattle.perf_reader.proofs.Calls.{keeps_none}
 use Rattle.perf_records.specs.Bodies.{body}
 use Rattle.perf_records.specs.Gives.{Event, GivesWholeBody}
-use Rattle.perf_records.proofs.Visiting.{visits_all}
-use Rattle.perf_records.proofs.Keeping.{inside_cannot_fault, inside_pays}
+use Rattle.perf_records.proofs.BodyVisits.{visits_all}
+use Rattle.perf_records.proofs.Preservation.{inside_cannot_fault, inside_pays}
 use Rattle.perf_records.proofs.body_reader.read_from.Goals as goal
 
 pub returns-clause-answer : goal.returns-clause-answer

@@ -10,7 +10,7 @@ use Rattle.perf_buffers.specs.Buffer.{Source}
 use Rattle.perf_buffers.specs.Taking.{FailsToKeep}
 use Rattle.perf_records.specs.Answers.{length_after}
 use Rattle.perf_records.specs.Sights.{Sight, bad}
-use Rattle.perf_records.proofs.Handing.{hands_unfinished}
+use Rattle.perf_records.proofs.Handovers.{hands_unfinished}
 use Rattle.perf_records.proofs.frame_after.hand_after.Goals as goal
 
 pub returns-else-not-is_eof-clause-handed : goal.returns-else-not-is_eof-clause-handed

@@ -3,10 +3,10 @@ use Rattle.std.proofs.lemmas.Bool.Decides.{nat_tests}
 use Rattle.perf_base.specs.Refusals.{refusal_kind}
 use Rattle.perf_buffers.specs.Buffer.{Source}
 use Rattle.perf_buffers.specs.declared.outer.Outer.{Outer}
-use Rattle.perf_buffers.proofs.Taking.{takes_moves}
+use Rattle.perf_buffers.proofs.Takes.{takes_moves}
 use Rattle.perf_records.specs.Answers.{length_after}
 use Rattle.perf_records.specs.Gives.{Event}
-use Rattle.perf_records.proofs.Keeping.{taken_within}
+use Rattle.perf_records.proofs.Preservation.{taken_within}
 use Rattle.perf_records.proofs.Shown.{Read, frame_call, unread_call}
 use Rattle.perf_records.proofs.frame_after.read_after.Goals as goal
 

@@ -7,7 +7,7 @@ use Rattle.perf_buffers.specs.Buffer.{chunk_bytes, chunk_is_borrowed}
 use Rattle.perf_records.specs.Answers.{length_after}
 use Rattle.perf_records.specs.Sights.{whole, sight_after}
 use Rattle.perf_records.proofs.Headers.{after_frame, header_take}
-use Rattle.perf_records.proofs.Handing.{finished}
+use Rattle.perf_records.proofs.Handovers.{finished}
 use Rattle.perf_records.proofs.frame_list.cut_first.Goals as goal
 
 pub returns : goal.returns

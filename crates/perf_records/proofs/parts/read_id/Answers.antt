@@ -2,11 +2,11 @@ use Rattle.std.proofs.Common.{◌≡◌, ◌+◌, Bool, true, length, refl, sym,
 use Rattle.perf_base.specs.Configured.{configuration_of, endian_of}
 use Rattle.perf_base.specs.Layout.{done, value}
 use Rattle.perf_base.specs.LayoutReads.{layout_reads}
-use Rattle.perf_reader.proofs.Paying.{keeps_none}
+use Rattle.perf_reader.proofs.Calls.{keeps_none}
 use Rattle.perf_records.specs.Metadata.{carries_sample_id}
 use Rattle.perf_base.specs.Refusals.{refusal_kind}
-use Rattle.perf_records.proofs.Keeping.{never_refused}
-use Rattle.perf_records.proofs.Saying.{took_says}
+use Rattle.perf_records.proofs.Preservation.{never_refused}
+use Rattle.perf_records.proofs.LayoutResults.{took_result}
 use Rattle.perf_sample_types.specs.SampleId.{no_sample_id, sample_id, sample_id_length}
 use Rattle.perf_records.proofs.parts.read_id.Goals as goal
 
@@ -16,7 +16,7 @@ returns-in-Ok-clause-id g c =
     let o = g.E.Endian.order (endian_of c.args.reader.now.config) in
     let bytes = c.args.reader.now.input.now in
     let carries : carries_sample_id c.args.ty ≡ true = sym c.carries_sample_id.ensures ∙ c.if-carries_sample_id.true in
-    (took_says o (sample_id settings) bytes _ c.args.reader.now.reads c.read.new.self.reads c.in-Ok.id (c.in-Ok.ensures.call.answer refl).0.0).1
+    (took_result o (sample_id settings) bytes _ c.args.reader.now.reads c.read.new.self.reads c.in-Ok.id (c.in-Ok.ensures.call.answer refl).0.0).1
     ∙ ap (λ (b : Bool). value o bytes 0 (if b then sample_id settings else done no_sample_id)) (sym carries)
 
 pub returns-in-Ok-clause-reads : goal.returns-in-Ok-clause-reads
@@ -25,7 +25,7 @@ returns-in-Ok-clause-reads g c =
     let o = g.E.Endian.order (endian_of c.args.reader.now.config) in
     let bytes = c.args.reader.now.input.now in
     let carries : carries_sample_id c.args.ty ≡ true = sym c.carries_sample_id.ensures ∙ c.if-carries_sample_id.true in
-    (took_says o (sample_id settings) bytes _ c.args.reader.now.reads c.read.new.self.reads c.in-Ok.id (c.in-Ok.ensures.call.answer refl).0.0).2
+    (took_result o (sample_id settings) bytes _ c.args.reader.now.reads c.read.new.self.reads c.in-Ok.id (c.in-Ok.ensures.call.answer refl).0.0).2
     ∙ ap (λ (b : Bool). c.args.reader.now.reads + layout_reads o (if b then sample_id settings else done no_sample_id) bytes) (sym carries)
 
 pub returns-in-Ok-clause-bound : goal.returns-in-Ok-clause-bound

@@ -8,16 +8,16 @@ use Rattle.perf_base.specs.declared.error.ErrorKind.TheVariants.{InvalidRecord}
 use Rattle.perf_buffers.specs.Buffer.{Source, BufferInvariant}
 use Rattle.perf_buffers.specs.Cursor.{cursor_left}
 use Rattle.perf_buffers.specs.Taking.{Moves}
-use Rattle.perf_buffers.proofs.Taking.{takes_moves}
+use Rattle.perf_buffers.proofs.Takes.{takes_moves}
 use Rattle.perf_reader.specs.Calls.{Call}
 use Rattle.perf_reader.specs.ReaderState.{ReaderState, state_of}
 use Rattle.perf_reader.specs.Reading.{CallInvariant}
-use Rattle.perf_reader.proofs.Paying.{keeps_more, can_fault}
+use Rattle.perf_reader.proofs.Calls.{keeps_more, can_fault}
 use Rattle.perf_records.specs.Answers.{length_after, FrameParts, answered_parts, frame_parts, parts_of, SplitsAfter}
 use Rattle.perf_records.specs.Parts.{FindsId}
 use Rattle.perf_records.specs.Metadata.{id_length}
-use Rattle.perf_records.proofs.Keeping.{moved_keeps, stays_refused, within_kept, taken_pays}
-use Rattle.perf_records.proofs.Splitting.{unsplit_cut, unsplit_room, split_made}
+use Rattle.perf_records.proofs.Preservation.{moved_keeps, stays_refused, within_kept, taken_pays}
+use Rattle.perf_records.proofs.Splits.{unsplit_cut, unsplit_room, split_made}
 use Rattle.perf_records.proofs.parts.split.Goals as goal
 
 -- the last bytes of a frame, as many as it has

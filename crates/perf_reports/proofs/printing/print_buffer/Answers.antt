@@ -3,7 +3,7 @@ use Rattle.std.specs.Prelude.{IsTrue}
 use Rattle.perf_base.specs.Order.{little}
 use Rattle.perf_parser.specs.ReaderState.{buffer_of, config_of, state_of}
 use Rattle.perf_reader.specs.ReaderState.{ReaderState}
-use Rattle.perf_reader.proofs.Paying.{keeps_none}
+use Rattle.perf_reader.proofs.Calls.{keeps_none}
 use Rattle.perf_reports.specs.Counting.{attribute_in}
 use Rattle.perf_reports.proofs.Counted.{attribute_read}
 use Rattle.perf_reports.proofs.RecordingPrinted.{StandsAfter, if_ok_same, recorded, recorded_part}

@@ -5,7 +5,7 @@ use Rattle.perf_parser.specs.FrameRuns.{EndsFrames}
 use Rattle.perf_parser.specs.ReaderState.{buffer_of, state_of}
 use Rattle.perf_parser.specs.declared.runs.RunEnd.{RunEnd}
 use Rattle.perf_reader.specs.ReaderState.{ReaderState}
-use Rattle.perf_reports.specs.FramePrinting.{PrintsFirst, answers_of}
+use Rattle.perf_reports.specs.FramePrinting.{PrintsFirst, answers_left}
 use Rattle.perf_reports.specs.Printing.{is_memory}
 use Rattle.perf_reports.specs.declared.printing.TheConstants.{BATCH}
 use Rattle.perf_reports.specs.declared.printing.Stopped.{Stopped}
@@ -24,11 +24,11 @@ returns-in-Ok-clause-sent g c = λ told.
     let p = went_on_prints out err old run.result.count run.result.end c.in-Some.end c.args.printer.now run.new.handler c.in-Some.is (run.ensures.handed told) in
     let same = c.send.ensures.same in (
       run.result.count,
-      run_sent out err c.args.printer.now run.new.handler c.send.new.self (answers_of old) run.result.count p c.in-Ok.ensures.sent same.1,
+      run_sent out err c.args.printer.now run.new.handler c.send.new.self (answers_left old) run.result.count p c.in-Ok.ensures.sent same.1,
       same.0 ∙ p.report,
       same.2 ∙ p.clean,
       subst (λ (e : Option RunEnd). EndsFrames old.order BATCH old.source.left run.result.count e left) c.in-Some.is (run.ensures.end told),
-      take_fits run.result.count (answers_of old) (there out err old run.result.count run.result.end c.args.printer.now run.new.handler (run.ensures.handed told)),
+      take_fits run.result.count (answers_left old) (there out err old run.result.count run.result.end c.args.printer.now run.new.handler (run.ensures.handed told)),
     )
 
 pub returns-in-Ok-clause-part : goal.returns-in-Ok-clause-part
@@ -37,7 +37,7 @@ returns-in-Ok-clause-part g c = λ told.
     let old : ReaderState = state_of g.B.ParseBuf.source g.O.Endian.order c.args.parser.now in
     let run = c.each_frame-run in
     let p = went_on_prints out err old run.result.count run.result.end c.in-Some.end c.args.printer.now run.new.handler c.in-Some.is (run.ensures.handed told) in
-    run_part out err c.args.printer.now run.new.handler c.send.new.self (answers_of old) run.result.count BATCH run.ensures.count p c.send.ensures.part
+    run_part out err c.args.printer.now run.new.handler c.send.new.self (answers_left old) run.result.count BATCH run.ensures.count p c.send.ensures.part
 
 pub returns-in-Err-clause-part : goal.returns-in-Err-clause-part
 returns-in-Err-clause-part g c = λ told.
@@ -45,7 +45,7 @@ returns-in-Err-clause-part g c = λ told.
     let old : ReaderState = state_of g.B.ParseBuf.source g.O.Endian.order c.args.parser.now in
     let run = c.each_frame-run in
     let p = went_on_prints out err old run.result.count run.result.end c.in-Some.end c.args.printer.now run.new.handler c.in-Some.is (run.ensures.handed told) in
-    run_part out err c.args.printer.now run.new.handler c.send.new.self (answers_of old) run.result.count BATCH run.ensures.count p c.send.ensures.part
+    run_part out err c.args.printer.now run.new.handler c.send.new.self (answers_left old) run.result.count BATCH run.ensures.count p c.send.ensures.part
 
 pub returns-in-None-clause-sent : goal.returns-in-None-clause-sent
 returns-in-None-clause-sent g c = λ told.
@@ -61,7 +61,7 @@ returns-in-None-clause-part g c = λ told.
     let old : ReaderState = state_of g.B.ParseBuf.source g.O.Endian.order c.args.parser.now in
     let run = c.each_frame-run in
     let s = stopped_prints out err old run.result.count run.result.end c.args.printer.now run.new.handler c.in-None.is (run.ensures.handed told) in
-    run_stopped_part out err c.args.printer.now run.new.handler c.end.new.self (answers_of old) run.result.count BATCH run.ensures.count s (c.end.ensures.stopped s.why s.kept).1
+    run_stopped_part out err c.args.printer.now run.new.handler c.end.new.self (answers_left old) run.result.count BATCH run.ensures.count s (c.end.ensures.stopped s.why s.kept).1
 
 pub returns-in-None-clause-refused : goal.returns-in-None-clause-refused
 returns-in-None-clause-refused g c = λ told.
@@ -73,5 +73,5 @@ returns-in-None-clause-refused g c = λ told.
     let s = stopped_prints out err old run.result.count run.result.end was run.new.handler c.in-None.is handed in
     let e = c.end.ensures.stopped s.why s.kept in
     let all = there out err old run.result.count run.result.end was run.new.handler handed in
-    let refused = run_refused out err was run.new.handler c.end.new.self (answers_of old) run.result.count all s e.1 e.2 in
-    err_of_one c.end.result s.why (λ (stopped : Stopped). IsTrue (is_memory stopped) → (k : ℕ) × PrintsFirst out err was (answers_of old) k c.end.new.self) e.0 refused
+    let refused = run_refused out err was run.new.handler c.end.new.self (answers_left old) run.result.count all s e.1 e.2 in
+    err_of_one c.end.result s.why (λ (stopped : Stopped). IsTrue (is_memory stopped) → (k : ℕ) × PrintsFirst out err was (answers_left old) k c.end.new.self) e.0 refused

@@ -5,7 +5,7 @@ use Rattle.perf_base.specs.Configured.{configuration_of, endian_of}
 use Rattle.perf_base.specs.Errors.{kind_of}
 use Rattle.perf_base.specs.Order.{Order}
 use Rattle.perf_base.specs.declared.config.ParseConfig.{ParseConfig}
-use Rattle.perf_reader.proofs.Paying.{keeps_none}
+use Rattle.perf_reader.proofs.Calls.{keeps_none}
 use Rattle.perf_parser.specs.ReaderState.{buffer_of, config_of, state_of}
 use Rattle.perf_reports.specs.Counting.{CountsRun, CountsStream, attribute_in}
 use Rattle.perf_reports.specs.declared.streams.TheConstants.{MOST_FRAMES}

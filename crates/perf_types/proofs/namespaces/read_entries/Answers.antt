@@ -5,7 +5,7 @@ use Rattle.perf_reader.proofs.InRow.{row_none, row_cast, row_more, row_stops, ro
 use Rattle.perf_types.specs.Namespaces.{entry_numbers}
 use Rattle.perf_types.specs.declared.namespaces.NamespaceEntry.{NamespaceEntry}
 use Rattle.perf_types.proofs.Entries.{flat_more}
-use Rattle.perf_reader.proofs.Lacking.{not_short}
+use Rattle.perf_reader.proofs.Shortages.{not_short}
 use Rattle.perf_types.proofs.namespaces.read_entries.Goals as goal
 
 pub loop-init : goal.loop-init

@@ -3,7 +3,7 @@ use Rattle.std.specs.Prelude.{nat_lt}
 use Rattle.std.proofs.Math.Nat.{mul_comm}
 use Rattle.perf_base.specs.FieldWords.{require}
 use Rattle.perf_base.specs.declared.error.ErrorKind.TheVariants.{UnsupportedConfig, InvalidRecord}
-use Rattle.perf_types.specs.ReadFormat.{is_known}
+use Rattle.perf_types.specs.ReadFormat.{has_known_bits}
 use Rattle.perf_words.specs.Sets.{element_len}
 use Rattle.perf_flat.specs.CursorReads.{ReadsParts}
 use Rattle.perf_flat.proofs.Lists.{group_read, format_is, some_is, few_numbers}
@@ -23,8 +23,8 @@ returns g c = λ settings asked many.
     let f = three.new.self in
     let h = c.require-2.new.self in
     let each = c.element_len-each.ensures ∙ ap element_len asked in
-    let known : ReadsParts {A = Unit {0}} o (require (is_known settings.read_format) UnsupportedConfig) tt a b =
-    subst (λ r. ReadsParts {A = Unit {0}} o (require (is_known r) UnsupportedConfig) tt a b) ((c.bits.ensures tt) ∙ asked) (c.require.ensures o) in
+    let known : ReadsParts {A = Unit {0}} o (require (has_known_bits settings.read_format) UnsupportedConfig) tt a b =
+    subst (λ r. ReadsParts {A = Unit {0}} o (require (has_known_bits r) UnsupportedConfig) tt a b) ((c.bits.ensures tt) ∙ asked) (c.require.ensures o) in
     let fits : ReadsParts {A = Unit {0}} o (require (nat_lt (one.result * element_len settings.read_format) (2 ^ 64)) InvalidRecord) tt f h =
     subst (λ t. ReadsParts {A = Unit {0}} o (require t InvalidRecord) tt f h) (some_is c.checked_mul.result (one.result * c.element_len-each.result) c.is_some.result c.is_some.ensures c.checked_mul.ensures ∙ ap (λ n. nat_lt (one.result * n) (2 ^ 64)) each) (c.require-2.ensures o) in
     let list = c.pass_items.ensures o (one.result * element_len settings.read_format) (ap (λ n. one.result * n) (sym each) ∙ mul_comm one.result c.element_len-each.result) in

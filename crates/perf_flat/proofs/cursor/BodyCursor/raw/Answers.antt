@@ -1,7 +1,7 @@
 use Rattle.std.proofs.Common.{ℕ, [], ◌∷◌, sym, subst, refl}
 use Rattle.perf_base.specs.FieldWords.{u32}
 use Rattle.perf_sample_types.specs.Sample.{raw, has_one, raw_padding}
-use Rattle.perf_sample_types.specs.SampleGetters.{bytes_in}
+use Rattle.perf_sample_types.specs.SampleGetters.{bytes_of_field}
 use Rattle.perf_flat.specs.CursorReads.{ReadsParts}
 use Rattle.perf_flat.specs.Samples.{HasString}
 use Rattle.perf_flat.proofs.CursorRuns.{Passed}
@@ -22,10 +22,10 @@ returns-then-contains g c = λ settings asked.
     let list = passed_bytes o n b d c.pass-bytes.result b.within passed in
     let rest = passed_over o pad d c.pass.new.self c.pass.result d.within padded in
     let first : ReadsParts o u32 n a b = subst (λ m. ReadsParts o u32 m a b) (sym c.from-len.ensures) one.ensures in
-    there_for (λ frame v. HasString frame c.pass-bytes.result (bytes_in v)) (has_one settings.sample_type (10 ∷ [])) raw (flag_is 10 asked (c.contains.ensures tt) c.if-contains.true)
+    there_for (λ frame v. HasString frame c.pass-bytes.result (bytes_of_field v)) (has_one settings.sample_type (10 ∷ [])) raw (flag_is 10 asked (c.contains.ensures tt) c.if-contains.true)
     (raw_read o n a b d c.pass.new.self c.pass-bytes.result first list rest)
 
 pub returns-else-contains : goal.returns-else-contains
 returns-else-contains g c = λ settings asked.
     let o = g.E.Endian.order c.args.order.now in
-    none_for (λ frame v. HasString frame _ (bytes_in v)) (has_one settings.sample_type (10 ∷ [])) raw (flag_is 10 asked (c.contains.ensures tt) c.if-contains.false) (λ frame. refl)
+    none_for (λ frame v. HasString frame _ (bytes_of_field v)) (has_one settings.sample_type (10 ∷ [])) raw (flag_is 10 asked (c.contains.ensures tt) c.if-contains.false) (λ frame. refl)

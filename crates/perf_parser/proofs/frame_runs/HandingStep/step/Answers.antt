@@ -10,16 +10,16 @@ use Rattle.perf_base.specs.declared.error.ErrorKind.{ErrorKind}
 use Rattle.perf_buffers.specs.declared.outer.Outer.{Outer}
 use Rattle.perf_reader.specs.ReaderState.{ReaderState, state_of}
 use Rattle.perf_reader.specs.Reading.{CallInvariant}
-use Rattle.perf_reader.proofs.Paying.{can_fault, keeps_none, keeps_more}
+use Rattle.perf_reader.proofs.Calls.{can_fault, keeps_none, keeps_more}
 use Rattle.perf_records.specs.Answers.{length_after}
 use Rattle.perf_records.specs.Sights.{Sight, sight_after, sight_in}
 use Rattle.perf_records.proofs.Headers.{after_frame}
-use Rattle.perf_records.proofs.Keeping.{moved_keeps}
+use Rattle.perf_records.proofs.Preservation.{moved_keeps}
 use Rattle.perf_records.specs.Frames.{first_frames}
 use Rattle.perf_parser.specs.FrameRuns.{Handed}
-use Rattle.perf_parser.proofs.Ending.{stops_after, run_more, run_stops}
-use Rattle.perf_records.proofs.Handing.{sight_take}
-use Rattle.perf_parser.proofs.Handing.{HandsNext, hands_more, moved_by}
+use Rattle.perf_parser.proofs.RunEnds.{stops_after, run_more, run_stops}
+use Rattle.perf_records.proofs.Handovers.{sight_take}
+use Rattle.perf_parser.proofs.FrameHandovers.{HandsNext, hands_more, moved_by}
 use Rattle.perf_parser.proofs.frame_runs.HandingStep.step.Goals as goal
 
 -- no header

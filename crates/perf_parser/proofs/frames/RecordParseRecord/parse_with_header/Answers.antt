@@ -1,5 +1,5 @@
 use Rattle.perf_records.proofs.Shown.{transition_call}
-use Rattle.perf_parser.proofs.Lifting.{lifted, answered}
+use Rattle.perf_parser.proofs.ParserCalls.{lifted, answered}
 use Rattle.perf_parser.proofs.frames.RecordParseRecord.parse_with_header.Goals as goal
 
 -- if it is `Ok`, each clause is that of the reader

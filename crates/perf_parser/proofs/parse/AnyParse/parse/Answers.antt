@@ -1,4 +1,4 @@
-use Rattle.perf_parser.proofs.Lifting.{lifted, answered}
+use Rattle.perf_parser.proofs.ParserCalls.{lifted, answered}
 use Rattle.perf_parser.proofs.parse.AnyParse.parse.Goals as goal
 
 pub returns-in-Ok : goal.returns-in-Ok

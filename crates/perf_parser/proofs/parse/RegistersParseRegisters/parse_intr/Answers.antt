@@ -2,7 +2,7 @@ use Rattle.std.proofs.Common.{◌≡◌, ◌∙◌, ap}
 use Rattle.perf_base.specs.Configuration.{Configuration}
 use Rattle.perf_base.specs.Configured.{configuration_of}
 use Rattle.perf_parser.specs.ReaderState.{config_of}
-use Rattle.perf_parser.proofs.Lifting.{lifted, answered}
+use Rattle.perf_parser.proofs.ParserCalls.{lifted, answered}
 use Rattle.perf_parser.proofs.Masks.{by_mask}
 use Rattle.perf_parser.proofs.parse.RegistersParseRegisters.parse_intr.Goals as goal
 

@@ -5,8 +5,8 @@ use Rattle.perf_base.specs.Configured.{configuration_of, endian_of}
 use Rattle.perf_base.specs.Errors.{kind_of}
 use Rattle.perf_base.specs.Took.{took}
 use Rattle.perf_base.specs.declared.config.ParseConfig.{ParseConfig}
-use Rattle.perf_reader.proofs.Paying.{keeps_none}
-use Rattle.perf_records.proofs.Saying.{quit_says}
+use Rattle.perf_reader.proofs.Calls.{keeps_none}
+use Rattle.perf_records.proofs.LayoutResults.{quit_result}
 use Rattle.perf_parser.specs.ReaderState.{buffer_of, reads_of, state_of}
 use Rattle.perf_parser.proofs.Attributes.{keeps_moved, not_of_layout, no_fault, is_external_fault}
 use Rattle.perf_parser.proofs.parser.Parser.after_attribute.Goals as goal
@@ -15,7 +15,7 @@ pub returns-in-Err-clause-refused : goal.returns-in-Err-clause-refused
 returns-in-Err-clause-refused g c = λ told known.
     let start = state_of g.B.ParseBuf.source g.E.Endian.order c.args.self in
     let mid = state_of g.B.ParseBuf.source g.E.Endian.order c.parse.new.self in
-    (quit_says start.order attribute start.source.left mid.source.left start.reads mid.reads (kind_of c.in-Err.error) ((c.in-Err.ensures.call.answer told).0 known)).0
+    (quit_result start.order attribute start.source.left mid.source.left start.reads mid.reads (kind_of c.in-Err.error) ((c.in-Err.ensures.call.answer told).0 known)).0
 
 pub returns-in-Err-clause-fault : goal.returns-in-Err-clause-fault
 returns-in-Err-clause-fault g c = λ external.

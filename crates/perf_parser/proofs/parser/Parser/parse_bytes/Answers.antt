@@ -1,4 +1,4 @@
-use Rattle.perf_parser.proofs.Lifting.{lifted, answered}
+use Rattle.perf_parser.proofs.ParserCalls.{lifted, answered}
 use Rattle.perf_parser.proofs.parser.Parser.parse_bytes.Goals as goal
 
 -- if it is `Ok`, each clause is that of the reader

@@ -10,7 +10,7 @@ use Rattle.perf_reader.specs.ReaderState.{ReaderState}
 use Rattle.perf_records.specs.Answers.{AnswersExactly, length_after, split_after, split_reads}
 use Rattle.perf_records.specs.Metadata.{MetadataValue}
 use Rattle.perf_records.proofs.Headers.{header_read, header_unread, tells_frame, tells_no_header, no_header_within, frame_within, refuses_read, refuses_unread}
-use Rattle.perf_records.proofs.Saying.{took_ran, quit_stopped}
+use Rattle.perf_records.proofs.LayoutResults.{took_ran, quit_stopped}
 use Rattle.perf_parser.specs.Frames.{parsed_parts}
 use Rattle.perf_parser.specs.ReaderState.{state_of}
 use Rattle.perf_parser.specs.declared.parser.Parser.{Parser}

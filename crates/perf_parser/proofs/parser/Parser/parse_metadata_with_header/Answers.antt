@@ -2,13 +2,13 @@ use Rattle.std.proofs.Common.{◌≡◌, Err, None, sym, subst}
 use Rattle.perf_base.specs.Errors.{kind_of}
 use Rattle.perf_base.specs.declared.error.ErrorKind.TheVariants.{OutOfMemory}
 use Rattle.perf_reader.specs.ReaderState.{ReaderState}
-use Rattle.perf_reader.proofs.Paying.{keeps_none}
+use Rattle.perf_reader.proofs.Calls.{keeps_none}
 use Rattle.perf_parser.specs.Calls.{Call}
 use Rattle.perf_parser.specs.Frames.{SplitsParser}
 use Rattle.perf_parser.specs.ReaderState.{state_of}
-use Rattle.perf_parser.proofs.Lifting.{answered, keeps_follows}
+use Rattle.perf_parser.proofs.ParserCalls.{answered, keeps_follows}
 use Rattle.perf_parser.proofs.Metadata.{split_parsed, split_unparsed, keeps_unparsed}
-use Rattle.perf_parser.proofs.Paying.{follows_more}
+use Rattle.perf_parser.proofs.Calls.{follows_more}
 use Rattle.perf_parser.proofs.parser.Parser.parse_metadata_with_header.Goals as goal
 
 -- the frame cannot be split

@@ -12,8 +12,8 @@ use Rattle.perf_records.specs.Bodies.{needs_memory}
 use Rattle.perf_records.specs.Records.{RecordValue}
 use Rattle.perf_records.specs.Gives.{GivesExactly}
 use Rattle.perf_records.proofs.Headers.{header_read, header_unread, tells_no_header, no_header_within, frame_within, refuses_read, refuses_unread}
-use Rattle.perf_records.proofs.Saying.{took_ran, quit_stopped}
-use Rattle.perf_records.proofs.Visiting.{visits_frame}
+use Rattle.perf_records.proofs.LayoutResults.{took_ran, quit_stopped}
+use Rattle.perf_records.proofs.BodyVisits.{visits_frame}
 use Rattle.perf_parser.specs.ReaderState.{state_of}
 use Rattle.perf_parser.proofs.parser.Parser.parse_record.Goals as goal
 

@@ -2,7 +2,7 @@ use Rattle.std.proofs.Common.{rules, ◌≡◌, ◌≤◌, length, List, [], ◌
 use Rattle.std.proofs.lemmas.List.{length-append}
 use Rattle.perf_parser.specs.Prelude.{ReaderState, state_of, kind_of}
 use Rattle.perf_parser.specs.Repeats.{Step, ParsesInTurn, StopsShort}
-use Rattle.perf_parser.proofs.Repeating.{step_of, runs_on, runs_follow, short_follows, only}
+use Rattle.perf_parser.proofs.Repeats.{step_of, runs_on, runs_follow, short_follows, only}
 use Rattle.perf_parser.proofs.parser.Parser.parse_repeated.Goals as goal
 
 pub returns-in-Err-parse-clause-err : goal.returns-in-Err-parse-clause-err

@@ -1,4 +1,4 @@
-use Rattle.perf_parser.proofs.Lifting.{lifted, answered}
+use Rattle.perf_parser.proofs.ParserCalls.{lifted, answered}
 use Rattle.perf_parser.proofs.parser.Parser.parse_rest.Goals as goal
 
 pub returns-in-Ok-clause-call : goal.returns-in-Ok-clause-call

@@ -6,12 +6,12 @@ use Rattle.perf_base.specs.declared.config.ParseConfig.{ParseConfig}
 use Rattle.perf_base.specs.declared.error.ErrorKind.{ErrorKind}
 use Rattle.perf_buffers.specs.declared.outer.Outer.{Outer}
 use Rattle.perf_reader.specs.ReaderState.{ReaderState, state_of}
-use Rattle.perf_reader.proofs.Paying.{keeps_none}
+use Rattle.perf_reader.proofs.Calls.{keeps_none}
 use Rattle.perf_parser.specs.Runs.{Pairs, RunInvariant, refused_count}
 use Rattle.perf_parser.specs.Steps.{ListsFirst, stopped_by}
-use Rattle.perf_parser.proofs.Ending.{stops_after, stops_spent, run_more, run_stops, run_lists, said_frame}
-use Rattle.perf_parser.proofs.Listing.{lists_more, listed_alone}
-use Rattle.perf_parser.proofs.Meeting.{looked_call, looked_stops}
+use Rattle.perf_parser.proofs.RunEnds.{stops_after, stops_spent, run_more, run_stops, run_lists, said_frame}
+use Rattle.perf_parser.proofs.Lists.{lists_more, listed_alone}
+use Rattle.perf_parser.proofs.Lookaheads.{looked_call, looked_stops}
 use Rattle.perf_parser.proofs.runs.ListingStepFrames.step.Goals as goal
 
 -- no capacity

@@ -1,6 +1,6 @@
 use Rattle.perf_buffers.specs.declared.outer.Outer.{Outer}
 use Rattle.perf_reader.specs.ReaderState.{ReaderState, state_of}
-use Rattle.perf_reader.proofs.Stopping.{stops_unshown}
+use Rattle.perf_reader.proofs.Stops.{stops_unshown}
 use Rattle.perf_reader.proofs.reader.Reader+Outer+B+E.next_header.Goals as goal
 
 pub returns-in-Err-clause-stop : goal.returns-in-Err-clause-stop

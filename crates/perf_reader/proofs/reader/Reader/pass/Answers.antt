@@ -2,7 +2,7 @@ use Rattle.std.proofs.Common.{Some, refl, arith}
 use Rattle.perf_base.specs.Refusals.{refusal_kind}
 use Rattle.perf_reader.specs.ReaderState.{ReaderState, state_of}
 use Rattle.perf_reader.proofs.AtOnce.{never_lacking, at_once_keeps}
-use Rattle.perf_reader.proofs.Paying.{array_keeps}
+use Rattle.perf_reader.proofs.Calls.{array_keeps}
 use Rattle.perf_reader.proofs.reader.Reader.pass.Goals as goal
 
 pub returns-in-Ok-clause-call : goal.returns-in-Ok-clause-call

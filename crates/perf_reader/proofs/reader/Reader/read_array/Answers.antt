@@ -1,7 +1,7 @@
 use Rattle.std.proofs.Common.{None, Some, refl}
 use Rattle.perf_base.specs.Refusals.{refusal_kind}
 use Rattle.perf_reader.specs.ReaderState.{ReaderState, state_of}
-use Rattle.perf_reader.proofs.Paying.{array_keeps}
+use Rattle.perf_reader.proofs.Calls.{array_keeps}
 use Rattle.perf_reader.proofs.Steps.{run_there, array_short}
 use Rattle.perf_reader.proofs.reader.Reader.read_array.Goals as goal
 

@@ -2,7 +2,7 @@ use Rattle.std.proofs.Common.{None, refl, ◌<◌, arith}
 use Rattle.std.proofs.lemmas.Bool.Decides.{nat_tests}
 use Rattle.perf_base.specs.Refusals.{refusal_kind}
 use Rattle.perf_reader.specs.ReaderState.{ReaderState, state_of}
-use Rattle.perf_reader.proofs.Paying.{array_keeps, kept_keeps}
+use Rattle.perf_reader.proofs.Calls.{array_keeps, kept_keeps}
 use Rattle.perf_reader.proofs.Steps.{run_there, kept_short}
 use Rattle.perf_reader.proofs.reader.Reader.read_bytes.Goals as goal
 

@@ -2,7 +2,7 @@ use Rattle.std.proofs.Common.{◌≡◌, ◌+◌, Some, refl, ap, arith}
 use Rattle.perf_base.specs.Refusals.{refusal_kind}
 use Rattle.perf_reader.specs.ReaderState.{ReaderState}
 use Rattle.perf_reader.proofs.HeaderAtOnce.{header_at_once, never_short, header_keeps}
-use Rattle.perf_reader.proofs.Paying.{array_keeps}
+use Rattle.perf_reader.proofs.Calls.{array_keeps}
 use Rattle.perf_reader.proofs.reader.Reader.read_header.Goals as goal
 
 pub returns-in-Err : goal.returns-in-Err

@@ -6,7 +6,7 @@ use Rattle.perf_base.specs.Header.{header_of}
 use Rattle.perf_base.specs.Order.{Order}
 use Rattle.perf_reader.specs.ReaderState.{ReaderState, state_of}
 use Rattle.perf_reader.proofs.HeaderAtOnce.{header_front}
-use Rattle.perf_reader.proofs.Stopping.{taken, stops_first, stops_others}
+use Rattle.perf_reader.proofs.Stops.{taken, stops_first, stops_others}
 use Rattle.perf_reader.proofs.reader.Reader.read_header_in_two.Goals as goal
 
 pub returns-in-Err-clause-stop : goal.returns-in-Err-clause-stop

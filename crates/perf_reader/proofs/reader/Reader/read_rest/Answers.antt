@@ -3,7 +3,7 @@ use Rattle.perf_base.specs.Cow.{cow_items}
 use Rattle.perf_base.specs.LayoutReads.{one_if_any}
 use Rattle.perf_base.specs.Refusals.{refusal_kind}
 use Rattle.perf_reader.specs.ReaderState.{ReaderState, state_of}
-use Rattle.perf_reader.proofs.Paying.{rest_keeps, rest_fails}
+use Rattle.perf_reader.proofs.Calls.{rest_keeps, rest_fails}
 use Rattle.perf_reader.proofs.Steps.{rest_taken, rest_refused}
 use Rattle.perf_reader.proofs.reader.Reader.read_rest.Goals as goal
 

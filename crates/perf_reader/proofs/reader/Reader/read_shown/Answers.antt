@@ -2,7 +2,7 @@ use Rattle.std.proofs.Common.{◌≡◌, ◌≤◌, ◌+◌, ◌*◌, ℕ, List,
 use Rattle.perf_base.specs.Refusals.{refusal_kind}
 use Rattle.perf_reader.specs.ReaderState.{ReaderState, state_of}
 use Rattle.perf_reader.proofs.AtHand.{never_short, block_keeps, shown_there}
-use Rattle.perf_reader.proofs.Paying.{array_keeps}
+use Rattle.perf_reader.proofs.Calls.{array_keeps}
 use Rattle.perf_reader.proofs.reader.Reader.read_shown.Goals as goal
 
 pub returns-in-Err-clause-refused : goal.returns-in-Err-clause-refused

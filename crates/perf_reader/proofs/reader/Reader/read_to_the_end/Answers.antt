@@ -1,7 +1,7 @@
 use Rattle.std.proofs.Common.{rules, ◌≡◌, ℕ, ◌+◌, ◌*◌, ◌/◌, ◌++◌, ◌∷◌, [], List, refl, ap, arith}
 use Rattle.perf_base.specs.Refusals.{refusal_kind}
 use Rattle.perf_reader.proofs.InRow.{InRow, row_none, row_cast, row_more, row_further}
-use Rattle.perf_reader.proofs.Lacking.{row_begins, row_breaks, row_lacks, row_waits}
+use Rattle.perf_reader.proofs.Shortages.{row_begins, row_breaks, row_lacks, row_waits}
 use Rattle.perf_reader.proofs.reader.Reader.read_to_the_end.Goals as goal
 use Rattle.perf_reader.proofs.reader.Reader.read_to_the_end.Goals.{in-Some+in_default-pass, in_default}
 

@@ -2,7 +2,7 @@ use Rattle.std.proofs.Common.{None, Some, refl, ◌<◌, arith}
 use Rattle.std.proofs.lemmas.Bool.Decides.{nat_tests}
 use Rattle.perf_base.specs.Refusals.{refusal_kind}
 use Rattle.perf_reader.specs.ReaderState.{ReaderState, state_of}
-use Rattle.perf_reader.proofs.Paying.{array_keeps}
+use Rattle.perf_reader.proofs.Calls.{array_keeps}
 use Rattle.perf_reader.proofs.ZeroTails.{zeros_none, zeros_there, others_there, zeros_short, tail_keeps}
 use Rattle.perf_reader.proofs.reader.Reader.read_zero_tail.Goals as goal
 

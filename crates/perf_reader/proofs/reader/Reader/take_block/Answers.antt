@@ -3,7 +3,7 @@ use Rattle.std.proofs.lemmas.List.{length-take-le}
 use Rattle.perf_base.specs.Refusals.{refusal_kind}
 use Rattle.perf_reader.specs.ReaderState.{ReaderState, state_of}
 use Rattle.perf_reader.proofs.AtHand.{never_short, block_keeps, block_there}
-use Rattle.perf_reader.proofs.Paying.{array_keeps}
+use Rattle.perf_reader.proofs.Calls.{array_keeps}
 use Rattle.perf_reader.proofs.reader.Reader.take_block.Goals as goal
 
 pub returns-in-Err-clause-call : goal.returns-in-Err-clause-call

@@ -1,6 +1,6 @@
 use Rattle.std.proofs.Common.{◌∙◌, sym, Ok, Err}
 use Rattle.perf_base.specs.Refusals.{refusal_kind}
-use Rattle.perf_records.proofs.Making.{boxed_body, boxed_visit, made_body, unboxed_body, unmade_body}
+use Rattle.perf_records.proofs.VisitedRecords.{boxed_body, boxed_visit, made_body, unboxed_body, unmade_body}
 use Rattle.perf_records.proofs.body_reader.AsRecordReadBodyUnit.read_body.Goals as goal
 
 pub returns-in-Ok-Ok : goal.returns-in-Ok-Ok

@@ -2,8 +2,8 @@ use Rattle.std.proofs.Common.{ap}
 use Rattle.perf_base.specs.Refusals.{kinds}
 use Rattle.perf_records.specs.RecordTypes.{type_of}
 use Rattle.perf_records.specs.Gives.{IsSampleIn}
-use Rattle.perf_records.proofs.Making.{placed_visit}
-use Rattle.perf_records.proofs.Visiting.{visits_type}
+use Rattle.perf_records.proofs.VisitedRecords.{placed_visit}
+use Rattle.perf_records.proofs.BodyVisits.{visits_type}
 use Rattle.perf_records.proofs.body_reader.IntoSampleReadBodySample.read_body.Goals as goal
 
 pub returns : goal.returns

@@ -15,9 +15,9 @@ use Rattle.perf_records.specs.Bodies.{needs_memory}
 use Rattle.perf_records.specs.Records.{record_value}
 use Rattle.perf_records.specs.declared.record.Record.{Record}
 use Rattle.perf_buffers.specs.declared.outer.Outer.{Outer}
-use Rattle.perf_records.proofs.Making.{body_transition, body_borrows_if}
+use Rattle.perf_records.proofs.VisitedRecords.{body_transition, body_borrows_if}
 use Rattle.perf_records.proofs.Headers.{header_read, header_unread, tells_frame, tells_no_header, no_header_within, frame_within, refuses_read, refuses_unread}
-use Rattle.perf_records.proofs.Saying.{took_ran, quit_stopped}
+use Rattle.perf_records.proofs.LayoutResults.{took_ran, quit_stopped}
 use Rattle.perf_records.proofs.frame_after.RecordReadFromOuter.read.Goals as goal
 
 -- the header was refused

@@ -11,11 +11,11 @@ use Rattle.perf_reader.specs.ReaderState.{ReaderState}
 use Rattle.perf_reader.specs.Reading.{Transition, CallInvariant}
 use Rattle.perf_reader.specs.Calls as reader_calls
 use Rattle.perf_reader.specs.declared.reader.Reader.{Reader}
-use Rattle.perf_reader.proofs.Paying.{keeps_none}
+use Rattle.perf_reader.proofs.Calls.{keeps_none}
 use Rattle.perf_parser.specs.ReaderState.{reader_of, buffer_of, config_of, reads_of, state_of}
 use Rattle.perf_parser.specs.Calls.{BasicInvariant, Call}
 use Rattle.perf_parser.specs.declared.parser.Parser.{Parser}
-use Rattle.perf_parser.proofs.Paying.{follows_more}
+use Rattle.perf_parser.proofs.Calls.{follows_more}
 
 -- what was kept is followed
 pub keeps_follows : (start new : ReaderState) (e : Option ErrorKind) → CallInvariant start e new → BasicInvariant start new

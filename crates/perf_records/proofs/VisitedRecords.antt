@@ -25,9 +25,9 @@ use Rattle.perf_sample_types.specs.SampleEmpty.{fill_result}
 use Rattle.perf_sample_types.specs.SampleBoxed.{boxed_value, IsBorrowedBox}
 use Rattle.perf_sample_types.specs.SampleGroups.{IsBorrowedSample}
 use Rattle.perf_reader.specs.TableRuns.{ReadsBorrowed}
-use Rattle.perf_records.proofs.Lending.{sample_borrowed, borrowed_sample}
-use Rattle.perf_records.proofs.Seeing.{visited, unvisited, of_said}
-use Rattle.perf_records.proofs.Visiting.{visits_type}
+use Rattle.perf_records.proofs.BorrowedValues.{sample_borrowed, borrowed_sample}
+use Rattle.perf_records.proofs.TypeVisits.{visited, unvisited, of_said}
+use Rattle.perf_records.proofs.BodyVisits.{visits_type}
 use Rattle.std.specs.Prelude.{Box}
 use Rattle.std.specs.declared.alloc.Global.{Global}
 use Rattle.perf_records.specs.declared.record.Record.{Record}

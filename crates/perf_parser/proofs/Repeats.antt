@@ -12,7 +12,7 @@ use Rattle.perf_parser.specs.ReaderState.{config_of, state_of}
 use Rattle.perf_parser.specs.Calls.{BasicInvariant, Counts, CallAs, CallOnly}
 use Rattle.perf_parser.specs.Repeats.{Step, ParsesInTurn, StopsShort}
 use Rattle.perf_parser.specs.declared.parser.Parser.{Parser}
-use Rattle.perf_parser.proofs.Paying.{follows_none, follows_more}
+use Rattle.perf_parser.proofs.Calls.{follows_none, follows_more}
 
 -- a call is a step
 pub step_of : {B E X : Type 0} (source : B → Source) (order : E → Order) (transition : Transition X) (counts : Counts) (old new : Parser B E) (outcome : Result X ErrorKind) →

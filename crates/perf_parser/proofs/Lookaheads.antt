@@ -13,7 +13,7 @@ use Rattle.perf_reader.specs.Calls.{Call}
 use Rattle.perf_reader.specs.ReaderState.{ReaderState, state_of}
 use Rattle.perf_reader.specs.Reading.{last_of}
 use Rattle.perf_reader.specs.declared.reader.Reader.{Reader}
-use Rattle.perf_reader.proofs.Paying.{last_all}
+use Rattle.perf_reader.proofs.Calls.{last_all}
 use Rattle.perf_parser.specs.Runs.{MovesWithinFrame}
 use Rattle.perf_parser.specs.Steps.{ReadsHeader, StopsAt, TakesNothing}
 use Rattle.perf_reader.specs.declared.header.Stop.{Stop}

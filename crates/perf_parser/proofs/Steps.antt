@@ -14,8 +14,8 @@ use Rattle.perf_parser.specs.FrameRuns.{went_on}
 use Rattle.perf_parser.specs.Steps.{StepKind, HasTaken, TakesNext, TakesStep, TakesSteps, IsEndOf, reads_of_first}
 use Rattle.perf_parser.specs.declared.runs.RunEnd.{RunEnd}
 use Rattle.perf_parser.specs.declared.runs.RunEnd.TheVariants as end
-use Rattle.perf_parser.proofs.Ending.{run_none, run_ends, run_limit, run_limit_back, end_kind}
-use Rattle.perf_parser.proofs.Listing.{one_frame_more, after_on, ends_with, ends_between, counts_more}
+use Rattle.perf_parser.proofs.RunEnds.{run_none, run_ends, run_limit, run_limit_back, end_kind}
+use Rattle.perf_parser.proofs.Lists.{one_frame_more, after_on, ends_with, ends_between, counts_more}
 
 module _ {S : Type 0} (kind : StepKind S) (start : ReaderState) where
   -- before the first step

@@ -24,7 +24,7 @@ use Rattle.perf_parser.specs.Steps.{StopsAt, StopsBetween, IsEndOf, IsAfter, Ste
 use Rattle.perf_parser.specs.declared.runs.RunEnd.{RunEnd}
 use Rattle.perf_reader.specs.declared.header.Stop.{Stop}
 use Rattle.perf_reader.specs.declared.header.Stop.TheVariants as stop
-use Rattle.perf_parser.proofs.Ending.{end_kind}
+use Rattle.perf_parser.proofs.RunEnds.{end_kind}
 
 pub one_more_borrowed : (pairs : Pairs) (h : perf_event_header) (r : Result Record ParseError) → AllBorrowed pairs → IsBorrowedAnswer r → AllBorrowed (pairs ++ (h, r) ∷ [])
 one_more_borrowed [] h r p q = (q, tt)

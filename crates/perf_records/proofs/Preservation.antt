@@ -8,7 +8,7 @@ use Rattle.perf_buffers.specs.Buffer.{Source, BufferInvariant}
 use Rattle.perf_buffers.specs.Taking.{bytes_between, Moves, MovesWithin, Takes, FailsToKeep}
 use Rattle.perf_reader.specs.ReaderState.{ReaderState}
 use Rattle.perf_reader.specs.Reading.{CallInvariant, is_external, of_layout, one_if_refused}
-use Rattle.perf_reader.proofs.Paying.{last_moved}
+use Rattle.perf_reader.proofs.Calls.{last_moved}
 
 -- k reads, and some bytes that pay for them
 pub moved_keeps : (old new : ReaderState) (e : Option ErrorKind) (k : ℕ) → new.reads ≡ old.reads + k → BufferInvariant old.source e new.source → (is_external e ≡ true → IsTrue old.source.can_fault) →

@@ -19,7 +19,7 @@ use Rattle.perf_reader.specs.declared.reader.Reader.{Reader}
 use Rattle.perf_records.specs.RecordTypes.{type_of}
 use Rattle.perf_records.specs.declared.record_type.RecordType.{RecordType}
 use Rattle.perf_records.specs.Gives.{Event, GivesOf, GivesBody, GivesWholeBody, GivesExactly}
-use Rattle.perf_records.proofs.Saying.{took_says, quit_says}
+use Rattle.perf_records.proofs.LayoutResults.{took_result, quit_result}
 use Rattle.perf_records.proofs.Headers.{tells_frame, frame_whole}
 
 -- the visit of a type, if that is the one given by the metadata
@@ -32,10 +32,10 @@ pub visits_all : {O : Type 0} (gives : Event → O → Type 0) (m : MetadataValu
     old.reads ≡ 0 → (IsTrue from → IsTrue old.source.whole) → GivesBody gives m old outcome new →
     GivesWholeBody gives m old.order (body old.settings m.ty) old.source.left from outcome new.reads
 visits_all gives m (Ok output) old new from none lends v =
-    let s = took_says old.order (body old.settings m.ty) old.source.left new.source.left old.reads new.reads v.0 v.3 in
+    let s = took_result old.order (body old.settings m.ty) old.source.left new.source.left old.reads new.reads v.0 v.3 in
     (v.0, v.1, v.2, s.0, omega (arith, none, s.2), (λ is. v.4 (lends is)), v.5)
 visits_all gives m (Err e) old new from none lends v = (
-  (λ kind. let s = quit_says old.order (body old.settings m.ty) old.source.left new.source.left old.reads new.reads e (v.0 kind) in (s.0, omega (arith, none, s.1))),
+  (λ kind. let s = quit_result old.order (body old.settings m.ty) old.source.left new.source.left old.reads new.reads e (v.0 kind) in (s.0, omega (arith, none, s.1))),
   (λ is. v.1 (lends is)),
 )
 

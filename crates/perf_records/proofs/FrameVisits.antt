@@ -17,7 +17,7 @@ use Rattle.perf_records.specs.Bodies.{body, needs_memory}
 use Rattle.perf_records.specs.Metadata.{MetadataValue}
 use Rattle.perf_records.specs.Records.{RecordValue}
 use Rattle.perf_records.specs.Gives.{Event, event, GivesWholeBody, GivesFrameAfter, BelongsTo}
-use Rattle.perf_records.proofs.Keeping.{no_fault, stays_refused}
+use Rattle.perf_records.proofs.Preservation.{no_fault, stays_refused}
 
 -- what is known of an output, by the visit of the body
 pub belongs : {O : Type 0} (gives : Event → O → Type 0) (h : perf_event_header) (whole from : Bool) (m : MetadataValue) (o : Order) (p : Parts RecordValue) (bytes : List ℕ) (k : ℕ) (result : Result O Refusal) →

@@ -8,15 +8,15 @@ use Rattle.perf_base.specs.Configuration.{Configuration}
 use Rattle.perf_base.specs.Order.{Order}
 use Rattle.perf_buffers.specs.Buffer.{Source}
 use Rattle.perf_buffers.specs.Taking.{Moves}
-use Rattle.perf_buffers.proofs.Taking.{takes_moves}
-use Rattle.perf_records.proofs.Keeping.{within_all}
+use Rattle.perf_buffers.proofs.Takes.{takes_moves}
+use Rattle.perf_records.proofs.Preservation.{within_all}
 use Rattle.perf_reader.specs.ReaderState.{ReaderState}
 use Rattle.perf_records.specs.Frames.{frame_length, first_frames}
 use Rattle.perf_records.specs.Sights.{Sight, sight_in}
-use Rattle.perf_records.proofs.Handing.{sight_alone}
+use Rattle.perf_records.proofs.Handovers.{sight_alone}
 use Rattle.perf_parser.specs.FrameRuns.{Handed}
 use Rattle.perf_parser.specs.Steps.{StepKind, HasTaken}
-use Rattle.perf_parser.proofs.Listing.{one_frame_more}
+use Rattle.perf_parser.proofs.Lists.{one_frame_more}
 
 -- bytes that were dropped were taken from the front
 pub moved_by : (n : ℕ) (old new : Source) → new.left ≡ drop n old.left → Moves old new

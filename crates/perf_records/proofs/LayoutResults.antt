@@ -28,17 +28,17 @@ stopped_of : {A : Type 0} (f : Option ErrorKind) (v : A) (e : ErrorKind) (there 
 stopped_of None v e there back left k m h = absurd (cc)
 stopped_of (Some e') v e there back left k m h = (cc, cc, cc)
 
-pub took_says : {A : Type 0} (o : Order) (p : Parts A) (body left : List ℕ) (n m : ℕ) (v : A) → took_by_places o p body n ≡ took v left m →
+pub took_result : {A : Type 0} (o : Order) (p : Parts A) (body left : List ℕ) (n m : ℕ) (v : A) → took_by_places o p body n ≡ took v left m →
     (layout o p body ≡ Ok v) × (v ≡ value o body 0 p) × (m ≡ n + layout_reads o p body)
 unfolding took_by_places
-took_says o p body left n m v h =
+took_result o p body left n m v h =
     let s = ran_of (first_refusal (length body) (spots o body 0 p)) (value o body 0 p) v (drop (ending o body 0 p) body) (left_at body (spots o body 0 p)) left (n + layout_reads o p body) m h in
     (s.0, s.1, s.3)
 
-pub quit_says : {A : Type 0} (o : Order) (p : Parts A) (body left : List ℕ) (n m : ℕ) (e : ErrorKind) → took_by_places o p body n ≡ quit e left m →
+pub quit_result : {A : Type 0} (o : Order) (p : Parts A) (body left : List ℕ) (n m : ℕ) (e : ErrorKind) → took_by_places o p body n ≡ quit e left m →
     (layout o p body ≡ Err e) × (m ≡ n + layout_reads o p body)
 unfolding took_by_places
-quit_says o p body left n m e h =
+quit_result o p body left n m e h =
     let s = stopped_of (first_refusal (length body) (spots o body 0 p)) (value o body 0 p) e (drop (ending o body 0 p) body) (left_at body (spots o body 0 p)) left (n + layout_reads o p body) m h in
     (s.0, s.2)
 

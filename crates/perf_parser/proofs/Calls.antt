@@ -2,7 +2,7 @@
 use Rattle.std.proofs.Common.{length, refl, sym, ◌∙◌, ap, arith}
 use Rattle.perf_reader.specs.ReaderState.{ReaderState}
 use Rattle.perf_reader.specs.Reading.{last_of}
-use Rattle.perf_reader.proofs.Paying.{last_all, last_last, keeps_none}
+use Rattle.perf_reader.proofs.Calls.{last_all, last_last, keeps_none}
 use Rattle.perf_parser.specs.Calls.{BasicInvariant}
 use Rattle.perf_base.proofs.Took.{places_took}
 

@@ -3,7 +3,7 @@ use Rattle.std.proofs.Common.{◌≡◌, ℕ, ◌+◌, ◌-◌, ◌≤◌, ◌<�
 use Rattle.std.proofs.lemmas.List.{drop-drop, drop_all}
 use Rattle.perf_buffers.specs.Buffer.{Source}
 use Rattle.perf_buffers.specs.Taking.{Moves, MovesWithin, Takes, FailsToTake, FailsToKeep, FailsInRest, CanFail}
-use Rattle.perf_buffers.proofs.Taking.{takes_moves}
+use Rattle.perf_buffers.proofs.Takes.{takes_moves}
 use Rattle.std.specs.Prelude.{true}
 use Rattle.perf_base.specs.declared.error.ErrorKind.TheVariants.{Eof, InvalidRecord, UnsupportedConfig, UnsupportedData, External, OutOfMemory}
 use Rattle.perf_base.proofs.Took.{places_took}

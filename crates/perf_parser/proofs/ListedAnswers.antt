@@ -19,7 +19,7 @@ use Rattle.perf_records.specs.Records.{IsBorrowed}
 use Rattle.perf_records.specs.declared.record.Record.{Record}
 use Rattle.perf_parser.specs.Runs.{Pairs, ReadsFrameAfter, length_after}
 use Rattle.perf_parser.specs.Steps.{ListsFrame, ListsRefused}
-use Rattle.perf_parser.proofs.Ending.{same_call}
+use Rattle.perf_parser.proofs.RunEnds.{same_call}
 
 module _ {B E : Type 0} (source : B → Source) (hint : B → Option ℕ) (order : E → Order) (h : perf_event_header) (old mid : Reader (Outer B) E) (was now : Pairs)
     (within : IsTrue (source (buffer_of old)).told → MovesWithin (source (buffer_of old)) (length_after h) (source (buffer_of mid))) where

@@ -19,8 +19,8 @@ use Rattle.perf_reader.specs.ReaderState.{ReaderState}
 use Rattle.perf_reader.specs.declared.reader.Reader.{Reader}
 use Rattle.perf_reader.specs.Calls.{Call}
 use Rattle.perf_reader.specs.Reading.{Transition, CallInvariant, of_layout, one_if_refused, last_of}
-use Rattle.perf_reader.proofs.Paying.{last_all, last_last}
-use Rattle.perf_reader.proofs.Stopping.{leaves, within_more}
+use Rattle.perf_reader.proofs.Calls.{last_all, last_last}
+use Rattle.perf_reader.proofs.Stops.{leaves, within_more}
 use Rattle.perf_records.specs.Answers.{ReadsFrameAfter, length_after, answer_after, answer_of_frame, reads_after}
 use Rattle.perf_records.specs.Frames.{frame_length}
 use Rattle.perf_records.specs.declared.record.Record.{Record}

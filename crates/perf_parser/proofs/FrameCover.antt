@@ -4,7 +4,7 @@ use Rattle.std.proofs.lemmas.List.{append_assoc, take-append-drop}
 use Rattle.perf_base.specs.Order.{Order}
 use Rattle.perf_records.specs.Frames.{frame_length, first_frames, drop_frames}
 use Rattle.perf_records.proofs.FrameList.{frames_first}
-use Rattle.perf_parser.proofs.Listing.{AreThere, there_fits, there_next}
+use Rattle.perf_parser.proofs.Lists.{AreThere, there_fits, there_next}
 
 abbrev in_a_row : List (List ℕ) → List ℕ
 in_a_row [] = []

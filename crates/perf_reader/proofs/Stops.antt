@@ -11,13 +11,13 @@ use Rattle.perf_base.specs.declared.error.ErrorKind.TheVariants.{Eof, InvalidRec
 use Rattle.perf_base.specs.declared.refusal.Refusal.{Refusal}
 use Rattle.perf_buffers.specs.Buffer.{Source, Refuses}
 use Rattle.perf_buffers.specs.Taking.{MovesWithin, Takes}
-use Rattle.perf_buffers.proofs.Taking.{moves_more}
+use Rattle.perf_buffers.proofs.Takes.{moves_more}
 use Rattle.perf_reader.specs.Headers.{frame_length, MovesWithinFrame, StopsAt}
 use Rattle.perf_reader.specs.ReaderState.{ReaderState}
 use Rattle.perf_reader.specs.Reading.{of_layout, last_of}
 use Rattle.perf_reader.specs.declared.header.Stop.{Stop}
 use Rattle.perf_reader.specs.declared.header.Stop.TheVariants as stop
-use Rattle.perf_reader.proofs.Paying.{last_moved, last_all, within_taken}
+use Rattle.perf_reader.proofs.Calls.{last_moved, last_all, within_taken}
 use Rattle.perf_reader.proofs.Steps.{run_there, run_short}
 
 -- ---- bytes of a header
