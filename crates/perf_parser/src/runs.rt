@@ -12,7 +12,7 @@ ghost use Rattle.perf_reader.specs.Prelude as prelude;
 use crate::parser::Parser;
 use crate::steps::{Step, run_steps};
 use perf_base::sys::{PERF_RECORD_SAMPLE, perf_event_header};
-use perf_base::{Endian, ErrorKind, ParseError, ParseResult, ReadCounter, ReadResult, Refusal};
+use perf_base::{Endian, ParseError, ParseResult, ReadCounter, ReadResult, Refusal};
 use perf_buffers::outer::Outer;
 use perf_buffers::parsebuf::ParseBuf;
 use perf_reader::header::{Stop, stop_at};
@@ -89,17 +89,12 @@ fn list_refused<'p, B: ParseBuf<'p>, E: Endian>(
         list_short(frames, header);
         return Ok(());
     }
-    match refusal.kind() {
-        ErrorKind::External | ErrorKind::OutOfMemory => Err(refusal),
-        ErrorKind::Eof
-        | ErrorKind::InvalidRecord
-        | ErrorKind::UnsupportedConfig
-        | ErrorKind::UnsupportedData => {
-            let error = reader.error_of(refusal);
-            frames.push_reserved((header, Err(error)));
-            Ok(())
-        }
+    if !refusal.kind().is_of_layout() {
+        return Err(refusal);
     }
+    let error = reader.error_of(refusal);
+    frames.push_reserved((header, Err(error)));
+    Ok(())
 }
 
 // Lists a record in capacity that was reserved. It is not inlined, so that the place for its
