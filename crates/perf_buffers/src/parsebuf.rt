@@ -4,7 +4,7 @@ ghost use Rattle.std.specs.Prelude.{◌≡◌, ℕ, ◌≤◌, true, false, None
 ghost use Rattle.std.specs.Prelude.{Option, IfOk, IfErr, IfSome, ◌<◌, OnOk, IsOk, IsSome, take};
 ghost use Rattle.perf_buffers.specs.Prelude.{sem, Rests, kind_of, Source, Shows, ShowsReady, Refuses};
 ghost use Rattle.perf_buffers.specs.Prelude.{KeepsChunk, Advances, chunk_bytes, chunk_is_borrowed, known_bytes};
-ghost use Rattle.perf_buffers.specs.Prelude.{is_known};
+ghost use Rattle.perf_buffers.specs.Prelude.{has_known_bytes};
 ghost use Rattle.perf_buffers.specs.Prelude.{RefusesReader, reader_remaining, reader_buffer};
 
 use perf_base::{ErrorKind, ParseError, ParseResult};
@@ -131,7 +131,7 @@ fn read_more<R: Read>(reader: &mut BufReader<R>) -> io::Result<bool>
     ensures some { result ≡ Ok true → 0 < length (reader_buffer reader.new) }
     ensures none { result ≡ Ok false →
         RefusesReader (reader_remaining R.remaining reader.old) ErrorKind.Eof }
-    ensures kept { IsTrue (is_known (reader_remaining R.remaining reader.old)) →
+    ensures kept { IsTrue (has_known_bytes (reader_remaining R.remaining reader.old)) →
         reader_remaining R.remaining reader.new ≡ reader_remaining R.remaining reader.old }
 {
     if let Err(error) = reader.fill_buf() {
@@ -146,7 +146,7 @@ fn read_ahead<R: Read>(reader: &mut BufReader<R>) -> ParseResult<()>
     ensures ready { 0 < length (reader_buffer reader.old) →
         OnOk result (reader_buffer reader.new ≡ reader_buffer reader.old) × IsOk result }
     ensures some { OnOk result (0 < length (reader_buffer reader.new)) }
-    ensures kept { IsTrue (is_known (reader_remaining R.remaining reader.old)) →
+    ensures kept { IsTrue (has_known_bytes (reader_remaining R.remaining reader.old)) →
         reader_remaining R.remaining reader.new ≡ reader_remaining R.remaining reader.old }
     ensures refuses { IfErr
         result (λ e. RefusesReader (reader_remaining R.remaining reader.old) (kind_of e)) }
@@ -166,7 +166,7 @@ fn read_ahead<R: Read>(reader: &mut BufReader<R>) -> ParseResult<()>
 impl<'p, R: Read> ParseBuf<'p> for BufReader<R> {
     ghost source = { λ s. record {
       left = known_bytes (reader_remaining R.remaining s);
-      told = is_known (reader_remaining R.remaining s);
+      told = has_known_bytes (reader_remaining R.remaining s);
       whole = false;
       can_fault = true;
       faults = None;

@@ -15,7 +15,7 @@ use Rattle.perf_reader.proofs.AtOnce.{in_front}
 use Rattle.perf_sample_types.proofs.Flags.{only_flag}
 use Rattle.perf_sample_types.specs.Sample.{FieldValue, number_is, task_is, Field, SampleValue, plain, task, cpu, at_flag, is_present, settings_of, fields_under, sample_fields, sample}
 use Rattle.perf_sample_types.specs.SampleGetters.{field_at, number_in}
-use Rattle.perf_sample_types.specs.SampleGetters.{pid_in as task_pid, tid_in as task_tid}
+use Rattle.perf_sample_types.specs.SampleGetters.{pid_of_task, tid_of_task}
 use Rattle.perf_sample_types.specs.SampleId.{one_if, first_of}
 use Rattle.perf_words.specs.Bits.{has_bit}
 use Rattle.perf_records.specs.Bodies.{body}
@@ -168,11 +168,11 @@ number_of : (f : List ℕ → ℕ) (x : Option (List ℕ)) → number_in (option
 number_of f (Some x) = refl
 number_of f None = refl
 
-pid_of : (o : Order) (x : Option (List ℕ)) → task_pid (option_map (λ bytes. task_is (Some (first_half o bytes)) (Some (second_half o bytes))) x) ≡ option_map (first_half o) x
+pid_of : (o : Order) (x : Option (List ℕ)) → pid_of_task (option_map (λ bytes. task_is (Some (first_half o bytes)) (Some (second_half o bytes))) x) ≡ option_map (first_half o) x
 pid_of o (Some x) = refl
 pid_of o None = refl
 
-tid_of : (o : Order) (x : Option (List ℕ)) → task_tid (option_map (λ bytes. task_is (Some (first_half o bytes)) (Some (second_half o bytes))) x) ≡ option_map (second_half o) x
+tid_of : (o : Order) (x : Option (List ℕ)) → tid_of_task (option_map (λ bytes. task_is (Some (first_half o bytes)) (Some (second_half o bytes))) x) ≡ option_map (second_half o) x
 tid_of o (Some x) = refl
 tid_of o None = refl
 
@@ -202,19 +202,19 @@ sample_time o c bytes s made =
     ∙ number_of o.eight _ ∙ simp only_flag
 
 pub sample_pid_is : (o : Order) (c : Configuration) (bytes : List ℕ) (s : SampleValue) → Made o c bytes s →
-    task_pid (field_at s 2) ≡ option_map (first_half o) (if has_bit c.sample_type 1 then eight_at bytes (bytes_of c.sample_type task_field.in_sample) else None)
+    pid_of_task (field_at s 2) ≡ option_map (first_half o) (if has_bit c.sample_type 1 then eight_at bytes (bytes_of c.sample_type task_field.in_sample) else None)
 unfolding sample AllEight
 sample_pid_is o c bytes s made =
     let p = eight_plain o in
-    ap task_pid ((field_transition o c task_front (at_flag 1 task) (drop 3 sample_fields) _ ((_, p), ((_, p), tt)) (eight_task o) bytes s made.0 made.1).0)
+    ap pid_of_task ((field_transition o c task_front (at_flag 1 task) (drop 3 sample_fields) _ ((_, p), ((_, p), tt)) (eight_task o) bytes s made.0 made.1).0)
     ∙ pid_of o _ ∙ simp only_flag
 
 pub sample_tid_is : (o : Order) (c : Configuration) (bytes : List ℕ) (s : SampleValue) → Made o c bytes s →
-    task_tid (field_at s 2) ≡ option_map (second_half o) (if has_bit c.sample_type 1 then eight_at bytes (bytes_of c.sample_type task_field.in_sample) else None)
+    tid_of_task (field_at s 2) ≡ option_map (second_half o) (if has_bit c.sample_type 1 then eight_at bytes (bytes_of c.sample_type task_field.in_sample) else None)
 unfolding sample AllEight
 sample_tid_is o c bytes s made =
     let p = eight_plain o in
-    ap task_tid ((field_transition o c task_front (at_flag 1 task) (drop 3 sample_fields) _ ((_, p), ((_, p), tt)) (eight_task o) bytes s made.0 made.1).0)
+    ap tid_of_task ((field_transition o c task_front (at_flag 1 task) (drop 3 sample_fields) _ ((_, p), ((_, p), tt)) (eight_task o) bytes s made.0 made.1).0)
     ∙ tid_of o _ ∙ simp only_flag
 
 pub sample_cpu : (o : Order) (c : Configuration) (bytes : List ℕ) (s : SampleValue) → Made o c bytes s →
