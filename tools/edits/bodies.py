@@ -46,10 +46,8 @@ class Log:
             return it.read()
 
     def functions(self, crate):
-        """The functions of a crate that it names as proved, with those that do not stand in the source, such as how a type
-        is dropped. (A closure is left out: it is proved with its function.)"""
-        names = re.findall(rf"^fn {crate}::(\S+): proved$", self.text(), re.MULTILINE) if self.path else []
-        return {it for it in names if "fn" not in it.split("::")}
+        """The functions of a crate that it names as proved."""
+        return set(re.findall(rf"^fn {crate}::(\S+): proved$", self.text(), re.MULTILINE)) if self.path else set()
 
 
 class Run:

@@ -21,7 +21,7 @@ NAMES = re.compile(r"has no field|is not in scope|has no `|was not admitted|\(ne
 # What it reports of a text that it cannot read, or compile, and of a proof of no function.
 UNREAD = re.compile(r"(?:\./)?src/\S+?:\d+:\d+: error: [^`].*")
 PLACE = re.compile(r"(?:\./)?(src/\S+?):(\d+):\d+: error")
-NO_PROOF = re.compile(r"\./proofs/(\S+)/Proof\.antt: error: ")
+NO_PROOF = re.compile(r"\./proofs/(\S+)/Proof\.antt: error(?:\[reserved-name\])?: ")
 # Its last line, and what it says of a function that is proved, if what it calls is.
 ENDED = re.compile(r"only=\d+ holes=\d+")
 HOLDS = re.compile(r"no holes|depends on a hole in|proved$")
@@ -53,6 +53,11 @@ def is_refused(name, output):
     return False
 
 
+def has_proof(name):
+    """Whether a function can have a file of proof: how a type is dropped has none, and a closure has it with its function."""
+    return "+Destruct" not in name and "fn" not in name.split("::")
+
+
 def free_memory():
     """How many GB of memory are free."""
     with open("/proc/meminfo", encoding="ascii") as it:
@@ -66,7 +71,8 @@ class Trial:
         crate = crate_of(run.rtlib, str(run.top), name)
         self.name, self.folder, self.source, self.whole = name, Path(room) / "crate", Path(crate.folder), run
         # the functions that count as proved, and other names that have no proof
-        self.functions, self.unknown = functions_of(self.source) | run.log.functions(name), set()
+        self.functions = functions_of(self.source) | {it for it in run.log.functions(name) if has_proof(it)}
+        self.unknown = set()
         self.proofs = self.source / "proofs"
         self.command = [run.rtlib.RATTLE, "check", *crate.words(["--jobs", "1"], keeps=False), "--allow-holes"]
         self.command += ["--incremental", f"{room}/kept"]
@@ -96,7 +102,7 @@ class Trial:
 
     def check(self, texts, places):
         """What the prover prints of the functions of these bodies, in lines. Other functions count as proved, and from the
-        next check on also those that it names and that do not stand in the source, such as how a type is dropped."""
+        next check on also those that it names otherwise than the source."""
         output = self.run_prover(texts, places)
         # (some of a trait's, say, have no proof of that name)
         unknown = {found[1].replace("/", "::") for found in map(NO_PROOF.match, output) if found}
@@ -106,8 +112,7 @@ class Trial:
             output = self.run_prover(texts, places)
         tried = {it for place in places for it in place.functions}
         named = {found[1] for found in map(FUNCTION_LINE.match, output) if found and HOLDS.match(found[2])}
-        # (a closure is proved with its function)
-        self.functions |= {it for it in named - tried - self.unknown if "fn" not in it.split("::")}
+        self.functions |= {it for it in named - tried - self.unknown if has_proof(it)}
         return output
 
     def run_prover(self, texts, places):
