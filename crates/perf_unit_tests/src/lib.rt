@@ -58,6 +58,8 @@ mod reader_lengths;
 #[cfg(test)]
 mod reads;
 #[cfg(test)]
+mod reasons;
+#[cfg(test)]
 mod records;
 #[cfg(test)]
 mod rooms;
