@@ -35,19 +35,13 @@ def place_of(body, text):
         return Place(body)
     copy = "\n".join(text.split("\n")[body.first - 1 : body.last])
     for path, old, new in body.pairs:
-        if path != body.path or copy.count(old) != 1 or FUNCTION.search(new):
+        if path != body.path or copy.count(old) != 1 or FUNCTION.search(new) or "*/" in new:
             return Place(body)
         copy = copy.replace(old, new)
     name = names[0].split("::")[-1]
     copy, count = re.subn(rf"\bfn {name}\b", f"fn {name}{suffix(body)}", copy)
-    code = re.sub(r"/\*.*?\*/", "", copy, flags=re.DOTALL)
-    is_whole = count == 1 and all(code.count(it[0]) == code.count(it[1]) for it in ("{}", "()", "[]"))
+    is_whole = count == 1 and all(copy.count(it[0]) == copy.count(it[1]) for it in ("{}", "()", "[]"))
     return Place(body, copy.split("\n") if is_whole else None)
-
-
-def hides(body):
-    """Whether a body hides the rest of its function in a comment, as one that calls the function itself for that does."""
-    return any(new.endswith("/*") for _, _, new in body.pairs)
 
 
 def insert(text, places):
@@ -65,10 +59,10 @@ def insert(text, places):
 
 
 def copy_proof(place, proofs):
-    """Gives a copy the files of its function's proof, with its own name in them: none if it hides what they prove."""
+    """Gives a copy the files of its function's proof, with its own name in them."""
     whole = place.body.functions()[0]
     folder, name = proofs / whole.replace("::", "/"), whole.split("::")[-1]
-    if not folder.is_dir() or hides(place.body):
+    if not folder.is_dir():
         return
     copied = folder.with_name(name + suffix(place.body))
     shutil.copytree(folder, copied)

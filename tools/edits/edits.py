@@ -18,12 +18,14 @@ class Body:
         # the functions of its file, the traits of its crate, and the module of its type
         self.known, self.traits, self.home = set(), set(), None
         self.told, self.why, self.tries, self.number, self.is_declared = "", "", 0, 0, False
-        self.is_copied = True
+        self.is_copied, self.is_in_macro = True, False
 
     def place(self, lines):
         """Finds the function around the edited line, and the type whose impl contains it."""
         starts = [at for at, text in enumerate(lines, 1) if is_function(text)]
         self.text = lines[self.line - 1]
+        ends = [it for it in lines[: self.line] if it.startswith(("macro_rules!", "}"))]
+        self.is_in_macro = bool(ends) and ends[-1].startswith("macro_rules!")
         before = [at for at in starts if at <= self.line and begins(lines[at - 1])]
         after = min([at for at in starts if at > self.line], default=len(lines) + 1)
         own, end = max(before, default=0), item_start(lines, after) - 1
@@ -59,8 +61,9 @@ class Body:
         return name in self.names and "::".join(around) == module_of(self.path)
 
     def is_apart(self):
-        """Whether it is in no function, as a flag's number is, or in several: it is refused where the edit states."""
-        return self.is_whole or self.names == ["?"]
+        """Whether it is in no function, as a flag's number is, or in several, but in no macro that makes the functions
+        which the edit names: it is refused there."""
+        return self.is_whole or self.names == ["?"] and not (self.is_in_macro and self.at)
 
 
 def module_of(path):

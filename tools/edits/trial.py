@@ -54,7 +54,7 @@ def is_refused(name, output):
 
 
 def has_proof(name):
-    """Whether a function can have a file of proof: how a type is dropped has none, and a closure has it with its function."""
+    """Whether a function can have a file of proof: how a type is dropped has none, and a closure's is its function's."""
     return "+Destruct" not in name and "fn" not in name.split("::")
 
 
@@ -90,11 +90,12 @@ class Trial:
             if place.lines is None:
                 for path, old, new in body.pairs:
                     changed[path] = changed[path].replace(old, new) if changed[path].count(old) == 1 else ""
-            fits = place.lines is not None or all(changed.values()) and (body.path, body.first) not in taken
+            own = {(body.path, body.first), *place.functions} if place.lines is None else set()
+            fits = place.lines is not None or all(changed.values()) and not own & taken
             if fits and body.is_apart() == (places[0].body if places else body).is_apart():
                 texts.update(changed)
                 places.append(place)
-                taken.update([] if place.lines is not None else [(body.path, body.first)])
+                taken |= own
         return {path: insert(text, [it for it in places if it.path == path]) for path, text in texts.items()}, places
 
     def text(self, path, texts):
@@ -103,13 +104,13 @@ class Trial:
     def check(self, texts, places):
         """What the prover prints of the functions of these bodies, in lines. Other functions count as proved, and from the
         next check on also those that it names otherwise than the source."""
-        output = self.run_prover(texts, places)
-        # (some of a trait's, say, have no proof of that name)
-        unknown = {found[1].replace("/", "::") for found in map(NO_PROOF.match, output) if found}
-        self.unknown |= unknown
-        self.functions -= unknown
-        if unknown and not any(ENDED.match(it) for it in output):
+        output, unknown = [], {""}
+        while unknown and not any(ENDED.match(it) for it in output):
             output = self.run_prover(texts, places)
+            # (some of a trait's, say, have no proof of that name)
+            unknown = {found[1].replace("/", "::") for found in map(NO_PROOF.match, output) if found} & self.functions
+            self.unknown |= unknown
+            self.functions -= unknown
         tried = {it for place in places for it in place.functions}
         named = {found[1] for found in map(FUNCTION_LINE.match, output) if found and HOLDS.match(found[2])}
         self.functions |= {it for it in named - tried - self.unknown if has_proof(it)}
@@ -186,11 +187,12 @@ class Trial:
         for place in places:
             body, said = place.body, [lines.get(f"fn {self.name}::{it}", "") for it in place.functions]
             body.why = "; ".join(said)
-            if body.is_apart():
+            if body.is_apart() or len(said) > 1:
                 body.told = body.why if all(is_refused(it, output) for it in place.functions) else ""
             elif not all(HOLDS.match(it) for it in said):
                 body.told = refusal(place, output)
-                again += [body] if not body.told and (len(places) > 1 or place.lines is not None) else []
+            is_open = not body.told and not body.is_apart() and not any(HOLDS.match(it) for it in said)
+            again += [body] if is_open and (len(places) > 1 or place.lines is not None) else []
         return again
 
     def parted(self, places, failed):
