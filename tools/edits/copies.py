@@ -58,6 +58,14 @@ def insert(text, places):
     return "\n".join(lines)
 
 
+def is_hidden(place, places, text):
+    """Whether a copy stands in the comment in which another body hides its old function: then it waits for the next check."""
+    opens = any("/*" in new for it in places if it.lines is None and it.path == place.path for _, _, new in it.body.pairs)
+    if place.lines is None or not opens:
+        return False
+    return f"fn {place.functions[0].split('::')[-1]}" not in re.sub(r"/\*.*?\*/", "", text, flags=re.DOTALL)
+
+
 def copy_proof(place, proofs):
     """Gives a copy the files of its function's proof, with its own name in them."""
     whole = place.body.functions()[0]

@@ -8,7 +8,7 @@ import subprocess
 import time
 from pathlib import Path
 
-from copies import copy_proof, insert, place_of
+from copies import copy_proof, insert, is_hidden, place_of
 from edits import functions_of
 from kit import crate_of
 
@@ -96,7 +96,9 @@ class Trial:
                 texts.update(changed)
                 places.append(place)
                 taken |= own
-        return {path: insert(text, [it for it in places if it.path == path]) for path, text in texts.items()}, places
+        for path, text in texts.items():
+            texts[path] = insert(text, [it for it in places if it.path == path])
+        return texts, [it for it in places if not is_hidden(it, places, texts[it.path])]
 
     def text(self, path, texts):
         return texts.get(path) or (self.folder / path).read_text(encoding="utf-8")
