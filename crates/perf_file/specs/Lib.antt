@@ -1,0 +1,5 @@
+pub mod Numbers
+pub mod Sections
+pub mod Opens
+pub mod Heads
+pub mod IdSections

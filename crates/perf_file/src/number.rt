@@ -1,0 +1,19 @@
+//! Numbers at their offsets.
+
+ghost use Rattle.std.specs.Prelude.{◌≡◌, ◌+◌, ◌≤◌, length};
+ghost use Rattle.perf_base.specs.Dynamic.{order_of};
+ghost use Rattle.perf_file.specs.Numbers as numbers;
+
+use perf_base::Endian;
+use perf_base::endian::Dynamic;
+
+/// The number of the eight bytes at an offset.
+pub fn number_at(order: Dynamic, bytes: &[u8], at: usize) -> u64
+    requires { at + 8 ≤ length bytes.now }
+    ensures { result ≡ numbers.number (order_of order) bytes.now at }
+{
+    match bytes[at..].first_chunk::<8>() {
+        Some(eight) => order.convert_u64(*eight),
+        None => 0,
+    }
+}
