@@ -3,3 +3,8 @@ pub mod Sections
 pub mod Opens
 pub mod Heads
 pub mod IdSections
+pub mod Attributes
+pub mod IdTables
+pub mod IdPlaces
+pub mod Opened
+pub mod Views

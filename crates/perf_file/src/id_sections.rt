@@ -31,11 +31,7 @@ fn id_section_at(bytes: &[u8], head: Head, index: u64) -> Result<Section, OpenEr
 }
 
 /// Where the ids of each event are.
-pub fn id_sections_of(
-    alloc: Global,
-    bytes: &[u8],
-    head: Head,
-) -> Result<Vec<Section>, OpenError>
+pub fn id_sections_of(alloc: Global, bytes: &[u8], head: Head) -> Result<Vec<Section>, OpenError>
     requires { IsGoodHead bytes.now head }
     ensures exact { Gives (λ v. v.items) result (places.id_sections_in bytes.now head) }
     ensures inside { IfOk result (λ v. All (IsInside bytes.now) v.items) }
@@ -50,15 +46,14 @@ pub fn id_sections_of(
 }
 
 /// All parts of the file: the head, the attributes, the frames, and the ids of each event.
-pub fn sections_of(
-    alloc: Global,
-    head: Head,
-    ids: &[Section],
-) -> Result<Vec<Section>, AllocError>
+pub fn sections_of(alloc: Global, head: Head, ids: &[Section]) -> Result<Vec<Section>, AllocError>
     ensures { IfOk result (λ v. v.items ≡ places.sections_of head ids.now) }
 {
     let mut sections = Vec::new(alloc);
-    sections.push(Section { start: 0, size: HEAD_SIZE })?;
+    sections.push(Section {
+        start: 0,
+        size: HEAD_SIZE,
+    })?;
     sections.push(head.attributes)?;
     sections.push(head.frames)?;
     for section in ids {

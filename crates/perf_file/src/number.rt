@@ -1,7 +1,8 @@
-//! Numbers at their offsets.
+//! Numbers and bytes at their offsets.
 
 ghost use Rattle.std.specs.Prelude.{◌≡◌, ◌+◌, ◌≤◌, length};
 ghost use Rattle.perf_base.specs.Dynamic.{order_of};
+ghost use Rattle.perf_base.specs.Layout.{slice};
 ghost use Rattle.perf_file.specs.Numbers as numbers;
 
 use perf_base::Endian;
@@ -16,4 +17,12 @@ pub fn number_at(order: Dynamic, bytes: &[u8], at: usize) -> u64
         Some(eight) => order.convert_u64(*eight),
         None => 0,
     }
+}
+
+/// So many bytes from an offset on.
+pub fn bytes_at(bytes: &[u8], at: usize, size: usize) -> &[u8]
+    requires { at + size ≤ length bytes.now }
+    ensures { result.now ≡ slice bytes.now at size }
+{
+    bytes.split_at(at).1.split_at(size).0
 }

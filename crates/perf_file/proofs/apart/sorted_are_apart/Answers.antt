@@ -5,7 +5,6 @@ use Rattle.perf_file.proofs.Sweeping.{Swept, swept_stops, swept_some, swept_empt
 use Rattle.perf_file.proofs.apart.sorted_are_apart.Goals as goal
 use Rattle.perf_file.proofs.apart.sorted_are_apart.Goals.{then-section-gt0+else-section-reach, else-section-gt0}
 
-
 abbrev zero_section : Section
 zero_section = record { start = 0; size = 0 }
 

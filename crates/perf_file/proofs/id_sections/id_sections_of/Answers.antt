@@ -13,8 +13,9 @@ returns-in_err-ids-clause-exact c =
 
 pub loop-index-preserved : goal.loop-index-preserved
 loop-index-preserved c = (
-    rw c.in_ok-push.ensures.items (All-push (IsInside c.args.bytes.now) _ _ c.loop-index.invariant.0 c.in_ok-ids.ensures.inside),
-    rw c.in_ok-push.ensures.items (goes_on (id_section_at c.args.bytes.now c.args.head) c.loop-index.found.items (entry_count c.args.head) c.loop-index.index c.in_ok-ids.ids (id_sections_in c.args.bytes.now c.args.head) c.loop-index-test.true (sym c.in_ok-ids.ensures.value) c.loop-index.invariant.1))
+  rw c.in_ok-push.ensures.items (All-push (IsInside c.args.bytes.now) _ _ c.loop-index.invariant.0 c.in_ok-ids.ensures.inside),
+  rw c.in_ok-push.ensures.items (goes_on (id_section_at c.args.bytes.now c.args.head) c.loop-index.found.items (entry_count c.args.head) c.loop-index.index c.in_ok-ids.ids (id_sections_in c.args.bytes.now c.args.head) c.loop-index-test.true (sym c.in_ok-ids.ensures.value) c.loop-index.invariant.1),
+)
 
 pub returns-clause-exact : goal.returns-clause-exact
 returns-clause-exact c = is_done (id_section_at c.args.bytes.now c.args.head) c.loop-index.found.items (entry_count c.args.head) c.loop-index.index (id_sections_in c.args.bytes.now c.args.head) c.loop-index-test.false c.loop-index.invariant.1
