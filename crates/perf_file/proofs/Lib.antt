@@ -1,4 +1,4 @@
-pub mod Listing
+pub mod InTurn
 pub mod Sweeping
 pub mod Words
 pub mod Zipped
@@ -6,3 +6,5 @@ pub mod Tables
 pub mod Rising
 pub mod AttributeLaws
 pub mod Whole
+pub mod Laws
+pub mod EntryLaws

@@ -8,3 +8,7 @@ pub mod IdTables
 pub mod IdPlaces
 pub mod Opened
 pub mod Views
+pub mod Owners
+pub mod Pieces
+pub mod Entries
+pub mod Messages

@@ -4,6 +4,7 @@
 
 mod apart;
 mod attributes;
+mod entries;
 mod error;
 mod event_list;
 mod events;
@@ -11,11 +12,16 @@ mod head;
 mod id_place;
 mod id_sections;
 mod ids;
+mod listing;
 mod number;
 mod opening;
+mod owning;
 mod reading;
 mod section;
 
+pub use entries::Entry;
 pub use error::{OpenError, Part};
 pub use events::Event;
+pub use listing::{FileFrame, FileFrames};
 pub use opening::Recording;
+pub use owning::Owner;

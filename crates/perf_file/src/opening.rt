@@ -22,13 +22,13 @@ use std::alloc::Global;
 /// A `perf.data` file that was opened. Its bytes stay borrowed.
 #[derive(Debug, Drop)]
 pub struct Recording<'p> {
-    order: Dynamic,
+    pub(crate) order: Dynamic,
     is_closed: bool,
-    start: usize,
-    frames: &'p [u8],
-    events: Vec<Event>,
-    ids: Vec<IdOfEvent>,
-    place: Option<IdPlace>,
+    pub(crate) start: usize,
+    pub(crate) frames: &'p [u8],
+    pub(crate) events: Vec<Event>,
+    pub(crate) ids: Vec<IdOfEvent>,
+    pub(crate) place: Option<IdPlace>,
     ghost inside: { start + length frames.now < 2 ^ 64 },
     ghost rising: { IsNonDecreasingBy (λ (e : IdOfEvent). e.id) ids.items },
     ghost found: { (id : ℕ) → tables.event_of ids.items id ≡

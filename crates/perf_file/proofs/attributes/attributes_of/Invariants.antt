@@ -2,7 +2,7 @@ use Rattle.std.proofs.Common.{◌≡◌, ◌-◌}
 use Rattle.perf_file.specs.Attributes.{attribute_at, attributes_in}
 use Rattle.perf_file.specs.IdSections.{entry_count}
 use Rattle.perf_file.specs.Opens.{each_from}
-use Rattle.perf_file.proofs.Listing.{with_front}
+use Rattle.perf_file.proofs.InTurn.{with_front}
 use Rattle.perf_file.proofs.attributes.attributes_of.Given as goal
 
 abbrev pub invariant-loop-index : goal.invariant-loop-index

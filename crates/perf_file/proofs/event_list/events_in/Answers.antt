@@ -7,7 +7,7 @@ use Rattle.perf_file.specs.IdSections.{id_section_at, entry_count, sections_of, 
 use Rattle.perf_file.specs.Opened.{FileEvent, event_view, event_in, events_in}
 use Rattle.perf_file.specs.Sections.{ShareNothing}
 use Rattle.perf_file.specs.declared.section.Section.{Section}
-use Rattle.perf_file.proofs.Listing.{fails}
+use Rattle.perf_file.proofs.InTurn.{fails}
 use Rattle.perf_file.proofs.Whole.{events_after, same_length, all_inside}
 use Rattle.perf_file.proofs.event_list.events_in.Goals as goal
 

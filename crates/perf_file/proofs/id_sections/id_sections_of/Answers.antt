@@ -3,7 +3,7 @@ use Rattle.std.proofs.lemmas.Result.{err_from_is_err_and}
 use Rattle.std.proofs.lemmas.List.Elements.{All-push}
 use Rattle.perf_file.specs.Sections.{IsInside}
 use Rattle.perf_file.specs.IdSections.{id_section_at, id_sections_in, entry_count}
-use Rattle.perf_file.proofs.Listing.{goes_on, ends, is_done, fails}
+use Rattle.perf_file.proofs.InTurn.{goes_on, ends, is_done, fails}
 use Rattle.perf_file.proofs.id_sections.id_sections_of.Goals as goal
 
 pub returns-in_err-ids-clause-exact : goal.returns-in_err-ids-clause-exact

@@ -2,7 +2,7 @@ use Rattle.std.proofs.Common.{◌≡◌, ◌-◌, All}
 use Rattle.perf_file.specs.Sections.{IsInside}
 use Rattle.perf_file.specs.IdSections.{id_section_at, id_sections_in, entry_count}
 use Rattle.perf_file.specs.Opens.{each_from}
-use Rattle.perf_file.proofs.Listing.{with_front}
+use Rattle.perf_file.proofs.InTurn.{with_front}
 use Rattle.perf_file.proofs.id_sections.id_sections_of.Given as goal
 
 abbrev pub invariant-loop-index : goal.invariant-loop-index
