@@ -1,0 +1,10 @@
+pub mod InTurn
+pub mod Sweeping
+pub mod Words
+pub mod Zipped
+pub mod Tables
+pub mod Rising
+pub mod AttributeLaws
+pub mod Whole
+pub mod Laws
+pub mod EntryLaws

@@ -1,0 +1,48 @@
+use Rattle.std.proofs.Common.{◌≡◌, List, length, map, zip, Ok, Err, ap, subst, sym, ◌∙◌}
+use Rattle.std.proofs.lemmas.Result.{err_from_is_err_and}
+use Rattle.perf_base.specs.Dynamic.{order_of}
+use Rattle.perf_base.specs.declared.sys.perf_event_attr.{perf_event_attr}
+use Rattle.perf_file.specs.Attributes.{attribute_at}
+use Rattle.perf_file.specs.IdSections.{id_section_at, entry_count, sections_of, checked_apart}
+use Rattle.perf_file.specs.Opened.{FileEvent, event_view, event_in, events_in}
+use Rattle.perf_file.specs.Sections.{ShareNothing}
+use Rattle.perf_file.specs.declared.section.Section.{Section}
+use Rattle.perf_file.proofs.InTurn.{fails}
+use Rattle.perf_file.proofs.Whole.{events_after, same_length, all_inside}
+use Rattle.perf_file.proofs.event_list.events_in.Goals as goal
+
+pub returns-in_err-check_apart-clause-exact : goal.returns-in_err-check_apart-clause-exact
+returns-in_err-check_apart-clause-exact c =
+    let items = c.in_ok-sections_of.ensures ∙ ap (sections_of c.args.head) c.deref.ensures.value in
+    let p = err_from_is_err_and c.from_residual-in_err-check_apart.result c.from_residual-in_err-check_apart.ensures.1 in
+    rw (p.1, p.2) (fails c.in_err-check_apart.field-0.0 (events_in c.args.bytes.now c.args.head)
+    (events_after c.args.bytes.now c.args.head c.in_ok-attributes.attributes.items c.in_ok-sections.sections.items (Err c.in_err-check_apart.field-0.0) c.in_ok-attributes.ensures c.in_ok-sections.ensures.exact
+    (ap checked_apart (sym items) ∙ sym c.in_err-check_apart.ensures.value)))
+
+pub events_with-requires-clause-same : goal.events_with-requires-clause-same
+events_with-requires-clause-same c =
+    ap (λ (xs : List perf_event_attr). length xs) c.deref-2.ensures.value
+    ∙ same_length (attribute_at c.args.bytes.now c.args.head) (id_section_at c.args.bytes.now c.args.head) 0 (entry_count c.args.head) c.in_ok-attributes.attributes.items c.in_ok-sections.sections.items c.in_ok-attributes.ensures c.in_ok-sections.ensures.exact
+    ∙ sym (ap (λ (xs : List Section). length xs) c.deref-3.ensures.value)
+
+pub returns-clause-exact : goal.returns-clause-exact
+returns-clause-exact c =
+    let f = event_in (order_of c.args.head.order) c.args.bytes.now in
+    let items = c.in_ok-sections_of.ensures ∙ ap (sections_of c.args.head) c.deref.ensures.value in
+    let made = c.in_ok-events_with.ensures.value
+    ∙ ap (λ (xs : List perf_event_attr). map f (zip xs c.deref-3.result.now)) c.deref-2.ensures.value
+    ∙ ap (λ (ys : List Section). map f (zip c.in_ok-attributes.attributes.items ys)) c.deref-3.ensures.value in
+    events_after c.args.bytes.now c.args.head c.in_ok-attributes.attributes.items c.in_ok-sections.sections.items (Ok tt) c.in_ok-attributes.ensures c.in_ok-sections.ensures.exact
+    (ap checked_apart (sym items) ∙ sym c.in_ok-check_apart.ensures.value)
+    ∙ ap (λ (es : List FileEvent). Ok es) (sym made)
+
+pub returns-clause-sound : goal.returns-clause-sound
+returns-clause-sound c =
+    let items = c.in_ok-sections_of.ensures ∙ ap (sections_of c.args.head) c.deref.ensures.value in (
+      c.in_ok-sections.sections.items,
+      record {
+        ids_are = c.in_ok-sections.ensures.exact;
+        inside = all_inside c.args.bytes.now c.args.head c.in_ok-sections.sections.items c.requires.whole c.requires.good c.in_ok-sections.ensures.inside;
+        apart = subst ShareNothing items c.in_ok-check_apart.ensures.nothing;
+      },
+    )

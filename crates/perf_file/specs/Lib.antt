@@ -1,0 +1,14 @@
+pub mod Numbers
+pub mod Sections
+pub mod Opens
+pub mod Heads
+pub mod IdSections
+pub mod Attributes
+pub mod IdTables
+pub mod IdPlaces
+pub mod Opened
+pub mod Views
+pub mod Owners
+pub mod Pieces
+pub mod Entries
+pub mod Messages

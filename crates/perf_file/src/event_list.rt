@@ -1,0 +1,81 @@
+//! The events of a file are read, and checked together.
+
+ghost use Rattle.std.specs.Prelude.{◌≡◌, ◌≤◌, ℕ, List, Ok, IfOk, OnOk, All, length, map};
+ghost use Rattle.std.specs.List.Sorted.{IsNonDecreasingBy};
+ghost use Rattle.perf_base.specs.Configured.{endian_of};
+ghost use Rattle.perf_file.specs.Heads.{IsGoodHead, head_in};
+ghost use Rattle.perf_file.specs.IdTables as tables;
+ghost use Rattle.perf_file.specs.Opened as opens;
+ghost use Rattle.perf_file.specs.Opens.{Gives};
+ghost use Rattle.perf_file.specs.declared.events.Event.{Event};
+ghost use Rattle.perf_file.specs.declared.ids.IdOfEvent.{IdOfEvent};
+ghost use Rattle.perf_file.specs.declared.section.Section.{Section};
+
+use crate::attributes::attributes_of;
+use crate::error::OpenError;
+use crate::events::Event;
+use crate::head::{Head, check_features, check_parts, head_of};
+use crate::id_sections::{check_apart, id_sections_of, sections_of};
+use crate::ids::{IdOfEvent, least_shared};
+use crate::reading::{check_places, events_with, table_of};
+use std::alloc::Global;
+
+/// The head, if it is good.
+pub fn checked_head(bytes: &[u8]) -> Result<Head, OpenError>
+    ensures value { result ≡ opens.checked_head bytes.now }
+    ensures good { IfOk result (λ h. IsGoodHead bytes.now h) }
+    ensures whole { OnOk result (104 ≤ length bytes.now) }
+    ensures head { IfOk result (λ h. head_in bytes.now ≡ Ok h) }
+{
+    let head = head_of(bytes)?;
+    check_features(head)?;
+    check_parts(bytes, head)?;
+    Ok(head)
+}
+
+/// The events, if their parts of the file are apart.
+pub fn events_in(alloc: Global, bytes: &[u8], head: Head) -> Result<Vec<Event>, OpenError>
+    requires good { IsGoodHead bytes.now head }
+    requires whole { 104 ≤ length bytes.now }
+    ensures exact { Gives (λ v. map opens.event_view v.items) result (opens.events_in bytes.now head) }
+    ensures order { IfOk result (λ v.
+        All (λ (e : Event). endian_of e.config ≡ head.order) v.items) }
+    ensures sound { IfOk result (λ _.
+        (ids : List Section) × opens.HasParts bytes.now head ids) }
+{
+    let attributes = attributes_of(alloc, bytes, head)?;
+    let sections = id_sections_of(alloc, bytes, head)?;
+    check_apart(sections_of(alloc, head, &sections)?)?;
+    Ok(events_with(alloc, head.order, bytes, &attributes, &sections)?)
+}
+
+// The ids of all events by rising ids. Refused if two events have one.
+fn sorted_table(alloc: Global, events: &[Event]) -> Result<Vec<IdOfEvent>, OpenError>
+    ensures exact { Gives {Y = Unit {0}} (λ _. tt) result
+        (tables.checked_table (opens.table_of (map opens.event_view events.now))) }
+    ensures sorted { IfOk result (λ v. IsNonDecreasingBy (λ (e : IdOfEvent). e.id) v.items) }
+    ensures found { IfOk result (λ v. (id : ℕ) → tables.event_of v.items id ≡
+        tables.event_of (opens.table_of (map opens.event_view events.now)) id) }
+{
+    let mut table = table_of(alloc, events)?;
+    table.sort_unstable_by_key(|entry| entry.id);
+    match least_shared(&table) {
+        Some(id) => {
+            drop(table);
+            Err(OpenError::SharedId(id))
+        }
+        None => Ok(table),
+    }
+}
+
+/// The ids of all events by rising ids, if the event of each frame can be found by them.
+pub fn found_events(alloc: Global, events: &[Event]) -> Result<Vec<IdOfEvent>, OpenError>
+    ensures exact { Gives {Y = Unit {0}} (λ _. tt) result
+        (opens.checked_events (map opens.event_view events.now)) }
+    ensures sorted { IfOk result (λ v. IsNonDecreasingBy (λ (e : IdOfEvent). e.id) v.items) }
+    ensures found { IfOk result (λ v. (id : ℕ) → tables.event_of v.items id ≡
+        tables.event_of (opens.table_of (map opens.event_view events.now)) id) }
+{
+    check_places(events)?;
+    sorted_table(alloc, events)
+}

@@ -1,0 +1,65 @@
+//! The events of a file.
+
+ghost use Rattle.std.specs.Prelude.{◌≡◌};
+ghost use Rattle.perf_base.specs.Configuration.{configured_by};
+ghost use Rattle.perf_base.specs.Configured.{configuration_of, endian_of};
+
+use perf_base::ParseConfig;
+use perf_base::endian::{Dynamic, Native};
+use perf_base::sys::perf_event_attr;
+
+/// An event of a file.
+#[derive(Debug, Drop)]
+pub struct Event {
+    attr: perf_event_attr,
+    config: ParseConfig<Dynamic>,
+    ids: Vec<u64>,
+    ghost configured: { configuration_of config ≡ configured_by attr },
+}
+
+impl Event {
+    // The event of an attribute and its ids, of a file in that order.
+    pub(crate) fn new(attr: perf_event_attr, order: Dynamic, ids: Vec<u64>) -> Event
+        ensures attr { result.attr ≡ attr }
+        ensures ids { result.ids ≡ ids }
+        ensures order { endian_of result.config ≡ order }
+    {
+        Event {
+            attr,
+            config: config_of(attr, order),
+            ids,
+        }
+    }
+
+    /// Its attribute. The single bits of `flags` are counted from the lowest, also if the file was
+    /// written by a big-endian machine, which counts them from the highest.
+    pub fn attr(&self) -> &perf_event_attr
+        ensures { result.now ≡ self.now.attr }
+    {
+        &self.attr
+    }
+
+    /// How its records are read.
+    pub fn config(&self) -> &ParseConfig<Dynamic>
+        ensures is { result.now ≡ self.now.config }
+        ensures value { configuration_of result.now ≡ configured_by self.now.attr }
+    {
+        &self.config
+    }
+
+    /// The kernel's numbers for it: one for each processor or task on which it was opened. There
+    /// may be none if the file has one event.
+    pub fn ids(&self) -> &[u64]
+        ensures { result.now ≡ self.now.ids.items }
+    {
+        &self.ids
+    }
+}
+
+// The configuration that an attribute gives, in an order.
+fn config_of(attr: perf_event_attr, order: Dynamic) -> ParseConfig<Dynamic>
+    ensures value { configuration_of result ≡ configured_by attr }
+    ensures order { endian_of result ≡ order }
+{
+    ParseConfig::<Native>::from(attr).with_endian(order)
+}

@@ -1,0 +1,94 @@
+//! A file is opened.
+
+ghost use Rattle.std.specs.Prelude.{◌≡◌, ◌+◌, ◌<◌, ◌^◌, ℕ, List, IfOk, All, length, map};
+ghost use Rattle.std.specs.List.Sorted.{IsNonDecreasingBy};
+ghost use Rattle.perf_base.specs.Configured.{endian_of};
+ghost use Rattle.perf_file.specs.IdPlaces as places;
+ghost use Rattle.perf_file.specs.IdTables as tables;
+ghost use Rattle.perf_file.specs.Opened as opens;
+ghost use Rattle.perf_file.specs.declared.events.Event.{Event};
+ghost use Rattle.perf_file.specs.declared.ids.IdOfEvent.{IdOfEvent};
+
+use crate::error::OpenError;
+use crate::event_list::{checked_head, events_in, found_events};
+use crate::events::Event;
+use crate::id_place::IdPlace;
+use crate::ids::IdOfEvent;
+use crate::number::bytes_at;
+use crate::reading::first_place;
+use perf_base::endian::Dynamic;
+use std::alloc::Global;
+
+/// A `perf.data` file that was opened. Its bytes stay borrowed.
+#[derive(Debug, Drop)]
+pub struct Recording<'p> {
+    pub(crate) order: Dynamic,
+    is_closed: bool,
+    pub(crate) start: usize,
+    pub(crate) frames: &'p [u8],
+    pub(crate) events: Vec<Event>,
+    pub(crate) ids: Vec<IdOfEvent>,
+    pub(crate) place: Option<IdPlace>,
+    ghost inside: { start + length frames.now < 2 ^ 64 },
+    ghost rising: { IsNonDecreasingBy (λ (e : IdOfEvent). e.id) ids.items },
+    ghost found: { (id : ℕ) → tables.event_of ids.items id ≡
+        tables.event_of (opens.table_of (map opens.event_view events.items)) id },
+    ghost place_is: { place ≡
+        places.first_place (opens.attributes_of (map opens.event_view events.items)) },
+    ghost ordered: { All (λ (e : Event). endian_of e.config ≡ order) events.items },
+}
+
+impl<'p> Recording<'p> {
+    ghost use Rattle.perf_file.specs.Opens.{Gives};
+    ghost use Rattle.perf_file.specs.Views.{view};
+    ghost use Rattle.perf_file.specs.declared.head.Head.{Head};
+    ghost use Rattle.perf_file.specs.declared.section.Section.{Section};
+
+    /// Opens a file that is all in memory.
+    ///
+    /// Memory is needed for the events and their ids alone. The refusal is the first check that
+    /// fails, in the order of [`OpenError`].
+    #[tactic(auto, unfolding(crate::specs::Opened::opened))]
+    pub fn open(alloc: Global, bytes: &'p [u8]) -> Result<Recording<'p>, OpenError>
+        ensures exact { Gives view result (opens.opened bytes.now) }
+        ensures sound { IfOk result (λ _.
+            (h : Head) × (ids : List Section) × opens.IsSound bytes.now h ids) }
+    {
+        let head = checked_head(bytes)?;
+        let events = events_in(alloc, bytes, head)?;
+        let ids = found_events(alloc, &events)?;
+        let place = first_place(&events);
+        let start = head.frames.start as usize;
+        Ok(Recording {
+            order: head.order,
+            is_closed: head.is_closed,
+            start,
+            frames: bytes_at(bytes, start, head.frames.size as usize),
+            events,
+            ids,
+            place,
+        })
+    }
+
+    /// The order of its numbers: that of the machine on which it was recorded.
+    pub fn order(&self) -> Dynamic
+        ensures { result ≡ (view self.now).order }
+    {
+        self.order
+    }
+
+    /// Whether perf ended regularly. If it was killed, the frames extend to the end of the file,
+    /// and the last one may be unfinished.
+    pub fn is_closed(&self) -> bool
+        ensures { result ≡ (view self.now).is_closed }
+    {
+        self.is_closed
+    }
+
+    /// Its events, in the order of the file: at least one.
+    pub fn events(&self) -> &[Event]
+        ensures { map opens.event_view result.now ≡ (view self.now).events }
+    {
+        &self.events
+    }
+}

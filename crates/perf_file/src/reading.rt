@@ -1,0 +1,126 @@
+//! The events of a file are read.
+
+ghost use Rattle.std.specs.Prelude.{◌≡◌, ◌≤◌, ◌/◌, IfOk, OnOk, All, length, map, drop};
+ghost use Rattle.std.specs.List.{zip};
+ghost use Rattle.perf_base.specs.Configured.{endian_of};
+ghost use Rattle.perf_base.specs.Dynamic.{order_of};
+ghost use Rattle.perf_base.specs.Layout.{words_of};
+ghost use Rattle.perf_file.specs.IdPlaces as places;
+ghost use Rattle.perf_file.specs.Opened as opens;
+ghost use Rattle.perf_file.specs.Sections.{IsInside};
+ghost use Rattle.perf_file.specs.declared.events.Event.{Event};
+
+use crate::error::OpenError;
+use crate::events::Event;
+use crate::id_place::{IdPlace, id_place, is_same_place};
+use crate::ids::{IdOfEvent, push_ids};
+use crate::number::number_at;
+use crate::section::Section;
+use perf_base::endian::Dynamic;
+use perf_base::sys::perf_event_attr;
+use std::alloc::{AllocError, Global};
+
+// The ids in a section: numbers of eight bytes.
+fn ids_in(
+    alloc: Global,
+    order: Dynamic,
+    bytes: &[u8],
+    section: Section,
+) -> Result<Vec<u64>, AllocError>
+    requires { IsInside bytes.now section }
+    ensures { IfOk result (λ v. v.items ≡
+        words_of (order_of order) (section.size / 8) (drop section.start bytes.now)) }
+{
+    let mut ids = Vec::new(alloc);
+    let count = section.size / 8;
+    for index in 0..count {
+        let at = section.start + 8 * index;
+        ids.push(number_at(order, bytes, at as usize))?;
+    }
+    Ok(ids)
+}
+
+// The event of an attribute and of the section of its ids.
+fn event_in(
+    alloc: Global,
+    order: Dynamic,
+    bytes: &[u8],
+    attr: perf_event_attr,
+    section: Section,
+) -> Result<Event, AllocError>
+    requires { IsInside bytes.now section }
+    ensures value { IfOk result (λ e. opens.event_view e ≡
+        opens.event_in (order_of order) bytes.now (attr, section)) }
+    ensures order { IfOk result (λ e. endian_of e.config ≡ order) }
+{
+    let ids = ids_in(alloc, order, bytes, section)?;
+    Ok(Event::new(attr, order, ids))
+}
+
+/// The events of attributes and of the sections of their ids.
+pub fn events_with(
+    alloc: Global,
+    order: Dynamic,
+    bytes: &[u8],
+    attributes: &[perf_event_attr],
+    sections: &[Section],
+) -> Result<Vec<Event>, AllocError>
+    requires inside { All (IsInside bytes.now) sections.now }
+    requires same { length attributes.now ≡ length sections.now }
+    ensures value { IfOk result (λ v. map opens.event_view v.items ≡
+        map (opens.event_in (order_of order) bytes.now) (zip attributes.now sections.now)) }
+    ensures order { IfOk result (λ v. All (λ (e : Event). endian_of e.config ≡ order) v.items) }
+{
+    let mut events = Vec::new(alloc);
+    for index in 0..sections.len() {
+        let event = event_in(alloc, order, bytes, attributes[index], sections[index])?;
+        events.push(event)?;
+    }
+    Ok(events)
+}
+
+/// Where the frames of the first event have its id.
+pub fn first_place(events: &[Event]) -> Option<IdPlace>
+    ensures { result ≡ places.first_place (opens.attributes_of (map opens.event_view events.now)) }
+{
+    match events.first() {
+        Some(event) => id_place(event.config()),
+        None => None,
+    }
+}
+
+// Whether the frames of all events have their id at that place.
+fn all_at(place: Option<IdPlace>, events: &[Event]) -> bool
+    ensures { result ≡
+        places.all_at place (opens.attributes_of (map opens.event_view events.now)) }
+{
+    for event in events {
+        if !is_same_place(place, id_place(event.config())) {
+            return false;
+        }
+    }
+    true
+}
+
+/// Refuses several events without a common place of their ids.
+pub fn check_places(events: &[Event]) -> Result<(), OpenError>
+    ensures { result ≡
+        places.checked_places (opens.attributes_of (map opens.event_view events.now)) }
+{
+    if events.len() < 2 || all_at(first_place(events), events) {
+        Ok(())
+    } else {
+        Err(OpenError::NoIdPlace)
+    }
+}
+
+/// The ids of all events, in the order of the file.
+pub fn table_of(alloc: Global, events: &[Event]) -> Result<Vec<IdOfEvent>, AllocError>
+    ensures { IfOk result (λ v. v.items ≡ opens.table_of (map opens.event_view events.now)) }
+{
+    let mut table = Vec::new(alloc);
+    for index in 0..events.len() {
+        push_ids(&mut table, index, events[index].ids())?;
+    }
+    Ok(table)
+}

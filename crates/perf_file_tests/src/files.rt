@@ -1,0 +1,98 @@
+//! The files of the tests: numbers of eight bytes.
+
+use std::alloc::{AllocError, Global};
+
+/// The number of such numbers in [`SMALL`].
+pub const WORDS: usize = 53;
+
+/// A file of two events with the sample type TIME and IDENTIFIER, whose frames end with a sample id.
+/// A header is the type, `misc` from bit 32 on, and the size from bit 48 on.
+/// The ids are at 104, the attributes at 120, and the frames at 280.
+pub const SMALL: [u64; WORDS] = [
+    // the head: magic, its size, that of an entry, attributes, data, event types, features
+    0x3245_4c49_4652_4550,
+    104,
+    80,
+    120,
+    160,
+    280,
+    144,
+    0,
+    0,
+    0,
+    0,
+    0,
+    0,
+    // the ids
+    20,
+    21,
+    // an attribute: type and size, config, period, sample type, read format, flags, and two more
+    1 + (64 << 32),
+    0,
+    4000,
+    0x10004,
+    0,
+    1 << 18,
+    0,
+    0,
+    // where its ids are
+    104,
+    8,
+    // the second one
+    1 + (64 << 32),
+    2,
+    4000,
+    0x10004,
+    0,
+    1 << 18,
+    0,
+    0,
+    112,
+    8,
+    // a SAMPLE: its id and its time
+    9 + (2 << 32) + (24 << 48),
+    21,
+    1000,
+    // a COMM: process and thread, a name, and the sample id with its time and its id
+    3 + (40 << 48),
+    7 + (7 << 32),
+    0x6873,
+    500,
+    20,
+    // an AUXTRACE with 16 bytes of payload
+    71 + (24 << 48),
+    16,
+    0,
+    0x0909_0909_0909_0909,
+    0x0909_0909_0909_0909,
+    // a FINISHED_ROUND
+    68 + (8 << 48),
+    // a SAMPLE with an id of no event
+    9 + (2 << 32) + (24 << 48),
+    99,
+    800,
+    // a SAMPLE without an id
+    9 + (2 << 32) + (8 << 48),
+];
+
+/// The bytes of numbers, the lowest byte of each first.
+pub fn little(alloc: Global, words: &[u64]) -> Result<Vec<u8>, AllocError> {
+    let mut bytes = Vec::new(alloc);
+    for word in words {
+        for byte in word.to_le_bytes() {
+            bytes.push(byte)?;
+        }
+    }
+    Ok(bytes)
+}
+
+/// The bytes of numbers, the highest byte of each first.
+pub fn big(alloc: Global, words: &[u64]) -> Result<Vec<u8>, AllocError> {
+    let mut bytes = Vec::new(alloc);
+    for word in words {
+        for byte in word.to_be_bytes() {
+            bytes.push(byte)?;
+        }
+    }
+    Ok(bytes)
+}
