@@ -5,7 +5,7 @@ pub mod Repeats
 pub mod InRow
 pub mod Metadata
 pub mod Lists
-pub mod Steps
+pub mod RunSteps
 pub mod RunEnds
 pub mod ListedAnswers
 pub mod Attributes

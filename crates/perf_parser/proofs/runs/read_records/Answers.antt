@@ -2,7 +2,7 @@ use Rattle.std.proofs.Common.{sym, subst, refl, true}
 use Rattle.perf_parser.specs.ReaderState.{state_of}
 use Rattle.perf_parser.specs.Steps.{ListsFirst}
 use Rattle.perf_parser.proofs.Lists.{lists_none, listed_first}
-use Rattle.perf_parser.proofs.Steps.{steps_all}
+use Rattle.perf_parser.proofs.RunSteps.{steps_all}
 use Rattle.perf_parser.proofs.runs.read_records.Goals as goal
 
 pub run_steps-run-requires : goal.run_steps-run-requires

@@ -5,7 +5,7 @@ use Rattle.perf_buffers.specs.declared.outer.Outer.{Outer}
 use Rattle.perf_reader.specs.ReaderState.{ReaderState, state_of}
 use Rattle.perf_parser.specs.Steps.{TakesStep, TakesSteps}
 use Rattle.perf_parser.proofs.RunEnds.{same_state}
-use Rattle.perf_parser.proofs.Steps.{taken_none, taken_more, steps_stop, steps_end}
+use Rattle.perf_parser.proofs.RunSteps.{taken_none, taken_more, steps_stop, steps_end}
 use Rattle.perf_parser.proofs.steps.run_steps.Goals as goal
 
 pub loop-count-init : goal.loop-count-init
