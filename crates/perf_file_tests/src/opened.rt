@@ -2,7 +2,7 @@
 
 use crate::files::{SMALL, big, little};
 use perf_base::endian::Dynamic;
-use perf_file::{Owner, Recording};
+use perf_file::{Event, Owner, Recording};
 use std::alloc::{AllocError, Global};
 use std::process::Abort;
 
@@ -139,8 +139,7 @@ fn check_big(rt: &(impl AllocGlobal + Abort), bytes: &[u8]) {
     match Recording::open(rt.alloc(), bytes) {
         Ok(recording) => {
             assert_eq!(rt; recording.order(), Dynamic::Big);
-            assert!(rt; recording.events()[0].config().sample_id_all());
-            assert_eq!(rt; recording.events()[0].attr().flags, 1 << 18);
+            check_first(rt, recording.events());
             check_text(
                 rt,
                 frame_lines(rt.alloc(), &recording),
@@ -153,5 +152,16 @@ fn check_big(rt: &(impl AllocGlobal + Abort), bytes: &[u8]) {
             );
         }
         Err(error) => panic!(rt; "{error}"),
+    }
+}
+
+// The first event has `sample_id_all`, whose bit is the 18th from the lowest.
+fn check_first(rt: &impl Abort, events: &[Event]) {
+    match events.first() {
+        Some(event) => {
+            assert!(rt; event.config().sample_id_all());
+            assert_eq!(rt; event.attr().flags, 1 << 18);
+        }
+        None => panic!(rt; "no event"),
     }
 }
