@@ -1,15 +1,12 @@
 //! Calls that read several frames, a frame in two pieces, and what is known of a frame.
 
 use crate::checks::check_debug;
-use crate::runs::TWO;
-use perf_event_data::endian::{Dynamic, Little, Native};
+use perf_event_data::endian::{Dynamic, Little};
 use perf_event_data::parse::ParseConfig;
 use perf_flat::attr::read_attr;
 use perf_flat::config::FlatConfig;
 use perf_flat::frame::FlatFrame;
 use perf_flat::read::{identifier, read, read_body, read_many, read_split};
-use perf_test_helpers::orders::Counting;
-use std::cell::Cell;
 use std::process::Abort;
 
 // The thread 7 of the process 5 is called `sh`, a header whose size is below its own, and the
@@ -44,16 +41,6 @@ fn many_frames_end_by_room_by_bytes_or_in_a_header(rt: HostRuntime) {
         (full, done),
         "(Ended { count: 1, taken: 24, how: 0 }, Ended { count: 1, taken: 20, how: 1 })",
     );
-}
-
-// How many 64-bit numbers are made of two frames of LOST_SAMPLES, which have one each.
-#[test]
-fn each_of_many_frames_is_read_once(rt: HostRuntime) {
-    let calls = Cell::new(0);
-    let config = ParseConfig::<Native>::default().with_endian(Counting { calls: &calls });
-    let mut frames = [blank(&rt); 3];
-    let read = read_many(rt.alloc(), &config, &TWO, &mut frames);
-    check_debug(&rt, (read.count, calls.get()), "(2, 2)");
 }
 
 #[test]

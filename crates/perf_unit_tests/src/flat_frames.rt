@@ -27,13 +27,6 @@ const SAMPLE: &[u8] =
 // A header whose size is below its own.
 const SMALL: &[u8] = b"\x03\0\0\0\0\0\x07\0";
 
-// The thread 7 of the process 5 has an empty name.
-const UNNAMED: &[u8] = b"\x03\0\0\0\0\0\x10\0\x05\0\0\0\x07\0\0\0";
-
-// MMAP2 with a build id of no bytes, and with the name `ab`.
-const NO_BUILD_ID: &[u8] = b"\x0A\0\0\0\0\x40\x50\0\x01\0\0\0\x02\0\0\0\0\x10\0\0\0\0\0\0\
-\0\x20\0\0\0\0\0\0\0\0\0\0\0\0\0\0\0\0\0\0\0\0\0\0\0\0\0\0\0\0\0\0\0\0\0\0\0\0\0\0\x05\0\0\0\x02\0\0\0ab\0\0\0\0\0\0";
-
 // The header, what was read or why nothing was, the first three numbers and the first span.
 fn parts_of(frame: FlatFrame) -> ([u32; 3], [u32; 3], [u64; 3], [u32; 2]) {
     let header = [frame.type_, u32::from(frame.misc), u32::from(frame.size)];
@@ -121,27 +114,6 @@ fn a_frame_is_written_in_place_or_left_as_it_was(rt: HostRuntime) {
         "((false, ([16, 0, 56], [16, 0, 0], [5, 7, 2], [24, 32])), \
          (true, ([3, 8192, 24], [3, 0, 0], [5, 7, 0], [16, 2])), \
          (true, ([3, 0, 7], [0, 2, 1], [0, 0, 0], [0, 0])))",
-    );
-}
-
-// The first two spans of the flat frame at the front of bytes.
-fn flat_spans(alloc: Global, bytes: &[u8]) -> Option<[(u32, u32); 2]> {
-    let frame = read(alloc, &ParseConfig::<Little>::default(), bytes)?;
-    let [first, second, ..] = frame.spans;
-    Some([(first.at, first.len), (second.at, second.len)])
-}
-
-// A byte string that is present and empty has its place; one that is absent has the place 0.
-#[test]
-fn an_empty_byte_string_has_a_place(rt: HostRuntime) {
-    let spans = (
-        flat_spans(rt.alloc(), UNNAMED),
-        flat_spans(rt.alloc(), NO_BUILD_ID),
-    );
-    check_debug(
-        &rt,
-        spans,
-        "(Some([(16, 0), (0, 0)]), Some([(72, 2), (44, 0)]))",
     );
 }
 

@@ -5,14 +5,11 @@ ghost use Rattle.std.specs.Prelude.{false, None, []};
 
 use crate::checks::{check_same, check_text};
 use bitflags::Flags;
+use perf_event_data::SampleFlags;
 use perf_event_data::endian::Little;
-use perf_event_data::parse::{
-    ParseBuf, ParseBufChunk, ParseConfig, ParseError, ParseResult, Parser,
-};
-use perf_event_data::{PieceBuf, SampleFlags};
-use perf_test_helpers::asks::next_record;
+use perf_event_data::parse::{ParseBuf, ParseBufChunk, ParseError, ParseResult};
 use perf_test_helpers::attributes::attribute;
-use perf_test_helpers::runs::{text_of_runs_under, write_debug_record};
+use perf_test_helpers::runs::text_of_runs_under;
 use std::alloc::{AllocError, Global};
 use std::cell::Cell;
 use std::process::Abort;
@@ -265,49 +262,6 @@ fn a_frame_in_one_chunk_takes_two_calls(rt: HostRuntime) -> Result<(), Fail> {
                     actual,
                     (5 * CHUNKS_OF_A_FRAME + CHUNKS_BESIDE, true),
                 );
-            }
-        }
-    }
-    Ok(())
-}
-
-// ---- bytes that live as long as the input
-
-// The `{:?}` of the records of a buffer, and why there is no further one.
-fn text_of_records<'p, B: ParseBuf<'p> + Drop>(
-    alloc: Global,
-    buf: B,
-) -> Result<String, AllocError> {
-    let mut parser = Parser::new(alloc, buf, ParseConfig::<Little>::default());
-    let mut text = String::new(alloc);
-    for _ in 0..10 {
-        if !write_debug_record(&mut text, next_record(&mut parser))? {
-            break;
-        }
-    }
-    Ok(text)
-}
-
-// Two names of tasks, each in one chunk, and each borrowed or copied.
-const BORROWED: &str = "Comm(Comm { pid: 1, tid: 2, comm: Borrowed([97, 98]) }); \
-    Comm(Comm { pid: 1, tid: 2, comm: Borrowed([97, 98]) }); Eof";
-
-const COPIED: &str = "Comm(Comm { pid: 1, tid: 2, comm: Owned([97, 98]) }); \
-    Comm(Comm { pid: 1, tid: 2, comm: Owned([97, 98]) }); Eof";
-
-#[test]
-fn bytes_of_a_chunk_that_lasts_are_borrowed(rt: HostRuntime) -> Result<(), Fail> {
-    let mut bytes = Vec::new(rt.alloc());
-    push_frame(&mut bytes, 3, 24)?;
-    push_frame(&mut bytes, 3, 24)?;
-    for &(borrowed, want) in &[(true, BORROWED), (false, COPIED)] {
-        let pieces = PieceBuf::new(&bytes, 64, borrowed);
-        check_text(&rt, text_of_records(rt.alloc(), pieces), want);
-        for &ahead in &[24, 64] {
-            for &rule in &[Rule::Left, Rule::Around(None, None)] {
-                let calls = Cell::new(0);
-                let buf = Hinting::new(&bytes, ahead, borrowed, rule, &calls);
-                check_text(&rt, text_of_records(rt.alloc(), buf), want);
             }
         }
     }

@@ -58,8 +58,6 @@ mod reader_lengths;
 #[cfg(test)]
 mod reads;
 #[cfg(test)]
-mod reasons;
-#[cfg(test)]
 mod records;
 #[cfg(test)]
 mod rooms;

@@ -31,13 +31,6 @@ const TOO_SMALL: &[u8] = b"invalid record: header size was too small to be valid
 const CHAINS: &[u8] =
     b"\0\0\0\0\x40\0\0\0\0\0\0\0\0\0\0\0\0\0\0\0\0\0\0\0\x20\0\0\0\0\0\0\0\0\0\0\0\0\0\0\0\0\0\0\0\0\0\0\0\0\0\0\0\0\0\0\0\0\0\0\0\0\0\0\0";
 
-// An attribute of 137 bytes, one more than those that have a meaning, which is not 0.
-const UNKNOWN_FIELDS: &[u8] =
-    b"\0\0\0\0\x89\0\0\0\0\0\0\0\0\0\0\0\0\0\0\0\0\0\0\0\0\0\0\0\0\0\0\0\0\0\0\0\0\0\0\0\
-    \0\0\0\0\0\0\0\0\0\0\0\0\0\0\0\0\0\0\0\0\0\0\0\0\0\0\0\0\0\0\0\0\
-    \0\0\0\0\0\0\0\0\0\0\0\0\0\0\0\0\0\0\0\0\0\0\0\0\0\0\0\0\0\0\0\0\
-    \0\0\0\0\0\0\0\0\0\0\0\0\0\0\0\0\0\0\0\0\0\0\0\0\0\0\0\0\0\0\0\0\x01";
-
 // Marks a byte in a log.
 fn note(log: &Cell<u64>, mark: u64, byte: u8) {
     let digest = log.get().rotate_left(7).wrapping_mul(mark);
@@ -171,7 +164,7 @@ struct Printed<'a> {
     end: &'a str,
 }
 
-const PRINTED: [Printed; 11] = [
+const PRINTED: [Printed; 10] = [
     Printed {
         name: "a record about a task has a line",
         report: Report::Tasks,
@@ -251,17 +244,6 @@ const PRINTED: [Printed; 11] = [
         output: b"",
         errors: b"",
         end: "invalid record: not a valid size for a perf_event_attr struct",
-    },
-    Printed {
-        name: "and so is one with unknown fields",
-        report: Report::Tasks,
-        attr: UNKNOWN_FIELDS,
-        after: COMM,
-        fault: None,
-        output: b"",
-        errors: b"",
-        end: "unsupported serialized data: serialized perf_event_attr contains fields not \
-            supported by this version of perf-event-data",
     },
     Printed {
         name: "an input that ends inside the attribute is an error",

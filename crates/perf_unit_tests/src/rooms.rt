@@ -79,15 +79,3 @@ fn a_list_of_one_frame_has_little_room(rt: HostRuntime) -> Result<(), Fail> {
     }
     Ok(())
 }
-
-// Of a piece with four frames of 16 bytes there is capacity for four, and then for four more.
-#[test]
-fn a_list_has_room_for_the_frames_of_a_piece(rt: HostRuntime) -> Result<(), Fail> {
-    let mut bytes = Vec::new(rt.alloc());
-    for _ in 0..4 {
-        bytes.extend_from_slice(&TWO)?;
-    }
-    let actual = room(rt.alloc(), PieceBuf::new(&bytes, 64, false), 100);
-    check_same(&rt, "the room", actual, (8, 8));
-    Ok(())
-}
