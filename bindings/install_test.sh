@@ -39,12 +39,16 @@ try() {
     fi
 }
 
-# Runs the other words, which have to print what the first programs print.
+# Runs the other words, which have to print what the first programs print: a number, or the names of a recording.
 try_first() {
     name=$1
     shift
-    found=$("$@" 2>&1)
-    if [ "$found" = "8 lost" ]; then
+    found=$("$@" 2>&1 <"$recording")
+    case $name in
+    *names*) expected=$names ;;
+    *) expected="8 lost" ;;
+    esac
+    if [ "$found" = "$expected" ]; then
         pass "$name"
     else
         fail "$name: $found"
@@ -55,21 +59,22 @@ package() {
     PKG_CONFIG_PATH=$prefix/lib/pkgconfig pkg-config "$@" perf_event_data
 }
 
-# Builds the first program: build OUTPUT LIBRARIES COMPILER WORDS.
+# Builds a program: build OUTPUT SOURCE LIBRARIES COMPILER WORDS.
 build() {
-    output=$1 libraries=$2
-    shift 2
+    output=$1 source=$2 libraries=$3
+    shift 3
     # the words that pkg-config returns are several
     try "$what: build $output" "$@" $pie -Wall -Wextra -Wpedantic -Werror $(package --cflags) \
-        -o "$work/$output" "$work/first.c" -x none $libraries
+        -o "$work/$output" "$work/$source.c" -x none $libraries
 }
 
 try_c() {
     static="$(package --variable=libdir)/libperf_event_data.a"
-    build first_c "$static" cc -std=c99 && try_first "$what: run first_c" "$work/first_c"
-    build first_cpp "$static" c++ -std=c++17 -x c++ && try_first "$what: run first_cpp" "$work/first_cpp"
+    build first_c first "$static" cc -std=c99 && try_first "$what: run first_c" "$work/first_c"
+    build first_cpp first "$static" c++ -std=c++17 -x c++ && try_first "$what: run first_cpp" "$work/first_cpp"
+    build names names "$static" cc -std=c99 && try_first "$what: run names" "$work/names"
     if [ -n "$shared" ]; then
-        build first_shared "$(package --libs)" cc -std=c99 &&
+        build first_shared first "$(package --libs)" cc -std=c99 &&
             try_first "$what: run first_shared" env LD_LIBRARY_PATH="$prefix/lib" "$work/first_shared"
     fi
 }
@@ -80,8 +85,9 @@ try_python() {
     elif ! command -v python3 >/dev/null; then
         skip "$what: Python: no python3"
     else
-        try_first "$what: run first.py" env PYTHONPATH="$prefix/share/perf_event_data/python" \
-            python3 "$work/first.py"
+        python=$prefix/share/perf_event_data/python
+        try_first "$what: run first.py" env PYTHONPATH="$python" python3 "$work/first.py"
+        try_first "$what: run names.py" env PYTHONPATH="$python" python3 "$work/names.py" "$recording"
     fi
 }
 
@@ -168,7 +174,9 @@ make_quietly() {
     make -s -C "$here" "$goal" OUT="$work/out" ARCHIVE="$archive" "$@"
 }
 
-cp "$here"/first/first.* "$work" && cd "$work" || exit 2
+recording=$here/../examples/recording.stream
+names=$(grep '^[0-9]* [0-9]* is ' "$here/../crates/perf_uses/stdout")
+cp "$here"/first/* "$work" && cd "$work" || exit 2
 prefix=$work/usr
 make_quietly install PREFIX="$prefix" "$@" >"$work/install.log" 2>&1 || {
     cat "$work/install.log"
