@@ -39,16 +39,12 @@ try() {
     fi
 }
 
-# Runs the other words, which have to print what the first programs print: a number, or the names of a recording.
+# Runs the other words, which have to print what the first programs print.
 try_first() {
     name=$1
     shift
-    found=$("$@" 2>&1 <"$recording")
-    case $name in
-    *names*) expected=$names ;;
-    *) expected="8 lost" ;;
-    esac
-    if [ "$found" = "$expected" ]; then
+    found=$("$@" 2>&1)
+    if [ "$found" = "8 lost" ]; then
         pass "$name"
     else
         fail "$name: $found"
@@ -59,22 +55,21 @@ package() {
     PKG_CONFIG_PATH=$prefix/lib/pkgconfig pkg-config "$@" perf_event_data
 }
 
-# Builds a program: build OUTPUT SOURCE LIBRARIES COMPILER WORDS.
+# Builds the first program: build OUTPUT LIBRARIES COMPILER WORDS.
 build() {
-    output=$1 source=$2 libraries=$3
-    shift 3
+    output=$1 libraries=$2
+    shift 2
     # the words that pkg-config returns are several
     try "$what: build $output" "$@" $pie -Wall -Wextra -Wpedantic -Werror $(package --cflags) \
-        -o "$work/$output" "$work/$source.c" -x none $libraries
+        -o "$work/$output" "$work/first.c" -x none $libraries
 }
 
 try_c() {
     static="$(package --variable=libdir)/libperf_event_data.a"
-    build first_c first "$static" cc -std=c99 && try_first "$what: run first_c" "$work/first_c"
-    build first_cpp first "$static" c++ -std=c++17 -x c++ && try_first "$what: run first_cpp" "$work/first_cpp"
-    build names names "$static" cc -std=c99 && try_first "$what: run names" "$work/names"
+    build first_c "$static" cc -std=c99 && try_first "$what: run first_c" "$work/first_c"
+    build first_cpp "$static" c++ -std=c++17 -x c++ && try_first "$what: run first_cpp" "$work/first_cpp"
     if [ -n "$shared" ]; then
-        build first_shared first "$(package --libs)" cc -std=c99 &&
+        build first_shared "$(package --libs)" cc -std=c99 &&
             try_first "$what: run first_shared" env LD_LIBRARY_PATH="$prefix/lib" "$work/first_shared"
     fi
 }
@@ -85,9 +80,8 @@ try_python() {
     elif ! command -v python3 >/dev/null; then
         skip "$what: Python: no python3"
     else
-        python=$prefix/share/perf_event_data/python
-        try_first "$what: run first.py" env PYTHONPATH="$python" python3 "$work/first.py"
-        try_first "$what: run names.py" env PYTHONPATH="$python" python3 "$work/names.py" "$recording"
+        try_first "$what: run first.py" env PYTHONPATH="$prefix/share/perf_event_data/python" \
+            python3 "$work/first.py"
     fi
 }
 
@@ -155,6 +149,30 @@ check_licences() {
     done
 }
 
+# Compares what the other words print of a recording with the names of its tasks.
+has_names() {
+    of=$1
+    shift
+    "$@" <"$here/../examples/recording.stream" >"$work/names.found" 2>&1
+    if grep '^[0-9]* [0-9]* is ' "$here/../crates/perf_uses/stdout" | cmp -s - "$work/names.found"; then
+        pass "$of"
+    else
+        fail "$of: $(head -n 3 "$work/names.found")"
+    fi
+}
+
+# The programs of docs/LINKING.md and of the README here, over the copy in `prefix`.
+try_pages() {
+    try "build names.c" cc -std=c99 $pie -Wall -Wextra -Wpedantic -Werror $(package --cflags) -o "$work/names" \
+        "$here/first/names.c" "$(package --variable=libdir)/libperf_event_data.a" && has_names "run names.c" "$work/names"
+    if [ -n "$shared" ] && command -v python3 >/dev/null; then
+        has_names "run names.py" env PYTHONPATH="$prefix/share/perf_event_data/python" \
+            python3 "$here/first/names.py" "$here/../examples/recording.stream"
+    else
+        skip "names.py: no shared object, or no python3"
+    fi
+}
+
 # With DESTDIR no file may name the folder where it is for now.
 check_destdir() {
     make_quietly install PREFIX=/usr DESTDIR="$work/staged" "$@" >"$work/log" 2>&1 || {
@@ -174,9 +192,7 @@ make_quietly() {
     make -s -C "$here" "$goal" OUT="$work/out" ARCHIVE="$archive" "$@"
 }
 
-recording=$here/../examples/recording.stream
-names=$(grep '^[0-9]* [0-9]* is ' "$here/../crates/perf_uses/stdout")
-cp "$here"/first/* "$work" && cd "$work" || exit 2
+cp "$here"/first/first.* "$work" && cd "$work" || exit 2
 prefix=$work/usr
 make_quietly install PREFIX="$prefix" "$@" >"$work/install.log" 2>&1 || {
     cat "$work/install.log"
@@ -187,6 +203,7 @@ check_shared
 check_version
 check_licences
 try_copy
+try_pages
 check_destdir "$@"
 
 try "pack" make_quietly dist "$@"

@@ -10,7 +10,7 @@ import sys
 from html import escape
 from pathlib import Path
 
-# What each crate returns. Crates that no product uses are in OTHERS.
+# What each crate returns. Examples, tests and measurements are in OTHERS.
 RETURNS = {
     "perf_words": "sets of flags, named numbers",
     "perf_base": "byte orders, errors, configurations",
@@ -27,11 +27,14 @@ RETURNS = {
     "perf_text": "text that is written backward",
     "perf_lines": "the text of a run",
     "perf_reports": "lines of tasks and samples, counts",
+    "perf_data_text": "the text of a perf.data file",
+    "perf_data": "that text",
     "perfrec": "a line for each frame",
     "perf_tasks": "lines about tasks",
     "perf_samples": "lines of samples",
     "perf_count": "three numbers",
 }
+FACES = ("perf_event_data", "perf_event_c", "perf_file")
 OTHERS = "perf_uses perf_unit_tests perf_file_tests perf_out_of_memory perf_replay perf_test_helpers perf_bench".split()
 
 STYLE = """<style>
@@ -72,9 +75,9 @@ def uses_of_crates():
     lines = [it.split(":") for it in Path("crates.txt").read_text().splitlines() if it and it[0] != "#"]
     every = {name.split()[0]: used.split() for name, used in lines}
     unknown = set(every) - set(RETURNS) - set(OTHERS)
-    if unknown or set(RETURNS) - set(every):
-        sys.exit(f"crates.txt and the tables of this file differ: {unknown or set(RETURNS) - set(every)}")
-    uses = {name: [it for it in every[name] if it in RETURNS] for name in RETURNS}
+    if unknown:
+        sys.exit(f"the tables of {sys.argv[0]} do not have {', '.join(unknown)}")
+    uses = {name: [it for it in every[name] if it in RETURNS] for name in RETURNS if name in every}
 
     def below(name):
         return {it for used in uses[name] for it in [used, *below(used)]}
@@ -83,32 +86,36 @@ def uses_of_crates():
 
 
 def levels_of(uses):
-    """The level of each crate: above all that it uses, and one that uses none right below its users."""
+    """The level of each crate: above all that it uses; of programs the highest, and of one that uses none below its users."""
     levels = {}
     for _ in uses:
         for name, used in uses.items():
             levels[name] = 1 + max((levels.get(it, 0) for it in used), default=-1)
     for name, used in uses.items():
-        if not used and levels[name] == 0:
-            levels[name] = min(levels[it] for it in uses if name in uses[it]) - 1
+        users = [levels[it] for it in uses if name in uses[it]]
+        if not used:
+            levels[name] = min(users) - 1
+        elif not users and name not in FACES:
+            levels[name] = max(levels.values())
     return levels
 
 
 def layers():
     uses = uses_of_crates()
     levels = levels_of(uses)
-    width, step, wide, high = 960, 66, 234, 42
+    width, step, high = 960, 66, 42
     top = max(levels.values())
     places, parts = {}, []
     for level in range(top + 1):
-        row = [name for name in RETURNS if levels[name] == level]
+        row = [name for name in uses if levels[name] == level]
         for at, name in enumerate(row):
-            places[name] = (round(width * (2 * at + 1) / (2 * len(row))), 30 + (top - level) * step)
+            half = min(117, width // (2 * len(row)) - 3)
+            places[name] = (width * (2 * at + 1) // (2 * len(row)), 30 + (top - level) * step, half)
     for name, used in uses.items():
         parts += [line(places[name][0], places[name][1] + high, places[it][0], places[it][1]) for it in used]
-    for name, (x, y) in places.items():
-        kind = "first" if levels[name] == top else "second" if name in ("perf_event_data", "perf_event_c", "perf_file") else "box"
-        parts += [box(x - wide // 2, y, wide, high, kind), text(x, y + 17, name, "name"), text(x, y + 34, RETURNS[name])]
+    for name, (x, y, half) in places.items():
+        kind = "first" if levels[name] == top else "second" if name in FACES else "box"
+        parts += [box(x - half, y, 2 * half, high, kind), text(x, y + 17, name, "name"), text(x, y + 34, RETURNS[name])]
     height = 30 + (top + 1) * step + 44
     parts.append(text(width // 2, height - 40, "Each crate uses those below it that a line leads to. Green: programs. Yellow: what a program of yours names."))
     parts.append(text(width // 2, height - 20, "Examples, tests and measurements: " + ", ".join(OTHERS)))
