@@ -15,8 +15,8 @@ void print_names(const struct perf_event_attr *attr, const uint8_t *bytes, size_
             fprintf(stderr, "type %u: %s\n", frame.type, ped_message(&frame));
         } else if (frame.read == PERF_RECORD_COMM) {
             struct ped_span name = frame.spans.comm.comm;
-            unsigned long long time = frame.time;
-            printf("%llu %u is %.*s\n", time, frame.tid, (int)name.len, (const char *)bytes + name.at);
+            unsigned long long time = frame.time, tid = frame.numbers.comm.tid;
+            printf("%llu %llu is %.*s\n", time, tid, (int)name.len, (const char *)bytes + name.at);
         }
         size_t taken = ped_frame_length(&frame, len);
         bytes += taken;

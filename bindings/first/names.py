@@ -8,4 +8,4 @@ data = open(sys.argv[1], "rb").read()
 config, length = ped.read_attribute(data)
 for frame in ped.Frames(data, config, length):
     if frame.name == "comm":
-        print(frame.time, frame.tid, "is", bytes(frame.fields["comm"]).decode())
+        print(frame.time, frame.fields["tid"], "is", bytes(frame.fields["comm"]).decode())
