@@ -149,6 +149,30 @@ check_licences() {
     done
 }
 
+# Compares what the other words print of a recording with the names of its tasks.
+has_names() {
+    of=$1
+    shift
+    "$@" <"$here/../examples/recording.stream" >"$work/names.found" 2>&1
+    if grep '^[0-9]* [0-9]* is ' "$here/../crates/perf_uses/stdout" | cmp -s - "$work/names.found"; then
+        pass "$of"
+    else
+        fail "$of: $(head -n 3 "$work/names.found")"
+    fi
+}
+
+# The programs of docs/LINKING.md and of the README here, over the copy in `prefix`.
+try_pages() {
+    try "build names.c" cc -std=c99 $pie -Wall -Wextra -Wpedantic -Werror $(package --cflags) -o "$work/names" \
+        "$here/first/names.c" "$(package --variable=libdir)/libperf_event_data.a" && has_names "run names.c" "$work/names"
+    if [ -n "$shared" ] && command -v python3 >/dev/null; then
+        has_names "run names.py" env PYTHONPATH="$prefix/share/perf_event_data/python" \
+            python3 "$here/first/names.py" "$here/../examples/recording.stream"
+    else
+        skip "names.py: no shared object, or no python3"
+    fi
+}
+
 # With DESTDIR no file may name the folder where it is for now.
 check_destdir() {
     make_quietly install PREFIX=/usr DESTDIR="$work/staged" "$@" >"$work/log" 2>&1 || {
@@ -179,6 +203,7 @@ check_shared
 check_version
 check_licences
 try_copy
+try_pages
 check_destdir "$@"
 
 try "pack" make_quietly dist "$@"

@@ -21,17 +21,16 @@ import sys
 sys.dont_write_bytecode = True
 TOP = os.path.join(os.path.dirname(os.path.abspath(__file__)), "..")
 sys.path.insert(0, os.path.join(TOP, "tools", "answers"))
+import fields  # noqa: E402
 import page  # noqa: E402
 
 SAMPLE, READ = 9, 8
+TYPES = fields.read_table()[1]
 RECORDINGS = ("recording.stream", "samples.stream")
 NO_LIMIT = 2**64 - 1
 # Numbers of each type before its lists and byte strings: H, I and Q are those of `struct`.
-NUMBERS = {
-    1: "IIQQQ", 2: "QQ", 3: "II", 4: "IIIIQ", 5: "QQQ", 6: "QQQ", 7: "IIIIQ", 8: "II", 10: "IIQQQ", 11: "QQQ", 12: "II",
-    13: "Q", 14: "", 15: "II", 16: "II", 17: "QIHH", 18: "HHIQ", 19: "Q", 20: "Q", 21: "Q",
-}
-NAMES = (1, 3, 10, 17, 19)
+NUMBERS = {number: fields.widths(record) for number, _, _, record in TYPES if number not in (0, SAMPLE)}
+NAMES = [number for number, _, _, record in TYPES if any(it.item == "name" for it in record.fields)]
 # The bits of a sample type by which a sample id has a number, and those whose field of a sample is one number.
 IN_ID = (1, 2, 6, 7, 9, 16)
 PLAIN = (0, 1, 2, 3, 6, 7, 8, 9, 14, 15, 16, 17, 19, 21, 22, 23, 24)
@@ -151,7 +150,7 @@ class Maker:
             return self.sample()
         made = self.pack(NUMBERS.get(type_, ""))
         if type_ == READ:
-            made += self.pack("Q" * (1 + bin(self.read_format & 0x17).count("1")))
+            made += self.pack("Q" * bin(self.read_format & 0x17).count("1"))
         elif type_ == 10:
             length = self.random.choice([0, 8, 16, 20, 21, 255])
             detail = bytes([length, 0, 0, 0]) + self.random.randbytes(20) if misc >> 14 & 1 else self.pack("IIQQ")
@@ -309,11 +308,7 @@ def write_list(seed, count):
 
 
 # What the line of a record adds to the checksum besides its type and its size; of a byte string it is the length.
-SUMS = {
-    "Mmap": "pid tid addr len pgoff filename", "Mmap2": "pid tid addr len pgoff filename", "Comm": "pid tid comm",
-    "Exit": "pid ppid tid ptid time", "Fork": "pid ppid tid ptid time", "Lost": "id lost", "LostSamples": "lost",
-    "Sample": "ip pid tid time period callchain raw",
-}
+SUMS = {name: {it.name: it for it in record.fields if it.is_summed} for _, name, _, record in TYPES}
 
 
 def counts_of(text):
@@ -321,16 +316,15 @@ def counts_of(text):
     *lines, _, status = text.split("; ")
     records = refused = checksum = 0
     for line in lines:
-        _, type_, _, size, name, *fields = line.split(" ")
+        _, type_, _, size, name, *words = line.split(" ")
         records += 1
         refused += name == "refused"
         if name != "refused":
             checksum += int(type_) + int(size)
-        for key, _, value in (field.partition("=") for field in fields):
-            if key not in SUMS.get(name, "").split():
-                continue
-            is_string = key in ("filename", "comm", "raw")
-            checksum += len(value) // 2 if is_string else sum(map(int, value.split(","))) if value else 0
+        for key, _, value in (field.partition("=") for field in words):
+            if key in SUMS.get(name, ()):
+                is_string = SUMS[name][key].item in ("name", "bytes")
+                checksum += len(value) // 2 if is_string else sum(map(int, value.split(","))) if value else 0
     return f"{records} {refused} {checksum % 2**64}\n", int(status[len("status ") :])
 
 

@@ -89,108 +89,60 @@ enum ped_reason {
 /* The numbers of a record. What it does not have is 0. */
 union ped_numbers {
     uint64_t all[24];
+    /* made of fields.txt by fields.py */
+    struct { uint64_t pid, tid, addr, len, pgoff; } mmap;
+    struct { uint64_t id, lost; } lost;
+    struct { uint64_t pid, tid; } comm;
+    struct { uint64_t pid, ppid, tid, ptid, time; } task; /* EXIT and FORK */
+    struct { uint64_t time, id, stream_id; } throttle; /* THROTTLE and UNTHROTTLE */
+    struct { uint64_t pid, tid, value, time_enabled, time_running, id, lost; } read;
+        /* time_enabled to lost: each if its bit of read_format is set */
     struct {
-        uint64_t pid, tid, addr, len, pgoff;
-    } mmap;
-    struct {
-        uint64_t id, lost;
-    } lost;
-    struct {
-        uint64_t pid, tid;
-    } comm;
-    struct {
-        uint64_t pid, ppid, tid, ptid, time;
-    } task; /* EXIT and FORK */
-    struct {
-        uint64_t time, id, stream_id;
-    } throttle; /* THROTTLE and UNTHROTTLE */
-    struct {
-        uint64_t pid, tid, value;
-        uint64_t time_enabled, time_running, id, lost; /* each if its bit of read_format is set */
-    } read;
-    struct {
-        uint64_t ip, addr, period, weight, data_src, transaction, phys_addr, cgroup;
-        uint64_t data_page_size, code_page_size, lbr_hw_index, regs_user_abi, regs_intr_abi;
-        uint64_t time_enabled, time_running, count;  /* count: of the counters */
-        uint64_t value, value_id, value_lost;        /* of one counter, without PERF_FORMAT_GROUP */
+        uint64_t ip, addr, period, weight, data_src, transaction, phys_addr, cgroup, data_page_size,
+            code_page_size, lbr_hw_index, regs_user_abi, regs_intr_abi, time_enabled, time_running,
+            count; /* of the counters */
+        uint64_t value, value_id, value_lost; /* of one counter, without PERF_FORMAT_GROUP */
     } sample;
-    struct {
-        uint64_t pid, tid, addr, len, pgoff, prot, flags;
-        uint64_t maj, min, ino, ino_generation; /* absent with a build id */
-    } mmap2;
-    struct {
-        uint64_t aux_offset, aux_size, flags;
-    } aux;
-    struct {
-        uint64_t pid, tid;
-    } itrace_start;
-    struct {
-        uint64_t lost;
-    } lost_samples;
-    struct {
-        uint64_t pid, tid, out; /* out: 1 if the switch went to that task, 0 if it came from there */
-    } switch_cpu_wide;
-    struct {
-        uint64_t pid, tid, count;
-    } namespaces;
-    struct {
-        uint64_t addr, len, ksym_type, flags;
-    } ksymbol;
-    struct {
-        uint64_t ty, flags, id;
-    } bpf_event;
-    struct {
-        uint64_t id;
-    } cgroup;
-    struct {
-        uint64_t addr;
-    } text_poke;
-    struct {
-        uint64_t hw_id;
-    } aux_output_hw_id;
+    struct { uint64_t pid, tid, addr, len, pgoff, prot, flags, maj, min, ino, ino_generation; } mmap2;
+        /* maj to ino_generation: absent with a build id */
+    struct { uint64_t aux_offset, aux_size, flags; } aux;
+    struct { uint64_t pid, tid; } itrace_start;
+    struct { uint64_t lost; } lost_samples;
+    struct { uint64_t pid, tid, out; } switch_cpu_wide;
+        /* out: 1 if the switch went to that task, 0 if it came from there */
+    struct { uint64_t pid, tid, count; } namespaces;
+    struct { uint64_t addr, len, ksym_type, flags; } ksymbol;
+    struct { uint64_t ty, flags, id; } bpf_event;
+    struct { uint64_t id; } cgroup;
+    struct { uint64_t addr; } text_poke;
+    struct { uint64_t hw_id; } aux_output_hw_id;
+    /* up to here */
 };
 
 /* Where the byte strings and the lists of a record are. A name has no zero bytes at its end. */
 union ped_spans {
     struct ped_span all[8];
-    struct {
-        struct ped_span filename;
-    } mmap;
-    struct {
-        struct ped_span comm;
-    } comm;
+    /* made of fields.txt by fields.py */
+    struct { struct ped_span data; } unknown;
+        /* the whole body of a type that the kernel does not have */
+    struct { struct ped_span filename; } mmap;
+    struct { struct ped_span comm; } comm;
     struct {
         struct ped_span callchain; /* numbers */
-        struct ped_span lbr;       /* three numbers each: from, to, and the word of the branch */
-        struct ped_span values;    /* with PERF_FORMAT_GROUP: of each counter its value, id and lost */
-        struct ped_span regs_user; /* numbers */
-        struct ped_span regs_intr; /* numbers */
-        struct ped_span raw;
-        struct ped_span stack_user; /* what of it is used */
+        struct ped_span lbr; /* three numbers each: from, to, and the word of the branch */
+        struct ped_span values; /* with PERF_FORMAT_GROUP: of each counter its value, id and lost */
+        struct ped_span regs_user, regs_intr; /* regs_user and regs_intr: numbers */
+        struct ped_span raw, stack_user; /* stack_user: what of it is used */
         struct ped_span aux;
     } sample;
-    struct {
-        struct ped_span filename;
-        struct ped_span build_id; /* with PERF_RECORD_MISC_MMAP_BUILD_ID in `misc` */
-    } mmap2;
-    struct {
-        struct ped_span namespaces; /* two numbers each: device and inode */
-    } namespaces;
-    struct {
-        struct ped_span name;
-    } ksymbol;
-    struct {
-        struct ped_span tag;
-    } bpf_event;
-    struct {
-        struct ped_span path;
-    } cgroup;
-    struct {
-        struct ped_span old_bytes, new_bytes;
-    } text_poke;
-    struct {
-        struct ped_span data; /* the whole body of a type that the kernel does not have */
-    } unknown;
+    struct { struct ped_span filename, build_id; } mmap2;
+        /* build_id: with PERF_RECORD_MISC_MMAP_BUILD_ID in `misc` */
+    struct { struct ped_span namespaces; } namespaces; /* two numbers each: device and inode */
+    struct { struct ped_span name; } ksymbol;
+    struct { struct ped_span tag; } bpf_event;
+    struct { struct ped_span path; } cgroup;
+    struct { struct ped_span old_bytes, new_bytes; } text_poke;
+    /* up to here */
 };
 
 /* A frame as plain numbers, in 320 bytes. What its record does not have is 0. */

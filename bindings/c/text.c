@@ -2,10 +2,84 @@
 #include <stdlib.h>
 #include "text.h"
 
-static const char *const type_names[] = {
-    "Unknown", "Mmap", "Lost", "Comm", "Exit", "Throttle", "Unthrottle", "Fork",
-    "Read", "Sample", "Mmap2", "Aux", "ITraceStart", "LostSamples", "Switch", "SwitchCpuWide",
-    "Namespaces", "KSymbol", "BpfEvent", "CGroup", "TextPoke", "AuxOutputHwId"};
+/* How a field is printed: a number of the record or of the frame itself, bytes, or a list of items. */
+enum kind { NUMBER, OWN, BYTES, COUNTERS, NUMBERS, PAIRS, BRANCHES };
+
+/* What a field may need besides a flag and PERF_FORMAT_*: no group, a build id, or none. */
+enum { SINGLE = 32, BUILD_ID = 64, INODE = 128 };
+
+/* A field: what is printed before it, its place among the numbers or the spans, and when it is present: if
+ * the frame has one of the flags, PERF_SAMPLE_*, unless there are none, and all of the forms. */
+struct field {
+    const char *before;
+    enum kind kind;
+    int at;
+    uint64_t flags;
+    uint32_t forms;
+};
+
+#define FIELD(name, kind, at) {" " #name "=", kind, at, 0, 0}
+#define IF(name, kind, at, flag) {" " #name "=", kind, at, PERF_SAMPLE_##flag, 0}
+#define END {NULL, NUMBER, 0, 0, 0}
+
+/* The records by the numbers of their types, each with its fields in the order of its line. */
+static const struct record {
+    const char *name;
+    struct field fields[34];
+} records[] = {
+    /* made of fields.txt by fields.py */
+    {"Unknown", {FIELD(data, BYTES, 0), END}},
+    {"Mmap", {FIELD(pid, NUMBER, 0), FIELD(tid, NUMBER, 1), FIELD(addr, NUMBER, 2), FIELD(len, NUMBER, 3),
+        FIELD(pgoff, NUMBER, 4), FIELD(filename, BYTES, 0), END}},
+    {"Lost", {FIELD(id, NUMBER, 0), FIELD(lost, NUMBER, 1), END}},
+    {"Comm", {FIELD(pid, NUMBER, 0), FIELD(tid, NUMBER, 1), FIELD(comm, BYTES, 0), END}},
+    {"Exit", {FIELD(pid, NUMBER, 0), FIELD(ppid, NUMBER, 1), FIELD(tid, NUMBER, 2), FIELD(ptid, NUMBER, 3),
+        FIELD(time, NUMBER, 4), END}},
+    {"Throttle", {FIELD(time, NUMBER, 0), FIELD(id, NUMBER, 1), FIELD(stream_id, NUMBER, 2), END}},
+    {"Unthrottle", {FIELD(time, NUMBER, 0), FIELD(id, NUMBER, 1), FIELD(stream_id, NUMBER, 2), END}},
+    {"Fork", {FIELD(pid, NUMBER, 0), FIELD(ppid, NUMBER, 1), FIELD(tid, NUMBER, 2), FIELD(ptid, NUMBER, 3),
+        FIELD(time, NUMBER, 4), END}},
+    {"Read", {FIELD(pid, NUMBER, 0), FIELD(tid, NUMBER, 1), FIELD(value, NUMBER, 2),
+        {" time_enabled=", NUMBER, 3, 0, PERF_FORMAT_TOTAL_TIME_ENABLED},
+        {" time_running=", NUMBER, 4, 0, PERF_FORMAT_TOTAL_TIME_RUNNING},
+        {" id=", NUMBER, 5, 0, PERF_FORMAT_ID}, {" lost=", NUMBER, 6, 0, PERF_FORMAT_LOST}, END}},
+    {"Sample", {IF(ip, NUMBER, 0, IP), IF(pid, OWN, 0, TID), IF(tid, OWN, 1, TID), IF(time, OWN, 2, TIME),
+        IF(addr, NUMBER, 1, ADDR), {" id=", OWN, 3, PERF_SAMPLE_ID | PERF_SAMPLE_IDENTIFIER, 0},
+        IF(stream_id, OWN, 4, STREAM_ID), IF(cpu, OWN, 5, CPU), IF(period, NUMBER, 2, PERIOD),
+        {" time_enabled=", NUMBER, 13, PERF_SAMPLE_READ, PERF_FORMAT_TOTAL_TIME_ENABLED},
+        {" time_running=", NUMBER, 14, PERF_SAMPLE_READ, PERF_FORMAT_TOTAL_TIME_RUNNING},
+        {" values=", COUNTERS, 2, PERF_SAMPLE_READ, PERF_FORMAT_GROUP},
+        {" values=", NUMBER, 16, PERF_SAMPLE_READ, SINGLE},
+        {":", NUMBER, 17, PERF_SAMPLE_READ, SINGLE | PERF_FORMAT_ID},
+        {":", NUMBER, 18, PERF_SAMPLE_READ, SINGLE | PERF_FORMAT_LOST}, IF(callchain, NUMBERS, 0, CALLCHAIN),
+        IF(raw, BYTES, 5, RAW), {" lbr_hw_index=", NUMBER, 10, PED_HAS_LBR_HW_INDEX, 0},
+        IF(lbr, BRANCHES, 1, BRANCH_STACK), IF(regs_user_abi, NUMBER, 11, REGS_USER),
+        IF(regs_user, NUMBERS, 3, REGS_USER), IF(stack_user, BYTES, 6, STACK_USER),
+        {" weight=", NUMBER, 3, PERF_SAMPLE_WEIGHT | PERF_SAMPLE_WEIGHT_STRUCT, 0},
+        IF(data_src, NUMBER, 4, DATA_SRC), IF(transaction, NUMBER, 5, TRANSACTION),
+        IF(regs_intr_abi, NUMBER, 12, REGS_INTR), IF(regs_intr, NUMBERS, 4, REGS_INTR),
+        IF(phys_addr, NUMBER, 6, PHYS_ADDR), IF(aux, BYTES, 7, AUX), IF(cgroup, NUMBER, 7, CGROUP),
+        IF(data_page_size, NUMBER, 8, DATA_PAGE_SIZE), IF(code_page_size, NUMBER, 9, CODE_PAGE_SIZE), END}},
+    {"Mmap2", {FIELD(pid, NUMBER, 0), FIELD(tid, NUMBER, 1), FIELD(addr, NUMBER, 2), FIELD(len, NUMBER, 3),
+        FIELD(pgoff, NUMBER, 4), {" maj=", NUMBER, 7, 0, INODE}, {" min=", NUMBER, 8, 0, INODE},
+        {" ino=", NUMBER, 9, 0, INODE}, {" ino_generation=", NUMBER, 10, 0, INODE},
+        {" build_id=", BYTES, 1, 0, BUILD_ID}, FIELD(prot, NUMBER, 5), FIELD(flags, NUMBER, 6),
+        FIELD(filename, BYTES, 0), END}},
+    {"Aux", {FIELD(aux_offset, NUMBER, 0), FIELD(aux_size, NUMBER, 1), FIELD(flags, NUMBER, 2), END}},
+    {"ITraceStart", {FIELD(pid, NUMBER, 0), FIELD(tid, NUMBER, 1), END}},
+    {"LostSamples", {FIELD(lost, NUMBER, 0), END}},
+    {"Switch", {END}},
+    {"SwitchCpuWide", {FIELD(pid, NUMBER, 0), FIELD(tid, NUMBER, 1), FIELD(out, NUMBER, 2), END}},
+    {"Namespaces", {FIELD(pid, NUMBER, 0), FIELD(tid, NUMBER, 1), FIELD(namespaces, PAIRS, 0), END}},
+    {"KSymbol", {FIELD(addr, NUMBER, 0), FIELD(len, NUMBER, 1), FIELD(ksym_type, NUMBER, 2),
+        FIELD(flags, NUMBER, 3), FIELD(name, BYTES, 0), END}},
+    {"BpfEvent", {FIELD(ty, NUMBER, 0), FIELD(flags, NUMBER, 1), FIELD(id, NUMBER, 2), FIELD(tag, BYTES, 0),
+        END}},
+    {"CGroup", {FIELD(id, NUMBER, 0), FIELD(path, BYTES, 0), END}},
+    {"TextPoke", {FIELD(addr, NUMBER, 0), FIELD(old_bytes, BYTES, 0), FIELD(new_bytes, BYTES, 1), END}},
+    {"AuxOutputHwId", {FIELD(hw_id, NUMBER, 0), END}},
+    /* up to here */
+};
 
 static const char *const kind_names[] = {
     "", "Eof", "InvalidRecord", "UnsupportedConfig", "UnsupportedData", "", "", ""};
@@ -21,315 +95,81 @@ struct line {
     const struct ped_frame *frame;
 };
 
-static void put(const struct line *line, const char *name, uint64_t number)
+static void put(const struct line *line, const char *before, uint64_t number)
 {
-    fprintf(line->out, " %s=%llu", name, (unsigned long long)number);
+    fprintf(line->out, "%s%llu", before, (unsigned long long)number);
 }
 
-static void put_hex(const struct line *line, const char *name, struct ped_span span)
+static void put_hex(const struct line *line, struct ped_span span)
 {
     uint32_t i;
-    fprintf(line->out, " %s=", name);
     for (i = 0; i < span.len; i++) {
         fprintf(line->out, "%02x", line->bytes[span.at + i]);
     }
 }
 
+/* The word of a branch: four bits, its cycles and its type. */
+static void put_branch(const struct line *line, uint64_t word)
+{
+    int bit;
+    for (bit = 0; bit < 4; bit++) {
+        put(line, ":", word >> bit & 1);
+    }
+    put(line, ":", word >> 4 & 0xffff);
+    put(line, ":", word >> 20 & 15);
+}
+
 /* Items of `each` numbers: commas between items, colons inside one. */
-static void put_items(const struct line *line, const char *name, struct ped_span span, size_t each)
+static void put_items(const struct line *line, struct ped_span span, size_t each, int are_branches)
 {
     size_t i;
-    fprintf(line->out, " %s=", name);
     for (i = 0; i < ped_count(span); i++) {
         uint64_t number = ped_number(line->order, line->bytes, span, i);
-        const char *before = i == 0 ? "" : i % each == 0 ? "," : ":";
-        fprintf(line->out, "%s%llu", before, (unsigned long long)number);
+        if (are_branches && i % each == 2) {
+            put_branch(line, number);
+        } else {
+            put(line, i == 0 ? "" : i % each == 0 ? "," : ":", number);
+        }
     }
 }
 
-static int has(const struct line *line, uint64_t flags)
+/* What the fields of a frame may need besides a flag, as far as it has it. */
+static uint32_t forms_of(const struct ped_frame *f)
 {
-    return (line->frame->present & flags) != 0;
+    return f->read_format | (f->read_format & PERF_FORMAT_GROUP ? 0 : SINGLE)
+        | (f->misc & PERF_RECORD_MISC_MMAP_BUILD_ID ? BUILD_ID : INODE);
 }
 
-static int has_format(const struct line *line, uint32_t format)
-{
-    return (line->frame->read_format & format) != 0;
-}
-
-/* ---- samples */
-
-static void put_moment(const struct line *line)
+static void put_field(const struct line *line, const struct field *field, uint32_t forms)
 {
     const struct ped_frame *f = line->frame;
-    if (has(line, PERF_SAMPLE_IP)) put(line, "ip", f->numbers.sample.ip);
-    if (has(line, PERF_SAMPLE_TID)) put(line, "pid", f->pid);
-    if (has(line, PERF_SAMPLE_TID)) put(line, "tid", f->tid);
-    if (has(line, PERF_SAMPLE_TIME)) put(line, "time", f->time);
-    if (has(line, PERF_SAMPLE_ADDR)) put(line, "addr", f->numbers.sample.addr);
-    if (has(line, PERF_SAMPLE_ID | PERF_SAMPLE_IDENTIFIER)) put(line, "id", f->id);
-    if (has(line, PERF_SAMPLE_STREAM_ID)) put(line, "stream_id", f->stream_id);
-    if (has(line, PERF_SAMPLE_CPU)) put(line, "cpu", f->cpu);
-    if (has(line, PERF_SAMPLE_PERIOD)) put(line, "period", f->numbers.sample.period);
+    const uint64_t own[] = {f->pid, f->tid, f->time, f->id, f->stream_id, f->cpu};
+    size_t counters = 1 + ((forms & PERF_FORMAT_ID) != 0) + ((forms & PERF_FORMAT_LOST) != 0);
+    fputs(field->before, line->out);
+    switch (field->kind) {
+    case NUMBER: put(line, "", f->numbers.all[field->at]); break;
+    case OWN: put(line, "", own[field->at]); break;
+    case BYTES: put_hex(line, f->spans.all[field->at]); break;
+    case COUNTERS: put_items(line, f->spans.all[field->at], counters, 0); break;
+    case NUMBERS: put_items(line, f->spans.all[field->at], 1, 0); break;
+    case PAIRS: put_items(line, f->spans.all[field->at], 2, 0); break;
+    case BRANCHES: put_items(line, f->spans.all[field->at], 3, 1); break;
+    }
 }
 
-/* The counters of a sample: those of a group are a span, one by itself is numbers. */
-static void put_counters(const struct line *line)
+/* The name and the fields of a record; of a type without a name, those that are unknown. */
+static void put_record(const struct line *line)
 {
     const struct ped_frame *f = line->frame;
-    size_t each = 1 + has_format(line, PERF_FORMAT_ID) + has_format(line, PERF_FORMAT_LOST);
-    if (has_format(line, PERF_FORMAT_TOTAL_TIME_ENABLED)) {
-        put(line, "time_enabled", f->numbers.sample.time_enabled);
-    }
-    if (has_format(line, PERF_FORMAT_TOTAL_TIME_RUNNING)) {
-        put(line, "time_running", f->numbers.sample.time_running);
-    }
-    if (has_format(line, PERF_FORMAT_GROUP)) {
-        put_items(line, "values", f->spans.sample.values, each);
-        return;
-    }
-    put(line, "values", f->numbers.sample.value);
-    if (has_format(line, PERF_FORMAT_ID)) {
-        fprintf(line->out, ":%llu", (unsigned long long)f->numbers.sample.value_id);
-    }
-    if (has_format(line, PERF_FORMAT_LOST)) {
-        fprintf(line->out, ":%llu", (unsigned long long)f->numbers.sample.value_lost);
-    }
-}
-
-static void put_branches(const struct line *line)
-{
-    struct ped_span lbr = line->frame->spans.sample.lbr;
-    size_t i;
-    fprintf(line->out, " lbr=");
-    for (i = 0; i + 2 < ped_count(lbr); i += 3) {
-        uint64_t word = ped_number(line->order, line->bytes, lbr, i + 2);
-        fprintf(line->out, "%s%llu:%llu", i == 0 ? "" : ",",
-                (unsigned long long)ped_number(line->order, line->bytes, lbr, i),
-                (unsigned long long)ped_number(line->order, line->bytes, lbr, i + 1));
-        fprintf(line->out, ":%u:%u:%u:%u:%u:%u", (unsigned)(word & 1), (unsigned)(word >> 1 & 1),
-                (unsigned)(word >> 2 & 1), (unsigned)(word >> 3 & 1), (unsigned)(word >> 4 & 0xffff),
-                (unsigned)(word >> 20 & 15));
-    }
-}
-
-static void put_state(const struct line *line)
-{
-    const struct ped_frame *f = line->frame;
-    if (has(line, PERF_SAMPLE_CALLCHAIN)) put_items(line, "callchain", f->spans.sample.callchain, 1);
-    if (has(line, PERF_SAMPLE_RAW)) put_hex(line, "raw", f->spans.sample.raw);
-    if (has(line, PED_HAS_LBR_HW_INDEX)) put(line, "lbr_hw_index", f->numbers.sample.lbr_hw_index);
-    if (has(line, PERF_SAMPLE_BRANCH_STACK)) put_branches(line);
-    if (has(line, PERF_SAMPLE_REGS_USER)) {
-        put(line, "regs_user_abi", f->numbers.sample.regs_user_abi);
-        put_items(line, "regs_user", f->spans.sample.regs_user, 1);
-    }
-    if (has(line, PERF_SAMPLE_STACK_USER)) put_hex(line, "stack_user", f->spans.sample.stack_user);
-}
-
-static void put_costs(const struct line *line)
-{
-    const struct ped_frame *f = line->frame;
-    if (has(line, PERF_SAMPLE_WEIGHT | PERF_SAMPLE_WEIGHT_STRUCT)) {
-        put(line, "weight", f->numbers.sample.weight);
-    }
-    if (has(line, PERF_SAMPLE_DATA_SRC)) put(line, "data_src", f->numbers.sample.data_src);
-    if (has(line, PERF_SAMPLE_TRANSACTION)) put(line, "transaction", f->numbers.sample.transaction);
-    if (has(line, PERF_SAMPLE_REGS_INTR)) {
-        put(line, "regs_intr_abi", f->numbers.sample.regs_intr_abi);
-        put_items(line, "regs_intr", f->spans.sample.regs_intr, 1);
-    }
-    if (has(line, PERF_SAMPLE_PHYS_ADDR)) put(line, "phys_addr", f->numbers.sample.phys_addr);
-    if (has(line, PERF_SAMPLE_AUX)) put_hex(line, "aux", f->spans.sample.aux);
-    if (has(line, PERF_SAMPLE_CGROUP)) put(line, "cgroup", f->numbers.sample.cgroup);
-    if (has(line, PERF_SAMPLE_DATA_PAGE_SIZE)) {
-        put(line, "data_page_size", f->numbers.sample.data_page_size);
-    }
-    if (has(line, PERF_SAMPLE_CODE_PAGE_SIZE)) {
-        put(line, "code_page_size", f->numbers.sample.code_page_size);
-    }
-}
-
-static void put_sample(const struct line *line)
-{
-    put_moment(line);
-    if (has(line, PERF_SAMPLE_READ)) put_counters(line);
-    put_state(line);
-    put_costs(line);
-}
-
-/* ---- tasks, and what they map */
-
-static void put_mmap(const struct line *line)
-{
-    const struct ped_frame *f = line->frame;
-    put(line, "pid", f->numbers.mmap.pid);
-    put(line, "tid", f->numbers.mmap.tid);
-    put(line, "addr", f->numbers.mmap.addr);
-    put(line, "len", f->numbers.mmap.len);
-    put(line, "pgoff", f->numbers.mmap.pgoff);
-    put_hex(line, "filename", f->spans.mmap.filename);
-}
-
-static void put_mmap2(const struct line *line)
-{
-    const struct ped_frame *f = line->frame;
-    put(line, "pid", f->numbers.mmap2.pid);
-    put(line, "tid", f->numbers.mmap2.tid);
-    put(line, "addr", f->numbers.mmap2.addr);
-    put(line, "len", f->numbers.mmap2.len);
-    put(line, "pgoff", f->numbers.mmap2.pgoff);
-    if (f->misc & PERF_RECORD_MISC_MMAP_BUILD_ID) {
-        put_hex(line, "build_id", f->spans.mmap2.build_id);
-    } else {
-        put(line, "maj", f->numbers.mmap2.maj);
-        put(line, "min", f->numbers.mmap2.min);
-        put(line, "ino", f->numbers.mmap2.ino);
-        put(line, "ino_generation", f->numbers.mmap2.ino_generation);
-    }
-    put(line, "prot", f->numbers.mmap2.prot);
-    put(line, "flags", f->numbers.mmap2.flags);
-    put_hex(line, "filename", f->spans.mmap2.filename);
-}
-
-static void put_comm(const struct line *line)
-{
-    put(line, "pid", line->frame->numbers.comm.pid);
-    put(line, "tid", line->frame->numbers.comm.tid);
-    put_hex(line, "comm", line->frame->spans.comm.comm);
-}
-
-static void put_task(const struct line *line)
-{
-    const struct ped_frame *f = line->frame;
-    put(line, "pid", f->numbers.task.pid);
-    put(line, "ppid", f->numbers.task.ppid);
-    put(line, "tid", f->numbers.task.tid);
-    put(line, "ptid", f->numbers.task.ptid);
-    put(line, "time", f->numbers.task.time);
-}
-
-static void put_namespaces(const struct line *line)
-{
-    put(line, "pid", line->frame->numbers.namespaces.pid);
-    put(line, "tid", line->frame->numbers.namespaces.tid);
-    put_items(line, "namespaces", line->frame->spans.namespaces.namespaces, 2);
-}
-
-static void put_switch(const struct line *line)
-{
-    put(line, "pid", line->frame->numbers.switch_cpu_wide.pid);
-    put(line, "tid", line->frame->numbers.switch_cpu_wide.tid);
-    put(line, "out", line->frame->numbers.switch_cpu_wide.out);
-}
-
-/* Prints a record about a task, and returns whether its type is one of those. */
-static int put_task_record(const struct line *line)
-{
-    switch (line->frame->read) {
-    case PERF_RECORD_MMAP: put_mmap(line); return 1;
-    case PERF_RECORD_MMAP2: put_mmap2(line); return 1;
-    case PERF_RECORD_COMM: put_comm(line); return 1;
-    case PERF_RECORD_EXIT:
-    case PERF_RECORD_FORK: put_task(line); return 1;
-    case PERF_RECORD_NAMESPACES: put_namespaces(line); return 1;
-    case PERF_RECORD_SWITCH: return 1;
-    case PERF_RECORD_SWITCH_CPU_WIDE: put_switch(line); return 1;
-    case PERF_RECORD_ITRACE_START:
-        put(line, "pid", line->frame->numbers.itrace_start.pid);
-        put(line, "tid", line->frame->numbers.itrace_start.tid);
-        return 1;
-    default: return 0;
-    }
-}
-
-/* ---- events and their data */
-
-static void put_read(const struct line *line)
-{
-    const struct ped_frame *f = line->frame;
-    put(line, "pid", f->numbers.read.pid);
-    put(line, "tid", f->numbers.read.tid);
-    put(line, "value", f->numbers.read.value);
-    if (has_format(line, PERF_FORMAT_TOTAL_TIME_ENABLED)) {
-        put(line, "time_enabled", f->numbers.read.time_enabled);
-    }
-    if (has_format(line, PERF_FORMAT_TOTAL_TIME_RUNNING)) {
-        put(line, "time_running", f->numbers.read.time_running);
-    }
-    if (has_format(line, PERF_FORMAT_ID)) put(line, "id", f->numbers.read.id);
-    if (has_format(line, PERF_FORMAT_LOST)) put(line, "lost", f->numbers.read.lost);
-}
-
-static void put_throttle(const struct line *line)
-{
-    put(line, "time", line->frame->numbers.throttle.time);
-    put(line, "id", line->frame->numbers.throttle.id);
-    put(line, "stream_id", line->frame->numbers.throttle.stream_id);
-}
-
-static void put_aux(const struct line *line)
-{
-    put(line, "aux_offset", line->frame->numbers.aux.aux_offset);
-    put(line, "aux_size", line->frame->numbers.aux.aux_size);
-    put(line, "flags", line->frame->numbers.aux.flags);
-}
-
-/* Prints a record about an event, and returns whether its type is one of those. */
-static int put_event_record(const struct line *line)
-{
-    const struct ped_frame *f = line->frame;
-    switch (f->read) {
-    case PERF_RECORD_SAMPLE: put_sample(line); return 1;
-    case PERF_RECORD_READ: put_read(line); return 1;
-    case PERF_RECORD_THROTTLE:
-    case PERF_RECORD_UNTHROTTLE: put_throttle(line); return 1;
-    case PERF_RECORD_AUX: put_aux(line); return 1;
-    case PERF_RECORD_LOST:
-        put(line, "id", f->numbers.lost.id);
-        put(line, "lost", f->numbers.lost.lost);
-        return 1;
-    case PERF_RECORD_LOST_SAMPLES: put(line, "lost", f->numbers.lost_samples.lost); return 1;
-    case PERF_RECORD_AUX_OUTPUT_HW_ID:
-        put(line, "hw_id", f->numbers.aux_output_hw_id.hw_id);
-        return 1;
-    default: return 0;
-    }
-}
-
-/* ---- the kernel's code, and all else */
-
-static void put_ksymbol(const struct line *line)
-{
-    const struct ped_frame *f = line->frame;
-    put(line, "addr", f->numbers.ksymbol.addr);
-    put(line, "len", f->numbers.ksymbol.len);
-    put(line, "ksym_type", f->numbers.ksymbol.ksym_type);
-    put(line, "flags", f->numbers.ksymbol.flags);
-    put_hex(line, "name", f->spans.ksymbol.name);
-}
-
-static void put_other_record(const struct line *line)
-{
-    const struct ped_frame *f = line->frame;
-    switch (f->read) {
-    case PERF_RECORD_KSYMBOL: put_ksymbol(line); break;
-    case PERF_RECORD_BPF_EVENT:
-        put(line, "ty", f->numbers.bpf_event.ty);
-        put(line, "flags", f->numbers.bpf_event.flags);
-        put(line, "id", f->numbers.bpf_event.id);
-        put_hex(line, "tag", f->spans.bpf_event.tag);
-        break;
-    case PERF_RECORD_CGROUP:
-        put(line, "id", f->numbers.cgroup.id);
-        put_hex(line, "path", f->spans.cgroup.path);
-        break;
-    case PERF_RECORD_TEXT_POKE:
-        put(line, "addr", f->numbers.text_poke.addr);
-        put_hex(line, "old_bytes", f->spans.text_poke.old_bytes);
-        put_hex(line, "new_bytes", f->spans.text_poke.new_bytes);
-        break;
-    default: put_hex(line, "data", f->spans.unknown.data);
+    int is_known = f->read < sizeof records / sizeof *records;
+    const struct record *record = &records[is_known ? f->read : 0];
+    const struct field *field;
+    uint32_t forms = forms_of(f);
+    fprintf(line->out, " %s", is_known ? record->name : "?");
+    for (field = record->fields; field->before != NULL; field++) {
+        if ((field->flags == 0 || f->present & field->flags) && (forms & field->forms) == field->forms) {
+            put_field(line, field, forms);
+        }
     }
 }
 
@@ -344,10 +184,7 @@ static void put_line(const struct line *line, uint64_t index)
         fprintf(line->out, " refused %s\n", kind_names[f->refusal & 7]);
         return;
     }
-    fprintf(line->out, " %s", f->read < 22 ? type_names[f->read] : "?");
-    if (!put_task_record(line) && !put_event_record(line)) {
-        put_other_record(line);
-    }
+    put_record(line);
     fputc('\n', line->out);
 }
 

@@ -29,9 +29,6 @@ __version__ = "0.1.8"
 STRUCT_VERSION = 1  # PED_VERSION of the header
 LITTLE, BIG = 0, 1
 
-TYPES = (
-    "unknown mmap lost comm exit throttle unthrottle fork read sample mmap2 aux itrace_start lost_samples"
-    " switch switch_cpu_wide namespaces ksymbol bpf_event cgroup text_poke aux_output_hw_id").split()
 KINDS = {1: "Eof", 2: "InvalidRecord", 3: "UnsupportedConfig", 4: "UnsupportedData"}
 ENDS = "limit", "done", "cut header"
 _TEXTS = {1: "unexpected EOF during parsing", 2: "invalid record", 3: "unsupported config",
@@ -45,21 +42,30 @@ _REASONS = {
     7: "read_format contains unsupported flags",
     8: "number of elements in group read was too large for data type"}
 
-# The fields of each record by the names of the C header: numbers, and after the bar spans. A span of a
-# list ends in `*` and how many numbers an item has; those of `values` depend on the read format.
-FIELDS = {name: [part.split() for part in text.split("|")] for name, text in {
-    "unknown": "|data", "mmap": "pid tid addr len pgoff|filename", "lost": "id lost|",
-    "comm": "pid tid|comm", "exit": "pid ppid tid ptid time|", "throttle": "time id stream_id|",
-    "unthrottle": "time id stream_id|", "fork": "pid ppid tid ptid time|",
-    "read": "pid tid value time_enabled time_running id lost|",
-    "sample": "ip addr period weight data_src transaction phys_addr cgroup data_page_size code_page_size"
-              " lbr_hw_index regs_user_abi regs_intr_abi time_enabled time_running count value value_id"
-              " value_lost|callchain*1 lbr*3 values*0 regs_user*1 regs_intr*1 raw stack_user aux",
-    "mmap2": "pid tid addr len pgoff prot flags maj min ino ino_generation|filename build_id",
-    "aux": "aux_offset aux_size flags|", "itrace_start": "pid tid|", "lost_samples": "lost|",
-    "switch": "|", "switch_cpu_wide": "pid tid out|", "namespaces": "pid tid count|namespaces*2",
-    "ksymbol": "addr len ksym_type flags|name", "bpf_event": "ty flags id|tag", "cgroup": "id|path",
-    "text_poke": "addr|old_bytes new_bytes", "aux_output_hw_id": "hw_id|"}.items()}
+# The fields of each record by the names of the C header: numbers, and after the semicolon spans. A span of a
+# list ends in `*` and how many numbers an item has; those of `values` depend on the read format. After `/`
+# are the flags of which the record has one, if it has the field, and the forms that it has all.
+_FIELDS = {name: [[field.split("/") for field in part.split()] for part in text.split(";")] for name, text in {
+    # made of bindings/fields.txt by bindings/fields.py
+    "unknown": "; data", "mmap": "pid tid addr len pgoff ; filename", "lost": "id lost ;", "comm": "pid tid ; comm",
+    "exit": "pid ppid tid ptid time ;", "throttle": "time id stream_id ;", "unthrottle": "time id stream_id ;",
+    "fork": "pid ppid tid ptid time ;",
+    "read": "pid tid value time_enabled//enabled time_running//running id//id lost//lost ;",
+    "sample": "ip/IP addr/ADDR period/PERIOD weight/WEIGHT|WEIGHT_STRUCT data_src/DATA_SRC transaction/TRANSACTION"
+    " phys_addr/PHYS_ADDR cgroup/CGROUP data_page_size/DATA_PAGE_SIZE code_page_size/CODE_PAGE_SIZE"
+    " lbr_hw_index/LBR_HW_INDEX regs_user_abi/REGS_USER regs_intr_abi/REGS_INTR time_enabled/READ/enabled"
+    " time_running/READ/running count/READ value/READ/single value_id/READ/single&id value_lost/READ/single&lost ;"
+    " callchain*1/CALLCHAIN lbr*3/BRANCH_STACK values*0/READ/group regs_user*1/REGS_USER regs_intr*1/REGS_INTR"
+    " raw/RAW stack_user/STACK_USER aux/AUX",
+    "mmap2": "pid tid addr len pgoff prot flags maj//inode min//inode ino//inode ino_generation//inode ; filename"
+    " build_id//build_id", "aux": "aux_offset aux_size flags ;", "itrace_start": "pid tid ;", "lost_samples": "lost ;",
+    "switch": ";", "switch_cpu_wide": "pid tid out ;", "namespaces": "pid tid count ; namespaces*2",
+    "ksymbol": "addr len ksym_type flags ; name", "bpf_event": "ty flags id ; tag", "cgroup": "id ; path",
+    "text_poke": "addr ; old_bytes new_bytes", "aux_output_hw_id": "hw_id ;",
+    # up to here
+}.items()}
+FIELDS = {name: [[field[0] for field in part] for part in parts] for name, parts in _FIELDS.items()}
+TYPES = list(FIELDS)
 
 # PERF_SAMPLE_* by name, and the bit of `present` for lbr_hw_index.
 FLAGS = {name: 1 << bit for bit, name in enumerate((
@@ -67,11 +73,9 @@ FLAGS = {name: 1 << bit for bit, name in enumerate((
     " DATA_SRC IDENTIFIER TRANSACTION REGS_INTR PHYS_ADDR AUX CGROUP DATA_PAGE_SIZE CODE_PAGE_SIZE"
     " WEIGHT_STRUCT").split())}
 FLAGS["LBR_HW_INDEX"] = 1 << 32
-_SAMPLE_FLAGS = {"weight": FLAGS["WEIGHT"] | FLAGS["WEIGHT_STRUCT"], "lbr": FLAGS["BRANCH_STACK"],
-                 "regs_user_abi": FLAGS["REGS_USER"], "regs_intr_abi": FLAGS["REGS_INTR"]}
-_GROUP, _BUILD_ID = 8, 0x4000  # PERF_FORMAT_GROUP, PERF_RECORD_MISC_MMAP_BUILD_ID
-_FORMATS = {"time_enabled": 1, "time_running": 2, "id": 4, "value_id": 4, "lost": 16, "value_lost": 16,
-            "values": _GROUP}
+# PERF_FORMAT_*, and whether there is no group, and a build id in place of an inode.
+_FORMS = {"enabled": 1, "running": 2, "id": 4, "group": 8, "lost": 16, "single": 32, "build_id": 64, "inode": 128}
+_BUILD_ID = 0x4000  # PERF_RECORD_MISC_MMAP_BUILD_ID
 
 # A flat frame: 14 numbers, the 24 numbers of its record, and the offset and length of 8 spans.
 _ROW = struct.Struct("=IHHIHHQIIQQQII24Q16I")
@@ -152,31 +156,24 @@ def identifier(data, sample_id_all: bool, order: int = LITTLE):
     return number.value if found else None
 
 
-def _is_present(record: str, name: str, present: int, read_format: int, misc: int) -> bool:
-    """Returns whether a record has the field of that name."""
-    if record == "mmap2" and name in ("build_id", "maj", "min", "ino", "ino_generation"):
-        return (name == "build_id") == bool(misc & _BUILD_ID)
-    if record == "sample":
-        counters = name in _FORMATS or name in ("count", "value")
-        flag = FLAGS["READ"] if counters else _SAMPLE_FLAGS.get(name) or FLAGS[name.upper()]
-        if not present & flag or name in ("value", "value_id", "value_lost") and read_format & _GROUP:
-            return False
-    return record not in ("sample", "read") or name not in _FORMATS or bool(read_format & _FORMATS[name])
+def _is_present(present: int, forms: int, _name: str, flags: str = "", needed: str = "") -> bool:
+    """Returns whether a record has a field, by what it has and what the field needs."""
+    has_flag = not flags or any(present & FLAGS[flag] for flag in flags.split("|"))
+    return has_flag and all(forms & _FORMS[form] for form in needed.split("&") if form)
 
 
 @functools.lru_cache(maxsize=None)
 def _fields(read: int, present: int, read_format: int, misc: int) -> tuple:
     """Returns the names and places of the numbers that a record has, and of its spans, with their items."""
-    record = TYPES[read]
-    numbers, spans = FIELDS[record]
+    forms = read_format | (0 if read_format & 8 else 32) | (64 if misc & _BUILD_ID else 128)
+    numbers, spans = ([(place, field[0]) for place, field in enumerate(part) if _is_present(present, forms, *field)]
+                      for part in _FIELDS[TYPES[read]])
     entry = 1 + bool(read_format & 4) + bool(read_format & 16)
     found = []
-    for place, text in enumerate(spans):
+    for place, text in spans:
         name, star, each = text.partition("*")
-        if _is_present(record, name, present, read_format, misc):
-            found.append((name, 38 + 2 * place, (int(each) or entry) if star else 0))
-    return [(name, 14 + place) for place, name in enumerate(numbers)
-            if _is_present(record, name, present, read_format, misc)], found
+        found.append((name, 38 + 2 * place, (int(each) or entry) if star else 0))
+    return [(name, 14 + place) for place, name in numbers], found
 
 
 class Frame:

@@ -27,16 +27,14 @@ sys.dont_write_bytecode = True
 import perf_event_data as ped  # noqa: E402
 
 TOP = Path(__file__).resolve().parents[2]
+sys.path.insert(0, str(TOP / "bindings"))
+import fields as table  # noqa: E402
+
 CRATES = TOP / "crates"
 RECORDINGS = [CRATES / "perf_tasks/stdin", CRATES / "perf_samples/stdin", *sorted(TOP.glob("examples/*.stream"))]
-NAMES = ("Unknown Mmap Lost Comm Exit Throttle Unthrottle Fork Read Sample Mmap2 Aux ITraceStart LostSamples Switch"
-         " SwitchCpuWide Namespaces KSymbol BpfEvent CGroup TextPoke AuxOutputHwId").split()
-ORDERS = {
-    "sample": "ip pid tid time addr id stream_id cpu period time_enabled time_running values callchain raw"
-              " lbr_hw_index lbr regs_user_abi regs_user stack_user weight data_src transaction regs_intr_abi"
-              " regs_intr phys_addr aux cgroup data_page_size code_page_size",
-    "mmap2": "pid tid addr len pgoff maj min ino ino_generation build_id prot flags filename",
-    "namespaces": "pid tid namespaces"}
+TYPES = table.read_table()[1]
+NAMES = [name for _, name, _, _ in TYPES]
+ORDERS = {name: table.names_of_line(record) for _, _, name, record in TYPES}
 USAGE = "usage: perfrec little|big|native LIMIT [attr]"
 results = {"passed": 0, "FAILED": 0, "skipped": 0}
 
@@ -79,8 +77,9 @@ def line_fields(frame):
             fields["values"] = [tuple(fields[name] for name in ("value", "value_id", "value_lost") if name in fields)]
         if "lbr" in fields:
             fields["lbr"] = [branch(item) for item in fields["lbr"]]
-    order = ORDERS[frame.name].split() if frame.name in ORDERS else fields
-    return {name: fields[name] for name in order if name in fields}
+    lists = [fields[name] for name in ("values", "namespaces") if name in fields]
+    assert list(map(len, lists)) == [fields[name] for name in ["count"] if name in fields], frame.fields
+    return {name: fields[name] for name in ORDERS[frame.name] if name in fields}
 
 
 def line(index, frame):
@@ -248,34 +247,6 @@ def try_words():
     for words in [], ["--help"], ["little"], ["little", "1", "attr", "attr"]:
         ran = subprocess.run([sys.executable, __file__, "perfrec", *words], input="", capture_output=True, text=True)
         check(f"the usage for {words}", (ran.returncode, ran.stdout, ran.stderr) == (2, "", USAGE + "\n"))
-
-
-# ---- the header
-
-
-def header_fields(text, union):
-    """The names of the fields in each member of a union of the header."""
-    body = re.search(r"union " + union + r" \{\n(.*?)\n\};", text, re.S)[1]
-    members = re.findall(r"struct \{([^}]*)\} (\w+);", body)
-    return {name: re.findall(r"(\w+)[,;]", fields) for fields, name in members}
-
-
-def compare_header():
-    path = TOP / "bindings/c/perf_event_data.h"
-    if not path.exists():
-        tell("skipped", f"names of the fields: {path.relative_to(TOP)} is absent")
-        return
-    text = re.sub(r"/\*.*?\*/", "", path.read_text(), flags=re.S)
-    numbers, spans = header_fields(text, "ped_numbers"), header_fields(text, "ped_spans")
-    members = {"exit": "task", "fork": "task", "unthrottle": "throttle"}
-    here, there = {}, {name: (numbers.get(name, []), spans.get(name, [])) for name in {**numbers, **spans}}
-    for record, (own_numbers, own_spans) in ped.FIELDS.items():
-        here[members.get(record, record)] = own_numbers, [name.partition("*")[0] for name in own_spans]
-    del here["switch"]  # it has no field
-    for name in here:
-        if here[name] != there.get(name):
-            print(f"    {name}: {here[name]}\n    not {there.get(name)}")
-    check("the names of the fields are those of the header", here == there)
 
 
 # ---- the calls
@@ -468,7 +439,7 @@ def main():
     replay("runs of crates/perf_replay", (CRATES / "perf_replay/stdin").read_text())
     streams = [sys.executable, TOP / "bindings/streams.py", "list", "1", "200"]
     replay("generated streams", subprocess.run(streams, capture_output=True, text=True, check=True).stdout)
-    for call in (try_words, compare_header, try_inputs, try_memory, try_sequence, try_frames, try_wrong_bytes, try_numpy, measure):
+    for call in (try_words, try_inputs, try_memory, try_sequence, try_frames, try_wrong_bytes, try_numpy, measure):
         call()
     print(", ".join(f"{number} {result.lower()}" for result, number in results.items()))
     return 1 if results["FAILED"] else 0

@@ -1,8 +1,7 @@
 #!/usr/bin/env python3
-"""Makes docs/NAMES.md: the public names of perf_event_data, each with the first sentence of its documentation.
+"""Prints a page of the public names of perf_event_data, each with the first sentence of its documentation.
 
-Usage, at the top of the repository: tools/names/make.py         writes the page
-                                     tools/names/make.py --check fails if the page is not as it would be made
+Usage, at the top of the repository: tools/names/make.py > FILE
 """
 
 import re
@@ -10,11 +9,9 @@ import sys
 from functools import cache
 from pathlib import Path
 
-PAGE = Path("docs/NAMES.md")
 HEAD = """# Names
 
-The public names of `perf_event_data`, each with the first sentence of its documentation. `tools/names/make.py` makes this page from
-the sources.
+The public names of `perf_event_data`, each with the first sentence of its documentation.
 """
 TABLE = "\n| Name | Kind | What it is |\n|---|---|---|\n"
 USE = re.compile(r"pub use ([\w:]+?)(?:::(\w+)|::\{([^}]*)\});")
@@ -104,6 +101,4 @@ def page():
     return HEAD + "\n## `perf_event_data`\n" + TABLE + "\n".join(singles) + "\n" + "".join(parts)
 
 
-if sys.argv[1:] == ["--check"]:
-    sys.exit(0 if PAGE.read_text() == page() else f"{PAGE} is not as it would be made")
-PAGE.write_text(page())
+print(page(), end="")

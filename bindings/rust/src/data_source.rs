@@ -2,9 +2,8 @@
 
 use std::fmt;
 
-use crate::endian::Endian;
 use crate::flags::{MemBlk, MemDtlb, MemLevel, MemLevelNum, MemLock, MemOp, MemSnoop};
-use crate::parse::{Parse, ParseBuf, ParseResult, Parser};
+use crate::parse::parse_by;
 
 /// Where the data that a memory instruction accessed came from, `union perf_mem_data_src`.
 #[derive(Copy, Clone, Default, Eq, PartialEq, Hash)]
@@ -88,12 +87,6 @@ impl fmt::Debug for DataSource {
     }
 }
 
-impl<'p> Parse<'p> for DataSource {
-    fn parse<B, E>(p: &mut Parser<B, E>) -> ParseResult<Self>
-    where
-        E: Endian,
-        B: ParseBuf<'p>,
-    {
-        Ok(Self(p.parse()?))
-    }
+parse_by! {
+    DataSource: p => Ok(Self(p.parse()?));
 }

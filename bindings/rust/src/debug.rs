@@ -2,6 +2,9 @@
 
 use std::fmt::{self, UpperHex, Write};
 
+use crate::records::*;
+use crate::sample::Sample;
+
 /// Bytes as a text: those that are not UTF-8, and control characters, are escaped.
 pub(crate) struct ByteStr<'a>(pub(crate) &'a [u8]);
 
@@ -55,3 +58,40 @@ pub(crate) fn present<T: fmt::Debug>(
         all.field(name, &value);
     }
 }
+
+/// Adds a field or what a call returns.
+macro_rules! value {
+    ($all:ident, $record:ident.$name:ident: ()) => {
+        present(&mut $all, stringify!($name), $record.$name())
+    };
+    ($all:ident, $record:ident.$name:ident: () as $text:ident) => {
+        present(&mut $all, stringify!($name), $record.$name().map($text))
+    };
+    ($all:ident, $record:ident.$name:ident: $at:literal) => {
+        $all.field(stringify!($name), &$record.$name)
+    };
+    ($all:ident, $record:ident.$name:ident: $at:literal as $text:ident) => {
+        $all.field(stringify!($name), &$text(&$record.$name))
+    };
+}
+
+/// Implements `Debug` for a record: one that has nothing but calls may have more.
+macro_rules! debug {
+    (calls $( $row:tt )*) => { debug! { @finish_non_exhaustive $( $row )* } };
+    (fields $( $row:tt )*) => { debug! { @finish $( $row )* } };
+    (some $( $row:tt )*) => { debug! { @finish $( $row )* } };
+    (@$finish:ident $record:ident $( <$life:lifetime> )? {
+        $( $name:ident: $at:tt $( as $text:ident )?, )*
+    }) => {
+        impl<'a> fmt::Debug for $record $( <$life> )? {
+            fn fmt(&self, f: &mut fmt::Formatter<'_>) -> fmt::Result {
+                let record = self;
+                let mut all = f.debug_struct(stringify!($record));
+                $( value!(all, record.$name: $at $( as $text )?); )*
+                all.$finish()
+            }
+        }
+    };
+}
+
+each_record!(debug);

@@ -2,8 +2,7 @@
 
 use std::fmt;
 
-use crate::endian::Endian;
-use crate::parse::{Parse, ParseBuf, ParseResult, Parser};
+use crate::parse::parse_by;
 
 /// Writes a set: the names of its flags, and the bits without a name.
 fn write_set(
@@ -349,22 +348,6 @@ macro_rules! named {
                 }
             }
         }
-    };
-}
-
-macro_rules! parse_number {
-    ($( $name:ident from $make:ident, )*) => {
-        $(
-            impl<'p> Parse<'p> for $name {
-                fn parse<B, E>(p: &mut Parser<B, E>) -> ParseResult<Self>
-                where
-                    E: Endian,
-                    B: ParseBuf<'p>,
-                {
-                    Ok(Self::$make(p.parse()?))
-                }
-            }
-        )*
     };
 }
 
@@ -738,11 +721,11 @@ named! {
     }
 }
 
-parse_number! {
-    AuxFlags from from_bits_retain,
-    KSymbolFlags from from_bits_retain,
-    Txn from from_bits_retain,
-    BpfEventType from new,
-    KSymbolType from new,
-    SampleRegsAbi from new,
+parse_by! {
+    AuxFlags: p => Ok(Self::from_bits_retain(p.parse()?));
+    KSymbolFlags: p => Ok(Self::from_bits_retain(p.parse()?));
+    Txn: p => Ok(Self::from_bits_retain(p.parse()?));
+    BpfEventType: p => Ok(Self::new(p.parse()?));
+    KSymbolType: p => Ok(Self::new(p.parse()?));
+    SampleRegsAbi: p => Ok(Self::new(p.parse()?));
 }

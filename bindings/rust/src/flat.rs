@@ -5,7 +5,9 @@ use std::borrow::Cow;
 use crate::endian::Order;
 use crate::error::{ErrorKind, ParseError, ParseResult};
 use crate::ffi::{self, Config, End, Frame, Place, Span};
+use crate::flags::{AuxFlags, BpfEventType, KSymbolFlags, KSymbolType};
 use crate::parsebuf::ParseBufChunk;
+use crate::records::NamespaceEntry;
 use crate::sys;
 
 /// How many bytes a header has.
@@ -269,4 +271,35 @@ impl<'tmp, 'ext: 'tmp> Flat<'tmp, 'ext> {
         number.copy_from_slice(&self.bytes[from..from + 8]);
         self.order.eight(number)
     }
+}
+
+/// A field of a record, which is at a place among the numbers of a frame or its spans.
+pub(crate) trait Field<'a> {
+    fn of(flat: &Flat<'_, 'a>, at: usize) -> Self;
+}
+
+macro_rules! fields {
+    ($( $type:ty: $flat:ident, $at:ident => $value:expr; )*) => {
+        $(
+            impl<'a> Field<'a> for $type {
+                #[inline]
+                fn of($flat: &Flat<'_, 'a>, $at: usize) -> Self {
+                    $value
+                }
+            }
+        )*
+    };
+}
+
+fields! {
+    u16: flat, at => flat.number(at) as u16;
+    u32: flat, at => flat.half(at);
+    u64: flat, at => flat.number(at);
+    AuxFlags: flat, at => AuxFlags::from_bits_retain(flat.number(at));
+    BpfEventType: flat, at => BpfEventType(flat.number(at) as u16);
+    KSymbolFlags: flat, at => KSymbolFlags::from_bits_retain(flat.number(at) as u16);
+    KSymbolType: flat, at => KSymbolType(flat.number(at) as u16);
+    [u8; 8]: flat, at => flat.part(at)[..].try_into().unwrap_or_default();
+    Cow<'a, [u8]>: flat, at => flat.part(at);
+    Cow<'a, [NamespaceEntry]>: flat, at => flat.words(at);
 }

@@ -34,6 +34,9 @@
 #![warn(missing_docs)]
 #![deny(unsafe_op_in_unsafe_fn)]
 
+// its macros are for the modules below
+#[macro_use]
+mod fields;
 mod config;
 mod data_source;
 mod debug;

@@ -558,27 +558,33 @@ where
     }
 }
 
-macro_rules! parse_number {
-    ($( $number:ident by $call:ident, )*) => {
+/// Implements `Parse` for types, each with what makes it of a parser.
+macro_rules! parse_by {
+    ($( $( #[$attr:meta] )* $type:ty: $p:ident => $value:expr; )*) => {
         $(
-            impl<'p> Parse<'p> for $number {
-                fn parse<B, E>(p: &mut Parser<B, E>) -> ParseResult<Self>
+            impl<'p> $crate::parse::Parse<'p> for $type {
+                $( #[$attr] )*
+                fn parse<B, E>(
+                    $p: &mut $crate::parse::Parser<B, E>,
+                ) -> $crate::parse::ParseResult<Self>
                 where
-                    E: Endian,
-                    B: ParseBuf<'p>,
+                    E: $crate::endian::Endian,
+                    B: $crate::parse::ParseBuf<'p>,
                 {
-                    p.$call()
+                    $value
                 }
             }
         )*
     };
 }
 
-parse_number! {
-    u8 by parse_u8,
-    u16 by parse_u16,
-    u32 by parse_u32,
-    u64 by parse_u64,
+pub(crate) use parse_by;
+
+parse_by! {
+    u8: p => p.parse_u8();
+    u16: p => p.parse_u16();
+    u32: p => p.parse_u32();
+    u64: p => p.parse_u64();
 }
 
 impl<'p, const N: usize> Parse<'p> for [u8; N] {

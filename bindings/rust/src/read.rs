@@ -6,11 +6,10 @@ use std::iter::FusedIterator;
 use std::slice::ChunksExact;
 
 use crate::debug::present;
-use crate::endian::Endian;
 use crate::error::{ParseError, Reason};
 use crate::flags::{ReadFormat, SampleFlags};
 use crate::flat::Flat;
-use crate::parse::{Extent, Parse, ParseBuf, ParseResult, Parser};
+use crate::parse::{parse_by, Extent};
 use crate::records::owned;
 use crate::sys;
 
@@ -37,6 +36,18 @@ impl Read {
     }
 }
 
+/// Numbers that the read format selects.
+macro_rules! selected {
+    ($( $( #[$attr:meta] )* $name:ident, with $flag:expr; )*) => {
+        $(
+            $( #[$attr] )*
+            pub fn $name(&self) -> Option<u64> {
+                self.read_format.contains($flag).then_some(self.$name)
+            }
+        )*
+    };
+}
+
 /// What was read of one counter: its value, and the numbers that the read format selects.
 #[derive(Clone)]
 pub struct ReadValue {
@@ -50,29 +61,16 @@ pub struct ReadValue {
 
 impl ReadValue {
     /// The value of a READ.
-    #[inline]
     fn of(flat: &Flat<'_, '_>) -> Self {
-        Self {
-            read_format: ReadFormat::from_bits_retain(flat.frame.read_format.into()),
-            value: flat.number(2),
-            time_enabled: flat.number(3),
-            time_running: flat.number(4),
-            id: flat.number(5),
-            lost: flat.number(6),
-        }
+        Self::at(flat, [2, 3, 4, 5, 6])
     }
 
-    /// The value of a SAMPLE without a group.
+    /// The value whose numbers are at these places.
     #[inline]
-    fn of_sample(flat: &Flat<'_, '_>) -> Self {
-        Self {
-            read_format: ReadFormat::from_bits_retain(flat.frame.read_format.into()),
-            value: flat.number(16),
-            time_enabled: flat.number(13),
-            time_running: flat.number(14),
-            id: flat.number(17),
-            lost: flat.number(18),
-        }
+    fn at(flat: &Flat<'_, '_>, places: [usize; 5]) -> Self {
+        let read_format = ReadFormat::from_bits_retain(flat.frame.read_format.into());
+        let [value, time_enabled, time_running, id, lost] = places.map(|at| flat.number(at));
+        Self::from_parts(read_format, value, time_enabled, time_running, id, lost)
     }
 
     /// How many bytes it has under a read format.
@@ -117,30 +115,15 @@ impl ReadValue {
         self.value
     }
 
-    /// Returns how long the event was enabled, in nanoseconds, if it is present.
-    pub fn time_enabled(&self) -> Option<u64> {
-        self.read_format
-            .contains(ReadFormat::TOTAL_TIME_ENABLED)
-            .then_some(self.time_enabled)
-    }
-
-    /// Returns how long the event ran, in nanoseconds, if it is present.
-    pub fn time_running(&self) -> Option<u64> {
-        self.read_format
-            .contains(ReadFormat::TOTAL_TIME_RUNNING)
-            .then_some(self.time_running)
-    }
-
-    /// Returns the kernel's id of the event, if it is present.
-    pub fn id(&self) -> Option<u64> {
-        self.read_format.contains(ReadFormat::ID).then_some(self.id)
-    }
-
-    /// Returns how many samples of the event were lost, if it is present.
-    pub fn lost(&self) -> Option<u64> {
-        self.read_format
-            .contains(ReadFormat::LOST)
-            .then_some(self.lost)
+    selected! {
+        /// Returns how long the event was enabled, in nanoseconds, if it is present.
+        time_enabled, with ReadFormat::TOTAL_TIME_ENABLED;
+        /// Returns how long the event ran, in nanoseconds, if it is present.
+        time_running, with ReadFormat::TOTAL_TIME_RUNNING;
+        /// Returns the kernel's id of the event, if it is present.
+        id, with ReadFormat::ID;
+        /// Returns how many samples of the event were lost, if it is present.
+        lost, with ReadFormat::LOST;
     }
 }
 
@@ -191,7 +174,7 @@ impl<'a> ReadGroup<'a> {
     pub(crate) fn of(flat: &Flat<'_, 'a>) -> Self {
         let read_format = ReadFormat::from_bits_retain(flat.frame.read_format.into());
         if !read_format.contains(ReadFormat::GROUP) {
-            return ReadValue::of_sample(flat).into();
+            return ReadValue::at(flat, [16, 13, 14, 17, 18]).into();
         }
         Self {
             read_format,
@@ -258,18 +241,11 @@ impl<'a> ReadGroup<'a> {
         }
     }
 
-    /// Returns how long the group was enabled, in nanoseconds, if it is present.
-    pub fn time_enabled(&self) -> Option<u64> {
-        self.read_format
-            .contains(ReadFormat::TOTAL_TIME_ENABLED)
-            .then_some(self.time_enabled)
-    }
-
-    /// Returns how long the group ran, in nanoseconds, if it is present.
-    pub fn time_running(&self) -> Option<u64> {
-        self.read_format
-            .contains(ReadFormat::TOTAL_TIME_RUNNING)
-            .then_some(self.time_running)
+    selected! {
+        /// Returns how long the group was enabled, in nanoseconds, if it is present.
+        time_enabled, with ReadFormat::TOTAL_TIME_ENABLED;
+        /// Returns how long the group ran, in nanoseconds, if it is present.
+        time_running, with ReadFormat::TOTAL_TIME_RUNNING;
     }
 
     /// Returns the entry at an index, if there is one.
@@ -353,16 +329,11 @@ impl GroupEntry {
         self.value
     }
 
-    /// Returns the kernel's id of the event, if it is present.
-    pub fn id(&self) -> Option<u64> {
-        self.read_format.contains(ReadFormat::ID).then_some(self.id)
-    }
-
-    /// Returns how many samples of the event were lost, if it is present.
-    pub fn lost(&self) -> Option<u64> {
-        self.read_format
-            .contains(ReadFormat::LOST)
-            .then_some(self.lost)
+    selected! {
+        /// Returns the kernel's id of the event, if it is present.
+        id, with ReadFormat::ID;
+        /// Returns how many samples of the event were lost, if it is present.
+        lost, with ReadFormat::LOST;
     }
 }
 
@@ -421,25 +392,14 @@ impl ExactSizeIterator for GroupIter<'_> {}
 
 impl FusedIterator for GroupIter<'_> {}
 
-impl<'p> Parse<'p> for Read {
-    fn parse<B, E>(p: &mut Parser<B, E>) -> ParseResult<Self>
-    where
-        E: Endian,
-        B: ParseBuf<'p>,
-    {
+parse_by! {
+    Read: p => {
         let length = 8 + ReadValue::length(p.config().read_format());
         p.parse_body(sys::PERF_RECORD_READ, Extent::Fixed(length), |flat| {
             Read::of(flat)
         })
-    }
-}
-
-impl<'p> Parse<'p> for ReadValue {
-    fn parse<B, E>(p: &mut Parser<B, E>) -> ParseResult<Self>
-    where
-        E: Endian,
-        B: ParseBuf<'p>,
-    {
+    };
+    ReadValue: p => {
         let read_format = p.config().read_format();
         if read_format.contains(ReadFormat::GROUP) {
             return Err(ParseError::because(Reason::SingleRead));
@@ -456,15 +416,8 @@ impl<'p> Parse<'p> for ReadValue {
             extent,
             |flat| ReadValue::of(flat),
         )
-    }
-}
-
-impl<'p> Parse<'p> for ReadGroup<'p> {
-    fn parse<B, E>(p: &mut Parser<B, E>) -> ParseResult<Self>
-    where
-        E: Endian,
-        B: ParseBuf<'p>,
-    {
+    };
+    ReadGroup<'p>: p => {
         let read_format = p.config().read_format();
         if !read_format.contains(ReadFormat::GROUP) {
             return Err(ParseError::because(Reason::GroupRead));
@@ -480,7 +433,7 @@ impl<'p> Parse<'p> for ReadGroup<'p> {
             Extent::Until(ReadGroup::length),
             ReadGroup::of,
         )
-    }
+    };
 }
 
 /// A group without entries, or with several, was to become the read of one counter.

@@ -1,53 +1,93 @@
 //! The records, except for samples and reads of counters.
 
 use std::borrow::Cow;
-use std::fmt;
 
-use crate::debug::{present, ByteStr, HexAddr, HexStr};
 use crate::endian::Endian;
 use crate::ffi;
 use crate::flags::{AuxFlags, BpfEventType, KSymbolFlags, KSymbolType, SampleFlags};
-use crate::flat::{Flat, Words};
-use crate::parse::{Extent, Parse, ParseBuf, ParseConfig, ParseResult, Parser};
+use crate::flat::{Field, Flat, Words};
+use crate::parse::{parse_by, Extent, ParseBuf, ParseConfig, ParseResult, Parser};
 use crate::read::Read;
 use crate::sample::Sample;
 use crate::sys::{self, perf_event_header};
 use crate::visitor::{visit, RecordVisitor};
 
-/// Implements `Parse` for a record's type, by its body: of which type, and how far it goes.
-macro_rules! parse_body {
-    ($( $record:ident $( <$life:lifetime> )? as $type_:ident, $extent:expr; )*) => {
+parse_by! {
+    Mmap<'p>: p => p.parse_body(sys::PERF_RECORD_MMAP, Extent::Rest, Self::of);
+    Lost: p => p.parse_body(sys::PERF_RECORD_LOST, Extent::Fixed(16), Self::of);
+    Comm<'p>: p => p.parse_body(sys::PERF_RECORD_COMM, Extent::Rest, Self::of);
+    Exit: p => p.parse_body(sys::PERF_RECORD_EXIT, Extent::Fixed(24), Self::of);
+    Throttle: p => p.parse_body(sys::PERF_RECORD_THROTTLE, Extent::Fixed(24), Self::of);
+    Mmap2<'p>: p => p.parse_body(sys::PERF_RECORD_MMAP2, Extent::Rest, Self::of);
+    Aux: p => p.parse_body(sys::PERF_RECORD_AUX, Extent::Fixed(24), Self::of);
+    ITraceStart: p => p.parse_body(sys::PERF_RECORD_ITRACE_START, Extent::Fixed(8), Self::of);
+    LostSamples: p => p.parse_body(sys::PERF_RECORD_LOST_SAMPLES, Extent::Fixed(8), Self::of);
+    SwitchCpuWide: p => p.parse_body(sys::PERF_RECORD_SWITCH_CPU_WIDE, Extent::Fixed(8), Self::of);
+    Namespaces<'p>: p => p.parse_body(sys::PERF_RECORD_NAMESPACES, Extent::Until(Self::length), Self::of);
+    KSymbol<'p>: p => p.parse_body(sys::PERF_RECORD_KSYMBOL, Extent::Rest, Self::of);
+    BpfEvent: p => p.parse_body(sys::PERF_RECORD_BPF_EVENT, Extent::Fixed(16), Self::of);
+    CGroup<'p>: p => p.parse_body(sys::PERF_RECORD_CGROUP, Extent::Rest, Self::of);
+    TextPoke<'p>: p => p.parse_body(sys::PERF_RECORD_TEXT_POKE, Extent::Until(Self::length), Self::of);
+    AuxOutputHwId: p => p.parse_body(sys::PERF_RECORD_AUX_OUTPUT_HW_ID, Extent::Fixed(8), Self::of);
+    NamespaceEntry: p => Ok(Self {
+        dev: p.parse()?,
+        inode: p.parse()?,
+    });
+    SampleId: p => {
+        let bytes = p.parse_bytes(Self::estimate_len(p.config()))?;
+        p.sample_id(&bytes)
+    };
+    #[inline]
+    Record<'p>: p => p.next_record(Record::of);
+}
+
+/// Makes a record that has nothing but fields from a flat frame.
+macro_rules! of_frame {
+    (fields $record:ident $( <$life:lifetime> )? {
+        $( $name:ident: $at:tt $( as $text:ident )?, )*
+    }) => {
+        impl<'a> $record $( <$life> )? {
+            #[inline]
+            pub(crate) fn of(flat: &Flat<'_, 'a>) -> Self {
+                Self {
+                    $( $name: Field::of(flat, $at), )*
+                }
+            }
+        }
+    };
+    ($( $other:tt )*) => {};
+}
+
+each_record!(of_frame);
+
+/// Implements what records with a byte string have for it: a copy, and a name as the system has it.
+macro_rules! with_bytes {
+    ($( $record:ident.$name:ident $( as $os:ident )?, )*) => {
         $(
-            impl<'p> Parse<'p> for $record $( <$life> )? {
-                fn parse<B, E>(p: &mut Parser<B, E>) -> ParseResult<Self>
-                where
-                    E: Endian,
-                    B: ParseBuf<'p>,
-                {
-                    p.parse_body(sys::$type_, $extent, |flat| $record::of(flat))
+            impl $record<'_> {
+                $(
+                    #[doc = concat!("Returns `", stringify!($name), "` as a string of the system.")]
+                    #[cfg(unix)]
+                    pub fn $os(&self) -> &std::ffi::OsStr {
+                        std::os::unix::ffi::OsStrExt::from_bytes(&self.$name)
+                    }
+                )?
+
+                /// Returns the record with bytes of its own.
+                pub fn into_owned(self) -> $record<'static> {
+                    $record {
+                        $name: owned(self.$name),
+                        ..self
+                    }
                 }
             }
         )*
     };
 }
 
-parse_body! {
-    Mmap<'p> as PERF_RECORD_MMAP, Extent::Rest;
-    Lost as PERF_RECORD_LOST, Extent::Fixed(16);
-    Comm<'p> as PERF_RECORD_COMM, Extent::Rest;
-    Exit as PERF_RECORD_EXIT, Extent::Fixed(24);
-    Throttle as PERF_RECORD_THROTTLE, Extent::Fixed(24);
-    Mmap2<'p> as PERF_RECORD_MMAP2, Extent::Rest;
-    Aux as PERF_RECORD_AUX, Extent::Fixed(24);
-    ITraceStart as PERF_RECORD_ITRACE_START, Extent::Fixed(8);
-    LostSamples as PERF_RECORD_LOST_SAMPLES, Extent::Fixed(8);
-    SwitchCpuWide as PERF_RECORD_SWITCH_CPU_WIDE, Extent::Fixed(8);
-    Namespaces<'p> as PERF_RECORD_NAMESPACES, Extent::Until(Namespaces::length);
-    KSymbol<'p> as PERF_RECORD_KSYMBOL, Extent::Rest;
-    BpfEvent as PERF_RECORD_BPF_EVENT, Extent::Fixed(16);
-    CGroup<'p> as PERF_RECORD_CGROUP, Extent::Rest;
-    TextPoke<'p> as PERF_RECORD_TEXT_POKE, Extent::Until(TextPoke::length);
-    AuxOutputHwId as PERF_RECORD_AUX_OUTPUT_HW_ID, Extent::Fixed(8);
+with_bytes! {
+    Mmap.filename as filename_os, Mmap2.filename as filename_os, Comm.comm as comm_os,
+    KSymbol.name, CGroup.path,
 }
 
 /// A process mapped something into its memory (`PERF_RECORD_MMAP`).
@@ -67,50 +107,9 @@ pub struct Mmap<'a> {
     pub filename: Cow<'a, [u8]>,
 }
 
-impl<'a> Mmap<'a> {
-    #[inline]
-    pub(crate) fn of(flat: &Flat<'_, 'a>) -> Self {
-        Self {
-            pid: flat.half(0),
-            tid: flat.half(1),
-            addr: flat.number(2),
-            len: flat.number(3),
-            pgoff: flat.number(4),
-            filename: flat.part(0),
-        }
-    }
-
-    /// Returns the path of the file.
-    #[cfg(unix)]
-    pub fn filename_os(&self) -> &std::ffi::OsStr {
-        std::os::unix::ffi::OsStrExt::from_bytes(&self.filename)
-    }
-
-    /// Returns the record with a path of its own.
-    pub fn into_owned(self) -> Mmap<'static> {
-        Mmap {
-            filename: owned(self.filename),
-            ..self
-        }
-    }
-}
-
 impl<'a> From<Mmap2<'a>> for Mmap<'a> {
     fn from(record: Mmap2<'a>) -> Self {
         record.into_mmap()
-    }
-}
-
-impl fmt::Debug for Mmap<'_> {
-    fn fmt(&self, f: &mut fmt::Formatter<'_>) -> fmt::Result {
-        f.debug_struct("Mmap")
-            .field("pid", &self.pid)
-            .field("tid", &self.tid)
-            .field("addr", &HexAddr(self.addr))
-            .field("len", &self.len)
-            .field("pgoff", &self.pgoff)
-            .field("filename", &ByteStr(&self.filename))
-            .finish()
     }
 }
 
@@ -120,22 +119,12 @@ pub(crate) fn owned<T: Clone>(list: Cow<'_, [T]>) -> Cow<'static, [T]> {
 }
 
 /// Events were lost, because the ring buffer was full (`PERF_RECORD_LOST`).
-#[derive(Copy, Clone, Debug)]
+#[derive(Copy, Clone)]
 pub struct Lost {
     /// The kernel's id of the event.
     pub id: u64,
     /// How many were lost.
     pub lost: u64,
-}
-
-impl Lost {
-    #[inline]
-    pub(crate) fn of(flat: &Flat<'_, '_>) -> Self {
-        Self {
-            id: flat.number(0),
-            lost: flat.number(1),
-        }
-    }
 }
 
 /// A task changed its name (`PERF_RECORD_COMM`), for example by `execve(2)` or `prctl(2)`.
@@ -149,43 +138,8 @@ pub struct Comm<'a> {
     pub comm: Cow<'a, [u8]>,
 }
 
-impl<'a> Comm<'a> {
-    #[inline]
-    pub(crate) fn of(flat: &Flat<'_, 'a>) -> Self {
-        Self {
-            pid: flat.half(0),
-            tid: flat.half(1),
-            comm: flat.part(0),
-        }
-    }
-
-    /// Returns the new name.
-    #[cfg(unix)]
-    pub fn comm_os(&self) -> &std::ffi::OsStr {
-        std::os::unix::ffi::OsStrExt::from_bytes(&self.comm)
-    }
-
-    /// Returns the record with a name of its own.
-    pub fn into_owned(self) -> Comm<'static> {
-        Comm {
-            comm: owned(self.comm),
-            ..self
-        }
-    }
-}
-
-impl fmt::Debug for Comm<'_> {
-    fn fmt(&self, f: &mut fmt::Formatter<'_>) -> fmt::Result {
-        f.debug_struct("Comm")
-            .field("pid", &self.pid)
-            .field("tid", &self.tid)
-            .field("comm", &ByteStr(&self.comm))
-            .finish()
-    }
-}
-
 /// A task ended (`PERF_RECORD_EXIT`), or was created (`PERF_RECORD_FORK`).
-#[derive(Clone, Debug)]
+#[derive(Clone)]
 pub struct Exit {
     /// The process.
     pub pid: u32,
@@ -202,22 +156,9 @@ pub struct Exit {
 /// A task was created by `fork(2)` or `clone(2)` (`PERF_RECORD_FORK`).
 pub type Fork = Exit;
 
-impl Exit {
-    #[inline]
-    pub(crate) fn of(flat: &Flat<'_, '_>) -> Self {
-        Self {
-            pid: flat.half(0),
-            ppid: flat.half(1),
-            tid: flat.half(2),
-            ptid: flat.half(3),
-            time: flat.number(4),
-        }
-    }
-}
-
 /// The kernel stopped an event that occurred too often (`PERF_RECORD_THROTTLE`), or resumed it
 /// (`PERF_RECORD_UNTHROTTLE`).
-#[derive(Clone, Debug)]
+#[derive(Clone)]
 pub struct Throttle {
     /// When it happened, in nanoseconds of the event's clock.
     pub time: u64,
@@ -225,17 +166,6 @@ pub struct Throttle {
     pub id: u64,
     /// The kernel's id of the event itself.
     pub stream_id: u64,
-}
-
-impl Throttle {
-    #[inline]
-    pub(crate) fn of(flat: &Flat<'_, '_>) -> Self {
-        Self {
-            time: flat.number(0),
-            id: flat.number(1),
-            stream_id: flat.number(2),
-        }
-    }
 }
 
 /// A process mapped something into its memory (`PERF_RECORD_MMAP2`): as [`Mmap`], and which file it
@@ -297,6 +227,20 @@ impl MmapDetail {
     }
 }
 
+macro_rules! of_inode {
+    ($( $( #[$attr:meta] )* $name:ident: $type:ty; )*) => {
+        $(
+            $( #[$attr] )*
+            pub fn $name(&self) -> Option<$type> {
+                match self.detail {
+                    MmapDetail::Inode { $name, .. } => Some($name),
+                    MmapDetail::BuildId { .. } => None,
+                }
+            }
+        )*
+    };
+}
+
 impl<'a> Mmap2<'a> {
     #[inline]
     pub(crate) fn of(flat: &Flat<'_, 'a>) -> Self {
@@ -313,42 +257,15 @@ impl<'a> Mmap2<'a> {
         }
     }
 
-    /// Returns the path of the file.
-    #[cfg(unix)]
-    pub fn filename_os(&self) -> &std::ffi::OsStr {
-        std::os::unix::ffi::OsStrExt::from_bytes(&self.filename)
-    }
-
-    /// Returns the major number of the file's device, if the record has an inode.
-    pub fn maj(&self) -> Option<u32> {
-        match self.detail {
-            MmapDetail::Inode { maj, .. } => Some(maj),
-            MmapDetail::BuildId { .. } => None,
-        }
-    }
-
-    /// Returns the minor number of the file's device, if the record has an inode.
-    pub fn min(&self) -> Option<u32> {
-        match self.detail {
-            MmapDetail::Inode { min, .. } => Some(min),
-            MmapDetail::BuildId { .. } => None,
-        }
-    }
-
-    /// Returns the number of the inode, if the record has one.
-    pub fn ino(&self) -> Option<u64> {
-        match self.detail {
-            MmapDetail::Inode { ino, .. } => Some(ino),
-            MmapDetail::BuildId { .. } => None,
-        }
-    }
-
-    /// Returns the generation of the inode, if the record has one.
-    pub fn ino_generation(&self) -> Option<u64> {
-        match self.detail {
-            MmapDetail::Inode { ino_generation, .. } => Some(ino_generation),
-            MmapDetail::BuildId { .. } => None,
-        }
+    of_inode! {
+        /// Returns the major number of the file's device, if the record has an inode.
+        maj: u32;
+        /// Returns the minor number of the file's device, if the record has an inode.
+        min: u32;
+        /// Returns the number of the inode, if the record has one.
+        ino: u64;
+        /// Returns the generation of the inode, if the record has one.
+        ino_generation: u64;
     }
 
     /// Returns the build id of the program, if the record has one.
@@ -376,38 +293,10 @@ impl<'a> Mmap2<'a> {
             filename: self.filename,
         }
     }
-
-    /// Returns the record with a path of its own.
-    pub fn into_owned(self) -> Mmap2<'static> {
-        Mmap2 {
-            filename: owned(self.filename),
-            ..self
-        }
-    }
-}
-
-impl fmt::Debug for Mmap2<'_> {
-    fn fmt(&self, f: &mut fmt::Formatter<'_>) -> fmt::Result {
-        let mut all = f.debug_struct("Mmap2");
-        all.field("pid", &self.pid)
-            .field("tid", &self.tid)
-            .field("addr", &HexAddr(self.addr))
-            .field("len", &self.len)
-            .field("pgoff", &self.pgoff);
-        present(&mut all, "maj", self.maj());
-        present(&mut all, "min", self.min());
-        present(&mut all, "ino", self.ino());
-        present(&mut all, "ino_generation", self.ino_generation());
-        present(&mut all, "build_id", self.build_id().map(HexStr));
-        all.field("prot", &self.prot)
-            .field("flags", &self.flags)
-            .field("filename", &ByteStr(&self.filename))
-            .finish()
-    }
 }
 
 /// There is new data in the AUX buffer (`PERF_RECORD_AUX`).
-#[derive(Clone, Debug)]
+#[derive(Clone)]
 pub struct Aux {
     /// Where it begins in the buffer.
     pub aux_offset: u64,
@@ -417,19 +306,8 @@ pub struct Aux {
     pub flags: AuxFlags,
 }
 
-impl Aux {
-    #[inline]
-    pub(crate) fn of(flat: &Flat<'_, '_>) -> Self {
-        Self {
-            aux_offset: flat.number(0),
-            aux_size: flat.number(1),
-            flags: AuxFlags::from_bits_retain(flat.number(2)),
-        }
-    }
-}
-
 /// An instruction trace began (`PERF_RECORD_ITRACE_START`).
-#[derive(Clone, Debug)]
+#[derive(Clone)]
 pub struct ITraceStart {
     /// The process.
     pub pid: u32,
@@ -437,30 +315,11 @@ pub struct ITraceStart {
     pub tid: u32,
 }
 
-impl ITraceStart {
-    #[inline]
-    pub(crate) fn of(flat: &Flat<'_, '_>) -> Self {
-        Self {
-            pid: flat.half(0),
-            tid: flat.half(1),
-        }
-    }
-}
-
 /// Hardware samples were lost (`PERF_RECORD_LOST_SAMPLES`).
-#[derive(Clone, Debug)]
+#[derive(Clone)]
 pub struct LostSamples {
     /// How many may have been lost.
     pub lost: u64,
-}
-
-impl LostSamples {
-    #[inline]
-    pub(crate) fn of(flat: &Flat<'_, '_>) -> Self {
-        Self {
-            lost: flat.number(0),
-        }
-    }
 }
 
 /// The processor switched from one task to another (`PERF_RECORD_SWITCH_CPU_WIDE`), as a CPU-wide
@@ -513,7 +372,7 @@ impl SwitchCpuWide {
 }
 
 /// The namespaces of a task (`PERF_RECORD_NAMESPACES`), when it was created or changed one of them.
-#[derive(Clone, Debug)]
+#[derive(Clone)]
 pub struct Namespaces<'a> {
     /// The process.
     pub pid: u32,
@@ -546,62 +405,36 @@ unsafe impl Words for NamespaceEntry {
     }
 }
 
-impl<'p> Parse<'p> for NamespaceEntry {
-    fn parse<B, E>(p: &mut Parser<B, E>) -> ParseResult<Self>
-    where
-        E: Endian,
-        B: ParseBuf<'p>,
-    {
-        Ok(Self {
-            dev: p.parse()?,
-            inode: p.parse()?,
-        })
-    }
+macro_rules! listed {
+    ($( $( #[$attr:meta] )* $name:ident at $at:expr; )*) => {
+        $(
+            $( #[$attr] )*
+            pub fn $name(&self) -> Option<&NamespaceEntry> {
+                self.namespaces.get($at)
+            }
+        )*
+    };
 }
 
-impl<'a> Namespaces<'a> {
-    #[inline]
-    pub(crate) fn of(flat: &Flat<'_, 'a>) -> Self {
-        Self {
-            pid: flat.half(0),
-            tid: flat.half(1),
-            namespaces: flat.words(0),
-        }
-    }
-
+impl Namespaces<'_> {
     /// How many bytes the body has.
     fn length(flat: &Flat<'_, '_>) -> usize {
         16 + flat.frame.spans[0].len as usize
     }
 
-    /// Returns the network namespace, if it is listed.
-    pub fn network(&self) -> Option<&NamespaceEntry> {
-        self.namespaces.first()
-    }
-
-    /// Returns the namespace of the host name, if it is listed.
-    pub fn uts(&self) -> Option<&NamespaceEntry> {
-        self.namespaces.get(1)
-    }
-
-    /// Returns the namespace of shared memory, semaphores and message queues, if it is listed.
-    pub fn ipc(&self) -> Option<&NamespaceEntry> {
-        self.namespaces.get(2)
-    }
-
-    /// Returns the namespace of process ids, if it is listed.
-    pub fn pid(&self) -> Option<&NamespaceEntry> {
-        self.namespaces.get(3)
-    }
-
-    /// Returns the namespace of user ids, if it is listed.
-    pub fn user(&self) -> Option<&NamespaceEntry> {
-        self.namespaces.get(4)
-    }
-
-    /// Returns the namespace of control groups, if it is listed.
-    pub fn cgroup(&self) -> Option<&NamespaceEntry> {
-        self.namespaces.get(6)
+    listed! {
+        /// Returns the network namespace, if it is listed.
+        network at 0;
+        /// Returns the namespace of the host name, if it is listed.
+        uts at 1;
+        /// Returns the namespace of shared memory, semaphores and message queues, if it is listed.
+        ipc at 2;
+        /// Returns the namespace of process ids, if it is listed.
+        pid at 3;
+        /// Returns the namespace of user ids, if it is listed.
+        user at 4;
+        /// Returns the namespace of control groups, if it is listed.
+        cgroup at 6;
     }
 }
 
@@ -620,41 +453,8 @@ pub struct KSymbol<'a> {
     pub name: Cow<'a, [u8]>,
 }
 
-impl<'a> KSymbol<'a> {
-    #[inline]
-    pub(crate) fn of(flat: &Flat<'_, 'a>) -> Self {
-        Self {
-            addr: flat.number(0),
-            len: flat.half(1),
-            ksym_type: KSymbolType(flat.number(2) as u16),
-            flags: KSymbolFlags::from_bits_retain(flat.number(3) as u16),
-            name: flat.part(0),
-        }
-    }
-
-    /// Returns the record with a name of its own.
-    pub fn into_owned(self) -> KSymbol<'static> {
-        KSymbol {
-            name: owned(self.name),
-            ..self
-        }
-    }
-}
-
-impl fmt::Debug for KSymbol<'_> {
-    fn fmt(&self, f: &mut fmt::Formatter<'_>) -> fmt::Result {
-        f.debug_struct("KSymbol")
-            .field("addr", &HexAddr(self.addr))
-            .field("len", &self.len)
-            .field("ksym_type", &self.ksym_type)
-            .field("flags", &self.flags)
-            .field("name", &ByteStr(&self.name))
-            .finish()
-    }
-}
-
 /// A BPF program was loaded or unloaded (`PERF_RECORD_BPF_EVENT`).
-#[derive(Copy, Clone, Debug)]
+#[derive(Copy, Clone)]
 pub struct BpfEvent {
     /// What happened.
     pub ty: BpfEventType,
@@ -664,21 +464,6 @@ pub struct BpfEvent {
     pub id: u32,
     /// The tag of the program.
     pub tag: [u8; 8],
-}
-
-impl BpfEvent {
-    #[inline]
-    pub(crate) fn of(flat: &Flat<'_, '_>) -> Self {
-        let mut tag = [0; 8];
-        let bytes = flat.part(0);
-        tag[..bytes.len()].copy_from_slice(&bytes);
-        Self {
-            ty: BpfEventType(flat.number(0) as u16),
-            flags: flat.number(1) as u16,
-            id: flat.half(2),
-            tag,
-        }
-    }
 }
 
 /// A control group was created (`PERF_RECORD_CGROUP`).
@@ -691,36 +476,11 @@ pub struct CGroup<'a> {
 }
 
 impl<'a> CGroup<'a> {
-    #[inline]
-    pub(crate) fn of(flat: &Flat<'_, 'a>) -> Self {
-        Self {
-            id: flat.number(0),
-            path: flat.part(0),
-        }
-    }
-
     /// Returns the path.
     #[cfg(unix)]
     pub fn path_os(&self) -> &std::path::Path {
         let path: &std::ffi::OsStr = std::os::unix::ffi::OsStrExt::from_bytes(&self.path);
         path.as_ref()
-    }
-
-    /// Returns the record with a path of its own.
-    pub fn into_owned(self) -> CGroup<'static> {
-        CGroup {
-            path: owned(self.path),
-            ..self
-        }
-    }
-}
-
-impl fmt::Debug for CGroup<'_> {
-    fn fmt(&self, f: &mut fmt::Formatter<'_>) -> fmt::Result {
-        f.debug_struct("CGroup")
-            .field("id", &self.id)
-            .field("path", &ByteStr(&self.path))
-            .finish()
     }
 }
 
@@ -736,15 +496,6 @@ pub struct TextPoke<'a> {
 }
 
 impl<'a> TextPoke<'a> {
-    #[inline]
-    pub(crate) fn of(flat: &Flat<'_, 'a>) -> Self {
-        Self {
-            addr: flat.number(0),
-            old_bytes: flat.part(0),
-            new_bytes: flat.part(1),
-        }
-    }
-
     /// How many bytes the body has: whole words of eight bytes.
     fn length(flat: &Flat<'_, '_>) -> usize {
         let spans = &flat.frame.spans;
@@ -763,30 +514,11 @@ impl<'a> TextPoke<'a> {
     }
 }
 
-impl fmt::Debug for TextPoke<'_> {
-    fn fmt(&self, f: &mut fmt::Formatter<'_>) -> fmt::Result {
-        f.debug_struct("TextPoke")
-            .field("addr", &HexAddr(self.addr))
-            .field("old_bytes", &self.old_bytes)
-            .field("new_bytes", &self.new_bytes)
-            .finish()
-    }
-}
-
 /// The hardware's id of an event whose data is in the AUX buffer (`PERF_RECORD_AUX_OUTPUT_HW_ID`).
-#[derive(Copy, Clone, Debug)]
+#[derive(Copy, Clone)]
 pub struct AuxOutputHwId {
     /// The id.
     pub hw_id: u64,
-}
-
-impl AuxOutputHwId {
-    #[inline]
-    pub(crate) fn of(flat: &Flat<'_, '_>) -> Self {
-        Self {
-            hw_id: flat.number(0),
-        }
-    }
 }
 
 /// Which task and event a record belongs to (`struct sample_id`).
@@ -811,6 +543,18 @@ const ID_FLAGS: SampleFlags = SampleFlags::TID
     .union(SampleFlags::STREAM_ID)
     .union(SampleFlags::CPU)
     .union(SampleFlags::IDENTIFIER);
+
+macro_rules! sample_id {
+    ($( $( #[$attr:meta] )* $name:ident: $type:ty, with $flags:expr; )*) => {
+        $(
+            $( #[$attr] )*
+            #[inline]
+            pub fn $name(&self) -> Option<$type> {
+                self.has($flags).then_some(self.$name)
+            }
+        )*
+    };
+}
 
 impl SampleId {
     /// The sample id without numbers.
@@ -876,41 +620,19 @@ impl SampleId {
         u64::from(self.present) & flags.bits() != 0
     }
 
-    /// Returns the process in which it happened, if it is present.
-    #[inline]
-    pub fn pid(&self) -> Option<u32> {
-        self.has(SampleFlags::TID).then_some(self.pid)
-    }
-
-    /// Returns the thread in which it happened, if it is present.
-    #[inline]
-    pub fn tid(&self) -> Option<u32> {
-        self.has(SampleFlags::TID).then_some(self.tid)
-    }
-
-    /// Returns when it happened, in nanoseconds of the event's clock, if it is present.
-    #[inline]
-    pub fn time(&self) -> Option<u64> {
-        self.has(SampleFlags::TIME).then_some(self.time)
-    }
-
-    /// Returns the kernel's id of the event, or of its group's leader, if it is present.
-    #[inline]
-    pub fn id(&self) -> Option<u64> {
-        self.has(SampleFlags::ID | SampleFlags::IDENTIFIER)
-            .then_some(self.id)
-    }
-
-    /// Returns the kernel's id of the event itself, if it is present.
-    #[inline]
-    pub fn stream_id(&self) -> Option<u64> {
-        self.has(SampleFlags::STREAM_ID).then_some(self.stream_id)
-    }
-
-    /// Returns the processor on which it happened, if it is present.
-    #[inline]
-    pub fn cpu(&self) -> Option<u32> {
-        self.has(SampleFlags::CPU).then_some(self.cpu)
+    sample_id! {
+        /// Returns the process in which it happened, if it is present.
+        pid: u32, with SampleFlags::TID;
+        /// Returns the thread in which it happened, if it is present.
+        tid: u32, with SampleFlags::TID;
+        /// Returns when it happened, in nanoseconds of the event's clock, if it is present.
+        time: u64, with SampleFlags::TIME;
+        /// Returns the kernel's id of the event, or of its group's leader, if it is present.
+        id: u64, with SampleFlags::ID | SampleFlags::IDENTIFIER;
+        /// Returns the kernel's id of the event itself, if it is present.
+        stream_id: u64, with SampleFlags::STREAM_ID;
+        /// Returns the processor on which it happened, if it is present.
+        cpu: u32, with SampleFlags::CPU;
     }
 
     /// Returns how many bytes the sample id of a record has under a configuration.
@@ -921,30 +643,6 @@ impl SampleId {
         } else {
             0
         }
-    }
-}
-
-impl<'p> Parse<'p> for SampleId {
-    fn parse<B, E>(p: &mut Parser<B, E>) -> ParseResult<Self>
-    where
-        E: Endian,
-        B: ParseBuf<'p>,
-    {
-        let bytes = p.parse_bytes(Self::estimate_len(p.config()))?;
-        p.sample_id(&bytes)
-    }
-}
-
-impl fmt::Debug for SampleId {
-    fn fmt(&self, f: &mut fmt::Formatter<'_>) -> fmt::Result {
-        let mut all = f.debug_struct("SampleId");
-        present(&mut all, "pid", self.pid());
-        present(&mut all, "tid", self.tid());
-        present(&mut all, "time", self.time());
-        present(&mut all, "id", self.id());
-        present(&mut all, "stream_id", self.stream_id());
-        present(&mut all, "cpu", self.cpu());
-        all.finish_non_exhaustive()
     }
 }
 
@@ -1030,21 +728,8 @@ macro_rules! from_record {
 }
 
 from_record! {
-    Mmap<'a>,
-    Lost,
-    Comm<'a>,
-    Read,
-    Mmap2<'a>,
-    Aux,
-    ITraceStart,
-    LostSamples,
-    SwitchCpuWide,
-    Namespaces<'a>,
-    KSymbol<'a>,
-    BpfEvent,
-    CGroup<'a>,
-    TextPoke<'a>,
-    AuxOutputHwId,
+    Mmap<'a>, Lost, Comm<'a>, Read, Mmap2<'a>, Aux, ITraceStart, LostSamples, SwitchCpuWide,
+    Namespaces<'a>, KSymbol<'a>, BpfEvent, CGroup<'a>, TextPoke<'a>, AuxOutputHwId,
 }
 
 impl<'a> From<Sample<'a>> for Record<'a> {
@@ -1074,16 +759,5 @@ impl<'p> Record<'p> {
         B: ParseBuf<'p>,
     {
         p.record_after(header)
-    }
-}
-
-impl<'p> Parse<'p> for Record<'p> {
-    #[inline]
-    fn parse<B, E>(p: &mut Parser<B, E>) -> ParseResult<Self>
-    where
-        E: Endian,
-        B: ParseBuf<'p>,
-    {
-        p.next_record(Record::of)
     }
 }

@@ -1,14 +1,12 @@
 //! Samples.
 
 use std::borrow::Cow;
-use std::fmt;
 
 use crate::data_source::DataSource;
-use crate::debug::{present, HexAddr};
 use crate::endian::Endian;
 use crate::flags::{BranchType, SampleFlags, SampleRegsAbi, Txn};
 use crate::flat::{Flat, Words};
-use crate::parse::{Extent, Parse, ParseBuf, ParseResult, Parser};
+use crate::parse::{parse_by, Extent, ParseBuf, ParseResult, Parser};
 use crate::read::ReadGroup;
 use crate::records::SampleId;
 use crate::sys;
@@ -34,13 +32,25 @@ pub struct Sample<'a> {
     aux: Cow<'a, [u8]>,
 }
 
-macro_rules! numbers {
-    ($( $( #[$attr:meta] )* $name:ident at $at:expr, with $flags:expr; )*) => {
+macro_rules! present {
+    ($( $( #[$attr:meta] )* $name:ident: $type:ty = $self:ident, $value:expr, with $flags:expr; )*) => {
         $(
             $( #[$attr] )*
             #[inline]
-            pub fn $name(&self) -> Option<u64> {
-                (self.present & $flags.bits() != 0).then_some(self.numbers[$at])
+            pub fn $name(&$self) -> Option<$type> {
+                ($self.present & $flags.bits() != 0).then(|| $value)
+            }
+        )*
+    };
+}
+
+macro_rules! of_sample_id {
+    ($( $( #[$attr:meta] )* $name:ident: $type:ty; )*) => {
+        $(
+            $( #[$attr] )*
+            #[inline]
+            pub fn $name(&self) -> Option<$type> {
+                self.sample_id.$name()
             }
         )*
     };
@@ -106,24 +116,13 @@ impl<'a> Sample<'a> {
         if self.has(SampleFlags::READ) {
             self.values = Some(ReadGroup::of(flat));
         }
-        if self.has(SampleFlags::RAW) {
-            self.raw = flat.part(5);
-        }
-        if self.has(SampleFlags::BRANCH_STACK) {
-            self.lbr = flat.words(1);
-        }
-        if self.has(SampleFlags::REGS_USER) {
-            self.regs_user = Registers::of_user(flat);
-        }
-        if self.has(SampleFlags::STACK_USER) {
-            self.stack_user = flat.part(6);
-        }
-        if self.has(SampleFlags::REGS_INTR) {
-            self.regs_intr = Registers::of_intr(flat);
-        }
-        if self.has(SampleFlags::AUX) {
-            self.aux = flat.part(7);
-        }
+        // what is absent is an empty span
+        self.raw = flat.part(5);
+        self.lbr = flat.words(1);
+        self.regs_user = Registers::of_user(flat);
+        self.stack_user = flat.part(6);
+        self.regs_intr = Registers::of_intr(flat);
+        self.aux = flat.part(7);
     }
 
     /// How many bytes the body has.
@@ -188,64 +187,62 @@ impl<'a> Sample<'a> {
         self.present & flags.bits() != 0
     }
 
-    numbers! {
+    present! {
         /// Returns the address of the instruction (`PERF_SAMPLE_IP`).
-        ip at 0, with SampleFlags::IP;
+        ip: u64 = self, self.numbers[0], with SampleFlags::IP;
         /// Returns an address that belongs to the event, such as that of a page fault
         /// (`PERF_SAMPLE_ADDR`).
-        addr at 1, with SampleFlags::ADDR;
+        addr: u64 = self, self.numbers[1], with SampleFlags::ADDR;
         /// Returns how many events the sample stands for (`PERF_SAMPLE_PERIOD`).
-        period at 2, with SampleFlags::PERIOD;
+        period: u64 = self, self.numbers[2], with SampleFlags::PERIOD;
         /// Returns how costly the event was, such as a latency in cycles (`PERF_SAMPLE_WEIGHT` or
         /// `PERF_SAMPLE_WEIGHT_STRUCT`).
-        weight at 3, with SampleFlags::WEIGHT.union(SampleFlags::WEIGHT_STRUCT);
+        weight: u64 = self, self.numbers[3], with SampleFlags::WEIGHT.union(SampleFlags::WEIGHT_STRUCT);
         /// Returns the physical address of [`addr`](Self::addr) (`PERF_SAMPLE_PHYS_ADDR`).
-        phys_addr at 6, with SampleFlags::PHYS_ADDR;
+        phys_addr: u64 = self, self.numbers[6], with SampleFlags::PHYS_ADDR;
         /// Returns the id of the task's control group (`PERF_SAMPLE_CGROUP`).
-        cgroup at 7, with SampleFlags::CGROUP;
+        cgroup: u64 = self, self.numbers[7], with SampleFlags::CGROUP;
         /// Returns the size in bytes of the page of [`addr`](Self::addr)
         /// (`PERF_SAMPLE_DATA_PAGE_SIZE`).
-        data_page_size at 8, with SampleFlags::DATA_PAGE_SIZE;
+        data_page_size: u64 = self, self.numbers[8], with SampleFlags::DATA_PAGE_SIZE;
         /// Returns the size in bytes of the page of [`ip`](Self::ip)
         /// (`PERF_SAMPLE_CODE_PAGE_SIZE`).
-        code_page_size at 9, with SampleFlags::CODE_PAGE_SIZE;
+        code_page_size: u64 = self, self.numbers[9], with SampleFlags::CODE_PAGE_SIZE;
+        /// Returns the addresses of a call chain, the innermost first (`PERF_SAMPLE_CALLCHAIN`).
+        callchain: &[u64] = self, &*self.callchain, with SampleFlags::CALLCHAIN;
+        /// Returns bytes that the event wrote, such as the fields of a tracepoint (`PERF_SAMPLE_RAW`).
+        raw: &[u8] = self, &*self.raw, with SampleFlags::RAW;
+        /// Returns branches, the newest first (`PERF_SAMPLE_BRANCH_STACK`).
+        lbr: &[BranchEntry] = self, &*self.lbr, with SampleFlags::BRANCH_STACK;
+        /// Returns the registers of the task's user-space code (`PERF_SAMPLE_REGS_USER`).
+        regs_user: &Registers<'a> = self, &self.regs_user, with SampleFlags::REGS_USER;
+        /// Returns what the kernel copied of the task's user stack, from its top on: as many bytes as
+        /// were used (`PERF_SAMPLE_STACK_USER`).
+        stack_user: &[u8] = self, &*self.stack_user, with SampleFlags::STACK_USER;
+        /// Returns where the data came from (`PERF_SAMPLE_DATA_SRC`).
+        data_src: DataSource = self, DataSource::from_word(self.numbers[4]), with SampleFlags::DATA_SRC;
+        /// Returns what a memory transaction did (`PERF_SAMPLE_TRANSACTION`).
+        transaction: Txn = self, Txn::from_bits_retain(self.numbers[5]), with SampleFlags::TRANSACTION;
+        /// Returns the registers that the processor had at the interrupt (`PERF_SAMPLE_REGS_INTR`).
+        regs_intr: &Registers<'a> = self, &self.regs_intr, with SampleFlags::REGS_INTR;
+        /// Returns bytes of the AUX area (`PERF_SAMPLE_AUX`).
+        aux: &[u8] = self, &*self.aux, with SampleFlags::AUX;
     }
 
-    /// Returns the process (`PERF_SAMPLE_TID`).
-    #[inline]
-    pub fn pid(&self) -> Option<u32> {
-        self.sample_id.pid()
-    }
-
-    /// Returns its thread (`PERF_SAMPLE_TID`).
-    #[inline]
-    pub fn tid(&self) -> Option<u32> {
-        self.sample_id.tid()
-    }
-
-    /// Returns when it happened, in nanoseconds of the event's clock (`PERF_SAMPLE_TIME`).
-    #[inline]
-    pub fn time(&self) -> Option<u64> {
-        self.sample_id.time()
-    }
-
-    /// Returns the kernel's id of the event, or of its group's leader (`PERF_SAMPLE_ID` or
-    /// `PERF_SAMPLE_IDENTIFIER`).
-    #[inline]
-    pub fn id(&self) -> Option<u64> {
-        self.sample_id.id()
-    }
-
-    /// Returns the kernel's id of the event itself (`PERF_SAMPLE_STREAM_ID`).
-    #[inline]
-    pub fn stream_id(&self) -> Option<u64> {
-        self.sample_id.stream_id()
-    }
-
-    /// Returns the processor on which it happened (`PERF_SAMPLE_CPU`).
-    #[inline]
-    pub fn cpu(&self) -> Option<u32> {
-        self.sample_id.cpu()
+    of_sample_id! {
+        /// Returns the process (`PERF_SAMPLE_TID`).
+        pid: u32;
+        /// Returns its thread (`PERF_SAMPLE_TID`).
+        tid: u32;
+        /// Returns when it happened, in nanoseconds of the event's clock (`PERF_SAMPLE_TIME`).
+        time: u64;
+        /// Returns the kernel's id of the event, or of its group's leader (`PERF_SAMPLE_ID` or
+        /// `PERF_SAMPLE_IDENTIFIER`).
+        id: u64;
+        /// Returns the kernel's id of the event itself (`PERF_SAMPLE_STREAM_ID`).
+        stream_id: u64;
+        /// Returns the processor on which it happened (`PERF_SAMPLE_CPU`).
+        cpu: u32;
     }
 
     /// Returns what was read of the event's counters: those of its group, or its own as a group of
@@ -255,113 +252,21 @@ impl<'a> Sample<'a> {
         self.values.as_ref()
     }
 
-    /// Returns the addresses of a call chain, the innermost first (`PERF_SAMPLE_CALLCHAIN`).
-    #[inline]
-    pub fn callchain(&self) -> Option<&[u64]> {
-        self.has(SampleFlags::CALLCHAIN).then_some(&*self.callchain)
-    }
-
-    /// Returns bytes that the event wrote, such as the fields of a tracepoint (`PERF_SAMPLE_RAW`).
-    #[inline]
-    pub fn raw(&self) -> Option<&[u8]> {
-        self.has(SampleFlags::RAW).then_some(&*self.raw)
-    }
-
     /// Returns the position of the newest branch in the hardware's own list
     /// (`PERF_SAMPLE_BRANCH_HW_INDEX`).
     #[inline]
     pub fn lbr_hw_index(&self) -> Option<u64> {
         (self.present & HAS_LBR_HW_INDEX != 0).then_some(self.numbers[10])
     }
-
-    /// Returns branches, the newest first (`PERF_SAMPLE_BRANCH_STACK`).
-    #[inline]
-    pub fn lbr(&self) -> Option<&[BranchEntry]> {
-        self.has(SampleFlags::BRANCH_STACK).then_some(&*self.lbr)
-    }
-
-    /// Returns the registers of the task's user-space code (`PERF_SAMPLE_REGS_USER`).
-    #[inline]
-    pub fn regs_user(&self) -> Option<&Registers<'a>> {
-        self.has(SampleFlags::REGS_USER).then_some(&self.regs_user)
-    }
-
-    /// Returns what the kernel copied of the task's user stack, from its top on: as many bytes as
-    /// were used (`PERF_SAMPLE_STACK_USER`).
-    #[inline]
-    pub fn stack_user(&self) -> Option<&[u8]> {
-        self.has(SampleFlags::STACK_USER)
-            .then_some(&*self.stack_user)
-    }
-
-    /// Returns where the data came from (`PERF_SAMPLE_DATA_SRC`).
-    #[inline]
-    pub fn data_src(&self) -> Option<DataSource> {
-        self.has(SampleFlags::DATA_SRC)
-            .then(|| DataSource::from_word(self.numbers[4]))
-    }
-
-    /// Returns what a memory transaction did (`PERF_SAMPLE_TRANSACTION`).
-    #[inline]
-    pub fn transaction(&self) -> Option<Txn> {
-        self.has(SampleFlags::TRANSACTION)
-            .then(|| Txn::from_bits_retain(self.numbers[5]))
-    }
-
-    /// Returns the registers that the processor had at the interrupt (`PERF_SAMPLE_REGS_INTR`).
-    #[inline]
-    pub fn regs_intr(&self) -> Option<&Registers<'a>> {
-        self.has(SampleFlags::REGS_INTR).then_some(&self.regs_intr)
-    }
-
-    /// Returns bytes of the AUX area (`PERF_SAMPLE_AUX`).
-    #[inline]
-    pub fn aux(&self) -> Option<&[u8]> {
-        self.has(SampleFlags::AUX).then_some(&*self.aux)
-    }
 }
 
-impl fmt::Debug for Sample<'_> {
-    fn fmt(&self, f: &mut fmt::Formatter<'_>) -> fmt::Result {
-        let mut all = f.debug_struct("Sample");
-        present(&mut all, "ip", self.ip());
-        present(&mut all, "pid", self.pid());
-        present(&mut all, "tid", self.tid());
-        present(&mut all, "time", self.time());
-        present(&mut all, "addr", self.addr().map(HexAddr));
-        present(&mut all, "id", self.id());
-        present(&mut all, "stream_id", self.stream_id());
-        present(&mut all, "cpu", self.cpu());
-        present(&mut all, "period", self.period());
-        present(&mut all, "values", self.values());
-        present(&mut all, "callchain", self.callchain());
-        present(&mut all, "raw", self.raw());
-        present(&mut all, "lbr_hw_index", self.lbr_hw_index());
-        present(&mut all, "lbr", self.lbr());
-        present(&mut all, "regs_user", self.regs_user());
-        present(&mut all, "stack_user", self.stack_user());
-        present(&mut all, "weight", self.weight());
-        present(&mut all, "data_src", self.data_src());
-        present(&mut all, "transaction", self.transaction());
-        present(&mut all, "regs_intr", self.regs_intr());
-        present(&mut all, "phys_addr", self.phys_addr().map(HexAddr));
-        present(&mut all, "aux", self.aux());
-        present(&mut all, "cgroup", self.cgroup());
-        present(&mut all, "data_page_size", self.data_page_size());
-        present(&mut all, "code_page_size", self.code_page_size());
-        all.finish_non_exhaustive()
-    }
-}
-
-impl<'p> Parse<'p> for Sample<'p> {
-    fn parse<B, E>(p: &mut Parser<B, E>) -> ParseResult<Self>
-    where
-        E: Endian,
-        B: ParseBuf<'p>,
-    {
-        let extent = Extent::Until(Sample::length);
-        p.parse_body(sys::PERF_RECORD_SAMPLE, extent, Sample::of)
-    }
+parse_by! {
+    Sample<'p>: p => p.parse_body(sys::PERF_RECORD_SAMPLE, Extent::Until(Sample::length), Sample::of);
+    BranchEntry: p => Ok(Self {
+        from: p.parse()?,
+        to: p.parse()?,
+        word: p.parse()?,
+    });
 }
 
 /// The registers of a task when an event happened: those of its user-space code, or those that the
@@ -496,19 +401,5 @@ impl BranchEntry {
     /// Returns the kind of branch: bits 20 to 23.
     pub fn ty(&self) -> BranchType {
         BranchType((self.word >> 20 & 0xf) as u8)
-    }
-}
-
-impl<'p> Parse<'p> for BranchEntry {
-    fn parse<B, E>(p: &mut Parser<B, E>) -> ParseResult<Self>
-    where
-        E: Endian,
-        B: ParseBuf<'p>,
-    {
-        Ok(Self {
-            from: p.parse()?,
-            to: p.parse()?,
-            word: p.parse()?,
-        })
     }
 }

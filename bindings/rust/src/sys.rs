@@ -4,7 +4,7 @@
 
 use crate::endian::Endian;
 use crate::error::Reason;
-use crate::parse::{Parse, ParseBuf, ParseError, ParseResult, Parser};
+use crate::parse::{parse_by, Parse, ParseBuf, ParseError, ParseResult, Parser};
 
 /// The first eight bytes of every record.
 #[repr(C)]
@@ -86,49 +86,22 @@ macro_rules! numbers {
     };
 }
 
+macro_rules! types {
+    ($( $name:ident($type:ident $( <$life:lifetime> )?) $method:ident $number:ident = $value:literal; )*) => {
+        numbers! {
+            $(
+                #[doc = concat!("The type of [`", stringify!($name), "`](crate::Record::", stringify!($name), ").")]
+                $number = $value,
+            )*
+        }
+    };
+}
+
+each_type!(types);
+
 numbers! {
-    /// A file was mapped.
-    PERF_RECORD_MMAP = 1,
-    /// Events were lost.
-    PERF_RECORD_LOST = 2,
-    /// A task changed its name.
-    PERF_RECORD_COMM = 3,
-    /// A task ended.
-    PERF_RECORD_EXIT = 4,
-    /// The kernel began to throttle an event.
-    PERF_RECORD_THROTTLE = 5,
-    /// The kernel takes samples of an event again.
-    PERF_RECORD_UNTHROTTLE = 6,
-    /// A task was created.
-    PERF_RECORD_FORK = 7,
-    /// The value of a counter.
-    PERF_RECORD_READ = 8,
-    /// A sample.
-    PERF_RECORD_SAMPLE = 9,
-    /// A file was mapped, and which one it is.
-    PERF_RECORD_MMAP2 = 10,
-    /// There is new data in the AUX buffer.
-    PERF_RECORD_AUX = 11,
-    /// An instruction trace began.
-    PERF_RECORD_ITRACE_START = 12,
-    /// Samples were lost.
-    PERF_RECORD_LOST_SAMPLES = 13,
-    /// A task was scheduled on its processor or off it.
+    /// The type of [`Switch`](crate::Record::Switch).
     PERF_RECORD_SWITCH = 14,
-    /// To which task a processor was handed, or from which.
-    PERF_RECORD_SWITCH_CPU_WIDE = 15,
-    /// The namespaces of a task.
-    PERF_RECORD_NAMESPACES = 16,
-    /// A symbol of the kernel was registered or unregistered.
-    PERF_RECORD_KSYMBOL = 17,
-    /// A BPF program was loaded or unloaded.
-    PERF_RECORD_BPF_EVENT = 18,
-    /// A control group.
-    PERF_RECORD_CGROUP = 19,
-    /// The kernel changed its own instructions.
-    PERF_RECORD_TEXT_POKE = 20,
-    /// The hardware's id of an event whose data is in the AUX buffer.
-    PERF_RECORD_AUX_OUTPUT_HW_ID = 21,
     /// In `misc` of SWITCH and SWITCH_CPU_WIDE: the task left the processor.
     PERF_RECORD_MISC_SWITCH_OUT = 1 << 13,
     /// In `misc` of MMAP2: the file is identified by its build id and not by its inode.
@@ -165,13 +138,9 @@ const ATTR_SIZES: [u32; 9] = [
     PERF_ATTR_SIZE_VER8,
 ];
 
-impl<'p> Parse<'p> for perf_event_header {
+parse_by! {
     #[inline]
-    fn parse<B, E>(p: &mut Parser<B, E>) -> ParseResult<Self>
-    where
-        E: Endian,
-        B: ParseBuf<'p>,
-    {
+    perf_event_header: p => {
         let [a, b, c, d, e, f, g, h] = p.parse_array()?;
         let endian = p.endian();
         Ok(Self {
@@ -179,7 +148,7 @@ impl<'p> Parse<'p> for perf_event_header {
             misc: endian.convert_u16([e, f]),
             size: endian.convert_u16([g, h]),
         })
-    }
+    };
 }
 
 impl<'p> Parse<'p> for perf_event_attr {

@@ -705,3 +705,42 @@ fn values_may_go_to_another_thread() {
     is_shared::<ParseConfig<Dynamic>>();
     is_shared::<Parser<&[u8], Little>>();
 }
+
+/// An attribute of another crate, with a call for a single bit.
+struct OtherAttribute {
+    sample_type: u64,
+    read_format: u64,
+    branch_sample_type: u64,
+    sample_regs_user: u64,
+    sample_regs_intr: u64,
+}
+
+impl OtherAttribute {
+    fn sample_id_all(&self) -> u64 {
+        1
+    }
+}
+
+#[test]
+fn an_attribute_of_another_crate_gives_a_configuration() {
+    let attr = OtherAttribute {
+        sample_type: 0b111,
+        read_format: 4,
+        branch_sample_type: 1 << 17,
+        sample_regs_user: 3,
+        sample_regs_intr: 5,
+    };
+    let config: ParseConfig<Native> = ParseConfig::from(sys::perf_event_attr {
+        sample_type: attr.sample_type,
+        read_format: attr.read_format,
+        flags: attr.sample_id_all() << 18,
+        branch_sample_type: attr.branch_sample_type,
+        sample_regs_user: attr.sample_regs_user,
+        sample_regs_intr: attr.sample_regs_intr,
+        ..Default::default()
+    });
+    let (format, kept) = (config.read_format(), config.sample_type());
+    assert_eq!((kept.bits(), format.bits()), (0b111, 4));
+    assert_eq!((config.regs_user(), config.regs_intr()), (3, 5));
+    assert!(config.sample_id_all() && config.branch_hw_index());
+}

@@ -3,27 +3,15 @@
 // each test needs a part of it
 #![allow(dead_code)]
 
-use std::fmt::{Display, Write};
+use std::borrow::Cow;
+use std::fmt::Write;
 
 use perf_event_data::endian::{Big, Endian, Little, Native};
 use perf_event_data::parse::{ParseBuf, ParseConfig, ParseResult, Parser};
 use perf_event_data::sys::{perf_event_attr, perf_event_header};
-use perf_event_data::{
-    Exit, GroupEntry, Mmap2, NamespaceEntry, ReadValue, Record, Registers, Sample, SwitchCpuWide,
-    Throttle,
-};
+use perf_event_data::*;
 
-/// Appends a field.
-fn field(text: &mut String, name: &str, value: impl Display) {
-    write!(text, " {name}={value}").unwrap();
-}
-
-/// Appends a field if it is present.
-fn present(text: &mut String, name: &str, value: Option<impl Display>) {
-    if let Some(value) = value {
-        field(text, name, value);
-    }
-}
+include!("../../src/fields.rs");
 
 /// Bytes as hexadecimal digits.
 pub fn hex(bytes: &[u8]) -> String {
@@ -38,55 +26,6 @@ fn list<T>(items: impl IntoIterator<Item = T>, item: impl Fn(T) -> String) -> St
     items.into_iter().map(item).collect::<Vec<_>>().join(",")
 }
 
-fn task(text: &mut String, pid: u32, tid: u32) {
-    field(text, "pid", pid);
-    field(text, "tid", tid);
-}
-
-fn place(text: &mut String, addr: u64, len: u64, pgoff: u64) {
-    field(text, "addr", addr);
-    field(text, "len", len);
-    field(text, "pgoff", pgoff);
-}
-
-fn exit(text: &mut String, name: &str, record: &Exit) {
-    text.push_str(name);
-    field(text, "pid", record.pid);
-    field(text, "ppid", record.ppid);
-    field(text, "tid", record.tid);
-    field(text, "ptid", record.ptid);
-    field(text, "time", record.time);
-}
-
-fn throttle(text: &mut String, name: &str, record: &Throttle) {
-    text.push_str(name);
-    field(text, "time", record.time);
-    field(text, "id", record.id);
-    field(text, "stream_id", record.stream_id);
-}
-
-fn mmap2(text: &mut String, record: &Mmap2<'_>) {
-    text.push_str("Mmap2");
-    task(text, record.pid, record.tid);
-    place(text, record.addr, record.len, record.pgoff);
-    present(text, "maj", record.maj());
-    present(text, "min", record.min());
-    present(text, "ino", record.ino());
-    present(text, "ino_generation", record.ino_generation());
-    present(text, "build_id", record.build_id().map(hex));
-    field(text, "prot", record.prot);
-    field(text, "flags", record.flags);
-    field(text, "filename", hex(&record.filename));
-}
-
-fn read(text: &mut String, values: &ReadValue) {
-    field(text, "value", values.value());
-    present(text, "time_enabled", values.time_enabled());
-    present(text, "time_running", values.time_running());
-    present(text, "id", values.id());
-    present(text, "lost", values.lost());
-}
-
 fn entry(entry: GroupEntry) -> String {
     let mut text = entry.value().to_string();
     for number in [entry.id(), entry.lost()].into_iter().flatten() {
@@ -95,167 +34,140 @@ fn entry(entry: GroupEntry) -> String {
     text
 }
 
-fn registers(text: &mut String, name: &str, registers: Option<&Registers<'_>>) {
-    if let Some(registers) = registers {
-        field(text, &format!("{name}_abi"), registers.abi.0);
-        field(text, name, list(&*registers.regs, u64::to_string));
+fn branch(branch: &BranchEntry) -> String {
+    let flags = [
+        branch.mispred(),
+        branch.predicted(),
+        branch.in_tx(),
+        branch.abort(),
+    ];
+    let [a, b, c, d] = flags.map(u8::from);
+    let (from, to, cycles) = (branch.from(), branch.to(), branch.cycles());
+    format!("{from}:{to}:{a}:{b}:{c}:{d}:{cycles}:{}", branch.ty().0)
+}
+
+/// A value with words in a line: a field of that name, or the fields of a record.
+trait Words {
+    fn put(&self, text: &mut String, name: &str);
+}
+
+macro_rules! words {
+    ($( $type:ty: $it:ident => $value:expr; )*) => {
+        $(
+            impl Words for $type {
+                fn put(&self, text: &mut String, name: &str) {
+                    let $it = self;
+                    write!(text, " {name}={}", $value).unwrap();
+                }
+            }
+        )*
+    };
+}
+
+words! {
+    u16: it => it;
+    u32: it => it;
+    u64: it => it;
+    AuxFlags: it => it.bits();
+    BpfEventType: it => it.0;
+    DataSource: it => it.bits();
+    KSymbolFlags: it => it.bits();
+    KSymbolType: it => it.0;
+    SampleRegsAbi: it => it.0;
+    Txn: it => it.bits();
+    [u8; 8]: it => hex(it);
+    &[u8]: it => hex(it);
+    Cow<'_, [u8]>: it => hex(it);
+    &[u64]: it => list(*it, u64::to_string);
+    &[BranchEntry]: it => list(*it, branch);
+    Cow<'_, [NamespaceEntry]>: it => list(&**it, |space| format!("{}:{}", space.dev, space.inode));
+}
+
+impl<T: Words> Words for Option<T> {
+    fn put(&self, text: &mut String, name: &str) {
+        self.iter().for_each(|value| value.put(text, name));
     }
 }
 
-fn sample(text: &mut String, sample: &Sample<'_>) {
-    text.push_str("Sample");
-    present(text, "ip", sample.ip());
-    present(text, "pid", sample.pid());
-    present(text, "tid", sample.tid());
-    present(text, "time", sample.time());
-    present(text, "addr", sample.addr());
-    present(text, "id", sample.id());
-    present(text, "stream_id", sample.stream_id());
-    present(text, "cpu", sample.cpu());
-    present(text, "period", sample.period());
-    if let Some(group) = sample.values() {
-        present(text, "time_enabled", group.time_enabled());
-        present(text, "time_running", group.time_running());
-        field(text, "values", list(group.entries(), entry));
+impl Words for &Registers<'_> {
+    fn put(&self, text: &mut String, name: &str) {
+        self.abi.put(text, &format!("{name}_abi"));
+        (&*self.regs).put(text, name);
     }
-    let callchain = sample.callchain().map(|chain| list(chain, u64::to_string));
-    present(text, "callchain", callchain);
-    present(text, "raw", sample.raw().map(hex));
-    present(text, "lbr_hw_index", sample.lbr_hw_index());
-    let branches = sample.lbr().map(|branches| {
-        list(branches, |branch| {
-            let flags = [
-                branch.mispred(),
-                branch.predicted(),
-                branch.in_tx(),
-                branch.abort(),
-            ];
-            let [a, b, c, d] = flags.map(u8::from);
-            let (from, to, cycles) = (branch.from(), branch.to(), branch.cycles());
-            format!("{from}:{to}:{a}:{b}:{c}:{d}:{cycles}:{}", branch.ty().0)
-        })
-    });
-    present(text, "lbr", branches);
-    registers(text, "regs_user", sample.regs_user());
-    present(text, "stack_user", sample.stack_user().map(hex));
-    present(text, "weight", sample.weight());
-    present(
-        text,
-        "data_src",
-        sample.data_src().map(|source| source.bits()),
-    );
-    present(
-        text,
-        "transaction",
-        sample.transaction().map(|txn| txn.bits()),
-    );
-    registers(text, "regs_intr", sample.regs_intr());
-    present(text, "phys_addr", sample.phys_addr());
-    present(text, "aux", sample.aux().map(hex));
-    present(text, "cgroup", sample.cgroup());
-    present(text, "data_page_size", sample.data_page_size());
-    present(text, "code_page_size", sample.code_page_size());
+}
+
+impl Words for &ReadGroup<'_> {
+    fn put(&self, text: &mut String, name: &str) {
+        self.time_enabled().put(text, "time_enabled");
+        self.time_running().put(text, "time_running");
+        write!(text, " {name}={}", list(self.entries(), entry)).unwrap();
+    }
+}
+
+macro_rules! record_words {
+    ($kind:ident $record:ident $( <$life:lifetime> )? {
+        $( $name:ident: $at:tt $( as $text:ident )?, )*
+    }) => {
+        impl<'a> Words for $record $( <$life> )? {
+            fn put(&self, text: &mut String, _: &str) {
+                $( value!(self.$name: $at).put(text, stringify!($name)); )*
+            }
+        }
+    };
+}
+
+macro_rules! value {
+    ($record:ident.$name:ident: ()) => {
+        $record.$name()
+    };
+    ($record:ident.$name:ident: $at:literal) => {
+        $record.$name
+    };
+}
+
+each_record!(record_words);
+
+impl Words for Read {
+    fn put(&self, text: &mut String, _: &str) {
+        self.pid.put(text, "pid");
+        self.tid.put(text, "tid");
+        self.values.value().put(text, "value");
+        self.values.time_enabled().put(text, "time_enabled");
+        self.values.time_running().put(text, "time_running");
+        self.values.id().put(text, "id");
+        self.values.lost().put(text, "lost");
+    }
+}
+
+impl Words for SwitchCpuWide {
+    fn put(&self, text: &mut String, _: &str) {
+        self.pid().put(text, "pid");
+        self.tid().put(text, "tid");
+        u16::from(matches!(self, Self::Out { .. })).put(text, "out");
+    }
 }
 
 /// The name and the fields of a record.
 pub fn record(record: &Record<'_>) -> String {
-    let mut words = String::new();
-    let text = &mut words;
-    match record {
-        Record::Mmap(r) => {
-            text.push_str("Mmap");
-            task(text, r.pid, r.tid);
-            place(text, r.addr, r.len, r.pgoff);
-            field(text, "filename", hex(&r.filename));
-        }
-        Record::Lost(r) => {
-            text.push_str("Lost");
-            field(text, "id", r.id);
-            field(text, "lost", r.lost);
-        }
-        Record::Comm(r) => {
-            text.push_str("Comm");
-            task(text, r.pid, r.tid);
-            field(text, "comm", hex(&r.comm));
-        }
-        Record::Exit(r) => exit(text, "Exit", r),
-        Record::Fork(r) => exit(text, "Fork", r),
-        Record::Throttle(r) => throttle(text, "Throttle", r),
-        Record::Unthrottle(r) => throttle(text, "Unthrottle", r),
-        Record::Read(r) => {
-            text.push_str("Read");
-            task(text, r.pid, r.tid);
-            read(text, &r.values);
-        }
-        Record::Sample(r) => sample(text, r),
-        Record::Mmap2(r) => mmap2(text, r),
-        Record::Aux(r) => {
-            text.push_str("Aux");
-            field(text, "aux_offset", r.aux_offset);
-            field(text, "aux_size", r.aux_size);
-            field(text, "flags", r.flags.bits());
-        }
-        Record::ITraceStart(r) => {
-            text.push_str("ITraceStart");
-            task(text, r.pid, r.tid);
-        }
-        Record::LostSamples(r) => {
-            text.push_str("LostSamples");
-            field(text, "lost", r.lost);
-        }
-        Record::Switch => text.push_str("Switch"),
-        Record::SwitchCpuWide(r) => {
-            text.push_str("SwitchCpuWide");
-            task(text, r.pid(), r.tid());
-            field(
-                text,
-                "out",
-                u8::from(matches!(r, SwitchCpuWide::Out { .. })),
-            );
-        }
-        Record::Namespaces(r) => {
-            text.push_str("Namespaces");
-            task(text, r.pid, r.tid);
-            let item = |space: &NamespaceEntry| format!("{}:{}", space.dev, space.inode);
-            field(text, "namespaces", list(&*r.namespaces, item));
-        }
-        Record::KSymbol(r) => {
-            text.push_str("KSymbol");
-            field(text, "addr", r.addr);
-            field(text, "len", r.len);
-            field(text, "ksym_type", r.ksym_type.0);
-            field(text, "flags", r.flags.bits());
-            field(text, "name", hex(&r.name));
-        }
-        Record::BpfEvent(r) => {
-            text.push_str("BpfEvent");
-            field(text, "ty", r.ty.0);
-            field(text, "flags", r.flags);
-            field(text, "id", r.id);
-            field(text, "tag", hex(&r.tag));
-        }
-        Record::CGroup(r) => {
-            text.push_str("CGroup");
-            field(text, "id", r.id);
-            field(text, "path", hex(&r.path));
-        }
-        Record::TextPoke(r) => {
-            text.push_str("TextPoke");
-            field(text, "addr", r.addr);
-            field(text, "old_bytes", hex(&r.old_bytes));
-            field(text, "new_bytes", hex(&r.new_bytes));
-        }
-        Record::AuxOutputHwId(r) => {
-            text.push_str("AuxOutputHwId");
-            field(text, "hw_id", r.hw_id);
-        }
-        Record::Unknown { data, .. } => {
-            text.push_str("Unknown");
-            field(text, "data", hex(data));
-        }
-        other => panic!("a record without words: {other:?}"),
+    let mut text = String::new();
+    macro_rules! put_record {
+        ($( $variant:ident($type:ident $( <$life:lifetime> )?) $method:ident $number:ident = $value:literal; )*) => {
+            match record {
+                $( Record::$variant(fields) => {
+                    text.push_str(stringify!($variant));
+                    fields.put(&mut text, "");
+                } )*
+                Record::Switch => text.push_str("Switch"),
+                Record::Unknown { data, .. } => {
+                    text.push_str("Unknown");
+                    data.put(&mut text, "data");
+                }
+                other => panic!("a record without words: {other:?}"),
+            }
+        };
     }
-    words
+    each_type!(put_record);
+    text
 }
 
 /// The name and the fields of a record, or the kind of its refusal.
