@@ -382,7 +382,7 @@ impl<'a> Case<'a> {
             }
             "big" => self.is_big = true,
             "little" => self.is_big = false,
-            "run" | "after" | "ask" | "shown" | "sample" | "perfrec" => {
+            "run" | "after" | "ask" | "shown" | "sample" | "perfrec" | "refused" => {
                 self.how = word;
                 self.words = rest;
             }

@@ -128,18 +128,12 @@ fn push_refusal(text: &mut String, kind: ErrorKind) -> Result<Outcome, AllocErro
         ≡ string_bytes text.old ++ lines.end_line (codes "fault " ++ lines.kind_name kind))
         × (outcome ≡ Outcome.Faulted)) }
 {
-    match kind {
-        ErrorKind::External | ErrorKind::OutOfMemory => {
-            push_fault(text, kind)?;
-            Ok(Outcome::Faulted)
-        }
-        ErrorKind::Eof
-        | ErrorKind::InvalidRecord
-        | ErrorKind::UnsupportedConfig
-        | ErrorKind::UnsupportedData => {
-            push_attr_refused(text, kind)?;
-            Ok(Outcome::BadAttr)
-        }
+    if kind.is_of_layout() {
+        push_attr_refused(text, kind)?;
+        Ok(Outcome::BadAttr)
+    } else {
+        push_fault(text, kind)?;
+        Ok(Outcome::Faulted)
     }
 }
 

@@ -6,6 +6,7 @@ use perf_event_data::endian::Dynamic;
 use perf_event_data::sys::perf_event_attr;
 use perf_test_helpers::asks::text_of_calls;
 use perf_test_helpers::everywhere::add_other;
+use perf_test_helpers::reasons::reasons;
 use perf_test_helpers::runs::{runs_everywhere, text_after_attribute, text_of_records};
 use perf_test_helpers::sample_bytes::{Part, frames, put_parts};
 use std::alloc::{AllocError, Global};
@@ -61,7 +62,7 @@ impl<'a> Case<'a> {
             "under" => self.attr = attribute(rest)?,
             "big" => self.order = Dynamic::Big,
             "little" => self.order = Dynamic::Little,
-            "run" | "after" | "ask" | "shown" | "sample" | "perfrec" => {
+            "run" | "after" | "ask" | "shown" | "sample" | "perfrec" | "refused" => {
                 self.how = word;
                 self.request = rest;
             }
@@ -125,6 +126,7 @@ impl<'a> Case<'a> {
             "shown" => Ok(text_of_records(self.alloc, &self.little)?),
             "sample" => self.text_of_sample(),
             "perfrec" => perfrec::text_of(self.alloc, self.request, &self.little),
+            "refused" => Ok(reasons(self.alloc, self.request, &self.attr, &self.little)?),
             _ => bail!("nothing is asked in {}", self.name),
         }
     }

@@ -19,6 +19,7 @@
 //! - `sample LEFT` reads a sample, alone and as a frame, after which that many bytes are left, in
 //!   little and in big endian.
 //! - `perfrec WORD ..` is what that program writes, its lines one after another, and its status.
+//! - `refused CALL ..` is why these calls refuse the first frame ([`perf_test_helpers::reasons`]).
 //! - `= ANSWER` is the result. What is set stays, so that several results may follow one input.
 //! - `> LINE` or `~ LINE` is a line of a longer result, of which `=` has the rest, such as the
 //!   status of `perfrec`. `make.py` writes the cases that have such lines, and its README explains

@@ -69,19 +69,13 @@ impl<'p> FrameCounter<'p> {
         requires { kind_of error ≢ ErrorKind.External }
         ensures { RefusesSight error self.old result self.new }
     {
-        match error.kind() {
-            ErrorKind::External | ErrorKind::OutOfMemory => {
-                self.error = Some(error);
-                false
-            }
-            ErrorKind::Eof
-            | ErrorKind::InvalidRecord
-            | ErrorKind::UnsupportedConfig
-            | ErrorKind::UnsupportedData => {
-                drop(error);
-                self.counts.add_refused();
-                true
-            }
+        if error.kind().is_of_layout() {
+            drop(error);
+            self.counts.add_refused();
+            true
+        } else {
+            self.error = Some(error);
+            false
         }
     }
 }

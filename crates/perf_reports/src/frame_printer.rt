@@ -15,7 +15,7 @@ ghost use Rattle.perf_reports.specs.Printing.{is_memory};
 
 use crate::printing::{Found, Lines, Report, Stopped};
 use perf_event_data::endian::Endian;
-use perf_event_data::parse::{ErrorKind, ParseConfig, ParseError};
+use perf_event_data::parse::{ParseConfig, ParseError};
 use perf_event_data::sys::PERF_RECORD_SAMPLE;
 use perf_event_data::{BadFrame, Frame, FrameHandler, RunEnd, Sample, SampleFields};
 use std::alloc::Global;
@@ -124,14 +124,10 @@ impl<W: Write, E: Write> FramePrinter<W, E> {
             (IsTrue (of_layout (kind_of error.now)) → answer ≡ Err (kind_of error.now)) →
             PrintsAnswer W.contents E.contents self.old (h, answer) result self.new }
     {
-        match error.kind() {
-            ErrorKind::External | ErrorKind::OutOfMemory => {
-                Err(self.lines.stop(&mut self.output, Stopped::Frame))
-            }
-            ErrorKind::Eof
-            | ErrorKind::InvalidRecord
-            | ErrorKind::UnsupportedConfig
-            | ErrorKind::UnsupportedData => self.print_error(error),
+        if error.kind().is_of_layout() {
+            self.print_error(error)
+        } else {
+            Err(self.lines.stop(&mut self.output, Stopped::Frame))
         }
     }
 

@@ -7,6 +7,7 @@ pub mod attributes;
 pub mod everywhere;
 pub mod frames;
 pub mod orders;
+pub mod reasons;
 pub mod runs;
 pub mod sample_bytes;
 pub mod texts;

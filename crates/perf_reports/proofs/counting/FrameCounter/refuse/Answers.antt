@@ -4,7 +4,7 @@ use Rattle.perf_base.specs.Errors.{kind_of}
 use Rattle.perf_reader.specs.Reading.{of_layout}
 use Rattle.perf_reports.proofs.counting.FrameCounter.refuse.Goals as goal
 
-pub returns-in-Eof : goal.returns-in-Eof
-returns-in-Eof c =
+pub returns-then-is_of_layout : goal.returns-then-is_of_layout
+returns-then-is_of_layout c =
     let kind : IsTrue (of_layout (kind_of c.args.error)) = search rules in
     (kind, (λ h. c.add_refused.ensures h (kind_of c.args.error)))
