@@ -5,6 +5,7 @@ use Rattle.std.proofs.lemmas.Bool.{cases_lt, lt-ltb, le-ltb, le-leb}
 use Rattle.std.proofs.lemmas.List.{take_all, length-append, length-take, length-take-le, append-nil, take-take, take-map, append_assoc}
 use Rattle.std.proofs.lemmas.List.Sums.{sum_by-append}
 use Rattle.perf_base.specs.Errors.{kind_of}
+use Rattle.perf_base.specs.Refusals.{error_kinds}
 use Rattle.perf_base.specs.Header.{header_of}
 use Rattle.perf_base.specs.Order.{Order}
 use Rattle.perf_base.specs.declared.error.ErrorKind.{ErrorKind}
@@ -20,7 +21,7 @@ use Rattle.perf_base.specs.Attribute.{attribute}
 use Rattle.perf_base.specs.Took.{took, took_by_places}
 use Rattle.perf_base.specs.declared.sys.perf_event_attr.{perf_event_attr}
 use Rattle.perf_records.proofs.LayoutResults.{took_result}
-use Rattle.perf_base.specs.Layout.{Parts, done, map_parts, layout, value}
+use Rattle.perf_base.specs.Layout.{done, map_parts, layout, value}
 use Rattle.perf_base.proofs.Algebra.{then_inv}
 use Rattle.perf_base.proofs.Tables.{layout_run, run_layout}
 use Rattle.perf_sample_types.specs.Sample.{SampleValue, sample}
@@ -288,7 +289,7 @@ run_keeps old n count None e was now new none handed is p =
 
 -- what a visit of a frame summed
 pub visited_sum : (h : perf_event_header) (c : Configuration) (o : Order) (bytes : List ℕ) (borrowed : Bool) (r : Result ℕ ParseError) →
-    FrameGives Adds h c o bytes borrowed r → SumsAnswer (answer_after c o h bytes) r
+    FrameGives Adds h c o bytes borrowed r → SumsAnswer (answer_after c o h bytes) (error_kinds r)
 visited_sum h c o bytes borrowed (Ok sum) v = (v.0, v.5, v.3)
 visited_sum h c o bytes borrowed (Err e) v = (v.0, v.2)
 
@@ -303,7 +304,7 @@ placed_sum h c o bytes borrowed r put now sum gives is same =
 
 -- a sample that is refused sums nothing
 pub placed_refused : (h : perf_event_header) (c : Configuration) (o : Order) (bytes : List ℕ) (borrowed : Bool) (r : Result Bool ParseError) (e : ParseError) (now : Sample) →
-    FrameGives (λ e x. PutsSample e x now) h c o bytes borrowed r → r ≡ Err e → SumsAnswer (answer_after c o h bytes) (Err e)
+    FrameGives (λ e x. PutsSample e x now) h c o bytes borrowed r → r ≡ Err e → SumsAnswer (answer_after c o h bytes) (Err (kind_of e))
 placed_refused h c o bytes borrowed r e now gives is =
     let v = subst (λ (q : Result Bool ParseError). FrameGives (λ e x. PutsSample e x now) h c o bytes borrowed q) is gives in
     (v.0, v.2)
@@ -327,10 +328,10 @@ unknown_adds c o h bytes m none is = by (split_after c o h bytes) refl
     by (Err k) e = let never : Ok m ≡ metadata_in (Err k) = is ∙ ap metadata_in e in absurd (cc)
 
 pub unknown_refused : (c : Configuration) (o : Order) (h : perf_event_header) (bytes : List ℕ) (x : ParseError) → Err (kind_of x) ≡ metadata_in (split_after c o h bytes) → kind_of x ≡ InvalidRecord →
-    SumsAnswer (answer_after c o h bytes) (Err x)
+    SumsAnswer (answer_after c o h bytes) (Err (kind_of x))
 unknown_refused c o h bytes x is invalid = by (split_after c o h bytes) refl
   where
-    by : (s : Result FrameParts ErrorKind) → split_after c o h bytes ≡ s → SumsAnswer (answer_after c o h bytes) (Err x)
+    by : (s : Result FrameParts ErrorKind) → split_after c o h bytes ≡ s → SumsAnswer (answer_after c o h bytes) (Err (kind_of x))
     by (Ok parts) e = let never : Err (kind_of x) ≡ metadata_in (Ok parts) = is ∙ ap metadata_in e in absurd (cc)
     by (Err k) e =
         let same : Err (kind_of x) ≡ metadata_in (Err k) = is ∙ ap metadata_in e in
@@ -343,7 +344,7 @@ pub sums_seen : (h : perf_event_header) (c : Configuration) (o : Order) (bytes :
     ((r : RecordValue) → sum ≡ modulo_word (record_sum r) → now.counts ≡ plus was.counts (counts_of ((h, Ok r) ∷ []))) → CountsSight was c o (whole h bytes borrowed) true now
 sums_seen h c o bytes borrowed sum was now says added = added says.0 says.2 ∙ ap (λ a. plus was.counts (counts_of ((h, a) ∷ []))) (sym says.1)
 
-pub refuses_seen : (h : perf_event_header) (c : Configuration) (o : Order) (bytes : List ℕ) (borrowed : Bool) (e : ParseError) (was now : FrameCounter) (go : Bool) → SumsAnswer (answer_after c o h bytes) (Err e) →
+pub refuses_seen : (h : perf_event_header) (c : Configuration) (o : Order) (bytes : List ℕ) (borrowed : Bool) (e : ErrorKind) (was now : FrameCounter) (go : Bool) → SumsAnswer (answer_after c o h bytes) (Err e) →
     RefusesSight e was go now → CountsSight was c o (whole h bytes borrowed) go now
 refuses_seen h c o bytes borrowed e was now true says p = p.1 h ∙ ap (λ a. plus was.counts (counts_of ((h, a) ∷ []))) (sym (says.0 p.0))
 refuses_seen h c o bytes borrowed e was now false says p = p

@@ -1,5 +1,5 @@
 -- What was printed of a recording, from what was printed of the frames after its attribute.
-use Rattle.std.proofs.Common.{◌≡◌, ℕ, Bool, true, List, [], ◌++◌, drop, sym, ap, subst, ◌∙◌, ◌&&◌, Option, string_bytes}
+use Rattle.std.proofs.Common.{◌≡◌, ℕ, Bool, true, List, [], ◌++◌, drop, sym, ap, subst, ◌∙◌, ◌&&◌, Option}
 use Rattle.std.specs.Prelude.{Result, Ok, Err, IfOk}
 use Rattle.std.specs.Io.KnownBytes.{Appends}
 use Rattle.perf_base.specs.Configuration.{Configuration, configured_by}
@@ -8,7 +8,7 @@ use Rattle.perf_base.specs.declared.error.ErrorKind.{ErrorKind}
 use Rattle.perf_base.specs.declared.sys.perf_event_attr.{perf_event_attr}
 use Rattle.perf_reader.specs.ReaderState.{ReaderState}
 use Rattle.perf_records.specs.Answers.{answers}
-use Rattle.perf_records.specs.Frames.{stream_end, done}
+use Rattle.perf_records.specs.Frames.{stream_end}
 use Rattle.perf_reports.specs.Counting.{attribute_in}
 use Rattle.perf_reports.specs.FramePrinting.{Answered, TellsErrors, all_clean, PrintsAll, PrintsRecording, answers_left, recording_answers}
 use Rattle.perf_reports.specs.Printing.{printed_answers, GrowsWithin}

@@ -1,18 +1,17 @@
 -- What a printer has printed of a whole stream, run by run.
-use Rattle.std.proofs.Common.{◌≡◌, ℕ, zero, suc, ◌+◌, ◌-◌, ◌<◌, ◌≤◌, Bool, List, [], ◌∷◌, ◌++◌, length, take, drop, refl, sym, ap, subst, ◌∙◌, ◌&&◌, arith, append_assoc, append-nil, Option, Some, None, string_bytes}
+use Rattle.std.proofs.Common.{◌≡◌, ℕ, ◌+◌, ◌-◌, ◌≤◌, Bool, List, [], ◌++◌, length, take, drop, refl, sym, ap, subst, ◌∙◌, ◌&&◌, arith, append_assoc, append-nil, Option, Some, None}
 use Rattle.std.proofs.Math.Seq.{take-add}
 use Rattle.std.proofs.lemmas.List.{length-map, length-drop, take_all, take-append-drop}
 use Rattle.std.specs.Io.KnownBytes.{Appends}
 use Rattle.perf_base.specs.Configuration.{Configuration}
 use Rattle.perf_base.specs.Header.{header_of}
 use Rattle.perf_base.specs.Order.{Order}
-use Rattle.perf_parser.specs.Runs.{EndsWith}
 use Rattle.perf_parser.specs.declared.runs.RunEnd.{RunEnd}
 use Rattle.perf_parser.specs.declared.runs.RunEnd.TheVariants as end
 use Rattle.perf_reader.specs.ReaderState.{ReaderState}
 use Rattle.perf_records.specs.Answers.{answers, answer_of_frame}
-use Rattle.perf_records.specs.Frames.{frames, drop_frames, stream_end, done}
-use Rattle.perf_reports.specs.FramePrinting.{Answered, TellsErrors, all_clean, Prints, PrintsFirst, PrintsRun, PrintsAll, answers_left}
+use Rattle.perf_records.specs.Frames.{frames, drop_frames, stream_end}
+use Rattle.perf_reports.specs.FramePrinting.{Answered, all_clean, Prints, PrintsFirst, PrintsRun, PrintsAll, answers_left}
 use Rattle.perf_reports.specs.Printing.{printed_answers, Grows, GrowsWithin}
 use Rattle.perf_reports.specs.declared.frame_printer.FramePrinter.{FramePrinter}
 use Rattle.perf_records.proofs.FramesAfter.{frames_after, after_more, answers_after, end_after}

@@ -148,17 +148,16 @@ CountsSight was c o sight true now = now.counts ≡ plus was.counts (counted_sig
 CountsSight was c o sight false now = (now.counts ≡ was.counts) × RanOut now.error
 
 -- A refused frame was counted, whatever its header, or ended the run.
-abbrev pub RefusesSight : ParseError → FrameCounter → Bool → FrameCounter → Type 0
-RefusesSight error was true now = IsTrue (of_layout (kind_of error))
-    × ((h : perf_event_header) → now.counts ≡ plus was.counts (counts_of ((h, Err (kind_of error)) ∷ [])))
-RefusesSight error was false now = (now.counts ≡ was.counts) × RanOut now.error
+abbrev pub RefusesSight : ErrorKind → FrameCounter → Bool → FrameCounter → Type 0
+RefusesSight kind was true now = IsTrue (of_layout kind)
+    × ((h : perf_event_header) → now.counts ≡ plus was.counts (counts_of ((h, Err kind) ∷ [])))
+RefusesSight kind was false now = (now.counts ≡ was.counts) × RanOut now.error
 
 -- What a record adds was summed, if the result is a record; otherwise it was refused with the kind
 -- of the result, or because memory ran out.
-abbrev pub SumsAnswer : Result RecordValue ErrorKind → Result ℕ ParseError → Type 0
+abbrev pub SumsAnswer : Result RecordValue ErrorKind → Result ℕ ErrorKind → Type 0
 SumsAnswer answer (Ok sum) = (value : RecordValue) × (answer ≡ Ok value) × (sum ≡ modulo_word (record_sum value))
-SumsAnswer answer (Err e) =
-    (IsTrue (of_layout (kind_of e)) → answer ≡ Err (kind_of e)) × (kind_of e ≢ External)
+SumsAnswer answer (Err kind) = (IsTrue (of_layout kind) → answer ≡ Err kind) × (kind ≢ External)
 
 -- ---- what is counted of a stream
 

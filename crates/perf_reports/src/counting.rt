@@ -3,6 +3,7 @@
 ghost use Rattle.std.specs.Prelude.{◌≡◌, ◌≢◌, [], None, true};
 ghost use Rattle.perf_base.specs.Configured.{configuration_of, endian_of};
 ghost use Rattle.perf_base.specs.Errors.{kind_of};
+ghost use Rattle.perf_base.specs.Refusals.{error_kinds};
 ghost use Rattle.perf_buffers.specs.Prelude.{chunk_bytes};
 ghost use Rattle.perf_records.specs.Answers.{answer_after};
 ghost use Rattle.perf_records.specs.RecordTypes.{type_of};
@@ -16,7 +17,7 @@ use perf_event_data::endian::Endian;
 use perf_event_data::parse::{ErrorKind, ParseConfig, ParseError, ParseResult};
 use perf_event_data::sys::PERF_RECORD_SAMPLE;
 use perf_event_data::{BadFrame, Frame, FrameHandler, RunEnd, Sample, SampleFields};
-use perf_sample_types::sample::least_len;
+use perf_sample_types::sample::{empty_sample, least_len};
 use std::alloc::Global;
 
 /// Counts the frames that a run hands to it. If memory runs out for one, it ends the run and does
@@ -63,18 +64,17 @@ impl<'p> FrameCounter<'p> {
         }
     }
 
-    // Counts a frame that was refused. If memory ran out, the run ends instead.
+    // Counts a frame that was refused with a kind. If memory ran out, the run ends instead.
     #[cold]
-    fn refuse(&mut self, error: ParseError) -> bool
-        requires { kind_of error ≢ ErrorKind.External }
-        ensures { RefusesSight error self.old result self.new }
+    fn refuse(&mut self, kind: ErrorKind) -> bool
+        requires { kind ≢ ErrorKind.External }
+        ensures { RefusesSight kind self.old result self.new }
     {
-        if error.kind().is_of_layout() {
-            drop(error);
+        if kind.is_of_layout() {
             self.counts.add_refused();
             true
         } else {
-            self.error = Some(error);
+            self.error = Some(ParseError::out_of_memory());
             false
         }
     }
@@ -90,60 +90,118 @@ fn is_short_sample<E: Endian>(config: &ParseConfig<E>, frame: &Frame<'_, '_>) ->
     frame.header().type_ == PERF_RECORD_SAMPLE && frame.rest().len() < least_len(config)
 }
 
-// What the record of a frame adds to the checksum. A sample whose bytes live as long as the input is
-// read into a place that is kept for the next; nothing is kept of any other frame, so that no byte
-// string is copied. A record of a type that the kernel does not have adds nothing, and is not read.
+// What a call returned, with no more of an error than its kind.
+#[inline]
+fn with_kind<T: Copy>(answer: &ParseResult<T>) -> Result<T, ErrorKind>
+    ensures { result ≡ error_kinds answer.now }
+{
+    match answer {
+        Ok(value) => Ok(*value),
+        Err(error) => Err(error.kind()),
+    }
+}
+
+// What the record of a frame adds to the checksum, or the kind with which it is refused: an error is
+// large, so none is passed on. A sample whose bytes live as long as the input is read into a place
+// that is kept for the next; nothing is kept of any other frame, so that no byte string is copied. A
+// record of a type that the kernel does not have adds nothing, and is not read.
 #[inline]
 fn frame_sum<'p, E: Endian>(
     alloc: Global,
     config: &ParseConfig<E>,
     frame: &Frame<'_, 'p>,
     place: &mut Sample<'p>,
-) -> ParseResult<u64>
+) -> Result<u64, ErrorKind>
     ensures { SumsAnswer (answer_after (configuration_of config.now)
         (E.order (endian_of config.now)) frame.now.header (chunk_bytes frame.now.rest)) result }
 {
-    if frame.header().type_ == PERF_RECORD_SAMPLE && frame.is_borrowed() {
-        return kept_sum(alloc, config, frame, place);
+    if frame.header().type_ != PERF_RECORD_SAMPLE {
+        return other_sum(alloc, config, frame);
     }
+    if frame.is_borrowed() {
+        return placed_sum(alloc, config, frame, place);
+    }
+    shown_sum(alloc, config, frame)
+}
+
+// What a record adds that is no sample.
+#[inline]
+fn other_sum<E: Endian>(
+    alloc: Global,
+    config: &ParseConfig<E>,
+    frame: &Frame<'_, '_>,
+) -> Result<u64, ErrorKind>
+    ensures { SumsAnswer (answer_after (configuration_of config.now)
+        (E.order (endian_of config.now)) frame.now.header (chunk_bytes frame.now.rest)) result }
+{
     if frame.kind().is_none() {
         return unknown_sum(alloc, config, frame);
     }
-    frame.borrowed().visit(alloc, config, SumVisitor)
+    let answer = frame.borrowed().visit(alloc, config, SumVisitor);
+    with_kind(&answer)
 }
 
-// What a sample adds that is read into the place of the one before.
-#[inline]
-fn kept_sum<'p, E: Endian>(
+// What a sample adds that is read into a place.
+#[inline(never)]
+fn placed_sum<'p, E: Endian>(
     alloc: Global,
     config: &ParseConfig<E>,
     frame: &Frame<'_, 'p>,
     place: &mut Sample<'p>,
-) -> ParseResult<u64>
+) -> Result<u64, ErrorKind>
     requires { frame.now.header.type_ ≡ 9 }
     ensures { SumsAnswer (answer_after (configuration_of config.now)
         (E.order (endian_of config.now)) frame.now.header (chunk_bytes frame.now.rest)) result }
 {
-    match frame.sample_into(alloc, config, place) {
+    match &frame.sample_into(alloc, config, place) {
         Ok(_) => Ok(sample_sum(place)),
-        Err(error) => Err(error),
+        Err(error) => Err(error.kind()),
     }
 }
 
-// What the record of a frame adds whose type is none of the kernel's.
+// What a sample adds of which nothing is kept.
+#[inline(never)]
+fn shown_sum<E: Endian>(
+    alloc: Global,
+    config: &ParseConfig<E>,
+    frame: &Frame<'_, '_>,
+) -> Result<u64, ErrorKind>
+    requires { frame.now.header.type_ ≡ 9 }
+    ensures { SumsAnswer (answer_after (configuration_of config.now)
+        (E.order (endian_of config.now)) frame.now.header (chunk_bytes frame.now.rest)) result }
+{
+    own_place_sum(alloc, config, &frame.borrowed())
+}
+
+// What a sample adds that is read into a place of its own.
 #[inline]
+fn own_place_sum<'s, E: Endian>(
+    alloc: Global,
+    config: &ParseConfig<E>,
+    frame: &Frame<'_, 's>,
+) -> Result<u64, ErrorKind>
+    requires { frame.now.header.type_ ≡ 9 }
+    ensures { SumsAnswer (answer_after (configuration_of config.now)
+        (E.order (endian_of config.now)) frame.now.header (chunk_bytes frame.now.rest)) result }
+{
+    let mut place: Sample<'s> = empty_sample();
+    placed_sum(alloc, config, frame, &mut place)
+}
+
+// What the record of a frame adds whose type is none of the kernel's.
+#[inline(never)]
 fn unknown_sum<E: Endian>(
     alloc: Global,
     config: &ParseConfig<E>,
     frame: &Frame<'_, '_>,
-) -> ParseResult<u64>
+) -> Result<u64, ErrorKind>
     requires { type_of frame.now.header.type_ ≡ None }
     ensures { SumsAnswer (answer_after (configuration_of config.now)
         (E.order (endian_of config.now)) frame.now.header (chunk_bytes frame.now.rest)) result }
 {
     match frame.metadata(alloc, config) {
         Ok(_) => Ok(0),
-        Err(error) => Err(error),
+        Err(error) => Err(error.kind()),
     }
 }
 
@@ -163,7 +221,7 @@ impl<'p, E: Endian> FrameHandler<'p, E> for FrameCounter<'p> {
                         self.counts.add_record(frame.header(), sum);
                         true
                     }
-                    Err(error) => self.refuse(error),
+                    Err(kind) => self.refuse(kind),
                 }
             }
             Err(_) => {

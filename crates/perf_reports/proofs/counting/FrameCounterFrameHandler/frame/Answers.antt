@@ -19,7 +19,7 @@ returns-in-Err-frame_sum g c =
     let order : Order = g.E.Endian.order (endian_of c.args.config.now) in
     let f = c.in-Ok.frame in
     subst (λ (s : Result Frame BadFrame). CountsSight c.args.self.now settings order (sight_of s) c.refuse.result c.refuse.new.self) (sym c.in-Ok.is)
-    (refuses_seen f.header settings order (chunk_bytes f.rest) (chunk_is_borrowed f.rest) c.in-Err-frame_sum.error c.args.self.now c.refuse.new.self c.refuse.result c.in-Err-frame_sum.ensures c.refuse.ensures)
+    (refuses_seen f.header settings order (chunk_bytes f.rest) (chunk_is_borrowed f.rest) c.in-Err-frame_sum.kind c.args.self.now c.refuse.new.self c.refuse.result c.in-Err-frame_sum.ensures c.refuse.ensures)
 
 pub returns-in-Err : goal.returns-in-Err
 returns-in-Err g c =
