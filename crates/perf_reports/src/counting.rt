@@ -16,7 +16,7 @@ use crate::sums::sample_sum;
 use perf_event_data::endian::Endian;
 use perf_event_data::parse::{ErrorKind, ParseConfig, ParseError, ParseResult};
 use perf_event_data::sys::PERF_RECORD_SAMPLE;
-use perf_event_data::{BadFrame, Frame, FrameHandler, RunEnd, Sample, SampleFields};
+use perf_event_data::{BadFrame, Frame, FrameHandler, RunEnd, Sample};
 use perf_sample_types::sample::{empty_sample, least_len};
 use std::alloc::Global;
 
@@ -42,7 +42,7 @@ impl<'p> FrameCounter<'p> {
             alloc,
             counts: Counts::NONE,
             error: None,
-            sample: Sample::from_fields(SampleFields::default()),
+            sample: empty_sample(),
         }
     }
 

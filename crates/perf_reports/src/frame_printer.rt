@@ -17,7 +17,8 @@ use crate::printing::{Found, Lines, Report, Stopped};
 use perf_event_data::endian::Endian;
 use perf_event_data::parse::{ParseConfig, ParseError};
 use perf_event_data::sys::PERF_RECORD_SAMPLE;
-use perf_event_data::{BadFrame, Frame, FrameHandler, RunEnd, Sample, SampleFields};
+use perf_event_data::{BadFrame, Frame, FrameHandler, RunEnd, Sample};
+use perf_sample_types::sample::empty_sample;
 use std::alloc::Global;
 use std::io::Write;
 
@@ -143,13 +144,13 @@ impl<W: Write, E: Write> FramePrinter<W, E> {
         ensures { PrintsAnswer W.contents E.contents self.old (frame_answer
             (configuration_of config.now) (O.order (endian_of config.now)) frame.now) result self.new }
     {
-        let mut sample: Sample<'p> = Sample::from_fields(SampleFields::default());
-        match frame.sample_into(self.alloc, config, &mut sample) {
+        let mut sample: Sample<'p> = empty_sample();
+        match &frame.sample_into(self.alloc, config, &mut sample) {
             Ok(_) => {
                 let found = Found::Sample(&sample);
                 self.lines.add(&mut self.output, self.report, found)
             }
-            Err(error) => self.refuse(&error),
+            Err(error) => self.refuse(error),
         }
     }
 
@@ -163,12 +164,12 @@ impl<W: Write, E: Write> FramePrinter<W, E> {
         ensures { PrintsAnswer W.contents E.contents self.old (frame_answer
             (configuration_of config.now) (O.order (endian_of config.now)) frame.now) result self.new }
     {
-        match frame.record(self.alloc, config) {
+        match &frame.record(self.alloc, config) {
             Ok(record) => {
-                let found = Found::Record(&record);
+                let found = Found::Record(record);
                 self.lines.add(&mut self.output, self.report, found)
             }
-            Err(error) => self.refuse(&error),
+            Err(error) => self.refuse(error),
         }
     }
 
