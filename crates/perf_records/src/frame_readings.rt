@@ -1,7 +1,8 @@
 //! What one whole frame contains.
 
-ghost use Rattle.std.specs.Prelude.{◌≡◌, false, Ok, IfErr, OnErr};
+ghost use Rattle.std.specs.Prelude.{◌≡◌, false, Ok, Err, IfErr, OnErr};
 ghost use Rattle.perf_base.specs.Refusals.{IsErrorOf, error_kinds};
+ghost use Rattle.perf_base.specs.declared.error.ParseError.{ParseError};
 ghost use Rattle.perf_buffers.specs.Prelude.{chunk_bytes, chunk_is_borrowed};
 ghost use Rattle.perf_records.specs.Answers.{split_after};
 ghost use Rattle.perf_records.specs.FrameReadings.{FrameGives, HasNoRoom, PutsSample, metadata_in};
@@ -17,17 +18,18 @@ use crate::record::Record;
 use crate::record_type::RecordType;
 use crate::visitor::Visitor;
 use perf_base::sys::PERF_RECORD_SAMPLE;
-use perf_base::{Endian, Kept, ParseConfig, ParseError, ParseResult, Refusal};
+use perf_base::{Endian, Kept, ParseConfig, ParseResult, Refusal};
 use perf_sample_types::sample::{Sample, clear_sample};
 use std::alloc::Global;
 
-// The error of a frame that is refused.
+// What a call returns for a frame that is refused. An error is large, so it is made where it is
+// returned: a caller that makes one itself clears space for it before it knows whether there is one.
 #[cold]
 #[inline(never)]
-fn error_of(refusal: Refusal) -> ParseError
-    ensures { IsErrorOf result refusal }
+fn refused<T>(refusal: Refusal) -> ParseResult<T>
+    ensures { (e : ParseError) × (result ≡ Err e) × IsErrorOf e refusal }
 {
-    Kept::none().error_of(refusal)
+    Err(Kept::none().error_of(refusal))
 }
 
 impl<'c, 'p> Frame<'c, 'p> {
@@ -48,7 +50,7 @@ impl<'c, 'p> Frame<'c, 'p> {
         let (answer, _reads) = self.read(alloc, config, maker, state);
         match answer {
             Ok(output) => Ok(output),
-            Err(refusal) => Err(error_of(refusal)),
+            Err(refusal) => refused(refusal),
         }
     }
 
@@ -80,7 +82,7 @@ impl<'c, 'p> Frame<'c, 'p> {
     {
         match id_in(alloc, self.rest(), config, self.header()) {
             Ok(id) => Ok(id.metadata),
-            Err(no_room) => Err(error_of(no_room)),
+            Err(no_room) => refused(no_room),
         }
     }
 
