@@ -1,13 +1,14 @@
 #!/bin/sh
-# Makes a shared object of an archive, which shows ped_* alone: shared.sh ARCHIVE FOLDER NAME. If the archive is
-# not position independent, it prints that, and FOLDER stays empty.
+# Makes a shared object of an archive, which shows ped_* alone: shared.sh ARCHIVE FOLDER NAME. Its symbols have the
+# version at the end of NAME, as PED_1 of libNAME.so.1. If the archive is not position independent, it prints that,
+# and FOLDER stays empty.
 set -u
 archive=$1 folder=$2 name=$3
 rm -rf "$folder"
 mkdir -p "$folder" || exit 1
 map=$(mktemp) log=$(mktemp)
 trap 'rm -f "$map" "$log"' EXIT
-echo '{ global: ped_*; local: *; };' >"$map"
+echo "PED_${name##*.} { global: ped_*; local: *; };" >"$map"
 if ${CC:-cc} -shared -Wl,-soname,"$name" -Wl,--version-script="$map" -Wl,-z,text -Wl,-z,defs -Wl,-z,now -s \
     -o "$folder/$name" -Wl,--whole-archive "$archive" -Wl,--no-whole-archive >"$log" 2>&1; then
     exit 0

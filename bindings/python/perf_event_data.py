@@ -16,6 +16,8 @@ The shared object is the one that PERF_EVENT_DATA_SO names, else the one in the 
 else the one that the system finds.
 """
 
+from __future__ import annotations
+
 import ctypes
 import functools
 import itertools
@@ -23,7 +25,18 @@ import os
 import struct
 import sys
 from array import array
-from collections.abc import Sequence
+from collections.abc import Iterator, Sequence
+from typing import TYPE_CHECKING, Any, overload
+
+if TYPE_CHECKING:
+    from numpy import ndarray
+
+# The types of the tables below.
+TYPES: list[str]
+KINDS: dict[int, str]
+ENDS: tuple[str, ...]
+FIELDS: dict[str, list[list[str]]]
+FLAGS: dict[str, int]
 
 __version__ = "0.1.8"
 STRUCT_VERSION = 1  # PED_VERSION of the header
@@ -94,7 +107,16 @@ class Config(ctypes.Structure):
         (name, ctypes.c_uint64) for name in ("sample_type", "read_format", "flags", "branch_sample_type",
                                              "sample_regs_user", "sample_regs_intr")]
 
-    def __init__(self, order: int = LITTLE, **fields: int):
+    version: int
+    order: int
+    sample_type: int
+    read_format: int
+    flags: int
+    branch_sample_type: int
+    sample_regs_user: int
+    sample_regs_intr: int
+
+    def __init__(self, order: int = LITTLE, **fields: int) -> None:
         super().__init__(STRUCT_VERSION, order, **fields)
 
 
@@ -102,11 +124,19 @@ class _Ended(ctypes.Structure):
     _fields_ = [("count", ctypes.c_size_t), ("taken", ctypes.c_size_t), ("how", ctypes.c_uint32)]
 
 
+_ABSENT = """the library of perf_event_data is absent: {why}
+Install one of: the wheel, which contains it; the Debian package libperf-event-data1; what `make -C bindings
+install` writes. Or set PERF_EVENT_DATA_SO to the path of {name}, which `make -C bindings shared` makes."""
+
+
 def _load() -> ctypes.PyDLL:
     """Returns the library. Its calls keep the interpreter's lock, so no thread of Python changes the bytes."""
     beside = os.path.join(os.path.dirname(os.path.abspath(__file__)), "libperf_event_data.so")
-    library = ctypes.PyDLL(os.environ.get("PERF_EVENT_DATA_SO")
-                           or (beside if os.path.exists(beside) else f"libperf_event_data.so.{STRUCT_VERSION}"))
+    name = f"libperf_event_data.so.{STRUCT_VERSION}"
+    try:
+        library = ctypes.PyDLL(os.environ.get("PERF_EVENT_DATA_SO") or (beside if os.path.exists(beside) else name))
+    except OSError as why:
+        raise ImportError(_ABSENT.format(why=why, name=name)) from None
     pointer, size = ctypes.c_void_p, ctypes.c_size_t
     library.ped_read_many.argtypes = [ctypes.POINTER(Config), pointer, size, pointer, size]
     library.ped_read_many.restype = _Ended
@@ -135,7 +165,7 @@ def _bytes_view(data) -> memoryview:
     return view if view.format == "B" and view.ndim == 1 and view.contiguous else view.cast("B")
 
 
-def read_attribute(data, order: int = LITTLE) -> tuple:
+def read_attribute(data: Any, order: int = LITTLE) -> tuple[Config, int]:
     """Returns the configuration of the event attribute at the front of `data`, and its length in bytes.
 
     Raises ValueError, with the kind of the refusal, if it is refused."""
@@ -146,7 +176,7 @@ def read_attribute(data, order: int = LITTLE) -> tuple:
     return config, taken.value
 
 
-def identifier(data, sample_id_all: bool, order: int = LITTLE):
+def identifier(data: Any, sample_id_all: bool, order: int = LITTLE) -> int | None:
     """Returns the kernel's number of the event that wrote the frame at the front of `data`; None if it has none.
 
     It is for frames of several events, before the configuration of a frame is known: all of them must have
@@ -184,11 +214,25 @@ class Frame:
     pid, tid, time, id, stream_id and cpu, of the sample or of the sample id, each None if it is absent."""
 
     __slots__ = "_row", "_data", "_start", "_order"
+    type: int
+    misc: int
+    size: int
+    read: int
+    refusal: int
+    reason: int
+    present: int
+    read_format: int
+    pid: int | None
+    tid: int | None
+    time: int | None
+    id: int | None
+    stream_id: int | None
+    cpu: int | None
 
-    def __init__(self, row: tuple, data: memoryview, start: int, order: int):
+    def __init__(self, row: tuple[int, ...], data: memoryview, start: int, order: int) -> None:
         self._row, self._data, self._start, self._order = row, data, start, order
 
-    def __getattr__(self, name: str):
+    def __getattr__(self, name: str) -> Any:
         if name not in _PLACES:
             raise AttributeError(name)
         place, flag = _PLACES[name]
@@ -210,7 +254,7 @@ class Frame:
         return _REASONS.get(self._row[5]) or _TEXTS.get(self._row[4], "")
 
     @property
-    def fields(self) -> dict:
+    def fields(self) -> dict[str, Any]:
         """The record's fields that are present, by the names of the C header.
 
         A byte string is a memoryview of the input. A list contains numbers, or tuples: of `lbr` from, to and
@@ -233,15 +277,21 @@ class Frame:
         return words.tolist() if each == 1 else list(zip(*[iter(words)] * each))
 
 
-class Frames(Sequence):
+class Frames(Sequence[Frame]):
     """The frames of bytes, one after another: a sequence of `Frame`.
 
     `end` is how reading ended: "done", "cut header" if one to seven bytes are left, or "limit". `taken` is
     how many bytes were taken, from the start of `data`; with a limit, reading can go on there."""
 
     _CHUNK = 1024
+    data: memoryview
+    order: int
+    rows: bytearray
+    starts: array[int]
+    taken: int
+    end: str
 
-    def __init__(self, data, config: Config = None, start: int = 0, limit: int = sys.maxsize):
+    def __init__(self, data: Any, config: Config | None = None, start: int = 0, limit: int = sys.maxsize) -> None:
         """Reads at most `limit` frames, from the byte `start` on. The configuration is that of the event that
         wrote them; without one, records have no sample id and samples have no fields. Raises ValueError for a
         start outside the bytes, or a configuration that the library does not read."""
@@ -266,7 +316,13 @@ class Frames(Sequence):
     def __len__(self) -> int:
         return len(self.rows) // _ROW.size
 
-    def __getitem__(self, index):
+    @overload
+    def __getitem__(self, index: int) -> Frame: ...
+
+    @overload
+    def __getitem__(self, index: slice) -> list[Frame]: ...
+
+    def __getitem__(self, index: int | slice) -> Frame | list[Frame]:
         if isinstance(index, slice):
             return [self[place] for place in range(*index.indices(len(self)))]
         if not -len(self) <= index < len(self):
@@ -274,7 +330,7 @@ class Frames(Sequence):
         index %= len(self)
         return Frame(_ROW.unpack_from(self.rows, _ROW.size * index), self.data, self.starts[index], self.order)
 
-    def __iter__(self):
+    def __iter__(self) -> Iterator[Frame]:
         for row, start in zip(_ROW.iter_unpack(self.rows), self.starts):
             yield Frame(row, self.data, start, self.order)
 
@@ -283,7 +339,7 @@ class Frames(Sequence):
         width = struct.calcsize("=" + code)
         return memoryview(self.rows).cast(code)[at // width::_ROW.size // width].tolist() if self.rows else []
 
-    def column(self, name: str) -> list:
+    def column(self, name: str) -> list[Any]:
         """Returns one field of all frames, None for each frame where it is absent.
 
         The name is that of an attribute of `Frame`, as "time", or a record and its field, as "sample.ip"."""
@@ -297,7 +353,7 @@ class Frames(Sequence):
             raise KeyError(name)
         return [frame.fields.get(field) if frame.name == record else None for frame in self]
 
-    def numpy(self):
+    def numpy(self) -> ndarray[Any, Any]:
         """Returns a structured array over the flat frames, a row each; it copies nothing.
 
         Its fields are those of the C header's `struct ped_frame`: `numbers` has 24 numbers for each frame, in

@@ -12,7 +12,9 @@ nothing failed. The second form prints what `perfrec` prints, and has its argume
 
 import array
 import ctypes
+import inspect
 import mmap
+import os
 import random
 import re
 import struct
@@ -397,6 +399,38 @@ def try_numpy():
           == (frames[comm].fields["pid"], len(frames[comm].fields["comm"])))
 
 
+# ---- the import and the type hints
+
+
+def try_absent_library():
+    environment = {**os.environ, "PERF_EVENT_DATA_SO": "/absent.so", "PYTHONPATH": str(TOP / "bindings/python")}
+    words = [sys.executable, "-c", "import perf_event_data"]
+    text = subprocess.run(words, env=environment, capture_output=True, text=True).stderr
+    expected = "ImportError", "/absent.so", "wheel", "libperf-event-data1", "make -C bindings"
+    check("without its library, the import tells what to do", all(part in text for part in expected))
+
+
+def lacks_hints(call):
+    """The arguments of a call that have no hint, and "return" if what it returns has none."""
+    arguments = list(inspect.signature(call).parameters)
+    return [f"{call.__qualname__}: {name}" for name in [*arguments, "return"]
+            if name != "self" and name not in call.__annotations__]
+
+
+def try_hints():
+    public = {name: value for name, value in vars(ped).items() if name[0] != "_"}
+    own = [value for value in public.values() if getattr(value, "__module__", "") == ped.__name__]
+    kinds = filter(inspect.isclass, own)
+    members = [getattr(member, "fget", member) for kind in kinds for member in vars(kind).values()]
+    calls = [call for call in [*own, *members] if inspect.isfunction(call)]
+    lacking = [text for call in calls for text in lacks_hints(call)]
+    check(f"{len(calls)} calls have type hints {' '.join(lacking)}", len(calls) > 10 and not lacking)
+    attributes = {ped.Config: dict(ped.Config._fields_), ped.Frame: ped._PLACES, ped.Frames: vars(ped.Frames(b""))}
+    check("and each attribute", all(set(names) <= set(kind.__annotations__) for kind, names in attributes.items()))
+    tables = {name for name, value in public.items() if isinstance(value, (dict, list, tuple))}
+    check("and each table", tables and tables <= set(ped.__annotations__))
+
+
 # ---- measurements
 
 LIMIT = 2
@@ -435,6 +469,8 @@ def main():
         lines, status = perfrec(sys.argv[2:], sys.stdin.buffer.read())
         print("\n".join(lines))
         return status
+    try_absent_library()
+    try_hints()
     compare_texts(sys.argv[1] if len(sys.argv) > 1 else None)
     replay("runs of crates/perf_replay", (CRATES / "perf_replay/stdin").read_text())
     streams = [sys.executable, TOP / "bindings/streams.py", "list", "1", "200"]
