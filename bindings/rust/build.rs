@@ -1,12 +1,15 @@
 //! Finds the archive of the C library: in the folder PERF_EVENT_DATA_LIB_DIR, by pkg-config, or
-//! beside this crate in `lib/TARGET`.
+//! beside this crate in `lib/TARGET`. Without one, the crate is checked and documented, but not linked.
 
 use std::env;
 use std::path::{Path, PathBuf};
-use std::process::{exit, Command};
+use std::process::Command;
 
 /// The names that the archive may have, without `lib` and `.a`.
 const NAMES: [&str; 2] = ["perf_event_data", "perf_event_c"];
+
+/// What the error of a build without the archive tells, after its name.
+const ABSENT: &str = "set PERF_EVENT_DATA_LIB_DIR to the folder of libperf_event_data.a, or install it for pkg-config";
 
 /// The name of the archive in a folder, if there is one.
 fn name_in(folder: &Path) -> Option<&'static str> {
@@ -53,15 +56,7 @@ fn main() {
             return;
         }
     }
-    eprintln!(
-        "error: no archive of the C library (lib{}.a or lib{}.a) in:",
-        NAMES[0], NAMES[1]
-    );
-    for folder in &folders {
-        eprintln!("    {}", folder.display());
-    }
-    eprintln!(
-        "Set PERF_EVENT_DATA_LIB_DIR to the folder that contains it, or install it for pkg-config."
-    );
-    exit(1);
+    // Only what is linked needs the archive, so `cargo check` and `cargo doc` do without. The compiler's error
+    // repeats the name of an absent library.
+    println!("cargo:rustc-link-lib=static={} ({ABSENT})", NAMES[0]);
 }

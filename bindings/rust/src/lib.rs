@@ -12,24 +12,50 @@
 //! Byte strings and lists are borrowed from the input: lists only if they are aligned and in this
 //! machine's byte order, otherwise they are copied.
 //!
+//! # A program
+//!
+//! It prints the names of tasks, and how many samples were lost.
+//!
 //! ```
 //! use perf_event_data::endian::Little;
-//! use perf_event_data::parse::{ParseConfig, Parser};
+//! use perf_event_data::parse::{ErrorKind, ParseConfig, ParseResult, Parser};
 //! use perf_event_data::Record;
 //!
-//! # fn main() -> perf_event_data::parse::ParseResult<()> {
-//! let data: &[u8] = &[
-//!     0x03, 0x00, 0x00, 0x00, 0x00, 0x00, 0x18, 0x00, 0x10, 0x10, 0x00, 0x00, 0x00, 0x05, 0x00, 0x00,
-//!     b't', b'e', b's', b't', 0x00, 0x00, 0x00, 0x00,
-//! ];
-//! let mut parser = Parser::new(data, ParseConfig::<Little>::default());
-//! match parser.parse()? {
-//!     Record::Comm(comm) => assert_eq!(&*comm.comm, b"test"),
-//!     other => panic!("another record: {other:?}"),
+//! /// What `perf_event_open(2)` wrote: a COMM record, and a LOST_SAMPLES record.
+//! const DATA: &[u8] = b"\
+//!     \x03\0\0\0\0\0\x18\0\x05\0\0\0\x05\0\0\0test\0\0\0\0\
+//!     \x0d\0\0\0\0\0\x10\0\x08\0\0\0\0\0\0\0";
+//!
+//! fn lines(data: &[u8]) -> ParseResult<Vec<String>> {
+//!     let mut parser = Parser::new(data, ParseConfig::<Little>::default());
+//!     let mut lines = Vec::new();
+//!     loop {
+//!         match parser.parse() {
+//!             Ok(Record::Comm(comm)) => {
+//!                 lines.push(format!("{} {}", comm.tid, comm.comm.escape_ascii()));
+//!             }
+//!             Ok(Record::LostSamples(record)) => lines.push(format!("{} lost", record.lost)),
+//!             Ok(_) => {}
+//!             Err(error) if error.kind() == ErrorKind::Eof => return Ok(lines),
+//!             Err(error) => return Err(error),
+//!         }
+//!     }
 //! }
-//! # Ok(())
-//! # }
+//!
+//! fn main() -> ParseResult<()> {
+//!     let lines = lines(DATA)?;
+//!     println!("{}", lines.join("\n"));
+//!     assert_eq!(lines, ["5 test", "8 lost"]);
+//!     Ok(())
+//! }
 //! ```
+//!
+//! # The archive
+//!
+//! A program is linked with the archive of the library, which is `libperf_event_data.a` of an
+//! installed copy, or `libperf_event_c.a` as the proof writes it. Its folder is that in the variable
+//! `PERF_EVENT_DATA_LIB_DIR`, that of `pkg-config`, or `lib/TARGET` of this crate. Without it, `cargo
+//! check` and `cargo doc` pass, and `cargo build` tells what is absent.
 
 #![warn(missing_docs)]
 #![deny(unsafe_op_in_unsafe_fn)]
