@@ -44,6 +44,14 @@ face() {
     fi
 }
 
+# A Python that has numpy, if one has it: that of the system has Debian's.
+python_with_numpy() {
+    for python in python3 /usr/bin/python3; do
+        "$python" -c 'import numpy' >/dev/null 2>&1 && break
+    done
+    command -v "$python" || echo python3
+}
+
 python_face() {
     make -s -C bindings shared OUT="$work/out" ARCHIVE="$archive" >"$work/log" 2>&1
     shared=$(find "$work/out/shared" -name 'libperf_event_data.so.*' 2>/dev/null)
@@ -53,7 +61,8 @@ python_face() {
     fi
     perfrec=crates/perfrec/out/perfrec
     [ -x $perfrec ] || perfrec=
-    face "Python" "python3" env PERF_EVENT_DATA_SO="$shared" python3 bindings/python/test.py $perfrec
+    face "Python" "python3" env PERF_EVENT_DATA_SO="$shared" \
+        "$(python_with_numpy)" bindings/python/test.py $perfrec
 }
 
 replay=crates/perf_replay/out/perf_replay
@@ -85,4 +94,10 @@ else
     echo "skipped: Python: no $(absent cc make python3)"
 fi
 face "packages" "cc c++ make nm pkg-config tar gzip python3" bindings/install_test.sh "$archive"
+face "wheel" "cc make readelf python3" bindings/packages_test.sh wheel "$archive"
+face "package for Cargo" "cc make cargo git" bindings/packages_test.sh crate "$archive"
+face "package for CMake" "cc c++ make cmake" bindings/packages_test.sh cmake "$archive"
+face "packages for Debian" "cc make dh dh_python3 dpkg lintian pkg-config python3" \
+    bindings/packages_test.sh deb "$archive"
+face "manual pages and completion" "make python3 bash groff" bindings/packages_test.sh programs "$archive"
 exit $status

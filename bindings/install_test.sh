@@ -11,45 +11,8 @@ if [ $# -lt 1 ] || [ ! -f "$1" ]; then
     echo "usage: bindings/install_test.sh ARCHIVE [VARIABLE=VALUE ..]" >&2
     exit 2
 fi
-archive=$(realpath "$1")
-shift
-here=$(cd "$(dirname "$0")" && pwd)
-work=$(mktemp -d) || exit 2
-trap 'rm -rf "$work"' EXIT
-passed=0
-failed=0
-skipped=0
-unset PERF_EVENT_DATA_LIB_DIR PERF_EVENT_DATA_SO PYTHONPATH LD_LIBRARY_PATH MAKEFLAGS
-export PYTHONDONTWRITEBYTECODE=1 CARGO_NET_OFFLINE=true
-
-pass() { passed=$((passed + 1)); echo "passed: $1"; }
-fail() { failed=$((failed + 1)); echo "FAILED: $1"; }
-skip() { skipped=$((skipped + 1)); echo "skipped: $1"; }
-
-# Runs the other words; what they print is shown if they fail.
-try() {
-    name=$1
-    shift
-    if "$@" >"$work/log" 2>&1; then
-        pass "$name"
-    else
-        fail "$name"
-        tail -n 20 "$work/log"
-        return 1
-    fi
-}
-
-# Runs the other words, which have to print what the first programs print.
-try_first() {
-    name=$1
-    shift
-    found=$("$@" 2>&1)
-    if [ "$found" = "8 lost" ]; then
-        pass "$name"
-    else
-        fail "$name: $found"
-    fi
-}
+. "$(dirname "$0")/try.sh"
+prefix=$work/usr
 
 package() {
     PKG_CONFIG_PATH=$prefix/lib/pkgconfig pkg-config "$@" perf_event_data
@@ -85,34 +48,13 @@ try_python() {
     fi
 }
 
-# Builds a program of a crate of its own, which finds the archive by the words given: try_rust NAME WORDS.
-try_rust() {
-    if [ ! -f "$prefix/share/perf_event_data/rust/Cargo.toml" ]; then
-        skip "$what: Rust: no crate is installed"
-        return
-    elif ! command -v cargo >/dev/null; then
-        skip "$what: Rust: no cargo"
-        return
-    fi
-    how=$1
-    shift
-    rm -rf "$work/first_rust"
-    mkdir -p "$work/first_rust/src"
-    cp "$work/first.rs" "$work/first_rust/src/main.rs"
-    printf '[package]\nname = "first"\nversion = "0.1.0"\nedition = "2021"\n\n[dependencies]\n%s\n' \
-        "perf-event-data = { path = \"$prefix/share/perf_event_data/rust\" }" >"$work/first_rust/Cargo.toml"
-    try "$what: build first.rs, $how" env "$@" RUSTFLAGS="$rust_pie" CARGO_TARGET_DIR="$work/target" \
-        cargo build --offline --quiet --manifest-path "$work/first_rust/Cargo.toml" &&
-        try_first "$what: run first.rs, $how" "$work/target/debug/first"
-    rm -rf "$work/target"
-}
-
 # The programs over the copy in `prefix`.
 try_copy() {
     try_c
     try_python
-    try_rust "the archive by pkg-config" PKG_CONFIG_PATH="$prefix/lib/pkgconfig"
-    try_rust "the archive beside the crate" PKG_CONFIG=false
+    crate=$prefix/share/perf_event_data/rust
+    try_rust "$what: first.rs, the archive by pkg-config" PKG_CONFIG_PATH="$prefix/lib/pkgconfig"
+    try_rust "$what: first.rs, the archive beside the crate" PKG_CONFIG=false
 }
 
 # Without a shared object the archive has its place in memory fixed, and so have programs over it.
@@ -124,8 +66,10 @@ check_shared() {
         skip "shared object: $(grep '^no shared object' "$work/install.log")"
         return
     fi
-    others=$(nm -D --defined-only "$shared" | awk '$3 !~ /^ped_/ { print $3 }')
-    [ -z "$others" ] && pass "the shared object shows ped_* alone" || fail "the shared object shows $others"
+    others=$(nm -D --defined-only --with-symbol-versions "$shared" |
+        awk -v of="@@PED_${shared##*.}" '$2 != "A" && ($3 !~ /^ped_/ || substr($3, index($3, "@")) != of) { print $3 }')
+    [ -z "$others" ] && pass "the shared object shows ped_* alone, of the version PED_${shared##*.}" ||
+        fail "the shared object shows $others"
 }
 
 check_version() {
@@ -186,14 +130,6 @@ check_destdir() {
     fi
 }
 
-make_quietly() {
-    goal=$1
-    shift
-    make -s -C "$here" "$goal" OUT="$work/out" ARCHIVE="$archive" "$@"
-}
-
-cp "$here"/first/first.* "$work" && cd "$work" || exit 2
-prefix=$work/usr
 make_quietly install PREFIX="$prefix" "$@" >"$work/install.log" 2>&1 || {
     cat "$work/install.log"
     exit 1
@@ -217,5 +153,4 @@ try_copy
 make_quietly dist "$@" >/dev/null 2>&1
 cmp -s "$work"/out/*.tar.gz "$work/first.tar.gz" && pass "the package is the same each time" ||
     fail "the package differs from one time to the next"
-echo "$passed passed, $failed failed, $skipped skipped"
-[ $failed = 0 ]
+ends

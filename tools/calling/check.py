@@ -20,7 +20,7 @@ SOURCES = "crates/perf_uses/src/*.rt crates/perf_uses/specs/*.antt bindings/firs
 # a page, lines that it prints as an output, and the file that has them
 OUTPUTS = [
     ("README.md", "0 13 0 16 LostSamples lost=5\nend done", "crates/perfrec/stdout"),
-    ("README.md", "8 lost", "bindings/install_test.sh"),
+    ("README.md", "8 lost", "bindings/try.sh"),
     ("docs/LINKING.md", "904355445346 13844 is sh", "crates/perf_uses/stdout"),
     ("bindings/README.md", "904355445346 13844 is sh", "crates/perf_uses/stdout"),
 ]
