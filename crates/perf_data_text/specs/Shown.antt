@@ -1,12 +1,14 @@
 -- What is written of a file.
 use Rattle.std.specs.Prelude.{◌≡◌, ℕ, Bool, false, List, take, Option, Result, Ok, Err, if◌then◌else◌}
 use Rattle.std.specs.Io.KnownBytes.{Appends}
+use Rattle.perf_lines.specs.Outcomes.{status_of}
 use Rattle.perf_lines.specs.declared.outcome.Outcome.{Outcome}
 use Rattle.perf_lines.specs.declared.outcome.Outcome.TheVariants as outcome
 use Rattle.perf_file.specs.Opened.{File, opened}
 use Rattle.perf_file.specs.Opens.{Fails}
 use Rattle.perf_file.specs.Pieces.{pieces_of}
 use Rattle.perf_file.specs.declared.error.OpenError.{OpenError}
+use Rattle.perf_file.specs.declared.error.OpenError.TheVariants as errors
 use Rattle.perf_data_text.specs.EventText.{events_text}
 use Rattle.perf_data_text.specs.DumpText.{IsTextOfPieces, IsTextByTime}
 use Rattle.perf_data_text.specs.declared.run.Show.{Show}
@@ -37,3 +39,9 @@ WritesOf what f how old new =
 abbrev pub Shows : Show → List ℕ → Result Outcome OpenError → (old new : Option (List ℕ)) → Type 0
 Shows what bytes (Ok how) old new = (f : File) × (opened bytes ≡ Ok f) × WritesOf what f how old new
 Shows what bytes (Err e) old new = Fails e (opened bytes) × (new ≡ old)
+
+-- the exit status: 2 if the file cannot be opened, 3 if memory runs out
+abbrev pub status_after : Result Outcome OpenError → ℕ
+status_after (Ok how) = status_of how
+status_after (Err errors.OutOfMemory) = 3
+status_after (Err e) = 2

@@ -17,10 +17,7 @@ use std::alloc::{AllocError, Global};
 /// A line has the frame's number, its offset in the file, its event, its header, and its record: what
 /// the line of `perfrec` has, and where the frame is. The event is its number, `-` if perf wrote the
 /// frame for itself, `?` and an id that no event has, or `?` alone if the frame is too short for one.
-pub fn text_of_dump(
-    alloc: Global,
-    recording: &Recording<'_>,
-) -> Result<(String, bool), AllocError>
+pub fn text_of_dump(alloc: Global, recording: &Recording<'_>) -> Result<(String, bool), AllocError>
     ensures { IfOk result (λ made. dumps.IsTextOfPieces (view recording.now)
         (pieces_of (view recording.now)) made.1 (string_bytes made.0)) }
 {
@@ -36,10 +33,7 @@ pub fn text_of_dump(
 
 /// The same by time, and at equal times in the order of the file. The frames are numbered in that
 /// order.
-pub fn text_by_time(
-    alloc: Global,
-    recording: &Recording<'_>,
-) -> Result<(String, bool), AllocError>
+pub fn text_by_time(alloc: Global, recording: &Recording<'_>) -> Result<(String, bool), AllocError>
     ensures { IfOk result (λ made. dumps.IsTextByTime (view recording.now)
         made.1 (string_bytes made.0)) }
 {

@@ -1,6 +1,6 @@
 //! The engine of the program: opens a file and writes what is inside.
 
-ghost use Rattle.std.specs.Prelude.{IfOk, string_bytes};
+ghost use Rattle.std.specs.Prelude.{◌≡◌, IfOk, string_bytes};
 ghost use Rattle.perf_file.specs.Views.{view};
 ghost use Rattle.perf_data_text.specs.Shown as shown;
 
@@ -39,6 +39,18 @@ pub fn run<W: Write>(
     let recording = Recording::open(alloc, bytes)?;
     let (text, refused) = text_of(alloc, &recording, what)?;
     Ok(write_text(writer, &text, refused))
+}
+
+/// The exit status after a run: that of its outcome, 2 if the file could not be opened, and 3 if
+/// memory ran out.
+pub fn status_after(ended: &Result<Outcome, OpenError>) -> u8
+    ensures { result ≡ shown.status_after ended.now }
+{
+    match ended {
+        Ok(outcome) => outcome.status(),
+        Err(OpenError::OutOfMemory) => 3,
+        Err(_) => 2,
+    }
 }
 
 // The text of what is shown, and whether a frame is refused in it.
