@@ -1,13 +1,14 @@
 -- The lines of frames.
 use Rattle.std.specs.Prelude.{◌≡◌, ℕ, Bool, List, [], ◌∷◌, ◌++◌, is_err, Option, option_map}
 use Rattle.std.specs.List.{flat_map, enumerate_from, filter_map, list_any}
+use Rattle.std.specs.List.Sorted.{IsPermutation, IsSortedByKey}
 use Rattle.perf_base.specs.Configuration.{Configuration}
 use Rattle.perf_base.specs.Dynamic.{order_of}
 use Rattle.perf_base.specs.Order.{Order}
 use Rattle.perf_lines.specs.FileText.{Words, words_of, header_seen, file_line}
 use Rattle.perf_lines.specs.declared.line.file.FrameEvent.{FrameEvent}
 use Rattle.perf_lines.specs.declared.line.file.FrameEvent.TheVariants as event
-use Rattle.perf_file.specs.Entries.{config_of, entries_of, IsInOrder}
+use Rattle.perf_file.specs.Entries.{config_of, time_of, by_time_then_place}
 use Rattle.perf_file.specs.Opened.{File}
 use Rattle.perf_file.specs.Pieces.{Piece, pieces_of, piece_at, has_payload}
 use Rattle.perf_file.specs.declared.entries.Entry.{Entry}
@@ -49,8 +50,16 @@ IsTextOfPieces f pieces refused text = (refused ≡ any_refused f pieces) × (te
 abbrev pub pieces_at : File → List Entry → List Piece
 pieces_at f entries = filter_map (λ (e : Entry). piece_at f e.at) entries
 
--- the text of the frames by time, and at equal times by place
+-- when a frame happened, and where it is
+abbrev pub time_and_place_of : File → Piece → ℕ × ℕ
+time_and_place_of f p = (time_of f p, p.at)
+
+-- the frames of a file, by time and at equal times by place
+pub record AreByTime (f : File) (pieces : List Piece) : Type 0 where
+  pub same : IsPermutation (pieces_of f) pieces
+  pub sorted : IsSortedByKey (time_and_place_of f) by_time_then_place pieces
+
+-- their text, of which some are refused or none
 abbrev pub IsTextByTime : File → (refused : Bool) → List ℕ → Type 0
 IsTextByTime f refused text =
-    (entries : List Entry) × IsInOrder (entries_of f) entries
-    × IsTextOfPieces f (pieces_at f entries) refused text
+    (pieces : List Piece) × AreByTime f pieces × IsTextOfPieces f pieces refused text
