@@ -40,8 +40,8 @@ last_after f n bytes h = elim (cases_lt n (length bytes)) [
       rw a (record {
         long = omega (arith, h.long, cut);
         are =
-          let sum : length f.frames - length bytes + n ≡ length f.frames - length (drop n bytes) = omega (arith, h.long, cut, lt) in
-          ap (drop n) h.are ∙ drop-drop n (length f.frames - length bytes) f.frames ∙ ap (λ k. drop k f.frames) sum;
+            let sum : length f.frames - length bytes + n ≡ length f.frames - length (drop n bytes) = omega (arith, h.long, cut, lt) in
+            ap (drop n) h.are ∙ drop-drop n (length f.frames - length bytes) f.frames ∙ ap (λ k. drop k f.frames) sum;
       })
   | inr le ↦
       let a : nat_lt n (length bytes) ≡ false = le-ltb n (length bytes) le in
@@ -81,10 +81,11 @@ reordered : {A B : Type 0} (h : A → B) (xs : List A) (ys : List B) → IsPermu
 reordered {A} {B} h xs ys same =
     IsPermutation-keeps (map h xs) (λ (l : List B). (zs : List A) × IsPermutation xs zs × (l ≡ map h zs)) (xs, IsPermutation-refl xs, refl)
     (λ l i j below_i below_j made.
-      let n : length l ≡ length made.0 = ap length made.2 ∙ length-map made.0 h in
-      (swap made.0 i j,
+    let n : length l ≡ length made.0 = ap length made.2 ∙ length-map made.0 h in (
+      swap made.0 i j,
       IsPermutation-trans xs made.0 (swap made.0 i j) made.1 (IsPermutation-swap made.0 (swap made.0 i j) i j (omega (arith, n, below_i)) (omega (arith, n, below_j)) refl),
-      ap (λ m. swap m i j) made.2 ∙ sym (map_swap h made.0 i j))) ys same
+      ap (λ m. swap m i j) made.2 ∙ sym (map_swap h made.0 i j),
+    )) ys same
 
 sorted_before : {A B K : Type 0} (h : A → B) (key : B → K) (cmp : K → K → Ordering) (zs : List A) → IsSortedByKey key cmp (map h zs) → IsSortedByKey (λ z. key (h z)) cmp zs
 sorted_before h key cmp zs up = λ k d low high.

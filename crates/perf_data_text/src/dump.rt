@@ -1,6 +1,7 @@
 //! The frames of a file, a line each.
 
-ghost use Rattle.std.specs.Prelude.{◌≡◌, ◌++◌, IfOk, OnOk, is_ok, option_map, string_bytes};
+ghost use Rattle.std.specs.Prelude.{◌≡◌, ◌+◌, ◌<◌, ◌^◌, ◌++◌, ◌||◌, [], false, IfOk, OnOk, is_ok, is_err};
+ghost use Rattle.std.specs.Prelude.{option_map, string_bytes};
 ghost use Rattle.perf_file.specs.Pieces.{piece_of, pieces_of};
 ghost use Rattle.perf_file.specs.Views.{view};
 ghost use Rattle.perf_lines.specs.FileLines.{read_by};
@@ -12,6 +13,49 @@ use perf_file::{Entry, FileFrame, Owner, Recording};
 use perf_lines::line::file::{FrameEvent, FrameLine, push_file_line};
 use std::alloc::{AllocError, Global};
 
+// The lines of the first frames, how many these are, and whether one of them was refused.
+#[derive(Drop)]
+struct Lines {
+    text: String,
+    count: usize,
+    refused: bool,
+}
+
+impl Lines {
+    // No lines.
+    fn new(alloc: Global) -> Lines
+        ensures text { string_bytes result.text ≡ [] }
+        ensures count { result.count ≡ 0 }
+        ensures refused { result.refused ≡ false }
+    {
+        Lines {
+            text: String::new(alloc),
+            count: 0,
+            refused: false,
+        }
+    }
+
+    // Appends the line of a frame.
+    fn push(
+        &mut self,
+        alloc: Global,
+        recording: &Recording<'_>,
+        found: &FileFrame<'_>,
+    ) -> Result<(), AllocError>
+        ensures text { OnOk result (string_bytes self.new.text ≡ string_bytes self.old.text
+            ++ dumps.piece_line (view recording.now) self.old.count (piece_of found.now)) }
+        ensures count { self.old.count + 1 < 2 ^ 64 →
+            OnOk result (self.new.count ≡ self.old.count + 1) }
+        ensures refused { OnOk result (self.new.refused ≡ (self.old.refused
+            || is_err (dumps.words_of_piece (view recording.now) (piece_of found.now)))) }
+    {
+        let read = push_frame(&mut self.text, alloc, recording, self.count, found)?;
+        self.count = self.count.saturating_add(1);
+        self.refused |= !read;
+        Ok(())
+    }
+}
+
 /// A line for each frame, in the order of the file, and whether one was refused.
 ///
 /// A line has the frame's number, its offset in the file, its event, its header, and its record: what
@@ -21,14 +65,11 @@ pub fn text_of_dump(alloc: Global, recording: &Recording<'_>) -> Result<(String,
     ensures { IfOk result (λ made. dumps.IsTextOfPieces (view recording.now)
         (pieces_of (view recording.now)) made.1 (string_bytes made.0)) }
 {
-    let mut text = String::new(alloc);
-    let mut index = 0;
-    let mut refused = false;
+    let mut lines = Lines::new(alloc);
     for found in recording.frames() {
-        refused |= !push_frame(&mut text, alloc, recording, index, &found)?;
-        index = index.saturating_add(1);
+        lines.push(alloc, recording, &found)?;
     }
-    Ok((text, refused))
+    Ok((lines.text, lines.refused))
 }
 
 /// The same by time, and at equal times in the order of the file. The frames are numbered in that
@@ -50,16 +91,13 @@ fn text_of_entries(
     ensures { IfOk result (λ made. dumps.IsTextOfPieces (view recording.now)
         (dumps.pieces_at (view recording.now) entries.now) made.1 (string_bytes made.0)) }
 {
-    let mut text = String::new(alloc);
-    let mut index = 0;
-    let mut refused = false;
+    let mut lines = Lines::new(alloc);
     for entry in entries {
         if let Some(found) = recording.frame_at(entry) {
-            refused |= !push_frame(&mut text, alloc, recording, index, &found)?;
-            index = index.saturating_add(1);
+            lines.push(alloc, recording, &found)?;
         }
     }
-    Ok((text, refused))
+    Ok((lines.text, lines.refused))
 }
 
 // Appends the line of a frame, and returns whether it was read.

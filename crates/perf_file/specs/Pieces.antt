@@ -1,5 +1,5 @@
 -- The frames of a file, each with its payload and its owner.
-use Rattle.std.specs.Prelude.{ℕ, Bool, zero, suc, ◌+◌, ◌-◌, ◌*◌, ◌/◌, ◌==◌, ◌&&◌, List, [], ◌∷◌, length, take, drop, nat_lt, nat_le, Option, Some, None, option_map, if◌then◌else◌, true}
+use Rattle.std.specs.Prelude.{ℕ, zero, suc, ◌+◌, ◌-◌, ◌*◌, ◌/◌, ◌==◌, ◌&&◌, List, [], ◌∷◌, length, take, drop, nat_lt, nat_le, Option, Some, None, option_map, if◌then◌else◌, true}
 use Rattle.perf_base.specs.Dynamic.{order_of}
 use Rattle.perf_base.specs.Order.{Order}
 use Rattle.perf_base.specs.declared.sys.perf_event_header.{perf_event_header}
@@ -49,10 +49,6 @@ pub record Piece : Type 0 where
   pub frame : Sight
   pub payload : List ℕ
   pub owner : Owner
-
--- whether the payload that a frame announces is all there
-abbrev pub has_payload : File → Piece → Bool
-has_payload f p = nat_le (payload_length (order_of f.order) p.frame) (length p.payload)
 
 -- a frame of the code
 abbrev pub piece_of : FileFrame → Piece

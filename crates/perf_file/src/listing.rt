@@ -211,12 +211,4 @@ impl<'p> Recording<'p> {
             None => None,
         }
     }
-
-    /// Whether the payload that a frame of this file announces is all there: the file may end before
-    /// it does.
-    pub fn has_payload(&self, found: &FileFrame<'_>) -> bool
-        ensures { result ≡ pieces.has_payload (view self.now) (pieces.piece_of found.now) }
-    {
-        payload_length(self.order, &found.frame) <= found.payload.len() as u64
-    }
 }
