@@ -29,16 +29,16 @@ after_frame_shorter o bytes fits = elim (cases_lt (frame_length o bytes) (length
   | inr le ↦ let a : nat_lt (frame_length o bytes) (length bytes) ≡ false = le-ltb (frame_length o bytes) (length bytes) le in rw a (omega arith)
 ]
 
-after_shorter : (o : Order) (bytes : List ℕ) → 8 ≤ length bytes → length (after_piece o bytes) + 8 ≤ length bytes
+pub after_shorter : (o : Order) (bytes : List ℕ) → 8 ≤ length bytes → length (after_piece o bytes) + 8 ≤ length bytes
 after_shorter o bytes fits =
     let a = length-drop_most (payload_length o (sight_in o bytes true)) (after_frame o bytes) in
     let b = after_frame_shorter o bytes fits in omega (arith, a, b)
 
-short : (f : File) (n : ℕ) (bytes : List ℕ) → length bytes < 8 → first_pieces f n bytes ≡ []
+pub short : (f : File) (n : ℕ) (bytes : List ℕ) → length bytes < 8 → first_pieces f n bytes ≡ []
 short f zero bytes h = refl
 short f (suc n) bytes h = let a : nat_lt (length bytes) 8 ≡ true = lt-ltb (length bytes) 8 h in rw a refl
 
-first : (f : File) (n : ℕ) (bytes : List ℕ) → 8 ≤ length bytes → first_pieces f (suc n) bytes ≡ piece_in f bytes ∷ first_pieces f n (after_piece (order_of f.order) bytes)
+pub first : (f : File) (n : ℕ) (bytes : List ℕ) → 8 ≤ length bytes → first_pieces f (suc n) bytes ≡ piece_in f bytes ∷ first_pieces f n (after_piece (order_of f.order) bytes)
 first f n bytes fits = let a : nat_lt (length bytes) 8 ≡ false = le-ltb (length bytes) 8 fits in rw a refl
 
 -- there are no more frames than bytes

@@ -8,3 +8,6 @@ pub mod AttributeLaws
 pub mod Whole
 pub mod Laws
 pub mod EntryLaws
+pub mod Describing
+pub mod IdLaw
+pub mod Joined

@@ -1,5 +1,5 @@
 -- The frames of a file, each with its payload and its owner.
-use Rattle.std.specs.Prelude.{ℕ, zero, suc, ◌+◌, ◌-◌, ◌*◌, ◌/◌, ◌==◌, ◌&&◌, List, [], ◌∷◌, length, take, drop, nat_lt, nat_le, Option, Some, None, option_map, if◌then◌else◌, true}
+use Rattle.std.specs.Prelude.{ℕ, zero, suc, ◌≡◌, ◌<◌, ◌+◌, ◌-◌, ◌*◌, ◌/◌, ◌==◌, ◌&&◌, List, [], ◌∷◌, ◌++◌, flat_map, length, take, drop, nat_lt, nat_le, Option, Some, None, option_map, if◌then◌else◌, true}
 use Rattle.perf_base.specs.Dynamic.{order_of}
 use Rattle.perf_base.specs.Order.{Order}
 use Rattle.perf_base.specs.declared.sys.perf_event_header.{perf_event_header}
@@ -89,6 +89,16 @@ pieces f bytes = first_pieces f (length bytes) bytes
 -- the frames of a file
 abbrev pub pieces_of : File → List Piece
 pieces_of f = pieces f f.frames
+
+-- The bytes of a frame and its payload: from its offset on as many as its header states, or all that
+-- are left.
+abbrev pub piece_bytes : File → Piece → List ℕ
+piece_bytes f p = take_most (size_of (header_seen p.frame)) (drop (p.at - f.start) f.frames) ++ p.payload
+
+-- joined, and with fewer bytes at the end than a header has, the frames are the data
+abbrev pub AreTheData : File → List Piece → Type 0
+AreTheData f found =
+    (rest : List ℕ) × (length rest < 8) × (flat_map (piece_bytes f) found ++ rest ≡ f.frames)
 
 -- what is left of the frames of a file at an offset of the file, if that is at least a header
 abbrev pub left_at : File → ℕ → Option (List ℕ)

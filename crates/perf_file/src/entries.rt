@@ -65,7 +65,7 @@ fn time_of(recording: &Recording<'_>, found: &FileFrame<'_>) -> u64
 }
 
 // The event with a number, if there is one.
-fn event_at(events: &[Event], number: usize) -> Option<&Event>
+fn event_at<'a, 'p>(events: &'a [Event<'p>], number: usize) -> Option<&'a Event<'p>>
     ensures { MatchOption result (length events.now ≤ number) (λ e. (number < length events.now)
         × (e.now ≡ slice_index_or events.now number e.now)) }
 {

@@ -8,6 +8,44 @@ use perf_base::ErrorKind;
 use std::alloc::{AllocError, AllocFailed};
 use std::fmt;
 
+// What is wrong with the file, and what to do.
+const NOT_PERF_DATA: &str = "this is no perf.data file: pass a file that `perf record` has written";
+
+const OLD_FORMAT: &str =
+    "this file has the format that perf wrote before 2010: record again with a newer perf";
+
+const BAD_HEAD: &str =
+    "the head of the file is cut off, or has an unknown size: copy the file again, or record again";
+
+const PIPE: &str =
+    "this is what `perf record -o -` writes: record into a file, with `perf record -o perf.data`";
+
+const DIRECTORY: &str =
+    "this is one of several files of `perf record --threads`: record again without that option";
+
+const COMPRESSED: &str =
+    "the frames are compressed: run `perf inject -i perf.data -o plain.data`, or record without `-z`";
+
+const BAD_ENTRY: &str =
+    "the attributes are not whole entries, so the file is damaged: copy it again, or record again";
+
+const NO_ATTRIBUTES: &str =
+    "the file has no event, so it is damaged: copy it again, or record again";
+
+const BAD_IDS: &str =
+    "the ids of an event are not whole numbers, so the file is damaged: copy it again, or record again";
+
+const OVERLAP: &str =
+    "two parts of the file share bytes, so it is damaged: copy it again, or record again";
+
+const NO_ID_PLACE: &str =
+    "the events have their ids at different places: record all of them with one `perf record`";
+
+const SHARED_ID: &str =
+    "two events have one id, so the file is damaged: copy it again, or record again";
+
+const OUT_OF_MEMORY: &str = "out of memory: leave more of it to the program";
+
 /// A part of the file.
 #[derive(Copy, Clone, Debug, PartialEq, Eq)]
 pub enum Part {
@@ -109,45 +147,21 @@ impl OpenError {
         ensures { result.now ≡ messages.message self }
     {
         match self {
-            OpenError::NotPerfData => {
-                "this is no perf.data file: pass a file that `perf record` has written"
-            }
-            OpenError::OldFormat => {
-                "this file has the format that perf wrote before 2010: record again with a newer perf"
-            }
-            OpenError::BadHead => {
-                "the head of the file is cut off, or has an unknown size: copy the file again, or record again"
-            }
-            OpenError::Pipe => {
-                "this is what `perf record -o -` writes: record into a file, with `perf record -o perf.data`"
-            }
-            OpenError::Directory => {
-                "this is one of several files of `perf record --threads`: record again without that option"
-            }
-            OpenError::Compressed => {
-                "the frames are compressed: run `perf inject -i perf.data -o plain.data`, or record without `-z`"
-            }
+            OpenError::NotPerfData => NOT_PERF_DATA,
+            OpenError::OldFormat => OLD_FORMAT,
+            OpenError::BadHead => BAD_HEAD,
+            OpenError::Pipe => PIPE,
+            OpenError::Directory => DIRECTORY,
+            OpenError::Compressed => COMPRESSED,
             OpenError::PastEnd(part) => part.message(),
-            OpenError::BadEntry => {
-                "the attributes are not whole entries, so the file is damaged: copy it again, or record again"
-            }
-            OpenError::NoAttributes => {
-                "the file has no event, so it is damaged: copy it again, or record again"
-            }
+            OpenError::BadEntry => BAD_ENTRY,
+            OpenError::NoAttributes => NO_ATTRIBUTES,
             OpenError::BadAttribute(_, kind) => OpenError::attribute_message(kind),
-            OpenError::BadIds(_) => {
-                "the ids of an event are not whole numbers, so the file is damaged: copy it again, or record again"
-            }
-            OpenError::Overlap => {
-                "two parts of the file share bytes, so it is damaged: copy it again, or record again"
-            }
-            OpenError::NoIdPlace => {
-                "the events have their ids at different places: record all of them with one `perf record`"
-            }
-            OpenError::SharedId(_) => {
-                "two events have one id, so the file is damaged: copy it again, or record again"
-            }
-            OpenError::OutOfMemory => { "out of memory: leave more of it to the program" }
+            OpenError::BadIds(_) => BAD_IDS,
+            OpenError::Overlap => OVERLAP,
+            OpenError::NoIdPlace => NO_ID_PLACE,
+            OpenError::SharedId(_) => SHARED_ID,
+            OpenError::OutOfMemory => OUT_OF_MEMORY,
         }
     }
 }

@@ -3,6 +3,7 @@
 ghost use Rattle.std.specs.Prelude.{◌≡◌, ◌≤◌, ℕ, List, Ok, IfOk, OnOk, All, length, map};
 ghost use Rattle.std.specs.List.Sorted.{IsNonDecreasingBy};
 ghost use Rattle.perf_base.specs.Configured.{endian_of};
+ghost use Rattle.perf_file.specs.Features.{descriptions_of};
 ghost use Rattle.perf_file.specs.Heads.{IsGoodHead, head_in};
 ghost use Rattle.perf_file.specs.IdTables as tables;
 ghost use Rattle.perf_file.specs.Opened as opens;
@@ -14,6 +15,7 @@ ghost use Rattle.perf_file.specs.declared.section.Section.{Section};
 use crate::attributes::attributes_of;
 use crate::error::OpenError;
 use crate::events::Event;
+use crate::features::find_descriptions;
 use crate::head::{Head, check_features, check_parts, head_of};
 use crate::id_sections::{check_apart, id_sections_of, sections_of};
 use crate::ids::{IdOfEvent, least_shared};
@@ -34,23 +36,31 @@ pub fn checked_head(bytes: &[u8]) -> Result<Head, OpenError>
 }
 
 /// The events, if their parts of the file are apart.
-pub fn events_in(alloc: Global, bytes: &[u8], head: Head) -> Result<Vec<Event>, OpenError>
+pub fn events_in<'p>(
+    alloc: Global,
+    bytes: &'p [u8],
+    head: Head,
+) -> Result<Vec<Event<'p>>, OpenError>
     requires good { IsGoodHead bytes.now head }
     requires whole { 104 ≤ length bytes.now }
     ensures exact { Gives (λ v. map opens.event_view v.items) result (opens.events_in bytes.now head) }
     ensures order { IfOk result (λ v.
         All (λ (e : Event). endian_of e.config ≡ head.order) v.items) }
+    ensures described { IfOk result (λ v. All (λ (e : Event).
+        e.descriptions.now ≡ descriptions_of bytes.now head) v.items) }
     ensures sound { IfOk result (λ _.
         (ids : List Section) × opens.HasParts bytes.now head ids) }
 {
     let attributes = attributes_of(alloc, bytes, head)?;
     let sections = id_sections_of(alloc, bytes, head)?;
     check_apart(sections_of(alloc, head, &sections)?)?;
-    Ok(events_with(alloc, head.order, bytes, &attributes, &sections)?)
+    let descriptions = find_descriptions(bytes, head);
+    let order = head.order;
+    Ok(events_with(alloc, order, bytes, descriptions, &attributes, &sections)?)
 }
 
 // The ids of all events by rising ids. Refused if two events have one.
-fn sorted_table(alloc: Global, events: &[Event]) -> Result<Vec<IdOfEvent>, OpenError>
+fn sorted_table(alloc: Global, events: &[Event<'_>]) -> Result<Vec<IdOfEvent>, OpenError>
     ensures exact { Gives {Y = Unit {0}} (λ _. tt) result
         (tables.checked_table (opens.table_of (map opens.event_view events.now))) }
     ensures sorted { IfOk result (λ v. IsNonDecreasingBy (λ (e : IdOfEvent). e.id) v.items) }
@@ -69,7 +79,7 @@ fn sorted_table(alloc: Global, events: &[Event]) -> Result<Vec<IdOfEvent>, OpenE
 }
 
 /// The ids of all events by rising ids, if the event of each frame can be found by them.
-pub fn found_events(alloc: Global, events: &[Event]) -> Result<Vec<IdOfEvent>, OpenError>
+pub fn found_events(alloc: Global, events: &[Event<'_>]) -> Result<Vec<IdOfEvent>, OpenError>
     ensures exact { Gives {Y = Unit {0}} (λ _. tt) result
         (opens.checked_events (map opens.event_view events.now)) }
     ensures sorted { IfOk result (λ v. IsNonDecreasingBy (λ (e : IdOfEvent). e.id) v.items) }

@@ -4,30 +4,43 @@ ghost use Rattle.std.specs.Prelude.{◌≡◌};
 ghost use Rattle.perf_base.specs.Configuration.{configured_by};
 ghost use Rattle.perf_base.specs.Configured.{configuration_of, endian_of};
 
+use crate::descriptions::EventKey;
+use crate::naming::{EventName, name_with};
 use perf_base::ParseConfig;
 use perf_base::endian::{Dynamic, Native};
 use perf_base::sys::perf_event_attr;
 
 /// An event of a file.
 #[derive(Debug, Drop)]
-pub struct Event {
+pub struct Event<'p> {
     attr: perf_event_attr,
     config: ParseConfig<Dynamic>,
     ids: Vec<u64>,
+    descriptions: &'p [u8],
     ghost configured: { configuration_of config ≡ configured_by attr },
 }
 
-impl Event {
-    // The event of an attribute and its ids, of a file in that order.
-    pub(crate) fn new(attr: perf_event_attr, order: Dynamic, ids: Vec<u64>) -> Event
+impl<'p> Event<'p> {
+    ghost use Rattle.perf_file.specs.Names as names;
+    ghost use Rattle.perf_file.specs.Opened.{event_view};
+
+    // The event of an attribute and its ids, of a file in that order with these descriptions.
+    pub(crate) fn new(
+        attr: perf_event_attr,
+        order: Dynamic,
+        ids: Vec<u64>,
+        descriptions: &'p [u8],
+    ) -> Event<'p>
         ensures attr { result.attr ≡ attr }
         ensures ids { result.ids ≡ ids }
         ensures order { endian_of result.config ≡ order }
+        ensures descriptions { result.descriptions.now ≡ descriptions.now }
     {
         Event {
             attr,
             config: config_of(attr, order),
             ids,
+            descriptions,
         }
     }
 
@@ -53,6 +66,23 @@ impl Event {
         ensures { result.now ≡ self.now.ids.items }
     {
         &self.ids
+    }
+
+    /// Its name: how the file describes it, by its first id, or if it has none by its type and its
+    /// config; else what perf prints for an event of the kernel's own; else these two numbers.
+    ///
+    /// The descriptions are gone through up to its own. One that is cut off ends them, and then, as
+    /// without any, the name is by the numbers.
+    pub fn name(&self) -> EventName<'p>
+        ensures { names.name_view result ≡ names.name_of (endian_of self.now.config)
+            self.now.descriptions.now (event_view self.now) }
+    {
+        let key = EventKey {
+            type_: self.attr.type_,
+            config: self.attr.config,
+            id: self.ids.first().copied(),
+        };
+        name_with(*self.config.endian(), self.descriptions, key)
     }
 }
 

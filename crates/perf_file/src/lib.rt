@@ -4,15 +4,20 @@
 
 mod apart;
 mod attributes;
+pub mod deciding;
+mod descriptions;
 mod entries;
 mod error;
 mod event_list;
 mod events;
+mod features;
 mod head;
 mod id_place;
 mod id_sections;
 mod ids;
+mod kernel_names;
 mod listing;
+mod naming;
 mod number;
 mod opening;
 mod owning;
@@ -23,5 +28,6 @@ pub use entries::Entry;
 pub use error::{OpenError, Part};
 pub use events::Event;
 pub use listing::{FileFrame, FileFrames};
+pub use naming::EventName;
 pub use opening::Recording;
 pub use owning::Owner;

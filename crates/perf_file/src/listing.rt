@@ -194,6 +194,7 @@ impl<'p> Recording<'p> {
     pub fn frames(&self) -> FileFrames<'_, 'p>
         ensures recording { result.recording.now ≡ self.now }
         ensures left { result.left.now ≡ (view self.now).frames }
+        ensures joined { pieces.AreTheData (view self.now) (pieces.pieces_of (view self.now)) }
     {
         FileFrames {
             recording: self,

@@ -19,6 +19,17 @@ pub fn number_at(order: Dynamic, bytes: &[u8], at: usize) -> u64
     }
 }
 
+/// The number of the four bytes at an offset.
+pub fn small_number_at(order: Dynamic, bytes: &[u8], at: usize) -> u32
+    requires { at + 4 ≤ length bytes.now }
+    ensures { result ≡ numbers.small_number (order_of order) bytes.now at }
+{
+    match bytes[at..].first_chunk::<4>() {
+        Some(four) => order.convert_u32(*four),
+        None => 0,
+    }
+}
+
 /// So many bytes from an offset on.
 pub fn bytes_at(bytes: &[u8], at: usize, size: usize) -> &[u8]
     requires { at + size ≤ length bytes.now }

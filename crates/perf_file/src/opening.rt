@@ -26,7 +26,7 @@ pub struct Recording<'p> {
     is_closed: bool,
     pub(crate) start: usize,
     pub(crate) frames: &'p [u8],
-    pub(crate) events: Vec<Event>,
+    pub(crate) events: Vec<Event<'p>>,
     pub(crate) ids: Vec<IdOfEvent>,
     pub(crate) place: Option<IdPlace>,
     ghost inside: { start + length frames.now < 2 ^ 64 },
@@ -39,6 +39,7 @@ pub struct Recording<'p> {
 }
 
 impl<'p> Recording<'p> {
+    ghost use Rattle.perf_file.specs.Features.{file_descriptions};
     ghost use Rattle.perf_file.specs.Opens.{Gives};
     ghost use Rattle.perf_file.specs.Views.{view};
     ghost use Rattle.perf_file.specs.declared.head.Head.{Head};
@@ -53,6 +54,8 @@ impl<'p> Recording<'p> {
         ensures exact { Gives view result (opens.opened bytes.now) }
         ensures sound { IfOk result (λ _.
             (h : Head) × (ids : List Section) × opens.IsSound bytes.now h ids) }
+        ensures described { IfOk result (λ r. All (λ (e : Event).
+            e.descriptions.now ≡ file_descriptions bytes.now) r.events.items) }
     {
         let head = checked_head(bytes)?;
         let events = events_in(alloc, bytes, head)?;
@@ -86,7 +89,7 @@ impl<'p> Recording<'p> {
     }
 
     /// Its events, in the order of the file: at least one.
-    pub fn events(&self) -> &[Event]
+    pub fn events(&self) -> &[Event<'p>]
         ensures { map opens.event_view result.now ≡ (view self.now).events }
     {
         &self.events

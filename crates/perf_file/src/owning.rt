@@ -27,7 +27,7 @@ pub enum Owner {
 }
 
 // Whether records of the first event other than SAMPLE end with a sample id.
-fn first_has_ids(events: &[Event]) -> bool
+fn first_has_ids(events: &[Event<'_>]) -> bool
     ensures { result ≡ owners.first_has_ids (attributes_of (map event_view events.now)) }
 {
     match events.first() {

@@ -41,46 +41,52 @@ fn ids_in(
 }
 
 // The event of an attribute and of the section of its ids.
-fn event_in(
+fn event_in<'p>(
     alloc: Global,
     order: Dynamic,
     bytes: &[u8],
     attr: perf_event_attr,
     section: Section,
-) -> Result<Event, AllocError>
+    descriptions: &'p [u8],
+) -> Result<Event<'p>, AllocError>
     requires { IsInside bytes.now section }
     ensures value { IfOk result (λ e. opens.event_view e ≡
         opens.event_in (order_of order) bytes.now (attr, section)) }
     ensures order { IfOk result (λ e. endian_of e.config ≡ order) }
+    ensures described { IfOk result (λ e. e.descriptions.now ≡ descriptions.now) }
 {
     let ids = ids_in(alloc, order, bytes, section)?;
-    Ok(Event::new(attr, order, ids))
+    Ok(Event::new(attr, order, ids, descriptions))
 }
 
 /// The events of attributes and of the sections of their ids.
-pub fn events_with(
+pub fn events_with<'p>(
     alloc: Global,
     order: Dynamic,
     bytes: &[u8],
+    descriptions: &'p [u8],
     attributes: &[perf_event_attr],
     sections: &[Section],
-) -> Result<Vec<Event>, AllocError>
+) -> Result<Vec<Event<'p>>, AllocError>
     requires inside { All (IsInside bytes.now) sections.now }
     requires same { length attributes.now ≡ length sections.now }
     ensures value { IfOk result (λ v. map opens.event_view v.items ≡
         map (opens.event_in (order_of order) bytes.now) (zip attributes.now sections.now)) }
     ensures order { IfOk result (λ v. All (λ (e : Event). endian_of e.config ≡ order) v.items) }
+    ensures described { IfOk result (λ v.
+        All (λ (e : Event). e.descriptions.now ≡ descriptions.now) v.items) }
 {
     let mut events = Vec::new(alloc);
     for index in 0..sections.len() {
-        let event = event_in(alloc, order, bytes, attributes[index], sections[index])?;
+        let (attr, section) = (attributes[index], sections[index]);
+        let event = event_in(alloc, order, bytes, attr, section, descriptions)?;
         events.push(event)?;
     }
     Ok(events)
 }
 
 /// Where the frames of the first event have its id.
-pub fn first_place(events: &[Event]) -> Option<IdPlace>
+pub fn first_place(events: &[Event<'_>]) -> Option<IdPlace>
     ensures { result ≡ places.first_place (opens.attributes_of (map opens.event_view events.now)) }
 {
     match events.first() {
@@ -90,7 +96,7 @@ pub fn first_place(events: &[Event]) -> Option<IdPlace>
 }
 
 // Whether the frames of all events have their id at that place.
-fn all_at(place: Option<IdPlace>, events: &[Event]) -> bool
+fn all_at(place: Option<IdPlace>, events: &[Event<'_>]) -> bool
     ensures { result ≡
         places.all_at place (opens.attributes_of (map opens.event_view events.now)) }
 {
@@ -103,7 +109,7 @@ fn all_at(place: Option<IdPlace>, events: &[Event]) -> bool
 }
 
 /// Refuses several events without a common place of their ids.
-pub fn check_places(events: &[Event]) -> Result<(), OpenError>
+pub fn check_places(events: &[Event<'_>]) -> Result<(), OpenError>
     ensures { result ≡
         places.checked_places (opens.attributes_of (map opens.event_view events.now)) }
 {
@@ -115,7 +121,7 @@ pub fn check_places(events: &[Event]) -> Result<(), OpenError>
 }
 
 /// The ids of all events, in the order of the file.
-pub fn table_of(alloc: Global, events: &[Event]) -> Result<Vec<IdOfEvent>, AllocError>
+pub fn table_of(alloc: Global, events: &[Event<'_>]) -> Result<Vec<IdOfEvent>, AllocError>
     ensures { IfOk result (λ v. v.items ≡ opens.table_of (map opens.event_view events.now)) }
 {
     let mut table = Vec::new(alloc);

@@ -26,6 +26,7 @@ loop-index-preserved c =
     ∙ sym more in (
       rw c.in_ok-push.ensures.items one,
       rw c.in_ok-push.ensures.items (All-push (λ (e : Event). endian_of e.config ≡ c.args.order) _ _ c.loop-index.invariant.1 c.in_ok-event.ensures.order),
+      rw c.in_ok-push.ensures.items (All-push (λ (e : Event). e.descriptions.now ≡ c.args.descriptions.now) _ _ c.loop-index.invariant.2 c.in_ok-event.ensures.described),
     )
 
 pub returns-clause-value : goal.returns-clause-value

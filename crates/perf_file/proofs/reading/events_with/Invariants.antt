@@ -9,3 +9,4 @@ use Rattle.perf_file.proofs.reading.events_with.Given as goal
 abbrev pub invariant-loop-index : goal.invariant-loop-index
 invariant-loop-index l = (map event_view l.events.items ≡ map (event_in (order_of l.order) l.bytes) (take l.index (zip l.attributes l.sections)))
     × All (λ (e : Event). endian_of e.config ≡ l.order) l.events.items
+    × All (λ (e : Event). e.descriptions.now ≡ l.descriptions) l.events.items
