@@ -1,19 +1,22 @@
 //! The events of a file, a line each.
 
-ghost use Rattle.std.specs.Prelude.{◌≡◌, ◌++◌, IfOk, OnOk, codes, decimal, map, string_bytes};
+ghost use Rattle.std.specs.Prelude.{◌≡◌, ◌++◌, List, ℕ, IfOk, OnOk, codes, decimal, string_bytes};
 ghost use Rattle.perf_file.specs.Opened.{event_view};
 ghost use Rattle.perf_file.specs.Views.{view};
 ghost use Rattle.perf_lines.specs.Fields.{with_spaces};
 ghost use Rattle.perf_data_text.specs.EventText as events;
+ghost use Rattle.perf_data_text.specs.OwnNames as own;
 
 use perf_file::{Event, Recording};
 use perf_text::strip::Strip;
 use std::alloc::{AllocError, Global};
 
-/// A line for each event: its number, its name, its type and its number there, what its samples
-/// contain, and how many ids it has.
+/// A line for each event: its number, its name, its type and its config, what its samples contain,
+/// and how many ids it has.
 pub fn text_of_events(alloc: Global, recording: &Recording<'_>) -> Result<String, AllocError>
-    ensures { IfOk result (λ text. string_bytes text ≡ events.events_text (view recording.now)) }
+    ensures { (descriptions : List ℕ) → own.AreDescribedBy recording.now descriptions →
+        IfOk result (λ text. string_bytes text
+        ≡ events.events_text (view recording.now) descriptions) }
 {
     let mut text = String::new(alloc);
     push_events(&mut text, recording.events())?;
@@ -21,20 +24,20 @@ pub fn text_of_events(alloc: Global, recording: &Recording<'_>) -> Result<String
 }
 
 // Appends the lines of events, numbered from 0.
-fn push_events(text: &mut String, list: &[Event]) -> Result<(), AllocError>
+fn push_events(text: &mut String, list: &[Event<'_>]) -> Result<(), AllocError>
     ensures { OnOk result (string_bytes text.new
-        ≡ string_bytes text.old ++ events.event_lines 0 (map event_view list.now)) }
+        ≡ string_bytes text.old ++ own.own_lines 0 list.now) }
 {
-    for (index, event) in list.iter().enumerate() {
-        push_event(text, index, event)?;
+    for index in 0..list.len() {
+        push_event(text, index, &list[index])?;
     }
     Ok(())
 }
 
 // Appends the line of an event.
-fn push_event(text: &mut String, index: usize, event: &Event) -> Result<(), AllocError>
+fn push_event(text: &mut String, index: usize, event: &Event<'_>) -> Result<(), AllocError>
     ensures { OnOk result (string_bytes text.new
-        ≡ string_bytes text.old ++ events.event_line index (event_view event.now)) }
+        ≡ string_bytes text.old ++ own.own_line index event.now) }
 {
     push_index(text, index)?;
     push_name(text, event)?;
@@ -54,21 +57,15 @@ fn push_index(text: &mut String, index: usize) -> Result<(), AllocError>
 }
 
 // Appends the name of an event.
-fn push_name(text: &mut String, event: &Event) -> Result<(), AllocError>
+fn push_name(text: &mut String, event: &Event<'_>) -> Result<(), AllocError>
     ensures { OnOk result (string_bytes text.new
-        ≡ string_bytes text.old ++ events.name_of (event_view event.now)) }
+        ≡ string_bytes text.old ++ own.own_name event.now) }
 {
-    let attr = event.attr();
-    let mut strip = Strip::new();
-    strip.put_hex(attr.config);
-    strip.put(" config ");
-    strip.put_number(u64::from(attr.type_));
-    strip.put("type ");
-    text.push_str(strip.text())
+    write!(text, "{}", event.name())
 }
 
 // Appends the fields of an event.
-fn push_fields(text: &mut String, event: &Event) -> Result<(), AllocError>
+fn push_fields(text: &mut String, event: &Event<'_>) -> Result<(), AllocError>
     ensures { OnOk result (string_bytes text.new
         ≡ string_bytes text.old ++ with_spaces (events.event_fields (event_view event.now))) }
 {

@@ -1,7 +1,8 @@
 //! The engine of the program: opens a file and writes what is inside.
 
-ghost use Rattle.std.specs.Prelude.{◌≡◌, IfOk, string_bytes};
+ghost use Rattle.std.specs.Prelude.{◌≡◌, List, ℕ, IfOk, string_bytes};
 ghost use Rattle.perf_file.specs.Views.{view};
+ghost use Rattle.perf_data_text.specs.OwnNames.{AreDescribedBy};
 ghost use Rattle.perf_data_text.specs.Shown as shown;
 
 use crate::dump::{text_by_time, text_of_dump};
@@ -59,7 +60,8 @@ fn text_of(
     recording: &Recording<'_>,
     what: Show,
 ) -> Result<(String, bool), AllocError>
-    ensures { IfOk result (λ made. shown.IsTextOf what (view recording.now) made.1
+    ensures { (descriptions : List ℕ) → AreDescribedBy recording.now descriptions →
+        IfOk result (λ made. shown.IsTextOf what (view recording.now) descriptions made.1
         (string_bytes made.0)) }
 {
     match what {
