@@ -1,6 +1,6 @@
 -- The id of a frame by its place.
 use Rattle.std.specs.Prelude.{if◌then◌else◌, option_map, nat_le, nat_lt, ◌==◌, ◌&&◌, ◌||◌, not}
-use Rattle.std.proofs.Common.{◌≡◌, ℕ, zero, suc, ◌+◌, ◌-◌, ◌*◌, ◌≤◌, ◌<◌, Bool, true, false, List, [], ◌∷◌, length, map, take, drop, Some, None, Ok, Err, Result, Option, refl, sym, ◌∙◌, ap, subst, arith}
+use Rattle.std.proofs.Common.{◌≡◌, ℕ, zero, suc, ◌+◌, ◌-◌, ◌*◌, ◌≤◌, ◌<◌, Bool, true, false, List, [], ◌∷◌, length, take, drop, Some, None, Ok, Err, Result, Option, refl, sym, ◌∙◌, ap, subst, arith}
 use Rattle.std.proofs.lemmas.Bool.{le-leb, lt-ltb, eqb-true}
 use Rattle.std.proofs.lemmas.List.{length-drop, length-map, drop-drop}
 use Rattle.perf_base.specs.Configuration.{Configuration, configured_by}
@@ -17,11 +17,11 @@ use Rattle.perf_records.proofs.IdNumbers.{there}
 use Rattle.perf_sample_types.specs.SampleGetters.{getters_of}
 use Rattle.perf_sample_types.specs.SampleId.{one_if, sample_id_flags}
 use Rattle.perf_words.specs.Bits.{has_bit}
-use Rattle.perf_file.specs.DecidingIds.{IsIdOf, IsLongEnough, DecidingIdIsRead}
+use Rattle.perf_file.specs.DecidingIds.{IsLongEnough, DecidingIdIsRead}
 use Rattle.perf_file.specs.Entries.{event_at}
 use Rattle.perf_file.specs.IdPlaces.{field_size, if_at_end, place_of_id, id_place, is_same_place, first_place, all_at, checked_places, number_if, id_at}
-use Rattle.perf_file.specs.Opened.{File, FileEvent, attributes_of}
-use Rattle.perf_file.specs.Owners.{first_has_ids, is_of_first, id_if}
+use Rattle.perf_file.specs.Opened.{FileEvent, attributes_of}
+use Rattle.perf_file.specs.Owners.{first_has_ids, id_if}
 use Rattle.perf_file.specs.declared.error.OpenError.{OpenError}
 use Rattle.perf_file.specs.declared.error.OpenError.TheVariants.{NoIdPlace}
 use Rattle.perf_file.specs.declared.id_place.IdPlace.{IdPlace}

@@ -1,13 +1,12 @@
 -- The frames of a file.
-use Rattle.std.specs.Prelude.{if◌then◌else◌}
-use Rattle.std.proofs.Common.{◌≡◌, ◌≢◌, ℕ, zero, suc, ◌+◌, ◌-◌, ◌≤◌, ◌<◌, List, [], ◌∷◌, length, take, drop, map, max, refl, sym, ◌∙◌, ap, subst, true, false, nat_lt, inl, inr, arith}
+use Rattle.std.proofs.Common.{◌≡◌, ℕ, zero, suc, ◌+◌, ◌-◌, ◌≤◌, ◌<◌, List, [], ◌∷◌, length, drop, max, refl, sym, ◌∙◌, ap, true, false, nat_lt, inl, inr, arith}
 use Rattle.std.proofs.lemmas.Bool.{lt-ltb, le-ltb, cases_lt}
 use Rattle.std.proofs.lemmas.List.{length-drop}
 use Rattle.perf_base.specs.Order.{Order}
 use Rattle.perf_base.specs.Header.{header_of}
 use Rattle.perf_base.specs.declared.sys.perf_event_header.{perf_event_header}
 use Rattle.perf_reader.specs.Headers.{frame_length}
-use Rattle.perf_records.specs.Sights.{Sight, whole, bad, sight_in, sight_after}
+use Rattle.perf_records.specs.Sights.{Sight, sight_in, sight_after}
 use Rattle.perf_records.specs.FrameList.{sights}
 use Rattle.perf_records.proofs.FrameList.{next_sight, no_sight}
 use Rattle.perf_base.specs.Dynamic.{order_of}

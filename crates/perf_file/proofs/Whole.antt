@@ -11,7 +11,7 @@ use Rattle.perf_file.specs.declared.error.OpenError.TheVariants as errors
 use Rattle.perf_file.specs.Attributes.{attributes_in}
 use Rattle.perf_file.specs.Heads.{IsGoodHead}
 use Rattle.perf_file.specs.IdSections.{id_sections_in, sections_of, checked_apart}
-use Rattle.perf_file.specs.Opened.{File, FileEvent, opened, checked_head, events_in, event_in, checked_events, file_with}
+use Rattle.perf_file.specs.Opened.{FileEvent, opened, checked_head, events_in, event_in, checked_events, file_with}
 use Rattle.perf_file.specs.Opens.{◌>>=◌, each_from, Fails}
 use Rattle.perf_file.specs.Sections.{IsInside, IsSmall}
 

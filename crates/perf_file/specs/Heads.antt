@@ -1,5 +1,5 @@
 -- The head of a file.
-use Rattle.std.specs.Prelude.{ℕ, ◌+◌, ◌-◌, ◌≤◌, List, Bool, length, nat_lt, ◌==◌, ◌%◌, not, if◌then◌else◌, Result, Ok, Err}
+use Rattle.std.specs.Prelude.{ℕ, ◌+◌, ◌-◌, ◌≤◌, List, length, nat_lt, ◌==◌, ◌%◌, not, if◌then◌else◌, Result, Ok, Err}
 use Rattle.perf_base.specs.Dynamic.{order_of}
 use Rattle.perf_base.specs.declared.endian.Dynamic.{Dynamic}
 use Rattle.perf_base.specs.declared.endian.Dynamic.TheVariants.{Big, Little}

@@ -1,5 +1,5 @@
 -- The names that perf prints for the kernel's own events, by the numbers of their attributes.
-use Rattle.std.specs.Prelude.{ℕ, ◌+◌, ◌*◌, ◌/◌, ◌%◌, ◌==◌, ◌&&◌, ◌||◌, not, nat_le, Bool, true, false, List, ◌++◌, codes, Option, Some, None, option_map, if◌then◌else◌}
+use Rattle.std.specs.Prelude.{ℕ, ◌/◌, ◌%◌, ◌==◌, not, Bool, true, List, ◌++◌, codes, Option, Some, None, option_map, if◌then◌else◌}
 
 -- of the type 0, what a processor counts
 abbrev pub hardware_name : (config : ℕ) → Option (List ℕ)

@@ -1,5 +1,5 @@
 -- What a file contains.
-use Rattle.std.specs.Prelude.{◌≡◌, List, ℕ, ◌/◌, map, drop, Bool, Result, Ok, Err, All}
+use Rattle.std.specs.Prelude.{◌≡◌, List, ℕ, ◌/◌, map, drop, Bool, Result, Ok, All}
 use Rattle.std.specs.List.{zip}
 use Rattle.perf_base.specs.Dynamic.{order_of}
 use Rattle.perf_base.specs.Layout.{slice, words_of}

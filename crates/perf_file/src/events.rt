@@ -68,11 +68,11 @@ impl<'p> Event<'p> {
         &self.ids
     }
 
-    /// Its name: how the file describes it, by its first id, or if it has none by its type and its
-    /// config; else what perf prints for an event of the kernel's own; else these two numbers.
+    /// Its name: the one of its description in the file, which is found by its first id, or without
+    /// ids by its type and its config; or else the one that perf prints for an event of the kernel's
+    /// own; or else these two numbers.
     ///
-    /// The descriptions are gone through up to its own. One that is cut off ends them, and then, as
-    /// without any, the name is by the numbers.
+    /// Each call reads the descriptions up to that one. A description that is cut off ends them.
     pub fn name(&self) -> EventName<'p>
         ensures { names.name_view result ≡ names.name_of (endian_of self.now.config)
             self.now.descriptions.now (event_view self.now) }

@@ -75,6 +75,44 @@ pub const SMALL: [u64; WORDS] = [
     9 + (2 << 32) + (8 << 48),
 ];
 
+/// The number of such numbers in [`BIG`].
+pub const BIG_WORDS: usize = 28;
+
+/// One event, without ids, of a big-endian machine: flag 18 of the attribute is bit 45 there. The
+/// attribute is at 104, and the frames are at 184.
+pub const BIG: [u64; BIG_WORDS] = [
+    0x3245_4c49_4652_4550,
+    104,
+    80,
+    104,
+    80,
+    184,
+    40,
+    0,
+    0,
+    0,
+    0,
+    0,
+    0,
+    (1 << 32) + 64,
+    0,
+    4000,
+    4,
+    0,
+    1 << 45,
+    0,
+    0,
+    0,
+    0,
+    // a COMM: process and thread, a name, and its time
+    (3 << 32) + 32,
+    (7 << 32) + 7,
+    0x7368_0000_0000_0000,
+    600,
+    // an unfinished frame
+    (9 << 32) + 64,
+];
+
 /// The bytes of numbers, the lowest byte of each first.
 pub fn little(alloc: Global, words: &[u64]) -> Result<Vec<u8>, AllocError> {
     let mut bytes = Vec::new(alloc);

@@ -1,6 +1,6 @@
 //! What is found in files that open.
 
-use crate::files::{SMALL, big, little};
+use crate::files::{BIG, SMALL, big, little};
 use perf_base::endian::Dynamic;
 use perf_file::{Event, Owner, Recording};
 use std::alloc::{AllocError, Global};
@@ -93,40 +93,6 @@ fn data_extend_to_the_end_if_perf_was_killed(rt: HostRuntime) {
     }
 }
 
-// One event, without ids, of a big-endian machine: flag 18 of the attribute is bit 45 there.
-const BIG: [u64; 28] = [
-    0x3245_4c49_4652_4550,
-    104,
-    80,
-    104,
-    80,
-    184,
-    40,
-    0,
-    0,
-    0,
-    0,
-    0,
-    0,
-    (1 << 32) + 64,
-    0,
-    4000,
-    4,
-    0,
-    1 << 45,
-    0,
-    0,
-    0,
-    0,
-    // a COMM: process and thread, a name, and its time
-    (3 << 32) + 32,
-    (7 << 32) + 7,
-    0x7368_0000_0000_0000,
-    600,
-    // an unfinished frame
-    (9 << 32) + 64,
-];
-
 #[test]
 fn a_big_endian_file(rt: HostRuntime) {
     match big(rt.alloc(), &BIG) {
@@ -156,7 +122,7 @@ fn check_big(rt: &(impl AllocGlobal + Abort), bytes: &[u8]) {
 }
 
 // The first event has `sample_id_all`, whose bit is the 18th from the lowest.
-fn check_first(rt: &impl Abort, events: &[Event]) {
+fn check_first(rt: &impl Abort, events: &[Event<'_>]) {
     match events.first() {
         Some(event) => {
             assert!(rt; event.config().sample_id_all());

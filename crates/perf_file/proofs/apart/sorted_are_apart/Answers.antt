@@ -1,4 +1,4 @@
-use Rattle.std.proofs.Common.{◌≡◌, ◌+◌, ◌≤◌, ◌<◌, get_or, sym, subst, arith}
+use Rattle.std.proofs.Common.{◌+◌, get_or, sym, subst, arith}
 use Rattle.std.proofs.lemmas.List.{get_or_default}
 use Rattle.perf_file.specs.declared.section.Section.{Section}
 use Rattle.perf_file.proofs.Sweeping.{Swept, swept_stops, swept_some, swept_empty, swept_all, nothing_is_apart}

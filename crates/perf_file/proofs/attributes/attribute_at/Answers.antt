@@ -1,4 +1,4 @@
-use Rattle.std.proofs.Common.{◌≡◌, ap, ◌∙◌}
+use Rattle.std.proofs.Common.{ap, ◌∙◌}
 use Rattle.perf_file.specs.Attributes.{attribute_in, of_event}
 use Rattle.perf_file.proofs.attributes.attribute_at.Goals as goal
 

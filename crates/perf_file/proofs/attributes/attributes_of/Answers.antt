@@ -1,4 +1,4 @@
-use Rattle.std.proofs.Common.{◌≡◌, ◌+◌, ◌++◌, ◌∷◌, [], sym}
+use Rattle.std.proofs.Common.{sym}
 use Rattle.std.proofs.lemmas.Result.{err_from_is_err_and}
 use Rattle.perf_file.specs.Attributes.{attribute_at, attributes_in}
 use Rattle.perf_file.specs.IdSections.{entry_count}

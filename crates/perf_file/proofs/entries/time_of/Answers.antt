@@ -1,4 +1,4 @@
-use Rattle.std.proofs.Common.{◌≡◌, Some, ap, ◌∙◌}
+use Rattle.std.proofs.Common.{Some, ap, ◌∙◌}
 use Rattle.perf_base.specs.Configured.{configuration_of}
 use Rattle.perf_base.specs.Dynamic.{order_of}
 use Rattle.perf_base.specs.declared.endian.Dynamic.{Dynamic}

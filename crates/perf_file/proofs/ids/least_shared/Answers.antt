@@ -1,4 +1,4 @@
-use Rattle.std.proofs.Common.{◌≡◌, ◌+◌, ◌<◌, arith}
+use Rattle.std.proofs.Common.{arith}
 use Rattle.perf_file.proofs.Tables.{pair}
 use Rattle.perf_file.proofs.Rising.{is_function, least_at}
 use Rattle.perf_file.proofs.ids.least_shared.Goals as goal

@@ -1,9 +1,9 @@
-use Rattle.std.proofs.Common.{◌≡◌, ◌≤◌, ℕ, List, [], ◌∷◌, length, true, refl, sym, ◌∙◌, ap, subst, arith}
+use Rattle.std.proofs.Common.{◌≡◌, ℕ, List, ◌∷◌, sym, ◌∙◌, ap}
 use Rattle.perf_base.specs.Dynamic.{order_of}
 use Rattle.perf_base.specs.Order.{Order}
 use Rattle.perf_file.specs.Views.{view}
 use Rattle.perf_records.specs.FrameList.{sights}
-use Rattle.perf_records.specs.Sights.{sight_of, sight_in}
+use Rattle.perf_records.specs.Sights.{sight_of}
 use Rattle.perf_file.specs.Pieces.{drop_most, take_most, payload_length, size_of, header_seen}
 use Rattle.perf_file.proofs.Laws.{first_sight, piece_is}
 use Rattle.perf_file.proofs.listing.cut_first.Goals as goal

@@ -1,4 +1,4 @@
-use Rattle.std.proofs.Common.{◌≡◌, ap, sym, ◌∙◌}
+use Rattle.std.proofs.Common.{ap, sym, ◌∙◌}
 use Rattle.perf_file.specs.Owners.{id_if}
 use Rattle.perf_file.specs.Views.{view}
 use Rattle.perf_file.proofs.owning.id_in.Goals as goal

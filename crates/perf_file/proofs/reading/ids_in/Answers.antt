@@ -1,4 +1,4 @@
-use Rattle.std.proofs.Common.{◌≡◌, ◌*◌, ◌/◌, drop}
+use Rattle.std.proofs.Common.{◌/◌, drop}
 use Rattle.perf_base.specs.Dynamic.{order_of}
 use Rattle.perf_base.specs.Layout.{words_of}
 use Rattle.perf_file.proofs.Words.{words_more}

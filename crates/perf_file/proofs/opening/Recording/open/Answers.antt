@@ -1,6 +1,6 @@
-use Rattle.std.proofs.Common.{◌≡◌, ℕ, List, map, Result, Ok, Err, refl, ap, subst, sym, ◌∙◌}
+use Rattle.std.proofs.Common.{List, map, Ok, refl, subst, sym}
 use Rattle.std.proofs.lemmas.Result.{err_from_is_err_and}
-use Rattle.perf_file.specs.Opened.{File, FileEvent, event_view, opened, checked_events, file_with}
+use Rattle.perf_file.specs.Opened.{event_view, opened, checked_events, file_with}
 use Rattle.perf_file.specs.Opens.{◌>>=◌, Fails}
 use Rattle.perf_file.specs.declared.events.Event.{Event}
 use Rattle.perf_file.proofs.Whole.{opened_after, fails_first, fails_by}
