@@ -58,13 +58,13 @@ at_place f bytes h fits =
     rw (a, b) (ap (λ rest. Some (piece_in f rest)) (ap (λ n. drop n f.frames) at ∙ sym h.are))
 
 all_there : (f : File) (n : ℕ) (bytes : List ℕ) → IsLast f bytes → All (λ p. piece_at f p.at ≡ Some p) (first_pieces f n bytes)
-all_there f zero bytes h = All-nil _
+all_there f zero bytes h = All-nil (λ (p : Piece). piece_at f p.at ≡ Some p)
 all_there f (suc n) bytes h = elim (cases_lt (length bytes) 8) [
-  | inl lt ↦ let a : nat_lt (length bytes) 8 ≡ true = lt-ltb (length bytes) 8 lt in rw a (All-nil _)
+  | inl lt ↦ let a : nat_lt (length bytes) 8 ≡ true = lt-ltb (length bytes) 8 lt in rw a (All-nil (λ (p : Piece). piece_at f p.at ≡ Some p))
   | inr fits ↦
       let a : nat_lt (length bytes) 8 ≡ false = le-ltb (length bytes) 8 fits in
       let o = order_of f.order in
-      rw a (All-cons _ (piece_in f bytes) (first_pieces f n (after_piece o bytes)) (at_place f bytes h fits)
+      rw a (All-cons (λ (p : Piece). piece_at f p.at ≡ Some p) (piece_in f bytes) (first_pieces f n (after_piece o bytes)) (at_place f bytes h fits)
       (all_there f n (after_piece o bytes) (last_after f _ _ (last_after f _ bytes h))))
 ]
 

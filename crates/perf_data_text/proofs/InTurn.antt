@@ -1,5 +1,5 @@
 -- Lines of frames one after another.
-use Rattle.std.proofs.Common.{◌≡◌, ℕ, zero, suc, ◌+◌, ◌≤◌, ◌<◌, Bool, List, [], ◌∷◌, ◌++◌, ◌||◌, true, false, Option, Some, None, nat_lt, inl, inr, take, get_or, length, ◌^◌, refl, sym, ap, ◌∙◌, add-zero, append-nil, append_assoc, length-append, arith}
+use Rattle.std.proofs.Common.{◌≡◌, ℕ, zero, suc, ◌+◌, ◌≤◌, ◌<◌, Bool, List, [], ◌∷◌, ◌++◌, ◌||◌, true, false, Option, Some, None, nat_lt, inl, inr, take, get_or, length, ◌^◌, refl, sym, ap, ◌∙◌, add-zero, zero-add, append-nil, append_assoc, length-append, arith}
 use Rattle.std.specs.Prelude.{is_err, if◌then◌else◌}
 use Rattle.std.specs.List.{cons_option}
 use Rattle.std.proofs.lemmas.List.{take_more}
@@ -31,7 +31,7 @@ pub record IsMade (f : File) (done : List Piece) (count : ℕ) (refused : Bool) 
   pub lines : text ≡ piece_lines f 0 done
 
 pub made_none : (f : File) (count : ℕ) (refused : Bool) (text : List ℕ) → count ≡ 0 → refused ≡ false → text ≡ [] → IsMade f [] count refused text
-made_none f count refused text zero none empty = record { counted = zero; refusals = none; lines = empty }
+made_none f count refused text start none empty = record { counted = start; refusals = none; lines = empty }
 
 -- and then one more frame
 pub made_more : (f : File) (done : List Piece) (p : Piece) (count next : ℕ) (refused after : Bool) (text grown : List ℕ) → IsMade f done count refused text
@@ -45,7 +45,8 @@ made_more f done p count next refused after text grown made counted so more = re
       ∙ sym (list_any-append (λ (q : Piece). is_err (words_of_piece f q)) done (p ∷ []));
   lines =
       more ∙ ap (λ t. t ++ piece_line f count p) made.lines
-      ∙ ap (λ t. piece_lines f 0 done ++ t) (ap (λ n. piece_line f n p) made.counted ∙ sym (append-nil (piece_line f (length done) p)))
+      ∙ ap (λ t. piece_lines f 0 done ++ t) (ap (λ n. piece_line f n p) made.counted ∙ sym (append-nil (piece_line f (length done) p))
+      ∙ ap (λ n. piece_lines f n (p ∷ [])) (sym (zero-add (length done))))
       ∙ sym (lines_append f 0 done (p ∷ []));
 }
 
@@ -73,7 +74,7 @@ pub record IsUnderWay (f : File) (left : List Piece) (count : ℕ) (refused : Bo
   pub made : IsMade f done count refused text
 
 pub way_start : (f : File) (left : List Piece) (count : ℕ) (refused : Bool) (text : List ℕ) → left ≡ pieces_of f → count ≡ 0 → refused ≡ false → text ≡ [] → IsUnderWay f left count refused text
-way_start f left count refused text is zero none empty = record { done = []; all = is; made = made_none f count refused text zero none empty }
+way_start f left count refused text is start none empty = record { done = []; all = is; made = made_none f count refused text start none empty }
 
 pub way_more : (f : File) (left after : List Piece) (p : Piece) (count next : ℕ) (refused now : Bool) (text grown : List ℕ) → length f.frames < 2 ^ 64 → IsUnderWay f left count refused text
     → left ≡ p ∷ after → (count + 1 < 2 ^ 64 → next ≡ count + 1) → now ≡ (refused || is_err (words_of_piece f p)) → grown ≡ text ++ piece_line f count p

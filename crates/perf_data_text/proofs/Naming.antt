@@ -1,5 +1,5 @@
 -- Lines of events one after another.
-use Rattle.std.proofs.Common.{◌≡◌, ℕ, ◌+◌, ◌<◌, List, [], ◌∷◌, ◌++◌, map, length, take, get_or, refl, sym, ap, ◌∙◌, add-zero, append-nil, append_assoc, arith}
+use Rattle.std.proofs.Common.{◌≡◌, ℕ, ◌+◌, ◌<◌, List, [], ◌∷◌, ◌++◌, map, length, take, get_or, refl, sym, ap, ◌∙◌, add-zero, zero-add, append-nil, append_assoc, arith}
 use Rattle.std.specs.List.{All}
 use Rattle.std.proofs.lemmas.List.{take_more, length-take-le}
 use Rattle.std.proofs.lemmas.List.Elements.{All-head, All-tail}
@@ -25,7 +25,8 @@ own_more events i e below is =
     ap (own_lines 0) (take_more events i e below)
     ∙ own_append 0 (take i events) (get_or events i e ∷ [])
     ∙ ap (λ rest. own_lines 0 (take i events) ++ rest)
-    (append-nil (own_line (length (take i events)) (get_or events i e))
+    (ap (λ n. own_lines n (get_or events i e ∷ [])) (zero-add (length (take i events)))
+    ∙ append-nil (own_line (length (take i events)) (get_or events i e))
     ∙ ap (λ k. own_line k (get_or events i e)) n
     ∙ ap (own_line i) (sym is))
 
