@@ -96,17 +96,17 @@ way_end f left count refused text way none =
 
 -- ---- the frames of entries
 
-pub entry_some : (f : File) (entries : List Entry) (i : ℕ) (e : Entry) (p : Piece) → i < length entries → e ≡ get_or entries i e → piece_at f e.at ≡ Some p → pieces_at f (take (i + 1) entries) ≡ pieces_at f (take i entries) ++ p ∷ []
-entry_some f entries i e p below is found =
+pub entry_some : (f : File) (entries : List Entry) (i : ℕ) (e : Entry) (p : Piece) → i < length entries → piece_at f (get_or entries i e).at ≡ Some p → pieces_at f (take (i + 1) entries) ≡ pieces_at f (take i entries) ++ p ∷ []
+entry_some f entries i e p below found =
     ap (pieces_at f) (take_more entries i e below)
     ∙ filter_map-append (λ (e : Entry). piece_at f e.at) (take i entries) (get_or entries i e ∷ [])
-    ∙ ap (λ (o : Option Piece). pieces_at f (take i entries) ++ cons_option o []) (ap (λ (x : Entry). piece_at f x.at) (sym is) ∙ found)
+    ∙ ap (λ (o : Option Piece). pieces_at f (take i entries) ++ cons_option o []) found
 
-pub entry_none : (f : File) (entries : List Entry) (i : ℕ) (e : Entry) → i < length entries → e ≡ get_or entries i e → piece_at f e.at ≡ None → pieces_at f (take (i + 1) entries) ≡ pieces_at f (take i entries)
-entry_none f entries i e below is found =
+pub entry_none : (f : File) (entries : List Entry) (i : ℕ) (e : Entry) → i < length entries → piece_at f (get_or entries i e).at ≡ None → pieces_at f (take (i + 1) entries) ≡ pieces_at f (take i entries)
+entry_none f entries i e below found =
     ap (pieces_at f) (take_more entries i e below)
     ∙ filter_map-append (λ (e : Entry). piece_at f e.at) (take i entries) (get_or entries i e ∷ [])
-    ∙ ap (λ (o : Option Piece). pieces_at f (take i entries) ++ cons_option o []) (ap (λ (x : Entry). piece_at f x.at) (sym is) ∙ found)
+    ∙ ap (λ (o : Option Piece). pieces_at f (take i entries) ++ cons_option o []) found
     ∙ append-nil (pieces_at f (take i entries))
 
 few_options : (o : Option Piece) (ps : List Piece) → length (cons_option o ps) ≤ length ps + 1

@@ -1,6 +1,6 @@
 //! The frames of a file, a line each.
 
-ghost use Rattle.std.specs.Prelude.{◌≡◌, ◌+◌, ◌<◌, ◌^◌, ◌++◌, ◌||◌, [], false, IfOk, OnOk, is_ok, is_err};
+ghost use Rattle.std.specs.Prelude.{◌≡◌, ◌+◌, ◌<◌, ◌^◌, ◌++◌, ◌||◌, [], false, IfOk, OnOk, is_ok, is_err, length};
 ghost use Rattle.std.specs.Prelude.{option_map, string_bytes};
 ghost use Rattle.perf_file.specs.Pieces.{piece_of, pieces_of};
 ghost use Rattle.perf_file.specs.Views.{view};
@@ -88,6 +88,7 @@ fn text_of_entries(
     recording: &Recording<'_>,
     entries: &[Entry],
 ) -> Result<(String, bool), AllocError>
+    requires { length entries.now < 2 ^ 64 }
     ensures { IfOk result (λ made. dumps.IsTextOfPieces (view recording.now)
         (dumps.pieces_at (view recording.now) entries.now) made.1 (string_bytes made.0)) }
 {
