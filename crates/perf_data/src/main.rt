@@ -49,7 +49,7 @@ fn try_main(rt: &HostRuntime) -> io::Result<u8> {
 }
 
 // The words of the program.
-fn program(alloc: Global) -> Result<Command<'static>, AllocError> {
+fn program<'a>(alloc: Global) -> Result<Command<'a>, AllocError> {
     let order = Arg::new(alloc, "order")
         .long("order")
         .value_name("ORDER")
@@ -73,7 +73,7 @@ fn program(alloc: Global) -> Result<Command<'static>, AllocError> {
 }
 
 // The word for the file.
-fn file_word(alloc: Global) -> Arg<'static> {
+fn file_word<'a>(alloc: Global) -> Arg<'a> {
     Arg::new(alloc, "FILE")
         .required(true)
         .help("A file of `perf record`, or - for standard input")

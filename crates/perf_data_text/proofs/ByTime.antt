@@ -1,6 +1,6 @@
 -- The frames of entries.
-use Rattle.std.proofs.Common.{◌≡◌, ℕ, zero, suc, ◌+◌, ◌-◌, ◌≤◌, ◌<◌, List, [], ◌∷◌, length, map, drop, set, get_or, Some, refl, sym, ◌∙◌, ap, subst, true, false, nat_lt, nat_le, inl, inr, arith}
-use Rattle.std.specs.Prelude.{if◌then◌else◌, Option}
+use Rattle.std.proofs.Common.{◌≡◌, ℕ, zero, suc, ◌+◌, ◌-◌, ◌≤◌, List, [], ◌∷◌, length, map, drop, set, get_or, Some, refl, sym, ◌∙◌, ap, subst, true, false, nat_lt, nat_le, inl, inr, arith}
+use Rattle.std.specs.Prelude.{Option}
 use Rattle.std.specs.List.{All, swap, cons_option}
 use Rattle.std.specs.Ordering.{is_lt}
 use Rattle.std.specs.List.Sorted.{IsPermutation, IsSortedByKey}
@@ -11,12 +11,11 @@ use Rattle.std.proofs.Math.ListN.{get_or-map}
 use Rattle.std.proofs.lemmas.List.Elements.{All-nil, All-cons, All-head, All-tail}
 use Rattle.std.proofs.lemmas.List.Sorted.{IsPermutation-refl, IsPermutation-trans, IsPermutation-swap, IsPermutation-keeps, All-permutation}
 use Rattle.perf_base.specs.Dynamic.{order_of}
-use Rattle.perf_base.specs.Order.{Order}
 use Rattle.perf_file.specs.Entries.{entry_of, entries_of, time_and_place, by_time_then_place, IsInOrder}
 use Rattle.perf_file.specs.Opened.{File}
-use Rattle.perf_file.specs.Pieces.{Piece, pieces_of, first_pieces, piece_in, piece_at, place_in, after_piece, after_frame, drop_most, payload_length}
+use Rattle.perf_file.specs.Pieces.{Piece, pieces_of, first_pieces, piece_in, piece_at, place_in, after_piece, drop_most}
 use Rattle.perf_file.specs.declared.entries.Entry.{Entry}
-use Rattle.perf_data_text.specs.DumpText.{AreByTime, pieces_at, time_and_place_of}
+use Rattle.perf_data_text.specs.DumpText.{AreByTime, pieces_at}
 
 -- ---- the frame at the offset of a frame
 

@@ -1,6 +1,6 @@
 -- Lines of frames one after another.
 use Rattle.std.proofs.Common.{◌≡◌, ℕ, zero, suc, ◌+◌, ◌≤◌, ◌<◌, Bool, List, [], ◌∷◌, ◌++◌, ◌||◌, true, false, Option, Some, None, nat_lt, inl, inr, take, get_or, length, ◌^◌, refl, sym, ap, ◌∙◌, add-zero, zero-add, append-nil, append_assoc, length-append, arith}
-use Rattle.std.specs.Prelude.{is_err, if◌then◌else◌}
+use Rattle.std.specs.Prelude.{is_err}
 use Rattle.std.specs.List.{cons_option}
 use Rattle.std.proofs.lemmas.List.{take_more}
 use Rattle.std.proofs.lemmas.List.Elements.{filter_map-append}

@@ -1,5 +1,5 @@
 -- The lines of frames.
-use Rattle.std.specs.Prelude.{◌≡◌, ℕ, Bool, List, [], ◌∷◌, ◌++◌, is_err, Option, option_map}
+use Rattle.std.specs.Prelude.{◌≡◌, ℕ, Bool, List, is_err, Option, option_map}
 use Rattle.std.specs.List.{flat_map, enumerate_from, filter_map, list_any}
 use Rattle.std.specs.List.Sorted.{IsPermutation, IsSortedByKey}
 use Rattle.perf_base.specs.Configuration.{Configuration}

@@ -1,4 +1,4 @@
-use Rattle.std.proofs.Common.{◌+◌, ◌<◌, ◌^◌, length, string_bytes, arith}
+use Rattle.std.proofs.Common.{◌<◌, ◌^◌, length, string_bytes, arith}
 use Rattle.perf_file.specs.Pieces.{pieces, piece_of}
 use Rattle.perf_file.specs.Views.{view}
 use Rattle.perf_data_text.proofs.InTurn.{way_more}

@@ -1,4 +1,4 @@
-use Rattle.std.proofs.Common.{◌≡◌, ℕ, List, ◌∷◌, [], ◌++◌, ◌+◌, ◌<◌, ◌^◌, length, take, string_bytes, sym, ap, ◌∙◌, subst, Option, None, arith}
+use Rattle.std.proofs.Common.{◌≡◌, ℕ, List, ◌∷◌, [], ◌++◌, ◌+◌, ◌<◌, ◌^◌, length, take, string_bytes, sym, ap, ◌∙◌, subst, Option, arith}
 use Rattle.std.specs.Prelude.{option_map}
 use Rattle.std.proofs.lemmas.List.{length-take-le}
 use Rattle.perf_file.specs.Pieces.{Piece, piece_of}

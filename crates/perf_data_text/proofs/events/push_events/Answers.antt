@@ -1,4 +1,4 @@
-use Rattle.std.proofs.Common.{◌≡◌, ◌<◌, ◌++◌, ℕ, List, length, take, string_bytes, sym, ap, ◌∙◌, append_assoc, arith}
+use Rattle.std.proofs.Common.{◌++◌, ℕ, List, take, string_bytes, sym, ap, ◌∙◌, append_assoc, arith}
 use Rattle.perf_data_text.specs.OwnNames.{own_line, own_lines}
 use Rattle.perf_data_text.proofs.Naming.{own_more}
 use Rattle.perf_data_text.proofs.events.push_events.Goals as goal

@@ -1,5 +1,4 @@
-use Rattle.std.proofs.Common.{◌≡◌, ◌++◌, List, ap, ◌∙◌}
-use Rattle.perf_base.specs.Configured.{endian_of}
+use Rattle.std.proofs.Common.{◌++◌, List, ap, ◌∙◌}
 use Rattle.perf_file.specs.declared.events.Event.{Event}
 use Rattle.perf_data_text.specs.OwnNames.{own_lines}
 use Rattle.perf_data_text.proofs.Naming.{named_alike}
