@@ -71,6 +71,12 @@ if [ -x $replay ]; then
 else
     echo "skipped: lying counts and sizes: no proved perf_replay"
 fi
+shows=crates/perf_data/out/perf_data
+if [ -x $shows ]; then
+    face "words of perf_data, and damaged files" "dd" bindings/file_words_test.sh $shows
+else
+    echo "skipped: words of perf_data: no proved perf_data"
+fi
 mkdir "$work/llvm" || exit 2
 archive=$work/llvm/libperf_event_c.a
 second=$work/rattle/libperf_event_c.a

@@ -14,6 +14,7 @@ pub mod Names
 pub mod Views
 pub mod Owners
 pub mod Pieces
+pub mod Payloads
 pub mod Entries
 pub mod DecidingIds
 pub mod Messages

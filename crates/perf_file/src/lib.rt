@@ -21,6 +21,7 @@ mod naming;
 mod number;
 mod opening;
 mod owning;
+mod payloads;
 mod reading;
 mod section;
 

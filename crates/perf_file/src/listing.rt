@@ -60,7 +60,7 @@ fn first_u32(order: Dynamic, bytes: &[u8]) -> u32
 }
 
 // How many bytes after a frame are no frames.
-fn payload_length(order: Dynamic, frame: &Result<Frame<'_, '_>, BadFrame>) -> u64
+pub(crate) fn payload_length(order: Dynamic, frame: &Result<Frame<'_, '_>, BadFrame>) -> u64
     ensures { result ≡ pieces.payload_length (order_of order) (sight_of frame.now) }
 {
     match frame {

@@ -90,7 +90,8 @@ impl<'p> Recording<'p> {
 
     /// Its events, in the order of the file: at least one.
     pub fn events(&self) -> &[Event<'p>]
-        ensures { map opens.event_view result.now ≡ (view self.now).events }
+        ensures are { result.now ≡ self.now.events.items }
+        ensures value { map opens.event_view result.now ≡ (view self.now).events }
     {
         &self.events
     }

@@ -3,3 +3,5 @@ pub mod SampleText
 pub mod Text
 pub mod Outcomes
 pub mod Prelude
+pub mod FileText
+pub mod FileLines

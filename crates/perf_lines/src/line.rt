@@ -7,6 +7,8 @@ ghost use Rattle.perf_parser.specs.Runs.{seen_answer, seen_answers};
 ghost use Rattle.perf_lines.specs.Fields.{with_spaces};
 ghost use Rattle.perf_lines.specs.Text as lines;
 
+pub mod file;
+
 use crate::records::push_record;
 use perf_event_data::Record;
 use perf_event_data::parse::{ErrorKind, ParseResult};

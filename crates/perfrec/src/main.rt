@@ -64,12 +64,12 @@ fn reason(outcome: Outcome, with_attr: bool) -> Option<&'static str> {
     match outcome {
         Outcome::Refused if !with_attr => Some(
             "perfrec: if the input begins with an attribute, add the word attr; if it is a file of \
-             `perf record`, convert it first: see examples/README.md",
+             `perf record`, use perf_data",
         ),
         Outcome::Clean | Outcome::Refused => None,
         Outcome::BadAttr => Some(
             "perfrec: the input does not begin with an attribute; if it is a file of `perf record`, \
-             convert it first: see examples/README.md",
+             use perf_data",
         ),
         Outcome::Faulted => Some(
             "perfrec: the input cannot be read to its end, as the last line says",

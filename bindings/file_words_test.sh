@@ -1,0 +1,134 @@
+#!/usr/bin/env bash
+# Runs perf_data over a recording, with the words that it knows and with others, and over damaged copies:
+#
+#     bindings/file_words_test.sh PROGRAM [WORD ..]
+#
+# What it must print of the recording, in examples, comes from perf; what it must print of a damaged copy is worked out
+# here from that. The last line is how many runs were tried, and how many failed; the status is 0 if none did.
+set -u
+if [ $# -lt 1 ]; then
+    echo "usage: bindings/file_words_test.sh PROGRAM [WORD ..]" >&2
+    exit 2
+fi
+program=("$@")
+examples=$(cd "$(dirname "$0")/../examples" && pwd)
+work=$(mktemp -d) || exit 2
+trap 'rm -rf "$work"' EXIT
+file=$work/events.data
+cp "$examples/events.data" "$file"
+input=/dev/null
+tried=0
+failed=0
+
+# Compares the status and the output of a run with some words: check STATUS OUTPUT-FILE [WORD ..]. With status 2 and 3
+# there must be an error, and with 2 just one line of it unless that is about words.
+check() {
+    status=$1 output=$2
+    shift 2
+    "${program[@]}" "$@" <"$input" >"$work/found.out" 2>"$work/found.err"
+    found=$?
+    tried=$((tried + 1))
+    if [ $found != "$status" ] || ! cmp -s "$output" "$work/found.out" || { [ "$status" -ge 2 ] && ! [ -s "$work/found.err" ]; }; then
+        failed=$((failed + 1))
+        echo "FAILED: status $found, not $status, or another text, of:$(printf " '%s'" "$@")"
+        diff "$output" "$work/found.out" | head -n 3
+        head -n 3 "$work/found.err"
+    fi
+}
+
+# A file that cannot be opened: refuses MESSAGE FILE
+refuses() {
+    check 2 /dev/null events "$2"
+    check 2 /dev/null dump "$2"
+    [ "$(cat "$work/found.err")" = "perf_data: $2: $1" ] || {
+        failed=$((failed + 1))
+        echo "FAILED: another error of $2:"
+        cat "$work/found.err"
+    }
+}
+
+# Writes bytes over those of a copy: damage OFFSET BYTES-AS-OF-PRINTF
+damage() {
+    # shellcheck disable=SC2059  # the bytes are escapes
+    printf "$2" | dd of="$work/damaged" bs=1 seek="$1" conv=notrunc status=none
+}
+
+# What it knows.
+check 0 "$examples/events.events" events "$file"
+check 0 "$examples/events.dump" dump "$file"
+check 0 "$examples/events.dump" dump --order file "$file"
+check 0 "$examples/events.time" dump --order time "$file"
+check 0 "$examples/events.time" dump "$file" --order=time
+input=$file
+check 0 "$examples/events.events" events -
+check 0 "$examples/events.dump" dump -
+input=/dev/null
+
+# Other words, and help.
+for words in '' events dump other 'events one two' 'dump one two' 'dump --order' 'dump --order size one' 'events --order time one' '--all' 'dump --all one'; do
+    # shellcheck disable=SC2086  # these are several words
+    check 2 /dev/null $words
+done
+for words in --help 'events --help' 'dump --help'; do
+    # shellcheck disable=SC2086
+    "${program[@]}" $words >"$work/found.out" 2>"$work/found.err" && [ -s "$work/found.out" ] && ! [ -s "$work/found.err" ] || {
+        failed=$((failed + 1))
+        echo "FAILED: $words"
+    }
+    tried=$((tried + 1))
+done
+
+# No file, an output that is full.
+check 3 /dev/null events "$work/absent"
+"${program[@]}" dump "$file" >/dev/full 2>"$work/found.err"
+found=$?
+tried=$((tried + 1))
+[ $found = 3 ] && [ -s "$work/found.err" ] || {
+    failed=$((failed + 1))
+    echo "FAILED: status $found, not 3, of a full output"
+}
+
+# No file of perf record.
+refuses 'this is no perf.data file: pass a file that `perf record` has written' /dev/null
+cp "$file" "$work/damaged"
+damage 8 '\20'
+refuses 'this is what `perf record -o -` writes: record into a file, with `perf record -o perf.data`' "$work/damaged"
+cp "$file" "$work/damaged"
+damage 75 '\10'
+refuses 'the frames are compressed: run `perf inject -i perf.data -o plain.data`, or record without `-z`' "$work/damaged"
+head -c 4000 "$file" >"$work/damaged"
+refuses 'the frames end beyond the file, so it is cut off: copy it again, or record again' "$work/damaged"
+
+# The last frame is FINISHED_ROUND, of eight bytes, and the one before it an EXIT.
+lines=$(wc -l <"$examples/events.dump")
+read -r number at _ < <(tail -n 1 "$examples/events.dump")
+read -r before place _ _ _ size _ < <(tail -n 2 "$examples/events.dump")
+head -n $((lines - 1)) "$examples/events.dump" >"$work/without_last"
+head -n $((lines - 2)) "$examples/events.dump" >"$work/without_two"
+
+# As a SWITCH it is too short for an id.
+cp "$file" "$work/damaged"
+damage "$at" '\16'
+{ cat "$work/without_last"; echo "$number $at ? 14 0 8 refused NoId"; } >"$work/output"
+check 1 "$work/output" dump "$work/damaged"
+
+# An id that no event has is at the end of the EXIT.
+cp "$file" "$work/damaged"
+damage $((at - 8)) '\377\377\377\377\377\377\377\177'
+{ cat "$work/without_two"; echo "$before $place ?9223372036854775807 4 0 $size refused UnknownId"; tail -n 1 "$examples/events.dump"; } >"$work/output"
+check 1 "$work/output" dump "$work/damaged"
+
+# As AUXTRACE, which announces the bytes after it, it announces more than there are.
+cp "$file" "$work/damaged"
+damage "$place" '\107'
+{ cat "$work/without_two"; echo "$before $place - 71 0 $size refused Eof"; } >"$work/output"
+check 1 "$work/output" dump "$work/damaged"
+
+# perf was killed, and the file ends inside the EXIT.
+head -c $((place + 20)) "$file" >"$work/damaged"
+damage 48 '\0\0\0\0\0\0\0\0'
+{ cat "$work/without_two"; echo "$before $place ? 4 0 $size refused Eof"; } >"$work/output"
+check 1 "$work/output" dump "$work/damaged"
+
+echo "$tried runs, $failed failed"
+[ $failed = 0 ]

@@ -1,0 +1,129 @@
+//! Prints what is inside a file of `perf record`.
+//!
+//! `perf_data events FILE` prints a line for each event. `perf_data dump FILE` prints a line for each
+//! frame in the order of the file, with `--order time` by time: what the line of `perfrec` has, and
+//! after its number the offset of the frame in the file and its event. A FILE of `-` is standard
+//! input. The whole file is read into memory, and all of its text is made before any is written.
+//!
+//! The exit status is 0 if every frame could be read, 1 if one was refused, 2 if the file is none of
+//! `perf record` or damaged, and for other words, and 3 if reading, writing or an allocation failed.
+//! With 2 and 3 the reason is printed on standard error. `--help` prints the words.
+#![tactic(auto)]
+
+use clap::{Arg, ArgMatches, Command};
+use perf_data_text::run::{Show, run, status_after};
+use perf_file::OpenError;
+use perf_lines::outcome::Outcome;
+use std::alloc::{AllocError, Global};
+use std::io::Read;
+use std::process::ExitCode;
+use std::{env, fs, io};
+
+// What is printed after the words.
+const STATUSES: &str = "FILE is what `perf record` writes; `-` is standard input.
+Status: 0 if no frame is refused, 1 if one is, 2 if the file cannot be opened
+or the words are wrong, 3 if reading, writing or an allocation fails.";
+
+fn main(rt: HostRuntime) -> ExitCode {
+    match try_main(&rt) {
+        Ok(status) => ExitCode::from(status),
+        Err(error) => {
+            // If standard error fails, the status alone reports it.
+            let _ = eprintln!(rt; "perf_data: {error}");
+            ExitCode::from(3)
+        }
+    }
+}
+
+// Does what the words ask for, and returns the exit status.
+fn try_main(rt: &HostRuntime) -> io::Result<u8> {
+    let words: Vec<String> = env::args(rt)?.collect(rt.alloc())?;
+    let program = program(rt.alloc())?;
+    match program.try_get_matches_from(words.as_slice()) {
+        Ok(matches) => print_file(rt, &matches),
+        Err(error) => {
+            error.print(rt)?;
+            Ok(if error.use_stderr() { 2 } else { 0 })
+        }
+    }
+}
+
+// The words of the program.
+fn program<'a>(alloc: Global) -> Result<Command<'a>, AllocError> {
+    let order = Arg::new(alloc, "order")
+        .long("order")
+        .value_name("ORDER")
+        .value_parser(["file", "time"].as_slice())
+        .default_value("file")
+        .help("In which order");
+    let events = Command::new(alloc, "events")
+        .about("Prints a line for each event")
+        .arg(file_word(alloc))?;
+    let dump = Command::new(alloc, "dump")
+        .about("Prints a line for each frame")
+        .arg(order)?
+        .arg(file_word(alloc))?;
+    Command::new(alloc, "perf_data")
+        .about("Prints what is inside a file of `perf record`.")
+        .after_help(STATUSES)
+        .subcommand_required(true)
+        .disable_help_subcommand(true)
+        .subcommand(events)?
+        .subcommand(dump)
+}
+
+// The word for the file.
+fn file_word<'a>(alloc: Global) -> Arg<'a> {
+    Arg::new(alloc, "FILE")
+        .required(true)
+        .help("A file of `perf record`, or - for standard input")
+}
+
+// What is shown for a command and its words.
+fn shown(command: &str, words: &ArgMatches<'_>) -> Show {
+    if command == "events" {
+        return Show::Events;
+    }
+    match words.get_str("order") {
+        Some(order) => if order == "time" {
+            Show::DumpByTime
+        } else {
+            Show::Dump
+        },
+        None => Show::Dump,
+    }
+}
+
+// Prints the file that the words name, and returns the exit status.
+fn print_file(rt: &HostRuntime, matches: &ArgMatches<'_>) -> io::Result<u8> {
+    let Some((command, words)) = matches.subcommand() else {
+        return Ok(2);
+    };
+    let Some(path) = words.get_str("FILE") else {
+        return Ok(2);
+    };
+    let bytes = bytes_of(rt, path)?;
+    let mut output = rt.stdout();
+    let ended = run(rt.alloc(), &bytes, &mut output, shown(command, words));
+    report(rt, path, &ended)?;
+    Ok(status_after(&ended))
+}
+
+// The bytes of a file, or of standard input.
+fn bytes_of(rt: &HostRuntime, path: &str) -> io::Result<Vec<u8>> {
+    if path != "-" {
+        return fs::read(rt, path);
+    }
+    let mut bytes = Vec::new(rt.alloc());
+    rt.stdin().read_to_end(&mut bytes)?;
+    Ok(bytes)
+}
+
+// Prints on standard error why a run ended early.
+fn report(rt: &HostRuntime, path: &str, ended: &Result<Outcome, OpenError>) -> io::Result<()> {
+    match ended {
+        Err(error) => eprintln!(rt; "perf_data: {path}: {error}"),
+        Ok(Outcome::Stopped) => eprintln!(rt; "perf_data: the output cannot be written"),
+        Ok(_) => Ok(()),
+    }
+}

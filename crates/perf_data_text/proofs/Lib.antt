@@ -1,0 +1,3 @@
+pub mod InTurn
+pub mod ByTime
+pub mod Naming

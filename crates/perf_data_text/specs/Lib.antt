@@ -1,0 +1,4 @@
+pub mod EventText
+pub mod OwnNames
+pub mod DumpText
+pub mod Shown

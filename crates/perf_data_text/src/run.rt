@@ -1,0 +1,89 @@
+//! The engine of the program: opens a file and writes what is inside.
+
+ghost use Rattle.std.specs.Prelude.{◌≡◌, List, ℕ, IfOk, string_bytes};
+ghost use Rattle.perf_file.specs.Views.{view};
+ghost use Rattle.perf_data_text.specs.OwnNames.{AreDescribedBy};
+ghost use Rattle.perf_data_text.specs.Shown as shown;
+
+use crate::dump::{text_by_time, text_of_dump};
+use crate::events::text_of_events;
+use perf_file::{OpenError, Recording};
+use perf_lines::outcome::Outcome;
+use perf_lines::output::write_whole;
+use std::alloc::{AllocError, Global};
+use std::io::Write;
+
+/// What is shown of a file.
+#[derive(Copy, Clone, Debug, PartialEq, Eq)]
+pub enum Show {
+    /// Its events.
+    Events,
+    /// Its frames, in the order of the file.
+    Dump,
+    /// Its frames by time, and at equal times in the order of the file.
+    DumpByTime,
+}
+
+/// Writes what is shown of the bytes of a file. Nothing is written before all of the text is made,
+/// and nothing at all if the file cannot be opened or memory runs out.
+///
+/// The outcome is `Clean` if no frame was refused, `Refused` if one was, and `Stopped` if writing
+/// failed.
+pub fn run<W: Write>(
+    alloc: Global,
+    bytes: &[u8],
+    writer: &mut W,
+    what: Show,
+) -> Result<Outcome, OpenError>
+    ensures { shown.Shows what bytes.now result (W.contents writer.old) (W.contents writer.new) }
+{
+    let recording = Recording::open(alloc, bytes)?;
+    let (text, refused) = text_of(alloc, &recording, what)?;
+    Ok(write_text(writer, &text, refused))
+}
+
+/// The exit status after a run: that of its outcome, 2 if the file could not be opened, and 3 if
+/// memory ran out.
+pub fn status_after(ended: &Result<Outcome, OpenError>) -> u8
+    ensures { result ≡ shown.status_after ended.now }
+{
+    match ended {
+        Ok(outcome) => outcome.status(),
+        Err(OpenError::OutOfMemory) => 3,
+        Err(_) => 2,
+    }
+}
+
+// The text of what is shown, and whether a frame is refused in it.
+fn text_of(
+    alloc: Global,
+    recording: &Recording<'_>,
+    what: Show,
+) -> Result<(String, bool), AllocError>
+    ensures { (descriptions : List ℕ) → AreDescribedBy recording.now descriptions →
+        IfOk result (λ made. shown.IsTextOf what (view recording.now) descriptions made.1
+        (string_bytes made.0)) }
+{
+    match what {
+        Show::Events => {
+            let text = text_of_events(alloc, recording)?;
+            Ok((text, false))
+        }
+        Show::Dump => text_of_dump(alloc, recording),
+        Show::DumpByTime => text_by_time(alloc, recording),
+    }
+}
+
+// Writes a text, in which frames are refused or not, and returns how that ended.
+fn write_text<W: Write>(writer: &mut W, text: &String, refused: bool) -> Outcome
+    ensures { shown.Writes result refused (string_bytes text.now)
+        (W.contents writer.old) (W.contents writer.new) }
+{
+    if !write_whole(writer, text.as_bytes()) {
+        Outcome::Stopped
+    } else if refused {
+        Outcome::Refused
+    } else {
+        Outcome::Clean
+    }
+}
