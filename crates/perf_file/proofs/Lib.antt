@@ -8,3 +8,7 @@ pub mod AttributeLaws
 pub mod Whole
 pub mod Laws
 pub mod EntryLaws
+pub mod Stepping
+pub mod IdFilling
+pub mod InMemory
+pub mod Sizes

@@ -12,3 +12,6 @@ pub mod Owners
 pub mod Pieces
 pub mod Entries
 pub mod Messages
+pub mod Filled
+pub mod Outlines
+pub mod Finders

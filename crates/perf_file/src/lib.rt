@@ -3,21 +3,25 @@
 #![tactic(auto)]
 
 mod apart;
-mod attributes;
-mod entries;
+pub mod attributes;
+pub mod entries;
 mod error;
 mod event_list;
 mod events;
-mod head;
-mod id_place;
+pub mod finding;
+pub mod head;
+pub mod id_list;
+pub mod id_place;
 mod id_sections;
-mod ids;
+pub mod ids;
 mod listing;
 mod number;
 mod opening;
 mod owning;
+pub mod parts;
 mod reading;
-mod section;
+pub mod section;
+pub mod summary;
 
 pub use entries::Entry;
 pub use error::{OpenError, Part};
