@@ -267,6 +267,83 @@ uint32_t ped_read_body(const struct ped_config *config, uint32_t type, uint16_t 
 uint32_t ped_identifier(const uint8_t *bytes, size_t len, uint32_t order, uint32_t sample_id_all,
                         uint64_t *id);
 
+/* ---- files that `perf record` wrote
+ *
+ * A file is in memory as a whole, mapped or read. ped_file_open states how much memory its events
+ * need, ped_file_events reads them, ped_file_next goes over its frames in the order of the file,
+ * ped_file_sort puts them in order of time, and ped_file_read reads each under its own event. */
+
+/* Why a file is refused: the first check that fails, in the order of the numbers. Events are numbered
+ * from 0, in the order of the file. */
+enum ped_file_refusal {
+    PED_FILE_READ = 0,           /* it is not refused */
+    PED_FILE_NOT_PERF_DATA = 1,  /* fewer than 16 bytes, or it does not begin as perf writes it */
+    PED_FILE_OLD_FORMAT = 2,     /* the format before PERFILE2, which perf wrote until 2009 */
+    PED_FILE_BAD_HEAD = 3,       /* its head has an unknown size, or is cut off */
+    PED_FILE_PIPE = 4,           /* what `perf record -o -` writes */
+    PED_FILE_DIRECTORY = 5,      /* one of several files of `perf record --threads` */
+    PED_FILE_COMPRESSED = 6,     /* its frames are compressed, by `perf record -z` */
+    PED_FILE_CUT_ATTRIBUTES = 7, /* the attributes end beyond the file */
+    PED_FILE_CUT_FRAMES = 8,     /* the frames do */
+    PED_FILE_CUT_IDS = 9,        /* the ids of an event do */
+    PED_FILE_BAD_ENTRY = 10,     /* the attributes are not whole entries of at least 80 bytes */
+    PED_FILE_NO_EVENT = 11,
+    PED_FILE_BAD_ATTRIBUTE = 12, /* an attribute is damaged */
+    PED_FILE_NEW_ATTRIBUTE = 13, /* an attribute has fields that this library does not know */
+    PED_FILE_BAD_IDS = 14,       /* ids are not whole numbers of eight bytes */
+    PED_FILE_OVERLAP = 15,       /* two parts of the file share a byte */
+    PED_FILE_NO_ID_PLACE = 16,   /* several events without a common place of their ids */
+    PED_FILE_SHARED_ID = 17,     /* two events have one id */
+    PED_FILE_NO_MEMORY = 18,     /* not returned: no memory is asked for */
+    PED_FILE_OTHER_COUNT = 19    /* no refusal: an array does not have as many elements as it needs */
+};
+
+/* A part of a file. */
+struct ped_part {
+    uint64_t at;   /* its offset in the file */
+    uint64_t size; /* in bytes */
+};
+
+/* What is known of a file before its events are read. */
+struct ped_file {
+    uint32_t order;         /* PED_LITTLE or PED_BIG: that of its numbers */
+    uint32_t is_closed;     /* 1 if perf ended regularly; 0: the frames extend to the file's end */
+    struct ped_part frames;
+    uint64_t events;        /* how many events it has */
+    uint64_t ids;           /* how many ids they have together: at most one for eight bytes */
+};
+
+/* Writes to `file` what is known before events are read, and returns PED_FILE_READ. If the file is
+ * refused before that it returns why, and nothing is written. */
+uint32_t ped_file_open(const uint8_t *bytes, size_t len, struct ped_file *file);
+
+/* An event of a file. Its ids are at `bytes + ids_at`; ped_eight reads one. */
+struct ped_event {
+    struct ped_config config; /* how its frames are read */
+    uint32_t type;            /* PERF_TYPE_* */
+    uint64_t event;           /* what of that type it counts: `config` of its attribute */
+    uint64_t ids_at;          /* the offset in the file of its ids, numbers of eight bytes */
+    uint64_t ids;             /* how many ids it has */
+};
+
+/* An id, and the number of the event that has it. */
+struct ped_id {
+    uint64_t id;
+    uint64_t event;
+};
+
+/* How many parts a file has: its head, attributes and frames, and the ids of each event. */
+#define PED_FILE_PARTS(events) ((events) + 3)
+
+/* Reads the events of a file to `events`, in the order of the file, and their ids to `ids`, by rising
+ * numbers, and returns PED_FILE_READ. `parts` is room for comparing the parts of the file. Their counts
+ * are those of ped_file_open, and PED_FILE_PARTS(events) parts: with others nothing is written, and it
+ * returns PED_FILE_OTHER_COUNT. If the file is refused it returns why; the arrays may be written
+ * then. */
+uint32_t ped_file_events(const uint8_t *bytes, size_t len, struct ped_event *events,
+                         size_t event_count, struct ped_part *parts, size_t part_count,
+                         struct ped_id *ids, size_t id_count);
+
 /* ---- helpers, written by hand: tested, not proved */
 
 /* How many of the `len` bytes at its front the frame takes: its size, at least a header, and all that

@@ -1,2 +1,5 @@
 pub mod CallerConfigs
 pub mod Ends
+pub mod Files
+pub mod Entries
+pub mod FileEvents

@@ -7,6 +7,9 @@
 pub mod attr;
 pub mod body;
 pub mod ends;
+pub mod file;
+pub mod file_entries;
+pub mod file_events;
 pub mod identifier;
 pub mod many;
 mod order;
