@@ -111,12 +111,15 @@ is_read bytes h parts events ids sorted has is fine listed one moved rises found
     let f = file_with bytes h (map (event_in o bytes) (zip has.attributes has.ids)) in
     let t : table_in o bytes has.ids ≡ ids = ap (λ ps. table_in o bytes (drop 3 ps)) (sym has.parts_are) ∙ sym listed in
     let whole : opened bytes ≡ Ok f = table_left bytes h parts events has is fine ∙ ap (λ xs. checked_table xs >>= λ found. Ok f) t ∙ ap (λ r. r >>= λ found. Ok f) one in
-    let table : ids ≡ table_of f.events = sym t ∙ ap (λ xs. id_table 0 xs) (sym (ids_zip o bytes has.attributes has.ids has.many)) in
-    (f, whole, record {
-      all = ap (map (stated o bytes)) (event_list events has is) ∙ numbers_are h.order bytes (zip has.attributes has.ids);
-      same = subst (λ xs. IsPermutation xs sorted) table moved;
-      table = record { sorted = rises; found = λ id. found id ∙ ap (λ xs. event_of xs id) table };
-    })
+    let table : ids ≡ table_of f.events = sym t ∙ ap (λ xs. id_table 0 xs) (sym (ids_zip o bytes has.attributes has.ids has.many)) in (
+      f,
+      whole,
+      record {
+        all = ap (map (stated o bytes)) (event_list events has is) ∙ numbers_are h.order bytes (zip has.attributes has.ids);
+        same = subst (λ xs. IsPermutation xs sorted) table moved;
+        table = record { sorted = rises; found = λ id. found id ∙ ap (λ xs. event_of xs id) table };
+      },
+    )
 
 -- ---- room for the ids
 
