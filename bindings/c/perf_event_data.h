@@ -16,6 +16,12 @@
 #include <stdint.h>
 #include <string.h>
 
+#if defined(__linux__) && defined(__has_include)
+#if __has_include(<linux/perf_event.h>)
+#include <linux/perf_event.h>
+#endif
+#endif
+
 #ifdef __cplusplus
 extern "C" {
 #endif
@@ -270,8 +276,8 @@ uint32_t ped_identifier(const uint8_t *bytes, size_t len, uint32_t order, uint32
 /* ---- files that `perf record` wrote
  *
  * A file is in memory as a whole, mapped or read. ped_file_open states how much memory its events
- * need, ped_file_events reads them, ped_file_next goes over its frames in the order of the file,
- * ped_file_sort puts them in order of time, and ped_file_read reads each under its own event. */
+ * need, ped_file_events reads them, ped_file_next goes over its frames in the order of the file, and
+ * ped_file_sort puts their entries in order of time. ped_file_read reads a frame under its event. */
 
 /* Why a file is refused: the first check that fails, in the order of the numbers. Events are numbered
  * from 0, in the order of the file. */
@@ -344,6 +350,34 @@ uint32_t ped_file_events(const uint8_t *bytes, size_t len, struct ped_event *eve
                          size_t event_count, struct ped_part *parts, size_t part_count,
                          struct ped_id *ids, size_t id_count);
 
+/* What the number of an entry is. */
+enum ped_owner {
+    PED_OWNER_EVENT = 0,   /* that of its event */
+    PED_OWNER_PERF = 1,    /* 0: perf wrote the frame for itself */
+    PED_OWNER_UNKNOWN = 2, /* the id of an event that the file does not have */
+    PED_OWNER_SHORT = 3    /* 0: the frame is too short for an id */
+};
+
+/* When a frame happened, where it is, and which event it belongs to. */
+struct ped_entry {
+    uint64_t time;   /* in nanoseconds of the clock of the recording, 0 for a frame without a time */
+    uint64_t at;     /* the offset in the file at which its header begins */
+    uint64_t number;
+    uint32_t owner;  /* enum ped_owner: what `number` is */
+};
+
+/* Writes the entry of the frame at the offset `*at` of a file to `entry`, moves `*at` beyond the frame
+ * and its payload, and returns PED_LIMIT. With `*at` 0 it begins at the first frame. At the end of the
+ * frames it returns PED_DONE, or PED_CUT_HEADER if fewer bytes are left there than a header has, and
+ * PED_NOT_READ if `file` is not of these bytes; nothing is written then. `file`, `events` and `ids` are
+ * what ped_file_open and ped_file_events wrote for these bytes. */
+uint32_t ped_file_next(const struct ped_file *file, const uint8_t *bytes, size_t len,
+                       const struct ped_event *events, size_t event_count, const struct ped_id *ids,
+                       size_t id_count, uint64_t *at, struct ped_entry *entry);
+
+/* Sorts entries by time, and at equal times by their offsets: in place. */
+void ped_file_sort(struct ped_entry *entries, size_t count);
+
 /* ---- helpers, written by hand: tested, not proved */
 
 /* How many of the `len` bytes at its front the frame takes: its size, at least a header, and all that
@@ -386,6 +420,72 @@ static inline uint64_t ped_number(uint32_t order, const uint8_t *bytes, struct p
     return ped_eight(order, bytes + span.at + 8 * i);
 }
 
+/* Reads the frame of an entry under its own event and writes it to `frame`: as ped_read. Its spans count
+ * from `bytes + entry->at`. If it has no event, or is not in these bytes, it returns PED_NOT_READ, and
+ * nothing is written. */
+static inline uint32_t ped_file_read(const uint8_t *bytes, size_t len, const struct ped_event *events,
+                                     size_t event_count, const struct ped_entry *entry,
+                                     struct ped_frame *frame)
+{
+    if (entry->owner != PED_OWNER_EVENT || entry->number >= event_count || entry->at > len) {
+        return PED_NOT_READ;
+    }
+    return ped_read(&events[entry->number].config, bytes + entry->at, len - entry->at, frame);
+}
+
+/* Why a file is refused, and what to do. */
+static inline const char *ped_file_message(uint32_t refusal)
+{
+    switch (refusal) {
+    case PED_FILE_READ: return "";
+    case PED_FILE_NOT_PERF_DATA:
+        return "this is no perf.data file: pass a file that `perf record` has written";
+    case PED_FILE_OLD_FORMAT:
+        return "this file has the format that perf wrote before 2010: record again with a newer perf";
+    case PED_FILE_BAD_HEAD:
+        return "the head of the file is cut off, or has an unknown size: copy the file again, or "
+               "record again";
+    case PED_FILE_PIPE:
+        return "this is what `perf record -o -` writes: record into a file, with `perf record -o "
+               "perf.data`";
+    case PED_FILE_DIRECTORY:
+        return "this is one of several files of `perf record --threads`: record again without that "
+               "option";
+    case PED_FILE_COMPRESSED:
+        return "the frames are compressed: run `perf inject -i perf.data -o plain.data`, or record "
+               "without `-z`";
+    case PED_FILE_CUT_ATTRIBUTES:
+        return "the attributes end beyond the file, so it is cut off: copy it again, or record again";
+    case PED_FILE_CUT_FRAMES:
+        return "the frames end beyond the file, so it is cut off: copy it again, or record again";
+    case PED_FILE_CUT_IDS:
+        return "the ids of an event end beyond the file, so it is cut off: copy it again, or record "
+               "again";
+    case PED_FILE_BAD_ENTRY:
+        return "the attributes are not whole entries, so the file is damaged: copy it again, or record "
+               "again";
+    case PED_FILE_NO_EVENT:
+        return "the file has no event, so it is damaged: copy it again, or record again";
+    case PED_FILE_BAD_ATTRIBUTE:
+        return "the attribute of an event is damaged: copy the file again, or record again";
+    case PED_FILE_NEW_ATTRIBUTE:
+        return "an event has fields of a newer kernel than this library knows: use a newer version of "
+               "it";
+    case PED_FILE_BAD_IDS:
+        return "the ids of an event are not whole numbers, so the file is damaged: copy it again, or "
+               "record again";
+    case PED_FILE_OVERLAP:
+        return "two parts of the file share bytes, so it is damaged: copy it again, or record again";
+    case PED_FILE_NO_ID_PLACE:
+        return "the events have their ids at different places: record all of them with one `perf "
+               "record`";
+    case PED_FILE_SHARED_ID:
+        return "two events have one id, so the file is damaged: copy it again, or record again";
+    case PED_FILE_OTHER_COUNT: return "an array does not have as many elements as it needs";
+    default: return "not a refusal";
+    }
+}
+
 /* The text of a refusal's kind. */
 static inline const char *ped_kind_text(const struct ped_frame *frame)
 {
@@ -424,8 +524,7 @@ static inline const char *ped_message(const struct ped_frame *frame)
     }
 }
 
-/* With <linux/perf_event.h> included before this header: the configuration of an event of this
- * machine. */
+/* The configuration of an event of this machine, if it has <linux/perf_event.h>. */
 #ifdef PERF_ATTR_SIZE_VER0
 static inline struct ped_config ped_config_of(const struct perf_event_attr *attr)
 {
