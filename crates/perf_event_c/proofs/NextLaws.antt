@@ -90,16 +90,16 @@ is_placed bytes o f sketched whole =
 abbrev pub States : Dynamic → List ℕ → List FlatEvent → List FileEvent → Type 0
 States o bytes all es = map (stated (order_of o) bytes) all ≡ map (numbers_of o) es
 
-config_is : (o : Dynamic) (bytes : List ℕ) (e : FlatEvent) (x : FileEvent) (all : List FlatEvent) (es : List FileEvent) → States o bytes (e ∷ all) (x ∷ es) → (e.config ≡ flat_config_of x.attribute o) × States o bytes all es
+pub config_is : (o : Dynamic) (bytes : List ℕ) (e : FlatEvent) (x : FileEvent) (all : List FlatEvent) (es : List FileEvent) → States o bytes (e ∷ all) (x ∷ es) → (e.config ≡ flat_config_of x.attribute o) × States o bytes all es
 config_is o bytes e x all es is =
     let a : stated (order_of o) bytes e ≡ numbers_of o x = cc in
     let b : States o bytes all es = cc in
     (ap (λ (n : EventNumbers). n.config) a, b)
 
-no_event : (o : Dynamic) (bytes : List ℕ) (x : FileEvent) (es : List FileEvent) → States o bytes [] (x ∷ es) → ⊥
+pub no_event : (o : Dynamic) (bytes : List ℕ) (x : FileEvent) (es : List FileEvent) → States o bytes [] (x ∷ es) → ⊥
 no_event o bytes x es is = absurd (cc)
 
-no_flat : (o : Dynamic) (bytes : List ℕ) (e : FlatEvent) (all : List FlatEvent) → States o bytes (e ∷ all) [] → ⊥
+pub no_flat : (o : Dynamic) (bytes : List ℕ) (e : FlatEvent) (all : List FlatEvent) → States o bytes (e ∷ all) [] → ⊥
 no_flat o bytes e all is = absurd (cc)
 
 pub same_count : (o : Dynamic) (bytes : List ℕ) (all : List FlatEvent) (es : List FileEvent) → States o bytes all es → length all ≡ length es
@@ -164,7 +164,7 @@ code_is_order : (d : Dynamic) → is_order (order_code d) ≡ true
 code_is_order Little = refl
 code_is_order Big = refl
 
-order_back : (d : Dynamic) → order_by (order_code d) ≡ d
+pub order_back : (d : Dynamic) → order_by (order_code d) ≡ d
 order_back Little = refl
 order_back Big = refl
 

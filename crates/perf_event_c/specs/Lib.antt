@@ -3,3 +3,4 @@ pub mod Ends
 pub mod Files
 pub mod Entries
 pub mod FileEvents
+pub mod EntryReads

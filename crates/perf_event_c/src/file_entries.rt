@@ -87,7 +87,7 @@ fn time_by(event: &FlatEvent, frame: &Result<Frame<'_, '_>, BadFrame>) -> u64
 }
 
 // The event with a number, if there is one.
-fn event_at(all: &[FlatEvent], number: usize) -> Option<&FlatEvent>
+pub(crate) fn event_at(all: &[FlatEvent], number: usize) -> Option<&FlatEvent>
     ensures { MatchOption result (length all.now ≤ number) (λ e. (number < length all.now)
         × (e.now ≡ slice_index_or all.now number e.now)) }
 {
@@ -115,7 +115,7 @@ fn time_of(all: &[FlatEvent], owner: Owner, frame: &Result<Frame<'_, '_>, BadFra
 }
 
 // The frames of a file, if they are in it.
-fn frames_of<'p>(file: &FlatFile, bytes: &'p [u8]) -> Option<&'p [u8]>
+pub(crate) fn frames_of<'p>(file: &FlatFile, bytes: &'p [u8]) -> Option<&'p [u8]>
     ensures { option_map (λ b. b.now) result ≡ entries.frames_of file.now bytes.now }
 {
     let left = (bytes.len() as u64).checked_sub(file.frames.start)?;
@@ -127,7 +127,7 @@ fn frames_of<'p>(file: &FlatFile, bytes: &'p [u8]) -> Option<&'p [u8]>
 }
 
 // What is left of frames from an offset of the file on, where they begin at `start`.
-fn left_from(frames: &[u8], start: u64, at: u64) -> &[u8]
+pub(crate) fn left_from(frames: &[u8], start: u64, at: u64) -> &[u8]
     ensures { result.now ≡ drop (at - start) frames.now }
 {
     let offset = at.saturating_sub(start);

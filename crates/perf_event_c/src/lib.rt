@@ -10,6 +10,7 @@ pub mod ends;
 pub mod file;
 pub mod file_entries;
 pub mod file_events;
+pub mod file_read;
 pub mod identifier;
 pub mod many;
 mod order;
