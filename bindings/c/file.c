@@ -7,7 +7,7 @@
 #include <string.h>
 #include "perf_event_data.h"
 
-enum { CHANGED = 2048, ALL_CUTS = 4096, STEP = 997, TYPES = 128 };
+enum { CHANGED = 2048, ALL_CUTS = 4096, STEP = 997, TYPES = 128, BATCH = 5 };
 
 /* A file that was read, or why not. */
 struct recording {
@@ -102,31 +102,63 @@ static void print_types(const char *name, const size_t *types)
     printf("\n");
 }
 
+/* Checks an entry against the one before it, and against its frame. */
+static void check_entry(const struct ped_entry *entry, int is_first, uint32_t type,
+                        const struct ped_frame *frame)
+{
+    if (!is_first && (entry->time < entry[-1].time
+                      || (entry->time == entry[-1].time && entry->at <= entry[-1].at))) {
+        fail("entries out of order");
+    }
+    if (entry->owner == PED_OWNER_EVENT) {
+        if (frame->type != type) {
+            fail("a frame of an event is not read");
+        }
+        if (frame->refusal == PED_ACCEPTED && frame->read == 9 && frame->time != entry->time) {
+            fail("a sample has another time than its entry");
+        }
+    } else if (frame->refusal != PED_UNSUPPORTED_CONFIG || frame->read != 0) {
+        fail("a frame without an event is read");
+    }
+}
+
+/* The type in the header of an entry's frame. */
+static uint32_t type_of(const uint8_t *bytes, const struct ped_file *file, uint64_t at)
+{
+    uint32_t type;
+    memcpy(&type, bytes + at, sizeof type);
+    return file->order == PED_BIG ? __builtin_bswap32(type) : type;
+}
+
+/* Counts the frames of each event by their types, some at a time. */
+static void count_types(const uint8_t *bytes, size_t len, const struct recording *recording,
+                        size_t (*types)[TYPES])
+{
+    struct ped_frame frames[BATCH];
+    size_t i = 0, k;
+    while (i < recording->count) {
+        size_t read = ped_file_read(&recording->file, bytes, len, recording->events,
+                                    recording->file.events, recording->entries + i,
+                                    recording->count - i, frames, BATCH);
+        if (read != (recording->count - i < BATCH ? recording->count - i : BATCH)) {
+            fail("another number of frames is read");
+        }
+        for (k = 0; k < read; k++, i++) {
+            const struct ped_entry *entry = &recording->entries[i];
+            uint32_t type = type_of(bytes, &recording->file, entry->at);
+            size_t owner = entry->owner == PED_OWNER_EVENT ? entry->number : recording->file.events;
+            check_entry(entry, i == 0, type, &frames[k]);
+            types[owner][type < TYPES ? type : 0]++;
+        }
+    }
+}
+
 static void print_recording(const uint8_t *bytes, size_t len, const struct recording *recording)
 {
     size_t owners = recording->file.events + 1, i;
     size_t(*types)[TYPES] = room(owners, sizeof *types);
     char name[64];
-    for (i = 0; i < recording->count; i++) {
-        const struct ped_entry *entry = &recording->entries[i];
-        struct ped_frame frame;
-        uint32_t how = ped_file_read(bytes, len, recording->events, recording->file.events, entry, &frame);
-        uint32_t type;
-        memcpy(&type, bytes + entry->at, sizeof type); /* the first number of a header */
-        type = recording->file.order == PED_BIG ? __builtin_bswap32(type) : type;
-        if (i > 0 && (entry->time < entry[-1].time
-                      || (entry->time == entry[-1].time && entry->at <= entry[-1].at))) {
-            fail("entries out of order");
-        }
-        if (entry->owner == PED_OWNER_EVENT && (how != PED_LIMIT || frame.type != type)) {
-            fail("a frame of an event is not read");
-        }
-        if (how == PED_LIMIT && frame.refusal == PED_ACCEPTED && frame.read == 9
-            && frame.time != entry->time) {
-            fail("a sample has another time than its entry");
-        }
-        types[entry->owner == PED_OWNER_EVENT ? entry->number : owners - 1][type < TYPES ? type : 0]++;
-    }
+    count_types(bytes, len, recording, types);
     for (i = 0; i < recording->file.events; i++) {
         snprintf(name, sizeof name, "event %zu (type %u, config %llu, %llu ids)", i,
                  recording->events[i].type, (unsigned long long)recording->events[i].event,
@@ -148,7 +180,10 @@ static void read_changed(const uint8_t *bytes, size_t len, size_t changed, uint8
     }
     recording = read_file(copy, len);
     if (recording.entries != NULL) {
+        struct ped_frame frames[BATCH];
         ped_file_sort(recording.entries, recording.count);
+        ped_file_read(&recording.file, copy, len, recording.events, recording.file.events,
+                      recording.entries, recording.count, frames, BATCH);
     }
     drop_recording(&recording);
     free(copy);

@@ -276,8 +276,9 @@ uint32_t ped_identifier(const uint8_t *bytes, size_t len, uint32_t order, uint32
 /* ---- files that `perf record` wrote
  *
  * A file is in memory as a whole, mapped or read. ped_file_open states how much memory its events
- * need, ped_file_events reads them, ped_file_next goes over its frames in the order of the file, and
- * ped_file_sort puts their entries in order of time. ped_file_read reads a frame under its event. */
+ * need, ped_file_events reads them, ped_file_next goes over its frames in the order of the file,
+ * ped_file_sort puts their entries in order of time, and ped_file_read reads frames, each under its own
+ * event. */
 
 /* Why a file is refused: the first check that fails, in the order of the numbers. Events are numbered
  * from 0, in the order of the file. */
@@ -378,6 +379,15 @@ uint32_t ped_file_next(const struct ped_file *file, const uint8_t *bytes, size_t
 /* Sorts entries by time, and at equal times by their offsets: in place. */
 void ped_file_sort(struct ped_entry *entries, size_t count);
 
+/* Reads the frames of entries, each under its own event, as ped_read does, and writes them to `frames`, in
+ * the order of the entries: as many as there is room for, which it returns. The spans of a frame count
+ * from `bytes + at` of its entry. An entry that has no event, or is not in the file, is not read: the
+ * `refusal` of its frame is PED_UNSUPPORTED_CONFIG, its `read` is 0, and the rest of it is unchanged. */
+size_t ped_file_read(const struct ped_file *file, const uint8_t *bytes, size_t len,
+                     const struct ped_event *events, size_t event_count,
+                     const struct ped_entry *entries, size_t count, struct ped_frame *frames,
+                     size_t room);
+
 /* ---- helpers, written by hand: tested, not proved */
 
 /* How many of the `len` bytes at its front the frame takes: its size, at least a header, and all that
@@ -418,19 +428,6 @@ static inline size_t ped_count(struct ped_span span)
 static inline uint64_t ped_number(uint32_t order, const uint8_t *bytes, struct ped_span span, size_t i)
 {
     return ped_eight(order, bytes + span.at + 8 * i);
-}
-
-/* Reads the frame of an entry under its own event and writes it to `frame`: as ped_read. Its spans count
- * from `bytes + entry->at`. If it has no event, or is not in these bytes, it returns PED_NOT_READ, and
- * nothing is written. */
-static inline uint32_t ped_file_read(const uint8_t *bytes, size_t len, const struct ped_event *events,
-                                     size_t event_count, const struct ped_entry *entry,
-                                     struct ped_frame *frame)
-{
-    if (entry->owner != PED_OWNER_EVENT || entry->number >= event_count || entry->at > len) {
-        return PED_NOT_READ;
-    }
-    return ped_read(&events[entry->number].config, bytes + entry->at, len - entry->at, frame);
 }
 
 /* Why a file is refused, and what to do. */
