@@ -1,5 +1,5 @@
 -- The events of a file as plain numbers.
-use Rattle.std.proofs.Common.{◌≡◌, ℕ, zero, suc, ◌+◌, ◌-◌, ◌<◌, ◌≤◌, ◌/◌, List, [], ◌∷◌, map, length, take, drop, get_or, min, zip, Option, Some, None, Bool, true, false, Result, Ok, Err, OnOk, refl, sym, ap, subst, ◌∙◌, ◌&&◌, All, arith}
+use Rattle.std.proofs.Common.{◌≡◌, ℕ, zero, suc, ◌+◌, ◌-◌, ◌<◌, ◌/◌, List, [], ◌∷◌, map, length, take, drop, get_or, min, zip, Option, Bool, Result, Ok, Err, OnOk, refl, sym, ap, subst, ◌∙◌, ◌&&◌, All, arith}
 use Rattle.std.proofs.lemmas.List.{take_all, length-drop}
 use Rattle.std.specs.List.Sorted.{IsPermutation, IsNonDecreasingBy}
 use Rattle.perf_base.specs.Configuration.{configured_by}
@@ -8,8 +8,6 @@ use Rattle.perf_base.specs.Order.{Order}
 use Rattle.perf_base.specs.declared.endian.Dynamic.{Dynamic}
 use Rattle.perf_base.specs.declared.endian.Dynamic.TheVariants.{Big, Little}
 use Rattle.perf_base.specs.declared.sys.perf_event_attr.{perf_event_attr}
-use Rattle.perf_file.specs.Attributes.{attributes_in}
-use Rattle.perf_file.specs.Finders.{IsTableOf}
 use Rattle.perf_file.specs.IdPlaces as places
 use Rattle.perf_file.specs.IdSections.{id_sections_in, sections_of, checked_apart}
 use Rattle.perf_file.specs.IdTables.{id_table, event_of, checked_table}

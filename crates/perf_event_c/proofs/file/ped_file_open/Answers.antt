@@ -1,4 +1,4 @@
-use Rattle.std.proofs.Common.{◌≡◌, ◌≢◌, Err, sym, refl}
+use Rattle.std.proofs.Common.{sym}
 use Rattle.perf_file.proofs.InMemory.{outline_refused}
 use Rattle.perf_event_c.proofs.file.ped_file_open.Goals as goal
 

@@ -1,11 +1,11 @@
-use Rattle.std.proofs.Common.{◌≡◌, ◌-◌, ℕ, List, drop, nat_lt, true, ap, sym, ◌∙◌}
+use Rattle.std.proofs.Common.{◌≡◌, ◌-◌, ℕ, List, drop, nat_lt, true, ap, ◌∙◌}
 use Rattle.perf_base.specs.Dynamic.{order_of}
 use Rattle.perf_base.specs.declared.endian.Dynamic.{Dynamic}
 use Rattle.perf_file.specs.Finders.{Finds}
 use Rattle.perf_file.specs.Pieces.{after_piece}
 use Rattle.perf_records.specs.Sights.{sight_of, sight_in}
 use Rattle.perf_event_c.specs.Entries.{left_from}
-use Rattle.perf_event_c.proofs.NextLaws.{is_placed, same_count, same_ids, same_place, same_time, bad_order, order_is, no_frames, same_frames, start_is, next_is, next_none}
+use Rattle.perf_event_c.proofs.NextLaws.{is_placed, same_count, same_ids, same_place, same_time, order_is, no_frames, same_frames, start_is, next_is, next_none}
 use Rattle.perf_event_c.proofs.file_entries.ped_file_next.Goals as goal
 
 pub returns-in_default-frames_of : goal.returns-in_default-frames_of

@@ -1,4 +1,4 @@
-use Rattle.std.proofs.Common.{◌≡◌, Some, ap, sym, ◌∙◌}
+use Rattle.std.proofs.Common.{Some, ap, sym, ◌∙◌}
 use Rattle.perf_records.specs.Sights.{sight_of}
 use Rattle.perf_event_c.specs.Entries.{time_by}
 use Rattle.perf_event_c.specs.declared.file_events.FlatEvent.{FlatEvent}

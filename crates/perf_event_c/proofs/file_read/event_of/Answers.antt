@@ -1,4 +1,4 @@
-use Rattle.std.proofs.Common.{◌≡◌, Some, None, ap, sym, ◌∙◌, arith}
+use Rattle.std.proofs.Common.{Some, None, ap, sym, ◌∙◌, arith}
 use Rattle.perf_event_c.specs.declared.file_events.FlatEvent.{FlatEvent}
 use Rattle.perf_event_c.proofs.NextLaws.{event_there, event_absent}
 use Rattle.perf_event_c.proofs.ReadLaws.{owned}

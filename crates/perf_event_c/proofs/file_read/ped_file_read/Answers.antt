@@ -1,4 +1,4 @@
-use Rattle.std.proofs.Common.{◌≡◌, ◌<◌, length, min, arith}
+use Rattle.std.proofs.Common.{◌<◌, length, arith}
 use Rattle.perf_event_c.proofs.ReadLaws.{entries_more, rest_more}
 use Rattle.perf_event_c.proofs.file_read.ped_file_read.Goals as goal
 

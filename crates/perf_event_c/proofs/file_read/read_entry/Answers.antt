@@ -1,4 +1,4 @@
-use Rattle.std.proofs.Common.{◌≡◌, ◌-◌, ℕ, List, drop, ap, sym, ◌∙◌}
+use Rattle.std.proofs.Common.{◌≡◌, ◌-◌, ℕ, List, drop, ap, ◌∙◌}
 use Rattle.perf_event_c.specs.Entries.{left_from}
 use Rattle.perf_event_c.proofs.NextLaws.{is_placed, no_frames, same_frames, start_is}
 use Rattle.perf_event_c.proofs.ReadLaws.{has_event, no_event_of, foreign_entry, not_other, entry_read}
