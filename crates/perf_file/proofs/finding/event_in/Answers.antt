@@ -1,4 +1,4 @@
-use Rattle.std.proofs.Common.{◌≡◌, ◌<◌, ◌∙◌, ap, sym, get_or, nat_lt, arith, rules, tests}
+use Rattle.std.proofs.Common.{◌∙◌, ap, sym, nat_lt, arith, rules, tests}
 use Rattle.std.proofs.lemmas.List.Sorted.{IsPartitionPoint-from_clause, IsPartitionedBy-ltb}
 use Rattle.std.proofs.lemmas.List.{get_or_default}
 use Rattle.perf_file.specs.declared.ids.IdOfEvent.{IdOfEvent}

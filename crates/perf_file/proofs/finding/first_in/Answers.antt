@@ -1,9 +1,9 @@
-use Rattle.std.proofs.Common.{◌≡◌, ◌≤◌, ℕ, List, ◌∷◌, length, true, refl, sym, ◌∙◌, ap}
+use Rattle.std.proofs.Common.{◌≡◌, ℕ, List, ◌∷◌, true, sym, ◌∙◌, ap}
 use Rattle.perf_base.specs.Dynamic.{order_of}
 use Rattle.perf_base.specs.Order.{Order}
 use Rattle.perf_records.specs.FrameList.{sights}
 use Rattle.perf_records.specs.Sights.{sight_of, sight_in}
-use Rattle.perf_file.specs.Pieces.{drop_most, payload_length, size_of, header_seen, after_frame}
+use Rattle.perf_file.specs.Pieces.{drop_most, payload_length, size_of, after_frame}
 use Rattle.perf_file.proofs.Laws.{first_sight, size_seen}
 use Rattle.perf_file.proofs.finding.first_in.Goals as goal
 

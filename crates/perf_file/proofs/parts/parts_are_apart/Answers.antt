@@ -1,7 +1,6 @@
-use Rattle.std.proofs.Common.{◌≡◌, ◌∙◌, ap, subst, rules}
-use Rattle.std.specs.Bool.{OnTrue}
+use Rattle.std.proofs.Common.{◌∙◌, rules}
 use Rattle.std.proofs.lemmas.List.Sorted.{IsNonDecreasingBy-from_sort_by_key, All-permutation}
-use Rattle.perf_file.specs.Sections.{IsSmall, are_apart, ShareNothing}
+use Rattle.perf_file.specs.Sections.{IsSmall}
 use Rattle.perf_file.specs.declared.section.Section.{Section}
 use Rattle.perf_file.proofs.Sweeping.{nothing_moved_on, apart_moved}
 use Rattle.perf_file.proofs.parts.parts_are_apart.Goals as goal

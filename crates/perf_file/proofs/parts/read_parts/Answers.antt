@@ -1,4 +1,3 @@
-use Rattle.std.proofs.Common.{◌≡◌}
 use Rattle.perf_file.specs.Outlines.{parts_in}
 use Rattle.perf_file.proofs.Stepping.{filled_again}
 use Rattle.perf_file.proofs.parts.read_parts.Goals as goal
