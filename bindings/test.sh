@@ -188,6 +188,23 @@ check_more() {
     done
 }
 
+# Files that perf writes on this machine, where it may: the samples of each event, counted as `perf script` does.
+check_files() {
+    if ! command -v perf >/dev/null || ! perf record -q -e task-clock,page-faults -F 4000 -o "$work/perf.data" \
+        ls -R "$top/bindings" >/dev/null 2>&1; then
+        skip "files of perf record: perf may not record here"
+        return
+    fi
+    perf script -i "$work/perf.data" -F event 2>/dev/null >"$work/samples"
+    for event in $(perf evlist -i "$work/perf.data" 2>/dev/null); do
+        grep -c "$event" "$work/samples"
+    done >"$work/theirs"
+    "$1/file" "$work/perf.data" | sed -n '/^event/{s/.* 9:\([0-9]*\).*/\1/;t end;s/.*/0/;:end
+        p;}' >"$work/text"
+    compare "samples of each event of a file of perf record" "$work/theirs" "$work/text"
+    [ -z "$sanitize" ] || try "the same file cut and changed, sanitized" "$2/file" --cuts "$work/perf.data"
+}
+
 # The programs in FOLDER, each after the words that follow.
 run_programs() {
     folder=$work/$1
@@ -215,6 +232,7 @@ check_recordings "$work/plain"
 check_words "$work/plain" "$work/sanitized"
 check_counts "$work/plain"
 check_streams "$work/plain" "$work/sanitized"
+check_files "$work/plain" "$work/sanitized"
 run_programs plain "plain"
 try "a live ring" "$work/plain/live"
 if [ -n "$sanitize" ]; then

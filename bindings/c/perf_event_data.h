@@ -16,6 +16,12 @@
 #include <stdint.h>
 #include <string.h>
 
+#if defined(__linux__) && defined(__has_include)
+#if __has_include(<linux/perf_event.h>)
+#include <linux/perf_event.h>
+#endif
+#endif
+
 #ifdef __cplusplus
 extern "C" {
 #endif
@@ -219,6 +225,121 @@ uint32_t ped_read_body(const struct ped_config *config, uint32_t type, uint16_t 
 uint32_t ped_identifier(const uint8_t *bytes, size_t len, uint32_t order, uint32_t sample_id_all,
                         uint64_t *id);
 
+/* ---- files that `perf record` wrote
+ *
+ * A file is in memory as a whole, mapped or read. ped_file_open states how much memory its events
+ * need, ped_file_events reads them, ped_file_next goes over its frames in the order of the file,
+ * ped_file_sort puts their entries in order of time, and ped_file_read reads frames, each under its own
+ * event. */
+
+/* Why a file is refused: the first check that fails, in the order of the numbers. Events are numbered
+ * from 0, in the order of the file. */
+enum ped_file_refusal {
+    PED_FILE_READ = 0,           /* it is not refused */
+    PED_FILE_NOT_PERF_DATA = 1,  /* fewer than 16 bytes, or it does not begin as perf writes it */
+    PED_FILE_OLD_FORMAT = 2,     /* the format before PERFILE2, which perf wrote until 2009 */
+    PED_FILE_BAD_HEAD = 3,       /* its head has an unknown size, or is cut off */
+    PED_FILE_PIPE = 4,           /* what `perf record -o -` writes */
+    PED_FILE_DIRECTORY = 5,      /* one of several files of `perf record --threads` */
+    PED_FILE_COMPRESSED = 6,     /* its frames are compressed, by `perf record -z` */
+    PED_FILE_CUT_ATTRIBUTES = 7, /* the attributes end beyond the file */
+    PED_FILE_CUT_FRAMES = 8,     /* the frames do */
+    PED_FILE_CUT_IDS = 9,        /* the ids of an event do */
+    PED_FILE_BAD_ENTRY = 10,     /* the attributes are not whole entries of at least 80 bytes */
+    PED_FILE_NO_EVENT = 11,
+    PED_FILE_BAD_ATTRIBUTE = 12, /* an attribute is damaged */
+    PED_FILE_NEW_ATTRIBUTE = 13, /* an attribute has fields that this library does not know */
+    PED_FILE_BAD_IDS = 14,       /* ids are not whole numbers of eight bytes */
+    PED_FILE_OVERLAP = 15,       /* two parts of the file share a byte */
+    PED_FILE_NO_ID_PLACE = 16,   /* several events without a common place of their ids */
+    PED_FILE_SHARED_ID = 17,     /* two events have one id */
+    PED_FILE_NO_MEMORY = 18,     /* not returned: no memory is asked for */
+    PED_FILE_OTHER_COUNT = 19    /* no refusal: an array does not have as many elements as it needs */
+};
+
+/* A part of a file. */
+struct ped_part {
+    uint64_t at;   /* its offset in the file */
+    uint64_t size; /* in bytes */
+};
+
+/* What is known of a file before its events are read. */
+struct ped_file {
+    uint32_t order;         /* PED_LITTLE or PED_BIG: that of its numbers */
+    uint32_t is_closed;     /* 1 if perf ended regularly; 0: the frames extend to the file's end */
+    struct ped_part frames;
+    uint64_t events;        /* how many events it has */
+    uint64_t ids;           /* how many ids they have together: at most one for eight bytes */
+};
+
+/* Writes to `file` what is known before events are read, and returns PED_FILE_READ. If the file is
+ * refused before that it returns why, and nothing is written. */
+uint32_t ped_file_open(const uint8_t *bytes, size_t len, struct ped_file *file);
+
+/* An event of a file. Its ids are at `bytes + ids_at`; ped_eight reads one. */
+struct ped_event {
+    struct ped_config config; /* how its frames are read */
+    uint32_t type;            /* PERF_TYPE_* */
+    uint64_t event;           /* what of that type it counts: `config` of its attribute */
+    uint64_t ids_at;          /* the offset in the file of its ids, numbers of eight bytes */
+    uint64_t ids;             /* how many ids it has */
+};
+
+/* An id, and the number of the event that has it. */
+struct ped_id {
+    uint64_t id;
+    uint64_t event;
+};
+
+/* How many parts a file has: its head, attributes and frames, and the ids of each event. */
+#define PED_FILE_PARTS(events) ((events) + 3)
+
+/* Reads the events of a file to `events`, in the order of the file, and their ids to `ids`, by rising
+ * numbers, and returns PED_FILE_READ. `parts` is room for comparing the parts of the file. Their counts
+ * are those of ped_file_open, and PED_FILE_PARTS(events) parts: with others nothing is written, and it
+ * returns PED_FILE_OTHER_COUNT. If the file is refused it returns why; the arrays may be written
+ * then. */
+uint32_t ped_file_events(const uint8_t *bytes, size_t len, struct ped_event *events,
+                         size_t event_count, struct ped_part *parts, size_t part_count,
+                         struct ped_id *ids, size_t id_count);
+
+/* What the number of an entry is. */
+enum ped_owner {
+    PED_OWNER_EVENT = 0,   /* that of its event */
+    PED_OWNER_PERF = 1,    /* 0: perf wrote the frame for itself */
+    PED_OWNER_UNKNOWN = 2, /* the id of an event that the file does not have */
+    PED_OWNER_SHORT = 3    /* 0: the frame is too short for an id */
+};
+
+/* When a frame happened, where it is, and which event it belongs to. */
+struct ped_entry {
+    uint64_t time;   /* in nanoseconds of the clock of the recording, 0 for a frame without a time */
+    uint64_t at;     /* the offset in the file at which its header begins */
+    uint64_t number;
+    uint32_t owner;  /* enum ped_owner: what `number` is */
+};
+
+/* Writes the entry of the frame at the offset `*at` of a file to `entry`, moves `*at` beyond the frame
+ * and its payload, and returns PED_LIMIT. With `*at` 0 it begins at the first frame. At the end of the
+ * frames it returns PED_DONE, or PED_CUT_HEADER if fewer bytes are left there than a header has, and
+ * PED_NOT_READ if `file` is not of these bytes; nothing is written then. `file`, `events` and `ids` are
+ * what ped_file_open and ped_file_events wrote for these bytes. */
+uint32_t ped_file_next(const struct ped_file *file, const uint8_t *bytes, size_t len,
+                       const struct ped_event *events, size_t event_count, const struct ped_id *ids,
+                       size_t id_count, uint64_t *at, struct ped_entry *entry);
+
+/* Sorts entries by time, and at equal times by their offsets: in place. */
+void ped_file_sort(struct ped_entry *entries, size_t count);
+
+/* Reads the frames of entries, each under its own event, as ped_read does, and writes them to `frames`, in
+ * the order of the entries: as many as there is room for, which it returns. The spans of a frame count
+ * from `bytes + at` of its entry. An entry that has no event, or is not in the file, is not read: the
+ * `refusal` of its frame is PED_UNSUPPORTED_CONFIG, its `read` is 0, and the rest of it is unchanged. */
+size_t ped_file_read(const struct ped_file *file, const uint8_t *bytes, size_t len,
+                     const struct ped_event *events, size_t event_count,
+                     const struct ped_entry *entries, size_t count, struct ped_frame *frames,
+                     size_t room);
+
 /* ---- helpers, written by hand: tested, not proved */
 
 /* How many of the `len` bytes at its front the frame takes: its size, at least a header, and all that
@@ -261,6 +382,59 @@ static inline uint64_t ped_number(uint32_t order, const uint8_t *bytes, struct p
     return ped_eight(order, bytes + span.at + 8 * i);
 }
 
+/* Why a file is refused, and what to do. */
+static inline const char *ped_file_message(uint32_t refusal)
+{
+    switch (refusal) {
+    case PED_FILE_READ: return "";
+    case PED_FILE_NOT_PERF_DATA:
+        return "this is no perf.data file: pass a file that `perf record` has written";
+    case PED_FILE_OLD_FORMAT:
+        return "this file has the format that perf wrote before 2010: record again with a newer perf";
+    case PED_FILE_BAD_HEAD:
+        return "the head of the file is cut off, or has an unknown size: copy the file again, or "
+               "record again";
+    case PED_FILE_PIPE:
+        return "this is what `perf record -o -` writes: record into a file, with `perf record -o "
+               "perf.data`";
+    case PED_FILE_DIRECTORY:
+        return "this is one of several files of `perf record --threads`: record again without that "
+               "option";
+    case PED_FILE_COMPRESSED:
+        return "the frames are compressed: run `perf inject -i perf.data -o plain.data`, or record "
+               "without `-z`";
+    case PED_FILE_CUT_ATTRIBUTES:
+        return "the attributes end beyond the file, so it is cut off: copy it again, or record again";
+    case PED_FILE_CUT_FRAMES:
+        return "the frames end beyond the file, so it is cut off: copy it again, or record again";
+    case PED_FILE_CUT_IDS:
+        return "the ids of an event end beyond the file, so it is cut off: copy it again, or record "
+               "again";
+    case PED_FILE_BAD_ENTRY:
+        return "the attributes are not whole entries, so the file is damaged: copy it again, or record "
+               "again";
+    case PED_FILE_NO_EVENT:
+        return "the file has no event, so it is damaged: copy it again, or record again";
+    case PED_FILE_BAD_ATTRIBUTE:
+        return "the attribute of an event is damaged: copy the file again, or record again";
+    case PED_FILE_NEW_ATTRIBUTE:
+        return "an event has fields of a newer kernel than this library knows: use a newer version of "
+               "it";
+    case PED_FILE_BAD_IDS:
+        return "the ids of an event are not whole numbers, so the file is damaged: copy it again, or "
+               "record again";
+    case PED_FILE_OVERLAP:
+        return "two parts of the file share bytes, so it is damaged: copy it again, or record again";
+    case PED_FILE_NO_ID_PLACE:
+        return "the events have their ids at different places: record all of them with one `perf "
+               "record`";
+    case PED_FILE_SHARED_ID:
+        return "two events have one id, so the file is damaged: copy it again, or record again";
+    case PED_FILE_OTHER_COUNT: return "an array does not have as many elements as it needs";
+    default: return "not a refusal";
+    }
+}
+
 /* The text of a refusal's kind. */
 static inline const char *ped_kind_text(const struct ped_frame *frame)
 {
@@ -299,8 +473,7 @@ static inline const char *ped_message(const struct ped_frame *frame)
     }
 }
 
-/* With <linux/perf_event.h> included before this header: the configuration of an event of this
- * machine. */
+/* The configuration of an event of this machine, if it has <linux/perf_event.h>. */
 #ifdef PERF_ATTR_SIZE_VER0
 static inline struct ped_config ped_config_of(const struct perf_event_attr *attr)
 {

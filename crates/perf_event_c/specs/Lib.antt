@@ -1,2 +1,6 @@
 pub mod CallerConfigs
 pub mod Ends
+pub mod Files
+pub mod Entries
+pub mod FileEvents
+pub mod EntryReads

@@ -7,6 +7,10 @@
 pub mod attr;
 pub mod body;
 pub mod ends;
+pub mod file;
+pub mod file_entries;
+pub mod file_events;
+pub mod file_read;
 pub mod identifier;
 pub mod many;
 mod order;

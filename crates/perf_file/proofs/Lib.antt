@@ -11,3 +11,7 @@ pub mod EntryLaws
 pub mod Describing
 pub mod IdLaw
 pub mod Joined
+pub mod Stepping
+pub mod IdFilling
+pub mod InMemory
+pub mod Sizes

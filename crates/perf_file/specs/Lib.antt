@@ -18,3 +18,6 @@ pub mod Payloads
 pub mod Entries
 pub mod DecidingIds
 pub mod Messages
+pub mod Filled
+pub mod Outlines
+pub mod Finders

@@ -8,7 +8,7 @@ ghost use Rattle.perf_file.specs.Sections.{are_apart, ShareNothing, IsSmall};
 use crate::section::Section;
 
 // Whether none of these, which begin in rising order, shares a byte with another.
-fn sorted_are_apart(sections: &[Section]) -> bool
+pub fn sorted_are_apart(sections: &[Section]) -> bool
     requires small { All IsSmall sections.now }
     requires sorted { IsNonDecreasingBy (λ (s : Section). s.start) sections.now }
     ensures value { result ≡ are_apart sections.now }

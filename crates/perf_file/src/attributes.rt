@@ -61,7 +61,7 @@ fn attribute_in(alloc: Global, bytes: &[u8], order: Dynamic) -> Result<perf_even
 }
 
 // The attribute of the event with that number.
-fn attribute_at(
+pub fn attribute_at(
     alloc: Global,
     bytes: &[u8],
     head: Head,

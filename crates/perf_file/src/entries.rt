@@ -43,8 +43,8 @@ fn time_under<E: Endian>(frame: &Frame<'_, '_>, config: &ParseConfig<E>) -> u64
     }
 }
 
-// When what was found happened, under a configuration: 0 if no whole frame is there.
-fn time_in(config: &ParseConfig<Dynamic>, frame: &Result<Frame<'_, '_>, BadFrame>) -> u64
+/// When what was found happened, under a configuration: 0 if no whole frame is there.
+pub fn time_in(config: &ParseConfig<Dynamic>, frame: &Result<Frame<'_, '_>, BadFrame>) -> u64
     ensures { result ≡ entries.time_under (Some (configuration_of config.now))
         (order_of (endian_of config.now)) (sight_of frame.now) }
 {

@@ -13,7 +13,7 @@ use crate::section::{Section, is_inside, section_at};
 use std::alloc::{AllocError, Global};
 
 // Where the ids of an event are, by its number.
-fn id_section_at(bytes: &[u8], head: Head, index: u64) -> Result<Section, OpenError>
+pub fn id_section_at(bytes: &[u8], head: Head, index: u64) -> Result<Section, OpenError>
     requires good { IsGoodHead bytes.now head }
     requires inside { index < places.entry_count head }
     ensures value { result ≡ places.id_section_at bytes.now head index }

@@ -8,6 +8,7 @@ ghost use Rattle.perf_file.specs.declared.ids.IdOfEvent.{IdOfEvent};
 use std::alloc::AllocError;
 
 /// An id, and the number of an event that has it.
+#[repr(C)]
 #[derive(Copy, Clone, Debug)]
 pub struct IdOfEvent {
     /// The kernel's number.

@@ -3,27 +3,31 @@
 #![tactic(auto)]
 
 mod apart;
-mod attributes;
+pub mod attributes;
 pub mod deciding;
 mod descriptions;
-mod entries;
+pub mod entries;
 mod error;
 mod event_list;
 mod events;
 mod features;
-mod head;
-mod id_place;
+pub mod finding;
+pub mod head;
+pub mod id_list;
+pub mod id_place;
 mod id_sections;
-mod ids;
+pub mod ids;
 mod kernel_names;
 mod listing;
 mod naming;
 mod number;
 mod opening;
 mod owning;
+pub mod parts;
 mod payloads;
 mod reading;
-mod section;
+pub mod section;
+pub mod summary;
 
 pub use entries::Entry;
 pub use error::{OpenError, Part};

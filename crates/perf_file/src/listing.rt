@@ -60,7 +60,7 @@ fn first_u32(order: Dynamic, bytes: &[u8]) -> u32
 }
 
 // How many bytes after a frame are no frames.
-pub(crate) fn payload_length(order: Dynamic, frame: &Result<Frame<'_, '_>, BadFrame>) -> u64
+pub fn payload_length(order: Dynamic, frame: &Result<Frame<'_, '_>, BadFrame>) -> u64
     ensures { result ≡ pieces.payload_length (order_of order) (sight_of frame.now) }
 {
     match frame {
@@ -74,7 +74,7 @@ pub(crate) fn payload_length(order: Dynamic, frame: &Result<Frame<'_, '_>, BadFr
 }
 
 // The first bytes, at most so many, and those after them.
-fn split_most(bytes: &[u8], count: u64) -> (&[u8], &[u8])
+pub fn split_most(bytes: &[u8], count: u64) -> (&[u8], &[u8])
     ensures front { result.0.now ≡ pieces.take_most count bytes.now }
     ensures back { result.1.now ≡ pieces.drop_most count bytes.now }
 {
@@ -86,7 +86,7 @@ fn split_most(bytes: &[u8], count: u64) -> (&[u8], &[u8])
 }
 
 // How many bytes a frame with that header takes.
-fn size_of(header: perf_event_header) -> usize
+pub fn size_of(header: perf_event_header) -> usize
     ensures { result ≡ pieces.size_of header }
 {
     if header.size < 8 {
@@ -97,7 +97,7 @@ fn size_of(header: perf_event_header) -> usize
 }
 
 // The header of what was found.
-fn header_of(frame: &Result<Frame<'_, '_>, BadFrame>) -> perf_event_header
+pub fn header_of(frame: &Result<Frame<'_, '_>, BadFrame>) -> perf_event_header
     ensures { result ≡ pieces.header_seen (sight_of frame.now) }
 {
     match frame {

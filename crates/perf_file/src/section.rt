@@ -8,6 +8,7 @@ use crate::number::number_at;
 use perf_base::endian::Dynamic;
 
 /// Where a part of the file is.
+#[repr(C)]
 #[derive(Copy, Clone, Debug)]
 pub struct Section {
     /// Its offset in the file.

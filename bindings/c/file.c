@@ -1,0 +1,242 @@
+/* Reads files that `perf record` wrote: file [--cuts] FILE .. . Prints for each, in order of time, how
+ * many frames each event and perf itself have, by their types. With --cuts the bytes of each are changed
+ * besides: cut at many lengths, and each of the first 2,048 bytes set to 0 and to 255. Whatever is
+ * returned then, nothing outside the arguments may be touched (build it with sanitizers). */
+#include <stdio.h>
+#include <stdlib.h>
+#include <string.h>
+#include "perf_event_data.h"
+
+enum { CHANGED = 2048, ALL_CUTS = 4096, STEP = 997, TYPES = 128, BATCH = 5 };
+
+/* A file that was read, or why not. */
+struct recording {
+    uint32_t refusal;
+    struct ped_file file;
+    struct ped_event *events;
+    struct ped_part *parts;
+    struct ped_id *ids;
+    struct ped_entry *entries;
+    size_t count;
+    uint32_t end;
+};
+
+static void fail(const char *what)
+{
+    fprintf(stderr, "file: %s\n", what);
+    exit(1);
+}
+
+/* So many elements, each of `size` bytes: at least one, as a pointer may not be NULL. */
+static void *room(size_t count, size_t size)
+{
+    void *memory = calloc(count + (count == 0), size);
+    if (memory == NULL) {
+        fail("out of memory");
+    }
+    return memory;
+}
+
+static void drop_recording(struct recording *recording)
+{
+    free(recording->events);
+    free(recording->parts);
+    free(recording->ids);
+    free(recording->entries);
+}
+
+/* The entries of all frames. A frame has at least the eight bytes of its header. */
+static void read_entries(const uint8_t *bytes, size_t len, struct recording *recording)
+{
+    uint64_t at = 0;
+    recording->entries = room(len / 8, sizeof *recording->entries);
+    do {
+        recording->end = ped_file_next(&recording->file, bytes, len, recording->events,
+                                       recording->file.events, recording->ids, recording->file.ids, &at,
+                                       &recording->entries[recording->count]);
+        recording->count += recording->end == PED_LIMIT;
+    } while (recording->end == PED_LIMIT);
+}
+
+static struct recording read_file(const uint8_t *bytes, size_t len)
+{
+    struct recording recording;
+    size_t parts;
+    memset(&recording, 0, sizeof recording);
+    recording.refusal = ped_file_open(bytes, len, &recording.file);
+    if (recording.refusal != PED_FILE_READ) {
+        return recording;
+    }
+    if (recording.file.events > len / 80 || recording.file.ids > len / 8) {
+        fail("more events or ids than the file has room for");
+    }
+    parts = PED_FILE_PARTS(recording.file.events);
+    recording.events = room(recording.file.events, sizeof *recording.events);
+    recording.parts = room(parts, sizeof *recording.parts);
+    recording.ids = room(recording.file.ids, sizeof *recording.ids);
+    if (ped_file_events(bytes, len, recording.events, recording.file.events, recording.parts, parts - 1,
+                        recording.ids, recording.file.ids) != PED_FILE_OTHER_COUNT) {
+        fail("too few parts are accepted");
+    }
+    recording.refusal = ped_file_events(bytes, len, recording.events, recording.file.events,
+                                        recording.parts, parts, recording.ids, recording.file.ids);
+    if (recording.refusal == PED_FILE_READ) {
+        read_entries(bytes, len, &recording);
+    }
+    return recording;
+}
+
+/* How many frames an owner has, by their types. */
+static void print_types(const char *name, const size_t *types)
+{
+    size_t type, all = 0;
+    for (type = 0; type < TYPES; type++) {
+        all += types[type];
+    }
+    printf("%s: %zu frames", name, all);
+    for (type = 0; type < TYPES; type++) {
+        if (types[type] > 0) {
+            printf(" %zu:%zu", type, types[type]);
+        }
+    }
+    printf("\n");
+}
+
+/* Checks an entry against the one before it, and against its frame. */
+static void check_entry(const struct ped_entry *entry, int is_first, uint32_t type,
+                        const struct ped_frame *frame)
+{
+    if (!is_first && (entry->time < entry[-1].time
+                      || (entry->time == entry[-1].time && entry->at <= entry[-1].at))) {
+        fail("entries out of order");
+    }
+    if (entry->owner == PED_OWNER_EVENT) {
+        if (frame->type != type) {
+            fail("a frame of an event is not read");
+        }
+        if (frame->refusal == PED_ACCEPTED && frame->read == 9 && frame->time != entry->time) {
+            fail("a sample has another time than its entry");
+        }
+    } else if (frame->refusal != PED_UNSUPPORTED_CONFIG || frame->read != 0) {
+        fail("a frame without an event is read");
+    }
+}
+
+/* The type in the header of an entry's frame. */
+static uint32_t type_of(const uint8_t *bytes, const struct ped_file *file, uint64_t at)
+{
+    uint32_t type;
+    memcpy(&type, bytes + at, sizeof type);
+    return file->order == PED_BIG ? __builtin_bswap32(type) : type;
+}
+
+/* Counts the frames of each event by their types, some at a time. */
+static void count_types(const uint8_t *bytes, size_t len, const struct recording *recording,
+                        size_t (*types)[TYPES])
+{
+    struct ped_frame frames[BATCH];
+    size_t i = 0, k;
+    while (i < recording->count) {
+        size_t read = ped_file_read(&recording->file, bytes, len, recording->events,
+                                    recording->file.events, recording->entries + i,
+                                    recording->count - i, frames, BATCH);
+        if (read != (recording->count - i < BATCH ? recording->count - i : BATCH)) {
+            fail("another number of frames is read");
+        }
+        for (k = 0; k < read; k++, i++) {
+            const struct ped_entry *entry = &recording->entries[i];
+            uint32_t type = type_of(bytes, &recording->file, entry->at);
+            size_t owner = entry->owner == PED_OWNER_EVENT ? entry->number : recording->file.events;
+            check_entry(entry, i == 0, type, &frames[k]);
+            types[owner][type < TYPES ? type : 0]++;
+        }
+    }
+}
+
+static void print_recording(const uint8_t *bytes, size_t len, const struct recording *recording)
+{
+    size_t owners = recording->file.events + 1, i;
+    size_t(*types)[TYPES] = room(owners, sizeof *types);
+    char name[64];
+    count_types(bytes, len, recording, types);
+    for (i = 0; i < recording->file.events; i++) {
+        snprintf(name, sizeof name, "event %zu (type %u, config %llu, %llu ids)", i,
+                 recording->events[i].type, (unsigned long long)recording->events[i].event,
+                 (unsigned long long)recording->events[i].ids);
+        print_types(name, types[i]);
+    }
+    print_types("none", types[owners - 1]);
+    free(types);
+}
+
+/* Reads bytes that were changed, in memory that ends where they do. */
+static void read_changed(const uint8_t *bytes, size_t len, size_t changed, uint8_t value)
+{
+    uint8_t *copy = room(len, 1);
+    struct recording recording;
+    memcpy(copy, bytes, len);
+    if (changed < len) {
+        copy[changed] = value;
+    }
+    recording = read_file(copy, len);
+    if (recording.entries != NULL) {
+        struct ped_frame frames[BATCH];
+        ped_file_sort(recording.entries, recording.count);
+        ped_file_read(&recording.file, copy, len, recording.events, recording.file.events,
+                      recording.entries, recording.count, frames, BATCH);
+    }
+    drop_recording(&recording);
+    free(copy);
+}
+
+static void check_changes(const uint8_t *bytes, size_t len)
+{
+    size_t i;
+    for (i = 0; i < len; i += i < ALL_CUTS ? 1 : STEP) {
+        read_changed(bytes, i, i, 0);
+    }
+    for (i = 0; i < CHANGED && i < len; i++) {
+        read_changed(bytes, len, i, 0);
+        read_changed(bytes, len, i, 255);
+    }
+}
+
+static uint8_t *read_bytes(const char *name, size_t *len)
+{
+    FILE *input = fopen(name, "rb");
+    uint8_t *bytes;
+    long end;
+    if (input == NULL || fseek(input, 0, SEEK_END) != 0 || (end = ftell(input)) < 0) {
+        fail("no such file");
+    }
+    *len = (size_t)end;
+    bytes = room(*len, 1);
+    rewind(input);
+    if (fread(bytes, 1, *len, input) != *len) {
+        fail("the file is not read");
+    }
+    fclose(input);
+    return bytes;
+}
+
+int main(int count, char **words)
+{
+    int cuts = count > 1 && strcmp(words[1], "--cuts") == 0, i;
+    for (i = 1 + cuts; i < count; i++) {
+        size_t len;
+        uint8_t *bytes = read_bytes(words[i], &len);
+        struct recording recording = read_file(bytes, len);
+        if (recording.refusal != PED_FILE_READ) {
+            printf("refused: %s\n", ped_file_message(recording.refusal));
+        } else {
+            ped_file_sort(recording.entries, recording.count);
+            print_recording(bytes, len, &recording);
+        }
+        drop_recording(&recording);
+        if (cuts) {
+            check_changes(bytes, len);
+        }
+        free(bytes);
+    }
+    return 0;
+}

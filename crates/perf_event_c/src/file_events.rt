@@ -1,0 +1,194 @@
+//! The events of a `perf.data` file.
+
+ghost use Rattle.std.specs.Prelude.{◌≡◌, ◌+◌, ◌≤◌, Ok, Err, true, false, length};
+ghost use Rattle.perf_file.specs.Filled.{Fills};
+ghost use Rattle.perf_file.specs.Heads.{IsGoodHead};
+ghost use Rattle.perf_file.specs.IdSections.{entry_count};
+ghost use Rattle.perf_file.specs.Opened.{opened, checked_head};
+ghost use Rattle.perf_file.specs.Outlines as outlines;
+ghost use Rattle.perf_file.specs.declared.error.OpenError.{OpenError};
+ghost use Rattle.perf_file.specs.declared.summary.Outline.{Outline};
+ghost use Rattle.perf_event_c.specs.FileEvents as events;
+ghost use Rattle.perf_event_c.specs.Files.{open_code};
+
+use crate::file::open_code;
+use perf_base::endian::Dynamic;
+use perf_base::sys::perf_event_attr;
+use perf_file::OpenError;
+use perf_file::attributes::attribute_at;
+use perf_file::head::Head;
+use perf_file::id_list::{check_ids, fill_ids};
+use perf_file::id_place::{IdPlace, id_place, is_same_place};
+use perf_file::ids::IdOfEvent;
+use perf_file::parts::read_parts;
+use perf_file::section::Section;
+use perf_file::summary::{Outline, outline_of};
+use perf_flat::config::FlatConfig;
+use std::alloc::Global;
+
+/// In place of the number of a refusal: an array does not have as many elements as it needs.
+pub const OTHER_COUNT: u32 = 19;
+
+/// An event of a file.
+#[repr(C)]
+#[derive(Copy, Clone, Debug)]
+pub struct FlatEvent {
+    /// How its frames are read.
+    pub config: FlatConfig,
+    /// Its type, `PERF_TYPE_*`.
+    pub type_: u32,
+    /// What of that type it counts: `config` of its attribute.
+    pub event: u64,
+    /// The offset in the file at which its ids begin, numbers of eight bytes.
+    pub ids_at: u64,
+    /// How many ids it has.
+    pub ids: u64,
+}
+
+// The numbers of an event.
+fn flat_event(attr: &perf_event_attr, order: Dynamic, ids: Section) -> FlatEvent
+    ensures { result ≡ events.flat_event order (attr.now, ids) }
+{
+    FlatEvent {
+        config: FlatConfig::of(attr, order),
+        type_: attr.type_,
+        event: attr.config,
+        ids_at: ids.start,
+        ids: ids.size / 8,
+    }
+}
+
+// Writes the numbers of all events, of which the ids are in these sections.
+fn fill_events(
+    alloc: Global,
+    bytes: &[u8],
+    head: Head,
+    sections: &[Section],
+    all: &mut [FlatEvent],
+) -> Result<(), OpenError>
+    requires good { IsGoodHead bytes.now head }
+    requires sections { length sections.now ≡ entry_count head }
+    requires room { length all.old ≡ entry_count head }
+    ensures { Fills result (events.flat_events bytes.now head sections.now) all.new }
+{
+    let count = head.attributes.size / head.entry_size;
+    for index in 0..count {
+        let attr = attribute_at(alloc, bytes, head, index)?;
+        all[index as usize] = flat_event(&attr, head.order, sections[index as usize]);
+    }
+    Ok(())
+}
+
+/// Where the frames of an event have its id.
+pub fn place_of(event: &FlatEvent) -> Option<IdPlace>
+    ensures { result ≡ events.place_by event.now }
+{
+    match event.config.config() {
+        Some(config) => id_place(&config),
+        None => None,
+    }
+}
+
+/// Where the frames of the first event have its id.
+pub fn first_place(all: &[FlatEvent]) -> Option<IdPlace>
+    ensures { result ≡ events.first_place all.now }
+{
+    match all.first() {
+        Some(event) => place_of(event),
+        None => None,
+    }
+}
+
+// Whether the frames of all events have their id at that place.
+fn all_at(place: Option<IdPlace>, all: &[FlatEvent]) -> bool
+    ensures { result ≡ events.all_at place all.now }
+{
+    for event in all {
+        if !is_same_place(place, place_of(event)) {
+            return false;
+        }
+    }
+    true
+}
+
+// Refuses several events without a common place of their ids.
+fn check_places(all: &[FlatEvent]) -> Result<(), OpenError>
+    ensures { result ≡ events.checked_places all.now }
+{
+    if all.len() < 2 || all_at(first_place(all), all) {
+        Ok(())
+    } else {
+        Err(OpenError::NoIdPlace)
+    }
+}
+
+// Writes the events, the parts and the ids of a file whose attributes were checked.
+fn read_events(
+    alloc: Global,
+    bytes: &[u8],
+    head: Head,
+    all: &mut [FlatEvent],
+    parts: &mut [Section],
+    ids: &mut [IdOfEvent],
+) -> Result<(), OpenError>
+    requires good { IsGoodHead bytes.now head }
+    requires whole { 104 ≤ length bytes.now }
+    requires head { checked_head bytes.now ≡ Ok head }
+    requires attributes { outlines.checked_attributes bytes.now head ≡ Ok tt }
+    requires events_room { length all.old ≡ entry_count head }
+    requires parts_room { length parts.old ≡ 3 + entry_count head }
+    requires ids_room { outlines.counted_ids bytes.now head ≡ Ok (length ids.old) }
+    ensures { events.ReadsFile bytes.now (opened bytes.now) result all.new ids.new }
+{
+    read_parts(bytes, head, parts)?;
+    fill_events(alloc, bytes, head, &parts[3..], all)?;
+    check_places(all)?;
+    fill_ids(head.order, bytes, &parts[3..], ids);
+    check_ids(ids)
+}
+
+// Whether there are as many events, parts and ids as a file needs.
+fn has_room(outline: Outline, all: usize, parts: usize, ids: usize) -> bool
+    ensures { result ≡ events.has_room outline all parts ids }
+{
+    all as u64 == outline.events && parts >= 3 && parts - 3 == all && ids as u64 == outline.ids
+}
+
+/// Writes the events of a file to `all`, its ids by rising numbers to `ids`, and its parts to
+/// `parts`, and returns 0. `all` and `ids` have as many elements as [`ped_file_open`] stated, and
+/// `parts` three more than `all`; else it returns [`OTHER_COUNT`], and nothing is written.
+///
+/// If the file is refused, it returns the number of the refusal.
+///
+/// [`ped_file_open`]: crate::file::ped_file_open
+#[unsafe(no_mangle)]
+pub extern "C" fn ped_file_events(
+    alloc: Global,
+    bytes: &[u8],
+    all: &mut [FlatEvent],
+    parts: &mut [Section],
+    ids: &mut [IdOfEvent],
+) -> u32
+    ensures opened { (o : Outline) → outlines.outline bytes.now ≡ Ok o →
+        events.has_room o (length all.old) (length parts.old) (length ids.old) ≡ true →
+        events.ReadsEvents bytes.now (opened bytes.now) result all.new ids.new }
+    ensures other { (o : Outline) → outlines.outline bytes.now ≡ Ok o →
+        events.has_room o (length all.old) (length parts.old) (length ids.old) ≡ false →
+        (result ≡ OTHER_COUNT) × (all.new ≡ all.old) × (parts.new ≡ parts.old)
+        × (ids.new ≡ ids.old) }
+    ensures refused { (e : OpenError) → outlines.outline bytes.now ≡ Err e →
+        (opened bytes.now ≡ Err e) × (result ≡ open_code e) × (all.new ≡ all.old)
+        × (parts.new ≡ parts.old) × (ids.new ≡ ids.old) }
+{
+    let outline = match outline_of(alloc, bytes) {
+        Ok(outline) => outline,
+        Err(refusal) => return open_code(refusal),
+    };
+    if !has_room(outline, all.len(), parts.len(), ids.len()) {
+        return OTHER_COUNT;
+    }
+    match read_events(alloc, bytes, outline.head, all, parts, ids) {
+        Ok(()) => 0,
+        Err(refusal) => open_code(refusal),
+    }
+}
