@@ -144,21 +144,32 @@ def rust_records(records):
     return made
 
 
+def rows_of(record):
+    """Rows of what the faces of Python and JavaScript state of a record: its fields, and what each needs."""
+    parts = []
+    for it in placed(record, "n") + [None] + placed(record, "s"):
+        star = f"*{LISTS[it.item]}" if it and it.item in LISTS else ""
+        parts.append("/".join([it.name + star, "|".join(it.flags), "&".join(it.forms)]).rstrip("/") if it else ";")
+    return textwrap.wrap(" ".join(parts), 108, **NO_BREAKS)
+
+
 def python_records(types):
     words = []
     for _, _, name, record in types:
-        parts = []
-        for it in placed(record, "n") + [None] + placed(record, "s"):
-            star = f"*{LISTS[it.item]}" if it and it.item in LISTS else ""
-            parts.append("/".join([it.name + star, "|".join(it.flags), "&".join(it.forms)]).rstrip("/") if it else ";")
-        text = '"\n" '.join(textwrap.wrap(" ".join(parts), 108, **NO_BREAKS))
+        text = '"\n" '.join(rows_of(record))
         words += f'"{name}": "{text}",'.split("\n")
     return filled(words, 120, "    ", "")
+
+
+def javascript_records(types):
+    rows = [(name, '"\n        + " '.join(rows_of(record))) for _, _, name, record in types]
+    return "".join(f'    {name}: "{text}",\n' for name, text in rows)
 
 
 FILES = {
     "c/perf_event_data.h": lambda records, _: [union(records, "n", "uint64_t"), union(records, "s", "struct ped_span")],
     "c/text.c": lambda _, types: [c_records(types)],
+    "js/fields.mjs": lambda _, types: [javascript_records(types)],
     "rust/src/fields.rs": lambda records, types: [rust_types(types), rust_records(records)],
     "python/perf_event_data.py": lambda _, types: [python_records(types)]}
 

@@ -2,9 +2,10 @@
 # Runs the tests of all faces over an archive, at the top of the repository: bindings/gate.sh [ARCHIVE]
 #
 # Without ARCHIVE it makes one by each of the kit's two compilers over the libraries that `rt ci` proved,
-# of which the second is for C and C++ alone. A line says of each test whether it passed, failed or was
-# skipped; what a test skipped, or what of it failed and the end of what it printed, follows it, indented.
-# The status is 0 if none failed. No network is needed, and nothing is left in the repository.
+# of which the second is for C and C++ alone, and one for arm64 and one for WebAssembly, if their tools are
+# here. A line says of each test whether it passed, failed or was skipped; what a test skipped, or what of it
+# failed and the end of what it printed, follows it, indented. The status is 0 if none failed. No network is
+# needed, and nothing is left in the repository.
 set -u
 top=$(cd "$(dirname "$0")/.." && pwd)
 cd "$top" || exit 2
@@ -65,6 +66,29 @@ python_face() {
         "$(python_with_numpy)" bindings/python/test.py $perfrec
 }
 
+# C and the package for arm64, whose programs run under qemu.
+arm_faces() {
+    arm_archive=$work/$arm/libperf_event_c.a
+    if [ -z "$(absent $arm_tools)" ] && [ ! -f "$arm_archive" ]; then
+        echo "skipped: arm64: no archive for it"
+        return
+    fi
+    face "C on arm64" "$arm_tools" env CROSS=aarch64-linux-gnu- RUN=qemu-aarch64-static \
+        bindings/test.sh "$arm_archive" crates
+    face "package for arm64" "$arm_tools pkg-config tar gzip" bindings/arm_test.sh "$arm_archive"
+}
+
+# The package for JavaScript, over a module for WebAssembly.
+js_face() {
+    perfrec=crates/perfrec/out/perfrec
+    [ -x $perfrec ] && perfrec=$PWD/$perfrec || perfrec=
+    if [ -z "$(absent $js_tools)" ] && [ ! -f "$work/$wasm/libperf_event_c.a" ]; then
+        echo "skipped: JavaScript: no archive for $wasm"
+    else
+        face "JavaScript" "$js_tools" bindings/js/test.sh "$work/$wasm/libperf_event_c.a" "$perfrec"
+    fi
+}
+
 replay=crates/perf_replay/out/perf_replay
 if [ -x $replay ]; then
     face "lying counts and sizes, in 128 MiB" "python3 timeout" bindings/lies_test.sh $replay
@@ -77,12 +101,20 @@ if [ -x $shows ]; then
 else
     echo "skipped: words of perf_data: no proved perf_data"
 fi
+# The machines besides this one for which all tools are here.
+arm=aarch64-unknown-linux-gnu
+arm_tools="aarch64-linux-gnu-gcc aarch64-linux-gnu-nm qemu-aarch64-static cc make nm"
+targets=
+[ -n "$(absent $arm_tools)" ] || targets=$arm
+wasm=wasm64-unknown-unknown
+js_tools="node npm wasm-opt make tar python3"
+[ -n "$(absent $js_tools)" ] || targets="$targets $wasm"
 mkdir "$work/llvm" || exit 2
 archive=$work/llvm/libperf_event_c.a
 second=$work/rattle/libperf_event_c.a
 if [ $# -gt 0 ]; then
     cp "$1" "$archive" || exit 2
-elif python3 bindings/gate_archive.py "$work" >"$work/log" 2>&1 </dev/null; then
+elif python3 bindings/gate_archive.py "$work" x86_64-unknown-linux-gnu $targets >"$work/log" 2>&1 </dev/null; then
     cat "$work/log"
 else
     echo "skipped: the faces: $(head -n 1 "$work/log")"
@@ -99,6 +131,8 @@ if [ -z "$(absent cc make python3)" ]; then
 else
     echo "skipped: Python: no $(absent cc make python3)"
 fi
+arm_faces
+js_face
 face "packages" "cc c++ make nm pkg-config tar gzip python3" bindings/install_test.sh "$archive"
 face "wheel" "cc make readelf python3" bindings/packages_test.sh wheel "$archive"
 face "package for Cargo" "cc make cargo git" bindings/packages_test.sh crate "$archive"

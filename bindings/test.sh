@@ -8,6 +8,10 @@
 # them the texts and counts are compared with those of the proved programs too. STREAMS is how many
 # generated streams are read, 200 without it. A line says what passed, failed or was skipped; the
 # status is 0 if nothing failed.
+#
+# For an archive of another machine, in the environment: CROSS is how the names of its tools begin, as
+# aarch64-linux-gnu-, and RUN the program that runs its programs, as qemu-aarch64-static. The structs are
+# then compared with those of this machine too; nothing is sanitized, and valgrind is not used.
 set -u
 if [ $# -lt 1 ] || [ ! -f "$1" ]; then
     echo "usage: bindings/test.sh ARCHIVE [CRATES [STREAMS]]" >&2
@@ -16,6 +20,10 @@ fi
 archive=$(realpath "$1")
 proved=${2:+$(realpath "$2")}
 streams=${3:-200}
+cross=${CROSS:-} run=${RUN:-}
+cc=${cross:+${cross}gcc} cxx=${cross:+${cross}g++}
+cc=${cc:-cc} cxx=${cxx:-c++}
+valgrind=$([ -n "$run" ] || command -v valgrind)
 top=$(cd "$(dirname "$0")/.." && pwd)
 crates=$top/crates
 work=$(mktemp -d) || exit 2
@@ -48,8 +56,8 @@ try() {
 # ---- the archive
 
 check_symbols() {
-    nm -g --defined-only "$archive" 2>/dev/null | awk 'NF == 3 { print $3 }' | sort -u >"$work/defined"
-    nm -u "$archive" 2>/dev/null | awk 'NF == 2 { print $2 }' | sort -u | comm -23 - "$work/defined" \
+    "${cross}nm" -g --defined-only "$archive" 2>/dev/null | awk 'NF == 3 { print $3 }' | sort -u >"$work/defined"
+    "${cross}nm" -u "$archive" 2>/dev/null | awk 'NF == 2 { print $2 }' | sort -u | comm -23 - "$work/defined" \
         >"$work/undefined"
     others=$(grep -v '^ped_' "$work/defined" | tr '\n' ' ')
     [ -z "$others" ] && [ -s "$work/defined" ] && pass "global symbols are ped_* alone" ||
@@ -69,10 +77,44 @@ check_declared() {
     done
 }
 
+# The header is for the machines that are tested alone.
+check_refused() {
+    for word in -U__LP64__ "-U__x86_64__ -U__aarch64__" "-U__BYTE_ORDER__ -D__BYTE_ORDER__=__ORDER_BIG_ENDIAN__"; do
+        # the words are several
+        echo '#include "perf_event_data.h"' | "$cc" $word -E -I "$top/bindings/c" - >/dev/null 2>"$work/log"
+        grep -q 'error.*perf_event_data is for x86-64 and arm64' "$work/log" && pass "the header refuses $word" ||
+            fail "the header accepts $word"
+    done
+}
+
 # ---- the programs
 
 build() {
-    try "build in $1" make -s -C "$top/bindings/c" ARCHIVE="$archive" BUILD="$work/$1" SANITIZE="$2"
+    if [ -z "$run" ]; then
+        try "build in $1" make -s -C "$top/bindings/c" ARCHIVE="$archive" BUILD="$work/$1" SANITIZE="$2"
+        return
+    fi
+    try "build in $1" make -s -C "$top/bindings/c" ARCHIVE="$archive" BUILD="$work/$1.made" \
+        CC="$cc" CXX="$cxx" CFLAGS="-O2 -g -static" PROGRAMS="$programs"
+    mkdir -p "$work/$1"
+    for name in $programs; do
+        printf '#!/bin/sh\nexec %s "%s" "$@"\n' "$run" "$work/$1.made/$name" >"$work/$1/$name"
+        chmod +x "$work/$1/$name"
+    done
+}
+
+# The table of the structs' members, by a program for each machine.
+check_offsets() {
+    if ! command -v python3 >/dev/null; then
+        skip "the structs of both machines: no python3"
+        return
+    fi
+    python3 "$top/bindings/offsets.py" >"$work/offsets.c"
+    cc -I "$top/bindings/c" -o "$work/offsets" "$work/offsets.c" && "$work/offsets" >"$work/offsets.here"
+    "$cc" -static -I "$top/bindings/c" -o "$work/offsets" "$work/offsets.c" && $run "$work/offsets" >"$work/offsets.there"
+    [ -s "$work/offsets.here" ] || fail "no table of the structs"
+    compare "the structs are those of this machine, in $(wc -l <"$work/offsets.here") lines" \
+        "$work/offsets.here" "$work/offsets.there"
 }
 
 # Compares a text with what is expected.
@@ -157,7 +199,7 @@ check_streams() {
     python3 "$top/bindings/streams.py" list 1 200 >"$work/list"
     try "generated streams" "$1/replay" "$work/list"
     [ -z "$sanitize" ] || try "generated streams, sanitized" "$2/replay" "$work/list"
-    if command -v valgrind >/dev/null; then
+    if [ -n "$valgrind" ]; then
         try "generated streams, under valgrind" valgrind -q --error-exitcode=9 "$1/replay" "$work/list"
     fi
     try "counts of generated streams" python3 "$top/bindings/streams.py" counts "$work/list" "$1/perf_count"
@@ -211,7 +253,7 @@ run_programs() {
     how=$2
     shift 2
     try "calls by hand, $how" "$@" "$folder/calls"
-    try "calls by hand in C++, $how" "$@" "$folder/calls_cpp"
+    [ -z "$has_cxx" ] || try "calls by hand in C++, $how" "$@" "$folder/calls_cpp"
     try "runs of crates/perf_replay, $how" "$@" "$folder/replay" "$crates/perf_replay/stdin"
     try "forbidden pages, stack of 16 kB, four threads, $how" "$@" "$folder/guard" \
         "$crates/perf_tasks/stdin" "$crates/perf_samples/stdin"
@@ -219,9 +261,17 @@ run_programs() {
 
 check_symbols
 check_declared
+check_refused
+has_cxx=$(command -v "$cxx")
+[ -n "$has_cxx" ] || skip "calls by hand in C++: no $cxx"
+programs="calls ${has_cxx:+calls_cpp} replay perfrec perf_count reports guard live"
 sanitize=address,undefined
 echo 'int main(void) { return 0; }' >"$work/empty.c"
-if ! cc -fsanitize=$sanitize -o "$work/empty" "$work/empty.c" 2>/dev/null || ! "$work/empty"; then
+if [ -n "$run" ]; then
+    check_offsets
+    skip "sanitized programs, and valgrind: the machine is another one"
+    sanitize=
+elif ! cc -fsanitize=$sanitize -o "$work/empty" "$work/empty.c" 2>/dev/null || ! "$work/empty"; then
     skip "sanitized programs: the compiler has no sanitizers here"
     sanitize=
 fi
@@ -239,9 +289,9 @@ if [ -n "$sanitize" ]; then
     run_programs sanitized "sanitized"
     try "a live ring, sanitized" "$work/sanitized/live"
 fi
-if command -v valgrind >/dev/null; then
+if [ -n "$valgrind" ]; then
     run_programs plain "under valgrind" valgrind -q --error-exitcode=9
-else
+elif [ -z "$run" ]; then
     skip "valgrind: not installed"
 fi
 echo "$passed passed, $failed failed, $skipped skipped"

@@ -30,6 +30,8 @@ echo "$version" | grep -qxE '[0-9]+\.[0-9]+\.[0-9]+' || {
 agrees "version in pkg-config" @VERSION@ "$here/perf_event_data.pc.in" 's/^Version: //p'
 agrees "version in Cargo.toml" "$version" "$here/rust/Cargo.toml" 's/^version = "\(.*\)"$/\1/p'
 agrees "version in Python" "$version" "$here/python/perf_event_data.py" 's/^__version__ = "\(.*\)"$/\1/p'
+agrees "version in package.json" "$version" "$here/js/package.json" 's/^  "version": "\(.*\)",$/\1/p'
+agrees "version in JavaScript" "$version" "$here/js/perf_event_data.mjs" 's/^export const VERSION = "\(.*\)";$/\1/p'
 agrees "version in CHANGELOG" "$version" "$top/CHANGELOG.md" 's/^## \([0-9][0-9.]*[0-9]\).*/\1/p'
 agrees "version in the header" "$version" "$header" 's/^#define PED_RELEASE "\(.*\)"$/\1/p'
 
@@ -37,5 +39,7 @@ structs=$(sed -n 's/^STRUCT_VERSION = \([0-9]*\).*/\1/p' "$here/python/perf_even
 agrees "structs in the header" "$structs" "$header" 's/^#define PED_VERSION \([0-9]*\).*/\1/p'
 agrees "structs in the library" "$structs" "$top/crates/perf_flat/src/config.rt" \
     's/^pub const CONFIG_VERSION: u32 = \([0-9]*\);/\1/p'
+agrees "structs in JavaScript" "$structs" "$here/js/perf_event_data.mjs" \
+    's/^export const STRUCT_VERSION = \([0-9]*\);$/\1/p'
 agrees "structs in Rust" "$structs" "$here/rust/src/ffi.rs" 's/.*const [A-Z_]*VERSION: u32 = \([0-9]*\);/\1/p'
 exit $status

@@ -12,6 +12,11 @@
 #ifndef PERF_EVENT_DATA_H
 #define PERF_EVENT_DATA_H
 
+#if !(defined(__x86_64__) || defined(__aarch64__)) || !defined(__LP64__) \
+    || __BYTE_ORDER__ != __ORDER_LITTLE_ENDIAN__
+#error "perf_event_data is for x86-64 and arm64, with pointers of 64 bits and the lowest byte first"
+#endif
+
 #include <stddef.h>
 #include <stdint.h>
 #include <string.h>
@@ -33,7 +38,7 @@ extern "C" {
 #define PED_VERSION 1u
 
 enum ped_order {
-    PED_LITTLE = 0, /* the lowest byte first, as on x86-64 */
+    PED_LITTLE = 0, /* the lowest byte first, as on x86-64 and arm64 */
     PED_BIG = 1     /* the highest byte first */
 };
 
@@ -365,9 +370,10 @@ static inline size_t ped_needed(uint32_t order, const uint8_t *bytes, size_t len
 /* The number at `at`, of eight bytes. */
 static inline uint64_t ped_eight(uint32_t order, const uint8_t *at)
 {
+    int is_big_here = __BYTE_ORDER__ == __ORDER_BIG_ENDIAN__;
     uint64_t number;
-    memcpy(&number, at, sizeof number); /* the archive is for x86-64, where the lowest byte is first */
-    return order == PED_BIG ? __builtin_bswap64(number) : number;
+    memcpy(&number, at, sizeof number);
+    return (order == PED_BIG) == is_big_here ? number : __builtin_bswap64(number);
 }
 
 /* How many numbers a span has. */

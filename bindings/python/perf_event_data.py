@@ -272,7 +272,7 @@ class Frame:
 
     def _items(self, span: memoryview, each: int) -> list:
         words = array("Q", span.tobytes())
-        if self._order == BIG:
+        if (self._order == BIG) != (sys.byteorder == "big"):
             words.byteswap()
         return words.tolist() if each == 1 else list(zip(*[iter(words)] * each))
 
@@ -359,6 +359,6 @@ class Frames(Sequence[Frame]):
         Its fields are those of the C header's `struct ped_frame`: `numbers` has 24 numbers for each frame, in
         the order of `FIELDS`, and `spans` has 8 times `at` and `len`. What a record does not have is 0."""
         import numpy
-        kinds = [(name, f"<u{struct.calcsize('=' + own[0])}") for name, own in _OWN.items()]
-        kinds += [("numbers", "<u8", 24), ("spans", [("at", "<u4"), ("len", "<u4")], 8)]
+        kinds = [(name, f"=u{struct.calcsize('=' + own[0])}") for name, own in _OWN.items()]
+        kinds += [("numbers", "=u8", 24), ("spans", [("at", "=u4"), ("len", "=u4")], 8)]
         return numpy.frombuffer(self.rows, kinds)

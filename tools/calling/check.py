@@ -15,7 +15,7 @@ from textwrap import indent
 
 BLOCK = re.compile(r"^```([\w,]*)\n(.*?)^```$", re.M | re.S)
 PROGRAM = "fn main(rt: HostRuntime)"
-PAGES = "README.md docs/CALLING.md docs/LINKING.md bindings/README.md bindings/rust/README.md".split()
+PAGES = "README.md docs/CALLING.md docs/LINKING.md bindings/README.md bindings/rust/README.md bindings/js/README.md".split()
 SOURCES = "crates/perf_uses/src/*.rt crates/perf_uses/specs/*.antt bindings/first/* bindings/rust/tests/*.rs".split()
 # a page, lines that it prints as an output, and the file that has them
 OUTPUTS = [
@@ -23,6 +23,7 @@ OUTPUTS = [
     ("README.md", "8 lost", "bindings/try.sh"),
     ("docs/LINKING.md", "904355445346 13844 is sh", "crates/perf_uses/stdout"),
     ("bindings/README.md", "904355445346 13844 is sh", "crates/perf_uses/stdout"),
+    ("bindings/js/README.md", "904355445346 13844 is sh", "crates/perf_uses/stdout"),
 ]
 
 

@@ -81,6 +81,15 @@ impl Place {
     }
 }
 
+#[cfg(not(all(
+    any(target_arch = "x86_64", target_arch = "aarch64"),
+    target_pointer_width = "64",
+    target_endian = "little"
+)))]
+compile_error!(
+    "perf-event-data is for x86-64 and arm64, with pointers of 64 bits and the lowest byte first"
+);
+
 const _: () = assert!(std::mem::size_of::<Config>() == 56);
 const _: () = assert!(std::mem::size_of::<Frame>() == 320);
 
