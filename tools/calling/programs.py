@@ -53,8 +53,9 @@ def make_room(room):
 def printed(program, crate):
     """What a program prints, or why it fails."""
     (crate / "src/main.rt").write_text(program)
+    words = [sys.executable, Path("tools/quick/attempt.py").resolve(), *LIMITS]
     with open("examples/recording.stream", "rb") as stream:
-        ran = subprocess.run(["rt", "try", *LIMITS], cwd=crate, stdin=stream, capture_output=True, text=True)
+        ran = subprocess.run(words, cwd=crate, stdin=stream, capture_output=True, text=True)
     return ran.stdout if ran.returncode == 0 else f"status {ran.returncode}: {ran.stderr[-800:]}"
 
 

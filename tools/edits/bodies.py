@@ -1,12 +1,14 @@
 #!/usr/bin/env python3
 """Shows that the prover refuses each wrong body of `crates/NAME/edits`, at a goal of the function that it changes.
 
-    tools/edits/bodies.py [--jobs N] [--verbose] [--after LOG] [CRATE[/EDIT]..]
+    tools/edits/bodies.py [--jobs N] [--verbose] [--right] [--after LOG] [CRATE[/EDIT]..]
 
 Run it at the top of the repository, over the libraries that `rt ci` proved, or beside it with --after LOG: then it
 begins with a crate as soon as the log of `rt ci` names it as proved, with fewer checks at a time until that has ended.
 The README beside this file says how bodies are tried. A line says for each file of edits whether all its bodies were
 refused, and another for each body that was not. The last line is how many bodies were; the status is 1 if one was not.
+With --right the right body of each function that can be copied is tried in the copy's place, and must be proved there:
+so what refuses a wrong body is that body, and nothing that a copy lacks.
 """
 
 import argparse
@@ -65,9 +67,13 @@ class Run:
         try:
             for edit in edits:
                 found += bodies_of(edit, self.top / "crates" / name)
-            self.bodies += found
             with tempfile.TemporaryDirectory(prefix=f"bodies-{os.getpid()}-") as room:
-                Trial(self, name, room).run(found)
+                trial = Trial(self, name, room)
+                if self.options.right:
+                    found = trial.try_right(found)
+                else:
+                    trial.run(found)
+            self.bodies += found
         except (OSError, ValueError) as why:
             with self.print:
                 print(f"{name}: {why}", flush=True)
@@ -84,11 +90,14 @@ class Run:
 
     def tell(self, name, edit, bodies):
         good = sum(bool(it.told) for it in bodies)
-        verdict = "refused" if bodies and good == len(bodies) else "NOT REFUSED"
-        print(f"{verdict}: {name}/{edit}: {good} of {len(bodies)} at their own goal", flush=True)
+        if self.options.right:
+            print(f"{name}/{edit}: {good} of {len(bodies)} right bodies proved in a copy", flush=True)
+        else:
+            verdict = "refused" if bodies and good == len(bodies) else "NOT REFUSED"
+            print(f"{verdict}: {name}/{edit}: {good} of {len(bodies)} at their own goal", flush=True)
         for body in bodies:
             if self.options.verbose or not body.told:
-                why = body.told or "NOT REFUSED AT ITS OWN GOAL: " + body.why
+                why = body.told or ("NOT PROVED: " if self.options.right else "NOT REFUSED AT ITS OWN GOAL: ") + body.why
                 print(f"    {body.path}:{body.line} {' '.join(body.functions())}: {why[:160]}", flush=True)
 
     def lanes(self):
@@ -128,12 +137,13 @@ def main():
     words = argparse.ArgumentParser(description=__doc__, formatter_class=argparse.RawDescriptionHelpFormatter)
     words.add_argument("--jobs", type=int, default=min(4, len(os.sched_getaffinity(0))))
     words.add_argument("--verbose", action="store_true")
+    words.add_argument("--right", action="store_true", help="try the right bodies instead, which must be proved")
     words.add_argument("--after", metavar="LOG")
     words.add_argument("crates", nargs="*", metavar="CRATE[/EDIT]")
     run = Run(words.parse_args())
     run.all(edits_of(run.top, run.options.crates))
     good = sum(bool(it.told) for it in run.bodies)
-    print(f"{good} of {len(run.bodies)} bodies refused at their own goal")
+    print(f"{good} of {len(run.bodies)} bodies {'proved in a copy' if run.options.right else 'refused at their own goal'}")
     return 0 if run.bodies and good == len(run.bodies) else 1
 
 

@@ -4,7 +4,7 @@ and none of them stands in another's way."""
 import re
 import shutil
 
-from edits import FUNCTION
+from edits import FUNCTION, located
 
 
 class Place:
@@ -55,6 +55,22 @@ def insert(text, places):
             lines[at:at] = ["", *place.lines]
             place.first, place.last = at + 2, at + 1 + len(place.lines)
             added += 1 + len(place.lines)
+    return "\n".join(lines)
+
+
+def hollow(path, text, names, types, traits):
+    """A file in which the bodies of these functions never end, line by line as long as before. What counts as proved
+    is used by its contract alone, and the borrow checker would go through its body all the same."""
+    lines = text.split("\n")
+    for name, body in located(path, text, types, traits):
+        head = lines[body.line - 1]
+        indent = head[: len(head) - len(head.lstrip())]
+        within = range(body.line - 1, body.last)
+        opens = [at for at in within if lines[at] == indent + "{"] or [at for at in within if lines[at].endswith(" {")]
+        start = opens[0] if opens else body.last
+        is_whole = start + 1 < body.last - 1 and lines[body.last - 1] == indent + "}"
+        if name in names and is_whole and not body.is_in_macro and "const fn" not in head:
+            lines[start + 1 : body.last - 1] = [f"{indent}    loop {{}}"] + [""] * (body.last - start - 3)
     return "\n".join(lines)
 
 

@@ -177,16 +177,20 @@ def bodies_of(edit, folder):
 def functions_of(folder):
     """The names of the functions that stand in the source of a crate, but for those that traits declare, as the prover
     knows them."""
-    found, types, traits = set(), types_of(folder), traits_of(folder)
-    for path, text in texts_of(folder).items():
-        lines = text.split("\n")
-        for line in [at for at, it in enumerate(lines, 1) if is_function(it)]:
-            body = Body("", path, [], False, line)
-            body.pairs = [(path, "", lines[line - 1])]
-            body.place(lines)
-            body.known, body.traits, body.home = set(body.names), traits, types.get(body.owner)
-            found.update([] if body.is_declared else body.functions())
-    return found
+    types, traits = types_of(folder), traits_of(folder)
+    return {name for path, text in texts_of(folder).items() for name, _ in located(path, text, types, traits)}
+
+
+def located(path, text, types, traits):
+    """The functions of a file, but for those that traits declare: the prover's name of each, and its place."""
+    lines = text.split("\n")
+    for line in [at for at, it in enumerate(lines, 1) if is_function(it)]:
+        body = Body("", path, [], False, line)
+        body.pairs = [(path, "", lines[line - 1])]
+        body.place(lines)
+        body.known, body.traits, body.home = set(body.names), traits, types.get(body.owner)
+        if not body.is_declared:
+            yield body.functions()[0], body
 
 
 def texts_of(folder):

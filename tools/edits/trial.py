@@ -8,8 +8,8 @@ import subprocess
 import time
 from pathlib import Path
 
-from copies import copy_proof, insert, is_hidden, place_of
-from edits import functions_of
+from copies import copy_proof, hollow, insert, is_hidden, place_of
+from edits import functions_of, texts_of, traits_of, types_of
 from kit import crate_of
 
 # What the prover reports at a function, and in the files of its proof.
@@ -72,7 +72,7 @@ class Trial:
         self.name, self.folder, self.source, self.whole = name, Path(room) / "crate", Path(crate.folder), run
         # the functions that count as proved, and other names that have no proof
         self.functions = functions_of(self.source) | {it for it in run.log.functions(name) if has_proof(it)}
-        self.unknown = set()
+        self.unknown, self.types, self.traits = set(), types_of(self.source), traits_of(self.source)
         self.proofs = self.source / "proofs"
         self.command = [run.rtlib.RATTLE, "check", *crate.words(["--jobs", "1"], keeps=False), "--allow-holes"]
         self.command += ["--incremental", f"{room}/kept"]
@@ -128,14 +128,15 @@ class Trial:
         asked = {it for place in places for it in place.functions}
         for name in self.functions - asked:
             self.assume(name)
-        for path, text in texts.items():
+        for path, text in {**texts_of(self.source), **texts}.items():
+            text = hollow(path, text, self.functions - asked, self.types, self.traits)
             (self.folder / path).write_text(text, encoding="utf-8")
         only = [word for it in sorted(asked) for word in ("--only", it)]
         ran = self.started(only)
         if ran.returncode == -signal.SIGKILL:
             # most likely for memory
             ran = self.started(only)
-        for path in texts:
+        for path in texts_of(self.source):
             shutil.copy2(self.source / path, self.folder / path)
         return ran.stdout.split("\n")
 
@@ -176,6 +177,21 @@ class Trial:
                 (alone if body.tries > 1 or len(again) == len(tried) else left).append(body)
             took, rest = time.monotonic() - began, len(left) + len(alone)
             self.whole.say(f"{self.name}: {len(tried)} bodies in {took:.0f} seconds, {rest} left")
+
+    def try_right(self, bodies):
+        """Tries the right body of each function that can be copied, in a copy of it, and notes what the prover said of it if
+        it is proved there. It returns these bodies."""
+        chosen = {}
+        for body in bodies:
+            body.pairs = [(path, old, old) for path, old, _ in body.pairs]
+            if place_of(body, self.text(body.path, {})).lines is not None:
+                chosen.setdefault(body.functions()[0], body).number = len(chosen)
+        texts, places = self.places(chosen.values())
+        lines = {it.split(": ")[0]: it.partition(": ")[2] for it in self.check(texts, places)}
+        for place in places:
+            said = lines.get(f"fn {self.name}::{place.functions[0]}", "no verdict")
+            place.body.told, place.body.why = said if HOLDS.match(said) else "", said
+        return [it.body for it in places]
 
     def judge(self, places, output):
         """Notes what was refused, and returns the bodies to try again."""

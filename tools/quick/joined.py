@@ -1,0 +1,126 @@
+"""Joins programs, and crates of tests, so that one `rt try` serves several: each reads the sources of all libraries below,
+those of the kit too, and compiles what it reaches of them, in 15 to 25 seconds of processor time."""
+
+import re
+import shutil
+import subprocess
+import sys
+from pathlib import Path
+
+ATTEMPT = Path(__file__).resolve().parent / "attempt.py"
+# The steps of the interpreter, which most of the programs end after, and the seconds of the compiled run, by the clock.
+LIMITS = ["--steps", "1000000", "--seconds", "600"]
+MAIN = re.compile(r"^fn main\(rt: HostRuntime\) -> (.*) \{$", re.MULTILINE)
+ARGUMENTS = re.compile(r"(env::args\(&?rt\)\?)\.skip\(1\)")
+TEST = re.compile(r"^(?://[^\n]*\n)*#\[test\]\n.*?^\}\n", re.MULTILINE | re.DOTALL)
+# How a main's result is returned as that of the joined program.
+RETURNED = {
+    "ExitCode": "Ok({call})",
+    "Result<ExitCode>": "{call}",
+    "Result<()>": "{call}.map(|()| ExitCode::SUCCESS)",
+}
+# Runs the program that the first line of the input names, on the rest of the input.
+JOINED_MAIN = """#![tactic(auto)]
+
+use anyhow::{Result, bail};
+use std::io::Read;
+use std::process::ExitCode;
+
+fn main(rt: HostRuntime) -> Result<ExitCode> {
+    let (mut name, mut len, mut byte) = ([0u8; 32], 0, [0u8; 1]);
+    while rt.stdin().read(&mut byte)? == 1 && byte[0] != b'\\n' && len < 32 {
+        name[len] = byte[0];
+        len += 1;
+    }
+    match &name[..len] {
+%s
+        _ => bail!("no such program"),
+    }
+}
+"""
+
+
+class Room:
+    """A copy of the repository's sources, whose crates are changed and joined."""
+
+    def __init__(self, top, folder):
+        self.top, self.folder = top, Path(folder)
+        for source in top.glob("crates/*/src"):
+            shutil.copytree(source, self.source(source.parent.name))
+        text = (top / "crates.txt").read_text(encoding="utf-8")
+        self.uses = {found[1]: found[2].split() for found in re.finditer(r"^(\w+)[^:\n#]*: (.*)$", text, re.MULTILINE)}
+        self.list()
+
+    def source(self, name):
+        return self.folder / "crates" / name / "src"
+
+    def list(self):
+        lines = [f"{name}: {' '.join(uses)}\n" for name, uses in self.uses.items()]
+        (self.folder / "crates.txt").write_text("".join(lines), encoding="utf-8")
+
+    def run(self, name, *words):
+        """Runs `rt try` in a crate, and returns its status, what it printed, and what it complained of."""
+        words = [sys.executable, str(ATTEMPT), *LIMITS, *words]
+        ran = subprocess.run(words, cwd=self.source(name).parent, stdin=subprocess.DEVNULL, capture_output=True)
+        return ran.returncode, ran.stdout, ran.stderr.decode(errors="replace").strip()
+
+    def own(self, name, file):
+        """What a file beside a crate's `src` has, or nothing."""
+        path = self.top / "crates" / name / file
+        return path.read_bytes() if path.is_file() else b""
+
+    def join_programs(self, joined, names):
+        """Makes a program of several, and beside its source the folder of their inputs. It returns the arguments of all, one
+        after another."""
+        words, arms, inputs = [], [], self.source(joined).with_name("inputs")
+        self.source(joined).mkdir(parents=True)
+        inputs.mkdir()
+        for name in names:
+            given = self.own(name, "args").decode().splitlines()
+            result = self.make_library(name, 1 + len(words), len(given))
+            arms.append(f'        b"{name}" => {RETURNED[result].format(call=f"{name}::program(rt)")},')
+            (inputs / name).write_bytes(name.encode() + b"\n" + self.own(name, "stdin"))
+            words += given
+        (self.source(joined) / "main.rt").write_text(JOINED_MAIN % "\n".join(arms), encoding="utf-8")
+        self.uses[joined] = ["anyhow", *names]
+        self.list()
+        return words
+
+    def make_library(self, name, first, count):
+        """Makes a library of a program, whose arguments are `count` from the one with the number `first` on. It returns
+        the type that its main returns."""
+        main = self.source(name) / "main.rt"
+        text = main.read_text(encoding="utf-8")
+        result = MAIN.search(text)[1]
+        text = MAIN.sub(r"pub fn program(rt: HostRuntime) -> \1 {", text)
+        text, found = ARGUMENTS.subn(rf"\1.skip({first}).take({count})", text)
+        if count and not found:
+            raise ValueError(f"{name} has arguments, but does not read them as other programs do")
+        main.with_name("lib.rt").write_text(text, encoding="utf-8")
+        main.unlink()
+        return result
+
+    def join_tests(self, name, others):
+        """Adds the modules of other crates of tests to one."""
+        root = self.source(name) / "lib.rt"
+        for other in others:
+            for file in self.source(other).glob("*.rt"):
+                if file.name != "lib.rt" and (self.source(name) / file.name).exists():
+                    raise ValueError(f"{name} and {other} both have {file.name}")
+                if file.name != "lib.rt":
+                    shutil.copy2(file, self.source(name))
+            modules = re.findall(r"^(?:#\[cfg\(test\)\]\n)?mod \w+;\n", (self.source(other) / "lib.rt").read_text(), re.MULTILINE)
+            root.write_text(root.read_text(encoding="utf-8") + "".join(modules), encoding="utf-8")
+            self.uses[name] = list(dict.fromkeys(self.uses[name] + self.uses[other]))
+        self.list()
+
+    def split_tests(self, name, part, modules):
+        """Moves the tests of some modules of a crate to a copy of it, in which there are no others. What they call stays in
+        both."""
+        shutil.copytree(self.source(name), self.source(part))
+        for source, is_moved in ((self.source(name), True), (self.source(part), False)):
+            for file in source.glob("*.rt"):
+                if (file.stem in modules) == is_moved:
+                    file.write_text(TEST.sub("", file.read_text(encoding="utf-8")), encoding="utf-8")
+        self.uses[part] = self.uses[name]
+        self.list()
