@@ -230,8 +230,14 @@ check_more() {
     done
 }
 
-# Files that perf writes on this machine, where it may: the samples of each event, counted as `perf script` does.
+# The frames of each event of the example, counted as its expected text has them, and of a file that perf writes on this machine,
+# where it may, the samples of each event, counted as `perf script` does.
 check_files() {
+    awk '{ frames[$3]++ } END { for (n = 0; n in frames; n++) print frames[n]; print frames["-"] }' \
+        "$top/examples/events.dump" >"$work/theirs"
+    "$1/file" "$top/examples/events.data" | sed 's/.*: \([0-9]*\) frames.*/\1/' >"$work/text"
+    compare "frames of each event of examples/events.data" "$work/theirs" "$work/text"
+    [ -z "$sanitize" ] || try "the same file cut and changed, sanitized" "$2/file" --cuts "$top/examples/events.data"
     if ! command -v perf >/dev/null || ! perf record -q -e task-clock,page-faults -F 4000 -o "$work/perf.data" \
         ls -R "$top/bindings" >/dev/null 2>&1; then
         skip "files of perf record: perf may not record here"
@@ -244,7 +250,7 @@ check_files() {
     "$1/file" "$work/perf.data" | sed -n '/^event/{s/.* 9:\([0-9]*\).*/\1/;t end;s/.*/0/;:end
         p;}' >"$work/text"
     compare "samples of each event of a file of perf record" "$work/theirs" "$work/text"
-    [ -z "$sanitize" ] || try "the same file cut and changed, sanitized" "$2/file" --cuts "$work/perf.data"
+    [ -z "$sanitize" ] || try "it cut and changed, sanitized" "$2/file" --cuts "$work/perf.data"
 }
 
 # The programs in FOLDER, each after the words that follow.
@@ -264,7 +270,7 @@ check_declared
 check_refused
 has_cxx=$(command -v "$cxx")
 [ -n "$has_cxx" ] || skip "calls by hand in C++: no $cxx"
-programs="calls ${has_cxx:+calls_cpp} replay perfrec perf_count reports guard live"
+programs="calls ${has_cxx:+calls_cpp} replay perfrec perf_count reports file guard live"
 sanitize=address,undefined
 echo 'int main(void) { return 0; }' >"$work/empty.c"
 if [ -n "$run" ]; then
