@@ -126,7 +126,7 @@ impl<'a> Case<'a> {
             "shown" => Ok(text_of_records(self.alloc, &self.little)?),
             "sample" => self.text_of_sample(),
             "perfrec" => perfrec::text_of(self.alloc, self.request, &self.little),
-            "refused" => Ok(reasons(self.alloc, self.request, &self.attr, &self.little)?),
+            "refused" => self.text_of_reasons(),
             _ => bail!("nothing is asked in {}", self.name),
         }
     }
@@ -134,6 +134,10 @@ impl<'a> Case<'a> {
     fn text_of_requests(&self) -> Result<String> {
         let bytes = self.bytes(self.order);
         Ok(text_of_calls(self.alloc, bytes, self.order, &self.attr, self.request)?)
+    }
+
+    fn text_of_reasons(&self) -> Result<String> {
+        Ok(reasons(self.alloc, self.request, &self.attr, &self.little)?)
     }
 
     fn limits(&self) -> Result<Vec<usize>> {
