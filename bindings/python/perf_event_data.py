@@ -11,16 +11,22 @@
     event = ped.identifier(data[length:], True)     # which event wrote a frame, before it is read
     table = frames.numpy()                          # an array, if numpy is installed
 
-The input is not copied. Its bytes must not change while `Frames` is made, nor while spans are used.
+    recording = ped.open("perf.data")               # a file that `perf record` wrote
+    for frame in recording.frames("time"):          # in order of time, each under its own event
+        print(frame.at, frame.event, frame.name, frame.fields)
+
+The input is not copied. Its bytes must not change while `Frames` or a `Recording` is in use.
 The shared object is the one that PERF_EVENT_DATA_SO names, else the one in the folder of this file,
 else the one that the system finds.
 """
 
 from __future__ import annotations
 
+import builtins
 import ctypes
 import functools
 import itertools
+import mmap
 import os
 import struct
 import sys
@@ -31,9 +37,14 @@ from typing import TYPE_CHECKING, Any, overload
 if TYPE_CHECKING:
     from numpy import ndarray
 
+__all__ = ["BIG", "ENDS", "FIELDS", "FLAGS", "FILE_KINDS", "KINDS", "LITTLE", "STRUCT_VERSION", "TYPES", "Config", "Error",
+           "Event", "FileFrames", "Frame", "Frames", "Recording", "RefusedAttribute", "RefusedFile", "identifier", "open",
+           "read_attribute"]
+
 # The types of the tables below.
 TYPES: list[str]
 KINDS: dict[int, str]
+FILE_KINDS: dict[int, str]
 ENDS: tuple[str, ...]
 FIELDS: dict[str, list[list[str]]]
 FLAGS: dict[str, int]
@@ -54,6 +65,36 @@ _REASONS = {
     6: "attempted to parse a GroupRead with a config that does not have GROUP set in read_format",
     7: "read_format contains unsupported flags",
     8: "number of elements in group read was too large for data type"}
+
+# Why a file is refused: the kind, and what ped_file_message of the C header has.
+_FILE_REFUSALS = {
+    1: ("NotPerfData", "this is no perf.data file: pass a file that `perf record` has written"),
+    2: ("OldFormat", "this file has the format that perf wrote before 2010: record again with a newer perf"),
+    3: ("BadHead", "the head of the file is cut off, or has an unknown size: copy the file again, or record again"),
+    4: ("Pipe", "this is what `perf record -o -` writes: record into a file, with `perf record -o perf.data`"),
+    5: ("Directory", "this is one of several files of `perf record --threads`: record again without that option"),
+    6: ("Compressed",
+        "the frames are compressed: run `perf inject -i perf.data -o plain.data`, or record without `-z`"),
+    7: ("CutAttributes", "the attributes end beyond the file, so it is cut off: copy it again, or record again"),
+    8: ("CutFrames", "the frames end beyond the file, so it is cut off: copy it again, or record again"),
+    9: ("CutIds", "the ids of an event end beyond the file, so it is cut off: copy it again, or record again"),
+    10: ("BadEntry", "the attributes are not whole entries, so the file is damaged: copy it again, or record again"),
+    11: ("NoEvent", "the file has no event, so it is damaged: copy it again, or record again"),
+    12: ("BadAttribute", "the attribute of an event is damaged: copy the file again, or record again"),
+    13: ("NewAttribute",
+         "an event has fields of a newer kernel than this library knows: use a newer version of it"),
+    14: ("BadIds",
+         "the ids of an event are not whole numbers, so the file is damaged: copy it again, or record again"),
+    15: ("Overlap", "two parts of the file share bytes, so it is damaged: copy it again, or record again"),
+    16: ("NoIdPlace",
+         "the events have their ids at different places: record all of them with one `perf record`"),
+    17: ("SharedId", "two events have one id, so the file is damaged: copy it again, or record again"),
+    19: ("OtherCount", "an array does not have as many elements as it needs")}
+_NO_EVENT = {2: "its id is that of no event of the file", 3: "it is too short for an id"}
+FILE_KINDS = {number: kind for number, (kind, _) in _FILE_REFUSALS.items()}
+_MAGICS = b"PERFILE2", b"2ELIFREP", b"PERFFILE"
+_NO_STREAM = ("this is a file of `perf record`, not a stream: open it by perf_event_data.open, or print it by the program"
+              " perf_data")
 
 # The fields of each record by the names of the C header: numbers, and after the semicolon spans. A span of a
 # list ends in `*` and how many numbers an item has; those of `values` depend on the read format. After `/`
@@ -100,6 +141,30 @@ _OWN = {"type": ("I", 0, 0), "misc": ("H", 4, 0), "size": ("H", 6, 0), "read": (
 _PLACES = {name: (place, own[2]) for place, (name, own) in enumerate(_OWN.items())}
 
 
+class Error(ValueError):
+    """What this module raises for bytes, or a configuration, that it does not read."""
+
+
+class RefusedAttribute(Error):
+    """Why an attribute is refused: `kind`, one of `KINDS`."""
+
+    kind: str
+
+    def __init__(self, kind: str, message: str) -> None:
+        super().__init__(message)
+        self.kind = kind
+
+
+class RefusedFile(Error):
+    """Why a file is refused, and what to do: `kind`, one of `FILE_KINDS`."""
+
+    kind: str
+
+    def __init__(self, kind: str, message: str) -> None:
+        super().__init__(message)
+        self.kind = kind
+
+
 class Config(ctypes.Structure):
     """How records are to be read: fields of their event's attribute, `struct perf_event_attr`, and the order."""
 
@@ -119,9 +184,36 @@ class Config(ctypes.Structure):
     def __init__(self, order: int = LITTLE, **fields: int) -> None:
         super().__init__(STRUCT_VERSION, order, **fields)
 
+    @property
+    def sample_id_all(self) -> bool:
+        """Whether each record but a sample ends with a sample id: bit 18 of `flags`."""
+        return bool(self.flags & 1 << 18)
+
+    def __repr__(self) -> str:
+        numbers = [f"{name}={getattr(self, name):#x}" for name, _ in self._fields_[2:] if getattr(self, name)]
+        return f"Config({', '.join(['BIG'] * (self.order == BIG) + numbers)})"
+
 
 class _Ended(ctypes.Structure):
     _fields_ = [("count", ctypes.c_size_t), ("taken", ctypes.c_size_t), ("how", ctypes.c_uint32)]
+
+
+class _Part(ctypes.Structure):
+    _fields_ = [("at", ctypes.c_uint64), ("size", ctypes.c_uint64)]
+
+
+class _File(ctypes.Structure):
+    _fields_ = [("order", ctypes.c_uint32), ("is_closed", ctypes.c_uint32), ("frames", _Part),
+                ("events", ctypes.c_uint64), ("ids", ctypes.c_uint64)]
+
+
+class _FileEvent(ctypes.Structure):
+    _fields_ = [("config", Config), ("type", ctypes.c_uint32), ("event", ctypes.c_uint64),
+                ("ids_at", ctypes.c_uint64), ("ids", ctypes.c_uint64)]
+
+
+_ENTRY = struct.Struct("=QQQII")  # an entry: time, offset, number and owner, and four bytes that are not used
+_EVENT, _PERF, _UNKNOWN = range(3)  # of enum ped_owner
 
 
 _ABSENT = """the library of perf_event_data is absent: {why}
@@ -144,6 +236,13 @@ def _load() -> ctypes.PyDLL:
     library.ped_read_attr.restype = ctypes.c_uint32
     library.ped_identifier.argtypes = [pointer, size, ctypes.c_uint32, ctypes.c_uint32, ctypes.POINTER(ctypes.c_uint64)]
     library.ped_identifier.restype = ctypes.c_uint32
+    file, place = ctypes.POINTER(_File), ctypes.c_void_p
+    library.ped_file_open.argtypes = [pointer, size, file]
+    library.ped_file_events.argtypes = [pointer, size, place, size, place, size, place, size]
+    library.ped_file_next.argtypes = [file, pointer, size, place, size, place, size, pointer, place]
+    library.ped_file_sort.argtypes, library.ped_file_sort.restype = [place, size], None
+    library.ped_file_read.argtypes = [file, pointer, size, place, size, place, size, place, size]
+    library.ped_file_read.restype = size
     return library
 
 
@@ -168,11 +267,11 @@ def _bytes_view(data) -> memoryview:
 def read_attribute(data: Any, order: int = LITTLE) -> tuple[Config, int]:
     """Returns the configuration of the event attribute at the front of `data`, and its length in bytes.
 
-    Raises ValueError, with the kind of the refusal, if it is refused."""
+    Raises RefusedAttribute if it is refused."""
     view, config, taken = _bytes_view(data), Config(), ctypes.c_size_t()
     kind = _library.ped_read_attr(_address(view), len(view), order, config, taken)
     if kind:
-        raise ValueError(KINDS[kind])
+        raise RefusedAttribute(KINDS[kind], _NO_STREAM if bytes(view[:8]) in _MAGICS else KINDS[kind])
     return config, taken.value
 
 
@@ -213,7 +312,7 @@ class Frame:
     0; refusal and reason, numbers; present and read_format, sets of PERF_SAMPLE_* and PERF_FORMAT_*; and
     pid, tid, time, id, stream_id and cpu, of the sample or of the sample id, each None if it is absent."""
 
-    __slots__ = "_row", "_data", "_start", "_order"
+    __slots__ = "_row", "_data", "_start", "_order", "_owner"
     type: int
     misc: int
     size: int
@@ -229,8 +328,12 @@ class Frame:
     stream_id: int | None
     cpu: int | None
 
-    def __init__(self, row: tuple[int, ...], data: memoryview, start: int, order: int) -> None:
-        self._row, self._data, self._start, self._order = row, data, start, order
+    def __init__(self, row: tuple[int, ...], data: memoryview, start: int, order: int,
+                 owner: tuple[list[Event], int, int] | None = None) -> None:
+        self._row, self._data, self._start, self._order, self._owner = row, data, start, order, owner
+
+    def __repr__(self) -> str:
+        return f"<Frame {self.name} at {self.at}, {self.length} bytes>"
 
     def __getattr__(self, name: str) -> Any:
         if name not in _PLACES:
@@ -244,6 +347,27 @@ class Frame:
         return self._data[self._start:self._start + max(self._row[2], 8)]
 
     @property
+    def at(self) -> int:
+        """The offset in the input at which its header begins."""
+        return self._start
+
+    @property
+    def length(self) -> int:
+        """How many bytes of the input it takes: its size, at least a header, and no more than are left."""
+        return min(max(self._row[2], 8), len(self._data) - self._start)
+
+    @property
+    def event(self) -> Event | None:
+        """The event of a file that wrote it; None if perf wrote it for itself, or the event is not known."""
+        events, owner, number = self._owner or ([], _PERF, 0)
+        return events[number] if owner == _EVENT else None
+
+    @property
+    def unknown_id(self) -> int | None:
+        """The id by which it names an event that the file does not have; None for other frames."""
+        return self._owner[2] if self._owner and self._owner[1] == _UNKNOWN else None
+
+    @property
     def name(self) -> str:
         """The name of the record's type, as "comm"; "refused" if there is no record."""
         return "refused" if self._row[4] else TYPES[self._row[3]]
@@ -251,6 +375,8 @@ class Frame:
     @property
     def message(self) -> str:
         """Why there is no record; "" if there is one."""
+        if self._row[4] == 3 and self._owner and self._owner[1] != _EVENT:
+            return _NO_EVENT[self._owner[1]]
         return _REASONS.get(self._row[5]) or _TEXTS.get(self._row[4], "")
 
     @property
@@ -293,28 +419,45 @@ class Frames(Sequence[Frame]):
 
     def __init__(self, data: Any, config: Config | None = None, start: int = 0, limit: int = sys.maxsize) -> None:
         """Reads at most `limit` frames, from the byte `start` on. The configuration is that of the event that
-        wrote them; without one, records have no sample id and samples have no fields. Raises ValueError for a
-        start outside the bytes, or a configuration that the library does not read."""
+        wrote them; without one, records have no sample id and samples have no fields. Raises Error for a start
+        outside the bytes, a configuration that the library does not read, or a file of `perf record`."""
         config = config or Config()
         self.data, self.order, self.rows, how = _bytes_view(data), config.order, bytearray(), 0
         if not 0 <= start <= len(self.data):
-            raise ValueError("the start is outside the bytes")
+            raise Error("the start is outside the bytes")
+        if start == 0 and bytes(self.data[:8]) in _MAGICS:
+            raise Error(_NO_STREAM)
         self.taken, address = start, _address(self.data)
-        chunk = ctypes.create_string_buffer(_ROW.size * self._CHUNK)
-        while how == 0 and len(self) < limit:
+        room = max(min(self._CHUNK, limit, (len(self.data) - start) // 8), 1)
+        chunk = ctypes.create_string_buffer(_ROW.size * room)
+        count = 0
+        while how == 0 and count < limit:
             ended = _library.ped_read_many(config, address + self.taken, len(self.data) - self.taken,
-                                           chunk, min(self._CHUNK, limit - len(self)))
-            how = ended.how
+                                           chunk, min(room, limit - count))
+            how, count = ended.how, count + ended.count
             self.rows += memoryview(chunk)[:_ROW.size * ended.count]
             self.taken += ended.taken
         if how > 2:
-            raise ValueError("the configuration is of another version, or has no such order")
+            raise Error("the configuration is of another version, or has no such order")
         self.end = ENDS[how]
-        lengths = map(max, self._numbers("H", 6), itertools.repeat(8))
+        lengths = map(max, _numbers(self.rows, "H", 6), itertools.repeat(8))
         self.starts = array("Q", itertools.accumulate(itertools.chain([start], lengths)))
+
+    def __repr__(self) -> str:
+        return f"<{type(self).__name__}: {len(self)}, end {self.end!r}>"
 
     def __len__(self) -> int:
         return len(self.rows) // _ROW.size
+
+    def _batches(self) -> Iterator[tuple[int, bytearray | memoryview]]:
+        """Returns the flat frames, some at a time, and how many come before them."""
+        yield 0, self.rows
+
+    def _row(self, index: int) -> tuple[int, ...]:
+        return _ROW.unpack_from(self.rows, _ROW.size * index)
+
+    def _frame(self, index: int, row: tuple[int, ...]) -> Frame:
+        return Frame(row, self.data, self.starts[index], self.order)
 
     @overload
     def __getitem__(self, index: int) -> Frame: ...
@@ -328,16 +471,12 @@ class Frames(Sequence[Frame]):
         if not -len(self) <= index < len(self):
             raise IndexError(index)
         index %= len(self)
-        return Frame(_ROW.unpack_from(self.rows, _ROW.size * index), self.data, self.starts[index], self.order)
+        return self._frame(index, self._row(index))
 
     def __iter__(self) -> Iterator[Frame]:
-        for row, start in zip(_ROW.iter_unpack(self.rows), self.starts):
-            yield Frame(row, self.data, start, self.order)
-
-    def _numbers(self, code: str, at: int) -> list:
-        """Returns a number of each flat frame: of the type that `code` names, at that offset."""
-        width = struct.calcsize("=" + code)
-        return memoryview(self.rows).cast(code)[at // width::_ROW.size // width].tolist() if self.rows else []
+        for first, rows in self._batches():
+            for index, row in enumerate(_ROW.iter_unpack(rows), first):
+                yield self._frame(index, row)
 
     def column(self, name: str) -> list[Any]:
         """Returns one field of all frames, None for each frame where it is absent.
@@ -346,19 +485,220 @@ class Frames(Sequence[Frame]):
         record, dot, field = name.rpartition(".")
         if not dot:
             code, at, flag = _OWN[name]
-            numbers = self._numbers(code, at)
-            return [number if present & flag else None for number, present in zip(
-                numbers, self._numbers("Q", 16))] if flag else numbers
+            found: list[Any] = []
+            for _, rows in self._batches():
+                numbers = _numbers(rows, code, at)
+                found += [number if present & flag else None for number, present in zip(
+                    numbers, _numbers(rows, "Q", 16))] if flag else numbers
+            return found
         if field not in {text.partition("*")[0] for texts in FIELDS[record] for text in texts}:
             raise KeyError(name)
         return [frame.fields.get(field) if frame.name == record else None for frame in self]
 
-    def numpy(self) -> ndarray[Any, Any]:
-        """Returns a structured array over the flat frames, a row each; it copies nothing.
+    def numpy(self, name: str | None = None) -> ndarray[Any, Any]:
+        """Returns a structured array over the flat frames, a row each, or of one number of theirs alone.
 
         Its fields are those of the C header's `struct ped_frame`: `numbers` has 24 numbers for each frame, in
-        the order of `FIELDS`, and `spans` has 8 times `at` and `len`. What a record does not have is 0."""
+        the order of `FIELDS`, and `spans` has 8 times `at` and `len`. What a record does not have is 0. With the
+        name of an attribute of `Frame`, as "time", it is a plain array of that number. The structured array of
+        `Frames` copies nothing, that of `FileFrames` has 320 bytes for each frame."""
         import numpy
+        if name is not None:
+            code, at, _ = _OWN[name]
+            found, width = numpy.empty(len(self), f"=u{struct.calcsize('=' + code)}"), struct.calcsize("=" + code)
+            for first, rows in self._batches():
+                some = numpy.frombuffer(rows, found.dtype)[at // width::_ROW.size // width]
+                found[first:first + len(some)] = some
+            return found
         kinds = [(name, f"=u{struct.calcsize('=' + own[0])}") for name, own in _OWN.items()]
         kinds += [("numbers", "=u8", 24), ("spans", [("at", "=u4"), ("len", "=u4")], 8)]
         return numpy.frombuffer(self.rows, kinds)
+
+
+def _numbers(rows: bytearray | memoryview, code: str, at: int) -> list[int]:
+    """Returns a number of each flat frame: of the type that `code` names, at that offset."""
+    width = struct.calcsize("=" + code)
+    return memoryview(rows).cast(code)[at // width::_ROW.size // width].tolist() if rows else []
+
+
+class FileFrames(Frames):
+    """Frames of a file of `perf record`: a sequence of `Frame`, each read under its own event.
+
+    It keeps 32 bytes for each frame, and reads the frames some at a time when they are asked for."""
+
+    def __init__(self, recording: Recording, entries: bytearray) -> None:
+        """Takes the entries of the frames; `Recording.frames` and `Event.frames` make it."""
+        self._recording, self._entries = recording, entries
+        self.data, self.order, self.end, self.taken = recording.data, recording.order, recording.end, recording._taken
+
+    def __len__(self) -> int:
+        return len(self._entries) // _ENTRY.size
+
+    @property
+    def rows(self) -> bytearray:  # type: ignore[override]
+        """The flat frames, of 320 bytes each: made when they are asked for."""
+        return bytearray().join(rows for _, rows in self._batches())
+
+    @property
+    def starts(self) -> array[int]:  # type: ignore[override]
+        """The offset of each frame in the file."""
+        return array("Q", memoryview(self._entries).cast("Q")[1::4].tolist())
+
+    def column(self, name: str) -> list[Any]:
+        """Returns one field of all frames, as that of `Frames`; also of "at", and of "event", its number."""
+        if name == "at":
+            return self.starts.tolist()
+        if name == "event":
+            return [None if owner else number for _, _, number, owner, _ in _ENTRY.iter_unpack(self._entries)]
+        return super().column(name)
+
+    def _batches(self) -> Iterator[tuple[int, bytearray | memoryview]]:
+        chunk = bytearray(_ROW.size * min(self._CHUNK, len(self)))
+        for first in range(0, len(self), self._CHUNK):
+            count = min(self._CHUNK, len(self) - first)
+            self._recording._read(self._entries, first, count, chunk)
+            yield first, memoryview(chunk)[:_ROW.size * count]
+
+    def _row(self, index: int) -> tuple[int, ...]:
+        row = bytearray(_ROW.size)
+        self._recording._read(self._entries, index, 1, row)
+        return _ROW.unpack(row)
+
+    def _frame(self, index: int, row: tuple[int, ...]) -> Frame:
+        _, at, number, owner, _ = _ENTRY.unpack_from(self._entries, _ENTRY.size * index)
+        return Frame(row, self.data, at, self.order, (self._recording.events, owner, number))
+
+
+class Event:
+    """An event of a file: its place among them, its configuration, the type (PERF_TYPE_*) and the number of what
+    it counts (`config` of its attribute), and the ids by which frames name it."""
+
+    __slots__ = "_recording", "number", "config", "type", "event", "ids"
+    number: int
+    config: Config
+    type: int
+    event: int
+    ids: tuple[int, ...]
+
+    def __init__(self, recording: Recording, number: int, config: Config, type: int, event: int,
+                 ids: tuple[int, ...]) -> None:
+        self._recording, self.number, self.config, self.type, self.event = recording, number, config, type, event
+        self.ids = ids
+
+    def __repr__(self) -> str:
+        return f"<Event {self.number}: type {self.type}, event {self.event:#x}, {len(self.ids)} ids>"
+
+    @property
+    def frames(self) -> FileFrames:
+        """Its frames, in order of time. Those of tasks and mappings are of the first event of the file."""
+        return FileFrames(self._recording, self._recording._entries_of(self.number))
+
+
+class Recording:
+    """A file of `perf record`, all of whose bytes are in memory.
+
+    `events` are its events, `order` is that of its numbers, and `is_closed` whether perf ended regularly;
+    otherwise the frames extend to the end of the file. `end` is how reading ended: "done" or "cut header"."""
+
+    data: memoryview
+    order: int
+    is_closed: bool
+    events: list[Event]
+    end: str
+
+    def __init__(self, data: Any) -> None:
+        """Takes the bytes of the file, which are not copied. Raises RefusedFile if it is refused."""
+        self.data = _bytes_view(data)
+        self._bytes, self._file = (_address(self.data), len(self.data)), _File()
+        self._accept(_library.ped_file_open(*self._bytes, self._file))
+        counts = events, parts, ids = self._file.events, self._file.events + 3, self._file.ids
+        # a pointer may not be null
+        self._events, rooms = (_FileEvent * max(events, 1))(), [ctypes.create_string_buffer(16 * max(it, 1))
+                                                                for it in counts[1:]]
+        self._ids = rooms[1]
+        self._accept(_library.ped_file_events(*self._bytes, self._events, events, rooms[0], parts, self._ids, ids))
+        self.order, self.is_closed = self._file.order, bool(self._file.is_closed)
+        self.events = [self._event(number, event) for number, event in enumerate(self._events[:events])]
+        self._entries, how, self._taken = self._read_entries()
+        self.end = ENDS[how]
+
+    def __repr__(self) -> str:
+        return f"<Recording: {len(self.events)} events, {len(self._entries) // _ENTRY.size} frames>"
+
+    def frames(self, order: str = "time") -> FileFrames:
+        """Returns all frames, in order of "time" or in that of the "file". Frames without a time come first, and
+        frames of the same time are in the order of the file."""
+        if order not in ("time", "file"):
+            raise Error('the order is "time" or "file"')
+        return FileFrames(self, self._by_time if order == "time" else self._entries)
+
+    @functools.cached_property
+    def _by_time(self) -> bytearray:
+        entries = bytearray(self._entries)
+        _library.ped_file_sort(_address(memoryview(entries)), len(entries) // _ENTRY.size)
+        return entries
+
+    @staticmethod
+    def _accept(refusal: int) -> None:
+        if refusal:
+            raise RefusedFile(*_FILE_REFUSALS[refusal])
+
+    def _event(self, number: int, event: _FileEvent) -> Event:
+        ids = array("Q", self.data[event.ids_at:event.ids_at + 8 * event.ids].tobytes())
+        if (self.order == BIG) != (sys.byteorder == "big"):
+            ids.byteswap()
+        return Event(self, number, Config.from_buffer_copy(event.config), event.type, event.event, tuple(ids))
+
+    def _read_entries(self) -> tuple[bytearray, int, int]:
+        """Returns the entries of all frames in the order of the file, how that ended, and where."""
+        entries, at, chunk = bytearray(), ctypes.c_uint64(), ctypes.create_string_buffer(_ENTRY.size * 1024)
+        places = range(ctypes.addressof(chunk), ctypes.addressof(chunk) + len(chunk), _ENTRY.size)
+        words = [ctypes.byref(self._file), *self._bytes, self._events, self._file.events, self._ids, self._file.ids,
+                 ctypes.byref(at)]
+        call, how = functools.partial(_library.ped_file_next, *words), 0
+        while how == 0:
+            count = 0
+            for place in places:
+                how = call(place)
+                if how:
+                    break
+                count += 1
+            entries += memoryview(chunk)[:_ENTRY.size * count]
+        if how > 2:
+            raise Error("the bytes of the file have changed")
+        return entries, how, at.value or self._file.frames.at
+
+    def _entries_of(self, event: int) -> bytearray:
+        size, entries = _ENTRY.size, self._by_time
+        return bytearray().join(entries[size * index:size * (index + 1)] for index, (_, _, number, owner, _)
+                                in enumerate(_ENTRY.iter_unpack(entries)) if (number, owner) == (event, _EVENT))
+
+    def _read(self, entries: bytearray, first: int, count: int, rows: bytearray) -> None:
+        """Reads the frames of some entries to the front of `rows`."""
+        _library.ped_file_read(self._file, *self._bytes, self._events, self._file.events,
+                               _address(memoryview(entries)) + _ENTRY.size * first, count,
+                               _address(memoryview(rows)), count)
+        owners = memoryview(entries).cast("I")[8 * first + 6:8 * (first + count):8].tolist()
+        for index in itertools.compress(range(count), owners):
+            at = _ENTRY.unpack_from(entries, _ENTRY.size * (first + index))[1]
+            _ROW.pack_into(rows, _ROW.size * index, *self._row_of_no_event(at, owners[index]))
+
+    def _row_of_no_event(self, at: int, owner: int) -> list[int]:
+        """Returns the flat frame of a frame without an event. One of perf itself has its body as a span."""
+        type, misc, size = struct.unpack_from(("<IHH", ">IHH")[self.order], self.data, at)
+        end = self._file.frames.at + self._file.frames.size
+        refusal = 3 if owner != _PERF else 2 if size < 8 else 1 if at + size > end else 0
+        span = [0, 0] if refusal else [8, size - 8]
+        return [type, misc, size, 0, refusal, 1 if refusal == 2 else 0, *[0] * 32, *span, *[0] * 14]
+
+
+def open(path: str | os.PathLike[str]) -> Recording:
+    """Opens a file that `perf record` wrote, by mapping it. It must not change while it is in use.
+
+    Raises RefusedFile if it is refused, and OSError if it cannot be read. `Recording` takes bytes in memory."""
+    with builtins.open(path, "rb") as file:
+        try:
+            data: Any = mmap.mmap(file.fileno(), 0, access=mmap.ACCESS_READ)
+        except (ValueError, OSError):  # it is empty, or cannot be mapped
+            data = file.read()
+    return Recording(data)

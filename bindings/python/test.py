@@ -109,8 +109,8 @@ def perfrec(words, data):
     if with_attr:
         try:
             config, start = ped.read_attribute(data, order)
-        except ValueError as refusal:
-            return [f"attr refused {refusal}"], 2
+        except ped.RefusedAttribute as refusal:
+            return [f"attr refused {refusal.kind}"], 2
     frames = ped.Frames(data, config, start, limit)
     lines = [line(index, frame) for index, frame in enumerate(frames)]
     status = any(frames.column("refusal")) or frames.end == "cut header"
@@ -296,7 +296,7 @@ def try_memory():
     ped.Frames(large, limit=1)
     _now, peak = tracemalloc.get_traced_memory()
     tracemalloc.stop()
-    check(f"an input of {len(large)} bytes is not copied: {peak} bytes of memory", peak < len(large) / 10)
+    check(f"an input of {len(large)} bytes is not copied: {peak} bytes of memory for one frame", peak < 8192)
 
 
 def spans_are_inside(frame):
@@ -328,7 +328,7 @@ def refuses(text, call):
     try:
         call()
         check(text, False)
-    except (ValueError, IndexError, KeyError):
+    except (ped.Error, IndexError, KeyError):
         check(text, True)
 
 
@@ -363,6 +363,9 @@ def try_frames():
           == [("refused", "header size was too small to be valid"), ("lost_samples", "")])
     cut = ped.Frames(LOST[:12])[0]
     check("a frame cut short", (cut.message, bytes(cut.bytes)) == ("unexpected EOF during parsing", LOST[:12]))
+    check("where a frame is, and its length", [(frame.at, frame.length) for frame in (short[0], short[1], cut)]
+          == [(0, 8), (8, 16), (0, 12)])
+    check("a frame of a stream has no event", (cut.event, cut.unknown_id) == (None, None))
     big = ped.Frames(struct.pack(">IHHIIQ", 8, 0, 24, 1, 2, 3), ped.Config(ped.BIG))
     check("the other byte order", big[0].fields == {"pid": 1, "tid": 2, "value": 3})
     config = ped.Config(sample_type=ped.FLAGS["TID"] | ped.FLAGS["TIME"], flags=1 << 18)
@@ -378,6 +381,10 @@ def try_frames():
     attribute = struct.pack("<IIQQQQQ16x", 0, 64, 0, 0, 6, 0, 1 << 18)
     config, length = ped.read_attribute(attribute + LOST)
     check("an attribute", (config.version, config.sample_type, config.flags, length) == (1, 6, 1 << 18, 64))
+    check("whether there is a sample id", (config.sample_id_all, other.sample_id_all) == (True, False))
+    shown = [ped.Config(ped.BIG, sample_type=6), short[1], short]
+    check("what is shown of objects", list(map(repr, shown)) == [
+        "Config(BIG, sample_type=0x6)", "<Frame lost_samples at 8, 16 bytes>", "<Frames: 2, end 'done'>"])
     refuses("an attribute cut short is refused", lambda: ped.read_attribute(attribute[:63]))
     refuses("another version is refused", lambda: ped.Frames(LOST, other))
     refuses("another order is refused", lambda: ped.Frames(LOST, ped.Config(2)))
@@ -397,6 +404,134 @@ def try_numpy():
     comm = next(index for index, frame in enumerate(frames) if frame.name == "comm")
     check("numpy: numbers and spans", (table["numbers"][comm, 0], table["spans"]["len"][comm, 0])
           == (frames[comm].fields["pid"], len(frames[comm].fields["comm"])))
+
+
+# ---- files of perf record
+
+EVENTS = TOP / "examples/events.data"
+# In the order of enum ped_file_refusal, with which the header's ped_file_message has the texts.
+HEADER = (TOP / "bindings/c/perf_event_data.h").read_text()
+
+
+def file_line(index, frame):
+    """The line of `perf_data dump`."""
+    owner = "?" if frame.refusal else "-"
+    if frame.event:
+        owner = frame.event.number
+    elif frame.unknown_id is not None:
+        owner = f"?{frame.unknown_id}"
+    rest = line(index, frame).partition(" ")[2]
+    if frame.refusal and not frame.event:
+        rest = f"{frame.type} {frame.misc} {frame.size} refused {'NoId' if owner == '?' else 'UnknownId'}"
+    return f"{index} {frame.at} {owner} {rest}"
+
+
+def lines_of(frames):
+    return [file_line(index, frame) for index, frame in enumerate(frames)]
+
+
+def try_texts_of_files():
+    recording = ped.open(EVENTS)
+    dump, times = (EVENTS.with_suffix(suffix).read_text().splitlines() for suffix in (".dump", ".time"))
+    compare("text of examples/events.dump", dump, lines_of(recording.frames("file")))
+    compare("text of examples/events.time", times, lines_of(recording.frames("time")))
+    events = [f"{it.number} type={it.type} config={it.event:#x} sample_type={it.config.sample_type:#x} ids={len(it.ids)}"
+              for it in recording.events]
+    expected = EVENTS.with_suffix(".events").read_text().splitlines()
+    compare("events of examples/events.events", [f"{it.split()[0]} {' '.join(it.split()[-4:])}" for it in expected], events)
+    for event in recording.events:
+        owned = [it.split(" ", 1)[1] for it in times if it.split()[2] == str(event.number)]
+        compare(f"frames of {event}", owned, [it.split(" ", 1)[1] for it in lines_of(event.frames)])
+    frames = recording.frames("file")
+    owners = [None if it == "-" else int(it) for it in (text.split()[2] for text in dump)]
+    check("columns of a file", (frames.column("at"), frames.column("event"), list(frames.starts))
+          == ([int(it.split()[1]) for it in dump], owners, frames.column("at")))
+    check("the last frame by its index, and a slice", lines_of(frames[-1:]) == lines_of([frames[89]])
+          and (frames[-1].at, len(frames[5:]), frames.taken, frames.end) == (8320, 85, 8328, "done"))
+    check("what is shown of a file", (repr(recording), repr(recording.events[1]), repr(frames)) == (
+        "<Recording: 3 events, 90 frames>", "<Event 1: type 1, event 0x2, 4 ids>", "<FileFrames: 90, end 'done'>"))
+    refuses("another order of frames is refused", lambda: recording.frames("size"))
+
+
+def try_refused_files():
+    names = dict(re.findall(r"PED_FILE_(\w+) = (\d+)", HEADER))
+    texts = dict(re.findall(r"case PED_FILE_(\w+):\s*return ((?:\s*\"[^\"]*\")+);", HEADER))
+    expected = {int(names[name]): ("".join(it.title() for it in name.split("_")), "".join(re.findall('"([^"]*)"', text)))
+                for name, text in texts.items() if name != "READ"}
+    check("the refusals of files are those of the header", ped._FILE_REFUSALS == expected)
+    data = EVENTS.read_bytes()
+    damaged = {"NotPerfData": b"", "OldFormat": b"PERFFILE" + data[8:], "BadHead": data[:50], "CutFrames": data[:4000],
+               "Compressed": data[:75] + bytes([data[75] | 8]) + data[76:]}
+    for kind, given in damaged.items():
+        try:
+            ped.Recording(given)
+            check(f"{kind} is refused", False)
+        except ped.RefusedFile as refusal:
+            check(f"refused: {refusal}", refusal.kind == kind and str(refusal) == dict(expected.values())[kind])
+    for text, call in ("an attribute", ped.read_attribute), ("frames", ped.Frames):
+        try:
+            call(data)
+            check(f"a file in place of {text} is refused", False)
+        except ped.Error as refusal:
+            check(f"a file in place of {text}: {refusal}", all(it in str(refusal) for it in ("perf_event_data.open", "perf_data")))
+
+
+def try_damaged_frames():
+    """As bindings/file_words_test.sh does it."""
+    data, lines = EVENTS.read_bytes(), EVENTS.with_suffix(".dump").read_text().splitlines()
+    (number, last), (before, place, _, _, _, size) = lines[-1].split()[:2], lines[-2].split()[:6]
+    short = bytearray(data)
+    short[int(last)] = 14
+    found = ped.Recording(short).frames("file")
+    compare("a SWITCH that is too short for an id", [*lines[:-1], f"{number} {last} ? 14 0 8 refused NoId"], lines_of(found))
+    check("and why", found[-1].message == "it is too short for an id" and found[-2].message == "")
+    other = bytearray(data)
+    other[int(last) - 8:int(last)] = (2**63 - 1).to_bytes(8, "little")
+    found = ped.Recording(other).frames("file")
+    expected = [*lines[:-2], f"{before} {place} ?{2**63 - 1} 4 0 {size} refused UnknownId", lines[-1]]
+    compare("an id that no event has", expected, lines_of(found))
+    check("and why, too", found[-2].message == "its id is that of no event of the file")
+
+
+def read_all(data):
+    """Reads all of a file in all ways; returns why it is refused, or None."""
+    try:
+        recording = ped.Recording(data)
+    except ped.RefusedFile as refusal:
+        return refusal.kind
+    frames = recording.frames("time")
+    for frame in frames:
+        assert len(frame.fields) < 28 and spans_are_inside(frame) and frame.length <= len(data) - frame.at
+    counts = [len(event.frames.column("time")) for event in recording.events]
+    assert sum(counts) == sum(it is not None for it in frames.column("event")) and len(frames.rows) == 320 * len(frames)
+    return None
+
+
+def try_hostile_files():
+    data = EVENTS.read_bytes()
+    lengths = [*range(0, 700), *range(700, len(data), 97)]
+    found = [read_all(data[:length]) for length in lengths]
+    check(f"{len(lengths)} files that are cut: {len(set(found))} ways", None not in found[:680] and len(set(found)) > 2)
+    found = []
+    for index, byte in ((index, byte) for byte in (0, 255) for index in range(2048)):
+        found.append(read_all(data[:index] + bytes([byte]) + data[index + 1:]))
+    check(f"{len(found)} files with one byte changed: {found.count(None)} are read, {len(set(found)) - 1} refusals",
+          len(found) == 4096 and len(set(found)) > 8)
+
+
+def try_numpy_of_files():
+    try:
+        import numpy
+    except ImportError:
+        tell("skipped", "numpy of a file: not installed")
+        return
+    frames = ped.open(EVENTS).frames("time")
+    times = frames.numpy("time")
+    samples = [int(re.search(r" Sample .* time=(\d+)", it)[1]) for it in EVENTS.with_suffix(".time").read_text().splitlines()
+               if " Sample " in it]
+    check("numpy: the times of all frames of a file", times[frames.numpy("read") == 9].tolist() == samples
+          and times.dtype == numpy.uint64 and bool((numpy.diff(times.astype("i8")) >= 0).all()))
+    check("numpy: all numbers of a file", frames.numpy()["time"].tolist() == times.tolist())
 
 
 # ---- the import and the type hints
@@ -429,6 +564,8 @@ def try_hints():
     check("and each attribute", all(set(names) <= set(kind.__annotations__) for kind, names in attributes.items()))
     tables = {name for name, value in public.items() if isinstance(value, (dict, list, tuple))}
     check("and each table", tables and tables <= set(ped.__annotations__))
+    named = {name for name, value in public.items() if value in own or name in tables or isinstance(value, int)}
+    check("and __all__ has all names", named - {"annotations", "TYPE_CHECKING"} == set(ped.__all__))
 
 
 # ---- measurements
@@ -475,7 +612,8 @@ def main():
     replay("runs of crates/perf_replay", (CRATES / "perf_replay/stdin").read_text())
     streams = [sys.executable, TOP / "bindings/streams.py", "list", "1", "200"]
     replay("generated streams", subprocess.run(streams, capture_output=True, text=True, check=True).stdout)
-    for call in (try_words, try_inputs, try_memory, try_sequence, try_frames, try_wrong_bytes, try_numpy, measure):
+    for call in (try_words, try_inputs, try_memory, try_sequence, try_frames, try_wrong_bytes, try_numpy, try_texts_of_files,
+                 try_refused_files, try_damaged_frames, try_hostile_files, try_numpy_of_files, measure):
         call()
     print(", ".join(f"{number} {result.lower()}" for result, number in results.items()))
     return 1 if results["FAILED"] else 0
