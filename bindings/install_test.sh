@@ -105,15 +105,28 @@ has_names() {
     fi
 }
 
+# Compares what the other words print of a file of `perf record` with how many samples each task has of each event.
+has_counts() {
+    prints "$(cat "$here/../examples/events.samples")" "$@" <"$here/../examples/events.data"
+}
+
+# Builds a program of the folder `first`: build_page NAME.
+build_page() {
+    try "build $1.c" cc -std=c99 $pie -Wall -Wextra -Wpedantic -Werror $(package --cflags) -o "$work/$1" \
+        "$here/first/$1.c" "$(package --variable=libdir)/libperf_event_data.a"
+}
+
 # The programs of docs/LINKING.md and of the README here, over the copy in `prefix`.
 try_pages() {
-    try "build names.c" cc -std=c99 $pie -Wall -Wextra -Wpedantic -Werror $(package --cflags) -o "$work/names" \
-        "$here/first/names.c" "$(package --variable=libdir)/libperf_event_data.a" && has_names "run names.c" "$work/names"
+    build_page names && has_names "run names.c" "$work/names"
+    build_page samples && has_counts "run samples.c" "$work/samples"
     if [ -n "$shared" ] && command -v python3 >/dev/null; then
         has_names "run names.py" env PYTHONPATH="$prefix/share/perf_event_data/python" \
             python3 "$here/first/names.py" "$here/../examples/recording.stream"
+        has_counts "run samples.py" env PYTHONPATH="$prefix/share/perf_event_data/python" \
+            python3 "$here/first/samples.py" "$here/../examples/events.data"
     else
-        skip "names.py: no shared object, or no python3"
+        skip "names.py and samples.py: no shared object, or no python3"
     fi
 }
 

@@ -25,3 +25,4 @@ env -i PATH=/usr/bin:/bin LC_ALL=C TZ=UTC taskset -c 0,1 \
 "$here/perf-data-dump.py" events events.data > events.events
 "$here/perf-data-dump.py" dump events.data > events.dump
 "$here/perf-data-dump.py" time events.data > events.time
+awk -f "$here/count-samples.awk" events.time > events.samples

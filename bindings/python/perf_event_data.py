@@ -37,9 +37,9 @@ from typing import TYPE_CHECKING, Any, overload
 if TYPE_CHECKING:
     from numpy import ndarray
 
-__all__ = ["BIG", "ENDS", "FIELDS", "FLAGS", "FILE_KINDS", "KINDS", "LITTLE", "STRUCT_VERSION", "TYPES", "Config", "Error",
-           "Event", "FileFrames", "Frame", "Frames", "Recording", "RefusedAttribute", "RefusedFile", "identifier", "open",
-           "read_attribute"]
+__all__ = ["BIG", "ENDS", "FIELDS", "FLAGS", "FILE_KINDS", "KINDS", "LITTLE", "STRUCT_VERSION", "TYPES", "Config",
+           "Error", "Event", "FileFrames", "Frame", "Frames", "Recording", "RefusedAttribute", "RefusedFile",
+           "identifier", "open", "read_attribute"]
 
 # The types of the tables below.
 TYPES: list[str]
@@ -93,8 +93,8 @@ _FILE_REFUSALS = {
 _NO_EVENT = {2: "its id is that of no event of the file", 3: "it is too short for an id"}
 FILE_KINDS = {number: kind for number, (kind, _) in _FILE_REFUSALS.items()}
 _MAGICS = b"PERFILE2", b"2ELIFREP", b"PERFFILE"
-_NO_STREAM = ("this is a file of `perf record`, not a stream: open it by perf_event_data.open, or print it by the program"
-              " perf_data")
+_NO_STREAM = ("this is a file of `perf record`, not a stream: open it by perf_event_data.open, or print it by the"
+              " program perf_data")
 
 # The fields of each record by the names of the C header: numbers, and after the semicolon spans. A span of a
 # list ends in `*` and how many numbers an item has; those of `values` depend on the read format. After `/`
