@@ -116,7 +116,7 @@ build_page() {
         "$here/first/$1.c" "$(package --variable=libdir)/libperf_event_data.a"
 }
 
-# The programs of docs/LINKING.md and of the README here, over the copy in `prefix`.
+# The programs of docs/LINKING.md and of both README, over the copy in `prefix`.
 try_pages() {
     build_page names && has_names "run names.c" "$work/names"
     build_page samples && has_counts "run samples.c" "$work/samples"
@@ -127,6 +127,13 @@ try_pages() {
             python3 "$here/first/samples.py" "$here/../examples/events.data"
     else
         skip "names.py and samples.py: no shared object, or no python3"
+    fi
+    if command -v cargo >/dev/null; then
+        build_rust "$here/first/samples.rs" samples.rs PKG_CONFIG=false &&
+            has_counts "run samples.rs" "$work/target/debug/first" "$here/../examples/events.data"
+        rm -rf "$work/target"
+    else
+        skip "samples.rs: no cargo"
     fi
 }
 

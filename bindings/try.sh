@@ -57,6 +57,20 @@ make_quietly() {
     make -s -C "$here" "$goal" OUT="$work/out" ARCHIVE="$archive" "$@"
 }
 
+# Builds a program over the crate in `crate`, which finds the archive by the words given, as "$work/target/debug/first":
+# build_rust FILE NAME WORDS.
+build_rust() {
+    source=$1 label=$2
+    shift 2
+    rm -rf "$work/first_rust"
+    mkdir -p "$work/first_rust/src"
+    cp "$source" "$work/first_rust/src/main.rs"
+    printf '[package]\nname = "first"\nversion = "0.1.0"\nedition = "2021"\n\n[dependencies]\n%s\n' \
+        "perf-event-data = { path = \"$crate\" }" >"$work/first_rust/Cargo.toml"
+    try "build $label" env "$@" RUSTFLAGS="${rust_pie:-}" CARGO_TARGET_DIR="$work/target" \
+        cargo build --offline --quiet --manifest-path "$work/first_rust/Cargo.toml"
+}
+
 # Builds and runs the first program over the crate in `crate`, which finds the archive by the words given: try_rust
 # NAME WORDS.
 try_rust() {
@@ -66,14 +80,7 @@ try_rust() {
         skip "$label: no cargo"
         return
     fi
-    rm -rf "$work/first_rust"
-    mkdir -p "$work/first_rust/src"
-    cp "$work/first.rs" "$work/first_rust/src/main.rs"
-    printf '[package]\nname = "first"\nversion = "0.1.0"\nedition = "2021"\n\n[dependencies]\n%s\n' \
-        "perf-event-data = { path = \"$crate\" }" >"$work/first_rust/Cargo.toml"
     built=$label
-    try "build $label" env "$@" RUSTFLAGS="${rust_pie:-}" CARGO_TARGET_DIR="$work/target" \
-        cargo build --offline --quiet --manifest-path "$work/first_rust/Cargo.toml" &&
-        try_first "run $built" "$work/target/debug/first"
+    build_rust "$work/first.rs" "$label" "$@" && try_first "run $built" "$work/target/debug/first"
     rm -rf "$work/target"
 }

@@ -31,7 +31,7 @@ enum Source {
 #[derive(Copy, Clone, Debug, Eq, PartialEq, Hash)]
 #[non_exhaustive]
 pub enum ErrorKind {
-    /// Bytes are missing.
+    /// Bytes are missing: at the front of a record that is cut short, or because nothing is left.
     Eof,
 
     /// A size or a length of the record contradicts another.

@@ -46,6 +46,54 @@ pub(crate) struct Frame {
     pub(crate) spans: [Span; 8],
 }
 
+/// A part of a file: `struct ped_part`.
+#[repr(C)]
+#[derive(Copy, Clone, Debug, Default)]
+pub(crate) struct Part {
+    pub(crate) at: u64,
+    pub(crate) size: u64,
+}
+
+/// What is known of a file before its events are read: `struct ped_file`.
+#[repr(C)]
+#[derive(Copy, Clone, Debug, Default)]
+pub(crate) struct File {
+    pub(crate) order: u32,
+    pub(crate) is_closed: u32,
+    pub(crate) frames: Part,
+    pub(crate) events: u64,
+    pub(crate) ids: u64,
+}
+
+/// An event of a file: `struct ped_event`.
+#[repr(C)]
+#[derive(Copy, Clone, Debug, Default)]
+pub(crate) struct Event {
+    pub(crate) config: Config,
+    pub(crate) type_: u32,
+    pub(crate) event: u64,
+    pub(crate) ids_at: u64,
+    pub(crate) ids: u64,
+}
+
+/// An id, and the number of its event: `struct ped_id`.
+#[repr(C)]
+#[derive(Copy, Clone, Debug, Default)]
+pub(crate) struct Id {
+    id: u64,
+    event: u64,
+}
+
+/// A frame of a file: `struct ped_entry`.
+#[repr(C)]
+#[derive(Copy, Clone, Debug, Default)]
+pub(crate) struct Entry {
+    pub(crate) time: u64,
+    pub(crate) at: u64,
+    pub(crate) number: u64,
+    pub(crate) owner: u32,
+}
+
 /// The version of these structs, `PED_VERSION`.
 pub(crate) const VERSION: u32 = 1;
 
@@ -92,6 +140,9 @@ compile_error!(
 
 const _: () = assert!(std::mem::size_of::<Config>() == 56);
 const _: () = assert!(std::mem::size_of::<Frame>() == 320);
+const _: () = assert!(std::mem::size_of::<File>() == 40);
+const _: () = assert!(std::mem::size_of::<Event>() == 88);
+const _: () = assert!(std::mem::size_of::<Entry>() == 32);
 
 extern "C" {
     fn ped_read(config: *const Config, bytes: *const u8, len: usize, frame: *mut Frame) -> u32;
@@ -104,6 +155,41 @@ extern "C" {
         len: usize,
         frame: *mut Frame,
     ) -> u32;
+
+    fn ped_identifier(
+        bytes: *const u8,
+        len: usize,
+        order: u32,
+        sample_id_all: u32,
+        id: *mut u64,
+    ) -> u32;
+
+    fn ped_file_open(bytes: *const u8, len: usize, file: *mut File) -> u32;
+
+    fn ped_file_events(
+        bytes: *const u8,
+        len: usize,
+        events: *mut Event,
+        event_count: usize,
+        parts: *mut Part,
+        part_count: usize,
+        ids: *mut Id,
+        id_count: usize,
+    ) -> u32;
+
+    fn ped_file_next(
+        file: *const File,
+        bytes: *const u8,
+        len: usize,
+        events: *const Event,
+        event_count: usize,
+        ids: *const Id,
+        id_count: usize,
+        at: *mut u64,
+        entry: *mut Entry,
+    ) -> u32;
+
+    fn ped_file_sort(entries: *mut Entry, count: usize);
 }
 
 /// What a call returns that wrote a whole frame, accepted or refused: `PED_LIMIT`.
@@ -145,4 +231,92 @@ pub(crate) fn read_body<'f>(
         WRITTEN => Ok(unsafe { place.0.assume_init_ref() }),
         _ => Err(End::of(end)),
     }
+}
+
+/// The kernel's number of the event that wrote the frame at the front of bytes, if it has one.
+pub(crate) fn identifier(bytes: &[u8], order: u32) -> Option<u64> {
+    let mut id = 0;
+    // SAFETY: as in `read`.
+    let found = unsafe { ped_identifier(bytes.as_ptr(), bytes.len(), order, 1, &mut id) };
+    (found != 0).then_some(id)
+}
+
+/// An opened file: its bytes, and what the library wrote for them.
+#[derive(Clone, Debug)]
+pub(crate) struct Opened<'p> {
+    pub(crate) bytes: &'p [u8],
+    pub(crate) file: File,
+    pub(crate) events: Vec<Event>,
+    ids: Vec<Id>,
+}
+
+impl<'p> Opened<'p> {
+    /// Opens a file, or returns the number of its refusal.
+    pub(crate) fn open(bytes: &'p [u8]) -> Result<Self, u32> {
+        let mut file = File::default();
+        // SAFETY: as in `read`.
+        match unsafe { ped_file_open(bytes.as_ptr(), bytes.len(), &mut file) } {
+            0 => {}
+            refusal => return Err(refusal),
+        }
+        // the library states no more than the file has bytes for
+        let mut events = vec![Event::default(); file.events as usize];
+        let mut parts = vec![Part::default(); events.len() + 3];
+        let mut ids = vec![Id::default(); file.ids as usize];
+        // SAFETY: as in `read`; the lengths are those of the lists.
+        let refusal = unsafe {
+            ped_file_events(
+                bytes.as_ptr(),
+                bytes.len(),
+                events.as_mut_ptr(),
+                events.len(),
+                parts.as_mut_ptr(),
+                parts.len(),
+                ids.as_mut_ptr(),
+                ids.len(),
+            )
+        };
+        match refusal {
+            0 => Ok(Self {
+                bytes,
+                file,
+                events,
+                ids,
+            }),
+            refusal => Err(refusal),
+        }
+    }
+
+    /// The entry of the frame at an offset, which moves beyond the frame and its payload; `None`
+    /// if no whole header of this file's frames is there.
+    pub(crate) fn next(&self, at: &mut u64) -> Option<Entry> {
+        let Part { at: start, size } = self.file.frames;
+        let offset = at.checked_sub(start)?;
+        if size.checked_sub(8)? < offset {
+            return None;
+        }
+        let mut entry = Entry::default();
+        // SAFETY: as in `read`; the lists are those that the library wrote for these bytes, which
+        // are borrowed and so did not change.
+        let end = unsafe {
+            ped_file_next(
+                &self.file,
+                self.bytes.as_ptr(),
+                self.bytes.len(),
+                self.events.as_ptr(),
+                self.events.len(),
+                self.ids.as_ptr(),
+                self.ids.len(),
+                at,
+                &mut entry,
+            )
+        };
+        (end == WRITTEN).then_some(entry)
+    }
+}
+
+/// Sorts entries by time, and at equal times by their offsets.
+pub(crate) fn sort(entries: &mut [Entry]) {
+    // SAFETY: as in `read`.
+    unsafe { ped_file_sort(entries.as_mut_ptr(), entries.len()) }
 }

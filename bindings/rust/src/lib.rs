@@ -7,6 +7,8 @@
 //! - [`Record`] is a record of any type, and [`Visitor`] takes one without an enum.
 //! - [`parse`] contains the [`Parser`](parse::Parser) and its [`ParseConfig`](parse::ParseConfig).
 //! - [`endian`] contains the byte orders.
+//! - [`mod@file`] opens files of `perf record`.
+//! - [`frames`] and [`read_records`] read all records of bytes or of a reader.
 //! - [`sys`] contains structs and numbers of the kernel's header.
 //!
 //! Byte strings and lists are borrowed from the input: lists only if they are aligned and in this
@@ -69,8 +71,10 @@ mod debug;
 pub mod endian;
 mod error;
 mod ffi;
+pub mod file;
 mod flags;
 mod flat;
+mod frame;
 pub mod parse;
 mod parsebuf;
 mod read;
@@ -81,6 +85,7 @@ mod visitor;
 
 pub use crate::data_source::DataSource;
 pub use crate::flags::*;
+pub use crate::frame::{frames, read_records, BadFrame, Frame, FrameIter, FramesEnd, Run, RunEnd};
 pub use crate::read::{GroupEntry, GroupIter, Read, ReadGroup, ReadValue, TryFromGroupError};
 pub use crate::records::{
     Aux, AuxOutputHwId, BpfEvent, CGroup, Comm, Exit, Fork, ITraceStart, KSymbol, Lost,

@@ -60,13 +60,13 @@
 use std::borrow::Cow;
 use std::mem::size_of;
 
-use crate::endian::Endian;
+use crate::endian::{Endian, Native};
 use crate::error::Reason;
 use crate::ffi::{Config, Place};
 use crate::flat::{in_place, Flat, HEADER, MAX_BODY};
 use crate::parsebuf::ParseBufCursor;
 use crate::records::{Record, SampleId};
-use crate::sys::{self, perf_event_header, SAMPLE_ID_ALL};
+use crate::sys::{self, perf_event_attr, perf_event_header, SAMPLE_ID_ALL};
 use crate::visitor::{visit, RecordMetadata, RecordVisitor, Visitor};
 
 pub use crate::config::ParseConfig;
@@ -83,6 +83,10 @@ pub trait Parse<'p>: Sized {
 }
 
 /// Reads values from a buffer, under a configuration.
+///
+/// [`ErrorKind::Eof`] has two meanings for a record: nothing is left, or the record is cut short,
+/// and others may follow. To read all records, loop by [`frames`](crate::frames) or
+/// [`read_records`](crate::read_records), which tell the two apart.
 ///
 /// After an error it is not stated how many bytes were taken, except that a record takes those of
 /// its own frame: a refused record affects no other.
@@ -124,6 +128,23 @@ where
     #[inline]
     pub fn endian(&self) -> &E {
         self.config.endian()
+    }
+
+    /// Reads the attribute at the front, and returns a parser of the bytes after it, under the
+    /// attribute's configuration and in the same byte order.
+    pub fn after_attribute(mut self) -> ParseResult<Self> {
+        let attr: perf_event_attr = self.parse()?;
+        let config = ParseConfig::<Native>::from(attr).with_endian(self.endian().clone());
+        Ok(Self::new(self.data, config))
+    }
+
+    /// Whether no byte is left.
+    pub(crate) fn is_at_end(&mut self) -> ParseResult<bool> {
+        match self.data.chunk() {
+            Ok(chunk) => Ok(chunk.is_empty()),
+            Err(error) if error.kind() == ErrorKind::Eof => Ok(true),
+            Err(error) => Err(error),
+        }
     }
 
     /// Parses a value of a type.

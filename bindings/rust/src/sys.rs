@@ -3,7 +3,7 @@
 #![allow(non_camel_case_types)]
 
 use crate::endian::Endian;
-use crate::error::Reason;
+use crate::error::{ErrorKind, Reason};
 use crate::parse::{parse_by, Parse, ParseBuf, ParseError, ParseResult, Parser};
 
 /// The first eight bytes of every record.
@@ -151,6 +151,18 @@ parse_by! {
     };
 }
 
+/// What a file of `perf record` begins with, in both orders, as the first two numbers.
+const FILE_MAGICS: [(u32, u32); 4] = [
+    (0x4652_4550, 0x3245_4c49),
+    (0x5045_5246, 0x494c_4532),
+    (0x494c_4532, 0x5045_5246),
+    (0x3245_4c49, 0x4652_4550),
+];
+
+/// Why such a file is no stream.
+const NO_STREAM: &str = "this is a file of `perf record`, not a stream: open it by \
+    file::Recording, or print it by the program perf_data";
+
 impl<'p> Parse<'p> for perf_event_attr {
     fn parse<B, E>(p: &mut Parser<B, E>) -> ParseResult<Self>
     where
@@ -159,6 +171,9 @@ impl<'p> Parse<'p> for perf_event_attr {
     {
         let type_ = p.parse()?;
         let size: u32 = p.parse()?;
+        if FILE_MAGICS.contains(&(type_, size)) {
+            return Err(ParseError::custom(ErrorKind::Eof, NO_STREAM));
+        }
         if size < PERF_ATTR_SIZE_VER8 && !ATTR_SIZES.contains(&size) {
             return Err(ParseError::because(Reason::AttributeSize));
         }
