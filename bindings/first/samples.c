@@ -17,7 +17,15 @@ static void count_sample(struct count *counts, unsigned tid, uint64_t event)
     *counts = (struct count){event, tid, counts->samples + 1};
 }
 
-static uint32_t count_samples(const uint8_t *bytes, size_t len)
+static void print_counts(const struct count *counts)
+{
+    for (; counts->samples > 0; counts++) {
+        printf("task %u, event %llu: %u\n", counts->tid, (unsigned long long)counts->event, counts->samples);
+    }
+}
+
+/* Returns why the file is refused, if it is. */
+uint32_t count_samples(const uint8_t *bytes, size_t len)
 {
     struct ped_file file = {0};
     uint32_t refusal = ped_file_open(bytes, len, &file);
@@ -27,11 +35,11 @@ static uint32_t count_samples(const uint8_t *bytes, size_t len)
     struct ped_entry *entries = calloc(len / 8 + 1, sizeof *entries), *entry = entries, *end = entries;
     struct count *counts = calloc(len / 8 + 1, sizeof *counts);
     uint64_t at = 0;
-    if (refusal != PED_FILE_READ || (refusal = ped_file_events(bytes, len, events, file.events, parts,
-            PED_FILE_PARTS(file.events), ids, file.ids)) != PED_FILE_READ) {
-        return refusal;
+    if (refusal == PED_FILE_READ) {
+        refusal = ped_file_events(bytes, len, events, file.events, parts, PED_FILE_PARTS(file.events), ids, file.ids);
     }
-    while (ped_file_next(&file, bytes, len, events, file.events, ids, file.ids, &at, end) == PED_LIMIT) {
+    while (refusal == PED_FILE_READ
+           && ped_file_next(&file, bytes, len, events, file.events, ids, file.ids, &at, end) == PED_LIMIT) {
         end++;
     }
     ped_file_sort(entries, end - entries);
@@ -41,10 +49,8 @@ static uint32_t count_samples(const uint8_t *bytes, size_t len)
             count_sample(counts, frame.tid, entry->number);
         }
     }
-    for (; counts->samples > 0; counts++) {
-        printf("task %u, event %llu: %u\n", counts->tid, (unsigned long long)counts->event, counts->samples);
-    }
-    return PED_FILE_READ;
+    print_counts(counts);
+    return refusal;
 }
 
 static uint8_t bytes[1 << 26];
@@ -53,5 +59,6 @@ int main(void)
 {
     uint32_t refusal = count_samples(bytes, fread(bytes, 1, sizeof bytes, stdin));
     fputs(ped_file_message(refusal), stderr);
+    fputs(refusal == PED_FILE_READ ? "" : "\n", stderr);
     return refusal != PED_FILE_READ;
 }
