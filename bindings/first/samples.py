@@ -7,7 +7,7 @@ import perf_event_data as ped
 
 counts = collections.Counter()
 for frame in ped.open(sys.argv[1]).frames("time"):
-    if frame.name == "sample":
+    if frame.event and frame.name == "sample":
         counts[frame.tid, frame.event.number] += 1
 for (tid, event), count in counts.items():
     print(f"task {tid}, event {event}: {count}")
