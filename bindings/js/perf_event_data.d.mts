@@ -118,10 +118,11 @@ export class Stream implements Iterable<Frame> {
 
 export interface Library {
     /** The frames of bytes under the configuration of the event that wrote them; without one, records have no sample id and
-     * samples have no fields. Throws a RangeError for a start outside the bytes, or a configuration that is not read. */
+     * samples have no fields. Throws a RangeError for a start outside the bytes, a configuration that is not read, or a file of
+     * `perf record`. */
     stream(bytes: Bytes, config?: Config | ConfigFields, options?: StreamOptions): Stream;
     /** The configuration of the event attribute at the front of bytes, and its length in bytes. Throws a RangeError, whose
-     * message is a `Refusal`, if it is refused. */
+     * message is a `Refusal`, if it is refused; of a file of `perf record` it says so. */
     readAttribute(bytes: Bytes, order?: Order): { config: Config; length: number };
     /** The kernel's number of the event that wrote the frame at the front of bytes; undefined if it has none. All events must
      * have PERF_SAMPLE_IDENTIFIER, and `sampleIdAll` is whether they have that too. */

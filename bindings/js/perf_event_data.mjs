@@ -25,6 +25,9 @@ export const LITTLE = 0;
 export const BIG = 1;
 
 const ENDS = ["limit", "done", "cut header"];
+// What a file of `perf record` begins with.
+const MAGICS = ["PERFILE2", "2ELIFREP", "PERFFILE"];
+const NO_STREAM = "this is a file of `perf record`, not a stream: print it by the program perf_data";
 const LIMIT = 0;
 
 // The module's memory above its own: a configuration, what calls return, a piece of the input, and a batch of frames.
@@ -66,6 +69,10 @@ function bytesOf(data) {
         return new Uint8Array(data);
     }
     throw new TypeError("the bytes must be an ArrayBuffer or a view of one");
+}
+
+function isFile(bytes) {
+    return MAGICS.includes(String.fromCharCode(...bytes.subarray(0, 8)));
 }
 
 /** Returns a number of 32 or 64 bits as a BigInt. */
@@ -401,6 +408,9 @@ export class Stream {
         if (!Number.isInteger(start) || start < 0 || start > this.bytes.length) {
             throw new RangeError("the start is outside the bytes");
         }
+        if (start === 0 && isFile(this.bytes)) {
+            throw new RangeError(NO_STREAM);
+        }
         machine.putConfig(this.config);
         if (machine.readMany(0, 1).how >= ENDS.length) {
             throw new RangeError("the configuration is of another version, or has no such order");
@@ -513,7 +523,7 @@ class Library {
     }
 
     /** The configuration of the event attribute at the front of bytes, and its length. Throws a RangeError with the
-     * kind of the refusal if it is refused. */
+     * kind of the refusal if it is refused; of a file of `perf record` it says so. */
     readAttribute(data, order = LITTLE) {
         const machine = this.#machine;
         const bytes = bytesOf(data);
@@ -524,7 +534,7 @@ class Library {
         const kind = machine.calls.ped_read_attr(BigInt(machine.piece), BigInt(front.length), order,
             BigInt(machine.config), BigInt(machine.result));
         if (kind !== 0) {
-            throw new RangeError(KINDS[kind]);
+            throw new RangeError(isFile(bytes) ? NO_STREAM : KINDS[kind]);
         }
         const taken = new DataView(machine.memory.buffer, machine.result, RESULT_BYTES).getBigUint64(0, true);
         return { config: machine.takeConfig(), length: Number(taken) };

@@ -409,6 +409,10 @@ function tryStream() {
     const none = [ped.stream(new Uint8Array()), ped.stream(new ArrayBuffer(0)), ped.stream(lost, {}, { limit: 0 })];
     check("no frames", none.map((it) => [it.count, it.end, it.column("time").length].join()).join(" ") === "0,done,0 0,done,0 0,limit,0");
     refuses("a start before the bytes", () => ped.stream(lost, {}, { start: -16 }), "the start is outside the bytes");
+    const file = bytesIn("examples", "events.data");
+    const what = "this is a file of `perf record`, not a stream: print it by the program perf_data";
+    refuses("a file of perf record in place of a stream", () => ped.stream(file), what);
+    refuses("a file of perf record in place of an attribute", () => ped.readAttribute(file), what);
     refuses("a start after the bytes", () => ped.stream(lost, {}, { start: 17 }), "the start is outside the bytes");
     refuses("a column of no record", () => stream.column("lots.lost"), "there is no column lots.lost");
     refuses("a column of no field", () => stream.column("lost.ip"), "there is no column lost.ip");
