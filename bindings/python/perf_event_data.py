@@ -687,9 +687,17 @@ class Recording:
         """Returns the flat frame of a frame without an event. One of perf itself has its body as a span."""
         type, misc, size = struct.unpack_from(("<IHH", ">IHH")[self.order], self.data, at)
         end = self._file.frames.at + self._file.frames.size
-        refusal = 3 if owner != _PERF else 2 if size < 8 else 1 if at + size > end else 0
+        payload = _payload_length(self.data[at + 8:at + size], type, self.order)
+        refusal = 3 if owner != _PERF else 2 if size < 8 else 1 if at + size + payload > end else 0
         span = [0, 0] if refusal else [8, size - 8]
         return [type, misc, size, 0, refusal, 1 if refusal == 2 else 0, *[0] * 32, *span, *[0] * 14]
+
+
+def _payload_length(body: memoryview, type: int, order: int) -> int:
+    """Returns how many bytes that are no frames a frame announces: AUXTRACE and TRACING_DATA do."""
+    width = {71: 8, 66: 4}.get(type, 0)
+    number = int.from_bytes(body[:width], ("little", "big")[order]) if len(body) >= width else 0
+    return number + -number % 8 if width == 4 else number
 
 
 def open(path: str | os.PathLike[str]) -> Recording:

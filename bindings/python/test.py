@@ -415,13 +415,13 @@ HEADER = (TOP / "bindings/c/perf_event_data.h").read_text()
 
 def file_line(index, frame):
     """The line of `perf_data dump`."""
-    owner = "?" if frame.refusal else "-"
+    owner = "?" if frame.refusal == 3 else "-"
     if frame.event:
         owner = frame.event.number
     elif frame.unknown_id is not None:
         owner = f"?{frame.unknown_id}"
     rest = line(index, frame).partition(" ")[2]
-    if frame.refusal and not frame.event:
+    if frame.refusal == 3 and not frame.event:
         rest = f"{frame.type} {frame.misc} {frame.size} refused {'NoId' if owner == '?' else 'UnknownId'}"
     return f"{index} {frame.at} {owner} {rest}"
 
@@ -493,6 +493,11 @@ def try_damaged_frames():
     expected = [*lines[:-2], f"{before} {place} ?{2**63 - 1} 4 0 {size} refused UnknownId", lines[-1]]
     compare("an id that no event has", expected, lines_of(found))
     check("and why, too", found[-2].message == "its id is that of no event of the file")
+    announcing = bytearray(data)
+    announcing[int(place)] = 71
+    found = ped.Recording(announcing).frames("file")
+    compare("an AUXTRACE that announces more than there is", [*lines[:-2], f"{before} {place} - 71 0 {size} refused Eof"],
+            lines_of(found))
 
 
 def read_all(data):

@@ -223,6 +223,16 @@ pub struct FileFrame<'r, 'p> {
 }
 
 impl<'p> FileFrame<'_, 'p> {
+    /// Returns whether the payload that the frame announces is all there: the file may end before
+    /// it does.
+    pub fn has_payload(&self) -> bool {
+        let announced = match self.frame {
+            Ok(frame) => announced(self.recording.order, frame),
+            Err(_) => 0,
+        };
+        announced <= self.payload.len() as u64
+    }
+
     /// Parses the record, under the configuration of its own event. One that perf wrote for itself
     /// is [`Record::Unknown`].
     pub fn record(&self) -> ParseResult<Record<'p>> {
@@ -235,6 +245,15 @@ impl<'p> FileFrame<'_, 'p> {
             Some(config) => frame.record(config),
             None => Err(without_event(owner)),
         }
+    }
+}
+
+/// How many bytes that are no frames a frame announces: AUXTRACE and TRACING_DATA do.
+fn announced(order: Dynamic, frame: Frame<'_>) -> u64 {
+    match (frame.header().type_, frame.rest()) {
+        (71, &[a, b, c, d, e, f, g, h, ..]) => order.convert_u64([a, b, c, d, e, f, g, h]),
+        (66, &[a, b, c, d, ..]) => (u64::from(order.convert_u32([a, b, c, d])) + 7) & !7,
+        _ => 0,
     }
 }
 

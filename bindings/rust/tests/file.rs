@@ -41,6 +41,7 @@ fn line(index: usize, frame: &FileFrame<'_, '_>) -> String {
     let answer = match (frame.frame, frame.entry.owner()) {
         (Ok(_), Owner::Unknown(_)) => "refused UnknownId".to_owned(),
         (Ok(_), Owner::Short) => "refused NoId".to_owned(),
+        _ if !frame.has_payload() => "refused Eof".to_owned(),
         _ => text::answer(&frame.record()),
     };
     let perf_event_header { type_, misc, size } = header_of(frame);
@@ -133,6 +134,25 @@ fn damaged_frames_are_refused_alone() {
     expected[88] = format!("88 {place} ?9223372036854775807 4 0 {size} refused UnknownId");
     assert_eq!(dump(&other), expected);
 
+    // as AUXTRACE, which announces the bytes after it, it announces more than there are
+    let mut announcing = bytes.clone();
+    announcing[place] = 71;
+    let found = dump(&announcing);
+    assert_eq!(found[..88], lines[..88]);
+    assert_eq!(
+        found[88..],
+        [format!("88 {place} - 71 0 {size} refused Eof")]
+    );
+
+    // and so many that the frame after it is a part of them
+    announcing[place + 8..place + 16].copy_from_slice(&8u64.to_le_bytes());
+    let recording = Recording::open(&announcing).unwrap();
+    let last = recording.frames().last().unwrap();
+    assert_eq!(
+        (last.payload, last.has_payload()),
+        (&bytes[at..at + 8], true)
+    );
+
     // perf was killed, and the file ends inside the EXIT
     let mut killed = bytes[..place + 20].to_vec();
     killed[48..56].fill(0);
@@ -190,7 +210,9 @@ fn read_all(bytes: &[u8]) {
     let Ok(recording) = Recording::open(bytes) else {
         return;
     };
-    let frames: Vec<_> = recording.frames().collect();
+    let mut list = recording.frames();
+    let frames: Vec<_> = list.by_ref().collect();
+    assert!(list.end().is_some());
     let entries = recording.in_order();
     assert_eq!(entries.len(), frames.len());
     let key = |entry: &Entry| (entry.time(), entry.at());
@@ -198,6 +220,7 @@ fn read_all(bytes: &[u8]) {
     for entry in &entries {
         let frame = recording.frame_at(entry).unwrap();
         assert_eq!(frame.entry.owner(), entry.owner());
+        frame.has_payload();
         if let Ok(Record::Sample(sample)) = frame.record() {
             assert_eq!(sample.time().unwrap_or(0), entry.time());
         }
@@ -213,6 +236,12 @@ fn hostile_files_are_read_or_refused() {
     for (index, value) in (0..2048).flat_map(|index| [(index, 0), (index, 255)]) {
         let mut changed = bytes.clone();
         changed[index] = value;
+        read_all(&changed);
+    }
+    let places: Vec<_> = Recording::open(&bytes).unwrap().in_order();
+    for (entry, ty) in places.iter().flat_map(|entry| [(entry, 66), (entry, 71)]) {
+        let mut changed = bytes.clone();
+        changed[entry.at()] = ty;
         read_all(&changed);
     }
 }
