@@ -1,9 +1,9 @@
 #!/usr/bin/env bash
-# Runs perf_data over a recording, with the words that it knows and with others, and over damaged copies:
+# Runs perf_data over recordings, with the words that it knows and with others, and over damaged copies:
 #
 #     bindings/file_words_test.sh PROGRAM [WORD ..]
 #
-# What it must print of the recording, in examples, comes from perf; what it must print of a damaged copy is worked out
+# What it must print of the recordings, in examples, comes from perf; what it must print of a damaged copy is worked out
 # here from that. The last line is how many runs were tried, and how many failed; the status is 0 if none did.
 set -u
 if [ $# -lt 1 ]; then
@@ -64,6 +64,23 @@ check 0 "$examples/events.events" events -
 check 0 "$examples/events.dump" dump -
 input=/dev/null
 
+# Other recordings, and all of them as a big-endian machine writes them: shows NAME FILE
+shows() {
+    check 0 "$examples/$1.events" events "$2"
+    check 0 "$examples/$1.dump" dump "$2"
+    check 0 "$examples/$1.time" dump --order time "$2"
+}
+shows events "$examples/big-endian.data"
+for name in machine group killed; do
+    shows $name "$examples/$name.data"
+    if command -v python3 >/dev/null; then
+        python3 "$examples/big-endian.py" "$examples/$name.data" >"$work/$name.big"
+        shows $name "$work/$name.big"
+    else
+        echo "skipped: $name.data as a big-endian machine writes it: no python3"
+    fi
+done
+
 # Other words, and help.
 for words in '' events dump other 'events one two' 'dump one two' 'dump --order' 'dump --order size one' 'events --order time one' '--all' 'dump --all one'; do
     # shellcheck disable=SC2086  # these are several words
@@ -90,9 +107,7 @@ tried=$((tried + 1))
 
 # No file of perf record.
 refuses 'this is no perf.data file: pass a file that `perf record` has written' /dev/null
-cp "$file" "$work/damaged"
-damage 8 '\20'
-refuses 'this is what `perf record -o -` writes: record into a file, with `perf record -o perf.data`' "$work/damaged"
+refuses 'this is what `perf record -o -` writes: record into a file, with `perf record -o perf.data`' "$examples/pipe.data"
 cp "$file" "$work/damaged"
 damage 75 '\10'
 refuses 'the frames are compressed: run `perf inject -i perf.data -o plain.data`, or record without `-z`' "$work/damaged"

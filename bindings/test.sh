@@ -230,14 +230,27 @@ check_more() {
     done
 }
 
-# The frames of each event of the example, counted as its expected text has them, and of a file that perf writes on this machine,
-# where it may, the samples of each event, counted as `perf script` does.
+# The lines of the bundled files, of which that of a big-endian machine is a copy of another.
+check_file_lines() {
+    for name in events machine group killed big-endian; do
+        expected=$top/examples/$name
+        [ $name != big-endian ] || expected=$top/examples/events
+        "$1/file" --lines file "$top/examples/$name.data" >"$work/text"
+        compare "lines of examples/$name.data" "$expected.dump" "$work/text"
+        "$1/file" --lines time "$top/examples/$name.data" >"$work/text"
+        compare "lines of examples/$name.data by time" "$expected.time" "$work/text"
+    done
+}
+
+# The frames of each event of the example, counted as its expected text has them, and of a file that perf writes on
+# this machine, where it may, the samples of each event, counted as `perf script` does.
 check_files() {
+    check_file_lines "$1"
     awk '{ frames[$3]++ } END { for (n = 0; n in frames; n++) print frames[n]; print frames["-"] }' \
         "$top/examples/events.dump" >"$work/theirs"
     "$1/file" "$top/examples/events.data" | sed 's/.*: \([0-9]*\) frames.*/\1/' >"$work/text"
     compare "frames of each event of examples/events.data" "$work/theirs" "$work/text"
-    [ -z "$sanitize" ] || try "the same file cut and changed, sanitized" "$2/file" --cuts "$top/examples/events.data"
+    [ -z "$sanitize" ] || try "bundled files cut and changed, sanitized" "$2/file" --cuts "$top"/examples/*.data
     if ! command -v perf >/dev/null || ! perf record -q -e task-clock,page-faults -F 4000 -o "$work/perf.data" \
         ls -R "$top/bindings" >/dev/null 2>&1; then
         skip "files of perf record: perf may not record here"

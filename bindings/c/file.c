@@ -1,11 +1,14 @@
 /* Reads files that `perf record` wrote: file [--cuts] FILE .. . Prints for each, in order of time, how
  * many frames each event and perf itself have, by their types. With --cuts the bytes of each are changed
  * besides: cut at many lengths, and each of the first 2,048 bytes set to 0 and to 255. Whatever is
- * returned then, nothing outside the arguments may be touched (build it with sanitizers). */
+ * returned then, nothing outside the arguments may be touched (build it with sanitizers).
+ *
+ * file --lines file|time FILE prints what `perf_data dump --order file|time FILE` prints, if each frame is
+ * of an event or perf's own. */
 #include <stdio.h>
 #include <stdlib.h>
 #include <string.h>
-#include "perf_event_data.h"
+#include "text.h"
 
 enum { CHANGED = 2048, ALL_CUTS = 4096, STEP = 997, TYPES = 128, BATCH = 5 };
 
@@ -58,7 +61,7 @@ static void read_entries(const uint8_t *bytes, size_t len, struct recording *rec
     } while (recording->end == PED_LIMIT);
 }
 
-static struct recording read_file(const uint8_t *bytes, size_t len)
+static struct recording read_recording(const uint8_t *bytes, size_t len)
 {
     struct recording recording;
     size_t parts;
@@ -169,6 +172,44 @@ static void print_recording(const uint8_t *bytes, size_t len, const struct recor
     free(types);
 }
 
+/* Prints the line of the frame of an entry. */
+static void print_line(const uint8_t *bytes, size_t len, const struct recording *recording, size_t index)
+{
+    const struct ped_entry *entry = &recording->entries[index];
+    const struct ped_config plain = {PED_VERSION, recording->file.order, 0, 0, 0, 0, 0, 0};
+    struct ped_frame frame;
+    if (entry->owner != PED_OWNER_EVENT && entry->owner != PED_OWNER_PERF) {
+        fail("a frame has no event");
+    }
+    printf("%zu %llu ", index, (unsigned long long)entry->at);
+    if (entry->owner == PED_OWNER_EVENT) {
+        printf("%llu", (unsigned long long)entry->number);
+        ped_file_read(&recording->file, bytes, len, recording->events, recording->file.events, entry, 1,
+                      &frame, 1);
+    } else {
+        printf("-");
+        ped_read(&plain, bytes + entry->at, len - entry->at, &frame);
+    }
+    print_answer(stdout, recording->file.order, bytes + entry->at, &frame);
+}
+
+/* Prints the lines of all frames. */
+static void print_lines(const uint8_t *bytes, size_t len, int by_time)
+{
+    struct recording recording = read_recording(bytes, len);
+    size_t i;
+    if (recording.refusal != PED_FILE_READ) {
+        fail(ped_file_message(recording.refusal));
+    }
+    if (by_time) {
+        ped_file_sort(recording.entries, recording.count);
+    }
+    for (i = 0; i < recording.count; i++) {
+        print_line(bytes, len, &recording, i);
+    }
+    drop_recording(&recording);
+}
+
 /* Reads bytes that were changed, in memory that ends where they do. */
 static void read_changed(const uint8_t *bytes, size_t len, size_t changed, uint8_t value)
 {
@@ -178,7 +219,7 @@ static void read_changed(const uint8_t *bytes, size_t len, size_t changed, uint8
     if (changed < len) {
         copy[changed] = value;
     }
-    recording = read_file(copy, len);
+    recording = read_recording(copy, len);
     if (recording.entries != NULL) {
         struct ped_frame frames[BATCH];
         ped_file_sort(recording.entries, recording.count);
@@ -222,10 +263,17 @@ static uint8_t *read_bytes(const char *name, size_t *len)
 int main(int count, char **words)
 {
     int cuts = count > 1 && strcmp(words[1], "--cuts") == 0, i;
+    if (count == 4 && strcmp(words[1], "--lines") == 0) {
+        size_t len;
+        uint8_t *bytes = read_bytes(words[3], &len);
+        print_lines(bytes, len, strcmp(words[2], "time") == 0);
+        free(bytes);
+        return 0;
+    }
     for (i = 1 + cuts; i < count; i++) {
         size_t len;
         uint8_t *bytes = read_bytes(words[i], &len);
-        struct recording recording = read_file(bytes, len);
+        struct recording recording = read_recording(bytes, len);
         if (recording.refusal != PED_FILE_READ) {
             printf("refused: %s\n", ped_file_message(recording.refusal));
         } else {

@@ -175,17 +175,16 @@ static void put_record(const struct line *line)
 
 /* ---- a run */
 
-/* Prints the line of the frame with this index. */
-static void put_line(const struct line *line, uint64_t index)
+void print_answer(FILE *out, uint32_t order, const uint8_t *bytes, const struct ped_frame *frame)
 {
-    const struct ped_frame *f = line->frame;
-    fprintf(line->out, "%llu %u %u %u", (unsigned long long)index, f->type, f->misc, f->size);
-    if (f->refusal != PED_ACCEPTED) {
-        fprintf(line->out, " refused %s\n", kind_names[f->refusal & 7]);
+    struct line line = {out, order, bytes, frame};
+    fprintf(out, " %u %u %u", frame->type, frame->misc, frame->size);
+    if (frame->refusal != PED_ACCEPTED) {
+        fprintf(out, " refused %s\n", kind_names[frame->refusal & 7]);
         return;
     }
-    put_record(line);
-    fputc('\n', line->out);
+    put_record(&line);
+    fputc('\n', out);
 }
 
 static int put_end(FILE *out, uint32_t end, uint64_t refused)
@@ -203,8 +202,8 @@ static uint64_t print_some(struct line *line, uint64_t index, const struct ped_f
     size_t i;
     for (i = 0; i < count; i++) {
         size_t taken = ped_frame_length(&frames[i], len);
-        line->frame = &frames[i];
-        put_line(line, index + i);
+        fprintf(line->out, "%llu", (unsigned long long)(index + i));
+        print_answer(line->out, line->order, line->bytes, &frames[i]);
         refused += frames[i].refusal != PED_ACCEPTED;
         line->bytes += taken;
         len -= taken;

@@ -26,6 +26,10 @@ uint32_t read_config(const struct command *command, const uint8_t *bytes, size_t
 /* Prints the text of a run, and returns the status of `perfrec`. */
 int print_run(FILE *out, const struct command *command, const uint8_t *bytes, size_t len);
 
+/* Prints what the line of a frame has after its number: type, misc and size, and its record or why it is
+ * refused. The frame begins at `bytes`. */
+void print_answer(FILE *out, uint32_t order, const uint8_t *bytes, const struct ped_frame *frame);
+
 /* All bytes of a file, to be freed; NULL if it cannot be read. */
 uint8_t *read_file(FILE *file, size_t *len);
 

@@ -408,7 +408,7 @@ def try_numpy():
 
 # ---- files of perf record
 
-EVENTS = TOP / "examples/events.data"
+EVENTS, MACHINE, GROUP, KILLED = (TOP / f"examples/{name}.data" for name in ("events", "machine", "group", "killed"))
 # In the order of enum ped_file_refusal, with which the header's ped_file_message has the texts.
 HEADER = (TOP / "bindings/c/perf_event_data.h").read_text()
 
@@ -430,18 +430,34 @@ def lines_of(frames):
     return [file_line(index, frame) for index, frame in enumerate(frames)]
 
 
-def try_texts_of_files():
-    recording = ped.open(EVENTS)
-    dump, times = (EVENTS.with_suffix(suffix).read_text().splitlines() for suffix in (".dump", ".time"))
-    compare("text of examples/events.dump", dump, lines_of(recording.frames("file")))
-    compare("text of examples/events.time", times, lines_of(recording.frames("time")))
+def compare_file(text, path, recording):
+    """Compares a recording with the texts of an example."""
+    dump, times, events = (path.with_suffix(it).read_text().splitlines() for it in (".dump", ".time", ".events"))
+    compare(f"frames of {text}", dump, lines_of(recording.frames("file")))
+    compare(f"frames of {text} by time", times, lines_of(recording.frames("time")))
     form = "{0.number} type={0.type} config={0.event:#x} sample_type={0.config.sample_type:#x} ids={1}"
-    events = [form.format(event, len(event.ids)) for event in recording.events]
-    words = [text.split() for text in EVENTS.with_suffix(".events").read_text().splitlines()]
-    compare("events of examples/events.events", [" ".join([it[0], *it[-4:]]) for it in words], events)
+    found = [form.format(event, len(event.ids)) for event in recording.events]
+    compare(f"events of {text}", [" ".join([it[0], *it[-4:]]) for it in map(str.split, events)], found)
     for event in recording.events:
         owned = [it.split(" ", 1)[1] for it in times if it.split()[2] == str(event.number)]
-        compare(f"frames of {event}", owned, [it.split(" ", 1)[1] for it in lines_of(event.frames)])
+        compare(f"frames of {event} of {text}", owned, [it.split(" ", 1)[1] for it in lines_of(event.frames)])
+
+
+def try_texts_of_files():
+    for path in EVENTS, MACHINE, GROUP, KILLED:
+        recording, text = ped.open(path), f"examples/{path.name}"
+        compare_file(text, path, recording)
+        words = [sys.executable, TOP / "examples/big-endian.py", path]
+        copy = ped.Recording(subprocess.run(words, capture_output=True, check=True).stdout)
+        compare_file(f"{text}, of a big-endian machine", path, copy)
+        found = [(it.order, it.is_closed) for it in (recording, copy)]
+        check(f"the order of {text}, and whether perf ended",
+              found == [(ped.LITTLE, path != KILLED), (ped.BIG, path != KILLED)])
+    compare_file("examples/big-endian.data", EVENTS, ped.open(EVENTS.with_name("big-endian.data")))
+
+
+def try_frames_of_a_file():
+    recording, dump = ped.open(EVENTS), EVENTS.with_suffix(".dump").read_text().splitlines()
     frames = recording.frames("file")
     owners = [None if it == "-" else int(it) for it in (text.split()[2] for text in dump)]
     check("columns of a file", (frames.column("at"), frames.column("event"), list(frames.starts))
@@ -461,7 +477,8 @@ def try_refused_files():
     check("the refusals of files are those of the header", ped._FILE_REFUSALS == expected)
     data = EVENTS.read_bytes()
     damaged = {"NotPerfData": b"", "OldFormat": b"PERFFILE" + data[8:], "BadHead": data[:50], "CutFrames": data[:4000],
-               "Compressed": data[:75] + bytes([data[75] | 8]) + data[76:]}
+               "Compressed": data[:75] + bytes([data[75] | 8]) + data[76:],
+               "Pipe": EVENTS.with_name("pipe.data").read_bytes()}
     for kind, given in damaged.items():
         try:
             ped.Recording(given)
@@ -519,6 +536,10 @@ def try_hostile_files():
     lengths = [*range(0, 700), *range(700, len(data), 97)]
     found = [read_all(data[:length]) for length in lengths]
     check(f"{len(lengths)} files that are cut: {len(set(found))} ways", None not in found[:680] and len(set(found)) > 2)
+    killed = KILLED.read_bytes()
+    places = [int(it.split()[1]) for it in KILLED.with_suffix(".dump").read_text().splitlines()]
+    found = [read_all(killed[:length]) for length in range(places[1], len(killed), 97)]
+    check(f"{len(found)} files of a perf that was killed are read, also cut", len(found) > 50 and not any(found))
     found = []
     for index, byte in ((index, byte) for byte in (0, 255) for index in range(2048)):
         found.append(read_all(data[:index] + bytes([byte]) + data[index + 1:]))
@@ -619,7 +640,7 @@ def main():
     streams = [sys.executable, TOP / "bindings/streams.py", "list", "1", "200"]
     replay("generated streams", subprocess.run(streams, capture_output=True, text=True, check=True).stdout)
     for call in (try_words, try_inputs, try_memory, try_sequence, try_frames, try_wrong_bytes, try_numpy, try_texts_of_files,
-                 try_refused_files, try_damaged_frames, try_hostile_files, try_numpy_of_files, measure):
+                 try_frames_of_a_file, try_refused_files, try_damaged_frames, try_hostile_files, try_numpy_of_files, measure):
         call()
     print(", ".join(f"{number} {result.lower()}" for result, number in results.items()))
     return 1 if results["FAILED"] else 0
