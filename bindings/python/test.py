@@ -639,8 +639,9 @@ def main():
     replay("runs of crates/perf_replay", (CRATES / "perf_replay/stdin").read_text())
     streams = [sys.executable, TOP / "bindings/streams.py", "list", "1", "200"]
     replay("generated streams", subprocess.run(streams, capture_output=True, text=True, check=True).stdout)
-    for call in (try_words, try_inputs, try_memory, try_sequence, try_frames, try_wrong_bytes, try_numpy, try_texts_of_files,
-                 try_frames_of_a_file, try_refused_files, try_damaged_frames, try_hostile_files, try_numpy_of_files, measure):
+    for call in (try_words, try_inputs, try_memory, try_sequence, try_frames, try_wrong_bytes, try_numpy,
+                 try_texts_of_files, try_frames_of_a_file, try_refused_files, try_damaged_frames, try_hostile_files,
+                 try_numpy_of_files, measure):
         call()
     print(", ".join(f"{number} {result.lower()}" for result, number in results.items()))
     return 1 if results["FAILED"] else 0

@@ -1,4 +1,4 @@
-//! Files of `perf record`: the bundled one, compared with what `perf` printed of it, and damaged ones.
+//! Files of `perf record`: the bundled ones, compared with what `perf` printed of them, and damaged ones.
 
 use std::collections::{BTreeMap, BTreeSet};
 use std::fs;
@@ -55,41 +55,67 @@ fn dump(bytes: &[u8]) -> Vec<String> {
     frames.map(|(index, frame)| line(index, &frame)).collect()
 }
 
+/// The bundled files, each with the name of its texts.
+const FILES: [(&str, &str); 5] = [
+    ("events", "events"),
+    ("big-endian", "events"),
+    ("machine", "machine"),
+    ("group", "group"),
+    ("killed", "killed"),
+];
+
 #[test]
 fn frames_are_those_that_perf_printed() {
-    let bytes = file("examples/events.data");
-    let recording = Recording::open(&bytes).unwrap();
-    assert_eq!(dump(&bytes), lines_of("examples/events.dump"));
-    let entries = recording.in_order();
-    let frames = entries
-        .iter()
-        .map(|entry| recording.frame_at(entry).unwrap());
-    let lines: Vec<_> = frames
-        .enumerate()
-        .map(|(index, frame)| line(index, &frame))
-        .collect();
-    assert_eq!(lines, lines_of("examples/events.time"));
-    let mut frames = recording.frames();
-    assert_eq!(frames.end(), None);
-    assert_eq!(frames.by_ref().count(), 90);
-    assert_eq!(frames.end(), Some(FramesEnd::Done));
+    for (name, texts) in FILES {
+        let bytes = file(&format!("examples/{name}.data"));
+        let recording = Recording::open(&bytes).unwrap();
+        let expected = lines_of(&format!("examples/{texts}.dump"));
+        assert_eq!(dump(&bytes), expected, "{name}");
+        let entries = recording.in_order();
+        let frames = entries
+            .iter()
+            .map(|entry| recording.frame_at(entry).unwrap());
+        let lines: Vec<_> = frames
+            .enumerate()
+            .map(|(index, frame)| line(index, &frame))
+            .collect();
+        assert_eq!(lines, lines_of(&format!("examples/{texts}.time")), "{name}");
+        let mut frames = recording.frames();
+        assert_eq!(frames.end(), None);
+        assert_eq!(frames.by_ref().count(), expected.len());
+        assert_eq!(frames.end(), Some(FramesEnd::Done));
+    }
 }
 
 #[test]
 fn events_are_those_that_perf_printed() {
+    for (name, texts) in FILES {
+        let bytes = file(&format!("examples/{name}.data"));
+        let recording = Recording::open(&bytes).unwrap();
+        assert_eq!(recording.is_closed(), name != "killed");
+        let is_big = recording.order() == Dynamic::Big;
+        assert_eq!(is_big, name == "big-endian");
+        let expected = lines_of(&format!("examples/{texts}.events"));
+        assert_eq!(recording.events().len(), expected.len());
+        for (event, expected) in recording.events().iter().zip(expected) {
+            let sample_type = event.config().sample_type().bits();
+            let (ty, number, ids) = (event.ty(), event.event(), event.ids().len());
+            let found =
+                format!(" type={ty} config={number:#x} sample_type={sample_type:#x} ids={ids}");
+            assert!(expected.ends_with(&found), "{found} is not {expected}");
+        }
+    }
+}
+
+#[test]
+fn events_have_their_ids_and_configurations() {
+    for name in ["events", "big-endian"] {
+        let bytes = file(&format!("examples/{name}.data"));
+        let recording = Recording::open(&bytes).unwrap();
+        assert_eq!(recording.events()[0].ids(), [691, 692, 693, 694]);
+    }
     let bytes = file("examples/events.data");
     let recording = Recording::open(&bytes).unwrap();
-    assert!(recording.is_closed());
-    assert_eq!(recording.order(), Dynamic::Little);
-    let expected = lines_of("examples/events.events");
-    assert_eq!(recording.events().len(), expected.len());
-    for (event, expected) in recording.events().iter().zip(expected) {
-        let sample_type = event.config().sample_type().bits();
-        let (ty, number, ids) = (event.ty(), event.event(), event.ids().len());
-        let found = format!(" type={ty} config={number:#x} sample_type={sample_type:#x} ids={ids}");
-        assert!(expected.ends_with(&found), "{found} is not {expected}");
-    }
-    assert_eq!(recording.events()[0].ids(), [691, 692, 693, 694]);
     assert!(recording.config(Owner::Event(2)).is_some());
     assert!(recording.config(Owner::Event(3)).is_none());
     assert!(recording.config(Owner::Perf).is_none());
@@ -203,6 +229,8 @@ fn refusals_have_the_texts_of_the_header() {
     let mut packed = bytes.clone();
     packed[75] |= 8;
     assert_eq!(Recording::open(&packed).unwrap_err(), OpenError::Compressed);
+    let pipe = file("examples/pipe.data");
+    assert_eq!(Recording::open(&pipe).unwrap_err(), OpenError::Pipe);
 }
 
 /// Reads all of a file in all ways.
@@ -238,6 +266,10 @@ fn hostile_files_are_read_or_refused() {
         changed[index] = value;
         read_all(&changed);
     }
+    let killed = file("examples/killed.data");
+    (0..killed.len())
+        .step_by(97)
+        .for_each(|len| read_all(&killed[..len]));
     let places: Vec<_> = Recording::open(&bytes).unwrap().in_order();
     for (entry, ty) in places.iter().flat_map(|entry| [(entry, 66), (entry, 71)]) {
         let mut changed = bytes.clone();
