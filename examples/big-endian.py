@@ -3,10 +3,11 @@
 
     big-endian.py FILE > BIG
 
-FILE is little-endian. Each number of BIG is at the same place in the other order of bytes, and each flag of an attribute
-at the bit where C has it there. So `perf_data` prints the same lines of both. The bytes of frames that perf wrote for
-itself stay as they are, as `perf_data` prints them as bytes. Of the features there remain the names of events, and that
-of the machine, by which perf recognizes the order of the features. It is for what the bundled files contain.
+FILE is little-endian. Each number of BIG is at the same place in the other order of bytes, and each flag of an
+attribute at the bit where C has it there. So `perf_data` prints the same lines of both. The bytes of frames that perf
+wrote for itself stay as they are, as `perf_data` prints them as bytes. Of the features there remain the names of
+events, and that of the machine, by which perf recognizes the order of the features. It is for what the bundled files
+contain.
 """
 
 import struct

@@ -5,11 +5,11 @@
     perf-data-dump.py dump|time FILE
 
 `events` is made from `perf report --header-only`, or if that names no event, from `perf evlist -v` and the ids that
-`perf report -D` lists. The other two are made from `perf report -D`: `dump` in the order of the file, `time` by time. The
-values are those that perf prints. Only what perf does not print comes from the bytes in its dump: the headers, the ids,
-the times in FORK and EXIT, and the bytes of records that perf wrote for itself. It is for little-endian files whose
-samples have an IDENTIFIER, or after IP, TID and TIME an ID, and of other fields only CPU, PERIOD, a READ of a group, and
-CALLCHAIN; a line of another form ends the run with an error.
+`perf report -D` lists. The other two are made from `perf report -D`: `dump` in the order of the file, `time` by time.
+The values are those that perf prints. Only what perf does not print comes from the bytes in its dump: the headers, the
+ids, the times in FORK and EXIT, and the bytes of records that perf wrote for itself. It is for little-endian files
+whose samples have an IDENTIFIER, or after IP, TID and TIME an ID, and of other fields only CPU, PERIOD, a READ of a
+group, and CALLCHAIN; a line of another form ends the run with an error.
 """
 
 import re

@@ -3,17 +3,17 @@
 #
 #     examples/record-events.sh FOLDER
 #
-# This creates FOLDER, which must not exist yet. It needs root, perf, taskset, unshare and python3, but no hardware counter.
-# The recordings contain nothing of the caller's environment or folder.
+# This creates FOLDER, which must not exist yet. It needs root, perf, taskset, unshare and python3, but no hardware
+# counter. The recordings contain nothing of the caller's environment or folder.
 #
 # - events: three events of the kernel's software, each with a period of its own, and one with call chains: so their
-#   samples have unlike fields, and perf adds an identifier to each frame. They are recorded on two processors, so that the
-#   frames are not in the order of their times.
+#   samples have unlike fields, and perf adds an identifier to each frame. They are recorded on two processors, so that
+#   the frames are not in the order of their times.
 # - pipe: the same events, as perf writes them to its standard output.
-# - machine: all processors, for which perf adds the event `dummy`. That has no frequency, and its samples no period. Only
-#   the processes of a new PID namespace have a number and a name; samples of others have the process 0.
-# - group: samples of the first event that contain the counts of both. The events have the same fields, so that an ID, at
-#   another place, identifies them.
+# - machine: all processors, for which perf adds the event `dummy`. That has no frequency, so its fields lack the period
+#   of the other event. Only processes of a new PID namespace have a number and a name: samples of others have 0.
+# - group: samples of the first event that contain the counts of both. The events have the same fields, so that perf
+#   adds an ID, at another place than an identifier.
 # - killed: a file whose perf was killed, by the command that it recorded. The ID is not the last part of a sample id.
 
 set -eu
