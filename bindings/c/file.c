@@ -178,17 +178,18 @@ static void print_line(const uint8_t *bytes, size_t len, const struct recording 
     const struct ped_entry *entry = &recording->entries[index];
     const struct ped_config plain = {PED_VERSION, recording->file.order, 0, 0, 0, 0, 0, 0};
     struct ped_frame frame;
-    if (entry->owner != PED_OWNER_EVENT && entry->owner != PED_OWNER_PERF) {
-        fail("a frame has no event");
-    }
+    int is_read = 0;
     printf("%zu %llu ", index, (unsigned long long)entry->at);
     if (entry->owner == PED_OWNER_EVENT) {
         printf("%llu", (unsigned long long)entry->number);
-        ped_file_read(&recording->file, bytes, len, recording->events, recording->file.events, entry, 1,
-                      &frame, 1);
-    } else {
+        is_read = ped_file_read(&recording->file, bytes, len, recording->events, recording->file.events,
+                                entry, 1, &frame, 1) == 1;
+    } else if (entry->owner == PED_OWNER_PERF) {
         printf("-");
-        ped_read(&plain, bytes + entry->at, len - entry->at, &frame);
+        is_read = ped_read(&plain, bytes + entry->at, len - entry->at, &frame) == PED_LIMIT;
+    }
+    if (!is_read) {
+        fail("a frame is not read");
     }
     print_answer(stdout, recording->file.order, bytes + entry->at, &frame);
 }
