@@ -4,7 +4,7 @@
  * returned then, nothing outside the arguments may be touched (build it with sanitizers).
  *
  * file --lines file|time FILE prints what `perf_data dump --order file|time FILE` prints, if each frame is
- * of an event or perf's own. */
+ * of an event or perf's own, and file --lines events FILE what `perf_data events FILE` does, without names. */
 #include <stdio.h>
 #include <stdlib.h>
 #include <string.h>
@@ -194,15 +194,29 @@ static void print_line(const uint8_t *bytes, size_t len, const struct recording 
     print_answer(stdout, recording->file.order, bytes + entry->at, &frame);
 }
 
-/* Prints the lines of all frames. */
-static void print_lines(const uint8_t *bytes, size_t len, int by_time)
+static void print_events(const struct recording *recording)
+{
+    size_t i;
+    for (i = 0; i < recording->file.events; i++) {
+        const struct ped_event *event = &recording->events[i];
+        printf("%zu type=%u config=0x%llx sample_type=0x%llx ids=%llu\n", i, event->type,
+               (unsigned long long)event->event, (unsigned long long)event->config.sample_type,
+               (unsigned long long)event->ids);
+    }
+}
+
+/* Prints the lines of all events, or those of all frames in the order of the file or of time. */
+static void print_lines(const char *which, const uint8_t *bytes, size_t len)
 {
     struct recording recording = read_recording(bytes, len);
     size_t i;
     if (recording.refusal != PED_FILE_READ) {
         fail(ped_file_message(recording.refusal));
     }
-    if (by_time) {
+    if (strcmp(which, "events") == 0) {
+        print_events(&recording);
+        recording.count = 0;
+    } else if (strcmp(which, "time") == 0) {
         ped_file_sort(recording.entries, recording.count);
     }
     for (i = 0; i < recording.count; i++) {
@@ -267,7 +281,7 @@ int main(int count, char **words)
     if (count == 4 && strcmp(words[1], "--lines") == 0) {
         size_t len;
         uint8_t *bytes = read_bytes(words[3], &len);
-        print_lines(bytes, len, strcmp(words[2], "time") == 0);
+        print_lines(words[2], bytes, len);
         free(bytes);
         return 0;
     }
