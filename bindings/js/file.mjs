@@ -3,7 +3,7 @@
 
 import { BIG, bytesOf } from "./config.mjs";
 import { FILE_REFUSALS } from "./fields.mjs";
-import { Batch, COLUMNS, Frame, Frames, Growing, numbersOf, READER } from "./frames.mjs";
+import { Batch, COLUMNS, Frame, Frames, numbersOf, READER } from "./frames.mjs";
 import { BATCH, CUT_HEADER, ENDS, FRAME_BYTES, LIMIT } from "./machine.mjs";
 
 /** Whose a frame is, by the numbers of enum ped_owner. */
@@ -71,6 +71,7 @@ class FileReader {
         this.taken = source.file.at;
         this.count = 0;
         this.how = LIMIT;
+        this.starts = new Float64Array(BATCH);
     }
 
     /** Reads the entries of the next batch, and returns how many there are; 0 after the last. */
@@ -86,7 +87,6 @@ class FileReader {
             throw new Error("the bytes of the file have changed");
         }
         this.entries = new Uint32Array(this.machine.memory.buffer, this.machine.entries, ENTRY_WORDS * read.count);
-        this.starts = new Float64Array(read.count);
         for (let i = 0; i < read.count; i++) {
             this.starts[i] = this.taken + offsetAt(this.entries, i);
         }
@@ -143,7 +143,6 @@ class EntryReader extends FileReader {
         const piece = this.machine.pieceView();
         this.entries = new Uint32Array(piece.buffer, this.machine.entries, ENTRY_WORDS * left);
         this.entries.set(all.subarray(ENTRY_WORDS * before, ENTRY_WORDS * (before + left)));
-        this.starts = new Float64Array(left);
         [this.last, this.length] = [0, 0];
         for (let end = 0; this.last < left && end <= file.end;) { // nothing may follow a frame that is cut short
             const at = offsetAt(this.entries, this.last);
@@ -188,8 +187,8 @@ function putHeader(source, at, owner, halves, words) {
     words[0] = source.typeAt(at);
     halves[2] = source.miscAt(at);
     halves[3] = size;
-    const refusal = owner !== PERF ? UNSUPPORTED_CONFIG : size < HEADER_BYTES ? INVALID_RECORD
-        : at + source.lengthAt(at) > source.file.end ? EOF : 0;
+    const refusal = size < HEADER_BYTES ? INVALID_RECORD : at + source.lengthAt(at) > source.file.end ? EOF
+        : owner !== PERF ? UNSUPPORTED_CONFIG : 0;
     halves[6] = refusal;
     halves[7] = refusal === INVALID_RECORD ? SMALL_HEADER : 0;
     if (refusal === 0) {
@@ -317,17 +316,15 @@ class Source {
 
     get byTime() {
         if (this.#byTime === undefined) {
-            const all = new Growing(32);
+            const parts = [];
             this.#readEntries((entries, starts, count) => {
-                const to = all.extend(ENTRY_WORDS * count);
-                all.array.set(entries.subarray(0, ENTRY_WORDS * count), to);
+                const part = entries.slice(0, ENTRY_WORDS * count);
                 for (let i = 0; i < count; i++) {
-                    putOffset(all.array, to / ENTRY_WORDS + i, starts[i]);
+                    putOffset(part, i, starts[i]);
                 }
+                parts.push(part);
             });
-            const entries = all.done();
-            this.#machine.sort(entries);
-            this.#byTime = entries;
+            this.#byTime = this.#machine.sortEntries(parts);
         }
         return this.#byTime;
     }
@@ -335,14 +332,15 @@ class Source {
     /** The entries of an event's frames, in order of time. */
     entriesOf(event) {
         const all = this.byTime;
-        const found = new Growing(32);
+        const places = [];
         for (let at = 0; at < all.length; at += ENTRY_WORDS) {
             if (all[at + OWNER] === EVENT && all[at + NUMBER] === event) {
-                const to = found.extend(ENTRY_WORDS);
-                found.array.set(all.subarray(at, at + ENTRY_WORDS), to);
+                places.push(at);
             }
         }
-        return found.done();
+        const found = new Uint32Array(ENTRY_WORDS * places.length);
+        places.forEach((at, i) => found.set(all.subarray(at, at + ENTRY_WORDS), ENTRY_WORDS * i));
+        return found;
     }
 }
 

@@ -34,8 +34,8 @@ export class Batch {
     /** The same frames, in memory of their own. */
     copy() {
         const { buffer, byteOffset, byteLength } = this.words;
-        return new Batch(this.source, this.count, buffer.slice(byteOffset, byteOffset + byteLength), 0, this.starts,
-            this.entries?.slice());
+        return new Batch(this.source, this.count, buffer.slice(byteOffset, byteOffset + byteLength), 0,
+            this.starts.slice(0, this.count), this.entries?.slice());
     }
 
     /** A frame's own number, of that width at that place. */
@@ -184,7 +184,7 @@ export class Frame {
 }
 
 /** A typed array that grows: of numbers of 8, 16, 32 or 64 bits. Those of 64 bits are put as two halves. */
-export class Growing {
+class Growing {
     constructor(width) {
         this.width = width;
         this.each = width === 64 ? 2 : 1;

@@ -86,12 +86,17 @@ export class Machine {
         return new DataView(this.memory.buffer).getBigUint64(this.result, true);
     }
 
-    /** Copies bytes to the place of a piece, which grows over that of the tables if they are more. */
-    putPiece(bytes) {
-        this.#needs(this.piece + bytes.length);
-        if (bytes.length > PIECE_BYTES) {
+    /** Makes room for a piece, which grows over the place of the tables if it is longer. */
+    #needsPiece(length) {
+        this.#needs(this.piece + length);
+        if (length > PIECE_BYTES) {
             this.#tables = undefined;
         }
+    }
+
+    /** Copies bytes to the place of a piece. */
+    putPiece(bytes) {
+        this.#needsPiece(bytes.length);
         new Uint8Array(this.memory.buffer, this.piece, bytes.length).set(bytes);
     }
 
@@ -196,10 +201,16 @@ export class Machine {
         this.calls.ped_file_read(...words, BigInt(this.entries), BigInt(count), BigInt(this.frames), BigInt(count));
     }
 
-    /** Sorts entries, which are words of 32 bits, by time, in memory that grows to theirs. */
-    sort(entries) {
-        this.putPiece(new Uint8Array(entries.buffer, entries.byteOffset, entries.byteLength));
-        this.calls.ped_file_sort(BigInt(this.piece), BigInt(entries.byteLength / ENTRY_BYTES));
-        entries.set(new Uint32Array(this.memory.buffer, this.piece, entries.length));
+    /** Sorts entries, which are words of 32 bits in several parts, by time, in memory that grows to theirs. */
+    sortEntries(parts) {
+        const length = parts.reduce((sum, part) => sum + part.length, 0);
+        this.#needsPiece(4 * length);
+        const words = new Uint32Array(this.memory.buffer, this.piece, length);
+        parts.reduce((at, part) => {
+            words.set(part, at);
+            return at + part.length;
+        }, 0);
+        this.calls.ped_file_sort(BigInt(this.piece), BigInt(4 * length / ENTRY_BYTES));
+        return words.slice();
     }
 }

@@ -81,7 +81,8 @@ export class Frame {
     readonly id: bigint | undefined;
     readonly stream_id: bigint | undefined;
     readonly cpu: number | undefined;
-    /** Where it begins in the input. */
+    /** Where it begins in the input; `start` is the same. */
+    readonly at: number;
     readonly start: number;
     /** Its bytes in the input, with the header; as many as are left if it is cut short. */
     readonly bytes: Uint8Array;
@@ -137,8 +138,6 @@ export class Stream extends Frames<Frame> {
 /** A frame of a file of `perf record`. */
 export class FileFrame extends Frame {
     private constructor();
-    /** The offset in the file at which it begins, as `start`. */
-    readonly at: number;
     /** Whose it is: the number of one of `OWNERS`. */
     readonly owner: number;
     /** The event that wrote it; undefined if perf wrote it for itself, or the event is not known. */

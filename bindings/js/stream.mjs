@@ -15,6 +15,7 @@ class StreamReader {
         this.taken = source.start;
         this.count = 0;
         this.how = LIMIT;
+        this.starts = new Float64Array(BATCH);
     }
 
     /** Reads the next batch, and returns how many frames are in it; 0 after the last. They are in the module's
@@ -41,9 +42,7 @@ class StreamReader {
 
     /** Computes where each frame begins. */
     #placeFrames(count) {
-        this.starts = new Float64Array(count);
-        const { memory, frames } = this.machine;
-        const batch = new Batch(this.source, count, memory.buffer, frames);
+        const batch = this.#batchOf(count);
         for (let [i, at] = [0, this.taken]; i < count; i++) {
             this.starts[i] = at;
             at += batch.size(i);
