@@ -1,10 +1,10 @@
 // Tests what the module in a folder that `make -C bindings js` made does with files of `perf record`:
 //
-//     node bindings/js/test_open.mjs FOLDER [PERFREC [STREAMS]]
+//     node bindings/js/test_open.mjs FOLDER
 //
-// Only FOLDER is used. What it must show of examples/events.data comes from perf; with PERF_EVENT_DATA_SO, the shared
-// object of the library, damaged copies are compared with what the module for Python has of them. A line is what
-// passed, failed or was skipped; the status is 0 if nothing failed.
+// What it must show of examples/events.data comes from perf. With PERF_EVENT_DATA_SO, the shared object of the library,
+// damaged copies are compared with what the module for Python has of them. A line is what passed, failed or was
+// skipped; the status is 0 if nothing failed.
 
 import { spawnSync } from "node:child_process";
 import { createHash } from "node:crypto";
