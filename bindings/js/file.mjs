@@ -1,5 +1,5 @@
-// Files that `perf record` wrote. Only what is read at once is in the module's memory: of the file what opening reads, and
-// then a piece of its frames, whose entries and numbers depend on their own bytes alone.
+// Files that `perf record` wrote. The bytes of a file are never all in the module's memory: only those that opening
+// reads, and then a piece of its frames, since the entry and the numbers of a frame depend on its own bytes alone.
 
 import { BIG, bytesOf } from "./config.mjs";
 import { FILE_REFUSALS } from "./fields.mjs";
@@ -13,12 +13,16 @@ const NO_EVENT = { [UNKNOWN]: "its id is that of no event of the file", [SHORT]:
 // The kinds of a frame's refusal, and the reason of one that is smaller than a header.
 const [EOF, INVALID_RECORD, UNSUPPORTED_CONFIG] = [1, 2, 3];
 const SMALL_HEADER = 1;
-// An entry has eight words of 32 bits: time, offset, number, and owner.
+// An entry has eight words of 32 bits, of which these are the first of its offset, of its number, and its owner.
 const ENTRY_WORDS = 8;
 const [AT, NUMBER, OWNER] = [2, 4, 6];
+// The bytes of a frame's header, and of the head of a file; where the head has the size of an entry and the place of all
+// of them, which has two numbers; and the least size of an entry.
 const HEADER_BYTES = 8;
 const HEAD_BYTES = 104;
-const LEAST_ATTRIBUTE = 80;
+const [ENTRY_SIZE, ENTRIES] = [16, 24];
+const LEAST_ENTRY = 80;
+const PLACE_BYTES = 16;
 // The types whose frames announce bytes after them that are no frames, and the width of that number.
 const ANNOUNCING = { 66: 4, 71: 8 };
 
@@ -34,20 +38,23 @@ export class RefusedFile extends RangeError {
 
 const viewOf = (bytes) => new DataView(bytes.buffer, bytes.byteOffset, bytes.length);
 
-/** The bytes at the front of a file up to the last one that opening reads: of its head, its attributes, and the ids of each
- * event. Their places are in the head and at the end of each entry; what is wrong with them the library finds. */
+/** The front of a file, up to the last byte that opening reads: of its head, its attributes, and the ids of each event, whose
+ * place is at the end of its entry. A part that ends beyond the file is not read, as the library refuses it. */
 function frontOf(bytes) {
     if (bytes.length < HEAD_BYTES) {
         return bytes;
     }
     const view = viewOf(bytes);
     const number = (at) => Number(view.getBigUint64(at, bytes[0] === "P".charCodeAt(0)));
-    const [size, start, length] = [number(16), number(24), number(32)];
-    let end = Math.max(HEAD_BYTES, start + length);
-    if (size >= LEAST_ATTRIBUTE && end <= bytes.length) {
-        for (let at = start + size; at <= start + length; at += size) {
-            end = Math.max(end, number(at - 16) + number(at - 8));
-        }
+    let end = HEAD_BYTES;
+    const reach = (at) => {
+        const there = number(at) + number(at + 8);
+        end = there <= bytes.length ? Math.max(end, there) : end;
+        return there;
+    };
+    const [size, last] = [number(ENTRY_SIZE), reach(ENTRIES)];
+    for (let at = number(ENTRIES) + size; size >= LEAST_ENTRY && at <= Math.min(last, bytes.length); at += size) {
+        reach(at - PLACE_BYTES);
     }
     return bytes.subarray(0, end);
 }
@@ -64,7 +71,7 @@ function putOffset(entries, index, at) {
 }
 
 /** Reads the frames of a file in its order, a batch at a time. */
-class FileReader {
+class PieceReader {
     constructor(machine, source) {
         this.machine = machine;
         this.source = source;
@@ -86,7 +93,7 @@ class FileReader {
         if (read.how > CUT_HEADER) {
             throw new Error("the bytes of the file have changed");
         }
-        this.entries = new Uint32Array(this.machine.memory.buffer, this.machine.entries, ENTRY_WORDS * read.count);
+        this.entries = this.#entriesOf(read.count);
         for (let i = 0; i < read.count; i++) {
             this.starts[i] = this.taken + offsetAt(this.entries, i);
         }
@@ -101,7 +108,7 @@ class FileReader {
     }
 
     /** Of a piece that more frames follow, leaves one that is not whole in it, with what it announces, for the next
-     * one, unless it is the first. */
+     * piece, unless it is the first. */
     #leaveCut(read, length) {
         read.how = LIMIT;
         if (read.taken < length) {
@@ -116,13 +123,15 @@ class FileReader {
         }
     }
 
+    #entriesOf(count) {
+        return new Uint32Array(this.machine.memory.buffer, this.machine.entries, ENTRY_WORDS * count);
+    }
+
     /** The frames whose entries were read last, in the module's memory. */
     batch() {
         const { machine, source, starts, last } = this;
         machine.readFrames(source.file, this.length, last);
-        const { buffer } = machine.memory;
-        const entries = new Uint32Array(buffer, machine.entries, ENTRY_WORDS * last);
-        const batch = new Batch(source, last, buffer, machine.frames, starts, entries);
+        const batch = new Batch(source, last, machine.memory.buffer, machine.frames, starts, this.#entriesOf(last));
         putFramesOfNoEvent(batch);
         return batch;
     }
@@ -131,7 +140,7 @@ class FileReader {
 }
 
 /** Reads the frames of entries, which are words of 32 bits, a batch at a time. Their bytes are gathered in a piece. */
-class EntryReader extends FileReader {
+class EntryReader extends PieceReader {
     constructor(machine, source, all) {
         super(machine, source);
         this.all = all;
@@ -169,8 +178,8 @@ class EntryReader extends FileReader {
     }
 }
 
-/** Writes the numbers of frames without an event, which the library leaves out. One of perf itself has its body as a byte
- * string. */
+/** Writes the numbers of frames without an event, which the library leaves out. One of perf itself has its body as a
+ * byte string. */
 function putFramesOfNoEvent({ source, count, words, halves, starts, entries }) {
     for (let i = 0; i < count; i++) {
         const owner = entries[ENTRY_WORDS * i + OWNER];
@@ -184,13 +193,11 @@ function putFramesOfNoEvent({ source, count, words, halves, starts, entries }) {
 
 function putHeader(source, at, owner, halves, words) {
     const size = source.sizeAt(at);
-    words[0] = source.typeAt(at);
-    halves[2] = source.miscAt(at);
-    halves[3] = size;
     const refusal = size < HEADER_BYTES ? INVALID_RECORD : at + source.lengthAt(at) > source.file.end ? EOF
         : owner !== PERF ? UNSUPPORTED_CONFIG : 0;
-    halves[6] = refusal;
-    halves[7] = refusal === INVALID_RECORD ? SMALL_HEADER : 0;
+    words[0] = source.typeAt(at);
+    halves.set([source.miscAt(at), size], 2);
+    halves.set([refusal, refusal === INVALID_RECORD ? SMALL_HEADER : 0], 6);
     if (refusal === 0) {
         words.set([HEADER_BYTES, size - HEADER_BYTES], 64);
     }
@@ -223,16 +230,19 @@ export class FileFrame extends Frame {
     get message() { return this.refusal === UNSUPPORTED_CONFIG && NO_EVENT[this.owner] || super.message; }
 }
 
-const ofEntries = (place, has) => ({
-    type: Uint32Array, has,
-    put: (batch, array, to) => {
+/** A column of a word of each entry, 0 where it is absent. */
+function columnOfEntries(place, has) {
+    const put = (batch, array, to) => {
         for (let i = 0; i < batch.count; i++) {
             array[to + i] = has(batch, i) ? batch.entries[ENTRY_WORDS * i + place] : 0;
         }
-    },
-});
+    };
+    return { type: Uint32Array, has, put };
+}
+
 const FILE_COLUMNS = {
-    event: ofEntries(NUMBER, (batch, i) => batch.entries[ENTRY_WORDS * i + OWNER] === EVENT), owner: ofEntries(OWNER, () => true),
+    event: columnOfEntries(NUMBER, (batch, i) => batch.entries[ENTRY_WORDS * i + OWNER] === EVENT),
+    owner: columnOfEntries(OWNER, () => true),
 };
 
 /** Frames of a file, each read under its own event: those of entries, or all in the order of the file. */
@@ -253,7 +263,7 @@ export class FileFrames extends Frames {
     get [COLUMNS]() { return FILE_COLUMNS; }
 
     [READER]() {
-        return this.#entries === undefined ? new FileReader(this.#machine, this.#source)
+        return this.#entries === undefined ? new PieceReader(this.#machine, this.#source)
             : new EntryReader(this.#machine, this.#source, this.#entries);
     }
 
@@ -262,8 +272,7 @@ export class FileFrames extends Frames {
     get end() { return ENDS[this.#source.ended.how]; }
 }
 
-/** What is known of a file: its bytes, what the library states of it, its events, and when they are needed the entries of its
- * frames in order of time. */
+/** The bytes of a file, what the library states of it, and when they are needed its entries in order of time. */
 class Source {
     #machine;
     #ended;
@@ -283,30 +292,30 @@ class Source {
     miscAt(at) { return this.view.getUint16(at + 4, this.isLittle); }
     sizeAt(at) { return this.view.getUint16(at + 6, this.isLittle); }
 
-    /** How many bytes a frame takes with what it announces. */
+    /** How many bytes a frame takes with those that it announces: of TRACING_DATA in whole words of eight. */
     lengthAt(at) {
         const size = Math.max(this.sizeAt(at), HEADER_BYTES);
-        const width = ANNOUNCING[this.typeAt(at)] ?? 0;
-        const body = Math.min(at + size, this.bytes.length) - at - HEADER_BYTES;
-        if (width === 0 || body < width) {
+        const width = ANNOUNCING[this.typeAt(at)];
+        const body = at + HEADER_BYTES;
+        if (width === undefined || Math.min(at + size, this.bytes.length) - body < width) {
             return size;
         }
-        const place = at + HEADER_BYTES;
-        return size + (width === 8 ? Number(this.view.getBigUint64(place, this.isLittle))
-            : Math.ceil(this.view.getUint32(place, this.isLittle) / 8) * 8);
+        return size + (width === 8 ? Number(this.view.getBigUint64(body, this.isLittle))
+            : Math.ceil(this.view.getUint32(body, this.isLittle) / 8) * 8);
     }
 
     frames(entries) { return new FileFrames(this.#machine, this, entries); }
 
-    /** Reads all entries: how many there are, where they end and how. Calls `each` with those of a batch. */
+    /** Reads the entries of all frames, and calls `each` with those of a batch, where they begin, and how many they are. */
     #readEntries(each) {
-        const reader = new FileReader(this.#machine, this);
+        const reader = new PieceReader(this.#machine, this);
         while (reader.next() > 0) {
             each(reader.entries, reader.starts, reader.last);
         }
         this.#ended = { count: reader.count, taken: reader.taken, how: reader.how };
     }
 
+    /** How many frames there are, where they end, and how. */
     get ended() {
         if (this.#ended === undefined) {
             this.#readEntries(() => {});

@@ -298,10 +298,9 @@ class OtherColumn extends Growing {
     }
 }
 
-// What is no number of a frame: where it begins.
-const PLACES = {
-    at: { type: Float64Array, has: () => true, put: (batch, array, to) => array.set(batch.starts.subarray(0, batch.count), to) },
-};
+// A column of what is no number of a frame: where it begins.
+const putStarts = ({ starts, count }, array, to) => array.set(starts.subarray(0, count), to);
+const PLACES = { at: { type: Float64Array, has: () => true, put: putStarts } };
 
 /** What a column is of: a number of each frame, or a field of the records of a type; `others` are further ones. */
 function columnOf(name, others) {
@@ -330,7 +329,7 @@ function emptyColumn(it) {
     return it.span ? new SpanColumn(it) : it.put ? new OtherColumn(it) : new NumberColumn(it);
 }
 
-/** What a class of frames has: how its batches are read, the columns of its own, and what is done after the last batch. */
+/** What a class of frames has: how its batches are read, the columns of its own, and what is done after the last one. */
 export const READER = Symbol("reader");
 export const COLUMNS = Symbol("columns");
 export const ENDED = Symbol("ended");

@@ -9,8 +9,8 @@ export const FRAME_BYTES = 320;
 export const [LIMIT, DONE, CUT_HEADER] = [0, 1, 2];
 export const ENDS = ["limit", "done", "cut header"];
 
-// The memory above the module's own: a configuration, what calls return, a file, a batch of frames and of their entries,
-// a piece of the input, and the events and ids of a file.
+// The memory above the module's own: a configuration, what calls return, a file, a batch of frames and their entries, a
+// piece of the input, and the events and ids of a file.
 const CONFIG_BYTES = 64;
 const RESULT_BYTES = 64;
 const FILE_BYTES = 40;
@@ -119,12 +119,12 @@ export class Machine {
 
     // ---- files
 
-    /** What is known of a file of that many bytes, with its events and ids, or why it is refused. `front` has its bytes as
-     * far as they are read for this: its head, its attributes and its ids. */
+    /** What is known of a file of that many bytes, and its events and ids, or why it is refused. `front` has its bytes
+     * as far as they are read for this. */
     openFile(front, length) {
         this.putPiece(front);
         this.#tables = undefined;
-        const bytes = [BigInt(this.piece), BigInt(length)];
+        const bytes = [this.piece, length].map(BigInt);
         const refusal = this.calls.ped_file_open(...bytes, BigInt(this.file));
         if (refusal !== 0) {
             return { refusal };
@@ -135,15 +135,16 @@ export class Machine {
         return { ...file, ...this.#readEvents(bytes, aligned(this.piece + front.length), events, ids) };
     }
 
-    /** The events and ids of a file, as the module writes them from `place` on, or why it is refused. */
-    #readEvents(bytes, place, eventCount, idCount) {
-        const parts = place + EVENT_BYTES * eventCount;
+    /** The events and ids of a file, which the module writes from `events` on, or why it is refused. */
+    #readEvents(bytes, events, eventCount, idCount) {
+        const parts = events + EVENT_BYTES * eventCount;
         const ids = parts + PART_BYTES * (eventCount + OTHER_PARTS);
         this.#needs(ids + ID_BYTES * idCount);
-        const arrays = [place, eventCount, parts, eventCount + OTHER_PARTS, ids, idCount];
+        const arrays = [events, eventCount, parts, eventCount + OTHER_PARTS, ids, idCount];
         const refusal = this.calls.ped_file_events(...bytes, ...arrays.map(BigInt));
         const tables = {
-            events: this.#copy(place, EVENT_BYTES * eventCount), ids: this.#copy(ids, ID_BYTES * idCount), eventCount, idCount,
+            events: this.#copy(events, EVENT_BYTES * eventCount), eventCount,
+            ids: this.#copy(ids, ID_BYTES * idCount), idCount,
         };
         return { refusal, tables };
     }
@@ -154,33 +155,31 @@ export class Machine {
         return Array.from({ length: eventCount }, (_, number) => {
             const at = EVENT_BYTES * number;
             const [event, idsAt, ids] = [64, 72, 80].map((place) => view.getBigUint64(at + place, true));
-            return {
-                config: this.configIn(events.buffer, at), type: view.getUint32(at + 56, true), event, idsAt: Number(idsAt),
-                ids: Number(ids),
-            };
+            const [config, type] = [this.configIn(events.buffer, at), view.getUint32(at + 56, true)];
+            return { config, type, event, idsAt: Number(idsAt), ids: Number(ids) };
         });
     }
 
-    /** Puts the numbers of a file whose frames are a piece of that many bytes to their places, and returns them as
-     * arguments: the file, the bytes and the events, and the ids. */
+    /** Puts what is known of a file to its places, with a piece of that many bytes as its frames. Returns these as
+     * arguments: the file, its bytes and its events, and the ids. */
     #fileWords({ order, tables }, length) {
-        const ids = this.tables + aligned(tables.events.length);
-        this.#needs(ids + tables.ids.length);
+        const { events, eventCount, ids, idCount } = tables;
+        const idPlace = this.tables + aligned(events.length);
+        this.#needs(idPlace + ids.length);
         if (this.#tables !== tables) {
-            new Uint8Array(this.memory.buffer).set(tables.events, this.tables);
-            new Uint8Array(this.memory.buffer).set(tables.ids, ids);
+            const memory = new Uint8Array(this.memory.buffer);
+            memory.set(events, this.tables);
+            memory.set(ids, idPlace);
             this.#tables = tables;
         }
         const view = new DataView(this.memory.buffer, this.file, FILE_BYTES);
         view.setUint32(0, order, true);
-        [0, length, tables.eventCount, tables.idCount].forEach((it, i) => view.setBigUint64(8 + 8 * i, BigInt(it), true));
-        return [
-            [this.file, this.piece, length, this.tables, tables.eventCount].map(BigInt), [ids, tables.idCount].map(BigInt),
-        ];
+        [0, length, eventCount, idCount].forEach((it, i) => view.setBigUint64(8 + 8 * i, BigInt(it), true));
+        return [[this.file, this.piece, length, this.tables, eventCount].map(BigInt), [idPlace, idCount].map(BigInt)];
     }
 
-    /** Writes the entries of the first frames of a piece of that many bytes, at most a batch: how many there are, the bytes
-     * that they take with what they announce, and how that ended. Their offsets count from the piece. */
+    /** Writes the entries of the first frames of a piece of that many bytes, at most a batch: how many there are, the
+     * bytes that they take with those that they announce, and how that ended. Their offsets count from the piece. */
     readEntries(file, length) {
         const [words, ids] = this.#fileWords(file, length);
         const all = [...words, ...ids, BigInt(this.result)];

@@ -27,8 +27,8 @@ import { MODULE } from "./module.mjs";
 import { NO_STREAM, Stream } from "./stream.mjs";
 
 export {
-    BIG, Config, FILE_KINDS, FileEvent, FileFrame, FileFrames, FLAGS, Frame, Frames, KINDS, LITTLE, OWNERS, Recording, RefusedFile,
-    Stream, STRUCT_VERSION, TYPES,
+    BIG, Config, FILE_KINDS, FileEvent, FileFrame, FileFrames, FLAGS, Frame, Frames, KINDS, LITTLE, OWNERS, Recording,
+    RefusedFile, Stream, STRUCT_VERSION, TYPES,
 };
 
 export const VERSION = "0.1.8";
