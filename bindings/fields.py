@@ -15,7 +15,8 @@ from collections import namedtuple
 from pathlib import Path
 
 HERE = Path(__file__).resolve().parent
-MADE = re.compile(r"^([^\n]*made of (?:(?:bindings/)?fields\.txt|perf_event_data\.h) by[^\n]*\n)(.*?)(^[^\n]*up to here[^\n]*\n)", re.M | re.S)
+TABLE = r"(?:(?:bindings/)?fields\.txt|perf_event_data\.h)"
+MADE = re.compile(rf"^([^\n]*made of {TABLE} by[^\n]*\n)(.*?)(^[^\n]*up to here[^\n]*\n)", re.M | re.S)
 WIDTHS = {"u16": "H", "u32": "I", "u64": "Q", "address": "Q", "bytes8": "Q"}
 LISTS = {"numbers": 1, "pairs": 2, "branches": 3, "counters": 0}  # numbers of an item; 0: by the read format
 OWN = "pid tid time id stream_id cpu".split()
@@ -172,12 +173,9 @@ def javascript_refusals():
     header = (HERE / "c/perf_event_data.h").read_text()
     texts = {name: "".join(re.findall('"([^"]*)"', text))
              for name, text in re.findall(r'case PED_FILE_(\w+):\s*return ((?:\s*"[^"]*")+);', header)}
-    made = ""
-    for name, _ in re.findall(r"PED_FILE_(\w+) = ([1-9]\d*)", header):
-        kind, rows = name.title().replace("_", ""), textwrap.wrap(texts.get(name, ""), 100, drop_whitespace=False, **NO_BREAKS)
-        text = '"\n        + "'.join(rows)
-        made += f'    ["{kind}", "{text}"],\n' if rows else "    undefined,\n"
-    return made
+    names = re.findall(r"PED_FILE_(\w+) = [1-9]", header)
+    pairs = [(name.title().replace("_", ""), texts.get(name)) for name in names]
+    return "".join(f'    ["{kind}", "{text}"],\n' if text else "    undefined,\n" for kind, text in pairs)
 
 
 FILES = {

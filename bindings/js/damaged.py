@@ -17,8 +17,9 @@ import perf_event_data as ped  # noqa: E402
 
 def frame_text(frame):
     event = frame.event.number if frame.event else None
-    numbers = [frame.at, event, frame.unknown_id, frame.type, frame.misc, frame.size, frame.message, frame.time, frame.tid]
-    return " ".join("" if it is None else str(it) for it in [*numbers, ",".join(sorted(frame.fields))]) + "\n"
+    words = [frame.at, event, frame.unknown_id, frame.type, frame.misc, frame.size, frame.message, frame.time,
+             frame.tid, ",".join(sorted(frame.fields))]
+    return " ".join("" if it is None else str(it) for it in words) + "\n"
 
 
 def text_of(data):

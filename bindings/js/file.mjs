@@ -16,8 +16,8 @@ const SMALL_HEADER = 1;
 // An entry has eight words of 32 bits, of which these are the first of its offset, of its number, and its owner.
 const ENTRY_WORDS = 8;
 const [AT, NUMBER, OWNER] = [2, 4, 6];
-// The bytes of a frame's header, and of the head of a file; where the head has the size of an entry and the place of all
-// of them, which has two numbers; and the least size of an entry.
+// The bytes of a frame's header, and of the head of a file; where the head has the size of an entry of the attributes
+// and the place of all, of two numbers; and the least size of an entry.
 const HEADER_BYTES = 8;
 const HEAD_BYTES = 104;
 const [ENTRY_SIZE, ENTRIES] = [16, 24];
@@ -38,8 +38,8 @@ export class RefusedFile extends RangeError {
 
 const viewOf = (bytes) => new DataView(bytes.buffer, bytes.byteOffset, bytes.length);
 
-/** The front of a file, up to the last byte that opening reads: of its head, its attributes, and the ids of each event, whose
- * place is at the end of its entry. A part that ends beyond the file is not read, as the library refuses it. */
+/** The front of a file, up to the last byte that opening reads: of its head, its attributes, and the ids of each event,
+ * whose place is at the end of its entry. A part that ends beyond the file is not read, as the library refuses it. */
 function frontOf(bytes) {
     if (bytes.length < HEAD_BYTES) {
         return bytes;
@@ -53,8 +53,10 @@ function frontOf(bytes) {
         return there;
     };
     const [size, last] = [number(ENTRY_SIZE), reach(ENTRIES)];
-    for (let at = number(ENTRIES) + size; size >= LEAST_ENTRY && at <= Math.min(last, bytes.length); at += size) {
-        reach(at - PLACE_BYTES);
+    if (size >= LEAST_ENTRY && last <= bytes.length) {
+        for (let at = number(ENTRIES) + size; at <= last; at += size) {
+            reach(at - PLACE_BYTES);
+        }
     }
     return bytes.subarray(0, end);
 }
@@ -306,7 +308,7 @@ class Source {
 
     frames(entries) { return new FileFrames(this.#machine, this, entries); }
 
-    /** Reads the entries of all frames, and calls `each` with those of a batch, where they begin, and how many they are. */
+    /** Reads the entries of all frames, and calls `each` with those of a batch, where they begin, and how many. */
     #readEntries(each) {
         const reader = new PieceReader(this.#machine, this);
         while (reader.next() > 0) {

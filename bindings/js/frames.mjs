@@ -329,7 +329,7 @@ function emptyColumn(it) {
     return it.span ? new SpanColumn(it) : it.put ? new OtherColumn(it) : new NumberColumn(it);
 }
 
-/** What a class of frames has: how its batches are read, the columns of its own, and what is done after the last one. */
+/** What a class of frames has: how its batches are read, columns of its own, and what is done after the last batch. */
 export const READER = Symbol("reader");
 export const COLUMNS = Symbol("columns");
 export const ENDED = Symbol("ended");

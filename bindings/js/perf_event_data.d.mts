@@ -12,7 +12,7 @@ export const TYPES: readonly string[];
 export const KINDS: readonly (string | undefined)[];
 /** The kinds of a file's refusal, by their numbers, from 1 on. */
 export const FILE_KINDS: readonly (FileRefusal | undefined)[];
-/** Whose a frame of a file is, by `owner`: an event's, perf's own, of an id that no event has, or too short for an id. */
+/** Whose a frame of a file is, by `owner`: an event's, perf's own, of an id that no event has, or too short for one. */
 export const OWNERS: readonly ["event", "perf", "unknown", "short"];
 /** PERF_SAMPLE_* by name, and the bit of `present` for lbr_hw_index. */
 export const FLAGS: Readonly<Record<string, bigint>>;
@@ -23,10 +23,12 @@ export type Order = 0 | 1;
 /** A number of a record, a byte string as a view of the input, or the numbers of a list. */
 export type Field = bigint | Uint8Array | BigUint64Array;
 export type Refusal = "Eof" | "InvalidRecord" | "UnsupportedConfig" | "UnsupportedData";
-export type FileRefusal = "NotPerfData" | "OldFormat" | "BadHead" | "Pipe" | "Directory" | "Compressed" | "CutAttributes"
-    | "CutFrames" | "CutIds" | "BadEntry" | "NoEvent" | "BadAttribute" | "NewAttribute" | "BadIds" | "Overlap" | "NoIdPlace"
-    | "SharedId" | "OtherCount";
-export type Column = BigUint64Array | Float64Array | Uint32Array | Uint16Array | (Uint8Array | BigUint64Array | undefined)[];
+export type FileRefusal = "NotPerfData" | "OldFormat" | "BadHead" | "Pipe" | "Directory" | "Compressed"
+    | "CutAttributes" | "CutFrames" | "CutIds" | "BadEntry" | "NoEvent" | "BadAttribute" | "NewAttribute" | "BadIds"
+    | "Overlap" | "NoIdPlace" | "SharedId" | "OtherCount";
+/** Numbers of all frames, or byte strings or lists. */
+export type Column = BigUint64Array | Float64Array | Uint32Array | Uint16Array
+    | (Uint8Array | BigUint64Array | undefined)[];
 /** What a column of that name is. */
 export type ColumnOf<Name extends string> = Name extends "time" | "id" | "stream_id" | "present" ? BigUint64Array
     : Name extends "type" | "read" | "pid" | "tid" | "cpu" | "read_format" | "event" | "owner" ? Uint32Array
@@ -103,8 +105,8 @@ export interface StreamOptions {
     limit?: number;
 }
 
-/** Frames, which each loop, column and number below reads anew, a batch at a time. A frame that is held keeps its batch, at
- * most 1024 frames of 320 bytes. */
+/** Frames, which each loop, column and number below reads anew, a batch at a time. A frame that is held keeps its
+ * batch, at most 1024 frames of 320 bytes. */
 export class Frames<Item extends Frame> implements Iterable<Item> {
     protected constructor();
     readonly bytes: Uint8Array;
@@ -116,13 +118,13 @@ export class Frames<Item extends Frame> implements Iterable<Item> {
     readonly taken: number;
     /** How reading ended: "cut header" if one to seven bytes are left; "limit" for a stream alone. */
     readonly end: "done" | "cut header" | "limit";
-    /** One field of all frames: of "time", "pid" and the like a typed array, as of the numbers of a record, "sample.ip", with
-     * 0 where it is absent; of "comm.comm" an array of byte strings, and of "sample.callchain" one of lists, undefined where
-     * it is absent. "at" is where each frame begins, and of a file "event" is the number of its event, and "owner" that of
-     * `OWNERS`. Throws a RangeError if there is no such field. */
+    /** One field of all frames: of "time", "pid" and the like a typed array, as of numbers of a record, "sample.ip",
+     * with 0 where it is absent; of "comm.comm" an array of byte strings, and of "sample.callchain" one of lists,
+     * undefined where it is absent. "at" is where each frame begins; of a file "event" is the number of its event, and
+     * "owner" that of one of `OWNERS`. Throws a RangeError if there is no such field. */
     column<Name extends string>(name: Name): ColumnOf<Name>;
     /** Several columns, for which the frames are read once. */
-    columns<Names extends string[]>(names: [...Names]): { [Index in keyof Names]: ColumnOf<Names[Index]> };
+    columns<Names extends string[]>(names: [...Names]): { [Index in keyof Names]: ColumnOf<Names[Index] & string> };
     /** Of each frame 1 if it has the field of that column, else 0. */
     present(name: string): Uint8Array;
 }
@@ -146,7 +148,7 @@ export class FileFrame extends Frame {
     readonly unknownId: bigint | undefined;
 }
 
-/** Frames of a file, each read under its own event. Those in order of time, and of one event, keep 32 bytes for each. */
+/** Frames of a file, each read under its own event. Those in order of time or of one event keep 32 bytes for each. */
 export class FileFrames extends Frames<FileFrame> {
     private constructor();
 }
@@ -178,7 +180,7 @@ export class Recording {
     readonly events: readonly FileEvent[];
     /** How reading the frames ended: "cut header" if one to seven bytes are left. */
     readonly end: "done" | "cut header";
-    /** All frames, in order of "time", which is meant without an order, or in that of the "file". Frames without a time come
+    /** All frames, in order of "time", also if no order is given, or in that of the "file". Frames without a time come
      * first, and frames of the same time are in the order of the file. Throws a RangeError for another order. */
     frames(order?: "time" | "file"): FileFrames;
 }
@@ -190,7 +192,7 @@ export class RefusedFile extends RangeError {
 }
 
 export interface Library {
-    /** Opens a file that `perf record` wrote. The bytes are not copied as a whole. Throws a RefusedFile if it is refused. */
+    /** Opens a file that `perf record` wrote. The bytes are not copied. Throws a RefusedFile if it is refused. */
     open(bytes: Bytes): Recording;
     /** The frames of bytes under the configuration of the event that wrote them; without one, records have no sample id and
      * samples have no fields. Throws a RangeError for a start outside the bytes, a configuration that is not read, or a file of

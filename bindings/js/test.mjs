@@ -10,8 +10,9 @@ import { spawnSync } from "node:child_process";
 import { join } from "node:path";
 
 import {
-    bytesIn, bytesTaken, check, compare, compareMembers, declared, fieldTable, frameOf, header, hex, isInside, items, joined,
-    line, linesIn, lost, microseconds, module, MOST, numbersFrom, ped, RECORDINGS, refuses, repeated, run, tell, textIn, TOP, zeros,
+    bytesIn, bytesTaken, check, compare, compareMembers, declared, fieldTable, frameOf, header, hex, isInside, items,
+    joined, line, linesIn, lost, microseconds, module, MOST, numbersFrom, ped, RECORDINGS, refuses, repeated, run, tell,
+    textIn, TOP, zeros,
 } from "./testing.mjs";
 
 const { BIG, Config, FLAGS, KINDS, LITTLE, TYPES } = module;
@@ -233,6 +234,8 @@ function tryStream() {
     const same = (found, expected) => found.length === 3000 && found.every((it) => it === expected);
     check("columns", same(stream.column("lost_samples.lost"), 5n) && same(stream.column("size"), 16) && same(stream.column("time"), 0n)
         && same(stream.column("comm.pid"), 0n) && same(stream.column("comm.comm"), undefined));
+    const [lostNumbers, at] = stream.columns(["lost_samples.lost", "at"]);
+    check("several columns", same(lostNumbers, 5n) && at.length === 3000 && at.every((it, i) => it === 16 * i));
     check("which are present", same(stream.present("lost_samples.lost"), 1) && same(stream.present("time"), 0)
         && same(stream.present("size"), 1));
     const some = ped.stream(repeated(lost, 3), {}, { start: 16, limit: 1 });
@@ -244,7 +247,8 @@ function tryStream() {
     check("no frames", none.map((it) => [it.count, it.end, it.column("time").length].join()).join(" ") === "0,done,0 0,done,0 0,limit,0");
     refuses("a start before the bytes", () => ped.stream(lost, {}, { start: -16 }), "the start is outside the bytes");
     const file = bytesIn("examples", "events.data");
-    const what = "this is a file of `perf record`, not a stream: open it by `open`, or print it by the program perf_data";
+    const what = "this is a file of `perf record`, not a stream: open it by `open`, or print it by the program"
+        + " perf_data";
     refuses("a file of perf record in place of a stream", () => ped.stream(file), what);
     refuses("a file of perf record in place of an attribute", () => ped.readAttribute(file), what);
     refuses("a start after the bytes", () => ped.stream(lost, {}, { start: 17 }), "the start is outside the bytes");
@@ -427,6 +431,6 @@ function measure() {
 
 await run([
     compareTexts, () => checkReplay("runs of crates/perf_replay", textIn("crates/perf_replay/stdin")),
-    () => checkStreams(Number(streams || 10000)), compareHeader, compareDeclarations, tryReasons, tryStream, tryFrames, tryInputs,
-    tryPieces, tryMemory, tryLong, tryWrongBytes, measure,
+    () => checkStreams(Number(streams || 10000)), compareHeader, compareDeclarations, tryReasons, tryStream, tryFrames,
+    tryInputs, tryPieces, tryMemory, tryLong, tryWrongBytes, measure,
 ]);

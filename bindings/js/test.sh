@@ -4,8 +4,8 @@
 #
 #     bindings/js/test.sh ARCHIVE [PERFREC [STREAMS]]
 #
-# ARCHIVE is for wasm64-unknown-unknown; the others are those of test.mjs. With PERF_EVENT_DATA_SO, test_open.mjs compares
-# more. A line is what passed, failed or was skipped; the status is 0 if nothing failed.
+# ARCHIVE is for wasm64-unknown-unknown; the others are those of test.mjs, and PERF_EVENT_DATA_SO that of test_open.mjs.
+# A line is what passed, failed or was skipped; the status is 0 if nothing failed.
 set -u
 if [ $# -lt 1 ] || [ ! -f "$1" ]; then
     echo "usage: bindings/js/test.sh ARCHIVE [PERFREC [STREAMS]]" >&2

@@ -185,7 +185,8 @@ export function declared(pattern, ofClass) {
     const body = ofClass ? new RegExp(`class ${ofClass}[ <].*?\n\}`, "s").exec(text)[0] : text;
     const above = ofClass ? / extends (Frames?)[ <]/.exec(body.replace(/<Item extends Frame>/, "")) : null;
     const names = Array.from(body.matchAll(pattern), ([, name]) => name);
-    return [...new Set([...names, ...(above ? declared(pattern, above[1]) : [])])].filter((it) => it !== "constructor").sort();
+    const all = new Set([...names, ...(above ? declared(pattern, above[1]) : [])]);
+    return [...all].filter((it) => it !== "constructor").sort();
 }
 
 /** Checks that the members of an object, also those of the classes above its own, are those that are declared. */
