@@ -19,8 +19,10 @@
 // batch of frames, and does not grow with the input, which is read where it is and must not change meanwhile.
 
 import { BIG, bytesOf, Config, isFile, LITTLE, STRUCT_VERSION } from "./config.mjs";
+import { OWNERS } from "./entries.mjs";
 import { FILE_KINDS, FLAGS, KINDS, TYPES } from "./fields.mjs";
-import { FileEvent, FileFrame, FileFrames, OWNERS, Recording, RefusedFile } from "./file.mjs";
+import { FileEvent, Recording, RefusedFile } from "./file.mjs";
+import { FileFrame, FileFrames } from "./file_frames.mjs";
 import { Frame, Frames } from "./frames.mjs";
 import { Machine } from "./machine.mjs";
 import { MODULE } from "./module.mjs";

@@ -1,7 +1,8 @@
 // The frames of a stream, all under one configuration.
 
+import { Batch } from "./batch.mjs";
 import { bytesOf, Config, isFile } from "./config.mjs";
-import { Batch, ENDED, Frame, Frames, READER } from "./frames.mjs";
+import { ENDED, Frames, READER } from "./frames.mjs";
 import { BATCH, ENDS, LIMIT } from "./machine.mjs";
 
 export const NO_STREAM = "this is a file of `perf record`, not a stream: open it by `open`, or print it by the program"
@@ -69,8 +70,6 @@ class StreamReader {
 
     /** The frames that were read last, in the module's memory. */
     batch() { return this.#batchOf(this.last); }
-
-    frame(batch, index) { return new Frame(batch, index); }
 }
 
 /** The frames of bytes, one after another. */
