@@ -1,5 +1,6 @@
 #!/usr/bin/env python3
-"""Makes what the faces state about the fields of records, of the table bindings/fields.txt, whose head explains it:
+"""Makes what the faces state about the fields of records, of the table bindings/fields.txt, whose head explains it, and
+what JavaScript has of the C header, the refusals of files:
 
     bindings/fields.py [--check]
 
@@ -14,7 +15,8 @@ from collections import namedtuple
 from pathlib import Path
 
 HERE = Path(__file__).resolve().parent
-MADE = re.compile(r"^([^\n]*made of (?:bindings/)?fields\.txt[^\n]*\n)(.*?)(^[^\n]*up to here[^\n]*\n)", re.M | re.S)
+TABLE = r"(?:(?:bindings/)?fields\.txt|perf_event_data\.h)"
+MADE = re.compile(rf"^([^\n]*made of {TABLE} by[^\n]*\n)(.*?)(^[^\n]*up to here[^\n]*\n)", re.M | re.S)
 WIDTHS = {"u16": "H", "u32": "I", "u64": "Q", "address": "Q", "bytes8": "Q"}
 LISTS = {"numbers": 1, "pairs": 2, "branches": 3, "counters": 0}  # numbers of an item; 0: by the read format
 OWN = "pid tid time id stream_id cpu".split()
@@ -166,10 +168,20 @@ def javascript_records(types):
     return "".join(f'    {name}: "{text}",\n' for name, text in rows)
 
 
+def javascript_refusals():
+    """The refusals of files by their numbers: of each its kind, and the text that ped_file_message has for it."""
+    header = (HERE / "c/perf_event_data.h").read_text()
+    texts = {name: "".join(re.findall('"([^"]*)"', text))
+             for name, text in re.findall(r'case PED_FILE_(\w+):\s*return ((?:\s*"[^"]*")+);', header)}
+    names = re.findall(r"PED_FILE_(\w+) = [1-9]", header)
+    pairs = [(name.title().replace("_", ""), texts.get(name)) for name in names]
+    return "".join(f'    ["{kind}", "{text}"],\n' if text else "    undefined,\n" for kind, text in pairs)
+
+
 FILES = {
     "c/perf_event_data.h": lambda records, _: [union(records, "n", "uint64_t"), union(records, "s", "struct ped_span")],
     "c/text.c": lambda _, types: [c_records(types)],
-    "js/fields.mjs": lambda _, types: [javascript_records(types)],
+    "js/fields.mjs": lambda _, types: [javascript_records(types), javascript_refusals()],
     "rust/src/fields.rs": lambda records, types: [rust_types(types), rust_records(records)],
     "python/perf_event_data.py": lambda _, types: [python_records(types)]}
 

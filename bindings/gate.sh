@@ -85,7 +85,8 @@ js_face() {
     if [ -z "$(absent $js_tools)" ] && [ ! -f "$work/$wasm/libperf_event_c.a" ]; then
         echo "skipped: JavaScript: no archive for $wasm"
     else
-        face "JavaScript" "$js_tools" bindings/js/test.sh "$work/$wasm/libperf_event_c.a" "$perfrec"
+        face "JavaScript" "$js_tools" env PERF_EVENT_DATA_SO="${shared:-}" \
+            bindings/js/test.sh "$work/$wasm/libperf_event_c.a" "$perfrec"
     fi
 }
 

@@ -39,7 +39,7 @@ structs=$(sed -n 's/^STRUCT_VERSION = \([0-9]*\).*/\1/p' "$here/python/perf_even
 agrees "structs in the header" "$structs" "$header" 's/^#define PED_VERSION \([0-9]*\).*/\1/p'
 agrees "structs in the library" "$structs" "$top/crates/perf_flat/src/config.rt" \
     's/^pub const CONFIG_VERSION: u32 = \([0-9]*\);/\1/p'
-agrees "structs in JavaScript" "$structs" "$here/js/perf_event_data.mjs" \
+agrees "structs in JavaScript" "$structs" "$here/js/config.mjs" \
     's/^export const STRUCT_VERSION = \([0-9]*\);$/\1/p'
 agrees "structs in Rust" "$structs" "$here/rust/src/ffi.rs" 's/.*const [A-Z_]*VERSION: u32 = \([0-9]*\);/\1/p'
 exit $status

@@ -4,7 +4,8 @@
     bindings/js/browser_test.py FOLDER
 
 A page of this machine's own, under a Content-Security-Policy that allows WebAssembly, prints the names of the tasks in
-examples/recording.stream, which must be those that crates/perf_uses prints. The status is 0 if they are.
+examples/recording.stream, which must be those that crates/perf_uses prints, and counts the samples of
+examples/events.data, as examples/events.samples has them. The status is 0 if all are the same.
 """
 import html
 import re
@@ -34,6 +35,14 @@ try {
             lines.push(`${frame.time} ${frame.fields.tid} is ${new TextDecoder().decode(frame.fields.comm)}`);
         }
     }
+    const counts = new Map();
+    for (const frame of ped.open(await (await fetch("events.data")).arrayBuffer()).frames("time")) {
+        if (frame.event && frame.name === "sample") {
+            const key = `task ${frame.tid}, event ${frame.event.number}`;
+            counts.set(key, (counts.get(key) ?? 0) + 1);
+        }
+    }
+    counts.forEach((count, key) => lines.push(`${key}: ${count}`));
 } catch (error) {
     lines.push(error.message);
 }
@@ -43,10 +52,12 @@ document.querySelector("pre").textContent = lines.join("\\n");
 
 
 class Files(SimpleHTTPRequestHandler):
-    """The module, the recording and the page."""
+    """The module, the recordings and the page."""
 
     def translate_path(self, path):
-        return str(TOP / "examples/recording.stream") if path == "/recording.stream" else super().translate_path(path)
+        if path in ("/recording.stream", "/events.data"):
+            return f"{TOP}/examples{path}"
+        return super().translate_path(path)
 
     def do_GET(self):
         if self.path != "/":
@@ -76,10 +87,11 @@ def main(folder):
     threading.Thread(target=server.serve_forever, daemon=True).start()
     found = text_of_page(server.server_address[1]).splitlines()
     printed = (TOP / "crates/perf_uses/stdout").read_text().splitlines()
-    expected = [line for line in printed if re.match("[0-9]+ [0-9]+ is ", line)]
-    print(f"{len(found)} names")
-    if not expected or found != expected:
-        print(*found[:5], "not", *expected[:5], sep="\n")
+    names = [line for line in printed if re.match("[0-9]+ [0-9]+ is ", line)]
+    counts = (TOP / "examples/events.samples").read_text().splitlines()
+    print(f"{len(names)} names, and {len(counts)} counts of samples")
+    if not names or not counts or found != names + counts:
+        print(*found, "not", *names, *counts, sep="\n")
         return 1
     return 0
 

@@ -102,3 +102,30 @@ export const REASONS = [
     "read_format contains unsupported flags",
     "number of elements in group read was too large for data type",
 ];
+
+/** Why a file is refused, by the numbers of enum ped_file_refusal: the kind, and what to do. */
+export const FILE_REFUSALS = Object.freeze([
+    undefined,
+    // made of perf_event_data.h by bindings/fields.py
+    ["NotPerfData", "this is no perf.data file: pass a file that `perf record` has written"],
+    ["OldFormat", "this file has the format that perf wrote before 2010: record again with a newer perf"],
+    ["BadHead", "the head of the file is cut off, or has an unknown size: copy the file again, or record again"],
+    ["Pipe", "this is what `perf record -o -` writes: record into a file, with `perf record -o perf.data`"],
+    ["Directory", "this is one of several files of `perf record --threads`: record again without that option"],
+    ["Compressed", "the frames are compressed: run `perf inject -i perf.data -o plain.data`, or record without `-z`"],
+    ["CutAttributes", "the attributes end beyond the file, so it is cut off: copy it again, or record again"],
+    ["CutFrames", "the frames end beyond the file, so it is cut off: copy it again, or record again"],
+    ["CutIds", "the ids of an event end beyond the file, so it is cut off: copy it again, or record again"],
+    ["BadEntry", "the attributes are not whole entries, so the file is damaged: copy it again, or record again"],
+    ["NoEvent", "the file has no event, so it is damaged: copy it again, or record again"],
+    ["BadAttribute", "the attribute of an event is damaged: copy the file again, or record again"],
+    ["NewAttribute", "an event has fields of a newer kernel than this library knows: use a newer version of it"],
+    ["BadIds", "the ids of an event are not whole numbers, so the file is damaged: copy it again, or record again"],
+    ["Overlap", "two parts of the file share bytes, so it is damaged: copy it again, or record again"],
+    ["NoIdPlace", "the events have their ids at different places: record all of them with one `perf record`"],
+    ["SharedId", "two events have one id, so the file is damaged: copy it again, or record again"],
+    undefined,
+    ["OtherCount", "an array does not have as many elements as it needs"],
+    // up to here
+]);
+export const FILE_KINDS = Object.freeze(FILE_REFUSALS.map((refusal) => refusal?.[0]));

@@ -4,7 +4,9 @@
 WASM = wasm64-unknown-unknown
 WASM_ARCHIVE = $(TOP)/crates/perf_event_c/out/$(WASM)/libperf_event_c.a
 JS = $(HERE)/js
-JS_FILES = $(addprefix $(JS)/,perf_event_data.mjs perf_event_data.d.mts fields.mjs package.json README.md)
+JS_MODULES = perf_event_data.mjs batch.mjs columns.mjs config.mjs entries.mjs fields.mjs file.mjs file_frames.mjs \
+    file_readers.mjs frames.mjs machine.mjs stream.mjs
+JS_FILES = $(addprefix $(JS)/,$(JS_MODULES) perf_event_data.d.mts package.json README.md)
 
 $(WASM_ARCHIVE):
 	@echo "$@ is absent: run 'rt lib' in crates/perf_event_c and then \

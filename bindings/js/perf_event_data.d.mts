@@ -10,6 +10,10 @@ export const BIG: 1;
 export const TYPES: readonly string[];
 /** The kinds of a refusal, by their numbers, from 1 on. */
 export const KINDS: readonly (string | undefined)[];
+/** The kinds of a file's refusal, by their numbers, from 1 on. */
+export const FILE_KINDS: readonly (FileRefusal | undefined)[];
+/** Whose a frame of a file is, by `owner`: an event's, perf's own, of an id that no event has, or too short for one. */
+export const OWNERS: readonly ["event", "perf", "unknown", "short"];
 /** PERF_SAMPLE_* by name, and the bit of `present` for lbr_hw_index. */
 export const FLAGS: Readonly<Record<string, bigint>>;
 
@@ -19,6 +23,17 @@ export type Order = 0 | 1;
 /** A number of a record, a byte string as a view of the input, or the numbers of a list. */
 export type Field = bigint | Uint8Array | BigUint64Array;
 export type Refusal = "Eof" | "InvalidRecord" | "UnsupportedConfig" | "UnsupportedData";
+export type FileRefusal = "NotPerfData" | "OldFormat" | "BadHead" | "Pipe" | "Directory" | "Compressed"
+    | "CutAttributes" | "CutFrames" | "CutIds" | "BadEntry" | "NoEvent" | "BadAttribute" | "NewAttribute" | "BadIds"
+    | "Overlap" | "NoIdPlace" | "SharedId" | "OtherCount";
+/** Numbers of all frames, or byte strings or lists. */
+export type Column = BigUint64Array | Float64Array | Uint32Array | Uint16Array
+    | (Uint8Array | BigUint64Array | undefined)[];
+/** What a column of that name is. */
+export type ColumnOf<Name extends string> = Name extends "time" | "id" | "stream_id" | "present" ? BigUint64Array
+    : Name extends "type" | "read" | "pid" | "tid" | "cpu" | "read_format" | "event" | "owner" ? Uint32Array
+    : Name extends "misc" | "size" | "refusal" | "reason" ? Uint16Array
+    : Name extends "at" ? Float64Array : Column;
 
 export interface ConfigFields {
     version?: number;
@@ -47,7 +62,7 @@ export class Config {
 
 /** A frame: its numbers, and the record in it or why there is none. What it does not have is undefined. */
 export class Frame {
-    private constructor();
+    protected constructor();
     /** Of its header: PERF_RECORD_*, PERF_RECORD_MISC_*, and its size in bytes. */
     readonly type: number;
     readonly misc: number;
@@ -68,7 +83,8 @@ export class Frame {
     readonly id: bigint | undefined;
     readonly stream_id: bigint | undefined;
     readonly cpu: number | undefined;
-    /** Where it begins in the input. */
+    /** Where it begins in the input; `start` is the same. */
+    readonly at: number;
     readonly start: number;
     /** Its bytes in the input, with the header; as many as are left if it is cut short. */
     readonly bytes: Uint8Array;
@@ -89,34 +105,95 @@ export interface StreamOptions {
     limit?: number;
 }
 
-/** The frames of bytes, one after another. Each loop, column and number below reads all of them, a batch at a time. A frame
- * that is held keeps its batch, at most 1024 frames of 320 bytes. */
-export class Stream implements Iterable<Frame> {
-    private constructor();
+/** Frames, which each loop, column and number below reads anew, a batch at a time. A frame that is held keeps its
+ * batch, at most 1024 frames of 320 bytes. */
+export class Frames<Item extends Frame> implements Iterable<Item> {
+    protected constructor();
     readonly bytes: Uint8Array;
-    readonly config: Config;
     readonly order: number;
-    readonly start: number;
-    readonly limit: number;
-    [Symbol.iterator](): Generator<Frame, void, undefined>;
+    [Symbol.iterator](): Generator<Item, void, undefined>;
     /** How many frames there are. */
     readonly count: number;
-    /** How many bytes were taken, from the first of all on; with a limit, reading can go on there. */
+    /** How many bytes were taken, from the first of all on; of a stream with a limit, reading can go on there. */
     readonly taken: number;
-    /** How reading ended: "cut header" if one to seven bytes are left. */
+    /** How reading ended: "cut header" if one to seven bytes are left; "limit" for a stream alone. */
     readonly end: "done" | "cut header" | "limit";
-    /** One field of all frames: of "time", "pid" and the like a typed array, as of the numbers of a record, "sample.ip", with
-     * 0 where it is absent; of "comm.comm" an array of byte strings, and of "sample.callchain" one of lists, undefined where
-     * it is absent. Throws a RangeError if there is no such field. */
-    column(name: "time" | "id" | "stream_id" | "present"): BigUint64Array;
-    column(name: "type" | "read" | "pid" | "tid" | "cpu" | "read_format"): Uint32Array;
-    column(name: "misc" | "size" | "refusal" | "reason"): Uint16Array;
-    column(name: string): BigUint64Array | Uint32Array | Uint16Array | (Uint8Array | BigUint64Array | undefined)[];
+    /** One field of all frames: of "time", "pid" and the like a typed array, as of numbers of a record, "sample.ip",
+     * with 0 where it is absent; of "comm.comm" an array of byte strings, and of "sample.callchain" one of lists,
+     * undefined where it is absent. "at" is where each frame begins; of a file "event" is the number of its event, and
+     * "owner" that of one of `OWNERS`. Throws a RangeError if there is no such field. */
+    column<Name extends string>(name: Name): ColumnOf<Name>;
+    /** Several columns, for which the frames are read once. */
+    columns<Names extends string[]>(names: [...Names]): { [Index in keyof Names]: ColumnOf<Names[Index] & string> };
     /** Of each frame 1 if it has the field of that column, else 0. */
     present(name: string): Uint8Array;
 }
 
+/** The frames of a stream, one after another. */
+export class Stream extends Frames<Frame> {
+    private constructor();
+    readonly config: Config;
+    readonly start: number;
+    readonly limit: number;
+}
+
+/** A frame of a file of `perf record`. */
+export class FileFrame extends Frame {
+    private constructor();
+    /** Whose it is: the number of one of `OWNERS`. */
+    readonly owner: number;
+    /** The event that wrote it; undefined if perf wrote it for itself, or the event is not known. */
+    readonly event: FileEvent | undefined;
+    /** The id by which it names an event that the file does not have; undefined for other frames. */
+    readonly unknownId: bigint | undefined;
+}
+
+/** Frames of a file, each read under its own event. Those in order of time or of one event keep 32 bytes for each. */
+export class FileFrames extends Frames<FileFrame> {
+    private constructor();
+}
+
+/** An event of a file. */
+export class FileEvent {
+    private constructor();
+    /** Its place among the events. */
+    readonly number: number;
+    /** How its frames are read. */
+    readonly config: Config;
+    /** PERF_TYPE_*, and what of that type it counts: `config` of its attribute. */
+    readonly type: number;
+    readonly event: bigint;
+    /** The ids by which frames name it. */
+    readonly ids: BigUint64Array;
+    /** Its frames, in order of time. Those of tasks and mappings are of the first event of the file. */
+    readonly frames: FileFrames;
+}
+
+/** A file of `perf record`, all of whose bytes are in memory. */
+export class Recording {
+    private constructor();
+    readonly bytes: Uint8Array;
+    /** `LITTLE` or `BIG`: that of its numbers. */
+    readonly order: number;
+    /** Whether perf ended regularly; otherwise the frames extend to the end of the file. */
+    readonly isClosed: boolean;
+    readonly events: readonly FileEvent[];
+    /** How reading the frames ended: "cut header" if one to seven bytes are left. */
+    readonly end: "done" | "cut header";
+    /** All frames, in order of "time", also if no order is given, or in that of the "file". Frames without a time come
+     * first, and frames of the same time are in the order of the file. Throws a RangeError for another order. */
+    frames(order?: "time" | "file"): FileFrames;
+}
+
+/** Why a file is refused, and what to do: `kind`, one of `FILE_KINDS`. */
+export class RefusedFile extends RangeError {
+    constructor(kind: FileRefusal, message: string);
+    readonly kind: FileRefusal;
+}
+
 export interface Library {
+    /** Opens a file that `perf record` wrote. The bytes are not copied. Throws a RefusedFile if it is refused. */
+    open(bytes: Bytes): Recording;
     /** The frames of bytes under the configuration of the event that wrote them; without one, records have no sample id and
      * samples have no fields. Throws a RangeError for a start outside the bytes, a configuration that is not read, or a file of
      * `perf record`. */

@@ -7,118 +7,16 @@
 // skipped; the status is 0 if nothing failed.
 
 import { spawnSync } from "node:child_process";
-import { readdirSync, readFileSync } from "node:fs";
-import { join, resolve } from "node:path";
-import { setTimeout } from "node:timers/promises";
-import { fileURLToPath, pathToFileURL } from "node:url";
-import { setFlagsFromString } from "node:v8";
-import { runInNewContext } from "node:vm";
+import { join } from "node:path";
 
-const TOP = resolve(fileURLToPath(import.meta.url), "../../..");
-const [folder, perfrec, streams] = process.argv.slice(2);
-if (folder === undefined) {
-    console.error("usage: test.mjs FOLDER [PERFREC [STREAMS]]");
-    process.exit(2);
-}
-const module = await import(pathToFileURL(resolve(folder, "perf_event_data.mjs")));
-const fieldTable = await import(pathToFileURL(resolve(folder, "fields.mjs")));
-const { BIG, Config, FLAGS, KINDS, LITTLE, load, TYPES } = module;
-const ped = await load();
+import {
+    bytesIn, bytesTaken, check, compare, compareMembers, declared, fieldTable, frameOf, header, hex, isInside, items,
+    joined, line, linesIn, lost, microseconds, module, MOST, numbersFrom, ped, RECORDINGS, refuses, repeated, run, tell,
+    textIn, TOP, zeros,
+} from "./testing.mjs";
 
-const results = { passed: 0, FAILED: 0, skipped: 0 };
-
-function tell(result, text) {
-    results[result] += 1;
-    console.log(`${result}: ${text}`);
-}
-
-const check = (text, holds) => tell(holds ? "passed" : "FAILED", text);
-
-/** Reads a file of the repository, as a plain array of bytes that is in no buffer of Node's. */
-function bytesIn(...path) {
-    return new Uint8Array(readFileSync(join(TOP, ...path)));
-}
-
-const textIn = (...path) => readFileSync(join(TOP, ...path), "utf8");
-
-const RECORDINGS = [
-    "crates/perf_tasks/stdin", "crates/perf_samples/stdin",
-    ...readdirSync(join(TOP, "examples")).filter((name) => name.endsWith(".stream")).sort().map((name) => `examples/${name}`),
-];
-
-// ---- the lines of perfrec
-
-// The name of each type in a line, and the names of its fields in their order, of bindings/fields.txt: of a list its count
-// is left out, and of a single counter all is in `values`.
-const [NAMES, ORDERS] = [[], []];
-let orders = [];
-for (const text of textIn("bindings/fields.txt").split("\n").filter((it) => it !== "" && it[0] !== "#")) {
-    const [name, ...words] = text.trim().split(" ");
-    if (text[0] !== " ") {
-        for (const type of words) {
-            const [number, ofType] = type.split("=");
-            NAMES[number] = ofType;
-            ORDERS[number] = [];
-        }
-        orders = words.map((type) => ORDERS[Number.parseInt(type, 10)]);
-    } else if (!["count", "one", "more"].includes(words[1])) {
-        orders.forEach((order) => order.push(name));
-    }
-}
-
-const hex = (bytes) => Buffer.from(bytes.buffer, bytes.byteOffset, bytes.length).toString("hex");
-
-/** The items of a list, each a list of numbers. */
-function items(numbers, each) {
-    const found = [];
-    for (let i = 0; i < numbers.length; i += each) {
-        found.push([...numbers.subarray(i, i + each)]);
-    }
-    return found;
-}
-
-/** An item of `lbr` as its line has it: from, to, four bits, cycles and type. */
-function branch([from, to, word]) {
-    return [from, to, ...[0n, 1n, 2n, 3n].map((bit) => word >> bit & 1n), word >> 4n & 0xffffn, word >> 20n & 15n];
-}
-
-function valueText(frame, name, value) {
-    if (value instanceof Uint8Array) {
-        return hex(value);
-    }
-    if (!(value instanceof BigUint64Array)) {
-        return String(value);
-    }
-    const list = items(value, frame.itemLength(name));
-    return (name === "lbr" ? list.map(branch) : list).map((item) => item.join(":")).join(",");
-}
-
-/** The texts of a record's fields, by their names. */
-function fieldTexts(frame) {
-    const { fields } = frame;
-    const texts = Object.fromEntries(Object.entries(fields).map(([name, value]) => [name, valueText(frame, name, value)]));
-    if (frame.name === "sample") {
-        for (const name of ["pid", "tid", "time", "id", "stream_id", "cpu"]) {
-            if (frame[name] !== undefined) {
-                texts[name] = String(frame[name]);
-            }
-        }
-        if ("value" in texts) {
-            texts.values = ["value", "value_id", "value_lost"].filter((name) => name in texts).map((name) => texts[name]).join(":");
-        }
-    }
-    return texts;
-}
-
-function line(index, frame) {
-    const head = `${index} ${frame.type} ${frame.misc} ${frame.size} `;
-    if (frame.refusal) {
-        return `${head}refused ${KINDS[frame.refusal]}`;
-    }
-    const texts = fieldTexts(frame);
-    const words = ORDERS[frame.read].filter((name) => name in texts).map((name) => `${name}=${texts[name]}`);
-    return head + [NAMES[frame.read], ...words].join(" ");
-}
+const { BIG, Config, FLAGS, KINDS, LITTLE, TYPES } = module;
+const [, perfrec, streams] = process.argv.slice(2);
 
 /** The lines of a stream's frames, and of its end. */
 function linesOf(stream) {
@@ -176,17 +74,6 @@ function sampleLine(frame) {
 }
 
 // ---- comparisons
-
-/** Compares lines, and prints the first that differ. */
-function compare(text, expected, found) {
-    const at = [...Array(Math.max(expected.length, found.length)).keys()].find((i) => expected[i] !== found[i]);
-    if (at !== undefined) {
-        console.log(`    ${found[at]}\n    not ${expected[at]}`);
-    }
-    check(text, at === undefined);
-}
-
-const linesIn = (text) => text.split("\n").filter((it) => it !== "");
 
 function compareTexts() {
     const words = textIn("crates/perfrec/args").split(/\s+/).filter((word) => word !== "");
@@ -269,8 +156,6 @@ function checkStreams(count) {
 
 // ---- the names of the header, and of the declarations
 
-const header = textIn("bindings/c/perf_event_data.h");
-
 /** The names of the fields in each member of a union of the header. */
 function headerFields(union) {
     const text = header.replace(/\/\*.*?\*\//gs, "");
@@ -295,64 +180,14 @@ function compareHeader() {
     check("PERF_SAMPLE_* are those of Python", Object.keys(FLAGS).every((name) => bits.includes(name)));
 }
 
-/** Names that match a pattern in the declarations, in a class if one is given. */
-function declared(pattern, ofClass) {
-    const text = readFileSync(resolve(folder, "perf_event_data.d.mts"), "utf8");
-    const body = ofClass ? new RegExp(`class ${ofClass} .*?\\n\\}`, "s").exec(text)[0] : text;
-    return [...new Set(Array.from(body.matchAll(pattern), ([, name]) => name))].sort().join(" ");
-}
-
 function compareDeclarations() {
-    const names = ["Frame", "Stream"];
-    check("what is exported is declared", declared(/^export (?:const|class|function) (\w+)/gm)
-        === [...Object.keys(module)].sort().join(" "));
+    check("what is exported is declared", declared(/^export (?:const|class|function) (\w+)/gm).join(" ")
+        === Object.keys(module).sort().join(" "));
     const stream = ped.stream(lost);
-    for (const object of [[...stream][0], stream]) {
-        const own = [...Object.getOwnPropertyNames(Object.getPrototypeOf(object)), ...Object.keys(object)];
-        const name = names.shift();
-        check(`the members of ${name} are declared`, declared(/^    (?:readonly )?(\w+)[(:]/gm, name).replace("constructor ", "")
-            === own.filter((it) => it !== "constructor").sort().join(" "));
-    }
+    [[...stream][0], stream, stream.config].forEach(compareMembers);
 }
 
 // ---- the calls
-
-/** A frame in the lower order first: its type, misc and size, and a body of numbers as [width, number]. */
-function frameOf(type, misc, body, size) {
-    const bytes = body.flatMap(([width, number]) => Array.from({ length: width }, (_, i) => Number(BigInt(number) >> BigInt(8 * i) & 255n)));
-    const header = [[4, type], [2, misc], [2, size ?? 8 + bytes.length]];
-    return Uint8Array.from([...header.flatMap(([width, number]) => Array.from({ length: width }, (_, i) => number >> 8 * i & 255)), ...bytes]);
-}
-
-const lost = frameOf(13, 0, [[8, 5]]);
-const zeros = (count) => Array(count).fill([1, 0]);
-
-function joined(...parts) {
-    const all = new Uint8Array(parts.reduce((sum, part) => sum + part.length, 0));
-    let at = 0;
-    for (const part of parts) {
-        all.set(part, at);
-        at += part.length;
-    }
-    return all;
-}
-
-function repeated(bytes, count) {
-    const all = new Uint8Array(bytes.length * count);
-    for (let at = 0; at < all.length; at += bytes.length) {
-        all.set(bytes, at);
-    }
-    return all;
-}
-
-function refuses(text, call, message) {
-    try {
-        call();
-        check(text, false);
-    } catch (error) {
-        check(`${text}: ${error.message}`, error instanceof RangeError && error.message === message);
-    }
-}
 
 /** The texts of the header's reasons, by their numbers. */
 function headerMessages() {
@@ -399,6 +234,8 @@ function tryStream() {
     const same = (found, expected) => found.length === 3000 && found.every((it) => it === expected);
     check("columns", same(stream.column("lost_samples.lost"), 5n) && same(stream.column("size"), 16) && same(stream.column("time"), 0n)
         && same(stream.column("comm.pid"), 0n) && same(stream.column("comm.comm"), undefined));
+    const [lostNumbers, at] = stream.columns(["lost_samples.lost", "at"]);
+    check("several columns", same(lostNumbers, 5n) && at.length === 3000 && at.every((it, i) => it === 16 * i));
     check("which are present", same(stream.present("lost_samples.lost"), 1) && same(stream.present("time"), 0)
         && same(stream.present("size"), 1));
     const some = ped.stream(repeated(lost, 3), {}, { start: 16, limit: 1 });
@@ -410,7 +247,8 @@ function tryStream() {
     check("no frames", none.map((it) => [it.count, it.end, it.column("time").length].join()).join(" ") === "0,done,0 0,done,0 0,limit,0");
     refuses("a start before the bytes", () => ped.stream(lost, {}, { start: -16 }), "the start is outside the bytes");
     const file = bytesIn("examples", "events.data");
-    const what = "this is a file of `perf record`, not a stream: print it by the program perf_data";
+    const what = "this is a file of `perf record`, not a stream: open it by `open`, or print it by the program"
+        + " perf_data";
     refuses("a file of perf record in place of a stream", () => ped.stream(file), what);
     refuses("a file of perf record in place of an attribute", () => ped.readAttribute(file), what);
     refuses("a start after the bytes", () => ped.stream(lost, {}, { start: 17 }), "the start is outside the bytes");
@@ -533,38 +371,13 @@ function tryLong() {
 
 /** Reads a large input: what it takes besides is not more than the module's places. */
 async function tryMemory() {
-    setFlagsFromString("--expose-gc");
     const large = repeated(lost, 4000000);
-    for (let i = 0; i < 3; i++) {
-        runInNewContext("gc")(); // what other tests left is taken away first
-        await setTimeout(50);
-    }
-    const taken = () => process.memoryUsage().external + process.memoryUsage().arrayBuffers;
-    const before = taken();
-    const { count } = ped.stream(large);
-    const more = taken() - before;
+    let count;
+    const more = await bytesTaken(() => { ({ count } = ped.stream(large)); });
     check(`${count} frames of ${large.length} bytes take ${more} bytes more`, count === 4000000 && Math.abs(more) < 4000000);
 }
 
 // ---- changed bytes
-
-/** Numbers from a seed: xorshift of 32 bits. */
-function numbersFrom(seed) {
-    let state = seed;
-    return (below) => {
-        state ^= state << 13;
-        state ^= state >>> 17;
-        state ^= state << 5;
-        return (state >>> 0) % below;
-    };
-}
-
-function isInside(frame, value) {
-    const { bytes } = frame;
-    return value instanceof BigUint64Array ? 8 * value.length <= bytes.length
-        : !(value instanceof Uint8Array) || value.length === 0
-            || value.byteOffset >= bytes.byteOffset + 8 && value.byteOffset + value.length <= bytes.byteOffset + bytes.length;
-}
 
 /** Recordings in which bytes are replaced, under their own configurations and under others. */
 function tryWrongBytes() {
@@ -594,20 +407,6 @@ function tryWrongBytes() {
 
 // ---- measurements
 
-const MOST = 1;
-
-/** The least time of the processor for a frame, in microseconds, of many runs: on a busy machine most are slower. */
-function microseconds(count, call) {
-    let least = Infinity;
-    for (let i = 0; i < 60; i++) {
-        const before = process.cpuUsage();
-        call();
-        const { user, system } = process.cpuUsage(before);
-        least = Math.min(least, user + system);
-    }
-    return least / count;
-}
-
 function measure() {
     for (const path of RECORDINGS.slice(0, 2)) {
         const bytes = bytesIn(path);
@@ -630,12 +429,8 @@ function measure() {
     }
 }
 
-compareTexts();
-checkReplay("runs of crates/perf_replay", textIn("crates/perf_replay/stdin"));
-checkStreams(Number(streams ?? 10000));
-for (const call of [compareHeader, compareDeclarations, tryReasons, tryStream, tryFrames, tryInputs, tryPieces, tryMemory, tryLong,
-    tryWrongBytes, measure]) {
-    await call();
-}
-console.log(Object.entries(results).map(([result, number]) => `${number} ${result.toLowerCase()}`).join(", "));
-process.exit(results.FAILED === 0 ? 0 : 1);
+await run([
+    compareTexts, () => checkReplay("runs of crates/perf_replay", textIn("crates/perf_replay/stdin")),
+    () => checkStreams(Number(streams || 10000)), compareHeader, compareDeclarations, tryReasons, tryStream, tryFrames,
+    tryInputs, tryPieces, tryMemory, tryLong, tryWrongBytes, measure,
+]);

@@ -4,8 +4,8 @@
 #
 #     bindings/js/test.sh ARCHIVE [PERFREC [STREAMS]]
 #
-# ARCHIVE is for wasm64-unknown-unknown; the others are those of test.mjs. A line is what passed, failed or was
-# skipped; the status is 0 if nothing failed.
+# ARCHIVE is for wasm64-unknown-unknown; the others are those of test.mjs, and PERF_EVENT_DATA_SO that of test_open.mjs.
+# A line is what passed, failed or was skipped; the status is 0 if nothing failed.
 set -u
 if [ $# -lt 1 ] || [ ! -f "$1" ]; then
     echo "usage: bindings/js/test.sh ARCHIVE [PERFREC [STREAMS]]" >&2
@@ -45,6 +45,9 @@ found=$(node first.mjs 2>&1)
 cp "$here/../first/names.mjs" . && node names.mjs "$here/../../examples/recording.stream" >"$work/names" 2>&1
 grep '^[0-9]* [0-9]* is ' "$here/../../crates/perf_uses/stdout" | cmp -s - "$work/names" && pass "run names.mjs" ||
     fail "names.mjs: $(head -n 3 "$work/names")"
+cp "$here/../first/samples.mjs" . && node samples.mjs "$here/../../examples/events.data" >"$work/samples" 2>&1
+cmp -s "$here/../../examples/events.samples" "$work/samples" && pass "run samples.mjs" ||
+    fail "samples.mjs: $(head -n 3 "$work/samples")"
 found=$(find node_modules -name package.json | wc -l)
 [ "$found" = 1 ] && pass "it depends on no other package" || fail "there are $found packages"
 cd "$here" || exit 2
@@ -58,6 +61,7 @@ else
     tail -n 12 "$work/log"
 fi
 node "$here/test.mjs" "$work/elsewhere/node_modules/perf-event-data" "$@" || status=1
+node "$here/test_open.mjs" "$work/elsewhere/node_modules/perf-event-data" || status=1
 rm -rf "$work/out"
 pack && cmp -s "$package" "$work/first.tgz" && pass "the package is the same each time" ||
     fail "the package differs from one time to the next"

@@ -688,7 +688,7 @@ class Recording:
         type, misc, size = struct.unpack_from(("<IHH", ">IHH")[self.order], self.data, at)
         end = self._file.frames.at + self._file.frames.size
         payload = _payload_length(self.data[at + 8:at + size], type, self.order)
-        refusal = 3 if owner != _PERF else 2 if size < 8 else 1 if at + size + payload > end else 0
+        refusal = 2 if size < 8 else 1 if at + size + payload > end else 3 if owner != _PERF else 0
         span = [0, 0] if refusal else [8, size - 8]
         return [type, misc, size, 0, refusal, 1 if refusal == 2 else 0, *[0] * 32, *span, *[0] * 14]
 

@@ -415,7 +415,7 @@ HEADER = (TOP / "bindings/c/perf_event_data.h").read_text()
 
 def file_line(index, frame):
     """The line of `perf_data dump`."""
-    owner = "?" if frame.refusal == 3 else "-"
+    owner = "?" if frame.type < 64 else "-"
     if frame.event:
         owner = frame.event.number
     elif frame.unknown_id is not None:
@@ -515,6 +515,9 @@ def try_damaged_frames():
     found = ped.Recording(announcing).frames("file")
     compare("an AUXTRACE that announces more than there is", [*lines[:-2], f"{before} {place} - 71 0 {size} refused Eof"],
             lines_of(found))
+    killed = data[:48] + bytes(8) + data[56:int(place) + 20]
+    compare("a file that ends inside a frame", [*lines[:-2], f"{before} {place} ? 4 0 {size} refused Eof"],
+            lines_of(ped.Recording(killed).frames("file")))
 
 
 def read_all(data):

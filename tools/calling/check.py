@@ -26,7 +26,7 @@ OUTPUTS = [
     ("docs/LINKING.md", "task 4583, event 1: 11", "examples/events.samples"),
     ("bindings/rust/README.md", "task 4583, event 1: 11", "examples/events.samples"),
     ("bindings/README.md", "task 4583, event 1: 11", "examples/events.samples"),
-    ("bindings/js/README.md", "904355445346 13844 is sh", "crates/perf_uses/stdout"),
+    ("bindings/js/README.md", "task 4583, event 1: 11", "examples/events.samples"),
 ]
 
 

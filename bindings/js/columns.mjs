@@ -1,0 +1,153 @@
+// Columns: one field of all frames.
+
+import { NUMBERS, OWN, putNumbers } from "./batch.mjs";
+import { FIELDS, TYPES } from "./fields.mjs";
+import { BATCH, FRAME_BYTES } from "./machine.mjs";
+
+/** A typed array that grows: of numbers of 8, 16, 32 or 64 bits. Those of 64 bits are put as two halves. */
+class Growing {
+    constructor(width) {
+        this.width = width;
+        this.each = width === 64 ? 2 : 1;
+        this.type = width === 8 ? Uint8Array : width === 16 ? Uint16Array : Uint32Array;
+        this.array = new this.type(BATCH * this.each);
+        this.length = 0;
+    }
+
+    /** Makes room for `count` more numbers, which are 0, and returns the place of the first. */
+    extend(count) {
+        const first = this.length;
+        this.length += count * this.each;
+        if (this.length > this.array.length) {
+            const more = new this.type(Math.max(2 * this.array.length, this.length));
+            more.set(this.array);
+            this.array = more;
+        }
+        return first;
+    }
+
+    done() {
+        const numbers = this.array.slice(0, this.length);
+        return this.width === 64 ? new BigUint64Array(numbers.buffer) : numbers;
+    }
+}
+
+/** A column of numbers, 0 where one is absent. */
+class NumberColumn extends Growing {
+    constructor({ width, place, has }) {
+        super(width);
+        this.place = place;
+        this.has = has;
+    }
+
+    add(batch) {
+        const { each, has, place, width } = this;
+        const to = this.extend(batch.count);
+        const { array } = this;
+        const [from, row] = [width === 16 ? batch.halves : batch.words, FRAME_BYTES / Math.min(width / 8, 4)];
+        for (let i = 0; i < batch.count; i++) {
+            if (has(batch, i)) {
+                for (let half = 0; half < each; half++) {
+                    array[to + each * i + half] = from[row * i + each * place + half];
+                }
+            }
+        }
+    }
+}
+
+/** A column of byte strings or lists, undefined where one is absent. The lists of a batch are parts of one array. */
+class SpanColumn {
+    constructor({ span, has }) {
+        this.span = span;
+        this.has = has;
+        this.found = [];
+    }
+
+    add(batch) {
+        const { has, span } = this;
+        const put = span.isList ? this.#lists(batch) : (i) => batch.bytesOf(i, span.place);
+        for (let i = 0; i < batch.count; i++) {
+            this.found.push(has(batch, i) ? put(i) : undefined);
+        }
+    }
+
+    /** Returns what copies a list of a batch to its part of one array. */
+    #lists(batch) {
+        const { has, span: { place } } = this;
+        let [length, at] = [0, 0];
+        for (let i = 0; i < batch.count; i++) {
+            length += has(batch, i) ? batch.listLength(i, place) : 0;
+        }
+        const numbers = new BigUint64Array(length);
+        return (i) => {
+            putNumbers(numbers, at, batch.bytesOf(i, place), batch.source.order);
+            at += batch.listLength(i, place);
+            return numbers.subarray(at - batch.listLength(i, place), at);
+        };
+    }
+
+    done() { return this.found; }
+}
+
+/** A column of 1 for each frame that has the field of a column, else 0. */
+export class PresenceColumn extends Growing {
+    constructor(name, others) {
+        super(8);
+        this.has = columnOf(name, others).has;
+    }
+
+    add(batch) {
+        const to = this.extend(batch.count);
+        for (let i = 0; i < batch.count; i++) {
+            this.array[to + i] = this.has(batch, i) ? 1 : 0;
+        }
+    }
+}
+
+/** A column of what is no number of a frame: `put` writes those of a batch to an array from a place on. */
+class OtherColumn extends Growing {
+    constructor({ put, type }) {
+        super(32);
+        this.put = put;
+        this.type = type;
+        this.array = new type(BATCH);
+    }
+
+    add(batch) {
+        const to = this.extend(batch.count);
+        this.put(batch, this.array, to);
+    }
+}
+
+// A column of what is no number of a frame: where it begins.
+const putStarts = ({ starts, count }, array, to) => array.set(starts.subarray(0, count), to);
+const PLACES = { at: { type: Float64Array, has: () => true, put: putStarts } };
+
+/** What a column is of: a number of each frame, or a field of the records of a type; `others` are further ones. */
+function columnOf(name, others) {
+    if (Object.hasOwn(OWN, name)) {
+        const [width, place, flags] = OWN[name];
+        return { width, place, has: flags === 0 ? () => true : (batch, index) => batch.hasFlag(index, flags) };
+    }
+    const other = Object.hasOwn(PLACES, name) ? PLACES[name] : Object.hasOwn(others, name) ? others[name] : undefined;
+    if (other !== undefined) {
+        return other;
+    }
+    const [record, field, ...rest] = String(name).split(".");
+    const type = TYPES.indexOf(record);
+    const number = FIELDS[type]?.numbers.find((it) => it.name === field);
+    const span = FIELDS[type]?.spans.find((it) => it.name === field);
+    if (rest.length > 0 || (number ?? span) === undefined) {
+        throw new RangeError(`there is no column ${name}`);
+    }
+    const { rule } = number ?? span;
+    const has = (batch, index) => batch.own(index, 16, 6) === 0 && batch.own(index, 32, 2) === type
+        && batch.hasField(index, rule);
+    return number ? { width: 64, place: NUMBERS + number.place, has } : { span, has };
+}
+
+/** A column of that name without frames; `others` are the columns of a class of frames. */
+export function emptyColumn(name, others) {
+    const it = columnOf(name, others);
+    return it.span ? new SpanColumn(it) : it.put ? new OtherColumn(it) : new NumberColumn(it);
+}

@@ -1,0 +1,182 @@
+// Files that `perf record` wrote. The bytes of a file are never all in the module's memory: only those that opening
+// reads, and then a piece of its frames, since the entry and the numbers of a frame depend on its own bytes alone.
+
+import { numbersOf } from "./batch.mjs";
+import { BIG, bytesOf } from "./config.mjs";
+import { ENTRY_WORDS, EVENT, NUMBER, OWNER, putOffset } from "./entries.mjs";
+import { FILE_REFUSALS } from "./fields.mjs";
+import { FileFrames } from "./file_frames.mjs";
+import { PieceReader } from "./file_readers.mjs";
+import { ENDS } from "./machine.mjs";
+
+// The bytes of a frame's header, and of the head of a file; where the head has the size of an entry of the attributes
+// and the place of all, of two numbers; and the least size of an entry.
+const HEADER_BYTES = 8;
+const HEAD_BYTES = 104;
+const [ENTRY_SIZE, ENTRIES] = [16, 24];
+const LEAST_ENTRY = 80;
+const PLACE_BYTES = 16;
+// The types whose frames announce bytes after them that are no frames, and the width of that number.
+const ANNOUNCING = { 66: 4, 71: 8 };
+
+/** Why a file is refused, and what to do. */
+export class RefusedFile extends RangeError {
+    constructor(kind, message) {
+        super(message);
+        this.kind = kind;
+    }
+
+    get name() { return "RefusedFile"; }
+}
+
+const viewOf = (bytes) => new DataView(bytes.buffer, bytes.byteOffset, bytes.length);
+
+/** The front of a file, up to the last byte that opening reads: of its head, its attributes, and the ids of each event,
+ * whose place is at the end of its entry. A part that ends beyond the file is not read, as the library refuses it. */
+function frontOf(bytes) {
+    if (bytes.length < HEAD_BYTES) {
+        return bytes;
+    }
+    const view = viewOf(bytes);
+    const number = (at) => Number(view.getBigUint64(at, bytes[0] === "P".charCodeAt(0)));
+    let end = HEAD_BYTES;
+    const reach = (at) => {
+        const there = number(at) + number(at + 8);
+        end = there <= bytes.length ? Math.max(end, there) : end;
+        return there;
+    };
+    const [size, last] = [number(ENTRY_SIZE), reach(ENTRIES)];
+    if (size >= LEAST_ENTRY && last <= bytes.length) {
+        for (let at = number(ENTRIES) + size; at <= last; at += size) {
+            reach(at - PLACE_BYTES);
+        }
+    }
+    return bytes.subarray(0, end);
+}
+
+/** The bytes of a file, what the library states of it, and when they are needed its entries in order of time. */
+class Source {
+    #machine;
+    #ended;
+    #byTime;
+
+    constructor(machine, bytes, file) {
+        this.#machine = machine;
+        this.bytes = bytes;
+        this.view = viewOf(bytes);
+        this.file = file;
+        this.order = file.order;
+        this.isLittle = file.order !== BIG;
+        this.events = machine.eventsIn(file.tables).map((event, number) => new FileEvent(this, number, event));
+    }
+
+    typeAt(at) { return this.view.getUint32(at, this.isLittle); }
+    miscAt(at) { return this.view.getUint16(at + 4, this.isLittle); }
+    sizeAt(at) { return this.view.getUint16(at + 6, this.isLittle); }
+
+    /** How many bytes a frame takes with those that it announces: of TRACING_DATA in whole words of eight. */
+    lengthAt(at) {
+        const size = Math.max(this.sizeAt(at), HEADER_BYTES);
+        const width = ANNOUNCING[this.typeAt(at)];
+        const body = at + HEADER_BYTES;
+        if (width === undefined || Math.min(at + size, this.bytes.length) - body < width) {
+            return size;
+        }
+        return size + (width === 8 ? Number(this.view.getBigUint64(body, this.isLittle))
+            : Math.ceil(this.view.getUint32(body, this.isLittle) / 8) * 8);
+    }
+
+    frames(entries) { return new FileFrames(this.#machine, this, entries); }
+
+    /** Reads the entries of all frames, and calls `each` with those of a batch, where they begin, and how many. */
+    #readEntries(each) {
+        const reader = new PieceReader(this.#machine, this);
+        while (reader.next() > 0) {
+            each(reader.entries, reader.starts, reader.last);
+        }
+        this.#ended = { count: reader.count, taken: reader.taken, how: reader.how };
+    }
+
+    /** How many frames there are, where they end, and how. */
+    get ended() {
+        if (this.#ended === undefined) {
+            this.#readEntries(() => {});
+        }
+        return this.#ended;
+    }
+
+    get byTime() {
+        if (this.#byTime === undefined) {
+            const parts = [];
+            this.#readEntries((entries, starts, count) => {
+                const part = entries.slice(0, ENTRY_WORDS * count);
+                for (let i = 0; i < count; i++) {
+                    putOffset(part, i, starts[i]);
+                }
+                parts.push(part);
+            });
+            this.#byTime = this.#machine.sortEntries(parts);
+        }
+        return this.#byTime;
+    }
+
+    /** The entries of an event's frames, in order of time. */
+    entriesOf(event) {
+        const all = this.byTime;
+        const places = [];
+        for (let at = 0; at < all.length; at += ENTRY_WORDS) {
+            if (all[at + OWNER] === EVENT && all[at + NUMBER] === event) {
+                places.push(at);
+            }
+        }
+        const found = new Uint32Array(ENTRY_WORDS * places.length);
+        places.forEach((at, i) => found.set(all.subarray(at, at + ENTRY_WORDS), ENTRY_WORDS * i));
+        return found;
+    }
+}
+
+/** An event of a file. */
+export class FileEvent {
+    #source;
+
+    constructor(source, number, { config, type, event, idsAt, ids }) {
+        this.#source = source;
+        this.number = number;
+        this.config = config;
+        this.type = type;
+        this.event = event;
+        this.ids = numbersOf(source.bytes.subarray(idsAt, idsAt + 8 * ids), source.order);
+    }
+
+    /** Its frames, in order of time. Those of tasks and mappings are of the first event of the file. */
+    get frames() { return this.#source.frames(this.#source.entriesOf(this.number)); }
+}
+
+/** A file of `perf record`, all of whose bytes are in memory. */
+export class Recording {
+    #source;
+
+    constructor(machine, data) {
+        const bytes = bytesOf(data);
+        const file = machine.openFile(frontOf(bytes), bytes.length);
+        if (file.refusal !== 0) {
+            throw new RefusedFile(...FILE_REFUSALS[file.refusal]);
+        }
+        this.#source = new Source(machine, bytes, file);
+        this.bytes = bytes;
+        this.order = file.order;
+        this.isClosed = file.isClosed;
+        this.events = this.#source.events;
+    }
+
+    /** How reading the frames ended. */
+    get end() { return ENDS[this.#source.ended.how]; }
+
+    /** All frames, in order of "time" or in that of the "file". */
+    frames(order = "time") {
+        if (order !== "time" && order !== "file") {
+            throw new RangeError('the order is "time" or "file"');
+        }
+        return this.#source.frames(order === "time" ? this.#source.byTime : undefined);
+    }
+}
