@@ -1,0 +1,102 @@
+// Makes the page, one HTML file with its script, its style, the worker and the WebAssembly module inside:
+//
+//     node bindings/web/build.mjs FOLDER PAGE.html
+//
+// FOLDER is what `make -C bindings js` made: perf_event_data.mjs, fields.mjs and module.mjs.
+
+import { createHash } from "node:crypto";
+import { mkdirSync, readFileSync, writeFileSync } from "node:fs";
+import { basename, dirname, join, resolve } from "node:path";
+import { fileURLToPath } from "node:url";
+
+const HERE = dirname(fileURLToPath(import.meta.url));
+const IMPORT = /^import\s+(\{[^}]*\}|\*\s+as\s+\w+)\s+from\s+"(\.{1,2}\/[^"]+)";$/gm;
+const DECLARED = /^export (?:async function|function|const|class) (\w+)/gm;
+const LISTED = /^export (\{[^}]*\});$/gm;
+
+/** Returns the path of a module that another one imports: those of bindings/js are the ones in the folder. */
+function pathOf(from, name, folder) {
+    const path = resolve(dirname(from), name);
+    return dirname(path) === resolve(HERE, "../js") ? join(folder, basename(path)) : path;
+}
+
+/** Returns the names in the braces of an import or export as pairs of the name there and the name here. */
+function pairsOf(braces) {
+    const words = braces.slice(1, -1).split(",").map((word) => word.trim()).filter(Boolean);
+    return words.map((word) => word.split(/\s+as\s+/)).map(([first, second]) => [first, second ?? first]);
+}
+
+/** Returns a module as a function that is called at once and returns what the module exports. */
+function wrapped(text, variable, variableOf) {
+    const names = [...text.matchAll(DECLARED)].map((found) => [found[1], found[1]]);
+    names.push(...[...text.matchAll(LISTED)].flatMap((found) => pairsOf(found[1])));
+    const body = text
+        .replace(IMPORT, (_, what, name) => what.startsWith("*")
+            ? `const ${what.split(/\s+/).at(-1)} = ${variableOf(name)};`
+            : `const { ${pairsOf(what).map(([there, here]) => `${there}: ${here}`).join(", ")} } = ${variableOf(name)};`)
+        .replace(LISTED, "")
+        .replace(/^export (?=async|function|const|class)/gm, "");
+    if (/^(import|export)\b/m.test(body)) {
+        throw new Error(`a form of import or export that is not known: ${/^(import|export)\b.*/m.exec(body)[0]}`);
+    }
+    const result = names.map(([here, there]) => `${there}: ${here}`).join(", ");
+    return `const ${variable} = (() => {\n${body}\nreturn { ${result} };\n})();\n`;
+}
+
+/** Returns a module and all that it imports, each after those that it imports itself, as one script. */
+function bundle(entry, folder) {
+    const variables = new Map();
+    const parts = [];
+    const add = (path) => {
+        if (variables.has(path)) {
+            if (!variables.get(path)) {
+                throw new Error(`${path} imports itself, by others`);
+            }
+            return;
+        }
+        variables.set(path, undefined);
+        const text = readFileSync(path, "utf8");
+        [...text.matchAll(IMPORT)].forEach((found) => add(pathOf(path, found[2], folder)));
+        const variable = `module${parts.length}`;
+        parts.push(wrapped(text, variable, (name) => variables.get(pathOf(path, name, folder))));
+        variables.set(path, variable);
+    };
+    add(resolve(HERE, entry));
+    return `"use strict";\n${parts.join("")}`;
+}
+
+/** Returns a script as it may stand in a page. */
+function inPage(script) {
+    return script.replace(/<\/(?=script)/gi, "<\\/").replace(/<!--/g, "<\\!--");
+}
+
+function hashOf(text) {
+    return `'sha256-${createHash("sha256").update(text).digest("base64")}'`;
+}
+
+/** No network: what may run is the script and the style with these hashes, and the worker that the script makes. */
+function policyOf(script, style) {
+    return ["default-src 'none'", `script-src ${hashOf(script)} 'wasm-unsafe-eval'`, `style-src ${hashOf(style)}`,
+        "worker-src blob:", "img-src data:", "base-uri 'none'", "form-action 'none'",
+        "require-trusted-types-for 'script'", "trusted-types worker"].join("; ");
+}
+
+function main([folder, file]) {
+    if (!file) {
+        console.error("usage: node build.mjs FOLDER PAGE.html");
+        process.exit(2);
+    }
+    const version = readFileSync(join(HERE, "../VERSION"), "utf8").trim();
+    const script = inPage(bundle("page/main.mjs", resolve(folder)));
+    const style = readFileSync(join(HERE, "page/style.css"), "utf8");
+    const parts = {
+        POLICY: policyOf(script, style), STYLE: style, SCRIPT: script, VERSION: version,
+        WORKER: inPage(bundle("worker.mjs", resolve(folder))),
+    };
+    const page = readFileSync(join(HERE, "page/index.html"), "utf8").replace(/@([A-Z]+)@/g, (_, name) => parts[name]);
+    mkdirSync(dirname(resolve(file)), { recursive: true });
+    writeFileSync(file, page);
+    console.log(`${file}: ${page.length} bytes`);
+}
+
+main(process.argv.slice(2));
