@@ -1,0 +1,164 @@
+// A recording: everything that the page shows of one, made of its bytes once.
+
+import { csv } from "./exporting.mjs";
+import { fieldsOf, hexBytes, summaryOf } from "./fields.mjs";
+import { flame, folded } from "./flame.mjs";
+import { History, NO_NAME } from "./history.mjs";
+import { openInput } from "./input.mjs";
+import { lanes } from "./lanes.mjs";
+import { orderOf } from "./order.mjs";
+import { overviewOf } from "./overview.mjs";
+import { Reading } from "./reading.mjs";
+import { recordName } from "./record_names.mjs";
+import { ShownPlaces, Symbols } from "./symbols.mjs";
+import { records, tasks } from "./tables.mjs";
+import { hexOf, nameOf } from "./text.mjs";
+import { NAME_DEPTH } from "./tree.mjs";
+
+const MOST_BYTES = 65536;
+const HEADER = 8;
+const EXPORTS = { folded, csv };
+
+export class Recording {
+    #library;
+    #ped;
+
+    /** Opens the bytes of a recording. `library` is the library's module, `ped` what its `load` returned, and `note` is
+     * called with how far that is. */
+    constructor(library, ped, { name, bytes, kind }, note = () => {}) {
+        [this.#library, this.#ped] = [library, ped];
+        Object.assign(this, { name, bytes, input: openInput(library, ped, bytes, kind) });
+        const of = bytes.length;
+        const reading = new Reading(library, this.input);
+        reading.read((done) => note({ done, of, what: "reading the records" }));
+        this.#follow(reading, (share) => note({ done: Math.floor(of * share), of, what: "following the call chains" }));
+        this.overview = overviewOf(this);
+    }
+
+    /** Applies the records in order of time. */
+    #follow(reading, note) {
+        const { frames, texts, tasks: all, places, table, start, duration } = reading;
+        const order = orderOf(frames.time.numbers);
+        const eventNames = this.input.events.map((event) => texts.numberOf(nameOf(event.name)));
+        const history = new History(reading, eventNames);
+        history.run(order, duration, (done) => note(done / Math.max(order.length, 1)));
+        const { tree, samples, running, marks, names, placeOfSample } = history;
+        Object.assign(this, {
+            reading, events: this.input.events, frames, texts, tasks: all, places, table, start, duration, order, tree,
+            samples, running, marks, names, placeOfSample,
+        });
+        this.times = Float64Array.from(order, (index) => frames.time.array[index]);
+        this.symbols = new Symbols();
+        this.shown = new ShownPlaces(places, this.symbols);
+    }
+
+    isSample(index) { return this.frames.extra.array[index] >= 0 && this.kindOf(index) === "sample"; }
+
+    /** The name of a frame's record type, or "refused". */
+    kindOf(index) {
+        const { isRefused, type } = this.frames;
+        return isRefused.array[index] ? "refused" : recordName(type.array[index], this.#library.TYPES);
+    }
+
+    /** What the thread of a frame was called by then; "" without a thread. */
+    nameAt(index) {
+        const name = this.names[index];
+        return name === NO_NAME ? "" : this.texts.list[name];
+    }
+
+    /** The text of the place of a sample, or "". */
+    placeOf(index) {
+        const node = this.samples.node[this.placeOfSample[this.frames.extra.array[index]]];
+        return this.tree.depth(node) > NAME_DEPTH ? this.shown.textOf(this.shown.of(this.tree.what(node))) : "";
+    }
+
+    /** A frame as the library reads it; undefined if no event has it. */
+    frameAt(index) {
+        const { at, size, event } = this.frames;
+        const [start, number] = [at.array[index], event.array[index]];
+        if (number < 0) {
+            return undefined;
+        }
+        const bytes = this.bytes.subarray(0, start + Math.max(size.array[index], HEADER));
+        const [frame] = this.#ped.stream(bytes, this.events[number].reading, { start, limit: 1 });
+        return frame;
+    }
+
+    /** Why a frame is refused; "" if it is not. */
+    messageAt(index) { return this.frames.isRefused.array[index] ? this.texts.list[this.frames.extra.array[index]] : ""; }
+
+    /** What a frame's record says in a few words: of a sample its place, of a refused one the reason. */
+    summaryAt(index) {
+        if (this.isSample(index)) {
+            return this.placeOf(index);
+        }
+        const message = this.messageAt(index);
+        const frame = message === "" ? this.frameAt(index) : undefined;
+        return frame === undefined ? message : summaryOf(frame);
+    }
+
+    /** A frame's fields in full. */
+    frame({ index }) {
+        const { at, size, event } = this.frames;
+        if (!(Number.isInteger(index) && index >= 0 && index < this.frames.count)) {
+            throw new RangeError("there is no such frame");
+        }
+        const frame = this.frameAt(index);
+        return {
+            index, at: at.array[index], size: size.array[index], name: this.kindOf(index),
+            event: event.array[index] < 0 ? undefined : event.array[index], message: this.messageAt(index),
+            fields: frame === undefined ? this.#headerFields(index) : fieldsOf(frame),
+        };
+    }
+
+    /** What a frame without an event has: its header and its bytes. */
+    #headerFields(index) {
+        const { at, size, type, misc } = this.frames;
+        const body = this.bytes.subarray(at.array[index] + HEADER, at.array[index] + size.array[index]);
+        return [["type", String(type.array[index])], ["misc", hexOf(0, misc.array[index])], ["data", hexBytes(body)]];
+    }
+
+    /** A copy of bytes of the file. */
+    bytesAt({ at, size }) {
+        return this.bytes.slice(at, at + Math.min(size, MOST_BYTES));
+    }
+
+    /** Adds a text of symbols, and returns how many it has. */
+    addSymbols({ text, file }) {
+        const count = this.symbols.add(text, file, (name, table) => this.#biasOf(name, table));
+        this.shown = new ShownPlaces(this.places, this.symbols);
+        return { count };
+    }
+
+    /** How far offsets in a file are below its addresses: in a program that is always at one place, as its mapping says. */
+    #biasOf(name, symbols) {
+        const file = this.places.files.numbers.get(name);
+        const { table } = this;
+        const middle = symbols.addressOf(symbols.count >>> 1);
+        for (let mapping = 0; mapping < table.file.length; mapping++) {
+            const [first, last] = [table.number("first", mapping), table.number("last", mapping)];
+            if (table.file.array[mapping] === file && !table.keepsAddress.array[mapping] && first <= middle
+                && middle <= last) {
+                return first - table.number("offset", mapping);
+            }
+        }
+        return 0;
+    }
+
+    lanes(words) { return lanes(this, words); }
+
+    flame(words) { return flame(this, words); }
+
+    tasksOf(words) { return tasks(this, words); }
+
+    records(words) { return records(this, words); }
+
+    /** The selected samples as text. */
+    exportAs(words) {
+        const make = Object.hasOwn(EXPORTS, words.kind) ? EXPORTS[words.kind] : undefined;
+        if (make === undefined) {
+            throw new RangeError("samples are exported as folded or as csv");
+        }
+        return make(this, words);
+    }
+}

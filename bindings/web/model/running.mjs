@@ -1,0 +1,58 @@
+// When threads ran, where switches were recorded.
+
+import { Growing } from "./growing.mjs";
+
+/** Intervals in the order of their ends: those of one thread do not overlap, nor do those of one processor. */
+export class Running {
+    constructor() {
+        this.from = new Growing(Float64Array, 64);
+        this.to = new Growing(Float64Array, 64);
+        this.task = new Growing(Uint32Array, 64);
+        this.cpu = new Growing(Uint32Array, 64);
+        this.since = new Map();
+        this.onCpu = new Map();
+        this.wasSeen = new Set();
+    }
+
+    get count() { return this.from.length; }
+
+    /** A thread begins to run; what ran on that processor ends, if its own record was lost. */
+    begin(task, cpu, time) {
+        const other = this.onCpu.get(cpu);
+        if (other !== undefined && other !== task) {
+            this.#close(other, time);
+        }
+        this.since.set(task, { time, cpu });
+        this.onCpu.set(cpu, task);
+        this.wasSeen.add(task);
+    }
+
+    /** A thread ends running; without a record of its begin it ran since `first`, when it was seen first. */
+    end(task, cpu, time, first) {
+        if (!this.since.has(task) && !this.wasSeen.has(task)) {
+            this.since.set(task, { time: first, cpu });
+        }
+        this.wasSeen.add(task);
+        this.#close(task, time);
+    }
+
+    #close(task, time) {
+        const begin = this.since.get(task);
+        if (begin === undefined) {
+            return;
+        }
+        this.since.delete(task);
+        if (this.onCpu.get(begin.cpu) === task) {
+            this.onCpu.delete(begin.cpu);
+        }
+        this.from.push(begin.time);
+        this.to.push(time);
+        this.task.push(task);
+        this.cpu.push(begin.cpu);
+    }
+
+    /** Nothing comes after that time. */
+    finish(time) {
+        [...this.since.keys()].forEach((task) => this.#close(task, time));
+    }
+}

@@ -1,0 +1,134 @@
+// Tables of symbols: what `nm -C` prints of a file, /proc/kallsyms, and maps of just-in-time compilers, perf-PID.map.
+
+import { Growing } from "./growing.mjs";
+import { nameOf } from "./text.mjs";
+
+const CODE = /^[tTwWiVu]$/;
+/** As far from its begin as code without a size or a next symbol goes. */
+const LONGEST = 0x10000;
+const SUFFIXES = /\.(?:nm|sym|syms|symbols|txt)$/i;
+
+/** Code with names: from each address to the next one, or as long as its size is. */
+export class SymbolTable {
+    constructor(symbols) {
+        symbols.sort((one, other) => one.upper - other.upper || one.lower - other.lower || other.size - one.size);
+        this.upper = Uint32Array.from(symbols, (it) => it.upper);
+        this.lower = Uint32Array.from(symbols, (it) => it.lower);
+        this.size = Float64Array.from(symbols, (it) => it.size);
+        this.names = symbols.map((it) => it.name);
+        // How far file offsets are below addresses.
+        this.bias = 0;
+    }
+
+    get count() { return this.names.length; }
+
+    /** The address of a symbol, exact below 2^53. */
+    addressOf(place) { return this.upper[place] * 0x100000000 + this.lower[place]; }
+
+    /** The name of an address, or undefined. */
+    find(upper, lower) {
+        const biased = lower + this.bias;
+        const [high, low] = [upper + Math.floor(biased / 0x100000000), biased % 0x100000000];
+        let [first, end] = [0, this.count];
+        while (first < end) {
+            const middle = first + end >>> 1;
+            if (this.upper[middle] < high || this.upper[middle] === high && this.lower[middle] <= low) {
+                first = middle + 1;
+            } else {
+                end = middle;
+            }
+        }
+        const found = this.#firstOf(first - 1);
+        const distance = found < 0 ? Infinity : (high - this.upper[found]) * 0x100000000 + low - this.lower[found];
+        const isLast = first === this.count;
+        const length = this.size[found] > 0 ? this.size[found] : isLast ? LONGEST : Infinity;
+        return distance < length ? this.names[found] : undefined;
+    }
+
+    /** The first of the symbols at one address. */
+    #firstOf(place) {
+        let found = place;
+        while (found > 0 && this.upper[found - 1] === this.upper[found] && this.lower[found - 1] === this.lower[found]) {
+            found -= 1;
+        }
+        return found;
+    }
+}
+
+const HEX = "(?:0x)?([0-9a-fA-F]{1,16})";
+/** `ADDRESS TYPE NAME` or `ADDRESS SIZE TYPE NAME`, and of a map `START SIZE NAME`. */
+const LINE = new RegExp(`^${HEX}\\s+(?:${HEX}\\s+)?(\\S)\\s+(\\S.*)$`);
+const MAP_LINE = new RegExp(`^${HEX}\\s+${HEX}()\\s+(\\S.*)$`);
+const MAP_FILE = /^perf-\d+\.map$/;
+/** After a name of a module in kallsyms. */
+const MODULE = /\s+\[[^\]]*\]$/;
+
+/** The symbol of a line, or undefined if it has none of code. */
+function symbolOf(line, isMap) {
+    const found = (isMap ? MAP_LINE : LINE).exec(line);
+    if (found === null || !isMap && !CODE.test(found[3])) {
+        return undefined;
+    }
+    const digits = found[1].padStart(16, "0");
+    return {
+        upper: Number.parseInt(digits.slice(0, 8), 16), lower: Number.parseInt(digits.slice(8), 16),
+        size: Number.parseInt(found[2] ?? "0", 16), name: nameOf(found[4].trim().replace(MODULE, "")),
+    };
+}
+
+export class Symbols {
+    constructor() {
+        this.files = new Map();
+        this.kernel = undefined;
+    }
+
+    /** Adds the symbols of a text, and returns how many code symbols it has. */
+    add(text, file, biasOf) {
+        const name = file?.replace(SUFFIXES, "");
+        const isMap = name !== undefined && MAP_FILE.test(name);
+        const symbols = text.split("\n").map((line) => symbolOf(line, isMap)).filter((it) => it !== undefined);
+        const table = new SymbolTable(symbols);
+        const isKernel = table.count > 0 && table.upper[table.count >>> 1] >= 0x80000000;
+        if (isKernel) {
+            this.kernel = table;
+        } else if (name !== undefined && table.count > 0) {
+            table.bias = biasOf(name, table);
+            this.files.set(name, table);
+        }
+        return isKernel || name !== undefined ? table.count : 0;
+    }
+}
+
+/** What is shown of places: their names by symbols, or else their files and offsets. */
+export class ShownPlaces {
+    #numbers = new Growing(Int32Array);
+    #names = new Map();
+    #texts = [];
+
+    constructor(places, symbols) {
+        Object.assign(this, { places, symbols });
+    }
+
+    /** A number that places of one name share; negative if it is of a symbol. */
+    of(place) {
+        for (let next = this.#numbers.length; next <= place; next++) {
+            const name = this.places.symbolOf(next, this.symbols);
+            this.#numbers.push(name === undefined ? next : this.#numberOf(name));
+        }
+        return this.#numbers.array[place] >>> 0;
+    }
+
+    #numberOf(name) {
+        let number = this.#names.get(name);
+        if (number === undefined) {
+            number = -this.#texts.push(name);
+            this.#names.set(name, number);
+        }
+        return number;
+    }
+
+    textOf(shown) {
+        const number = shown | 0;
+        return number < 0 ? this.#texts[-number - 1] : this.places.textOf(number);
+    }
+}
