@@ -46,6 +46,14 @@ export class FrameColumns {
     get count() { return this.at.length; }
 }
 
+/** In `chains` in place of an address: whose addresses follow. */
+export const KERNEL_FOLLOWS = 0xffffffff;
+export const USER_FOLLOWS = 0xfffffffe;
+export const OTHERS_FOLLOW = 0xfffffffd;
+/** The lower half of PERF_CONTEXT_MAX, above which all are marks, and of those of the kernel and the user. */
+const LEAST_MARK = 0xfffff001;
+const MARKS = new Map([[0xffffff80, KERNEL_FOLLOWS], [0xfffffe00, USER_FOLLOWS]]);
+
 /** Of each sample, in the order of the file, its period and its addresses: its own, and those of its call chain. */
 export class SampleAddresses {
     constructor(room) {
@@ -55,6 +63,7 @@ export class SampleAddresses {
         this.ip = new Growing(Int32Array, room);
         this.chainStart = new Growing(Float64Array, room);
         this.chainLength = new Growing(Uint16Array, room);
+        // Numbers of addresses, and marks.
         this.chains = new Growing(Uint32Array, 16 * room);
         this.addresses = new Triples();
     }
@@ -64,17 +73,26 @@ export class SampleAddresses {
     put(frame, ip, period, chain) {
         this.frame.push(frame);
         this.period.push(period);
-        this.ip.push(ip === undefined ? -1 : this.#addressOf(Number(ip >> 32n), Number(ip & 0xffffffffn)));
+        this.ip.push(ip === undefined ? -1 : this.addresses.numberOf(Number(ip >> 32n), Number(ip & 0xffffffffn), 0));
         this.chainStart.push(this.chains.length);
-        const words = chain === undefined ? [] : new Uint32Array(chain.buffer, chain.byteOffset, 2 * chain.length);
-        for (let place = 0; place < words.length; place += 2) {
-            this.chains.push(this.#addressOf(words[place + 1], words[place]));
+        this.chainLength.push(chain === undefined ? 0 : chain.length);
+        if (chain !== undefined) {
+            this.#putChain(new Uint32Array(chain.buffer, chain.byteOffset, 2 * chain.length));
         }
-        this.chainLength.push(words.length / 2);
         return this.count - 1;
     }
 
-    #addressOf(upper, lower) { return this.addresses.numberOf(upper, lower, 0); }
+    /** Puts a chain, of which there are the lower and the upper half of each number. */
+    #putChain(halves) {
+        const { chains, addresses } = this;
+        let to = chains.length;
+        const array = chains.extend(halves.length / 2);
+        for (let at = 0; at < halves.length; at += 2) {
+            const [lower, upper] = [halves[at], halves[at + 1]];
+            array[to++] = upper === 0xffffffff && lower >= LEAST_MARK ? MARKS.get(lower) ?? OTHERS_FOLLOW
+                : addresses.numberOf(upper, lower, 0);
+        }
+    }
 }
 
 /** The mappings of processes: addresses from `first` to `last` are a file's from an offset on. */

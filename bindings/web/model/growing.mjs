@@ -11,13 +11,26 @@ export class Growing {
     push(value) {
         const place = this.length;
         if (place === this.array.length) {
-            const more = new this.array.constructor(2 * place);
-            more.set(this.array);
-            this.array = more;
+            this.#grow(place + 1);
         }
         this.array[place] = value;
         this.length = place + 1;
         return place;
+    }
+
+    /** Makes room for `count` more numbers, which the caller puts there, and returns the array. */
+    extend(count) {
+        this.length += count;
+        if (this.length > this.array.length) {
+            this.#grow(this.length);
+        }
+        return this.array;
+    }
+
+    #grow(least) {
+        const more = new this.array.constructor(Math.max(2 * this.array.length, least));
+        more.set(this.array);
+        this.array = more;
     }
 
     /** The numbers, without the room after them. They stay the same memory until the next one is put. */

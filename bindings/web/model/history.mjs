@@ -2,7 +2,8 @@
 // threads ran. So each sample gets its place in the tree of call chains.
 
 import {
-    COMM, EXIT, FORK, LOST, LOST_SAMPLES, MMAP, MMAP2, NO_CPU, NO_TASK, NOTHING, SAMPLE, SWITCH, SWITCH_CPU_WIDE,
+    COMM, EXIT, FORK, KERNEL_FOLLOWS, LOST, LOST_SAMPLES, MMAP, MMAP2, NO_CPU, NO_TASK, NOTHING, OTHERS_FOLLOW, SAMPLE,
+    SWITCH, SWITCH_CPU_WIDE, USER_FOLLOWS,
 } from "./frames.mjs";
 import { Growing } from "./growing.mjs";
 import { PlaceFinder } from "./places.mjs";
@@ -15,10 +16,6 @@ import { CallTree } from "./tree.mjs";
 const BIT_13 = 0x2000;
 const MODE = 7;
 const MODES = { kernel: 1, user: 2 };
-/** PERF_CONTEXT_MAX and what is above it are marks: the kernel's, the user's, and others. */
-const LEAST_MARK = -4095;
-const KERNEL_MARK = -128;
-const USER_MARK = -512;
 const LONGEST_CHAIN = 1 << 13;
 
 export const MARKS = ["comm", "exec", "fork", "exit", "lost"];
@@ -187,33 +184,27 @@ export class History {
     #leaf(caller, sample, ownMode, task) {
         const space = this.spaces.of(task === NO_TASK ? undefined : this.tasks.pid(task));
         const { addresses } = this;
+        const chains = addresses.chains.array;
+        const chain = this.#chain;
         const start = addresses.chainStart.array[sample];
         const end = start + addresses.chainLength.array[sample];
         let [count, mode] = [0, MODES.user];
         for (let at = start; at < end; at++) {
-            const address = addresses.chains.array[at];
-            const mark = this.#markOf(address);
-            if (mark === 0) {
-                this.#chain[count++] = this.#placeOf(space, address, mode);
+            const address = chains[at];
+            if (address < OTHERS_FOLLOW) {
+                chain[count++] = this.#placeOf(space, address, mode);
             } else {
-                mode = mark === KERNEL_MARK ? MODES.kernel : mark === USER_MARK ? MODES.user : 0;
+                mode = address === KERNEL_FOLLOWS ? MODES.kernel : address === USER_FOLLOWS ? MODES.user : 0;
             }
         }
         if (count === 0 && addresses.ip.array[sample] >= 0) {
-            this.#chain[count++] = this.#placeOf(space, addresses.ip.array[sample], ownMode);
+            chain[count++] = this.#placeOf(space, addresses.ip.array[sample], ownMode);
         }
         let node = caller;
         while (count > 0) {
-            node = this.tree.child(node, this.#chain[--count]);
+            node = this.tree.child(node, chain[--count]);
         }
         return node;
-    }
-
-    /** The mark that an address of a chain is, or 0. */
-    #markOf(address) {
-        const { addresses } = this.addresses;
-        const number = addresses.second[address] | 0;
-        return addresses.first[address] === 0xffffffff && number >= LEAST_MARK && number < 0 ? number : 0;
     }
 
     #placeOf(space, address, mode) {
