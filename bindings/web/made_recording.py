@@ -187,12 +187,12 @@ def build(seed=1, jobs=26):
             end = made.run(free[cpu] + 500_000, length, task, cpu, program)
             made.exit(end, task, make, cpu)
             free[cpu] = end + 400_000
-    first, linker = max(free), (2900, 2900)
+    first, linker = max(free), (2110 + 10 * jobs,) * 2
     made.start(first, linker, make, 0, "ld")
     for cpu in range(1, CPUS):
-        made.thread(first + 600_000, (2900, 2900 + cpu), linker, cpu, f"ld-worker-{cpu}")
+        made.thread(first + 600_000, (linker[0], linker[0] + cpu), linker, cpu, f"ld-worker-{cpu}")
     for cpu in range(CPUS):
-        made.run(first + 900_000, 60_000_000 + 9_000_000 * cpu, (2900, 2900 + cpu), cpu, "ld")
+        made.run(first + 900_000, 60_000_000 + 9_000_000 * cpu, (linker[0], linker[0] + cpu), cpu, "ld")
     made.exit(first + 120_000_000, linker, make, 0)
     made.put(first + 121_000_000, make, 0, 13, 0, pack("Q", 7))
     return made

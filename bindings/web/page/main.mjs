@@ -175,6 +175,7 @@ class Page {
             this.state = { ...initialState(), theme: this.state.theme, tab: this.state.tab };
         }
         this.overview = undefined;
+        delete document.documentElement.dataset.opened;
         this.symbols = 0;
         this.#tabs.hide();
         byId("filters").hidden = true;

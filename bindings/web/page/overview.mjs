@@ -53,8 +53,8 @@ function listText(numbers) {
 }
 
 const HEADER_NAMES = {
-    hostname: "Host", osRelease: "Kernel", commandLine: "Command line", version: "perf", arch: "Architecture",
-    cpuDescription: "Processor", cpuId: "Processor id", cpusOnline: "Processors online", totalMemory: "Memory",
+    hostname: "Host", osRelease: "Kernel", commandLine: "Command line", perfVersion: "perf", architecture: "Architecture",
+    processor: "Processor", processors: "Processors", memory: "Memory",
 };
 
 function headerCard({ header, kind }) {

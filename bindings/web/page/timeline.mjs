@@ -6,7 +6,7 @@ import { coloursOf, isDark } from "./colours.mjs";
 import { drawTimeline, GUTTER, LANE, MARKS, STRIP, timeOf, TOP, xOf } from "./timeline_picture.mjs";
 import { filterOf } from "./view_state.mjs";
 import { Latest } from "./worker_link.mjs";
-import { clockText, plural, spanText } from "./words.mjs";
+import { clockText, countText, plural, spanText } from "./words.mjs";
 
 const LEAST = 20;
 const NOTHING = { from: 0, to: 1, lanes: [], most: 1 };
@@ -27,6 +27,7 @@ export class Timeline {
     #stage = new Stage(KEYS, "timeline", (painter, place) => drawTimeline(painter, place, this.#picture()));
     #empty = element("p", { class: "empty", hidden: true });
     #strip = element("div", { class: "strip" });
+    #some = element("span", { class: "quiet" });
     #choice = ["thread", "cpu"].map((by) => button(by === "thread" ? "Threads" : "Processors",
         () => this.#shell.change({ by }, true), { "data-by": by }));
 
@@ -52,7 +53,7 @@ export class Timeline {
                 button("+", () => this.#zoom(0.5), { "aria-label": "Zoom in" }),
                 button("Whole", () => this.#look(this.#all, true)),
                 button("Selection", () => this.#zoomToRange(), { title: "Zoom to the selected range" })),
-            element("span", { class: "space" }), this.#legend());
+            this.#some, element("span", { class: "space" }), this.#legend());
     }
 
     #legend() {
@@ -134,7 +135,8 @@ export class Timeline {
                 const { lanes } = await this.#shell.call("lanes", { ...words, ...this.#all, columns: 600 });
                 this.#whole = sumOf(lanes);
             }
-            const { lanes } = await this.#shell.call("lanes", words);
+            const { lanes, total } = await this.#shell.call("lanes", words);
+            this.#some.textContent = total > lanes.length ? `${countText(lanes.length)} of ${countText(total)} lanes, those with most samples` : "";
             const most = lanes.reduce((most, { density }) => density.reduce((high, count) => Math.max(high, count), most), 1);
             this.#data = { from: words.from, to: words.to, lanes, most };
             this.#active = Math.max(0, Math.min(this.#active, lanes.length - 1));
