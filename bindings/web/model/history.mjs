@@ -99,8 +99,7 @@ export class History {
                 this.#fork(frame, extra, task, time);
                 break;
             case EXIT:
-                this.tasks.end.array[task] = time > -Infinity ? time : NaN;
-                this.#mark(frame, time, task, "exit");
+                this.#exit(frame, task, time);
                 break;
             case LOST:
             case LOST_SAMPLES:
@@ -145,6 +144,14 @@ export class History {
         }
         this.#mark(frame, time, task, "fork");
         this.#mark(frame, time, parent, "fork", NO_CPU);
+    }
+
+    #exit(frame, task, time) {
+        if (task !== NO_TASK && time > -Infinity) {
+            this.tasks.end.array[task] = time;
+            this.running.exit(task, time);
+            this.#mark(frame, time, task, "exit");
+        }
     }
 
     #switch(cpu, misc, task, time) {

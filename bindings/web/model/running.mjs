@@ -36,6 +36,9 @@ export class Running {
         this.#close(task, time);
     }
 
+    /** A thread is no more; of its last switch there is no record. */
+    exit(task, time) { this.#close(task, time); }
+
     #close(task, time) {
         const begin = this.since.get(task);
         if (begin === undefined) {

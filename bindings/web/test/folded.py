@@ -2,7 +2,7 @@
 """Folds the call chains that perf printed, a line for each with how many samples have it:
 
     perf script -i perf.data -F comm,tid,event,ip,dso > script.txt
-    bindings/web/folded.py script.txt
+    bindings/web/test/folded.py script.txt
 
 A line has the event, the thread's name, and from the outermost call on FILE+0xOFFSET, 0xADDRESS_[k] in the kernel or
 [unknown]. perf prints the offset in the file as a place's address."""
