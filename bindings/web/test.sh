@@ -38,6 +38,14 @@ cp "$work/out/perf-view.html" "$page"
 pass "make the page: one file of $(stat -c %s "$page") bytes"
 build && cmp -s "$page" "$work/out/perf-view.html" && pass "the page is the same each time" ||
     fail "the page differs from one time to the next"
+folder=$archive
+[ -d "$folder" ] || folder=$work/out/js
+if node "$here/model_test.mjs" "$folder" >"$work/log" 2>&1; then
+    pass "the model of a recording: $(tail -n 1 "$work/log")"
+else
+    fail "the model of a recording"
+    grep -A 3 '^FAILED' "$work/log"
+fi
 node --test "$here/page_test.mjs" >"$work/log" 2>&1 && pass "the page's own parts" || {
     fail "the page's own parts"
     grep -A 12 '^not ok' "$work/log"

@@ -33,6 +33,12 @@ export function setOptions(select, pairs, value) {
     select.value = value;
 }
 
+/** A field to search in, which `/` focuses. */
+export function searchField(words, label, attributes = {}) {
+    return element("input", { type: "search", placeholder: `${words}   /`, autocomplete: "off", spellcheck: "false",
+        "aria-label": label, ...attributes });
+}
+
 /** A term and its value in a list of facts. */
 export function fact(name, value, attributes = {}) {
     return [element("dt", {}, name), element("dd", attributes, value)];
@@ -47,9 +53,10 @@ export function isTyping(target) {
 export function openDialog(title, ...contents) {
     const before = document.activeElement;
     const heading = element("h2", { id: "dialog-title" }, title);
-    const inside = element("div", { class: "inside", tabindex: "0", role: "group", "aria-labelledby": "dialog-title" }, ...contents);
+    const named = { "aria-labelledby": "dialog-title" };
+    const inside = element("div", { class: "inside", tabindex: "0", role: "group", ...named }, ...contents);
     const close = button("Close", () => dialog.close());
-    const dialog = element("dialog", { "aria-labelledby": "dialog-title" }, element("header", {}, heading, close), inside);
+    const dialog = element("dialog", named, element("header", {}, heading, close), inside);
     dialog.addEventListener("close", () => {
         dialog.remove();
         before?.focus?.();

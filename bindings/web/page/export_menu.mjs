@@ -12,9 +12,10 @@ export class ExportMenu {
 
     constructor(shell) {
         this.#shell = shell;
-        this.#list.append(this.#svg,
-            button("Folded lines of the selection", () => this.#act(() => this.#saveText("folded", "text/plain")), { id: "export-folded" }),
-            button("Selected samples as CSV", () => this.#act(() => this.#saveText("csv", "text/csv")), { id: "export-csv" }));
+        const item = (title, kind, type) =>
+            button(title, () => this.#act(() => this.#saveText(kind, type)), { id: `export-${kind}` });
+        this.#list.append(this.#svg, item("Folded lines of the selection", "folded", "text/plain"),
+            item("Selected samples as CSV", "csv", "text/csv"));
         this.#opener.addEventListener("click", () => this.#toggle(this.#list.hidden));
         this.#list.addEventListener("keydown", (event) => this.#key(event));
         this.#opener.addEventListener("keydown", (event) => this.#key(event));

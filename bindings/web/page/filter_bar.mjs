@@ -11,6 +11,7 @@ export class FilterBar {
     #shell;
     #tasks = [];
     #asked;
+    #offered;
     #work = new Latest();
     #choosers = {
         event: this.#number("Event", "event"), pid: this.#number("Process", "pid"), tid: this.#number("Thread", "tid"),
@@ -35,8 +36,7 @@ export class FilterBar {
 
     /** Fills the lists for a recording. */
     async load() {
-        this.#tasks = [];
-        this.#asked = undefined;
+        this.#asked = this.#offered = undefined;
         this.#tasks = await this.#shell.call("tasks", { filter: {} });
     }
 
@@ -60,17 +60,31 @@ export class FilterBar {
         };
     }
 
-    show() {
-        const { state } = this.#shell;
+    /** Fills the lists if what they depend on has changed. */
+    #offer() {
+        const { overview, state } = this.#shell;
+        const offered = `${overview.name} ${state.pid}`;
+        if (this.#offered === offered) {
+            return;
+        }
+        this.#offered = offered;
         for (const [name, pairs] of Object.entries(this.#options())) {
             const { select, label } = this.#choosers[name];
-            const value = state[name] === undefined ? "" : String(state[name]);
-            const few = pairs.slice(0, MOST);
-            if (value && !few.some(([key]) => String(key) === value)) {
-                few.unshift([value, value]);
-            }
-            setOptions(select, [["", "All"], ...few], value);
+            setOptions(select, [["", "All"], ...pairs.slice(0, MOST)], "");
             label.hidden = !pairs.length;
+        }
+    }
+
+    show() {
+        const { state } = this.#shell;
+        this.#offer();
+        for (const [name, { select }] of Object.entries(this.#choosers)) {
+            const value = state[name] === undefined ? "" : String(state[name]);
+            select.value = value;
+            if (select.value !== value) {
+                select.append(element("option", { value }, value));
+                select.value = value;
+            }
         }
         this.#showRange(state.range);
         this.#clear.disabled = JSON.stringify(filterOf(state)) === "{}";

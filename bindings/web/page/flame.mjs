@@ -1,6 +1,6 @@
 // The flame graph of what the filter selects.
 
-import { button, chooser, element, setOptions } from "./elements.mjs";
+import { button, chooser, element, searchField, setOptions } from "./elements.mjs";
 import { FlameLayout } from "./flame_layout.mjs";
 import { drawFlame, ROW, rowAt, topOf, worthAt } from "./flame_picture.mjs";
 import { announce, showTip, Stage } from "./stage.mjs";
@@ -8,7 +8,7 @@ import { filterOf } from "./view_state.mjs";
 import { Latest } from "./worker_link.mjs";
 import { countText, plural, shareText } from "./words.mjs";
 
-const KEYS = "Flame graph. Up goes to the caller's box, down to the largest box below, left and right to the boxes beside, "
+const KEYS = "Flame graph. Up goes to the box above, down to the largest box below, left and right to those beside, "
     + "Enter zooms in, Escape zooms out, slash searches, N and shift with N go through what is found.";
 
 export class Flame {
@@ -20,12 +20,11 @@ export class Flame {
     #zoomed = 0;
     #isMissing = false;
     #found;
-    #order = [];
+    #order;
     #stage = new Stage(KEYS, "flame", (painter, place) => drawFlame(painter, place, this.#picture()));
     #empty = element("p", { class: "empty", hidden: true });
     #strip = element("div", { class: "strip" });
-    #search = element("input", { type: "search", id: "search", placeholder: "Search   /", autocomplete: "off", spellcheck: "false",
-        "aria-label": "Search in names" });
+    #search = searchField("Search", "Search in names", { id: "search" });
     #share = element("span", { class: "quiet", id: "share", role: "status" });
     #weight = chooser("Weight", (weight) => this.#shell.change({ weight }, true), { id: "weight" });
     #inverted = element("input", { type: "checkbox", id: "inverted" });
@@ -36,10 +35,10 @@ export class Flame {
         setOptions(this.#weight.select, [["samples", "Samples"], ["period", "Period"]], "samples");
         this.#search.addEventListener("input", () => this.#shell.change({ search: this.#search.value }));
         this.#search.addEventListener("keydown", (event) => this.#searchKey(event));
-        this.#inverted.addEventListener("change", () => this.#shell.change({ inverted: this.#inverted.checked, box: "" }, true));
+        this.#inverted.addEventListener("change", ({ target }) => shell.change({ inverted: target.checked, box: "" }, true));
         this.root = element("div", { class: "column" },
-            element("div", { class: "tools" }, this.#search, this.#share, element("span", { class: "space" }), this.#out,
-                this.#weight.label, element("label", {}, this.#inverted, "Inverted (callers below)")),
+            element("div", { class: "tools" }, this.#search, this.#share, element("span", { class: "space" }),
+                this.#out, this.#weight.label, element("label", {}, this.#inverted, "Inverted (callers below)")),
             this.#empty, this.#stage.root, this.#strip);
         this.#stage.onsize = () => this.#ask();
         const { canvas } = this.#stage;
@@ -90,7 +89,7 @@ export class Flame {
         this.#isMissing = found < 0;
         this.#zoomed = found < 0 ? layout.root : found;
         this.#found = state.search ? layout.search(state.search) : undefined;
-        this.#order = this.#found ? [...layout.rows].flatMap((row) => Array.from(row).filter((node) => this.#found.found[node])) : [];
+        this.#order = undefined;
         this.#share.textContent = this.#found ? `${shareText(this.#found.worth, layout.total)} match: `
             + `${countText(this.#found.worth)} of ${countText(layout.total)} ${this.#unit}` : "";
         this.#stage.setDepth(topOf(layout.rows.length) + 8);
@@ -150,9 +149,10 @@ export class Flame {
 
     #textOf(node) {
         const { total, worth, parent } = this.#layout;
-        const above = parent[node] >= 0 ? `, ${shareText(worth[node], worth[parent[node]])} of ${this.#layout.nameOf(parent[node])}` : "";
-        const amount = this.#shell.state.weight === "period" ? `${countText(worth[node])} events` : plural(worth[node], "sample");
-        return `${this.#layout.nameOf(node)} · ${amount}, ${shareText(worth[node], total)} of all${above}`;
+        const [own, caller] = [worth[node], parent[node]];
+        const above = caller >= 0 ? `, ${shareText(own, worth[caller])} of ${this.#layout.nameOf(caller)}` : "";
+        const amount = this.#shell.state.weight === "period" ? `${countText(own)} events` : plural(own, "sample");
+        return `${this.#layout.nameOf(node)} · ${amount}, ${shareText(own, total)} of all${above}`;
     }
 
     #tell() {
@@ -193,7 +193,10 @@ export class Flame {
         }
     }
 
+    /** Goes to the next box that is found, or to the one before, by rows. */
     #nextFound(way) {
+        const { rows } = this.#layout;
+        this.#order ??= rows.flatMap((row) => Array.from(row).filter((node) => this.#found?.found[node]));
         const now = this.#order.indexOf(this.#active);
         const next = this.#order[now < 0 ? (way > 0 ? 0 : this.#order.length - 1) : now + way];
         this.#choose(next ?? -1);
@@ -218,8 +221,10 @@ export class Flame {
         }
         const node = this.#active < 0 ? layout.root : this.#active;
         const acts = {
-            ArrowUp: () => this.#choose(layout.parent[node]), ArrowDown: () => this.#choose(layout.largestChild(node)),
-            ArrowLeft: () => this.#choose(layout.sibling(node, -1)), ArrowRight: () => this.#choose(layout.sibling(node, 1)),
+            ArrowUp: () => this.#choose(layout.parent[node]),
+            ArrowDown: () => this.#choose(layout.largestChild(node)),
+            ArrowLeft: () => this.#choose(layout.sibling(node, -1)),
+            ArrowRight: () => this.#choose(layout.sibling(node, 1)),
             Home: () => this.#choose(this.#zoomed), Enter: () => this.#zoomTo(node), " ": () => this.#zoomTo(node),
             Escape: () => this.#zoomOut(), n: () => this.#nextFound(1), N: () => this.#nextFound(-1),
         };

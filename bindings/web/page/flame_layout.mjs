@@ -72,12 +72,14 @@ export class FlameLayout {
 
     childrenOf(node) {
         const [from, worth] = [this.start[node], this.worth[node]];
-        return Array.from(this.between(this.depth[node] + 1, from, from + worth)).filter((child) => this.parent[child] === node);
+        const below = Array.from(this.between(this.depth[node] + 1, from, from + worth));
+        return below.filter((child) => this.parent[child] === node);
     }
 
     /** The child with the largest worth; -1 if there is none. */
     largestChild(node) {
-        return this.childrenOf(node).reduce((best, child) => best < 0 || this.worth[child] > this.worth[best] ? child : best, -1);
+        const isLarger = (one, other) => other < 0 || this.worth[one] > this.worth[other];
+        return this.childrenOf(node).reduce((best, child) => isLarger(child, best) ? child : best, -1);
     }
 
     /** The box beside another under the same parent; -1 if there is none. */

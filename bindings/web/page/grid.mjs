@@ -9,8 +9,8 @@ const HIGHEST = 8000000;
 
 let grids = 0;
 
-/** `columns` have `key`, `title`, `width` in pixels, `text(row)` and, if they have them, `grow`, which share of the rest
- * they take, `isNumber`, `canSort`, `fill(cell, row)` and `style(row)`. */
+/** `columns` have `key`, `title`, `width` in pixels, `text(row)` and, if they have them, `grow`, the share of the rest
+ * that they take, `isNumber`, `canSort`, `fill(cell, row)` and `style(row)`. */
 export class Grid {
     #columns;
     #words;
@@ -23,11 +23,13 @@ export class Grid {
     #isDue = false;
     #id = `grid${grids++}`;
 
-    /** `words` has `label`, and what is called: `onopen(row)`, `onactive(row)`, `onsort(key)` and `onneed(first, count)`. */
+    /** `words` has `label`, and what is called: `onopen(row)`, `onactive(row)`, `onsort(key)` and
+     * `onneed(first, count)`. */
     constructor(columns, words) {
         this.#columns = columns;
         this.#words = words;
-        this.#head = element("div", { class: "grid-head", role: "row" }, ...columns.map((column) => this.#header(column)));
+        const heads = columns.map((column) => this.#header(column));
+        this.#head = element("div", { class: "grid-head", role: "row" }, ...heads);
         this.root = element("div", { class: "grid", role: "grid", tabindex: "0", "aria-label": words.label,
             "aria-colcount": String(columns.length) },
         element("div", { role: "rowgroup", class: "grid-head-group" }, this.#head), this.#space);
@@ -41,9 +43,10 @@ export class Grid {
     }
 
     #header(column) {
-        const inside = column.canSort
-            ? button(column.title, () => this.#words.onsort(column.key), { title: `Sort by ${column.title.toLowerCase()}` })
-            : element("span", {}, column.title);
+        const { title, key, canSort } = column;
+        const inside = canSort
+            ? button(title, () => this.#words.onsort(key), { title: `Sort by ${title.toLowerCase()}` })
+            : element("span", {}, title);
         return element("div", { role: "columnheader", class: column.isNumber ? "number" : undefined }, inside);
     }
 
@@ -99,7 +102,8 @@ export class Grid {
             this.#words.onneed?.(first, count);
         }
         this.#rows.style.top = `${this.#isScaled ? this.root.scrollTop : first * ROW}px`;
-        this.#rows.replaceChildren(...Array.from({ length: Math.max(0, count) }, (_, index) => this.#row(first + index)));
+        const rows = Array.from({ length: Math.max(0, count) }, (_, index) => this.#row(first + index));
+        this.#rows.replaceChildren(...rows);
         this.#mark();
     }
 
@@ -171,7 +175,7 @@ export class Grid {
         const page = this.#inSight;
         const steps = { ArrowDown: 1, ArrowUp: -1, PageDown: page, PageUp: -page, Home: -Infinity, End: Infinity };
         if (event.key in steps) {
-            this.activate(this.#active < 0 ? 0 : Math.max(0, Math.min(this.#total - 1, this.#active + steps[event.key])));
+            this.activate(this.#active < 0 ? 0 : this.#active + steps[event.key]);
         } else if (event.key === "Enter") {
             this.#open();
         } else {

@@ -4,12 +4,15 @@ import { element, openDialog } from "./elements.mjs";
 import { PRIVATE } from "./landing.mjs";
 
 const KEYS = {
-    Everywhere: [["Tab", "goes through all controls"], ["← →", "on a tab: the next view"], ["/", "search or filter in the view"]],
+    Everywhere: [
+        ["Tab", "goes through all controls"], ["← →", "on a tab: the next view"], ["/", "search or filter in the view"],
+    ],
     Timeline: [
         ["← →", "move"], ["+ −", "zoom"], ["0", "the whole recording"], ["Home End", "its begin and end"],
-        ["Shift ← →", "select a range"], ["Shift Home End", "extend it to the begin or end"], ["Z", "zoom to the selection"],
-        ["Esc", "clear the selection"], ["↑ ↓", "choose a lane"], [", .", "the marks of the lane"], ["Enter", "filter by the lane"],
-        ["wheel, Shift wheel", "zoom, move"], ["drag", "select a range"],
+        ["Shift ← →", "select a range"], ["Shift Home End", "extend it to the begin or end"],
+        ["Z", "zoom to the selection"], ["Esc", "clear the selection"], ["↑ ↓", "choose a lane"],
+        [", .", "the marks of the lane"], ["Enter", "filter by the lane"], ["wheel, Shift wheel", "zoom, move"],
+        ["drag", "select a range"],
     ],
     "Flame graph": [
         ["↑ ↓ ← →", "the box above, the largest below, those beside"], ["Enter", "zoom in"], ["Esc", "zoom out"],

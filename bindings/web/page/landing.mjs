@@ -3,8 +3,8 @@
 import { button, element } from "./elements.mjs";
 import { sizeText } from "./words.mjs";
 
-export const PRIVATE = "Nothing leaves this page: it works without a network, and its Content-Security-Policy names no place that "
-    + "it could reach. What you open stays on this machine.";
+export const PRIVATE = "Nothing leaves this page: it works without a network, and its Content-Security-Policy names no "
+    + "place that it could reach. What you open stays on this machine.";
 
 export class Landing {
     #root;
@@ -19,7 +19,8 @@ export class Landing {
         const kinds = [
             "perf.data, as perf record writes it",
             "a stream of this project: an event attribute, then records",
-            "beside a recording, symbols: the text of nm -C, in a file named after the mapped file (libc.so.6.nm), or of /proc/kallsyms",
+            "beside a recording, symbols: the text of nm -C, in a file named after the mapped one (libc.so.6.nm), or "
+                + "that of /proc/kallsyms",
         ];
         this.#ready = element("div", { class: "drop" },
             element("h2", {}, "Open a recording of Linux performance events"),

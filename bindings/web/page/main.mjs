@@ -15,7 +15,7 @@ import { Tasks } from "./tasks.mjs";
 import { Timeline } from "./timeline.mjs";
 import { initialState, readAddress, THEMES, writeAddress } from "./view_state.mjs";
 import { Stopped, WorkerLink } from "./worker_link.mjs";
-import { countText, plural, sizeText } from "./words.mjs";
+import { plural, sizeText } from "./words.mjs";
 
 class Page {
     state = readAddress(location.hash);
@@ -26,7 +26,10 @@ class Page {
     #landing = new Landing(byId("landing"), { onopen: () => byId("file").click(), onstop: () => this.#stop() });
     #bar = new FilterBar(this, byId("filters"));
     #export = new ExportMenu(this);
-    panels = { overview: new Overview(this), timeline: new Timeline(this), flame: new Flame(this), tasks: new Tasks(this), records: new Records(this) };
+    panels = {
+        overview: new Overview(this), timeline: new Timeline(this), flame: new Flame(this), tasks: new Tasks(this),
+        records: new Records(this),
+    };
     #tabs = new Tabs(this.panels, (tab) => this.change({ tab }, true));
     #writing;
     #opened = 0;
@@ -69,7 +72,7 @@ class Page {
     }
 
     eventName(index) {
-        return index === undefined || index === null || index < 0 ? "" : this.overview.events[index]?.name ?? String(index);
+        return this.overview.events[index]?.name ?? "";
     }
 
     say(text) {
@@ -131,7 +134,8 @@ class Page {
     }
 
     #key(event) {
-        if (event.key === "/" && !isTyping(event.target) && !event.ctrlKey && !event.metaKey && !event.altKey && this.overview) {
+        const isPlain = !event.ctrlKey && !event.metaKey && !event.altKey && !isTyping(event.target);
+        if (event.key === "/" && isPlain && this.overview) {
             event.preventDefault();
             this.panels[this.state.tab].focusSearch?.();
         }
@@ -198,8 +202,8 @@ class Page {
         this.#tabs.focus(this.state.tab);
         history.replaceState(null, "", writeAddress(this.state));
         const seconds = ((performance.now() - began) / 1000).toFixed(1);
-        this.say(`${sizeText(overview.size)}, ${plural(overview.frames, "frame")} and ${countText(overview.samples)} samples, `
-            + `read in ${seconds} s`);
+        const { size, frames, samples } = overview;
+        this.say(`${sizeText(size)}, ${plural(frames, "frame")}, ${plural(samples, "sample")}, read in ${seconds} s`);
         document.documentElement.dataset.opened = overview.name;
     }
 

@@ -16,6 +16,7 @@ function table(heads, rows) {
         element("tbody", {}, ...rows.map((row) => element("tr", {}, ...row.map((one) => cell("td", one))))));
 }
 
+const quiet = (text) => element("p", { class: "quiet" }, text);
 const plain = (text) => ({ text: String(text ?? "") });
 const numeric = (text) => ({ text: String(text), kind: "number" });
 
@@ -29,13 +30,15 @@ function recordingCard({ name, size, kind, order, isClosed, start, duration, has
     const form = kind === "file" ? "file of perf record" : "stream";
     const shape = `${sizeText(size)}, ${form}, ${order} endian`;
     const times = hasTime
-        ? [...fact("First time", clockText(start, 0), { id: "first-time" }), ...fact("Last time", clockText(start, duration), { id: "last-time" }),
+        ? [...fact("First time", clockText(start, 0), { id: "first-time" }),
+            ...fact("Last time", clockText(start, duration), { id: "last-time" }),
             ...fact("Duration", spanText(duration))]
         : fact("Times", "none: the frames have no time");
-    const ended = kind === "file" ? fact("Closed", isClosed ? "yes" : "no: the recording was not ended, and is read as far as it goes") : [];
-    return card("Recording", false, element("dl", { class: "facts" }, ...fact("File", name, { id: "file-of" }), ...fact("Form", shape), ...ended,
-        ...times, ...fact("Processors", cpus.length ? `${cpus.length} with samples (${listText(cpus)})` : "not recorded"),
-        ...fact("Threads", countText(threads))));
+    const ended = kind !== "file" ? []
+        : fact("Closed", isClosed ? "yes" : "no: the recording was not ended, and is read as far as it goes");
+    const processors = cpus.length ? `${cpus.length} (${listText(cpus)})` : "not recorded";
+    return card("Recording", false, element("dl", { class: "facts" }, ...fact("File", name), ...fact("Form", shape),
+        ...ended, ...times, ...fact("Processors", processors), ...fact("Threads", countText(threads))));
 }
 
 /** Numbers in order, as 0-3, 8. */
@@ -53,20 +56,20 @@ function listText(numbers) {
 }
 
 const HEADER_NAMES = {
-    hostname: "Host", osRelease: "Kernel", commandLine: "Command line", perfVersion: "perf", architecture: "Architecture",
-    processor: "Processor", processors: "Processors", memory: "Memory",
+    hostname: "Host", osRelease: "Kernel", commandLine: "Command line", perfVersion: "perf",
+    architecture: "Architecture", processor: "Processor", processors: "Processors", memory: "Memory",
 };
 
 function headerCard({ header, kind }) {
-    const facts = Object.entries(header).filter(([, value]) => value !== undefined)
-        .sort(([one], [other]) => Object.keys(HEADER_NAMES).indexOf(one) - Object.keys(HEADER_NAMES).indexOf(other))
-        .flatMap(([name, value]) => fact(HEADER_NAMES[name] ?? name, String(value), { "data-header": name }));
-    const none = kind === "file" ? "The file does not tell where it was recorded." : "A stream does not tell where it was recorded.";
-    return card("Machine", false, facts.length ? element("dl", { class: "facts" }, ...facts) : element("p", { class: "quiet" }, none));
+    const facts = Object.entries(HEADER_NAMES).filter(([name]) => header[name] !== undefined)
+        .flatMap(([name, title]) => fact(title, String(header[name]), { "data-header": name }));
+    const none = `${kind === "file" ? "The file" : "A stream"} does not tell where it was recorded.`;
+    return card("Machine", false, facts.length ? element("dl", { class: "facts" }, ...facts) : quiet(none));
 }
 
 function eventsCard({ events, samples }) {
-    const heads = [plain("Event"), plain("Type and config"), numeric("Samples"), plain("Share"), numeric("Period"), numeric("Frames")];
+    const heads = [plain("Event"), plain("Type and config"), numeric("Samples"), plain("Share"), numeric("Period"),
+        numeric("Frames")];
     return card("Events", true, table(heads, events.map((event) => [
         plain(event.name), { text: `${event.type}:${event.config}`, kind: "mono" }, numeric(countText(event.samples)),
         share(event.samples, samples), numeric(countText(event.period)), numeric(countText(event.frames)),
@@ -76,7 +79,8 @@ function eventsCard({ events, samples }) {
 function countsCard({ records, frames, samples, lost, refused }) {
     const most = records.reduce((most, { count }) => Math.max(most, count), 0);
     const sums = element("dl", { class: "facts" }, ...fact("Frames", countText(frames), { id: "frames" }),
-        ...fact("Samples", countText(samples), { id: "samples" }), ...fact("Lost", `${countText(lost)} by the kernel's own count`, { id: "lost" }),
+        ...fact("Samples", countText(samples), { id: "samples" }),
+        ...fact("Lost", `${countText(lost)} by the kernel's own count`, { id: "lost" }),
         ...fact("Refused", plural(refused.count, "frame"), { id: "refused" }));
     return card("Records", false, sums, table([plain("Type"), numeric("Records"), plain("")],
         records.map(({ name, count }) => [plain(name), numeric(countText(count)), share(count, most)])));
@@ -84,13 +88,14 @@ function countsCard({ records, frames, samples, lost, refused }) {
 
 function refusedCard(shell, { refused }) {
     if (!refused.count) {
-        return card("Refused frames", false, element("p", { class: "quiet" }, "Each frame of this recording is read."));
+        return card("Refused frames", false, quiet("Each frame of this recording is read."));
     }
+    const place = (one) => button(`${one.at}`, () => showBytes(shell, one),
+        { class: "link", "aria-label": `Bytes from ${one.at}` });
     const rows = refused.first.map((one) => [
-        { text: button(`${one.at}`, () => showBytes(shell, one), { class: "link", "aria-label": `Bytes from ${one.at}` }), kind: "number" },
-        numeric(plural(one.size, "byte")), plain(one.message),
+        { text: place(one), kind: "number" }, numeric(plural(one.size, "byte")), plain(one.message),
     ]);
-    const more = refused.count > rows.length ? [element("p", { class: "quiet" }, `The first ${rows.length} of ${countText(refused.count)}.`)] : [];
+    const more = refused.count > rows.length ? [quiet(`The first ${rows.length} of ${countText(refused.count)}.`)] : [];
     return card("Refused frames", false, table([numeric("Place"), numeric("Size"), plain("Why")], rows), ...more);
 }
 

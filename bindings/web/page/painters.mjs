@@ -93,14 +93,22 @@ export class CanvasPainter {
     }
 }
 
+/** What XML does not allow at all. */
+const FORBIDDEN = /[\u0000-\u001f\u007f\ufffe\uffff]|\p{Surrogate}/gu;
+
 function escaped(text) {
     const names = { "&": "&amp;", "<": "&lt;", ">": "&gt;", "\"": "&quot;" };
-    // what XML does not allow at all
-    return text.replace(/[\u0000-\u001f\u007f\ufffe\uffff]|[\ud800-\udbff](?![\udc00-\udfff])|(?<![\ud800-\udbff])[\udc00-\udfff]/g, "_")
-        .replace(/[&<>"]/g, (sign) => names[sign]);
+    return text.replace(FORBIDDEN, "_").replace(/[&<>"]/g, (sign) => names[sign]);
+}
+
+/** An element of an SVG file without contents, or with those. */
+function tag(name, attributes, contents) {
+    const words = Object.entries(attributes).map(([key, value]) => ` ${key}="${escaped(String(value))}"`).join("");
+    return contents === undefined ? `<${name}${words}/>` : `<${name}${words}>${contents}</${name}>`;
 }
 
 const short = (value) => String(Math.round(value * 100) / 100);
+const box = (x, y, width, height) => ({ x: short(x), y: short(y), width: short(width), height: short(height) });
 
 export class SvgPainter {
     #parts = [];
@@ -112,29 +120,29 @@ export class SvgPainter {
     }
 
     rect(x, y, width, height, colour) {
-        this.#parts.push(`<rect x="${short(x)}" y="${short(y)}" width="${short(width)}" height="${short(height)}" fill="${colour}"/>`);
+        this.#parts.push(tag("rect", { ...box(x, y, width, height), fill: colour }));
     }
 
     outline(x, y, width, height, colour, thick = 1) {
-        const [left, top] = [x + thick / 2, y + thick / 2].map(short);
-        this.#parts.push(`<rect x="${left}" y="${top}" width="${short(width - thick)}" height="${short(height - thick)}" ` +
-            `fill="none" stroke="${colour}" stroke-width="${thick}"/>`);
+        const inner = box(x + thick / 2, y + thick / 2, width - thick, height - thick);
+        this.#parts.push(tag("rect", { ...inner, fill: "none", stroke: colour, "stroke-width": thick }));
     }
 
     text(x, y, text, colour, { size = 11, weight = "normal", align = "start" } = {}) {
         const anchor = { start: "start", center: "middle", end: "end" }[align];
-        this.#parts.push(`<text x="${short(x)}" y="${short(y)}" fill="${colour}" font-size="${size}" font-weight="${weight}" ` +
-            `text-anchor="${anchor}" xml:space="preserve">${escaped(text)}</text>`);
+        this.#parts.push(tag("text", { x: short(x), y: short(y), fill: colour, "font-size": size, "font-weight": weight,
+            "text-anchor": anchor, "xml:space": "preserve" }, escaped(text)));
     }
 
     shape(points, colour) {
-        this.#parts.push(`<polygon points="${points.map((point) => point.map(short).join(",")).join(" ")}" fill="${colour}"/>`);
+        const corners = points.map((point) => point.map(short).join(",")).join(" ");
+        this.#parts.push(tag("polygon", { points: corners, fill: colour }));
     }
 
     inside(x, y, width, height, draw) {
         const name = `clip${this.#clips++}`;
-        this.#parts.push(`<clipPath id="${name}"><rect x="${short(x)}" y="${short(y)}" width="${short(width)}" ` +
-            `height="${short(height)}"/></clipPath><g clip-path="url(#${name})">`);
+        const clip = tag("clipPath", { id: name }, tag("rect", box(x, y, width, height)));
+        this.#parts.push(clip, `<g clip-path="url(#${name})">`);
         draw();
         this.#parts.push("</g>");
     }
@@ -142,7 +150,9 @@ export class SvgPainter {
     /** The picture as a file. */
     file(title) {
         const [width, height] = this.#size.map(short);
-        return `<?xml version="1.0" encoding="UTF-8"?>\n<svg xmlns="http://www.w3.org/2000/svg" width="${width}" height="${height}" ` +
-            `viewBox="0 0 ${width} ${height}" font-family="${FONT}">\n<title>${escaped(title)}</title>\n${this.#parts.join("\n")}\n</svg>\n`;
+        const contents = [tag("title", {}, escaped(title)), ...this.#parts].join("\n");
+        const attributes = { xmlns: "http://www.w3.org/2000/svg", width, height, viewBox: `0 0 ${width} ${height}`,
+            "font-family": FONT };
+        return `<?xml version="1.0" encoding="UTF-8"?>\n${tag("svg", attributes, `\n${contents}\n`)}\n`;
     }
 }

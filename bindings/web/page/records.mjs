@@ -1,6 +1,6 @@
 // The table of records, and one frame's fields in full.
 
-import { button, chooser, element, fact, setOptions } from "./elements.mjs";
+import { button, chooser, element, fact, searchField, setOptions } from "./elements.mjs";
 import { Grid } from "./grid.mjs";
 import { showBytes } from "./bytes_dialog.mjs";
 import { filterOf } from "./view_state.mjs";
@@ -17,8 +17,7 @@ export class Records {
     #time;
     #grid;
     #details = element("aside", { class: "details", "aria-label": "Frame", tabindex: "0" });
-    #search = element("input", { type: "search", placeholder: "Filter by words   /", autocomplete: "off", spellcheck: "false",
-        "aria-label": "Filter records by words" });
+    #search = searchField("Filter by words", "Filter records by words");
     #kind = chooser("Type", (kind) => this.#shell.change({ kind }, true), { id: "kind" });
     #count = element("span", { class: "quiet", role: "status", id: "records-count" });
 
@@ -41,14 +40,16 @@ export class Records {
     }
 
     #columns() {
-        const number = (key, title, width) => ({ key, title, width, isNumber: true, text: (row) => row[key] === undefined ? "" : String(row[key]) });
+        const number = (key, title, width) =>
+            ({ key, title, width, isNumber: true, text: (row) => String(row[key] ?? "") });
         const shell = this.#shell;
         return [
             { ...number("index", "#", 80), canSort: true },
             number("at", "Offset", 90),
             { key: "time", title: "Time", width: 140, isNumber: true, canSort: true,
                 text: (row) => row.time === undefined ? "" : clockText(shell.overview.start, row.time) },
-            { key: "name", title: "Type", width: 110, text: (row) => row.name, style: (row) => row.name === "refused" ? "is-refused" : "" },
+            { key: "name", title: "Type", width: 110, text: (row) => row.name,
+                style: (row) => row.name === "refused" ? "is-refused" : "" },
             number("pid", "Process", 72), number("tid", "Thread", 72), number("cpu", "CPU", 46),
             { key: "event", title: "Event", width: 110, text: (row) => shell.eventName(row.event) },
             number("size", "Size", 60),
@@ -72,7 +73,8 @@ export class Records {
     show() {
         const { state, overview } = this.#shell;
         if (!this.#kind.select.options.length) {
-            setOptions(this.#kind.select, [["", "All"], ...overview.records.map(({ name, count }) => [name, `${name} (${countText(count)})`])], "");
+            const kinds = overview.records.map(({ name, count }) => [name, `${name} (${countText(count)})`]);
+            setOptions(this.#kind.select, [["", "All"], ...kinds], "");
         }
         this.#kind.select.value = state.kind;
         if (document.activeElement !== this.#search) {
@@ -124,16 +126,23 @@ export class Records {
 
     async #fetch(page, asked) {
         try {
-            const { rows } = await this.#shell.call("records", { ...JSON.parse(asked), offset: page * PAGE, count: PAGE });
+            const words = { ...JSON.parse(asked), offset: page * PAGE, count: PAGE };
+            const { rows } = await this.#shell.call("records", words);
             if (asked === this.#asked) {
                 this.#pages.set(page, rows);
-                [...this.#pages.keys()].slice(0, Math.max(0, this.#pages.size - KEPT)).forEach((old) => this.#pages.delete(old));
+                this.#forget();
                 this.#grid.draw();
             }
         } catch (error) {
             this.#pages.delete(page);
             this.#shell.complain(error);
         }
+    }
+
+    /** Forgets the pages that were asked for first. */
+    #forget() {
+        const count = Math.max(0, this.#pages.size - KEPT);
+        [...this.#pages.keys()].slice(0, count).forEach((page) => this.#pages.delete(page));
     }
 
     async #open(index) {
@@ -150,10 +159,11 @@ export class Records {
 
     #contents(frame) {
         const event = this.#shell.eventName(frame.event);
+        const bytes = button("Bytes", () => showBytes(this.#shell, frame), { id: "show-bytes" });
         return [
             element("h2", {}, `${frame.name}, frame ${countText(frame.index)}`),
-            element("p", { class: "quiet" }, `${plural(frame.size, "byte")} from ${frame.at}${event ? ` · ${event}` : ""}`),
-            element("div", { class: "row" }, button("Bytes", () => showBytes(this.#shell, frame), { id: "show-bytes" })),
+            element("p", { class: "quiet" }, `${plural(frame.size, "byte")} from ${frame.at}${event && ` · ${event}`}`),
+            element("div", { class: "row" }, bytes),
             ...frame.message ? [element("p", { class: "message" }, frame.message)] : [],
             element("dl", { class: "facts" }, ...frame.fields.flatMap(([name, text]) => fact(name, text))),
         ];

@@ -35,7 +35,8 @@ export class Stage {
     /** `draw(painter, { width, height, top, colours })` draws what is in sight below `top`. */
     constructor(label, name, draw) {
         this.#draw = draw;
-        this.canvas = element("canvas", { tabindex: "0", role: "application", "aria-label": label, class: `is-${name}` });
+        const attributes = { tabindex: "0", role: "application", "aria-label": label, class: `is-${name}` };
+        this.canvas = element("canvas", attributes);
         this.root = element("div", { class: "stage" }, this.canvas, this.#under);
         this.root.addEventListener("scroll", () => this.redraw());
         this.canvas.addEventListener("pointerleave", () => showTip());
@@ -72,10 +73,15 @@ export class Stage {
             this.#isDue = true;
             requestAnimationFrame(() => {
                 this.#isDue = false;
-                if (this.width > 0 && this.height > 0) {
-                    this.#draw(new CanvasPainter(this.canvas, this.width, this.height), this.#place(this.height, this.root.scrollTop));
-                }
+                this.#drawNow();
             });
+        }
+    }
+
+    #drawNow() {
+        const { width, height } = this;
+        if (width > 0 && height > 0) {
+            this.#draw(new CanvasPainter(this.canvas, width, height), this.#place(height, this.root.scrollTop));
         }
     }
 

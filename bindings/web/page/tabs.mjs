@@ -1,6 +1,6 @@
 // The list of views, one of which is shown.
 
-import { byId, element } from "./elements.mjs";
+import { button, byId, element } from "./elements.mjs";
 import { TABS } from "./view_state.mjs";
 
 const TITLES = { overview: "Overview", timeline: "Timeline", flame: "Flame graph", tasks: "Tasks", records: "Records" };
@@ -12,10 +12,10 @@ export class Tabs {
 
     constructor(panels, onchoose) {
         for (const name of TABS) {
-            const tab = element("button", { type: "button", role: "tab", id: `tab-${name}`, "aria-controls": `panel-${name}`,
-                onclick: () => onchoose(name) }, TITLES[name]);
-            const panel = element("section", { role: "tabpanel", id: `panel-${name}`, "aria-labelledby": `tab-${name}`, hidden: true },
-                panels[name].root);
+            const tab = button(TITLES[name], () => onchoose(name),
+                { role: "tab", id: `tab-${name}`, "aria-controls": `panel-${name}` });
+            const attributes = { role: "tabpanel", id: `panel-${name}`, "aria-labelledby": `tab-${name}` };
+            const panel = element("section", attributes, panels[name].root);
             this.#tabs.set(name, tab);
             this.#panels.set(name, panel);
         }

@@ -1,6 +1,6 @@
 // The table of tasks: each thread with its samples.
 
-import { button, element } from "./elements.mjs";
+import { button, element, searchField } from "./elements.mjs";
 import { Grid } from "./grid.mjs";
 import { filterOf } from "./view_state.mjs";
 import { Latest } from "./worker_link.mjs";
@@ -14,8 +14,7 @@ export class Tasks {
     #asked;
     #work = new Latest();
     #active;
-    #search = element("input", { type: "search", placeholder: "Filter by name or number   /", autocomplete: "off", spellcheck: "false",
-        "aria-label": "Filter tasks by name or number" });
+    #search = searchField("Filter by name or number", "Filter tasks by name or number");
     #count = element("span", { class: "quiet", role: "status" });
     #grid;
 
@@ -37,16 +36,16 @@ export class Tasks {
     }
 
     #columns() {
-        const time = (value) => value === undefined || value === null || Number.isNaN(value) ? "" : clockText(this.#shell.overview.start, value);
-        const number = (key, title, width) => ({ key, title, width, isNumber: true, canSort: true, text: (row) => countText(row[key] ?? 0) });
-        const when = (key, title) => ({ key, title, width: 150, isNumber: true, canSort: true, text: (row) => time(row[key]) });
+        const time = (value) => value === undefined ? "" : clockText(this.#shell.overview.start, value);
+        const number = (key, title, width, text) => ({ key, title, width, isNumber: true, canSort: true, text });
+        const when = (key, title) => number(key, title, 150, (row) => time(row[key]));
         return [
             { key: "name", title: "Name", width: 150, grow: 2, canSort: true, text: (row) => row.name },
-            { key: "pid", title: "Process", width: 80, isNumber: true, canSort: true, text: (row) => String(row.pid) },
-            { key: "tid", title: "Thread", width: 80, isNumber: true, canSort: true, text: (row) => String(row.tid) },
-            number("samples", "Samples", 90),
+            number("pid", "Process", 80, (row) => String(row.pid)),
+            number("tid", "Thread", 80, (row) => String(row.tid)),
+            number("samples", "Samples", 90, (row) => countText(row.samples)),
             { key: "share", title: "Share", width: 120, grow: 1, fill: (cell, row) => this.#fillShare(cell, row) },
-            number("period", "Period", 120),
+            number("period", "Period", 120, (row) => countText(row.period)),
             when("first", "First sample"), when("last", "Last sample"), when("start", "Start"), when("end", "End"),
         ];
     }
@@ -114,7 +113,8 @@ export class Tasks {
             .filter((row) => `${row.name} ${row.pid} ${row.tid}`.toLowerCase().includes(words))
             .sort((one, other) => way * compare(one[key], other[key]) || one.pid - other.pid || one.tid - other.tid);
         this.#count.textContent = plural(this.#shown.length, "thread");
-        const active = this.#active ? this.#shown.findIndex(({ pid, tid }) => pid === this.#active.pid && tid === this.#active.tid) : -1;
+        const now = this.#active;
+        const active = now ? this.#shown.findIndex(({ pid, tid }) => pid === now.pid && tid === now.tid) : -1;
         this.#grid.show(this.#shown.length, (index) => this.#shown[index], { active, sorted: { key, isDown } });
     }
 

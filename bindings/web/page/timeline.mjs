@@ -10,8 +10,13 @@ import { clockText, countText, plural, spanText } from "./words.mjs";
 
 const LEAST = 20;
 const NOTHING = { from: 0, to: 1, lanes: [], most: 1 };
-const KEYS = "Timeline. Left and right move, plus and minus zoom, up and down choose a lane, comma and full stop go through "
-    + "its marks, shift with left and right selects a range, Z zooms to it, Enter filters by the lane, Escape clears the range.";
+const KEYS = "Timeline. Left and right move, plus and minus zoom, up and down choose a lane, comma and full stop go "
+    + "through its marks, shift with left and right selects a range, Z zooms to it, Enter filters by the lane, Escape "
+    + "clears the range.";
+const SIGNS = {
+    density: [[-5, 5], [-5, 0], [-2, 0], [-2, -5], [1, -5], [1, 2], [4, 2], [4, 5]],
+    running: [[-6, 1], [6, 1], [6, 4], [-6, 4]],
+};
 
 export class Timeline {
     #shell;
@@ -41,7 +46,11 @@ export class Timeline {
         canvas.addEventListener("pointermove", (event) => this.#move(event));
         canvas.addEventListener("pointerup", (event) => this.#release(event));
         canvas.addEventListener("pointercancel", () => this.#drop());
-        canvas.addEventListener("dblclick", (event) => event.offsetX < GUTTER && event.offsetY > TOP && this.#filterByLane());
+        canvas.addEventListener("dblclick", ({ offsetX, offsetY }) => {
+            if (offsetX < GUTTER && offsetY > TOP) {
+                this.#filterByLane();
+            }
+        });
         canvas.addEventListener("keydown", (event) => this.#key(event));
     }
 
@@ -57,9 +66,10 @@ export class Timeline {
     }
 
     #legend() {
-        const items = Object.entries(MARKS).map(([kind, { title }]) => element("span", { "data-mark": kind }, this.#sign(kind), title));
-        return element("div", { class: "legend" }, element("span", { "data-mark": "density" }, this.#sign("density"), "samples"),
-            element("span", { "data-mark": "running" }, this.#sign("running"), "running"), ...items);
+        const titles = { density: "samples", running: "running" };
+        const kinds = [...Object.keys(titles), ...Object.keys(MARKS)];
+        return element("div", { class: "legend" }, ...kinds.map((kind) =>
+            element("span", {}, this.#sign(kind), titles[kind] ?? MARKS[kind].title)));
     }
 
     #sign(kind) {
@@ -68,8 +78,7 @@ export class Timeline {
         svg.setAttribute("viewBox", "-6 -6 12 12");
         svg.setAttribute("aria-hidden", "true");
         const shape = document.createElementNS(space, "polygon");
-        const bars = { density: [[-5, 5], [-5, 0], [-2, 0], [-2, -5], [1, -5], [1, 2], [4, 2], [4, 5]], running: [[-6, 1], [6, 1], [6, 4], [-6, 4]] };
-        shape.setAttribute("points", (bars[kind] ?? MARKS[kind].points).join(" "));
+        shape.setAttribute("points", (SIGNS[kind] ?? MARKS[kind].points).join(" "));
         shape.setAttribute("class", `sign-${kind}`);
         svg.append(shape);
         return svg;
@@ -85,7 +94,8 @@ export class Timeline {
 
     #picture() {
         const { state } = this.#shell;
-        return { view: this.#view, data: this.#data, whole: this.#whole, length: this.#all.to, range: this.#drag?.range ?? state.range,
+        const range = this.#drag?.range ?? state.range;
+        return { view: this.#view, data: this.#data, whole: this.#whole, length: this.#all.to, range,
             active: this.#active, mark: this.#mark };
     }
 
@@ -96,16 +106,24 @@ export class Timeline {
         this.#active = 0;
     }
 
-    show() {
+    #whyEmpty() {
         const { state, overview } = this.#shell;
-        const why = !overview.hasTime ? "The frames of this recording have no times, so there is no timeline."
-            : state.by === "cpu" && !overview.hasCpu ? "The samples of this recording do not have their processor." : "";
+        if (!overview.hasTime) {
+            return "The frames of this recording have no times, so there is no timeline.";
+        }
+        const isAbsent = state.by === "cpu" && !overview.hasCpu;
+        return isAbsent ? "The samples of this recording do not have their processor." : "";
+    }
+
+    show() {
+        const [why, { by }] = [this.#whyEmpty(), this.#shell.state];
         this.#empty.textContent = why;
         this.#empty.hidden = !why;
         this.#stage.root.hidden = Boolean(why);
-        this.#choice.forEach((one) => one.setAttribute("aria-pressed", String(one.dataset.by === state.by)));
-        for (const [kind, colour] of Object.entries({ ...coloursOf(isDark()).marks, density: "", running: "" })) {
-            this.root.querySelectorAll(`.sign-${kind}`).forEach((sign) => sign.setAttribute("fill", colour || coloursOf(isDark())[kind]));
+        this.#choice.forEach((one) => one.setAttribute("aria-pressed", String(one.dataset.by === by)));
+        const { marks, density, running } = coloursOf(isDark());
+        for (const [kind, colour] of Object.entries({ ...marks, density, running })) {
+            this.root.querySelector(`.sign-${kind}`).setAttribute("fill", colour);
         }
         if (!why) {
             this.#ask();
@@ -136,8 +154,9 @@ export class Timeline {
                 this.#whole = sumOf(lanes);
             }
             const { lanes, total } = await this.#shell.call("lanes", words);
-            this.#some.textContent = total > lanes.length ? `${countText(lanes.length)} of ${countText(total)} lanes, those with most samples` : "";
-            const most = lanes.reduce((most, { density }) => density.reduce((high, count) => Math.max(high, count), most), 1);
+            const some = `${countText(lanes.length)} of ${countText(total)} lanes, those with most samples`;
+            this.#some.textContent = total > lanes.length ? some : "";
+            const most = Math.max(1, ...lanes.map(({ density }) => mostOf(density)));
             this.#data = { from: words.from, to: words.to, lanes, most };
             this.#active = Math.max(0, Math.min(this.#active, lanes.length - 1));
             this.#stage.setDepth(TOP + lanes.length * LANE + 8);
@@ -186,8 +205,12 @@ export class Timeline {
         if (event.shiftKey || Math.abs(event.deltaX) > Math.abs(event.deltaY)) {
             this.#pan((event.shiftKey ? pixels : event.deltaX) / 1000);
         } else {
-            this.#zoom(Math.exp(Math.max(-400, Math.min(400, pixels)) / 350), timeOf(event.offsetX, this.#view, this.#stage.width));
+            this.#zoom(Math.exp(Math.max(-400, Math.min(400, pixels)) / 350), this.#timeAt(event.offsetX));
         }
+    }
+
+    #timeAt(x) {
+        return timeOf(x, this.#view, this.#stage.width);
     }
 
     #laneAt(y) {
@@ -195,9 +218,9 @@ export class Timeline {
     }
 
     #markAt(event) {
-        const lane = this.#data.lanes[this.#laneAt(event.offsetY)];
-        const near = lane?.marks.map((mark) => [Math.abs(xOf(mark.time, this.#view, this.#stage.width) - event.offsetX), mark]);
-        return near?.filter(([far]) => far <= 6).sort((one, other) => one[0] - other[0])[0]?.[1];
+        const marks = this.#data.lanes[this.#laneAt(event.offsetY)]?.marks ?? [];
+        const far = (mark) => Math.abs(xOf(mark.time, this.#view, this.#stage.width) - event.offsetX);
+        return marks.filter((mark) => far(mark) <= 6).sort((one, other) => far(one) - far(other))[0];
     }
 
     #press(event) {
@@ -210,7 +233,7 @@ export class Timeline {
             this.#drag = { isStrip: true };
             this.#centre(x);
         } else if (x >= GUTTER) {
-            this.#drag = { x, from: timeOf(x, this.#view, this.#stage.width), lane: this.#laneAt(y), mark: this.#markAt(event) };
+            this.#drag = { x, from: this.#timeAt(x), lane: this.#laneAt(y), mark: this.#markAt(event) };
         } else {
             this.#choose(this.#laneAt(y));
         }
@@ -226,18 +249,18 @@ export class Timeline {
         if (this.#drag?.isStrip) {
             this.#centre(event.offsetX);
         } else if (this.#drag && (this.#drag.range || Math.abs(event.offsetX - this.#drag.x) > 3)) {
-            const time = timeOf(Math.max(GUTTER, Math.min(this.#stage.width, event.offsetX)), this.#view, this.#stage.width);
+            const time = this.#timeAt(Math.max(GUTTER, Math.min(this.#stage.width, event.offsetX)));
             this.#drag.range = rangeOf(this.#drag.from, time, this.#all);
             this.#stage.redraw();
         } else {
-            const lane = event.offsetX < GUTTER || event.offsetY > TOP ? this.#data.lanes[this.#laneAt(event.offsetY)] : undefined;
+            const lane = this.#data.lanes[this.#laneAt(event.offsetY)];
             showTip(event, lane && this.#tipText(lane, event));
         }
     }
 
     #tipText(lane, event) {
         const mark = this.#markAt(event);
-        const time = timeOf(event.offsetX, this.#view, this.#stage.width);
+        const time = this.#timeAt(event.offsetX);
         const at = event.offsetX < GUTTER ? "" : `\nat ${spanText(mark ? mark.time : time)}`;
         return `${laneText(lane)}${mark ? `\n${MARKS[mark.kind]?.title ?? mark.kind}: ${mark.text}` : ""}${at}`;
     }
@@ -294,11 +317,13 @@ export class Timeline {
         const { range } = this.#shell.state;
         const view = this.#view;
         const length = view.to - view.from;
-        this.#cursor ??= range ? { anchor: range.from, time: range.to } : { anchor: (view.from + view.to) / 2, time: (view.from + view.to) / 2 };
+        const middle = (view.from + view.to) / 2;
+        this.#cursor ??= { anchor: range?.from ?? middle, time: range?.to ?? middle };
         this.#cursor.time = Math.max(0, Math.min(this.#all.to, this.#cursor.time + share * length));
         const chosen = rangeOf(this.#cursor.anchor, this.#cursor.time, this.#all);
         this.#shell.change({ range: chosen });
-        const out = this.#cursor.time < view.from ? this.#cursor.time - view.from : Math.max(0, this.#cursor.time - view.to);
+        const { time } = this.#cursor;
+        const out = Math.min(0, time - view.from) + Math.max(0, time - view.to);
         if (out) {
             this.#pan(out / length);
         }
@@ -321,10 +346,11 @@ export class Timeline {
         const moves = {
             ArrowLeft: () => this.#pan(-0.1), ArrowRight: () => this.#pan(0.1),
             Home: () => this.#pan(-Infinity), End: () => this.#pan(Infinity),
-            "+": () => this.#zoom(0.67), "=": () => this.#zoom(0.67), "-": () => this.#zoom(1.5), 0: () => this.#look(this.#all, true),
+            "+": () => this.#zoom(0.67), "=": () => this.#zoom(0.67), "-": () => this.#zoom(1.5),
+            0: () => this.#look(this.#all, true), z: () => this.#zoomToRange(),
             ArrowUp: () => this.#choose(Math.max(0, this.#active - 1)), ArrowDown: () => this.#choose(this.#active + 1),
             PageUp: () => this.#choose(Math.max(0, this.#active - 10)), PageDown: () => this.#choose(this.#active + 10),
-            Enter: () => this.#filterByLane(), z: () => this.#zoomToRange(), ".": () => this.#nextMark(1), ",": () => this.#nextMark(-1),
+            Enter: () => this.#filterByLane(), ".": () => this.#nextMark(1), ",": () => this.#nextMark(-1),
             Escape: () => {
                 this.#cursor = undefined;
                 this.#shell.change({ range: undefined }, true);
@@ -344,8 +370,9 @@ export class Timeline {
 }
 
 function laneText(lane) {
-    const number = lane.tid === undefined ? "" : lane.pid === lane.tid ? ` · process ${lane.pid}` : ` · process ${lane.pid}, thread ${lane.tid}`;
-    return `${lane.label}${number} · ${plural(lane.samples, "sample")} in sight`;
+    const { label, pid, tid, samples } = lane;
+    const numbers = tid === undefined ? "" : ` · process ${pid}${pid === tid ? "" : `, thread ${tid}`}`;
+    return `${label}${numbers} · ${plural(samples, "sample")} in sight`;
 }
 
 function rangeOf(one, other, all) {
@@ -353,10 +380,20 @@ function rangeOf(one, other, all) {
     return { from, to: Math.min(Math.ceil(all.to), Math.max(from + 1, Math.ceil(Math.max(one, other)))) };
 }
 
+function mostOf(density) {
+    let most = 0;
+    for (const count of density) {
+        most = count > most ? count : most;
+    }
+    return most;
+}
+
 function sumOf(lanes) {
     const density = new Float64Array(lanes[0]?.density.length ?? 1);
-    lanes.forEach((lane) => lane.density.forEach((count, column) => {
-        density[column] += count;
-    }));
-    return { density, most: density.reduce((most, count) => Math.max(most, count), 1) };
+    for (const lane of lanes) {
+        for (let column = 0; column < density.length; column += 1) {
+            density[column] += lane.density[column];
+        }
+    }
+    return { density, most: Math.max(1, mostOf(density)) };
 }

@@ -33,7 +33,8 @@ export function stepOf(least) {
 }
 
 function tickText(time, step) {
-    const [unit, worth] = [["s", 1e9], ["ms", 1e6], ["µs", 1e3], ["ns", 1]].find(([, worth]) => step >= worth) ?? ["ns", 1];
+    const units = [["s", 1e9], ["ms", 1e6], ["µs", 1e3], ["ns", 1]];
+    const [unit, worth] = units.find(([, worth]) => step >= worth);
     return `${Number((time / worth).toFixed(3))} ${unit}`;
 }
 
@@ -117,7 +118,8 @@ function drawLabel(painter, { colours }, lane, y, isActive) {
     const weight = isActive ? "bold" : "normal";
     const number = lane.tid === undefined ? "" : String(lane.tid);
     painter.text(GUTTER - 8, y + 19, number, colours.quiet, { align: "end" });
-    painter.text(10, y + 19, fitText(lane.label, GUTTER - 28 - number.length * 7, 12, weight), colours.text, { size: 12, weight });
+    const name = fitText(lane.label, GUTTER - 28 - number.length * 7, 12, weight);
+    painter.text(10, y + 19, name, colours.text, { size: 12, weight });
 }
 
 function drawRange(painter, { width, height, colours }, { view, range }) {
@@ -130,7 +132,8 @@ function drawRange(painter, { width, height, colours }, { view, range }) {
     }
     const [start, end] = [Math.max(GUTTER, left), Math.min(width, right)];
     painter.rect(start, TOP, Math.max(1, end - start), height - TOP, colours.shade);
-    [[left, start], [right, end]].forEach(([edge, at]) => edge === at && painter.rect(at - 0.5, STRIP, 1, height - STRIP, colours.accent));
+    const edges = [[left, start], [right, end]].filter(([edge, at]) => edge === at);
+    edges.forEach(([edge]) => painter.rect(edge - 0.5, STRIP, 1, height - STRIP, colours.accent));
     const text = fitText(spanText(range.to - range.from), end - start, 11, "bold");
     if (text) {
         painter.rect((start + end) / 2 - 34, STRIP + 2, 68, 17, colours.ground);
@@ -145,7 +148,7 @@ export function drawTimeline(painter, place, picture) {
     painter.rect(0, 0, width, height, colours.ground);
     const first = Math.floor(top / LANE);
     const last = Math.min(lanes.length, Math.ceil((top + height - TOP) / LANE));
-    const places = Array.from({ length: Math.max(0, last - first) }, (_, index) => [first + index, TOP + (first + index) * LANE - top]);
+    const places = Array.from(lanes.keys()).slice(first, last).map((index) => [index, TOP + index * LANE - top]);
     painter.inside(0, TOP, width, height - TOP, () => {
         places.forEach(([index, y]) => index % 2 && painter.rect(GUTTER, y, width - GUTTER, LANE, colours.stripe));
     });

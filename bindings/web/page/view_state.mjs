@@ -66,4 +66,6 @@ export function filterOf(state, hasRange = true) {
 }
 
 /** A state without any filter. */
-export const NO_FILTER = { range: undefined, event: undefined, pid: undefined, tid: undefined, cpu: undefined, comm: "" };
+export const NO_FILTER = {
+    range: undefined, event: undefined, pid: undefined, tid: undefined, cpu: undefined, comm: "",
+};
