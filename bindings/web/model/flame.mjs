@@ -1,35 +1,35 @@
 // Flame graphs: the selected samples as one tree, in which equal callers have one box.
 
-import { Growing, Triples } from "./growing.mjs";
+import { Table, Triples } from "./growing.mjs";
 import { select } from "./selection.mjs";
 import { EVENT_DEPTH } from "./tree.mjs";
 
 const PLACE = 3;
+/** In place of a box: there is none. */
+const NOTHING = 0xffffffff;
 const ROOT = "all";
 
 /** Boxes by their numbers, each after its parent. What one is has a kind: 1 an event, 2 a thread's name, 3 a place. */
-class Boxes {
-    constructor() {
-        this.ids = new Triples();
-        this.worth = new Growing(Float64Array);
-        this.depth = new Growing(Uint16Array);
-        this.ids.numberOf(0xffffffff, 0, 0);
-        this.worth.push(0);
-        this.depth.push(0);
+class Boxes extends Table {
+    constructor({ tree, shown }, total) {
+        super({ worth: Float64Array, depth: Uint16Array }, 1024);
+        Object.assign(this, { tree, shown, ids: new Triples() });
+        this.ids.numberOf(NOTHING, 0, 0);
+        this.worth[this.addRow()] = total;
     }
-
-    get count() { return this.ids.count; }
 
     parent(box) { return this.ids.first[box]; }
 
-    add(parent, what, kind, worth) {
-        const box = this.ids.numberOf(parent, what, kind);
-        if (box === this.worth.length) {
-            this.worth.push(worth);
-            this.depth.push(this.depth.array[parent] + 1);
-        } else {
-            this.worth.array[box] += worth;
+    /** Adds the worth of a node of the call tree to its box among the children of `parent`, and returns that. */
+    add(parent, node, worth) {
+        const what = this.tree.what(node);
+        const kind = Math.min(this.tree.depth(node), PLACE);
+        const box = this.ids.numberOf(parent, kind === PLACE ? this.shown.of(what) : what, kind);
+        if (box === this.count) {
+            this.addRow();
+            this.depth[box] = this.depth[parent] + 1;
         }
+        this.worth[box] += worth;
         return box;
     }
 }
@@ -44,46 +44,42 @@ function ownWorths(recording, places, weight) {
     return worths;
 }
 
-/** What a node is and its kind, the key of its box. */
-function keyOf(recording, node) {
-    const { tree, shown } = recording;
-    const kind = Math.min(tree.depth(node), PLACE);
-    const what = tree.what(node);
-    return kind === PLACE ? [shown.of(what), kind] : [what, kind];
-}
-
-/** Boxes with callers below their callees' graph: as the calls went. */
-function callersFirst(recording, own, hasEvents) {
+/** Boxes as the calls went. Those of less than the share `minimum` have no children. */
+function callersFirst(recording, own, hasEvents, minimum) {
     const { tree } = recording;
     const worths = own.slice();
     for (let node = tree.count - 1; node > 0; node--) {
         worths[tree.parent(node)] += worths[node];
     }
-    const boxes = new Boxes();
-    boxes.worth.array[0] = worths[0];
-    const boxOf = new Uint32Array(tree.count);
-    for (let node = 1; node < tree.count; node++) {
+    const boxes = new Boxes(recording, worths[0]);
+    const least = minimum * worths[0];
+    const boxOf = new Uint32Array(tree.count).fill(NOTHING);
+    boxOf[0] = 0;
+    for (const node of tree.byDepth()) {
         const parent = boxOf[tree.parent(node)];
-        if (worths[node] > 0) {
-            const [what, kind] = keyOf(recording, node);
-            boxOf[node] = kind === EVENT_DEPTH && !hasEvents ? parent : boxes.add(parent, what, kind, worths[node]);
+        if (node > 0 && parent !== NOTHING && worths[node] > 0 && boxes.worth[parent] >= least) {
+            boxOf[node] = tree.depth(node) > EVENT_DEPTH || hasEvents ? boxes.add(parent, node, worths[node]) : parent;
         }
     }
     return boxes;
 }
 
-/** Boxes with the place of each sample first, and then its callers. */
-function calleesFirst(recording, own, hasEvents) {
+/** Boxes with the place of each sample first, and then its callers. Those of less than a share have no children. */
+function calleesFirst(recording, own, hasEvents, minimum) {
     const { tree } = recording;
-    const boxes = new Boxes();
-    for (let leaf = 1; leaf < tree.count; leaf++) {
-        if (own[leaf] > 0) {
-            boxes.worth.array[0] += own[leaf];
-            let box = 0;
-            for (let node = leaf; node > 0; node = tree.parent(node)) {
-                if (tree.depth(node) > EVENT_DEPTH || hasEvents) {
-                    box = boxes.add(box, ...keyOf(recording, node), own[leaf]);
-                }
+    const nodes = Uint32Array.from(own.keys()).filter((node) => own[node] > 0);
+    const worths = Float64Array.from(nodes, (node) => own[node]);
+    const boxes = new Boxes(recording, worths.reduce((sum, worth) => sum + worth, 0));
+    const least = minimum * boxes.worth[0];
+    const boxOf = new Uint32Array(nodes.length);
+    // Each round adds a caller of all that have one yet, so that the boxes of the round before have their whole worth.
+    for (let [count, left] = [nodes.length, 0]; count > 0; [count, left] = [left, 0]) {
+        for (let place = 0; place < count; place++) {
+            const [node, parent, worth] = [nodes[place], boxOf[place], worths[place]];
+            if (tree.depth(node) > (hasEvents ? 0 : EVENT_DEPTH) && boxes.worth[parent] >= least) {
+                boxOf[left] = boxes.add(parent, node, worth);
+                nodes[left] = tree.parent(node);
+                worths[left++] = worth;
             }
         }
     }
@@ -139,7 +135,7 @@ function childrenOf(boxes, kept, names) {
 function arranged(boxes, least, names) {
     const kept = [];
     for (let box = 1; box < boxes.count; box++) {
-        if (boxes.worth.array[box] >= least) {
+        if (boxes.worth[box] >= least) {
             kept.push(box);
         }
     }
@@ -150,7 +146,7 @@ function arranged(boxes, least, names) {
         depth: new Uint16Array(count), start: new Float64Array(count), worth: new Float64Array(count),
     };
     const boxAt = new Uint32Array(count);
-    nodes.worth[0] = boxes.worth.array[0];
+    nodes.worth[0] = boxes.worth[0];
     let last = 0;
     for (let node = 0; node < count; node++) {
         const parent = boxAt[node];
@@ -161,43 +157,40 @@ function arranged(boxes, least, names) {
             boxAt[last] = box;
             nodes.of[last] = names.of(boxes, box);
             nodes.parent[last] = node;
-            nodes.depth[last] = boxes.depth.array[box];
+            nodes.depth[last] = boxes.depth[box];
             nodes.start[last] = start;
-            nodes.worth[last] = boxes.worth.array[box];
-            start += boxes.worth.array[box];
+            nodes.worth[last] = boxes.worth[box];
+            start += boxes.worth[box];
         }
     }
     return nodes;
 }
 
-/** The boxes of the samples that a filter selects. */
-function boxesOf(recording, { filter = {}, weight = "samples", inverted = false }, places) {
+/** The boxes of samples. */
+function boxesOf(recording, { filter = {}, weight = "samples", inverted = false, minimum = 0 }, places) {
     const own = ownWorths(recording, places, weight);
     const hasEvents = recording.events.length > 1 && filter.event === undefined;
-    return (inverted ? calleesFirst : callersFirst)(recording, own, hasEvents);
+    return (inverted ? calleesFirst : callersFirst)(recording, own, hasEvents, minimum);
 }
 
 /** The flame graph of the selected samples, of boxes that are at least the share `minimum` of all. */
 export function flame(recording, words) {
     const places = select(recording, words.filter ?? {});
     const boxes = boxesOf(recording, words, places);
-    const total = boxes.worth.array[0];
-    const least = Math.max((words.minimum ?? 0) * total, Number.MIN_VALUE);
-    const nodes = arranged(boxes, least, new Names(recording));
+    const nodes = arranged(boxes, (words.minimum ?? 0) * boxes.worth[0], new Names(recording));
     const deepest = nodes.depth.reduce((most, depth) => Math.max(most, depth), 0);
-    return { total, nodes, samples: places.length, deepest };
+    return { total: boxes.worth[0], nodes, samples: places.length, deepest };
 }
 
 /** The selected samples as lines of folded stacks, each with its worth. */
-export function folded(recording, words) {
-    const places = select(recording, words.filter ?? {});
-    const boxes = boxesOf(recording, { ...words, inverted: false }, places);
+export function folded(recording, { filter, weight }) {
+    const boxes = boxesOf(recording, { filter, weight }, select(recording, filter ?? {}));
     const names = new Names(recording);
-    const rest = boxes.worth.numbers.slice();
+    const rest = boxes.column("worth").slice();
     const paths = [""];
     const lines = [];
     for (let box = boxes.count - 1; box > 0; box--) {
-        rest[boxes.parent(box)] -= boxes.worth.array[box];
+        rest[boxes.parent(box)] -= boxes.worth[box];
     }
     for (let box = 1; box < boxes.count; box++) {
         const parent = boxes.parent(box);
@@ -207,5 +200,5 @@ export function folded(recording, words) {
             lines.push(`${paths[box]} ${rest[box]}\n`);
         }
     }
-    return lines.sort().join("");
+    return lines.join("");
 }

@@ -1,6 +1,6 @@
 // What is kept of each frame, in the order of the file, and of each record that something follows from.
 
-import { Growing, Triples } from "./growing.mjs";
+import { Growing, Table, Triples } from "./growing.mjs";
 
 /** Types of records. */
 export const MMAP = 1;
@@ -25,25 +25,20 @@ export const NO_CPU = 0xffffffff;
 /** In `extra`: nothing follows from the frame. */
 export const NOTHING = -1;
 
-/** Of each frame a number in each column. */
-export class FrameColumns {
+/** Of each frame a row. */
+export class FrameTable extends Table {
     constructor(room) {
-        this.at = new Growing(Float64Array, room);
-        this.size = new Growing(Uint16Array, room);
-        this.type = new Growing(Uint32Array, room);
-        this.misc = new Growing(Uint16Array, room);
-        this.event = new Growing(Int32Array, room);
-        this.isRefused = new Growing(Uint8Array, room);
-        // Nanoseconds after the first time, -Infinity without one.
-        this.time = new Growing(Float64Array, room);
-        this.task = new Growing(Uint32Array, room);
-        this.cpu = new Growing(Uint32Array, room);
-        // Of a sample or a mapping its number, of a COMM that of its text, of a FORK or EXIT the parent, of a refused frame
-        // that of the text of its reason.
-        this.extra = new Growing(Int32Array, room);
+        super({
+            at: Float64Array, size: Uint16Array, type: Uint32Array, misc: Uint16Array, event: Int32Array,
+            isRefused: Uint8Array,
+            // Nanoseconds after the first time, -Infinity without one.
+            time: Float64Array,
+            task: Uint32Array, cpu: Uint32Array,
+            // Of a sample or a mapping its number, of a COMM that of its text, of a FORK or EXIT the parent, of a refused
+            // frame that of the text of its reason.
+            extra: Int32Array,
+        }, room);
     }
-
-    get count() { return this.at.length; }
 }
 
 /** In `chains` in place of an address: whose addresses follow. */
@@ -54,32 +49,30 @@ export const OTHERS_FOLLOW = 0xfffffffd;
 const LEAST_MARK = 0xfffff001;
 const MARKS = new Map([[0xffffff80, KERNEL_FOLLOWS], [0xfffffe00, USER_FOLLOWS]]);
 
-/** Of each sample, in the order of the file, its period and its addresses: its own, and those of its call chain. */
-export class SampleAddresses {
+/** Of each sample, in the order of the file, its period and its addresses: its own, by its number or -1, and those of its
+ * call chain. */
+export class SampleAddresses extends Table {
     constructor(room) {
-        this.frame = new Growing(Uint32Array, room);
-        this.period = new Growing(Float64Array, room);
-        // The number of its own address, or -1.
-        this.ip = new Growing(Int32Array, room);
-        this.chainStart = new Growing(Float64Array, room);
-        this.chainLength = new Growing(Uint16Array, room);
+        super({
+            frame: Uint32Array, period: Float64Array, ip: Int32Array, chainStart: Float64Array, chainLength: Uint16Array,
+        }, room);
         // Numbers of addresses, and marks.
         this.chains = new Growing(Uint32Array, 16 * room);
         this.addresses = new Triples();
     }
 
-    get count() { return this.frame.length; }
-
+    /** Puts a sample, and returns its number. */
     put(frame, ip, period, chain) {
-        this.frame.push(frame);
-        this.period.push(period);
-        this.ip.push(ip === undefined ? -1 : this.addresses.numberOf(Number(ip >> 32n), Number(ip & 0xffffffffn), 0));
-        this.chainStart.push(this.chains.length);
-        this.chainLength.push(chain === undefined ? 0 : chain.length);
+        const row = this.addRow();
+        this.frame[row] = frame;
+        this.period[row] = period;
+        this.ip[row] = ip === undefined ? -1 : this.addresses.numberOf(Number(ip >> 32n), Number(ip & 0xffffffffn), 0);
+        this.chainStart[row] = this.chains.length;
         if (chain !== undefined) {
+            this.chainLength[row] = chain.length;
             this.#putChain(new Uint32Array(chain.buffer, chain.byteOffset, 2 * chain.length));
         }
-        return this.count - 1;
+        return row;
     }
 
     /** Puts a chain, of which there are the lower and the upper half of each number. */
@@ -95,32 +88,33 @@ export class SampleAddresses {
     }
 }
 
+const HALVES = ["firstUpper", "firstLower", "lastUpper", "lastLower", "offsetUpper", "offsetLower"];
+
 /** The mappings of processes: addresses from `first` to `last` are a file's from an offset on. */
-export class MappingTable {
+export class MappingTable extends Table {
     constructor() {
-        for (const name of ["pid", "file", "firstUpper", "firstLower", "lastUpper", "lastLower", "offsetUpper",
-            "offsetLower"]) {
-            this[name] = new Growing(Uint32Array, 256);
-        }
-        // Whether places in it are told by their address.
-        this.keepsAddress = new Growing(Uint8Array, 256);
+        super({
+            pid: Uint32Array, file: Uint32Array, ...Object.fromEntries(HALVES.map((name) => [name, Uint32Array])),
+            // Whether places in it are told by their address.
+            keepsAddress: Uint8Array,
+        });
     }
 
     /** Puts a mapping of at least one byte, and returns its number. What exceeds 64 bits is left out. */
     put(pid, address, length, offset, file, keepsAddress) {
+        const row = this.addRow();
         const end = address + length - 1n;
         const last = end >> 64n ? 0xffffffffffffffffn : end;
-        this.pid.push(pid);
-        this.file.push(file);
+        this.pid[row] = pid;
+        this.file[row] = file;
+        this.keepsAddress[row] = keepsAddress ? 1 : 0;
         for (const [name, number] of [["first", address], ["last", last], ["offset", offset]]) {
-            this[`${name}Upper`].push(Number(number >> 32n));
-            this[`${name}Lower`].push(Number(number & 0xffffffffn));
+            this[`${name}Upper`][row] = Number(number >> 32n);
+            this[`${name}Lower`][row] = Number(number & 0xffffffffn);
         }
-        return this.keepsAddress.push(keepsAddress ? 1 : 0);
+        return row;
     }
 
     /** The `first`, `last` or `offset` of a mapping, exact below 2^53. */
-    number(name, mapping) {
-        return this[`${name}Upper`].array[mapping] * 0x100000000 + this[`${name}Lower`].array[mapping];
-    }
+    number(name, mapping) { return this[`${name}Upper`][mapping] * 0x100000000 + this[`${name}Lower`][mapping]; }
 }

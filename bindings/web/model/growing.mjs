@@ -37,6 +37,37 @@ export class Growing {
     get numbers() { return this.array.subarray(0, this.length); }
 }
 
+/** Rows of numbers: a typed array for each column, by its name. There are `count` rows, and then room for more. */
+export class Table {
+    #types;
+    #room;
+
+    constructor(types, room = 256) {
+        this.count = 0;
+        this.#types = types;
+        this.#room = room;
+        for (const [name, Type] of Object.entries(types)) {
+            this[name] = new Type(room);
+        }
+    }
+
+    /** Puts a row of zeros at the end, and returns its place. */
+    addRow() {
+        if (this.count === this.#room) {
+            this.#room *= 2;
+            for (const [name, Type] of Object.entries(this.#types)) {
+                const more = new Type(this.#room);
+                more.set(this[name]);
+                this[name] = more;
+            }
+        }
+        return this.count++;
+    }
+
+    /** The numbers of a column. */
+    column(name) { return this[name].subarray(0, this.count); }
+}
+
 // Room for numbers is a power of 2, as are the slots by which they are found.
 const LEAST_ROOM = 1024;
 

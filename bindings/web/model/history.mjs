@@ -5,7 +5,7 @@ import {
     COMM, EXIT, FORK, KERNEL_FOLLOWS, LOST, LOST_SAMPLES, MMAP, MMAP2, NO_CPU, NO_TASK, NOTHING, OTHERS_FOLLOW, SAMPLE,
     SWITCH, SWITCH_CPU_WIDE, USER_FOLLOWS,
 } from "./frames.mjs";
-import { Growing } from "./growing.mjs";
+import { Table } from "./growing.mjs";
 import { PlaceFinder } from "./places.mjs";
 import { Running } from "./running.mjs";
 import { Spaces } from "./spaces.mjs";
@@ -22,17 +22,11 @@ export const MARKS = ["comm", "exec", "fork", "exit", "lost"];
 /** In `names`: the frame is about no thread. */
 export const NO_NAME = 0xffffffff;
 
-/** Samples in order of time, each with what it is by then. */
-class SampleColumns {
-    constructor(count) {
-        this.count = 0;
-        for (const [name, Type] of [["frame", Uint32Array], ["time", Float64Array], ["task", Uint32Array],
-            ["cpu", Uint32Array], ["event", Uint32Array], ["name", Uint32Array], ["node", Uint32Array],
-            ["period", Float64Array]]) {
-            this[name] = new Type(count);
-        }
-    }
-}
+/** Of samples, in order of time, what is known by then. */
+const SAMPLE_COLUMNS = {
+    frame: Uint32Array, time: Float64Array, task: Uint32Array, cpu: Uint32Array, event: Uint32Array, name: Uint32Array,
+    node: Uint32Array, period: Float64Array,
+};
 
 export class History {
     #chain = new Uint32Array(LONGEST_CHAIN);
@@ -44,15 +38,14 @@ export class History {
         this.spaces = new Spaces(table);
         this.finder = new PlaceFinder(places, samples.addresses, table, this.spaces);
         this.tree = new CallTree();
-        this.samples = new SampleColumns(samples.count);
+        this.samples = new Table(SAMPLE_COLUMNS, samples.count);
         // Of each sample by its number its place in order of time, and of each frame the name of its thread by then.
         this.placeOfSample = new Uint32Array(samples.count);
         this.names = new Uint32Array(frames.count).fill(NO_NAME);
         this.running = new Running();
-        this.marks = {
-            frame: new Growing(Uint32Array, 64), time: new Growing(Float64Array, 64), task: new Growing(Uint32Array, 64),
-            cpu: new Growing(Uint32Array, 64), kind: new Growing(Uint8Array, 64),
-        };
+        this.marks = new Table({
+            frame: Uint32Array, time: Float64Array, task: Uint32Array, cpu: Uint32Array, kind: Uint8Array,
+        });
     }
 
     /** Applies the frames in an order. */
@@ -69,9 +62,9 @@ export class History {
 
     #apply(frame) {
         const { frames, tasks } = this;
-        const [task, time] = [frames.task.array[frame], frames.time.array[frame]];
-        if (frames.isRefused.array[frame] === 0 && frames.event.array[frame] >= 0) {
-            this.#applyRecord(frame, frames.type.array[frame], task, time);
+        const [task, time] = [frames.task[frame], frames.time[frame]];
+        if (frames.isRefused[frame] === 0 && frames.event[frame] >= 0) {
+            this.#applyRecord(frame, frames.type[frame], task, time);
         }
         if (task !== NO_TASK) {
             tasks.see(task, time);
@@ -81,7 +74,7 @@ export class History {
 
     #applyRecord(frame, type, task, time) {
         const { frames } = this;
-        const extra = frames.extra.array[frame];
+        const extra = frames.extra[frame];
         switch (type) {
             case SAMPLE:
                 this.#sample(frame, extra, task, time);
@@ -107,25 +100,26 @@ export class History {
                 break;
             case SWITCH:
             case SWITCH_CPU_WIDE:
-                this.#switch(frames.cpu.array[frame], frames.misc.array[frame], task, time);
+                this.#switch(frames.cpu[frame], frames.misc[frame], task, time);
         }
     }
 
     #comm(frame, text, task, time) {
         if (task !== NO_TASK) {
             this.tasks.rename(task, text);
-            this.#mark(frame, time, task, this.frames.misc.array[frame] & BIT_13 ? "exec" : "comm");
+            this.#mark(frame, time, task, this.frames.misc[frame] & BIT_13 ? "exec" : "comm");
         }
     }
 
-    #mark(frame, time, task, kind, cpu = this.frames.cpu.array[frame]) {
+    #mark(frame, time, task, kind, cpu = this.frames.cpu[frame]) {
         if (time > -Infinity) {
             const { marks } = this;
-            marks.frame.push(frame);
-            marks.time.push(time);
-            marks.task.push(task);
-            marks.cpu.push(cpu);
-            marks.kind.push(MARKS.indexOf(kind));
+            const row = marks.addRow();
+            marks.frame[row] = frame;
+            marks.time[row] = time;
+            marks.task[row] = task;
+            marks.cpu[row] = cpu;
+            marks.kind[row] = MARKS.indexOf(kind);
         }
     }
 
@@ -135,9 +129,9 @@ export class History {
         }
         const { tasks } = this;
         tasks.inherit(task, parent);
-        const isMadeUp = (this.frames.misc.array[frame] & BIT_13) !== 0;
+        const isMadeUp = (this.frames.misc[frame] & BIT_13) !== 0;
         if (time > -Infinity) {
-            tasks.start.array[task] = time;
+            tasks.start[task] = time;
         }
         if (!isMadeUp && tasks.pid(task) !== tasks.pid(parent)) {
             this.spaces.fork(tasks.pid(task), tasks.pid(parent));
@@ -148,7 +142,7 @@ export class History {
 
     #exit(frame, task, time) {
         if (task !== NO_TASK && time > -Infinity) {
-            this.tasks.end.array[task] = time;
+            this.tasks.end[task] = time;
             this.running.exit(task, time);
             this.#mark(frame, time, task, "exit");
         }
@@ -159,7 +153,7 @@ export class History {
             return;
         }
         if (misc & BIT_13) {
-            this.running.end(task, cpu, time, this.tasks.first.array[task]);
+            this.running.end(task, cpu, time, this.tasks.first[task]);
         } else {
             this.running.begin(task, cpu, time);
         }
@@ -167,19 +161,19 @@ export class History {
 
     #sample(frame, sample, task, time) {
         const { frames, samples, addresses, tasks } = this;
-        const place = samples.count++;
-        const event = frames.event.array[frame];
+        const place = samples.addRow();
+        const event = frames.event[frame];
         const name = task === NO_TASK ? this.#noName() : tasks.nameOf(task);
         samples.frame[place] = frame;
         samples.time[place] = time;
         samples.task[place] = task;
-        samples.cpu[place] = frames.cpu.array[frame];
+        samples.cpu[place] = frames.cpu[frame];
         samples.event[place] = event;
         samples.name[place] = name;
-        samples.period[place] = addresses.period.array[sample];
+        samples.period[place] = addresses.period[sample];
         const caller = this.tree.child(this.tree.child(0, this.eventNames[event]), name);
         this.placeOfSample[sample] = place;
-        samples.node[place] = this.#leaf(caller, sample, frames.misc.array[frame] & MODE, task);
+        samples.node[place] = this.#leaf(caller, sample, frames.misc[frame] & MODE, task);
     }
 
     #noName() {
@@ -193,8 +187,8 @@ export class History {
         const { addresses } = this;
         const chains = addresses.chains.array;
         const chain = this.#chain;
-        const start = addresses.chainStart.array[sample];
-        const end = start + addresses.chainLength.array[sample];
+        const start = addresses.chainStart[sample];
+        const end = start + addresses.chainLength[sample];
         let [count, mode] = [0, MODES.user];
         for (let at = start; at < end; at++) {
             const address = chains[at];
@@ -204,8 +198,8 @@ export class History {
                 mode = address === KERNEL_FOLLOWS ? MODES.kernel : address === USER_FOLLOWS ? MODES.user : 0;
             }
         }
-        if (count === 0 && addresses.ip.array[sample] >= 0) {
-            chain[count++] = this.#placeOf(space, addresses.ip.array[sample], ownMode);
+        if (count === 0 && addresses.ip[sample] >= 0) {
+            chain[count++] = this.#placeOf(space, addresses.ip[sample], ownMode);
         }
         let node = caller;
         while (count > 0) {

@@ -28,8 +28,8 @@ function countsOf(recording, { column, none }, filter) {
     const { samples, running, marks } = recording;
     const counts = new Map();
     if (["event", "pid", "tid", "comm", "cpu"].every((name) => filter[name] === undefined)) {
-        running[column].numbers.forEach((key) => counts.set(key, 0));
-        marks[column].numbers.forEach((key) => counts.set(key, 0));
+        running.column(column).forEach((key) => counts.set(key, 0));
+        marks.column(column).forEach((key) => counts.set(key, 0));
     }
     for (const place of select(recording, { ...filter, from: undefined, to: undefined })) {
         const key = samples[column][place];
@@ -66,7 +66,7 @@ function putSamples(recording, lanes, kind, filter, view) {
 
 /** Puts the intervals in view; those that are in one column together are one. */
 function putRunning({ running }, lanes, kind, { from, to, width }) {
-    const [begins, ends, keys] = [running.from.numbers, running.to.numbers, running[kind.column].numbers];
+    const [begins, ends, keys] = ["from", "to", kind.column].map((name) => running.column(name));
     for (let place = 0; place < begins.length; place++) {
         const list = begins[place] > to || ends[place] < from ? undefined : lanes.get(keys[place])?.running;
         if (list === undefined) {
@@ -83,14 +83,14 @@ function putRunning({ running }, lanes, kind, { from, to, width }) {
 
 /** What a mark says. */
 function markText({ frames, tasks, texts }, frame, task, kind) {
-    const extra = frames.extra.array[frame];
+    const extra = frames.extra[frame];
     if (kind === "comm" || kind === "exec") {
         return texts.list[extra];
     }
     if (kind !== "fork") {
         return kind;
     }
-    const child = frames.task.array[frame];
+    const child = frames.task[frame];
     const [word, other] = task === child ? ["forked by", extra] : ["forks", child];
     return `${word} ${tasks.pid(other)}/${tasks.tid(other)}`;
 }
@@ -98,20 +98,20 @@ function markText({ frames, tasks, texts }, frame, task, kind) {
 /** Puts the marks in view, at most one of a kind in each column of a lane. */
 function putMarks(recording, lanes, kind, { from, to, width }) {
     const { marks } = recording;
-    const [first, end] = placesWithin(marks.time.numbers, { from, to });
-    const keys = marks[kind.column].numbers;
+    const [first, end] = placesWithin(marks.column("time"), { from, to });
+    const keys = marks[kind.column];
     const last = new Map();
     for (let place = first; place < end; place++) {
         const lane = lanes.get(keys[place]);
-        const mark = MARKS[marks.kind.array[place]];
-        const time = marks.time.array[place];
+        const mark = MARKS[marks.kind[place]];
+        const time = marks.time[place];
         const key = `${keys[place]} ${mark}`;
         const column = Math.floor((time - from) / width);
         if (lane === undefined || lane.marks.length >= MOST_MARKS || last.get(key) === column) {
             continue;
         }
         last.set(key, column);
-        const text = markText(recording, marks.frame.array[place], marks.task.array[place], mark);
+        const text = markText(recording, marks.frame[place], marks.task[place], mark);
         lane.marks.push({ time, kind: mark, text });
     }
 }

@@ -1,8 +1,8 @@
 // What a recording is, at a glance.
 
 /** What the page shows first of a recording. */
-export function overviewOf(recording) {
-    const { name, bytes, input, reading, frames, tasks } = recording;
+export function overviewOf(recording, reading) {
+    const { name, bytes, input, frames, tasks } = recording;
     const events = input.events.map((event, index) => ({
         index, name: event.name, type: event.type, config: `0x${event.config.toString(16)}`, ...reading.sums[index],
     }));
@@ -13,6 +13,6 @@ export function overviewOf(recording) {
         duration: reading.duration, events, header: input.header, records, samples: reading.samples.count,
         lost: reading.lost, frames: frames.count, refused: reading.refused,
         cpus: [...reading.cpus].sort((one, other) => one - other),
-        threads: tasks.isKnown.numbers.reduce((count, isKnown) => count + isKnown, 0), ...reading.has,
+        threads: tasks.column("isKnown").reduce((count, isKnown) => count + isKnown, 0), ...reading.has,
     };
 }

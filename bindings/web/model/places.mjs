@@ -85,14 +85,14 @@ export class PlaceFinder {
         if (mapping < 0) {
             return this.places.unknown;
         }
-        const file = table.file.array[mapping];
-        if (table.keepsAddress.array[mapping]) {
+        const file = table.file[mapping];
+        if (table.keepsAddress[mapping]) {
             return this.places.inFile(file, upper, lower);
         }
-        const down = lower - table.firstLower.array[mapping];
-        const sum = down + table.offsetLower.array[mapping];
+        const down = lower - table.firstLower[mapping];
+        const sum = down + table.offsetLower[mapping];
         const carry = Math.floor(sum / 0x100000000);
-        return this.places.inFile(file, upper - table.firstUpper.array[mapping] + table.offsetUpper.array[mapping] + carry,
+        return this.places.inFile(file, upper - table.firstUpper[mapping] + table.offsetUpper[mapping] + carry,
             sum);
     }
 }

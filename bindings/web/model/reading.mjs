@@ -1,7 +1,7 @@
 // Reads all frames of a recording once, in the order of the file, and keeps of each what the model needs.
 
 import {
-    COMM, EXIT, FORK, FrameColumns, LOST, LOST_SAMPLES, MappingTable, MMAP, MMAP2, NO_CPU, NO_EVENT, NO_TASK, NOTHING,
+    COMM, EXIT, FORK, FrameTable, LOST, LOST_SAMPLES, MappingTable, MMAP, MMAP2, NO_CPU, NO_EVENT, NO_TASK, NOTHING,
     PERF, SAMPLE, SampleAddresses, SWITCH, SWITCH_CPU_WIDE, UNKNOWN_EVENT,
 } from "./frames.mjs";
 import { Texts } from "./growing.mjs";
@@ -29,7 +29,7 @@ export class Reading {
         this.input = input;
         // A guess at how many there are.
         const room = Math.max(64, Math.min(1 << 20, input.bytes.length >> 7));
-        this.frames = new FrameColumns(room);
+        this.frames = new FrameTable(room);
         this.samples = new SampleAddresses(room);
         this.table = new MappingTable();
         this.texts = new Texts();
@@ -65,20 +65,21 @@ export class Reading {
         const fields = isRefused || event < 0 ? undefined : frame.fields;
         const time = this.#timeOf(frame, type, isRefused);
         const cpu = isRefused ? undefined : frame.cpu;
-        frames.at.push(frame.start);
-        frames.size.push(frame.size);
-        frames.type.push(type);
-        frames.misc.push(frame.misc);
-        frames.event.push(event);
-        frames.isRefused.push(isRefused ? 1 : 0);
-        frames.time.push(time);
-        frames.task.push(this.#taskOf(frame, fields, time));
-        frames.cpu.push(cpu ?? NO_CPU);
+        const row = frames.addRow();
+        frames.at[row] = frame.start;
+        frames.size[row] = frame.size;
+        frames.type[row] = type;
+        frames.misc[row] = frame.misc;
+        frames.event[row] = event;
+        frames.isRefused[row] = isRefused ? 1 : 0;
+        frames.time[row] = time;
+        frames.task[row] = this.#taskOf(frame, fields, time);
+        frames.cpu[row] = cpu ?? NO_CPU;
+        frames.extra[row] = isRefused ? this.#refuse(frame, index)
+            : fields === undefined ? NOTHING : this.#detail(frame, fields, type, index, event);
         if (cpu !== undefined && (time > -Infinity || type === SAMPLE)) {
             this.cpus.add(cpu);
         }
-        frames.extra.push(isRefused ? this.#refuse(frame, index)
-            : fields === undefined ? NOTHING : this.#detail(frame, fields, type, index, event));
         const name = isRefused ? "refused" : recordName(type, this.types);
         this.counts.set(name, (this.counts.get(name) ?? 0) + 1);
         if (event >= 0) {
@@ -112,7 +113,7 @@ export class Reading {
         const isTimed = least <= this.most;
         this.start = isTimed ? this.base + BigInt(least) : 0n;
         this.duration = isTimed ? this.most - least : 0;
-        const times = frames.time.numbers;
+        const times = frames.column("time");
         for (let index = 0; isTimed && index < times.length; index++) {
             times[index] -= least;
         }

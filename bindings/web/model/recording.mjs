@@ -32,32 +32,32 @@ export class Recording {
         const reading = new Reading(library, this.input);
         reading.read((done) => note({ done, of, what: "reading the records" }));
         this.#follow(reading, (share) => note({ done: Math.floor(of * share), of, what: "following the call chains" }));
-        this.overview = overviewOf(this);
+        this.overview = overviewOf(this, reading);
     }
 
     /** Applies the records in order of time. */
     #follow(reading, note) {
         const { frames, texts, tasks: all, places, table, start, duration } = reading;
-        const order = orderOf(frames.time.numbers);
+        const order = orderOf(frames.column("time"));
         const eventNames = this.input.events.map((event) => texts.numberOf(nameOf(event.name)));
         const history = new History(reading, eventNames);
         history.run(order, duration, (done) => note(done / Math.max(order.length, 1)));
         const { tree, samples, running, marks, names, placeOfSample } = history;
         Object.assign(this, {
-            reading, events: this.input.events, frames, texts, tasks: all, places, table, start, duration, order, tree,
+            events: this.input.events, frames, texts, tasks: all, places, table, start, duration, order, tree,
             samples, running, marks, names, placeOfSample,
         });
-        this.times = Float64Array.from(order, (index) => frames.time.array[index]);
+        this.times = Float64Array.from(order, (index) => frames.time[index]);
         this.symbols = new Symbols();
         this.shown = new ShownPlaces(places, this.symbols);
     }
 
-    isSample(index) { return this.frames.extra.array[index] >= 0 && this.kindOf(index) === "sample"; }
+    isSample(index) { return this.frames.extra[index] >= 0 && this.kindOf(index) === "sample"; }
 
     /** The name of a frame's record type, or "refused". */
     kindOf(index) {
         const { isRefused, type } = this.frames;
-        return isRefused.array[index] ? "refused" : recordName(type.array[index], this.#library.TYPES);
+        return isRefused[index] ? "refused" : recordName(type[index], this.#library.TYPES);
     }
 
     /** What the thread of a frame was called by then; "" without a thread. */
@@ -68,24 +68,24 @@ export class Recording {
 
     /** The text of the place of a sample, or "". */
     placeOf(index) {
-        const node = this.samples.node[this.placeOfSample[this.frames.extra.array[index]]];
+        const node = this.samples.node[this.placeOfSample[this.frames.extra[index]]];
         return this.tree.depth(node) > NAME_DEPTH ? this.shown.textOf(this.shown.of(this.tree.what(node))) : "";
     }
 
     /** A frame as the library reads it; undefined if no event has it. */
     frameAt(index) {
         const { at, size, event } = this.frames;
-        const [start, number] = [at.array[index], event.array[index]];
+        const [start, number] = [at[index], event[index]];
         if (number < 0) {
             return undefined;
         }
-        const bytes = this.bytes.subarray(0, start + Math.max(size.array[index], HEADER));
+        const bytes = this.bytes.subarray(0, start + Math.max(size[index], HEADER));
         const [frame] = this.#ped.stream(bytes, this.events[number].reading, { start, limit: 1 });
         return frame;
     }
 
     /** Why a frame is refused; "" if it is not. */
-    messageAt(index) { return this.frames.isRefused.array[index] ? this.texts.list[this.frames.extra.array[index]] : ""; }
+    messageAt(index) { return this.frames.isRefused[index] ? this.texts.list[this.frames.extra[index]] : ""; }
 
     /** What a frame's record says in a few words: of a sample its place, of a refused one the reason. */
     summaryAt(index) {
@@ -105,8 +105,8 @@ export class Recording {
         }
         const frame = this.frameAt(index);
         return {
-            index, at: at.array[index], size: size.array[index], name: this.kindOf(index),
-            event: event.array[index] < 0 ? undefined : event.array[index], message: this.messageAt(index),
+            index, at: at[index], size: size[index], name: this.kindOf(index),
+            event: event[index] < 0 ? undefined : event[index], message: this.messageAt(index),
             fields: frame === undefined ? this.#headerFields(index) : fieldsOf(frame),
         };
     }
@@ -114,8 +114,8 @@ export class Recording {
     /** What a frame without an event has: its header and its bytes. */
     #headerFields(index) {
         const { at, size, type, misc } = this.frames;
-        const body = this.bytes.subarray(at.array[index] + HEADER, at.array[index] + size.array[index]);
-        return [["type", String(type.array[index])], ["misc", hexOf(0, misc.array[index])], ["data", hexBytes(body)]];
+        const body = this.bytes.subarray(at[index] + HEADER, at[index] + size[index]);
+        return [["type", String(type[index])], ["misc", hexOf(0, misc[index])], ["data", hexBytes(body)]];
     }
 
     /** A copy of bytes of the file. */
@@ -137,7 +137,7 @@ export class Recording {
         const middle = symbols.addressOf(symbols.count >>> 1);
         for (let mapping = 0; mapping < table.file.length; mapping++) {
             const [first, last] = [table.number("first", mapping), table.number("last", mapping)];
-            if (table.file.array[mapping] === file && !table.keepsAddress.array[mapping] && first <= middle
+            if (table.file[mapping] === file && !table.keepsAddress[mapping] && first <= middle
                 && middle <= last) {
                 return first - table.number("offset", mapping);
             }

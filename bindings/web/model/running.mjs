@@ -1,20 +1,15 @@
 // When threads ran, where switches were recorded.
 
-import { Growing } from "./growing.mjs";
+import { Table } from "./growing.mjs";
 
 /** Intervals in the order of their ends: those of one thread do not overlap, nor do those of one processor. */
-export class Running {
+export class Running extends Table {
     constructor() {
-        this.from = new Growing(Float64Array, 64);
-        this.to = new Growing(Float64Array, 64);
-        this.task = new Growing(Uint32Array, 64);
-        this.cpu = new Growing(Uint32Array, 64);
+        super({ from: Float64Array, to: Float64Array, task: Uint32Array, cpu: Uint32Array });
         this.since = new Map();
         this.onCpu = new Map();
         this.wasSeen = new Set();
     }
-
-    get count() { return this.from.length; }
 
     /** A thread begins to run; what ran on that processor ends, if its own record was lost. */
     begin(task, cpu, time) {
@@ -48,10 +43,11 @@ export class Running {
         if (this.onCpu.get(begin.cpu) === task) {
             this.onCpu.delete(begin.cpu);
         }
-        this.from.push(begin.time);
-        this.to.push(time);
-        this.task.push(task);
-        this.cpu.push(begin.cpu);
+        const row = this.addRow();
+        this.from[row] = begin.time;
+        this.to[row] = time;
+        this.task[row] = task;
+        this.cpu[row] = begin.cpu;
     }
 
     /** Nothing comes after that time. */

@@ -20,14 +20,14 @@ export class Spaces {
     /** A process maps something. */
     map(mapping) {
         const { table } = this;
-        const pid = table.pid.array[mapping];
+        const pid = table.pid[mapping];
         let space = this.#spaces.get(pid);
         if (space === undefined) {
             space = { root: 0, owner: ++this.#owners, state: 0 };
             this.#spaces.set(pid, space);
         }
-        space.root = this.#mappings.insert(space.root, space.owner, table.firstUpper.array[mapping],
-            table.firstLower.array[mapping], table.lastUpper.array[mapping], table.lastLower.array[mapping], mapping);
+        space.root = this.#mappings.insert(space.root, space.owner, table.firstUpper[mapping],
+            table.firstLower[mapping], table.lastUpper[mapping], table.lastLower[mapping], mapping);
         space.state = ++this.#states;
     }
 

@@ -25,9 +25,9 @@ export function tasks(recording, { filter = {} } = {}) {
         const [pid, tid, name] = [all.pid(task), all.tid(task), texts.list[all.nameOf(task)]];
         const isSelected = (filter.pid ?? pid) === pid && (filter.tid ?? tid) === tid
             && (sums.samples[task] > 0 || filter.cpu === undefined && (filter.comm ?? name) === name);
-        if (isSelected && all.isKnown.array[task]) {
+        if (isSelected && all.isKnown[task]) {
             rows.push({
-                pid, tid, name, start: KNOWN(all.start.array[task]), end: KNOWN(all.end.array[task]),
+                pid, tid, name, start: KNOWN(all.start[task]), end: KNOWN(all.end[task]),
                 samples: sums.samples[task], period: sums.period[task], first: KNOWN(first[task]), last: KNOWN(last[task]),
             });
         }
@@ -41,10 +41,10 @@ function selects(recording, filter, kind) {
     const { event, pid, tid, cpu, comm } = filter;
     const hasTask = pid !== undefined || tid !== undefined;
     return (index) => {
-        const task = frames.task.array[index];
+        const task = frames.task[index];
         return (kind === undefined || recording.kindOf(index) === kind)
-            && (event === undefined || frames.event.array[index] === event)
-            && (cpu === undefined || frames.cpu.array[index] === cpu)
+            && (event === undefined || frames.event[index] === event)
+            && (cpu === undefined || frames.cpu[index] === cpu)
             && (!hasTask || task !== NO_TASK && (pid === undefined || all.pid(task) === pid)
                 && (tid === undefined || all.tid(task) === tid))
             && (comm === undefined || recording.nameAt(index) === comm);
@@ -59,11 +59,11 @@ function wordsOf(row, recording) {
 
 function rowOf(recording, index) {
     const { frames, tasks: all } = recording;
-    const [task, cpu, event] = [frames.task.array[index], frames.cpu.array[index], frames.event.array[index]];
+    const [task, cpu, event] = [frames.task[index], frames.cpu[index], frames.event[index]];
     return {
-        index, at: frames.at.array[index], time: UNTIMED(frames.time.array[index]), name: recording.kindOf(index),
+        index, at: frames.at[index], time: UNTIMED(frames.time[index]), name: recording.kindOf(index),
         pid: task === NO_TASK ? undefined : all.pid(task), tid: task === NO_TASK ? undefined : all.tid(task),
-        cpu: cpu === NO_CPU ? undefined : cpu, event: event < 0 ? undefined : event, size: frames.size.array[index],
+        cpu: cpu === NO_CPU ? undefined : cpu, event: event < 0 ? undefined : event, size: frames.size[index],
         summary: recording.summaryAt(index),
     };
 }
@@ -79,7 +79,7 @@ function* inRange(recording, { from, to }, sort) {
     const hasLimit = from !== undefined || to !== undefined;
     const [least, most] = [hasLimit ? Math.max(from ?? 0, 0) : -Infinity, to ?? Infinity];
     for (let index = 0; index < frames.count; index++) {
-        const time = frames.time.array[index];
+        const time = frames.time[index];
         if (time >= least && time <= most) {
             yield index;
         }

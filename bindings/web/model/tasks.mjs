@@ -1,33 +1,28 @@
 // The threads of a recording, each of one process, and what they are called.
 
-import { Growing, Triples } from "./growing.mjs";
+import { Table, Triples } from "./growing.mjs";
 
 const NO_NAME = 0;
 
 /** Threads by their numbers, in the order in which they come first. A thread has a name, which its process gave it. */
-export class Tasks {
+export class Tasks extends Table {
     constructor(texts) {
+        super({
+            name: Uint32Array,
+            // Whether a frame is about the thread; others are only named as parents.
+            isKnown: Uint8Array,
+            start: Float64Array, end: Float64Array, first: Float64Array,
+        });
         this.texts = texts;
         this.ids = new Triples();
-        this.name = new Growing(Uint32Array);
-        // Whether a frame is about the thread; others are only named as parents.
-        this.isKnown = new Growing(Uint8Array);
-        for (const name of ["start", "end", "first"]) {
-            this[name] = new Growing(Float64Array);
-        }
     }
-
-    get count() { return this.ids.count; }
 
     /** The number of a thread. */
     numberOf(pid, tid) {
         const task = this.ids.numberOf(pid, tid, 0);
-        if (task === this.name.length) {
-            this.name.push(NO_NAME);
-            this.isKnown.push(0);
-            for (const name of ["start", "end", "first"]) {
-                this[name].push(NaN);
-            }
+        if (task === this.count) {
+            this.addRow();
+            this.start[task] = this.end[task] = this.first[task] = NaN;
         }
         return task;
     }
@@ -40,16 +35,16 @@ export class Tasks {
     tid(task) { return this.ids.second[task]; }
 
     /** From here on a thread has the name with that number. */
-    rename(task, text) { this.name.array[task] = text + 1; }
+    rename(task, text) { this.name[task] = text + 1; }
 
     /** A new thread has the name of the one that made it. */
     inherit(task, parent) {
-        this.name.array[task] = this.tid(parent) === 0 ? this.nameOf(parent) + 1 : this.name.array[parent];
+        this.name[task] = this.tid(parent) === 0 ? this.nameOf(parent) + 1 : this.name[parent];
     }
 
     /** The number of the name that a thread has now. One without a name is called by its number. */
     nameOf(task) {
-        const name = this.name.array[task];
+        const name = this.name[task];
         if (name !== NO_NAME) {
             return name - 1;
         }
@@ -65,9 +60,9 @@ export class Tasks {
 
     /** A frame is about a thread, at that time or, for -Infinity, at none. Frames come in order of time. */
     see(task, time) {
-        this.isKnown.array[task] = 1;
-        if (time > -Infinity && Number.isNaN(this.first.array[task])) {
-            this.first.array[task] = time;
+        this.isKnown[task] = 1;
+        if (time > -Infinity && Number.isNaN(this.first[task])) {
+            this.first[task] = time;
         }
     }
 }
