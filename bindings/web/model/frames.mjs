@@ -8,11 +8,14 @@ export const LOST = 2;
 export const COMM = 3;
 export const EXIT = 4;
 export const FORK = 7;
+export const READ = 8;
 export const SAMPLE = 9;
 export const MMAP2 = 10;
+export const ITRACE_START = 12;
 export const LOST_SAMPLES = 13;
 export const SWITCH = 14;
 export const SWITCH_CPU_WIDE = 15;
+export const NAMESPACES = 16;
 /** From this type on frames are perf's own. */
 export const PERF = 64;
 

@@ -29,6 +29,14 @@ const CALLS = {
     export: (recording, words) => recording.exportAs(words),
 };
 
+/** What engines say if memory cannot be had. */
+const NO_MEMORY = /allocation failed|array length|string length|out of memory/i;
+
+function messageOf(error) {
+    const message = error instanceof Error ? error.message : String(error);
+    return NO_MEMORY.test(message) ? `out of memory: ${message}` : message;
+}
+
 /** Makes a function that takes the messages of a page. `library` is the library's module, and `post` posts to the page. */
 export function server(library, post) {
     let recording;
@@ -56,7 +64,7 @@ export function server(library, post) {
             const result = await run(call, words);
             post({ id, result }, buffersOf(result));
         } catch (error) {
-            post({ id, error: error instanceof Error ? error.message : String(error) }, []);
+            post({ id, error: messageOf(error) }, []);
         }
     };
 }

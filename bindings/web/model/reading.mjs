@@ -1,8 +1,8 @@
 // Reads all frames of a recording once, in the order of the file, and keeps of each what the model needs.
 
 import {
-    COMM, EXIT, FORK, FrameTable, LOST, LOST_SAMPLES, MappingTable, MMAP, MMAP2, NO_CPU, NO_EVENT, NO_TASK, NOTHING,
-    PERF, SAMPLE, SampleAddresses, SWITCH, SWITCH_CPU_WIDE, UNKNOWN_EVENT,
+    COMM, EXIT, FORK, FrameTable, ITRACE_START, LOST, LOST_SAMPLES, MappingTable, MMAP, MMAP2, NAMESPACES, NO_CPU,
+    NO_EVENT, NO_TASK, NOTHING, PERF, READ, SAMPLE, SampleAddresses, SWITCH, SWITCH_CPU_WIDE, UNKNOWN_EVENT,
 } from "./frames.mjs";
 import { Texts } from "./growing.mjs";
 import { Places } from "./places.mjs";
@@ -19,8 +19,9 @@ const NO_TIME = 0xffffffffffffffffn;
 const OWNER_PERF = 1;
 const OWNER_EVENT = 0;
 const MOST_REFUSED = 1000;
-/** Records whose own fields tell which thread they are about. */
-const ABOUT_TASKS = new Set(["mmap", "mmap2", "comm", "exit", "fork", "read", "itrace_start", "namespaces"]);
+/** Records whose own fields tell which thread they are about, and others of which the fields are needed. */
+const ABOUT_TASKS = new Set([MMAP, MMAP2, COMM, EXIT, FORK, READ, ITRACE_START, NAMESPACES]);
+const WITH_FIELDS = new Set([...ABOUT_TASKS, SAMPLE, LOST, LOST_SAMPLES]);
 const WITHOUT_FILE = /^(?:\/\/anon$|\/dev\/zero|\/anon_hugepage|\[stack|\/SYSV|\[heap\]$)/;
 
 export class Reading {
@@ -62,7 +63,7 @@ export class Reading {
         const { frames } = this;
         const [index, isRefused, type] = [frames.count, frame.refusal !== 0, frame.type];
         const event = this.#eventOf(frame, type);
-        const fields = isRefused || event < 0 ? undefined : frame.fields;
+        const fields = !isRefused && event >= 0 && WITH_FIELDS.has(type) ? frame.fields : undefined;
         const time = this.#timeOf(frame, type, isRefused);
         const cpu = isRefused ? undefined : frame.cpu;
         const row = frames.addRow();
@@ -73,10 +74,10 @@ export class Reading {
         frames.event[row] = event;
         frames.isRefused[row] = isRefused ? 1 : 0;
         frames.time[row] = time;
-        frames.task[row] = this.#taskOf(frame, fields, time);
+        frames.task[row] = isRefused ? NO_TASK : this.#taskOf(frame, fields, type, time);
         frames.cpu[row] = cpu ?? NO_CPU;
         frames.extra[row] = isRefused ? this.#refuse(frame, index)
-            : fields === undefined ? NOTHING : this.#detail(frame, fields, type, index, event);
+            : event < 0 ? NOTHING : this.#detail(frame, fields, type, index, event);
         if (cpu !== undefined && (time > -Infinity || type === SAMPLE)) {
             this.cpus.add(cpu);
         }
@@ -119,13 +120,14 @@ export class Reading {
         }
     }
 
-    #taskOf(frame, fields, time) {
-        if (fields !== undefined && ABOUT_TASKS.has(frame.name)) {
+    #taskOf(frame, fields, type, time) {
+        if (fields !== undefined && ABOUT_TASKS.has(type)) {
             const pid = Number(fields.pid);
             return pid === KERNEL_PID ? NO_TASK : this.tasks.numberOf(pid, Number(fields.tid));
         }
-        const isNamed = fields !== undefined && frame.pid !== undefined && (time > -Infinity || frame.type === SAMPLE);
-        return isNamed ? this.tasks.numberOf(frame.pid, frame.tid) : NO_TASK;
+        // The sample ids of records that perf made have zeros.
+        const { pid } = frame;
+        return pid !== undefined && (time > -Infinity || type === SAMPLE) ? this.tasks.numberOf(pid, frame.tid) : NO_TASK;
     }
 
     /** Keeps what follows from a record, and returns its number. */

@@ -3,7 +3,8 @@
 import { Growing } from "./growing.mjs";
 import { nameOf } from "./text.mjs";
 
-const CODE = /^[tTwWiVu]$/;
+/** Types of symbols of code; U, which is not there, has no address. */
+const CODE = /^[tTwWi]$/;
 /** As far from its begin as code without a size or a next symbol goes. */
 const LONGEST = 0x10000;
 const SUFFIXES = /\.(?:nm|sym|syms|symbols|txt)$/i;
@@ -60,8 +61,9 @@ const HEX = "(?:0x)?([0-9a-fA-F]{1,16})";
 const LINE = new RegExp(`^${HEX}\\s+(?:${HEX}\\s+)?(\\S)\\s+(\\S.*)$`);
 const MAP_LINE = new RegExp(`^${HEX}\\s+${HEX}()\\s+(\\S.*)$`);
 const MAP_FILE = /^perf-\d+\.map$/;
-/** After a name of a module in kallsyms. */
-const MODULE = /\s+\[[^\]]*\]$/;
+/** After a name: its module in kallsyms, or its version. */
+const MODULE = /\t\[[^\]\t]*\]$/;
+const VERSION = /@@?[\w.]+$/;
 
 /** The symbol of a line, or undefined if it has none of code. */
 function symbolOf(line, isMap) {
@@ -72,7 +74,7 @@ function symbolOf(line, isMap) {
     const digits = found[1].padStart(16, "0");
     return {
         upper: Number.parseInt(digits.slice(0, 8), 16), lower: Number.parseInt(digits.slice(8), 16),
-        size: Number.parseInt(found[2] ?? "0", 16), name: nameOf(found[4].trim().replace(MODULE, "")),
+        size: Number.parseInt(found[2] ?? "0", 16), name: nameOf(found[4].replace(MODULE, "").replace(VERSION, "").trim()),
     };
 }
 

@@ -2,7 +2,7 @@
 
 import { orderOf } from "../model/order.mjs";
 import { check, folded, opened, same } from "./harness.mjs";
-import { comm, exit, fileOf, fork, mmap, mmap2, numbersFrom, sample } from "./made.mjs";
+import { comm, exit, fileOf, fork, mmap, mmap2, numbersFrom, sample, writing } from "./made.mjs";
 
 const KERNEL = -128n;
 const USER = -512n;
@@ -165,6 +165,23 @@ export async function followForks() {
     const lines = await folded(model, { filter: { pid: 2000 } });
     same("a process of 2000 forks", lines, [":2000;f1+0x1;f1+0x2;own+0x1 1"]);
     check(`${count} mappings and forks in ${Math.round(took)} ms, at most 5000`, took < 5000);
+}
+
+/** The same records of a machine with the highest byte first. */
+export async function compareOrders() {
+    const texts = [];
+    for (const isLittle of [true, false]) {
+        writing.isLittle = isLittle;
+        const frames = [comm({ pid: 3, name: "name", time: 1 }),
+            mmap2({ pid: 3, time: 2, address: 0x7f0000000000n, length: 0x10000n, offset: 0x2000n, name: "/lib/a" }),
+            sample({ pid: 3, time: 3, chain: [KERNEL, 0x1234n, USER, 0x7f0000000123n], period: 9, event: 1 })];
+        const model = await opened(fileOf(frames, ["first", "second"]));
+        const { order, events, start, duration } = model.overview;
+        texts.push([...events.map((it) => `${it.name} ${it.config} ${it.period}`), start, duration, ...await folded(model)].join("|"));
+        same("the order", order, isLittle ? "little" : "big");
+    }
+    writing.isLittle = true;
+    same("a big-endian machine", texts, new Array(2).fill("first 0x0 0|second 0x1 9|1|2|second;name;a+0x2123;0x1234_[k] 1"));
 }
 
 export async function nameThreads() {

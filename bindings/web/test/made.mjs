@@ -1,11 +1,13 @@
-// Makes recordings: a perf.data file of frames, with the lowest byte first.
+// Makes recordings: a perf.data file of frames.
 
 const encoder = new TextEncoder();
 const HEAD = 104;
 const ATTRIBUTE = 128;
 /** IP, TID, TIME, CALLCHAIN, CPU, PERIOD and IDENTIFIER; IDENTIFIER and sample_id_all are in the flags of all events. */
 const SAMPLE_TYPE = 0x101a7n;
-const SAMPLE_ID_ALL = 1n << 18n;
+const SAMPLE_ID_ALL = 18n;
+/** Whether what is made has the lowest byte first. */
+export const writing = { isLittle: true };
 
 /** Bytes of numbers, each with its width: [8, 1n], [4, 5]; or of a text. */
 export function bytesOf(...parts) {
@@ -17,11 +19,11 @@ export function bytesOf(...parts) {
         if (!Array.isArray(it)) {
             bytes.set(it, at);
         } else if (it[0] === 8) {
-            view.setBigUint64(at, BigInt.asUintN(64, BigInt(it[1])), true);
+            view.setBigUint64(at, BigInt.asUintN(64, BigInt(it[1])), writing.isLittle);
         } else if (it[0] === 4) {
-            view.setUint32(at, it[1], true);
+            view.setUint32(at, it[1], writing.isLittle);
         } else {
-            view.setUint16(at, it[1], true);
+            view.setUint16(at, it[1], writing.isLittle);
         }
         at += lengths[index];
     });
@@ -82,14 +84,16 @@ function descriptions(attributes, names) {
 
 /** A file of frames, whose events have names: the first has the id 100, the next 101 and so on. */
 export function fileOf(frames, names = ["cpu-clock"]) {
+    // A big-endian machine counts the single bits from the highest.
+    const flags = 1n << (writing.isLittle ? SAMPLE_ID_ALL : 63n - SAMPLE_ID_ALL);
     const attributes = names.map((_, config) => joined([bytesOf([4, 1], [4, ATTRIBUTE], [8, config], [8, 1000],
-        [8, SAMPLE_TYPE], [8, 0], [8, SAMPLE_ID_ALL]), new Uint8Array(ATTRIBUTE - 48)]));
+        [8, SAMPLE_TYPE], [8, 0], [8, flags]), new Uint8Array(ATTRIBUTE - 48)]));
     const data = joined(frames);
     const entriesAt = HEAD + 8 * names.length;
     const dataAt = entriesAt + names.length * (ATTRIBUTE + 16);
     const features = descriptions(attributes, names);
     return joined([
-        encoder.encode("PERFILE2"), bytesOf([8, HEAD], [8, ATTRIBUTE + 16], [8, entriesAt], [8, names.length * (ATTRIBUTE + 16)],
+        encoder.encode(writing.isLittle ? "PERFILE2" : "2ELIFREP"), bytesOf([8, HEAD], [8, ATTRIBUTE + 16], [8, entriesAt], [8, names.length * (ATTRIBUTE + 16)],
             [8, dataAt], [8, data.length], [8, 0], [8, 0], [8, 1 << 12], [8, 0], [8, 0], [8, 0]),
         bytesOf(...names.map((_, event) => [8, 100 + event])),
         ...attributes.map((it, event) => joined([it, bytesOf([8, HEAD + 8 * event], [8, 8])])),

@@ -8,7 +8,7 @@ const NM = `                 U malloc@GLIBC_2.2.5
 0000000000001010 t operator new(unsigned long)
 0000000000001010 T alias
 0000000000001020 0000000000000008 T sized(int, char const*)
-0000000000001040 W weak
+0000000000001040 W weak@@LIB_2.2.5
 0000000000002000 D data
 `;
 const KALLSYMS = `ffffffff81000000 T _text
