@@ -47,8 +47,8 @@ class Browser:
 
     def send(self, method, path, words=None):
         data = None if words is None else json.dumps(words).encode()
-        request = urllib.request.Request(f"http://127.0.0.1:{self.port}/{self.session if path != 'session' else ''}{path}",
-                                         data, {"Content-Type": "application/json"}, method=method)
+        place = f"http://127.0.0.1:{self.port}/{self.session}{path}".rstrip("/")
+        request = urllib.request.Request(place, data, {"Content-Type": "application/json"}, method=method)
         try:
             with urllib.request.urlopen(request, timeout=60) as reply:
                 return json.load(reply)["value"]

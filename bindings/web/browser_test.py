@@ -320,7 +320,7 @@ def tables(page):
     data = (EXAMPLES / "events.data").read_bytes()[place:place + 16]
     true(text.split("  ")[1].split() == [f"{byte:02x}" for byte in data[:8]], f"bytes of the frame: {text[:80]}")
     page.browser.press("Escape")
-    same(page.browser.run("return document.querySelector('dialog')"), None, "Escape closes the bytes")
+    page.browser.wait("return !document.querySelector('dialog')")
     page.show("tab=records&order=time")
     page.show("tab=records&order=file&text=" + "ls")
     true(0 < len(page.rows("records")) < len(dump), "words filter records")
@@ -356,7 +356,7 @@ def hostile(page):
     """Files that lie, that are cut, or whose bytes are changed give messages, and the page stays alive."""
     data, stream = [(EXAMPLES / name).read_bytes() for name in ("events.data", "recording.stream")]
     refused = {"empty": b"", "one": b"P", "text": b"no recording\n" * 9, "pipe": b"PERFILE2" + made.pack("Q", 16),
-               "old": b"PERFFILE" + data[8:], **{f"cut{at}": data[:at] for at in (8, 50, 103, 300, 500, 2000, 9000)}}
+               "old": b"PERFFILE" + data[8:], **{f"cut{at}": data[:at] for at in (8, 50, 103, 300, 500, 2000, 7000)}}
     page.start()
     for name, bad in refused.items():
         message = page.open(page.write(f"{name}.data", bad))
@@ -476,7 +476,7 @@ def keys_reach_everything(page):
     page.browser.press("Enter")
     page.browser.wait("return document.querySelector('dialog h3')")
     page.browser.press("Escape")
-    same(page.browser.run("return document.activeElement.id"), "help", "the focus returns")
+    page.browser.wait("return document.activeElement.id === 'help'")
 
 
 def contrast(page):

@@ -11,7 +11,7 @@ import { fileURLToPath } from "node:url";
 
 const HERE = dirname(fileURLToPath(import.meta.url));
 const IMPORT = /^import\s+(\{[^}]*\}|\*\s+as\s+\w+)\s+from\s+"(\.{1,2}\/[^"]+)";$/gm;
-const DECLARED = /^export (?:async function|function|const|class) (\w+)/gm;
+const DECLARED = /^export (?:async function|function\*?|const|class) (\w+|\[[\w, ]*\])/gm;
 const LISTED = /^export (\{[^}]*\});$/gm;
 
 /** Returns the path of a module that another one imports: those of bindings/js are the ones in the folder. */
@@ -26,40 +26,59 @@ function pairsOf(braces) {
     return words.map((word) => word.split(/\s+as\s+/)).map(([first, second]) => [first, second ?? first]);
 }
 
-/** Returns a module as a function that is called at once and returns what the module exports. */
-function wrapped(text, variable, variableOf) {
-    const names = [...text.matchAll(DECLARED)].map((found) => [found[1], found[1]]);
-    names.push(...[...text.matchAll(LISTED)].flatMap((found) => pairsOf(found[1])));
-    const body = text
-        .replace(IMPORT, (_, what, name) => what.startsWith("*")
-            ? `const ${what.split(/\s+/).at(-1)} = ${variableOf(name)};`
-            : `const { ${pairsOf(what).map(([there, here]) => `${there}: ${here}`).join(", ")} } = ${variableOf(name)};`)
-        .replace(LISTED, "")
-        .replace(/^export (?=async|function|const|class)/gm, "");
-    if (/^(import|export)\b/m.test(body)) {
-        throw new Error(`a form of import or export that is not known: ${/^(import|export)\b.*/m.exec(body)[0]}`);
+/** Returns the names that a module exports, as pairs of the name in it and the name outside. */
+function exportsOf(text) {
+    const declared = [...text.matchAll(DECLARED)].flatMap((found) => found[1].match(/\w+/g));
+    return [...declared.map((name) => [name, name]), ...[...text.matchAll(LISTED)].flatMap((found) => pairsOf(found[1]))];
+}
+
+/** Returns an import of a module as a declaration. */
+function declaration(what, { variable, names }, path) {
+    if (what.startsWith("*")) {
+        return `const ${what.split(/\s+/).at(-1)} = ${variable};`;
     }
-    const result = names.map(([here, there]) => `${there}: ${here}`).join(", ");
+    const pairs = pairsOf(what);
+    const absent = pairs.find(([there]) => !names.some(([, name]) => name === there));
+    if (absent) {
+        throw new Error(`${path} exports no ${absent[0]}`);
+    }
+    return `const { ${pairs.map(([there, here]) => there === here ? here : `${there}: ${here}`).join(", ")} } = ${variable};`;
+}
+
+/** Returns a module as a function that is called at once and returns what the module exports. */
+function wrapped(text, { variable, names }, importOf) {
+    const body = text
+        .replace(IMPORT, (_, what, name) => importOf(what, name))
+        .replace(LISTED, "")
+        .replace(/^export (?=async function|function|const|class)/gm, "");
+    const unknown = /^(?:import|export)\b.*/m.exec(body);
+    if (unknown) {
+        throw new Error(`a form of import or export that is not known: ${unknown[0]}`);
+    }
+    const result = names.map(([here, there]) => here === there ? here : `${there}: ${here}`).join(", ");
     return `const ${variable} = (() => {\n${body}\nreturn { ${result} };\n})();\n`;
 }
 
 /** Returns a module and all that it imports, each after those that it imports itself, as one script. */
 function bundle(entry, folder) {
-    const variables = new Map();
+    const modules = new Map();
     const parts = [];
     const add = (path) => {
-        if (variables.has(path)) {
-            if (!variables.get(path)) {
+        if (modules.has(path)) {
+            if (!modules.get(path)) {
                 throw new Error(`${path} imports itself, by others`);
             }
             return;
         }
-        variables.set(path, undefined);
+        modules.set(path, undefined);
         const text = readFileSync(path, "utf8");
         [...text.matchAll(IMPORT)].forEach((found) => add(pathOf(path, found[2], folder)));
-        const variable = `module${parts.length}`;
-        parts.push(wrapped(text, variable, (name) => variables.get(pathOf(path, name, folder))));
-        variables.set(path, variable);
+        const module = { variable: `module${parts.length}`, names: exportsOf(text) };
+        parts.push(wrapped(text, module, (what, name) => {
+            const other = pathOf(path, name, folder);
+            return declaration(what, modules.get(other), other);
+        }));
+        modules.set(path, module);
     };
     add(resolve(HERE, entry));
     return `"use strict";\n${parts.join("")}`;

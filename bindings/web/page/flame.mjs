@@ -35,7 +35,8 @@ export class Flame {
         setOptions(this.#weight.select, [["samples", "Samples"], ["period", "Period"]], "samples");
         this.#search.addEventListener("input", () => this.#shell.change({ search: this.#search.value }));
         this.#search.addEventListener("keydown", (event) => this.#searchKey(event));
-        this.#inverted.addEventListener("change", ({ target }) => shell.change({ inverted: target.checked, box: "" }, true));
+        this.#inverted.addEventListener("change", () =>
+            shell.change({ inverted: this.#inverted.checked, box: "" }, true));
         this.root = element("div", { class: "column" },
             element("div", { class: "tools" }, this.#search, this.#share, element("span", { class: "space" }),
                 this.#out, this.#weight.label, element("label", {}, this.#inverted, "Inverted (callers below)")),
@@ -52,7 +53,10 @@ export class Flame {
     }
 
     #picture() {
-        return { layout: this.#layout, zoomed: this.#zoomed, active: this.#active, found: this.#found?.found };
+        const { state, overview } = this.#shell;
+        const heads = state.inverted ? 0 : overview?.events.length > 1 && state.event === undefined ? 2 : 1;
+        const active = document.activeElement === this.#stage.canvas ? this.#active : -1;
+        return { layout: this.#layout, zoomed: this.#zoomed, active, found: this.#found?.found, heads };
     }
 
     reset() {

@@ -41,11 +41,11 @@ function colourOf(name, colours) {
     return colour;
 }
 
-function lookOf(node, { layout, found, zoomed }, colours) {
+function lookOf(node, { layout, found, zoomed, heads }, colours) {
     if (found) {
         return found[node] ? [colours.found, colours.foundText] : [colours.pale, colours.paleText];
     }
-    if (layout.depth[node] < layout.depth[zoomed] || layout.parent[node] < 0) {
+    if (layout.depth[node] < layout.depth[zoomed] || layout.depth[node] <= heads) {
         return [colours.grey, colours.box.text];
     }
     return [colourOf(layout.nameOf(node), colours), colours.box.text];
@@ -75,7 +75,8 @@ function drawRow(painter, { width, top, colours }, picture, deep) {
     }
 }
 
-/** Draws the rows in sight; `picture` has `layout`, `zoomed`, `active` and, if words are searched, `found`. */
+/** Draws the rows in sight; `picture` has `layout`, `zoomed`, `active`, if words are searched `found`, and `heads`, how many
+ * rows below the root are no frames. */
 export function drawFlame(painter, place, picture) {
     const { width, height, top, colours } = place;
     painter.rect(0, 0, width, height, colours.ground);

@@ -16,7 +16,7 @@ export class Records {
     #asked;
     #time;
     #grid;
-    #details = element("aside", { class: "details", "aria-label": "Frame", tabindex: "0" });
+    #details = element("aside", { class: "details", "aria-label": "Frame", tabindex: "0", hidden: true });
     #search = searchField("Filter by words", "Filter records by words");
     #kind = chooser("Type", (kind) => this.#shell.change({ kind }, true), { id: "kind" });
     #count = element("span", { class: "quiet", role: "status", id: "records-count" });
@@ -62,7 +62,8 @@ export class Records {
         this.#total = 0;
         this.#pages.clear();
         this.#grid.show(0, () => undefined);
-        this.#details.replaceChildren();
+        this.#details.hidden = true;
+        delete this.#details.dataset.frame;
         this.#kind.select.replaceChildren();
     }
 
@@ -150,6 +151,7 @@ export class Records {
         try {
             const frame = await this.#shell.call("frame", { index });
             if (this.#details.dataset.frame === String(index)) {
+                this.#details.hidden = false;
                 this.#details.replaceChildren(...this.#contents(frame));
             }
         } catch (error) {

@@ -11,6 +11,7 @@ export class Tasks {
     #rows = [];
     #shown = [];
     #total = 0;
+    #most = 0;
     #asked;
     #work = new Latest();
     #active;
@@ -43,8 +44,8 @@ export class Tasks {
             { key: "name", title: "Name", width: 150, grow: 2, canSort: true, text: (row) => row.name },
             number("pid", "Process", 80, (row) => String(row.pid)),
             number("tid", "Thread", 80, (row) => String(row.tid)),
-            number("samples", "Samples", 90, (row) => countText(row.samples)),
-            { key: "share", title: "Share", width: 120, grow: 1, fill: (cell, row) => this.#fillShare(cell, row) },
+            number("samples", "Samples", 100, (row) => countText(row.samples)),
+            { key: "share", title: "Share", width: 150, grow: 1, fill: (cell, row) => this.#fillShare(cell, row) },
             number("period", "Period", 120, (row) => countText(row.period)),
             when("first", "First sample"), when("last", "Last sample"), when("start", "Start"), when("end", "End"),
         ];
@@ -53,8 +54,8 @@ export class Tasks {
     #fillShare(cell, row) {
         cell.className = "barred";
         const bar = element("div", {});
-        bar.style.width = `calc((100% - 16px) * ${this.#total ? row.samples / this.#total : 0})`;
-        cell.append(bar, element("span", {}, shareText(row.samples, this.#total)));
+        bar.style.width = `${this.#most ? 100 * row.samples / this.#most : 0}%`;
+        cell.append(element("span", {}, shareText(row.samples, this.#total)), element("div", { class: "share" }, bar));
     }
 
     reset() {
@@ -86,6 +87,7 @@ export class Tasks {
         try {
             this.#rows = await this.#shell.call("tasks", { filter });
             this.#total = this.#rows.reduce((sum, { samples }) => sum + samples, 0);
+            this.#most = this.#rows.reduce((most, { samples }) => Math.max(most, samples), 0);
             this.#arrange();
         } catch (error) {
             this.#asked = undefined;

@@ -1,6 +1,6 @@
 // The timeline: lanes by thread or by processor, which can be zoomed, and a range of time that can be selected.
 
-import { button, element } from "./elements.mjs";
+import { button, chooser, element, setOptions } from "./elements.mjs";
 import { announce, showTip, Stage } from "./stage.mjs";
 import { coloursOf, isDark } from "./colours.mjs";
 import { drawTimeline, GUTTER, LANE, MARKS, STRIP, timeOf, TOP, xOf } from "./timeline_picture.mjs";
@@ -33,11 +33,14 @@ export class Timeline {
     #empty = element("p", { class: "empty", hidden: true });
     #strip = element("div", { class: "strip" });
     #some = element("span", { class: "quiet" });
+    #firsts;
+    #order = chooser("Order", (lanes) => this.#shell.change({ lanes }, true), { id: "lane-order" });
     #choice = ["thread", "cpu"].map((by) => button(by === "thread" ? "Threads" : "Processors",
         () => this.#shell.change({ by }, true), { "data-by": by }));
 
     constructor(shell) {
         this.#shell = shell;
+        setOptions(this.#order.select, [["samples", "Most samples"], ["start", "First sample"], ["number", "Number"]], "samples");
         this.#stage.onsize = () => this.#ask();
         this.root = element("div", { class: "column" }, this.#tools(), this.#empty, this.#stage.root, this.#strip);
         const { canvas } = this.#stage;
@@ -62,7 +65,7 @@ export class Timeline {
                 button("+", () => this.#zoom(0.5), { "aria-label": "Zoom in" }),
                 button("Whole", () => this.#look(this.#all, true)),
                 button("Selection", () => this.#zoomToRange(), { title: "Zoom to the selected range" })),
-            this.#some, element("span", { class: "space" }), this.#legend());
+            this.#order.label, this.#some, element("span", { class: "space" }), this.#legend());
     }
 
     #legend() {
@@ -116,7 +119,8 @@ export class Timeline {
     }
 
     show() {
-        const [why, { by }] = [this.#whyEmpty(), this.#shell.state];
+        const [why, { by, lanes }] = [this.#whyEmpty(), this.#shell.state];
+        this.#order.select.value = lanes;
         this.#empty.textContent = why;
         this.#empty.hidden = !why;
         this.#stage.root.hidden = Boolean(why);
@@ -139,7 +143,7 @@ export class Timeline {
         }
         const filter = filterOf(state, false);
         const whole = JSON.stringify([state.by, filter]);
-        const asked = JSON.stringify([whole, this.#view, columns]);
+        const asked = JSON.stringify([whole, this.#view, columns, state.lanes]);
         if (asked !== this.#asked) {
             this.#asked = asked;
             this.#work.run(() => this.#fetch({ by: state.by, ...this.#view, columns, filter }, whole));
@@ -152,13 +156,15 @@ export class Timeline {
                 this.#wholeAsked = whole;
                 const { lanes } = await this.#shell.call("lanes", { ...words, ...this.#all, columns: 600 });
                 this.#whole = sumOf(lanes);
+                this.#firsts = new Map(lanes.map(({ key, density }) => [key, density.findIndex((count) => count > 0)]));
             }
             const { lanes, total } = await this.#shell.call("lanes", words);
             const some = `${countText(lanes.length)} of ${countText(total)} lanes, those with most samples`;
             this.#some.textContent = total > lanes.length ? some : "";
             const most = Math.max(1, ...lanes.map(({ density }) => mostOf(density)));
+            const active = this.#data.lanes[this.#active]?.key;
             this.#data = { from: words.from, to: words.to, lanes, most };
-            this.#active = Math.max(0, Math.min(this.#active, lanes.length - 1));
+            this.#arrange(active);
             this.#stage.setDepth(TOP + lanes.length * LANE + 8);
             this.#tell();
             this.#stage.redraw();
@@ -166,6 +172,18 @@ export class Timeline {
             this.#asked = undefined;
             this.#shell.complain(error);
         }
+    }
+
+    /** Sorts the lanes, and keeps the active one. */
+    #arrange(active) {
+        const { lanes } = this.#data;
+        const first = ({ key }) => this.#firsts?.get(key) ?? 0;
+        const orders = {
+            samples: () => 0, start: (one, other) => first(one) - first(other),
+            number: (one, other) => (one.pid ?? one.cpu) - (other.pid ?? other.cpu) || one.tid - other.tid,
+        };
+        lanes.sort(orders[this.#shell.state.lanes]);
+        this.#active = Math.max(0, lanes.findIndex(({ key }) => key === active));
     }
 
     #look({ from, to }, isStep = false) {
