@@ -19,7 +19,7 @@ export class FilterBar {
         cpu: this.#number("CPU", "cpu"),
     };
     #range = element("span", { class: "chosen-range", id: "chosen-range", hidden: true });
-    #clear = button("Clear all", () => this.#shell.change(NO_FILTER, true), { id: "clear-filter" });
+    #clear = button("Clear", () => this.#shell.change(NO_FILTER, true), { id: "clear-filter", title: "Clear the filter" });
     #count = element("span", { class: "count", id: "count", role: "status" });
 
     constructor(shell, root) {

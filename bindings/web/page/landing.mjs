@@ -49,6 +49,6 @@ export class Landing {
 
     progress({ done, of, what }) {
         this.#bar.value = of ? done / of : 0;
-        this.#text.textContent = `${what}: ${sizeText(done)} of ${sizeText(of)}`;
+        this.#text.textContent = `${what[0].toUpperCase()}${what.slice(1)}: ${sizeText(done)} of ${sizeText(of)}`;
     }
 }

@@ -26,19 +26,18 @@ function share(part, whole) {
     return { text: element("div", { class: "share", role: "img", "aria-label": shareText(part, whole) }, bar) };
 }
 
-function recordingCard({ name, size, kind, order, isClosed, start, duration, hasTime, cpus, threads }) {
+function recordingCard({ name, size, kind, order, isClosed, start, duration, hasTime, cpus }) {
     const form = kind === "file" ? "file of perf record" : "stream";
     const shape = `${sizeText(size)}, ${form}, ${order} endian`;
     const times = hasTime
         ? [...fact("First time", clockText(start, 0), { id: "first-time" }),
-            ...fact("Last time", clockText(start, duration), { id: "last-time" }),
-            ...fact("Duration", spanText(duration))]
+            ...fact("Last time", clockText(start, duration), { id: "last-time" })]
         : fact("Times", "none: the frames have no time");
     const ended = kind !== "file" ? []
         : fact("Closed", isClosed ? "yes" : "no: the recording was not ended, and is read as far as it goes");
     const processors = cpus.length ? `${cpus.length} (${listText(cpus)})` : "not recorded";
     return card("Recording", false, element("dl", { class: "facts" }, ...fact("File", name), ...fact("Form", shape),
-        ...ended, ...times, ...fact("Processors", processors), ...fact("Threads", countText(threads))));
+        ...ended, ...times, ...fact("Processors", processors)));
 }
 
 /** Numbers in order, as 0-3, 8. */
@@ -76,13 +75,19 @@ function eventsCard({ events, samples }) {
     ])));
 }
 
-function countsCard({ records, frames, samples, lost, refused }) {
+/** What counts most, in a row of figures. */
+function figures({ samples, frames, duration, threads, lost, refused, hasTime }) {
+    const figure = (title, text, id, isBad) =>
+        element("div", { class: isBad ? "is-bad" : undefined }, ...fact(title, text, { id }));
+    return element("dl", { class: "figures" }, figure("Samples", countText(samples), "samples"),
+        figure("Frames", countText(frames), "frames"), figure("Duration", hasTime ? spanText(duration) : "none", "duration"),
+        figure("Threads", countText(threads), "threads"), figure("Lost records", countText(lost), "lost", lost > 0n),
+        figure("Refused frames", countText(refused.count), "refused", refused.count > 0));
+}
+
+function countsCard({ records }) {
     const most = records.reduce((most, { count }) => Math.max(most, count), 0);
-    const sums = element("dl", { class: "facts" }, ...fact("Frames", countText(frames), { id: "frames" }),
-        ...fact("Samples", countText(samples), { id: "samples" }),
-        ...fact("Lost", `${countText(lost)} by the kernel's own count`, { id: "lost" }),
-        ...fact("Refused", plural(refused.count, "frame"), { id: "refused" }));
-    return card("Records", false, sums, table([plain("Type"), numeric("Records"), plain("")],
+    return card("Records", false, table([plain("Type"), numeric("Records"), plain("")],
         records.map(({ name, count }) => [plain(name), numeric(countText(count)), share(count, most)])));
 }
 
@@ -117,7 +122,7 @@ export class Overview {
         const { overview } = this.#shell;
         if (this.#shown !== overview) {
             this.#shown = overview;
-            this.root.replaceChildren(eventsCard(overview), recordingCard(overview), headerCard(overview),
+            this.root.replaceChildren(figures(overview), eventsCard(overview), recordingCard(overview), headerCard(overview),
                 countsCard(overview), refusedCard(this.#shell, overview));
         }
     }

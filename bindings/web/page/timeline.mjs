@@ -121,6 +121,7 @@ export class Timeline {
     show() {
         const [why, { by, lanes }] = [this.#whyEmpty(), this.#shell.state];
         this.#order.select.value = lanes;
+        this.#order.label.hidden = by === "cpu";
         this.#empty.textContent = why;
         this.#empty.hidden = !why;
         this.#stage.root.hidden = Boolean(why);
@@ -169,7 +170,7 @@ export class Timeline {
             this.#tell();
             this.#stage.redraw();
         } catch (error) {
-            this.#asked = undefined;
+            this.#asked = this.#wholeAsked = undefined;
             this.#shell.complain(error);
         }
     }
@@ -180,9 +181,9 @@ export class Timeline {
         const first = ({ key }) => this.#firsts?.get(key) ?? 0;
         const orders = {
             samples: () => 0, start: (one, other) => first(one) - first(other),
-            number: (one, other) => (one.pid ?? one.cpu) - (other.pid ?? other.cpu) || one.tid - other.tid,
+            number: (one, other) => (one.pid ?? one.cpu) - (other.pid ?? other.cpu) || (one.tid ?? 0) - (other.tid ?? 0),
         };
-        lanes.sort(orders[this.#shell.state.lanes]);
+        lanes.sort(orders[this.#shell.state.by === "cpu" ? "number" : this.#shell.state.lanes]);
         this.#active = Math.max(0, lanes.findIndex(({ key }) => key === active));
     }
 

@@ -6,8 +6,8 @@ import { spanText } from "./words.mjs";
 export const GUTTER = 190;
 export const STRIP = 24;
 export const TOP = STRIP + 24;
-export const LANE = 30;
-const BAR = 20;
+export const LANE = 26;
+const BAR = 16;
 
 export const MARKS = {
     exec: { title: "exec", points: [[0, -5], [5, 4], [-5, 4]] },
@@ -38,14 +38,21 @@ function tickText(time, step) {
     return `${Number((time / worth).toFixed(3))} ${unit}`;
 }
 
-function drawRuler(painter, { width, height, colours }, { view }) {
+/** The middle of the selected range in sight, where its length stands on the ruler; undefined if it is not in sight. */
+function middleOf(range, view, width) {
+    const [left, right] = range ? [xOf(range.from, view, width), xOf(range.to, view, width)] : [0, 0];
+    return right < GUTTER || left > width ? undefined : (Math.max(GUTTER, left) + Math.min(width, right)) / 2;
+}
+
+function drawRuler(painter, { width, height, colours }, { view, range }) {
+    const middle = middleOf(range, view, width) ?? -1000;
     const step = stepOf((view.to - view.from) * 110 / Math.max(1, width - GUTTER));
     painter.rect(0, STRIP, width, TOP - STRIP, colours.ground);
     for (let time = Math.ceil(view.from / step) * step; time <= view.to; time += step) {
         const x = Math.round(xOf(time, view, width));
         painter.rect(x, TOP - 6, 1, 6, colours.quiet);
         painter.rect(x, TOP, 1, height - TOP, colours.line);
-        if (x + 60 < width) {
+        if (x + 60 < width && Math.abs(x + 25 - middle) > 66) {
             painter.text(x + 4, TOP - 8, tickText(time, step), colours.quiet);
         }
     }
@@ -102,7 +109,7 @@ function drawLane(painter, place, picture, lane, y) {
     const { colours, width } = place;
     const { view, data } = picture;
     drawBars(painter, lane.density, data.most, { left: GUTTER, width }, {
-        from: xOf(data.from, view, width), to: xOf(data.to, view, width), y: y + 3, high: BAR, colour: colours.density,
+        from: xOf(data.from, view, width), to: xOf(data.to, view, width), y: y + 2, high: BAR, colour: colours.density,
     });
     drawRunning(painter, lane.running, place, view, y + LANE - 6, colours.running);
     for (const mark of lane.marks) {
@@ -117,9 +124,9 @@ function drawLabel(painter, { colours }, lane, y, isActive) {
     painter.rect(0, y, GUTTER - 1, LANE, isActive ? colours.chosen : colours.ground);
     const weight = isActive ? "bold" : "normal";
     const number = lane.tid === undefined ? "" : String(lane.tid);
-    painter.text(GUTTER - 8, y + 19, number, colours.quiet, { align: "end" });
+    painter.text(GUTTER - 8, y + 17, number, colours.quiet, { align: "end" });
     const name = fitText(lane.label, GUTTER - 28 - number.length * 7, 12, weight);
-    painter.text(10, y + 19, name, colours.text, { size: 12, weight });
+    painter.text(10, y + 17, name, colours.text, { size: 12, weight });
 }
 
 function drawRange(painter, { width, height, colours }, { view, range }) {
@@ -134,11 +141,8 @@ function drawRange(painter, { width, height, colours }, { view, range }) {
     painter.rect(start, TOP, Math.max(1, end - start), height - TOP, colours.shade);
     const edges = [[left, start], [right, end]].filter(([edge, at]) => edge === at);
     edges.forEach(([edge]) => painter.rect(edge - 0.5, STRIP, 1, height - STRIP, colours.accent));
-    const text = fitText(spanText(range.to - range.from), end - start, 11, "bold");
-    if (text) {
-        painter.rect((start + end) / 2 - 34, STRIP + 2, 68, 17, colours.ground);
-        painter.text((start + end) / 2, STRIP + 15, text, colours.accent, { align: "center", weight: "bold" });
-    }
+    const style = { align: "center", weight: "bold" };
+    painter.text(middleOf(range, view, width), STRIP + 15, spanText(range.to - range.from), colours.accent, style);
 }
 
 /** Draws the lanes that are in sight; `picture` has `view`, `data`, `whole`, `length`, `range` and `active`. */
