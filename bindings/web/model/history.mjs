@@ -149,13 +149,14 @@ export class History {
     }
 
     #switch(cpu, misc, task, time) {
-        if (task === NO_TASK || time === -Infinity || this.tasks.tid(task) === 0) {
+        if (task === NO_TASK || time === -Infinity) {
             return;
         }
-        if (misc & BIT_13) {
+        const isIdle = this.tasks.tid(task) === 0;
+        if ((misc & BIT_13) === 0) {
+            isIdle ? this.running.idle(cpu, time) : this.running.begin(task, cpu, time);
+        } else if (!isIdle) {
             this.running.end(task, cpu, time, this.tasks.first[task]);
-        } else {
-            this.running.begin(task, cpu, time);
         }
     }
 

@@ -1,5 +1,6 @@
 // When threads ran, where switches were recorded.
 
+import { NO_CPU } from "./frames.mjs";
 import { Table } from "./growing.mjs";
 
 /** Intervals in the order of their ends: those of one thread do not overlap, nor do those of one processor. */
@@ -11,14 +12,23 @@ export class Running extends Table {
         this.wasSeen = new Set();
     }
 
-    /** A thread begins to run; what ran on that processor ends, if its own record was lost. */
+    /** Nothing runs on a processor any more: what did ends, if its own record was lost. */
+    idle(cpu, time) {
+        const task = this.onCpu.get(cpu);
+        if (task !== undefined) {
+            this.#close(task, time);
+        }
+    }
+
+    /** A thread begins to run. */
     begin(task, cpu, time) {
-        const other = this.onCpu.get(cpu);
-        if (other !== undefined && other !== task) {
-            this.#close(other, time);
+        if (this.onCpu.get(cpu) !== task) {
+            this.idle(cpu, time);
         }
         this.since.set(task, { time, cpu });
-        this.onCpu.set(cpu, task);
+        if (cpu !== NO_CPU) {
+            this.onCpu.set(cpu, task);
+        }
         this.wasSeen.add(task);
     }
 

@@ -1,8 +1,8 @@
 // Compares places and names with a search through all records back in time, and large histories with their limits.
 
 import { orderOf } from "../model/order.mjs";
-import { check, folded, opened, same } from "./harness.mjs";
-import { comm, exit, fileOf, fork, mmap, mmap2, numbersFrom, sample, writing } from "./made.mjs";
+import { check, folded, messageOf, opened, same } from "./harness.mjs";
+import { comm, exit, fileOf, fork, lost, mmap, mmap2, numbersFrom, sample, switched, writing } from "./made.mjs";
 
 const KERNEL = -128n;
 const USER = -512n;
@@ -199,6 +199,66 @@ export async function nameThreads() {
     same("a filter by a name that is nobody's", (await model.call("flame", { filter: { comm: "nobody" } })).samples, 0);
     same("a range", (await model.call("flame", { filter: { from: 2, to: 4 } })).samples, 4);
     same("from the first time on", (await model.call("flame", { filter: { from: 6 } })).samples, 2);
+}
+
+/** Switches of which records are absent. */
+export async function followSwitches() {
+    const out = 0x2000;
+    const frames = [
+        switched({ pid: 1, time: 100, misc: out }), switched({ pid: 2, time: 110 }), // 1 ran before
+        switched({ pid: 3, time: 150 }), switched({ pid: 2, time: 160, cpu: 1 }), // 2 stopped when 3 began
+        switched({ pid: 0, tid: 0, time: 170 }), // so did 3
+        switched({ pid: 3, time: 180, misc: out }), switched({ pid: 3, time: 190, misc: out }),
+        exit({ pid: 2, time: 200, cpu: 1 }), lost({ pid: 4, time: 210, lost: 5, cpu: 2 }), switched({ pid: 4, time: 220, cpu: 2 }),
+        comm({ pid: 1, name: "last", time: 400, cpu: 3 }),
+    ];
+    const model = await opened(fileOf([comm({ pid: 1, name: "one", time: 90, misc: out }), ...frames]));
+    const words = { from: 0, to: 310, columns: 100000, filter: {} };
+    const { lanes } = await model.call("lanes", { by: "thread", ...words });
+    same("when threads ran", lanes.map((it) => `${it.tid}: ${[...it.running]}`).sort(),
+        ["1: 0,10", "2: 20,60,70,110", "3: 60,80", "4: 130,310"]);
+    const cpus = await model.call("lanes", { by: "cpu", ...words });
+    same("when processors ran", cpus.lanes.map((it) => `${it.cpu}: ${[...it.running]}`).sort(),
+        ["0: 0,10,20,80", "1: 70,110", "2: 130,310", "3: "]);
+    same("intervals that are near", [...(await model.call("lanes", { by: "cpu", ...words, columns: 2 })).lanes[0].running], [0, 80]);
+    const marks = lanes.flatMap((it) => it.marks.map(({ time, kind, text }) => `${it.tid} ${time} ${kind} ${text}`)).sort();
+    same("marks", marks, ["1 0 exec one", "1 310 comm last", "2 110 exit exit", "4 120 lost lost"]);
+    same("how many are lost", [model.overview.lost, model.overview.hasSwitches, model.overview.cpus.join()], [5n, true, "0,1,2,3"]);
+}
+
+/** Without processors threads may run at the same time. */
+export async function followWithoutProcessors() {
+    writing.hasCpu = false;
+    const frames = [[1, 100, 0], [2, 110, 0], [1, 150, 0x2000], [2, 160, 0x2000]].map(([pid, time, misc]) => switched({ pid, time, misc }));
+    const model = await opened(fileOf(frames));
+    writing.hasCpu = true;
+    const { lanes } = await model.call("lanes", { by: "thread", from: 0, to: 100, columns: 1000, filter: {} });
+    same("threads without processors", lanes.map((it) => `${it.tid}: ${[...it.running]}`), ["1: 0,50", "2: 10,60"]);
+    same("no lanes by processor", (await model.call("lanes", { by: "cpu", from: 0, to: 100, columns: 10, filter: {} })).lanes.length, 0);
+    same("no processors", [model.overview.hasCpu, model.overview.cpus.length], [false, 0]);
+}
+
+/** Lines of samples in CSV, and filters by a processor and a thread. */
+export async function selectSamples() {
+    const frames = [
+        mmap2({ pid: 1, time: 0, address: 0n, length: 0x1000n, name: '/a,"b"' }), comm({ pid: 1, tid: 2, name: "-x", time: 1 }),
+        sample({ pid: 1, tid: 2, time: 1000000007, cpu: 3, ip: 0x10n, period: 5 }), sample({ pid: 1, tid: 1, time: 1000000009, cpu: 2, ip: 0x20n }),
+        sample({ pid: 4, tid: 2, time: 2000000001, cpu: 3, ip: 1n, event: 1 }),
+    ];
+    const model = await opened(fileOf(frames, ["first", "second"]));
+    const head = "index,time,event,name,pid,tid,cpu,period,place";
+    const lines = [`2,1.000000007,first,"'-x",1,2,3,5,"a,""b""+0x10"`, `3,1.000000009,first,:1,1,1,2,1,"a,""b""+0x20"`,
+        "4,2.000000001,second,:2,4,2,3,1,[unknown]"];
+    for (const [filter, places] of [[{}, [0, 1, 2]], [{ cpu: 3 }, [0, 2]], [{ tid: 2 }, [0, 2]], [{ pid: 1 }, [0, 1]], [{ pid: 1, tid: 2 }, [0]],
+        [{ event: 1 }, [2]], [{ from: 1000000007, cpu: 3 }, [2]], [{ to: 1000000008 }, [0, 1]], [{ comm: "-x" }, [0]], [{ pid: 9 }, []]]) {
+        const text = await model.call("export", { kind: "csv", filter });
+        same(`samples of ${JSON.stringify(filter)}`, text.trimEnd().split("\r\n"), [head, ...places.map((place) => lines[place])]);
+        const { rows, total } = await model.call("records", { filter, kind: "sample", sort: "time" });
+        same(`rows of ${JSON.stringify(filter)}`, [total, ...rows.map((it) => it.index)], [places.length, ...places.map((place) => place + 2)]);
+        const tasks = await model.call("tasks", { filter });
+        same(`tasks of ${JSON.stringify(filter)}`, tasks.reduce((sum, it) => sum + it.samples, 0), places.length);
+    }
+    same("another export", await messageOf(model.call("export", { kind: "html", filter: {} })), "samples are exported as folded or as csv");
 }
 
 export async function weighEvents() {

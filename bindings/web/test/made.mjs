@@ -3,11 +3,12 @@
 const encoder = new TextEncoder();
 const HEAD = 104;
 const ATTRIBUTE = 128;
-/** IP, TID, TIME, CALLCHAIN, CPU, PERIOD and IDENTIFIER; IDENTIFIER and sample_id_all are in the flags of all events. */
-const SAMPLE_TYPE = 0x101a7n;
+/** IP, TID, TIME, CALLCHAIN, PERIOD and IDENTIFIER; CPU too, if it is written. */
+const SAMPLE_TYPE = 0x10127n;
+const CPU = 0x80n;
 const SAMPLE_ID_ALL = 18n;
-/** Whether what is made has the lowest byte first. */
-export const writing = { isLittle: true };
+/** Whether what is made has the lowest byte first, and the processor of each record. */
+export const writing = { isLittle: true, hasCpu: true };
 
 /** Bytes of numbers, each with its width: [8, 1n], [4, 5]; or of a text. */
 export function bytesOf(...parts) {
@@ -51,7 +52,7 @@ function padded(name) {
 }
 
 const id = ({ pid = 0, tid = pid, time = 0, cpu = 0, event = 0 }) =>
-    bytesOf([4, pid], [4, tid], [8, time], [4, cpu], [4, 0], [8, 100 + event]);
+    bytesOf([4, pid], [4, tid], [8, time], ...writing.hasCpu ? [[4, cpu], [4, 0]] : [], [8, 100 + event]);
 
 export const comm = (it) => frame(3, it.misc ?? 0, joined([bytesOf([4, it.pid], [4, it.tid ?? it.pid]), padded(it.name), id(it)]));
 
@@ -70,15 +71,18 @@ export const mmap = (it) => frame(1, it.misc ?? 2, joined([
 
 export const lost = (it) => frame(2, 0, joined([bytesOf([8, 100], [8, it.lost]), id(it)]));
 
+/** Of a SWITCH 0x2000 in `misc` is out. */
+export const switched = (it) => frame(14, it.misc ?? 0, id(it));
+
 export const sample = (it) => frame(9, it.misc ?? 2, bytesOf([8, 100 + (it.event ?? 0)], [8, it.ip ?? 0], [4, it.pid],
-    [4, it.tid ?? it.pid], [8, it.time], [4, it.cpu ?? 0], [4, 0], [8, it.period ?? 1], [8, it.chain?.length ?? 0],
+    [4, it.tid ?? it.pid], [8, it.time], ...writing.hasCpu ? [[4, it.cpu ?? 0], [4, 0]] : [], [8, it.period ?? 1], [8, it.chain?.length ?? 0],
     ...(it.chain ?? []).map((address) => [8, address])));
 
-/** The feature that names events. */
+/** The feature that names events, of a perf whose attributes are longer than those of the file. */
 function descriptions(attributes, names) {
-    return joined([bytesOf([4, names.length], [4, ATTRIBUTE]), ...names.map((name, event) => {
+    return joined([bytesOf([4, names.length], [4, ATTRIBUTE + 8]), ...names.map((name, event) => {
         const text = encoder.encode(`${name}\0`);
-        return joined([attributes[event], bytesOf([4, 1], [4, text.length]), text, bytesOf([8, 100 + event])]);
+        return joined([attributes[event], bytesOf([8, 0], [4, 1], [4, text.length]), text, bytesOf([8, 100 + event])]);
     })]);
 }
 
@@ -87,7 +91,7 @@ export function fileOf(frames, names = ["cpu-clock"]) {
     // A big-endian machine counts the single bits from the highest.
     const flags = 1n << (writing.isLittle ? SAMPLE_ID_ALL : 63n - SAMPLE_ID_ALL);
     const attributes = names.map((_, config) => joined([bytesOf([4, 1], [4, ATTRIBUTE], [8, config], [8, 1000],
-        [8, SAMPLE_TYPE], [8, 0], [8, flags]), new Uint8Array(ATTRIBUTE - 48)]));
+        [8, SAMPLE_TYPE | (writing.hasCpu ? CPU : 0n)], [8, 0], [8, flags]), new Uint8Array(ATTRIBUTE - 48)]));
     const data = joined(frames);
     const entriesAt = HEAD + 8 * names.length;
     const dataAt = entriesAt + names.length * (ATTRIBUTE + 16);
