@@ -1,7 +1,7 @@
 // What perf calls the kernel's own events.
 
-const HARDWARE = ["cycles", "instructions", "cache-references", "cache-misses", "branches", "branch-misses", "bus-cycles",
-    "stalled-cycles-frontend", "stalled-cycles-backend", "ref-cycles"];
+const HARDWARE = ["cycles", "instructions", "cache-references", "cache-misses", "branches", "branch-misses",
+    "bus-cycles", "stalled-cycles-frontend", "stalled-cycles-backend", "ref-cycles"];
 const SOFTWARE = ["cpu-clock", "task-clock", "page-faults", "context-switches", "cpu-migrations", "minor-faults",
     "major-faults", "alignment-faults", "emulation-faults", "dummy", "bpf-output", "cgroup-switches"];
 const CACHES = ["L1-dcache", "L1-icache", "LLC", "dTLB", "iTLB", "branch", "node"];
@@ -20,6 +20,7 @@ function cacheName(config) {
 /** The name of an event by its type and its config, a BigInt. */
 export function kernelName(type, config) {
     const index = config < 0x10000n ? Number(config) : -1;
-    const name = type === 0 ? HARDWARE[index] : type === 1 ? SOFTWARE[index] : type === 3 ? cacheName(config) : undefined;
+    const name = type === 0 ? HARDWARE[index] : type === 1 ? SOFTWARE[index] : type === 3 ? cacheName(config)
+        : undefined;
     return name ?? `type ${type} config 0x${config.toString(16)}`;
 }

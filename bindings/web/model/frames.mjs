@@ -37,8 +37,8 @@ export class FrameTable extends Table {
             // Nanoseconds after the first time, -Infinity without one.
             time: Float64Array,
             task: Uint32Array, cpu: Uint32Array,
-            // Of a sample or a mapping its number, of a COMM that of its text, of a FORK or EXIT the parent, of a refused
-            // frame that of the text of its reason.
+            // Of a sample or a mapping its number, of a COMM that of its text, of a FORK or EXIT the parent, of a
+            // refused frame that of the text of its reason.
             extra: Int32Array,
         }, room);
     }
@@ -52,12 +52,13 @@ export const OTHERS_FOLLOW = 0xfffffffd;
 const LEAST_MARK = 0xfffff001;
 const MARKS = new Map([[0xffffff80, KERNEL_FOLLOWS], [0xfffffe00, USER_FOLLOWS]]);
 
-/** Of each sample, in the order of the file, its period and its addresses: its own, by its number or -1, and those of its
- * call chain. */
+/** Of each sample, in the order of the file, its period and its addresses: its own, by its number or -1, and those of
+ * its call chain. */
 export class SampleAddresses extends Table {
     constructor(room) {
         super({
-            frame: Uint32Array, period: Float64Array, ip: Int32Array, chainStart: Float64Array, chainLength: Uint16Array,
+            frame: Uint32Array, period: Float64Array, ip: Int32Array, chainStart: Float64Array,
+            chainLength: Uint16Array,
         }, room);
         // Numbers of addresses, and marks.
         this.chains = new Growing(Uint32Array, 16 * room);

@@ -56,7 +56,7 @@ function openStream(library, ped, bytes, orders) {
     };
 }
 
-/** Opens bytes of a kind: "auto", "little attr" or "big attr". Throws what the library says of bytes that are neither. */
+/** Opens bytes of a kind: "auto", "little attr" or "big attr". What is neither has the library's message. */
 export function openInput(library, ped, bytes, kind = "auto") {
     if (kind === "little attr" || kind === "big attr") {
         return openStream(library, ped, bytes, [kind === "big attr" ? library.BIG : library.LITTLE]);

@@ -117,7 +117,8 @@ function putMarks(recording, lanes, kind, { from, to, width }) {
 }
 
 /** The lanes of a range of time. */
-export function lanes(recording, { by = "thread", from = 0, to = recording.duration, columns = 1000, filter = {}, limit }) {
+export function lanes(recording, { by = "thread", from = 0, to = recording.duration, columns = 1000, filter = {},
+    limit }) {
     const kind = KINDS[by];
     if (kind === undefined) {
         throw new RangeError("lanes are by thread or by cpu");

@@ -1,6 +1,6 @@
-// Which mapping contains an address: the newest one, for each of many address spaces, of which one may begin as the copy
-// of another. An address space is the root of a tree whose nodes are shared until one of its owners changes them, so a
-// copy costs nothing, and a mapping a few nodes.
+// Which mapping contains an address: the newest one, for each of many address spaces, of which one may begin as the
+// copy of another. An address space is the root of a tree whose nodes are shared until one of its owners changes them,
+// so a copy costs nothing, and a mapping a few nodes.
 
 import { Growing } from "./growing.mjs";
 

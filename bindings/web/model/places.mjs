@@ -26,7 +26,8 @@ export class Places {
         if (kind === UNKNOWN) {
             return "[unknown]";
         }
-        return kind === KERNEL ? `${hexOf(upper, lower)}_[k]` : `${this.files.list[kind - FILES]}+${hexOf(upper, lower)}`;
+        return kind === KERNEL ? `${hexOf(upper, lower)}_[k]`
+            : `${this.files.list[kind - FILES]}+${hexOf(upper, lower)}`;
     }
 
     /** The name of a place by tables of symbols, or undefined. */

@@ -37,7 +37,7 @@ function messageOf(error) {
     return NO_MEMORY.test(message) ? `out of memory: ${message}` : message;
 }
 
-/** Makes a function that takes the messages of a page. `library` is the library's module, and `post` posts to the page. */
+/** Makes a function that takes the messages of a page. `library` is the library's module; `post` posts to the page. */
 export function server(library, post) {
     let recording;
     const open = async ({ name, bytes, kind }) => {

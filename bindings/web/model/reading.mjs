@@ -127,7 +127,8 @@ export class Reading {
         }
         // The sample ids of records that perf made have zeros.
         const { pid } = frame;
-        return pid !== undefined && (time > -Infinity || type === SAMPLE) ? this.tasks.numberOf(pid, frame.tid) : NO_TASK;
+        return pid !== undefined && (time > -Infinity || type === SAMPLE) ? this.tasks.numberOf(pid, frame.tid)
+            : NO_TASK;
     }
 
     /** Keeps what follows from a record, and returns its number. */

@@ -130,7 +130,7 @@ export class Recording {
         return { count };
     }
 
-    /** How far offsets in a file are below its addresses: in a program that is always at one place, as its mapping says. */
+    /** How far offsets in a file are below its addresses: in a program that is always at one place, by its mapping. */
     #biasOf(name, symbols) {
         const file = this.places.files.numbers.get(name);
         const { table } = this;

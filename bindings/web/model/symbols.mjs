@@ -49,7 +49,8 @@ export class SymbolTable {
     /** The first of the symbols at one address. */
     #firstOf(place) {
         let found = place;
-        while (found > 0 && this.upper[found - 1] === this.upper[found] && this.lower[found - 1] === this.lower[found]) {
+        while (found > 0 && this.upper[found - 1] === this.upper[found]
+            && this.lower[found - 1] === this.lower[found]) {
             found -= 1;
         }
         return found;
@@ -74,7 +75,8 @@ function symbolOf(line, isMap) {
     const digits = found[1].padStart(16, "0");
     return {
         upper: Number.parseInt(digits.slice(0, 8), 16), lower: Number.parseInt(digits.slice(8), 16),
-        size: Number.parseInt(found[2] ?? "0", 16), name: nameOf(found[4].replace(MODULE, "").replace(VERSION, "").trim()),
+        size: Number.parseInt(found[2] ?? "0", 16),
+        name: nameOf(found[4].replace(MODULE, "").replace(VERSION, "").trim()),
     };
 }
 

@@ -28,7 +28,8 @@ export function tasks(recording, { filter = {} } = {}) {
         if (isSelected && all.isKnown[task]) {
             rows.push({
                 pid, tid, name, start: KNOWN(all.start[task]), end: KNOWN(all.end[task]),
-                samples: sums.samples[task], period: sums.period[task], first: KNOWN(first[task]), last: KNOWN(last[task]),
+                samples: sums.samples[task], period: sums.period[task], first: KNOWN(first[task]),
+                last: KNOWN(last[task]),
             });
         }
     }
@@ -54,7 +55,8 @@ function selects(recording, filter, kind) {
 /** The words of a row that a search looks at. */
 function wordsOf(row, recording) {
     const event = recording.events[row.event]?.name ?? "";
-    return `${row.name} ${event} ${row.pid ?? ""}/${row.tid ?? ""} ${recording.nameAt(row.index)} ${row.summary}`.toLowerCase();
+    const task = `${row.pid ?? ""}/${row.tid ?? ""} ${recording.nameAt(row.index)}`;
+    return `${row.name} ${event} ${task} ${row.summary}`.toLowerCase();
 }
 
 function rowOf(recording, index) {

@@ -23,8 +23,8 @@ function frameOfLine(line) {
 const HEADER = {
     hostname: "vm", osRelease: "6.18.44-fc-v595", perfVersion: "6.1.187", architecture: "x86_64",
     processor: "Intel(R) Xeon(R) Processor", processors: "4 of 4 online", memory: "24683672 kB",
-    commandLine: `/usr/bin/perf record -q -B -o events.data -e task-clock/period=2000000/ -e page-faults/period=7,call-graph=fp/ \
--e context-switches/period=1/ --namespaces -- sh -c ls / >/dev/null
+    commandLine: `/usr/bin/perf record -q -B -o events.data -e task-clock/period=2000000/ \
+-e page-faults/period=7,call-graph=fp/ -e context-switches/period=1/ --namespaces -- sh -c ls / >/dev/null
         date > /dev/null
         sleep 0.01 & wait`,
 };
@@ -33,7 +33,8 @@ export async function compareEvents() {
     const { overview } = await opened(bytesIn("examples/events.data"));
     const frames = linesIn("examples/events.time").map(frameOfLine);
     const samples = frames.filter(({ name }) => name === "Sample");
-    same("events", overview.events.map(({ index, name, type, config }) => `${index} ${name} type=${type} config=${config}`),
+    same("events", overview.events.map(({ index, name, type,
+        config }) => `${index} ${name} type=${type} config=${config}`),
         linesIn("examples/events.events").map((line) => line.replace(/ sample_type=.*/, "")));
     same("samples of each event", overview.events.map((it) => it.samples),
         [0, 1, 2].map((event) => samples.filter((it) => it.event === String(event)).length));
@@ -41,11 +42,13 @@ export async function compareEvents() {
     same("periods of each event", overview.events.map((it) => it.period), [0n, 7n * 40n, 1n * 8n]);
     same("header", Object.entries(overview.header).flat(), Object.entries(HEADER).flat());
     // The times of the first COMM and the last EXIT that `perf script --show-task-events` printed.
-    same("first and last time", [overview.start, overview.start + BigInt(overview.duration)], [1759690213285n, 1759735887329n]);
+    same("first and last time", [overview.start, overview.start + BigInt(overview.duration)],
+        [1759690213285n, 1759735887329n]);
     const times = samples.map((it) => BigInt(it.time));
     check("samples are within the time", times.every((time) => time >= overview.start
         && time <= overview.start + BigInt(overview.duration)));
-    same("counts", [overview.frames, overview.samples, overview.refused.count, overview.threads, overview.kind, overview.order,
+    same("counts", [overview.frames, overview.samples, overview.refused.count, overview.threads, overview.kind,
+        overview.order,
         overview.isClosed, overview.hasTime, overview.hasCpu, overview.hasChains, overview.hasSwitches],
         [90, 48, 0, 4, "file", "little", true, true, false, true, false]);
 }
@@ -55,7 +58,8 @@ const STATS = { recording: "examples/recording.stats.txt", samples: "examples/sa
 export async function compareStreams() {
     for (const [name, path] of Object.entries(STATS)) {
         const { overview } = await opened(bytesIn(`examples/${name}.stream`));
-        const expected = linesIn(path).map((line) => /^ +([A-Z0-9_]+) events: +(\d+)/.exec(line)).filter((it) => it !== null)
+        const expected = linesIn(path).map((line) => /^ +([A-Z0-9_]+) events: +(\d+)/.exec(line))
+            .filter((it) => it !== null)
             .map(([, kind, count]) => `${kind} ${count}`);
         const [total, ...kinds] = [...new Set(expected)];
         same(`counts of ${name}.stream`, overview.records.map((it) => `${it.name.toUpperCase()} ${it.count}`).sort(),
@@ -64,10 +68,12 @@ export async function compareStreams() {
     }
     const { overview } = await opened(bytesIn("examples/samples.stream"));
     const lines = linesIn("examples/samples.expected").map((line) => line.split(" "));
-    same("periods of samples.stream", overview.events[0].period, lines.reduce((sum, line) => sum + BigInt(line[3]), 0n));
+    same("periods of samples.stream", overview.events[0].period,
+        lines.reduce((sum, line) => sum + BigInt(line[3]), 0n));
     same("the event of samples.stream", [overview.events[0].name, overview.kind, overview.cpus.join()],
         ["page-faults", "stream", "1"]);
-    same("an attribute that is asked for", (await opened(bytesIn("examples/samples.stream"), "little attr")).overview.samples, 59);
+    same("an attribute that is asked for", (await opened(bytesIn("examples/samples.stream"), "little attr"))
+        .overview.samples, 59);
 }
 
 export async function compareRows() {
@@ -86,7 +92,8 @@ export async function compareRows() {
     const lines = linesIn("examples/events.dump").map(frameOfLine);
     const pages = [];
     for (let offset = 0; offset < 90; offset += 7) {
-        pages.push(...(await model.call("records", { filter: { pid: 4583 }, sort: "file", kind: "mmap2", offset, count: 7 })).rows);
+        pages.push(...(await model.call("records",
+            { filter: { pid: 4583 }, sort: "file", kind: "mmap2", offset, count: 7 })).rows);
     }
     same("pages of a filter and a kind", pages.map((it) => String(it.index)),
         lines.filter((it) => it.name === "Mmap2" && it.pid === "4583").map((it) => it.index));
@@ -110,7 +117,8 @@ export async function compareFields() {
     const own = frames.filter((it) => it.event === undefined).map((it) => new Map(it.fields).get("data"));
     same("frames of perf itself", own, lines.filter((it) => it.event === "-").map((it) => it.data));
     const bytes = await model.call("bytes", { at: 1032, size: 88 });
-    same("bytes", Buffer.from(bytes).toString("hex"), Buffer.from(bytesIn("examples/events.data").subarray(1032, 1120)).toString("hex"));
+    same("bytes", Buffer.from(bytes).toString("hex"), Buffer.from(bytesIn("examples/events.data").subarray(1032, 1120))
+        .toString("hex"));
     same("no such frame", await messageOf(model.call("frame", { index: 90 })), "there is no such frame");
 }
 
@@ -122,12 +130,15 @@ export async function compareTasks() {
             found.push(samples === 0 ? "" : `task ${tid}, event ${event}: ${samples}`);
         }
     }
-    same("samples of each task and event", found.filter((it) => it !== "").sort(), linesIn("examples/events.samples").sort());
+    same("samples of each task and event", found.filter((it) => it !== "").sort(), linesIn("examples/events.samples")
+        .sort());
     const lines = linesIn("examples/events.time").map(frameOfLine);
     const rows = await model.call("tasks", { filter: {} });
     // The last COMM of each in order of time.
-    const names = new Map(lines.filter((it) => it.name === "Comm").map((it) => [Number(it.tid), Buffer.from(it.comm, "hex").toString()]));
-    same("names of tasks", rows.map((it) => `${it.tid} ${it.name}`).sort(), [...names].map((it) => it.join(" ")).sort());
+    const names = new Map(lines.filter((it) => it.name === "Comm")
+        .map((it) => [Number(it.tid), Buffer.from(it.comm, "hex").toString()]));
+    same("names of tasks", rows.map((it) => `${it.tid} ${it.name}`).sort(), [...names].map((it) => it.join(" "))
+        .sort());
     const ends = new Map(lines.filter((it) => it.name === "Exit").map((it) => [Number(it.tid), BigInt(it.time)]));
     // A record's time is that of its sample id, which the kernel takes just before.
     check("ends of tasks", rows.length === 4 && rows.every((it) => {
@@ -139,17 +150,21 @@ export async function compareTasks() {
 export async function compareStacks() {
     for (const [name, input] of [["events", "events.data"], ["recording", "recording.stream"]]) {
         const model = await opened(bytesIn("examples", input));
-        const lines = execFileSync("python3", [join(HERE, "folded.py"), join(HERE, "data", `${name}.txt`)], { encoding: "utf8" })
+        const lines = execFileSync("python3", [join(HERE, "folded.py"), join(HERE, "data", `${name}.txt`)],
+            { encoding: "utf8" })
             .trimEnd().split("\n").map((line) => name === "events" ? line : line.slice(line.indexOf(";") + 1)).sort();
         same(`folded stacks of ${input}`, await folded(model), lines);
         same(`the flame graph of ${input}`, foldedOf(await model.call("flame", { filter: {}, minimum: 0 })), lines);
         const inverted = await model.call("flame", { filter: {}, minimum: 0, inverted: true });
-        const turned = lines.map((line) => line.replace(/^(.*) (\d+)$/, (_, stack, count) => `${stack.split(";").reverse().join(";")} ${count}`));
+        const turned = lines.map((line) => line.replace(/^(.*) (\d+)$/,
+            (_, stack, count) => `${stack.split(";").reverse().join(";")} ${count}`));
         same(`the inverted graph of ${input}`, foldedOf(inverted), turned.sort());
         for (const pid of [4573, 4583]) {
             const { samples } = await model.call("flame", { filter: { pid } });
-            const own = linesIn("examples/events.samples").filter((line) => line.startsWith(`task ${pid},`)).map((line) => Number(line.split(": ")[1]));
-            same(`samples of ${pid} in ${input}`, samples, name === "events" ? own.reduce((sum, count) => sum + count, 0) : 0);
+            const own = linesIn("examples/events.samples").filter((line) => line.startsWith(`task ${pid},`))
+                .map((line) => Number(line.split(": ")[1]));
+            same(`samples of ${pid} in ${input}`, samples, name === "events"
+                ? own.reduce((sum, count) => sum + count, 0) : 0);
         }
     }
 }
@@ -165,7 +180,8 @@ function foldedOf({ total, nodes, samples, deepest }) {
         paths[node] = parent === 0 ? nodes.name[nodes.of[node]] : `${paths[parent]};${nodes.name[nodes.of[node]]}`;
         const before = last.get(parent);
         isWrong ||= parent >= node || nodes.depth[node] !== nodes.depth[parent] + 1 || nodes.depth[node] > deepest
-            || nodes.start[node] !== (before === undefined ? nodes.start[parent] : nodes.start[before] + nodes.worth[before])
+            || nodes.start[node] !== (before === undefined ? nodes.start[parent]
+                : nodes.start[before] + nodes.worth[before])
             || before !== undefined && !(nodes.name[nodes.of[before]] < nodes.name[nodes.of[node]]);
         last.set(parent, node);
     }
@@ -177,7 +193,8 @@ export async function compareLanes() {
     const bytes = bytesIn("examples/recording.stream");
     const model = await opened(bytes);
     const { duration, start } = model.overview;
-    const { lanes, total } = await model.call("lanes", { by: "thread", from: 0, to: duration, columns: 50, filter: {} });
+    const { lanes, total } = await model.call("lanes",
+        { by: "thread", from: 0, to: duration, columns: 50, filter: {} });
     const times = linesIn("examples/recording.samples").map((line) => line.split(/[ /]/));
     same("lanes", [lanes.length, total], [10, 10]);
     const isRight = lanes.every((lane) => {
@@ -193,9 +210,12 @@ export async function compareLanes() {
     const marks = fine.lanes.flatMap((lane) => lane.marks.map((it) => `${lane.tid} ${it.kind} ${it.text}`))
         .filter((it) => / (exec|comm) /.test(it));
     // The first COMM is perf's own, at no time; its text does not state which are of an exec.
-    same("marks of names", marks.map((it) => it.replace(" exec ", " comm ")).sort(), linesIn("examples/recording.expected")
-        .filter((line) => line.startsWith("comm ")).slice(1).map((line) => line.replace(/^comm \d+ (\d+) /, "$1 comm ")).sort());
-    same("names without an exec", marks.filter((it) => it.includes(" comm ")).map((it) => it.split(" ")[2]), ["renamed"]);
+    same("marks of names", marks.map((it) => it.replace(" exec ", " comm ")).sort(),
+        linesIn("examples/recording.expected")
+        .filter((line) => line.startsWith("comm ")).slice(1).map((line) => line.replace(/^comm \d+ (\d+) /, "$1 comm "))
+            .sort());
+    same("names without an exec", marks.filter((it) => it.includes(" comm ")).map((it) => it.split(" ")[2]),
+        ["renamed"]);
     compareRunning(fine.lanes, start);
     const [cpu] = (await model.call("lanes", { by: "cpu", from: 0, to: duration, columns: 10, filter: {} })).lanes;
     same("the lane of a processor", [cpu.cpu, cpu.samples], [0, 39]);
@@ -206,8 +226,8 @@ export async function compareLanes() {
     same("wrong lanes", await messageOf(model.call("lanes", { by: "event" })), "lanes are by thread or by cpu");
 }
 
-/** When each thread ran: from IN to OUT or to its EXIT; before an OUT without an IN since its first line, as the program
- * that perf starts runs before its events count. */
+/** When each thread ran: from IN to OUT or to its EXIT; before an OUT without an IN since its first line, as the
+ * program that perf starts runs before its events count. */
 function intervalsOf(lines) {
     const [since, seen, intervals] = [new Map(), new Map(), []];
     for (const line of lines) {

@@ -38,7 +38,8 @@ export class Model {
 
     constructor() {
         this.progress = [];
-        this.take = server(library, (message, buffers) => this.#receive(structuredClone(message, { transfer: buffers })));
+        this.take = server(library, (message, buffers) => this.#receive(structuredClone(message,
+            { transfer: buffers })));
     }
 
     #receive(message) {
@@ -80,5 +81,6 @@ export async function messageOf(promise) {
     }
 }
 
-export const folded = async (model, words = {}) => (await model.call("export", { kind: "folded", filter: {}, ...words }))
+export const folded = async (model, words = {}) => (await model.call("export",
+    { kind: "folded", filter: {}, ...words }))
     .trimEnd().split("\n").sort();

@@ -23,7 +23,8 @@ async function isHandled(bytes) {
         }
         await model.call("export", { kind: "csv", filter: {} });
     } catch (error) {
-        if (typeof error.message !== "string" || error.message === "" || /undefined|not a function|null|BigInt/.test(error.message)) {
+        if (typeof error.message !== "string" || error.message === ""
+            || /undefined|not a function|null|BigInt/.test(error.message)) {
             console.log(`    ${error.stack}`);
             return false;
         }
@@ -52,7 +53,8 @@ export async function changeBytes() {
     const random = numbersFrom(99);
     let wrong = 0;
     for (let number = 0; number < 1500; number++) {
-        const bytes = bytesIn(["examples/events.data", "examples/recording.stream", "examples/samples.stream"][number % 3]);
+        const bytes = bytesIn(["examples/events.data", "examples/recording.stream",
+            "examples/samples.stream"][number % 3]);
         const end = number % 2 ? bytes.length : 1200;
         for (let change = 0; change < 1 + random(20); change++) {
             bytes[random(end)] = [0, 1, 8, 16, 127, 128, 255][random(7)];
@@ -70,9 +72,11 @@ export async function changeBytes() {
 
 export async function refuseOthers() {
     const text = "this is no perf.data file: pass a file that `perf record` has written";
-    same("a text is no recording", await messageOf(new Model().open(new TextEncoder().encode("hello, world\n".repeat(99)))), text);
+    same("a text is no recording", await messageOf(new Model()
+        .open(new TextEncoder().encode("hello, world\n".repeat(99)))), text);
     same("nothing is no recording", await messageOf(new Model().open(new Uint8Array())), text);
-    same("random bytes are no recording", await messageOf(new Model().open(Uint8Array.from({ length: 999 }, numbersFrom(3).bind(null, 256)))), text);
+    same("random bytes are no recording", await messageOf(new Model()
+        .open(Uint8Array.from({ length: 999 }, numbersFrom(3).bind(null, 256)))), text);
     const pipe = joined([new TextEncoder().encode("PERFILE2"), bytesOf([8, 16])]);
     check("a pipe", (await messageOf(new Model().open(pipe))).startsWith("this is what `perf record -o -` writes"));
     same("a call before a file", await messageOf(new Model().call("flame", { filter: {} })), "no recording is open");
@@ -81,9 +85,11 @@ export async function refuseOthers() {
 
 /** Names stay text. */
 export async function keepNames() {
-    const names = ["<img src=x onerror=alert(1)>", "]]>", "</script><script>", "a;b\nc\u0000d", "=1+1", "%s%n", "__proto__", "constructor"];
+    const names = ["<img src=x onerror=alert(1)>", "]]>", "</script><script>", "a;b\nc\u0000d", "=1+1", "%s%n",
+        "__proto__", "constructor"];
     const frames = names.flatMap((name, place) => [
-        comm({ pid: place + 1, name, time: 2 * place }), mmap2({ pid: place + 1, name: `/x/${name}`, address: 0n, length: 0x1000n, time: 2 * place }),
+        comm({ pid: place + 1, name, time: 2 * place }),
+        mmap2({ pid: place + 1, name: `/x/${name}`, address: 0n, length: 0x1000n, time: 2 * place }),
         sample({ pid: place + 1, time: 2 * place + 1, ip: 0x10n })]);
     const model = await opened(fileOf(frames));
     const plain = (name) => name.replace(/[;\n\u0000]/g, "_");
@@ -93,10 +99,12 @@ export async function keepNames() {
     const tasks = await model.call("tasks", { filter: {} });
     same("names of tasks", tasks.map((it) => it.name), names.map(plain));
     for (const name of names) {
-        same(`a filter by ${JSON.stringify(name)}`, (await model.call("flame", { filter: { comm: plain(name) } })).samples, 1);
+        same(`a filter by ${JSON.stringify(name)}`, (await model.call("flame", { filter: { comm: plain(name) } }))
+            .samples, 1);
     }
     const csv = (await model.call("export", { kind: "csv", filter: {} })).split("\r\n");
-    check("a name that is no formula", csv.some((line) => line.includes(`,"'=1+1",5,5,`)) && csv.length === names.length + 2);
+    check("a name that is no formula", csv.some((line) => line.includes(`,"'=1+1",5,5,`))
+        && csv.length === names.length + 2);
 }
 
 /** Names of events that the feature does not have right. */
@@ -108,12 +116,14 @@ export async function describeEvents() {
     same("a feature that ends beyond the file", cut.overview.events.map((it) => it.name), ["cpu-clock", "task-clock"]);
     const half = bytes.slice();
     half[half.length - (4 + 6 + 8)] = 255; // the length of the second name
-    same("a description that is cut off", (await opened(half)).overview.events.map((it) => it.name), ["<b>", "task-clock"]);
+    same("a description that is cut off", (await opened(half)).overview.events.map((it) => it.name),
+        ["<b>", "task-clock"]);
 }
 
 /** Refused frames, with where they are. */
 export async function listRefused() {
-    const bad = [sample({ pid: 1, time: 1, event: 7 }), frame(9, 2, bytesOf([8, 100], [8, 1])), frame(3, 0, bytesOf([4, 1]))];
+    const bad = [sample({ pid: 1, time: 1, event: 7 }), frame(9, 2, bytesOf([8, 100], [8, 1])),
+        frame(3, 0, bytesOf([4, 1]))];
     const good = sample({ pid: 1, time: 5, ip: 1n });
     const bytes = fileOf([bad[0], good, bad[1], good, bad[2], good], ["cpu-clock", "task-clock"]);
     const model = await opened(bytes);
@@ -125,8 +135,10 @@ export async function listRefused() {
         "unexpected EOF during parsing", "it is too short for an id"]);
     same("counts", [refused.count, frames, samples, records.find((it) => it.name === "refused").count], [3, 6, 3, 3]);
     const frameOf = await model.call("frame", { index: 2 });
-    same("a refused frame", [frameOf.name, frameOf.message, frameOf.at], ["refused", "unexpected EOF during parsing", first + 128]);
+    same("a refused frame", [frameOf.name, frameOf.message, frameOf.at],
+        ["refused", "unexpected EOF during parsing", first + 128]);
     const { rows } = await model.call("records", { filter: {}, kind: "refused", count: 10 });
     same("rows of refused frames", rows.map((it) => it.summary), refused.first.map((it) => it.message));
-    same("bytes of a refused frame", Buffer.from(await model.call("bytes", refused.first[1])).toString("hex"), Buffer.from(bad[1]).toString("hex"));
+    same("bytes of a refused frame", Buffer.from(await model.call("bytes", refused.first[1])).toString("hex"),
+        Buffer.from(bad[1]).toString("hex"));
 }

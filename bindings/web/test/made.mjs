@@ -54,7 +54,8 @@ function padded(name) {
 const id = ({ pid = 0, tid = pid, time = 0, cpu = 0, event = 0 }) =>
     bytesOf([4, pid], [4, tid], [8, time], ...writing.hasCpu ? [[4, cpu], [4, 0]] : [], [8, 100 + event]);
 
-export const comm = (it) => frame(3, it.misc ?? 0, joined([bytesOf([4, it.pid], [4, it.tid ?? it.pid]), padded(it.name), id(it)]));
+export const comm = (it) => frame(3, it.misc ?? 0,
+    joined([bytesOf([4, it.pid], [4, it.tid ?? it.pid]), padded(it.name), id(it)]));
 
 export const fork = (it) => frame(7, it.misc ?? 0, joined([
     bytesOf([4, it.pid], [4, it.ppid], [4, it.tid ?? it.pid], [4, it.ptid ?? it.ppid], [8, it.time]), id(it)]));
@@ -75,7 +76,8 @@ export const lost = (it) => frame(2, 0, joined([bytesOf([8, 100], [8, it.lost]),
 export const switched = (it) => frame(14, it.misc ?? 0, id(it));
 
 export const sample = (it) => frame(9, it.misc ?? 2, bytesOf([8, 100 + (it.event ?? 0)], [8, it.ip ?? 0], [4, it.pid],
-    [4, it.tid ?? it.pid], [8, it.time], ...writing.hasCpu ? [[4, it.cpu ?? 0], [4, 0]] : [], [8, it.period ?? 1], [8, it.chain?.length ?? 0],
+    [4, it.tid ?? it.pid], [8, it.time], ...writing.hasCpu ? [[4, it.cpu ?? 0], [4, 0]] : [], [8, it.period ?? 1],
+    [8, it.chain?.length ?? 0],
     ...(it.chain ?? []).map((address) => [8, address])));
 
 /** The feature that names events, of a perf whose attributes are longer than those of the file. */
@@ -97,7 +99,8 @@ export function fileOf(frames, names = ["cpu-clock"]) {
     const dataAt = entriesAt + names.length * (ATTRIBUTE + 16);
     const features = descriptions(attributes, names);
     return joined([
-        encoder.encode(writing.isLittle ? "PERFILE2" : "2ELIFREP"), bytesOf([8, HEAD], [8, ATTRIBUTE + 16], [8, entriesAt], [8, names.length * (ATTRIBUTE + 16)],
+        encoder.encode(writing.isLittle ? "PERFILE2" : "2ELIFREP"),
+        bytesOf([8, HEAD], [8, ATTRIBUTE + 16], [8, entriesAt], [8, names.length * (ATTRIBUTE + 16)],
             [8, dataAt], [8, data.length], [8, 0], [8, 0], [8, 1 << 12], [8, 0], [8, 0], [8, 0]),
         bytesOf(...names.map((_, event) => [8, 100 + event])),
         ...attributes.map((it, event) => joined([it, bytesOf([8, HEAD + 8 * event], [8, 8])])),

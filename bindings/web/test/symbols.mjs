@@ -20,7 +20,8 @@ const kernel = (address) => ({ chain: [-128n, address] });
 
 async function modelOf(...samples) {
     return opened(fileOf([
-        mmap2({ pid: 1, time: 1, address: 0x7f0000001000n, length: 0x4000n, offset: 0x1000n, name: "/usr/lib/liba.so" }),
+        mmap2({ pid: 1, time: 1, address: 0x7f0000001000n, length: 0x4000n, offset: 0x1000n,
+            name: "/usr/lib/liba.so" }),
         mmap2({ pid: 1, time: 1, address: 0x401000n, length: 0x1000n, offset: 0x1000n, name: "/usr/bin/fixed" }),
         mmap2({ pid: 1, time: 1, address: 0x500000n, length: 0x1000n, name: "//anon" }),
         ...samples.map((it, place) => sample({ pid: 1, time: 2 + place, ...it })),
@@ -30,7 +31,8 @@ async function modelOf(...samples) {
 const at = (offset) => ({ chain: [0x7f0000000000n + offset] });
 
 export async function nameOffsets() {
-    const model = await modelOf(at(0x1000n), at(0x100fn), at(0x1010n), at(0x1027n), at(0x1028n), at(0x1041n), kernel(-0x7efffe01n));
+    const model = await modelOf(at(0x1000n), at(0x100fn), at(0x1010n), at(0x1027n), at(0x1028n), at(0x1041n),
+        kernel(-0x7efffe01n));
     const before = await folded(model);
     same("symbols of a file", (await model.call("symbols", { text: NM, file: "liba.so.nm" })).count, 5);
     same("names in a file", await folded(model), [":1;0xffffffff810001ff_[k] 1", ":1;first 2", ":1;liba.so+0x1028 1",
@@ -39,15 +41,18 @@ export async function nameOffsets() {
     same("symbols of a file that is not there", (await model.call("symbols", { text: NM, file: "libb.so" })).count, 5);
     same("no symbols", (await model.call("symbols", { text: "no\nsymbols\n", file: "liba.so" })).count, 0);
     const { nodes } = await model.call("flame", { filter: {}, inverted: true });
-    same("names in an inverted graph", [...nodes.of].map((name, node) => [nodes.name[name], nodes.worth[node]].join(" ")).includes("first 2"), true);
+    same("names in an inverted graph", [...nodes.of].map((name, node) => [nodes.name[name],
+        nodes.worth[node]].join(" ")).includes("first 2"), true);
     const { rows } = await model.call("records", { filter: {}, kind: "sample", text: "operator" });
     same("names in rows", rows.map((it) => it.summary), ["operator new(unsigned long)"]);
 }
 
 export async function nameKernel() {
-    const model = await modelOf(kernel(-0x7f000000n), kernel(-0x7efffe01n), kernel(-0x7efffe00n), kernel(-0x3ffffff0n), kernel(-0x3f000000n));
+    const model = await modelOf(kernel(-0x7f000000n), kernel(-0x7efffe01n), kernel(-0x7efffe00n), kernel(-0x3ffffff0n),
+        kernel(-0x3f000000n));
     same("symbols of the kernel", (await model.call("symbols", { text: KALLSYMS, file: "kallsyms" })).count, 4);
-    same("names in the kernel", await folded(model), [":1;_text_[k] 1", ":1;do_one_[k] 1", ":1;do_two_[k] 1", ":1;in_module_[k] 1",
+    same("names in the kernel", await folded(model),
+        [":1;_text_[k] 1", ":1;do_one_[k] 1", ":1;do_two_[k] 1", ":1;in_module_[k] 1",
         ":1;0xffffffffc1000000_[k] 1"].sort());
 }
 
