@@ -1,6 +1,7 @@
 """A Chromium that is told what to do by WebDriver, over HTTP, with Python's standard library alone."""
 import base64
 import json
+import shutil
 import socket
 import subprocess
 import tempfile
@@ -10,9 +11,8 @@ import urllib.request
 
 ELEMENT = "element-6066-11e4-a52e-4f735466cecf"
 KEYS = {
-    "Backspace": "\ue003", "Tab": "\ue004", "Enter": "\ue007", "Shift": "\ue008", "Control": "\ue009", "Escape": "\ue00c",
-    "PageUp": "\ue00e", "PageDown": "\ue00f", "End": "\ue010", "Home": "\ue011", "ArrowLeft": "\ue012", "ArrowUp": "\ue013",
-    "ArrowRight": "\ue014", "ArrowDown": "\ue015",
+    "Tab": "\ue004", "Enter": "\ue007", "Shift": "\ue008", "Escape": "\ue00c", "PageDown": "\ue00f", "End": "\ue010",
+    "Home": "\ue011", "ArrowLeft": "\ue012", "ArrowUp": "\ue013", "ArrowRight": "\ue014", "ArrowDown": "\ue015",
 }
 
 
@@ -24,10 +24,12 @@ class Browser:
         with socket.socket() as free:
             free.bind(("127.0.0.1", 0))
             self.port = free.getsockname()[1]
-        self.driver = subprocess.Popen(["chromedriver", f"--port={self.port}"], stdout=subprocess.DEVNULL, stderr=subprocess.DEVNULL)
-        words = ["--headless=new", "--no-sandbox", "--disable-gpu", "--hide-scrollbars", f"--user-data-dir={self.room.name}",
-                 f"--window-size={size[0]},{size[1]}", "--force-device-scale-factor=1", "--lang=en"]
-        options = {"binary": "/usr/bin/chromium", "args": words}
+        quiet = {"stdout": subprocess.DEVNULL, "stderr": subprocess.DEVNULL}
+        self.driver = subprocess.Popen(["chromedriver", f"--port={self.port}"], **quiet)
+        words = ["--headless=new", "--no-sandbox", "--disable-gpu", "--hide-scrollbars", "--lang=en",
+                 f"--user-data-dir={self.room.name}", f"--window-size={size[0]},{size[1]}",
+                 "--force-device-scale-factor=1"]
+        options = {"binary": shutil.which("chromium"), "args": words}
         self.wait_for_driver()
         self.session = ""
         made = self.post("session", {"capabilities": {"alwaysMatch": {
@@ -111,18 +113,19 @@ class Browser:
         moves += [{"type": "keyUp", "value": KEYS["Shift"]}] if shift else []
         self.post("actions", {"actions": [{"type": "key", "id": "keys", "actions": moves}]})
 
+    def place(self, selector, at):
+        """A place of an element in the window."""
+        box = self.run("return document.querySelector(arguments[0]).getBoundingClientRect()", selector)
+        return {"x": int(box["left"] + at[0]), "y": int(box["top"] + at[1])}
+
     def drag(self, selector, start, end):
         """Drags from one place of an element to another one, both from its upper left corner."""
-        left, top = self.run("const { left, top } = document.querySelector(arguments[0]).getBoundingClientRect(); "
-                             "return [left, top]", selector)
-        move = lambda place: {"type": "pointerMove", "duration": 30, "x": int(left + place[0]), "y": int(top + place[1])}
-        actions = [move(start), {"type": "pointerDown", "button": 0}, move(end), {"type": "pointerUp", "button": 0}]
+        moves = [{"type": "pointerMove", "duration": 30, **self.place(selector, at)} for at in (start, end)]
+        actions = [moves[0], {"type": "pointerDown", "button": 0}, moves[1], {"type": "pointerUp", "button": 0}]
         self.post("actions", {"actions": [{"type": "pointer", "id": "mouse", "actions": actions}]})
 
-    def wheel(self, selector, place, amount):
-        left, top = self.run("const { left, top } = document.querySelector(arguments[0]).getBoundingClientRect(); "
-                             "return [left, top]", selector)
-        act = {"type": "scroll", "x": int(left + place[0]), "y": int(top + place[1]), "deltaX": 0, "deltaY": amount, "duration": 0}
+    def wheel(self, selector, at, amount):
+        act = {"type": "scroll", **self.place(selector, at), "deltaX": 0, "deltaY": amount, "duration": 0}
         self.post("actions", {"actions": [{"type": "wheel", "id": "wheel", "actions": [act]}]})
 
     def picture(self):

@@ -26,10 +26,16 @@ function pairsOf(braces) {
     return words.map((word) => word.split(/\s+as\s+/)).map(([first, second]) => [first, second ?? first]);
 }
 
+/** Returns pairs of names as members in braces. */
+function membersOf(pairs) {
+    return pairs.map(([there, here]) => there === here ? here : `${there}: ${here}`).join(", ");
+}
+
 /** Returns the names that a module exports, as pairs of the name in it and the name outside. */
 function exportsOf(text) {
     const declared = [...text.matchAll(DECLARED)].flatMap((found) => found[1].match(/\w+/g));
-    return [...declared.map((name) => [name, name]), ...[...text.matchAll(LISTED)].flatMap((found) => pairsOf(found[1]))];
+    const listed = [...text.matchAll(LISTED)].flatMap((found) => pairsOf(found[1]));
+    return [...declared.map((name) => [name, name]), ...listed];
 }
 
 /** Returns an import of a module as a declaration. */
@@ -42,7 +48,7 @@ function declaration(what, { variable, names }, path) {
     if (absent) {
         throw new Error(`${path} exports no ${absent[0]}`);
     }
-    return `const { ${pairs.map(([there, here]) => there === here ? here : `${there}: ${here}`).join(", ")} } = ${variable};`;
+    return `const { ${membersOf(pairs)} } = ${variable};`;
 }
 
 /** Returns a module as a function that is called at once and returns what the module exports. */
@@ -55,7 +61,7 @@ function wrapped(text, { variable, names }, importOf) {
     if (unknown) {
         throw new Error(`a form of import or export that is not known: ${unknown[0]}`);
     }
-    const result = names.map(([here, there]) => here === there ? here : `${there}: ${here}`).join(", ");
+    const result = membersOf(names.map(([here, there]) => [there, here]));
     return `const ${variable} = (() => {\n${body}\nreturn { ${result} };\n})();\n`;
 }
 

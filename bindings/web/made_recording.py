@@ -1,5 +1,5 @@
-"""Makes a file as `perf record` writes it, of a build by `make -j4` that never was, and the symbols of its programs: so the tests of
-the page have a recording with many threads, call chains, switches and two events."""
+"""Makes a file as `perf record` writes it, of a build by `make -j4` that never was, and the symbols of its programs: so
+the tests of the page have a recording with many threads, call chains, switches and two events."""
 import random
 import struct
 
@@ -12,7 +12,8 @@ CALLS = {
     "cc1": ("main", [("toplev::main", [("compile_file", [
         ("c_parse_file", [
             ("c_parser_declaration_or_fndef", [("c_parser_compound_statement", [
-                ("c_parser_statement", [("c_parser_expression", [("build_binary_op", []), ("libc:malloc", [("libc:_int_malloc", [])])])]),
+                ("c_parser_statement", [("c_parser_expression", [
+                    ("build_binary_op", []), ("libc:malloc", [("libc:_int_malloc", [])])])]),
                 ("c_parser_if_statement", [("c_parser_condition", [])])])]),
             ("cpp_get_token", [("_cpp_lex_direct", [("lex_identifier", [])]), ("enter_macro_context", [])])]),
         ("symbol_table::compile", [("expand_all_functions", [("execute_pass_list", [("execute_one_pass", [
@@ -21,17 +22,22 @@ CALLS = {
             ("execute_cse", [("cse_main", [("hash_rtx", [])])]),
             ("rest_of_handle_sched", [("schedule_insns", [("schedule_block", [])])]),
             ("tree_ssa_dominator_optimize", [("dom_walker::walk", []), ("libc:memset", [])])])])])])])])]),
-    "make": ("main", [("update_goals", [("update_file", [("check_dep", [("file_exists_p", [("kernel:vfs_statx", [])])]),
-                                                       ("remake_file", [("start_job_command", [("kernel:do_fork", [])])])])])]),
-    "as": ("main", [("perform_an_assembly_pass", [("read_a_source_file", [("md_assemble", [("parse_insn", []), ("output_insn", [])])])])]),
-    "ld": ("main", [("lang_process", [("lang_map_input", [("bfd_elf_link_add_symbols", [("bfd_hash_lookup", [])])]),
-                                      ("ldwrite", [("bfd_final_link", [("elf_link_input_bfd", [("libc:memcpy", [])]),
-                                                                       ("kernel:vfs_write", [("kernel:ext4_buffered_write", [])])])])])]),
+    "make": ("main", [("update_goals", [("update_file", [
+        ("check_dep", [("file_exists_p", [("kernel:vfs_statx", [])])]),
+        ("remake_file", [("start_job_command", [("kernel:do_fork", [])])])])])]),
+    "as": ("main", [("perform_an_assembly_pass", [("read_a_source_file", [
+        ("md_assemble", [("parse_insn", []), ("output_insn", [])])])])]),
+    "ld": ("main", [("lang_process", [
+        ("lang_map_input", [("bfd_elf_link_add_symbols", [("bfd_hash_lookup", [])])]),
+        ("ldwrite", [("bfd_final_link", [
+            ("elf_link_input_bfd", [("libc:memcpy", [])]),
+            ("kernel:vfs_write", [("kernel:ext4_buffered_write", [])])])])])]),
 }
 FAULT = ["asm_exc_page_fault", "exc_page_fault", "handle_mm_fault", "do_anonymous_page", "clear_page_erms"]
 SYSCALL = ["entry_SYSCALL_64_after_hwframe", "do_syscall_64"]
-PATHS = {"cc1": "/usr/libexec/gcc/x86_64-linux-gnu/13/cc1", "make": "/usr/bin/make", "as": "/usr/bin/as", "ld": "/usr/bin/ld",
-         "libc": "/usr/lib/x86_64-linux-gnu/libc.so.6"}
+PATHS = {"cc1": "/usr/libexec/gcc/x86_64-linux-gnu/13/cc1", "make": "/usr/bin/make", "as": "/usr/bin/as",
+         "ld": "/usr/bin/ld", "libc": "/usr/lib/x86_64-linux-gnu/libc.so.6"}
+COMMAND = ["/usr/bin/perf", "record", "-g", "--switch-events", "-e", "cpu-clock,page-faults", "--", "make", "-j4"]
 
 
 def pack(form, *numbers):
@@ -93,7 +99,8 @@ class Recording:
 
     def address(self, program, name):
         file, _, own = name.partition(":") if name.startswith("libc:") else (program, "", name)
-        return (0x7f0000000000 if file == "libc" else 0x400000) + self.at(file, own) + self.random.choice((4, 4, 0x10, 0x7c))
+        base = 0x7f0000000000 if file == "libc" else 0x400000
+        return base + self.at(file, own) + self.random.choice((4, 4, 0x10, 0x7c))
 
     def sample(self, time, task, cpu, program, event=0):
         user, kernel = self.stack(program)
@@ -142,23 +149,26 @@ def attribute(config, period):
     return pack("IIQQQQQ", 1, 128, config, period, sample, 4, flags).ljust(128, b"\0")
 
 
+def ids_of(event):
+    return pack("4Q", *(16 + event * CPUS + cpu for cpu in range(CPUS)))
+
+
 def text_of(words):
     return pack("I", 64) + words.encode().ljust(64, b"\0")
 
 
 def features(attributes, names, host):
     """Those of perf.data that the page shows: host, kernel, version, command line, events."""
-    described = b"".join(one + pack("I", CPUS) + text_of(name) + pack("4Q", *(16 + event * CPUS + cpu for cpu in range(CPUS)))
+    described = b"".join(one + pack("I", CPUS) + text_of(name) + ids_of(event)
                          for event, (one, name) in enumerate(zip(attributes, names)))
-    words = ["/usr/bin/perf", "record", "-g", "--switch-events", "-e", "cpu-clock,page-faults", "--", "make", "-j4"]
     return {3: text_of(host), 4: text_of("6.18.44-generic"), 5: text_of("6.1.187"), 6: text_of("x86_64"),
-            11: pack("I", len(words)) + b"".join(map(text_of, words)), 12: pack("II", 2, 128) + described}
+            11: pack("I", len(COMMAND)) + b"".join(map(text_of, COMMAND)), 12: pack("II", 2, 128) + described}
 
 
 def file_of(frames, names=("cpu-clock", "page-faults"), host="builder"):
     """The bytes of a perf.data with these frames."""
     attributes = [attribute(0, 4000), attribute(2, 4000)]
-    ids = b"".join(pack("4Q", *(16 + event * CPUS + cpu for cpu in range(CPUS))) for event in range(2))
+    ids = b"".join(map(ids_of, range(2)))
     entries = b"".join(one + pack("QQ", 104 + 32 * event, 32) for event, one in enumerate(attributes))
     data = b"".join(frames)
     at = 104 + len(ids)
@@ -178,10 +188,11 @@ def build(seed=1, jobs=26):
     made = Recording(seed)
     make = (2100, 2100)
     made.start(0, make, (2000, 2000), 0, "make")
-    free = [made.run(1_000_000 + 500_000 * cpu, 6_000_000, make, 0, "make") if cpu == 0 else 9_000_000 + 700_000 * cpu for cpu in range(CPUS)]
+    free = [made.run(1_000_000, 6_000_000, make, 0, "make")] + [9_000_000 + 700_000 * cpu for cpu in range(1, CPUS)]
     for job in range(jobs):
         cpu = free.index(min(free))
-        for step, (program, length) in enumerate((("cc1", made.random.randrange(30_000_000, 130_000_000)), ("as", 9_000_000))):
+        steps = (("cc1", made.random.randrange(30_000_000, 130_000_000)), ("as", 9_000_000))
+        for step, (program, length) in enumerate(steps):
             task = (2110 + 10 * job + step,) * 2
             made.start(free[cpu], task, make, cpu, program)
             end = made.run(free[cpu] + 500_000, length, task, cpu, program)

@@ -5,7 +5,8 @@ import { filterOf, NO_FILTER } from "./view_state.mjs";
 import { Latest } from "./worker_link.mjs";
 import { countText, spanText } from "./words.mjs";
 
-const MOST = 1000;
+// The tasks below these are in the table of tasks.
+const MOST = 300;
 
 export class FilterBar {
     #shell;
@@ -19,7 +20,8 @@ export class FilterBar {
         cpu: this.#number("CPU", "cpu"),
     };
     #range = element("span", { class: "chosen-range", id: "chosen-range", hidden: true });
-    #clear = button("Clear", () => this.#shell.change(NO_FILTER, true), { id: "clear-filter", title: "Clear the filter" });
+    #clear = button("Clear", () => this.#shell.change(NO_FILTER, true),
+        { id: "clear-filter", title: "Clear the filter" });
     #count = element("span", { class: "count", id: "count", role: "status" });
 
     constructor(shell, root) {

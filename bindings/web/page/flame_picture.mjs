@@ -75,8 +75,8 @@ function drawRow(painter, { width, top, colours }, picture, deep) {
     }
 }
 
-/** Draws the rows in sight; `picture` has `layout`, `zoomed`, `active`, if words are searched `found`, and `heads`, how many
- * rows below the root are no frames. */
+/** Draws the rows in sight; `picture` has `layout`, `zoomed`, `active`, if words are searched `found`, and `heads`, how
+ * many rows below the root are no frames. */
 export function drawFlame(painter, place, picture) {
     const { width, height, top, colours } = place;
     painter.rect(0, 0, width, height, colours.ground);

@@ -80,7 +80,8 @@ function figures({ samples, frames, duration, threads, lost, refused, hasTime })
     const figure = (title, text, id, isBad) =>
         element("div", { class: isBad ? "is-bad" : undefined }, ...fact(title, text, { id }));
     return element("dl", { class: "figures" }, figure("Samples", countText(samples), "samples"),
-        figure("Frames", countText(frames), "frames"), figure("Duration", hasTime ? spanText(duration) : "none", "duration"),
+        figure("Frames", countText(frames), "frames"),
+        figure("Duration", hasTime ? spanText(duration) : "none", "duration"),
         figure("Threads", countText(threads), "threads"), figure("Lost records", countText(lost), "lost", lost > 0n),
         figure("Refused frames", countText(refused.count), "refused", refused.count > 0));
 }
@@ -122,8 +123,8 @@ export class Overview {
         const { overview } = this.#shell;
         if (this.#shown !== overview) {
             this.#shown = overview;
-            this.root.replaceChildren(figures(overview), eventsCard(overview), recordingCard(overview), headerCard(overview),
-                countsCard(overview), refusedCard(this.#shell, overview));
+            this.root.replaceChildren(figures(overview), eventsCard(overview), recordingCard(overview),
+                headerCard(overview), countsCard(overview), refusedCard(this.#shell, overview));
         }
     }
 }

@@ -4,6 +4,7 @@ import { button, chooser, element, fact, searchField, setOptions } from "./eleme
 import { Grid } from "./grid.mjs";
 import { showBytes } from "./bytes_dialog.mjs";
 import { filterOf } from "./view_state.mjs";
+import { Latest } from "./worker_link.mjs";
 import { clockText, countText, plural } from "./words.mjs";
 
 const PAGE = 200;
@@ -14,6 +15,7 @@ export class Records {
     #total = 0;
     #pages = new Map();
     #asked;
+    #work = new Latest();
     #time;
     #grid;
     #details = element("aside", { class: "details", "aria-label": "Frame", tabindex: "0", hidden: true });
@@ -85,8 +87,10 @@ export class Records {
         const asked = JSON.stringify(words);
         if (asked !== this.#asked) {
             this.#asked = asked;
-            this.#begin(words, asked);
+            this.#count.textContent = "…";
+            this.#work.run(() => this.#begin(words, asked));
         }
+        this.#details.hidden ||= state.frame === undefined;
         if (state.frame !== undefined && this.#details.dataset.frame !== String(state.frame)) {
             this.#open(state.frame);
         }

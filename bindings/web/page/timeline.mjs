@@ -13,6 +13,7 @@ const NOTHING = { from: 0, to: 1, lanes: [], most: 1 };
 const KEYS = "Timeline. Left and right move, plus and minus zoom, up and down choose a lane, comma and full stop go "
     + "through its marks, shift with left and right selects a range, Z zooms to it, Enter filters by the lane, Escape "
     + "clears the range.";
+const ORDERS = [["samples", "Most samples"], ["start", "First sample"], ["number", "Number"]];
 const SIGNS = {
     density: [[-5, 5], [-5, 0], [-2, 0], [-2, -5], [1, -5], [1, 2], [4, 2], [4, 5]],
     running: [[-6, 1], [6, 1], [6, 4], [-6, 4]],
@@ -40,7 +41,7 @@ export class Timeline {
 
     constructor(shell) {
         this.#shell = shell;
-        setOptions(this.#order.select, [["samples", "Most samples"], ["start", "First sample"], ["number", "Number"]], "samples");
+        setOptions(this.#order.select, ORDERS, "samples");
         this.#stage.onsize = () => this.#ask();
         this.root = element("div", { class: "column" }, this.#tools(), this.#empty, this.#stage.root, this.#strip);
         const { canvas } = this.#stage;
@@ -181,9 +182,10 @@ export class Timeline {
         const first = ({ key }) => this.#firsts?.get(key) ?? 0;
         const orders = {
             samples: () => 0, start: (one, other) => first(one) - first(other),
-            number: (one, other) => (one.pid ?? one.cpu) - (other.pid ?? other.cpu) || (one.tid ?? 0) - (other.tid ?? 0),
+            number: (one, other) => one.pid - other.pid || one.tid - other.tid,
+            processor: (one, other) => one.cpu - other.cpu,
         };
-        lanes.sort(orders[this.#shell.state.by === "cpu" ? "number" : this.#shell.state.lanes]);
+        lanes.sort(orders[this.#shell.state.by === "cpu" ? "processor" : this.#shell.state.lanes]);
         this.#active = Math.max(0, lanes.findIndex(({ key }) => key === active));
     }
 
