@@ -4,7 +4,9 @@ import { FORK, NO_CPU, NO_TASK } from "./frames.mjs";
 import { MARKS } from "./history.mjs";
 import { placesWithin, select } from "./selection.mjs";
 
+/** Of one lane, and of all. */
 const MOST_MARKS = 2000;
+const MOST_MARKS_IN_ALL = 30000;
 const MOST_LANES = 1000;
 const MOST_COLUMNS = 100000;
 
@@ -95,24 +97,40 @@ function markText({ frames, tasks, texts }, frame, task, kind) {
     return `${word} ${tasks.pid(other)}/${tasks.tid(other)}`;
 }
 
-/** Puts the marks in view, at most one of a kind in each column of a lane. */
-function putMarks(recording, lanes, kind, { from, to, width }) {
-    const { marks } = recording;
+/** The places of the marks in view of each lane, by its key: at most one of a kind in each column. */
+function marksInView({ marks }, lanes, kind, { from, to, width }) {
     const [first, end] = placesWithin(marks.column("time"), { from, to });
     const keys = marks[kind.column];
-    const last = new Map();
+    const [found, last] = [new Map(), new Map()];
     for (let place = first; place < end; place++) {
-        const lane = lanes.get(keys[place]);
-        const mark = MARKS[marks.kind[place]];
-        const time = marks.time[place];
-        const key = `${keys[place]} ${mark}`;
-        const column = Math.floor((time - from) / width);
-        if (lane === undefined || lane.marks.length >= MOST_MARKS || last.get(key) === column) {
-            continue;
+        const key = keys[place] * MARKS.length + marks.kind[place];
+        const column = Math.floor((marks.time[place] - from) / width);
+        if (lanes.has(keys[place]) && last.get(key) !== column) {
+            last.set(key, column);
+            const list = found.get(keys[place]) ?? [];
+            list.push(place);
+            found.set(keys[place], list);
         }
-        last.set(key, column);
-        const text = markText(recording, marks.frame[place], marks.task[place], mark);
-        lane.marks.push({ time, kind: mark, text });
+    }
+    return found;
+}
+
+/** Puts the marks in view, in columns so wide that they are not too many. */
+function putMarks(recording, lanes, kind, view) {
+    const { marks } = recording;
+    let [{ width }, found, counts] = [view];
+    do {
+        found = marksInView(recording, lanes, kind, { ...view, width });
+        counts = [...found.values()].map((places) => places.length);
+        width *= 2;
+    } while (counts.some((count) => count > MOST_MARKS)
+        || counts.length < MOST_MARKS_IN_ALL && counts.reduce((sum, count) => sum + count, 0) > MOST_MARKS_IN_ALL);
+    for (const [key, places] of found) {
+        lanes.get(key).marks = places.map((place) => {
+            const mark = MARKS[marks.kind[place]];
+            const text = markText(recording, marks.frame[place], marks.task[place], mark);
+            return { time: marks.time[place], kind: mark, text };
+        });
     }
 }
 

@@ -19,6 +19,10 @@ const NO_TIME = 0xffffffffffffffffn;
 const OWNER_PERF = 1;
 const OWNER_EVENT = 0;
 const MOST_REFUSED = 1000;
+const MOST_TYPES = 1000;
+/** The most bytes of a thread's name, of which the kernel writes 16, and of a path. */
+const LONGEST_NAME = 256;
+const LONGEST_PATH = 4096;
 /** Records whose own fields tell which thread they are about, and others of which the fields are needed. */
 const ABOUT_TASKS = new Set([MMAP, MMAP2, COMM, EXIT, FORK, READ, ITRACE_START, NAMESPACES]);
 const WITH_FIELDS = new Set([...ABOUT_TASKS, SAMPLE, LOST, LOST_SAMPLES]);
@@ -81,11 +85,17 @@ export class Reading {
         if (cpu !== undefined && (time > -Infinity || type === SAMPLE)) {
             this.cpus.add(cpu);
         }
-        const name = isRefused ? "refused" : recordName(type, this.types);
-        this.counts.set(name, (this.counts.get(name) ?? 0) + 1);
+        this.#count(isRefused ? "refused" : recordName(type, this.types));
         if (event >= 0) {
             this.sums[event].frames += 1;
         }
+    }
+
+    /** Counts a record by the name of its type. A file can have more types without one than can be shown. */
+    #count(name) {
+        const { counts } = this;
+        const shown = counts.has(name) || counts.size < MOST_TYPES || !name.startsWith("type ") ? name : "others";
+        counts.set(shown, (counts.get(shown) ?? 0) + 1);
     }
 
     #eventOf(frame, type) {
@@ -140,7 +150,7 @@ export class Reading {
             case MMAP2:
                 return this.#mapping(frame, fields);
             case COMM:
-                return this.texts.numberOf(nameOf(textOf(fields.comm)));
+                return this.texts.numberOf(nameOf(textOf(fields.comm.subarray(0, LONGEST_NAME))));
             case FORK:
             case EXIT:
                 return this.tasks.numberOf(Number(fields.ppid), Number(fields.ptid));
@@ -173,7 +183,7 @@ export class Reading {
         if (pid === KERNEL_PID || (misc & MODE) === KERNEL_MODE || fields.len === 0n) {
             return NOTHING;
         }
-        const path = textOf(fields.filename);
+        const path = textOf(fields.filename.subarray(0, LONGEST_PATH));
         const hasFile = !WITHOUT_FILE.test(path);
         const isExecutable = type === MMAP ? (misc & IS_DATA) === 0 : (fields.prot & EXECUTABLE) !== 0n;
         const name = hasFile || !isExecutable ? nameOf(lastPart(path)) : `perf-${pid}.map`;
@@ -182,10 +192,13 @@ export class Reading {
 
     /** Counts a refused frame, and returns the number of the text of its reason. */
     #refuse(frame, index) {
-        const message = frame.unknownId === undefined ? frame.message : `${frame.message}: ${frame.unknownId}`;
+        const { first } = this.refused;
+        const isListed = first.length < MOST_REFUSED;
+        const message = isListed && frame.unknownId !== undefined ? `${frame.message}: ${frame.unknownId}`
+            : frame.message;
         this.refused.count += 1;
-        if (this.refused.first.length < MOST_REFUSED) {
-            this.refused.first.push({ at: frame.start, size: frame.size, message, index });
+        if (isListed) {
+            first.push({ at: frame.start, size: frame.size, message, index });
         }
         return this.texts.numberOf(message);
     }

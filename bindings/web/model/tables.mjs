@@ -6,7 +6,9 @@ import { placesWithin, select } from "./selection.mjs";
 const UNTIMED = (time) => time === -Infinity ? undefined : time;
 const KNOWN = (time) => Number.isNaN(time) ? undefined : time;
 
-/** A row for each thread that a frame is about, with the selected samples of each. */
+const MOST_TASKS = 20000;
+
+/** A row for each thread that a frame is about, with the selected samples of each; of too many those with most. */
 export function tasks(recording, { filter = {} } = {}) {
     const { tasks: all, texts, samples } = recording;
     const sums = { samples: new Float64Array(all.count), period: new Float64Array(all.count) };
@@ -33,7 +35,8 @@ export function tasks(recording, { filter = {} } = {}) {
             });
         }
     }
-    return rows;
+    return rows.length <= MOST_TASKS ? rows
+        : rows.sort((one, other) => other.samples - one.samples).slice(0, MOST_TASKS);
 }
 
 /** Of each frame whether a filter and a kind select it, but for its time and its text. */

@@ -120,6 +120,34 @@ export async function describeEvents() {
         ["<b>", "task-clock"]);
 }
 
+/** Lists that a file makes too long. */
+export async function limitLists() {
+    const frames = [];
+    for (let place = 0; place < 30000; place++) {
+        frames.push(comm({ pid: 1 + place % 10, name: `n${place}`, time: 1 + place, cpu: place % 2 }),
+            frame(1000 + place, 0, new Uint8Array()));
+    }
+    frames.push(...Array.from({ length: 1100 }, () => frame(9, 0, bytesOf([8, 5]))));
+    frames.push(...Array.from({ length: 21000 }, (_, place) => sample({ pid: 100 + place, time: 30000 + place })));
+    const model = await opened(fileOf(frames, ["cpu-clock", "task-clock"]));
+    const { overview } = model;
+    const { lanes } = await model.call("lanes", { by: "thread", from: 0, to: overview.duration, columns: 50000,
+        filter: {} });
+    same("lanes and their marks", [lanes.length, lanes.some((it) => it.marks.length > 2000)], [1000, false]);
+    const all = lanes.reduce((sum, it) => sum + it.marks.length, 0);
+    check(`${all} marks`, all <= 30000);
+    const cpus = await model.call("lanes", { by: "cpu", from: 0, to: 30000, columns: 50000, filter: {} });
+    const least = Math.max(...cpus.lanes.flatMap((it) => it.marks.map(({ time }) => time)));
+    check("marks up to the end", cpus.lanes.every((it) => it.marks.length > 900) && least > 29900);
+    same("rows of tasks", (await model.call("tasks", { filter: {} })).length, 20000);
+    same("refused frames", [overview.refused.count, overview.refused.first.length], [1100, 1000]);
+    const others = overview.records.find((it) => it.name === "others").count;
+    same("types", [overview.records.length, overview.records.reduce((sum, it) => sum + it.count, 0), others],
+        [1003, 82100, 29001]);
+    const { rows } = await model.call("records", { filter: {}, kind: "refused", offset: 1090, count: 1 });
+    same("a refused frame that is not listed", rows[0].summary, "its id is that of no event of the file");
+}
+
 /** Refused frames, with where they are. */
 export async function listRefused() {
     const bad = [sample({ pid: 1, time: 1, event: 7 }), frame(9, 2, bytesOf([8, 100], [8, 1])),
