@@ -1,12 +1,13 @@
 // How bytes and numbers of a recording become text. No text of a recording is ever markup.
 
-const decoder = new TextDecoder();
+const decoder = new TextDecoder("utf-8", { ignoreBOM: true });
 
 /** The text of bytes: what is no UTF-8 is replaced. */
 export const textOf = (bytes) => decoder.decode(bytes);
 
-/** A name as one frame of a line of folded stacks can have it: semicolons and control bytes are `_`. */
-export const nameOf = (text) => text.replace(/[;\u0000-\u001f\u007f-\u009f\u2028\u2029]/g, "_");
+/** A name as one frame of a line of folded stacks can have it: semicolons and what controls lines, directions and
+ * terminals are `_`. */
+export const nameOf = (text) => text.replace(/[;\u0000-\u001f\u007f-\u009f\u2028-\u202e\u2066-\u2069]/g, "_");
 
 /** The last part of a path; all of it if it ends with a slash. */
 export const lastPart = (path) => path.slice(path.lastIndexOf("/") + 1) || path;

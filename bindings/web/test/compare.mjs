@@ -122,6 +122,22 @@ export async function compareFields() {
     same("no such frame", await messageOf(model.call("frame", { index: 90 })), "there is no such frame");
 }
 
+const MARKS = { kernel: 2n ** 64n - 128n, user: 2n ** 64n - 512n };
+
+/** All fields of samples that perf prints, but for id, raw, stack_user and cgroup, which it does not. */
+export async function compareSamples() {
+    const model = await opened(bytesIn("examples/samples.stream"));
+    const { rows } = await model.call("records", { filter: {}, kind: "sample", sort: "file", count: 1000 });
+    const found = await Promise.all(rows.map(async ({ index }) => {
+        const { fields } = await model.call("frame", { index });
+        return fields.filter(([name]) => !["type", "misc", "id", "raw", "stack_user", "cgroup"].includes(name))
+            .map(([name, text]) => `${name}=${text.split(" ").filter((it) => it !== "")
+                .map((it) => MARKS[it] ?? BigInt(it)).join(",")}`).sort().join(" ");
+    }));
+    same("all fields of samples", found, linesIn("examples/samples.fields")
+        .map((line) => line.split(" ").slice(1).sort().join(" ")));
+}
+
 export async function compareTasks() {
     const model = await opened(bytesIn("examples/events.data"));
     const found = [];

@@ -120,6 +120,17 @@ export async function describeEvents() {
         ["<b>", "task-clock"]);
 }
 
+/** A file whose perf was killed: its data have no size, and its features do not count. */
+export async function openUnclosed() {
+    const bytes = fileOf([sample({ pid: 1, time: 1 }), sample({ pid: 1, time: 2 })], ["a name"]);
+    const features = bytes.length - (16 + 8 + 136 + 8 + 7 + 8);
+    const open = bytes.slice(0, features);
+    open.fill(0, 48, 56);
+    const { overview } = await opened(open);
+    same("a file that is not closed", [overview.isClosed, overview.samples, overview.events[0].name],
+        [false, 2, "cpu-clock"]);
+}
+
 /** Lists that a file makes too long. */
 export async function limitLists() {
     const frames = [];
