@@ -26,9 +26,9 @@ class Browser:
             self.port = free.getsockname()[1]
         quiet = {"stdout": subprocess.DEVNULL, "stderr": subprocess.DEVNULL}
         self.driver = subprocess.Popen(["chromedriver", f"--port={self.port}"], **quiet)
-        words = ["--headless=new", "--no-sandbox", "--disable-gpu", "--hide-scrollbars", "--lang=en",
-                 f"--user-data-dir={self.room.name}", f"--window-size={size[0]},{size[1]}",
-                 "--force-device-scale-factor=1"]
+        words = ["--headless=new", "--no-sandbox", "--disable-gpu", "--disable-dev-shm-usage", "--hide-scrollbars",
+                 "--lang=en", "--force-device-scale-factor=1", f"--window-size={size[0]},{size[1]}",
+                 f"--user-data-dir={self.room.name}"]
         options = {"binary": shutil.which("chromium"), "args": words}
         self.wait_for_driver()
         self.session = ""

@@ -334,7 +334,8 @@ def tables(page):
     true(text.split("  ")[1].split() == [f"{byte:02x}" for byte in data[:8]], f"bytes of the frame: {text[:80]}")
     page.browser.press("Escape")
     page.browser.wait("return !document.querySelector('dialog')")
-    page.show("tab=records&order=time")
+    texts = texts_of(page.save("#export-svg", ".svg"))
+    true({"Summary", "comm", *expected[0]} <= set(texts), f"the table as an SVG file has its texts: {texts[:20]}")
     page.show("tab=records&order=file&text=" + "ls")
     true(0 < len(page.rows("records")) < len(dump), "words filter records")
 
@@ -355,7 +356,7 @@ def markup(page):
     same(page.facts()["events"][0][0], MARKUP, "name of the event")
     for tab in ("timeline", "flame", "tasks", "records"):
         page.show(f"tab={tab}&frame=0")
-        same(page.browser.run("return [document.images.length, document.scripts.length]"), [0, 2], f"elements in {tab}")
+        same(page.browser.run("return [document.images.length, document.scripts.length]"), [0, 3], f"elements in {tab}")
     page.show("tab=tasks")
     same(page.rows("tasks")[0][0], MARKUP, "name of the task")
     page.show(f"tab=flame&search=img")

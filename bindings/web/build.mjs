@@ -1,12 +1,13 @@
 // Makes the page, one HTML file with its script, its style, the worker and the WebAssembly module inside:
 //
-//     node bindings/web/build.mjs FOLDER PAGE.html
+//     node bindings/web/build.mjs FOLDER PAGE.html [LICENCES]
 //
-// FOLDER is what `make -C bindings js` made: perf_event_data.mjs, fields.mjs and module.mjs.
+// FOLDER is what `make -C bindings js` made, and LICENCES what `make -C bindings licences` made; without it the page
+// has those of this repository alone.
 
 import { createHash } from "node:crypto";
-import { mkdirSync, readFileSync, writeFileSync } from "node:fs";
-import { basename, dirname, join, resolve } from "node:path";
+import { mkdirSync, readdirSync, readFileSync, writeFileSync } from "node:fs";
+import { basename, dirname, join, relative, resolve } from "node:path";
 import { fileURLToPath } from "node:url";
 
 const HERE = dirname(fileURLToPath(import.meta.url));
@@ -106,9 +107,31 @@ function policyOf(script, style) {
         "require-trusted-types-for 'script'", "trusted-types worker"].join("; ");
 }
 
-function main([folder, file]) {
+/** Returns the paths of all files in a folder. */
+function filesIn(folder) {
+    const entries = readdirSync(folder, { withFileTypes: true }).sort((one, other) => one.name < other.name ? -1 : 1);
+    return entries.flatMap((entry) => {
+        const path = join(folder, entry.name);
+        return entry.isDirectory() ? filesIn(path) : [path];
+    });
+}
+
+/** Returns the texts of licences, each once, after their names. */
+function licencesOf(folder) {
+    const top = join(HERE, "../..");
+    const own = ["bindings/NOTICE", "LICENSE-APACHE", "LICENSE-MIT"].map((name) => join(top, name));
+    const names = new Map();
+    for (const path of folder ? filesIn(resolve(folder)) : own) {
+        const text = readFileSync(path, "utf8").trim();
+        const name = relative(folder ? resolve(folder) : top, path);
+        names.set(text, [...names.get(text) ?? [], name]);
+    }
+    return [...names].map(([text, all]) => `== ${all.join(", ")}\n\n${text}\n`).join("\n");
+}
+
+function main([folder, file, licences]) {
     if (!file) {
-        console.error("usage: node build.mjs FOLDER PAGE.html");
+        console.error("usage: node build.mjs FOLDER PAGE.html [LICENCES]");
         process.exit(2);
     }
     const version = readFileSync(join(HERE, "../VERSION"), "utf8").trim();
@@ -116,7 +139,7 @@ function main([folder, file]) {
     const style = readFileSync(join(HERE, "page/style.css"), "utf8");
     const parts = {
         POLICY: policyOf(script, style), STYLE: style, SCRIPT: script, VERSION: version,
-        WORKER: inPage(bundle("worker.mjs", resolve(folder))),
+        WORKER: inPage(bundle("worker.mjs", resolve(folder))), LICENCES: inPage(licencesOf(licences)),
     };
     const page = readFileSync(join(HERE, "page/index.html"), "utf8").replace(/@([A-Z]+)@/g, (_, name) => parts[name]);
     mkdirSync(dirname(resolve(file)), { recursive: true });

@@ -30,15 +30,12 @@ export class ExportMenu {
         this.#list.hidden = !isOpen;
         this.#opener.setAttribute("aria-expanded", String(isOpen));
         if (isOpen) {
-            const hasPicture = ["timeline", "flame"].includes(this.#shell.state.tab);
-            this.#svg.disabled = !hasPicture;
-            this.#svg.title = hasPicture ? "" : "The timeline and the flame graph are pictures";
-            this.#list.querySelector("button:not(:disabled)").focus();
+            this.#svg.focus();
         }
     }
 
     #key(event) {
-        const all = [...this.#list.querySelectorAll("button:not(:disabled)")];
+        const all = [...this.#list.children];
         const now = all.indexOf(document.activeElement);
         if (event.key === "Escape" && !this.#list.hidden) {
             this.#toggle(false);
@@ -69,7 +66,7 @@ export class ExportMenu {
 
     #saveView() {
         const { tab } = this.#shell.state;
-        const text = this.#shell.panels[tab].svg?.();
+        const text = this.#shell.panels[tab].svg();
         if (text) {
             save(`${this.#base}-${tab}.svg`, text, "image/svg+xml");
             this.#shell.say(`Wrote ${this.#base}-${tab}.svg`);

@@ -1,6 +1,6 @@
-// The keys of the page.
+// The keys of the page, what becomes of data, and licences.
 
-import { element, openDialog } from "./elements.mjs";
+import { byId, element, openDialog } from "./elements.mjs";
 import { PRIVATE } from "./landing.mjs";
 
 const KEYS = {
@@ -8,8 +8,8 @@ const KEYS = {
         ["Tab", "goes through all controls"], ["← →", "on a tab: the next view"], ["/", "search or filter in the view"],
     ],
     Timeline: [
-        ["← →", "move"], ["+ −", "zoom"], ["0", "the whole recording"], ["Home End", "its begin and end"],
-        ["Shift ← →", "select a range"], ["Shift Home End", "extend it to the begin or end"],
+        ["← →", "move"], ["+ −", "zoom"], ["0", "the whole recording"], ["Home End", "its beginning and end"],
+        ["Shift ← →", "select a range"], ["Shift Home End", "extend it to the beginning or end"],
         ["Z", "zoom to the selection"], ["Esc", "clear the selection"], ["↑ ↓", "choose a lane"],
         [", .", "the marks of the lane"], ["Enter", "filter by the lane"], ["wheel, Shift wheel", "zoom, move"],
         ["drag", "select a range"],
@@ -27,5 +27,8 @@ export function showHelp() {
         element("dl", { class: "facts" }, ...keys.flatMap(([key, what]) =>
             [element("dt", {}, element("kbd", {}, key)), element("dd", {}, what)])),
     ]);
-    openDialog("Keys", ...lists, element("h3", {}, "Your data"), element("p", {}, PRIVATE));
+    const { textContent, dataset } = byId("licences");
+    openDialog("Keys and help", ...lists, element("h3", {}, "Your data"), element("p", {}, PRIVATE),
+        element("h3", {}, `perf_event_data ${dataset.version}: licences`),
+        element("pre", { class: "licences" }, textContent));
 }

@@ -17,6 +17,9 @@ import { initialState, readAddress, THEMES, writeAddress } from "./view_state.mj
 import { Stopped, WorkerLink } from "./worker_link.mjs";
 import { plural, sizeText } from "./words.mjs";
 
+// Browsers refuse addresses that are much longer.
+const LONGEST = 60000;
+
 class Page {
     state = readAddress(location.hash);
     overview;
@@ -100,14 +103,14 @@ class Page {
         const before = writeAddress(this.state);
         this.state = { ...this.state, ...changes };
         const now = writeAddress(this.state);
-        if (before !== now) {
+        if (before !== now && now.length < LONGEST) {
             clearTimeout(this.#writing);
             if (isStep) {
-                history.replaceState(null, "", before);
+                history.replaceState(null, "", before.length < LONGEST ? before : "#");
                 history.pushState(null, "", now);
             } else {
                 // browsers limit how often an address may change
-                this.#writing = setTimeout(() => history.replaceState(null, "", writeAddress(this.state)), 250);
+                this.#writing = setTimeout(() => history.replaceState(null, "", now), 250);
             }
         }
         this.#show();
@@ -143,13 +146,17 @@ class Page {
 
     /** Opens a recording, and reads the symbols that are beside it. */
     async open(files) {
-        const { recordings, symbols } = await sorted(files);
         byId("notice").hidden = true;
-        if (recordings.length) {
-            await this.#openRecording(recordings[0]);
-        }
-        for (const file of symbols) {
-            await this.#readSymbols(file);
+        try {
+            const { recordings, symbols } = await sorted(files);
+            if (recordings.length) {
+                await this.#openRecording(recordings[0]);
+            }
+            for (const file of symbols) {
+                await this.#readSymbols(file);
+            }
+        } catch (error) {
+            this.complain(error);
         }
     }
 

@@ -2,6 +2,7 @@
 
 import { button, element, fact } from "./elements.mjs";
 import { showBytes } from "./bytes_dialog.mjs";
+import { elementPicture } from "./element_picture.mjs";
 import { clockText, countText, plural, shareText, sizeText, spanText } from "./words.mjs";
 
 function card(title, isWide, ...contents) {
@@ -117,6 +118,10 @@ export class Overview {
     reset() {
         this.#shown = undefined;
         this.root.replaceChildren();
+    }
+
+    svg() {
+        return elementPicture(this.root, "Overview");
     }
 
     show() {

@@ -1,6 +1,7 @@
 // The table of records, and one frame's fields in full.
 
 import { button, chooser, element, fact, searchField, setOptions } from "./elements.mjs";
+import { elementPicture } from "./element_picture.mjs";
 import { Grid } from "./grid.mjs";
 import { showBytes } from "./bytes_dialog.mjs";
 import { filterOf } from "./view_state.mjs";
@@ -67,6 +68,10 @@ export class Records {
         this.#details.hidden = true;
         delete this.#details.dataset.frame;
         this.#kind.select.replaceChildren();
+    }
+
+    svg() {
+        return elementPicture(this.#grid.root.parentElement, "Records");
     }
 
     focusSearch() {

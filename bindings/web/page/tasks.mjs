@@ -1,6 +1,7 @@
 // The table of tasks: each thread with its samples.
 
 import { button, element, searchField } from "./elements.mjs";
+import { elementPicture } from "./element_picture.mjs";
 import { Grid } from "./grid.mjs";
 import { filterOf } from "./view_state.mjs";
 import { Latest } from "./worker_link.mjs";
@@ -62,6 +63,10 @@ export class Tasks {
         this.#asked = this.#active = undefined;
         this.#rows = this.#shown = [];
         this.#grid.show(0, () => undefined);
+    }
+
+    svg() {
+        return elementPicture(this.#grid.root, "Tasks");
     }
 
     focusSearch() {

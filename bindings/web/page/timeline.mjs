@@ -13,7 +13,9 @@ const NOTHING = { from: 0, to: 1, lanes: [], most: 1 };
 const KEYS = "Timeline. Left and right move, plus and minus zoom, up and down choose a lane, comma and full stop go "
     + "through its marks, shift with left and right selects a range, Z zooms to it, Enter filters by the lane, Escape "
     + "clears the range.";
-const ORDERS = [["samples", "Most samples"], ["start", "First sample"], ["number", "Number"]];
+const ORDERS = [
+    ["samples", "Most samples"], ["sight", "Most in sight"], ["start", "First sample"], ["number", "Number"],
+];
 const SIGNS = {
     density: [[-5, 5], [-5, 0], [-2, 0], [-2, -5], [1, -5], [1, 2], [4, 2], [4, 5]],
     running: [[-6, 1], [6, 1], [6, 4], [-6, 4]],
@@ -161,8 +163,9 @@ export class Timeline {
                 this.#firsts = new Map(lanes.map(({ key, density }) => [key, density.findIndex((count) => count > 0)]));
             }
             const { lanes, total } = await this.#shell.call("lanes", words);
-            const some = `${countText(lanes.length)} of ${countText(total)} lanes, those with most samples`;
+            const some = `${countText(lanes.length)} of ${countText(total)} lanes`;
             this.#some.textContent = total > lanes.length ? some : "";
+            this.#some.title = "Those with most samples: a filter selects others";
             const most = Math.max(1, ...lanes.map(({ density }) => mostOf(density)));
             const active = this.#data.lanes[this.#active]?.key;
             this.#data = { from: words.from, to: words.to, lanes, most };
@@ -181,7 +184,9 @@ export class Timeline {
         const { lanes } = this.#data;
         const first = ({ key }) => this.#firsts?.get(key) ?? 0;
         const orders = {
-            samples: () => 0, start: (one, other) => first(one) - first(other),
+            samples: () => 0,
+            sight: (one, other) => other.samples - one.samples,
+            start: (one, other) => first(one) - first(other),
             number: (one, other) => one.pid - other.pid || one.tid - other.tid,
             processor: (one, other) => one.cpu - other.cpu,
         };

@@ -48,7 +48,9 @@ function drawRuler(painter, { width, height, colours }, { view, range }) {
     const middle = middleOf(range, view, width) ?? -1000;
     const step = stepOf((view.to - view.from) * 110 / Math.max(1, width - GUTTER));
     painter.rect(0, STRIP, width, TOP - STRIP, colours.ground);
-    for (let time = Math.ceil(view.from / step) * step; time <= view.to; time += step) {
+    const first = Math.ceil(view.from / step);
+    for (let index = 0; index <= (view.to - view.from) / step; index += 1) {
+        const time = (first + index) * step;
         const x = Math.round(xOf(time, view, width));
         painter.rect(x, TOP - 6, 1, 6, colours.quiet);
         painter.rect(x, TOP, 1, height - TOP, colours.line);

@@ -30,8 +30,8 @@ const MEMBERS = {
     tab: choice(...TABS), theme: choice(...THEMES), by: choice("thread", "cpu"), view: span, range: span,
     event: number, pid: number, tid: number, cpu: number, comm: words,
     weight: choice("samples", "period"), inverted: flag, box: words, search: words,
-    lanes: choice("samples", "start", "number"), order: choice("file", "time"), kind: words, text: words, frame: number,
-    task: words, sorted: words,
+    lanes: choice("samples", "sight", "start", "number"), order: choice("file", "time"), kind: words, text: words,
+    frame: number, task: words, sorted: words,
 };
 
 export function initialState() {

@@ -20,7 +20,6 @@ export class WorkerLink {
 
     constructor(onprogress) {
         this.#onprogress = onprogress;
-        this.#start();
     }
 
     #start() {
@@ -28,9 +27,9 @@ export class WorkerLink {
         this.#worker.onmessage = ({ data }) => this.#receive(data);
         this.#worker.onerror = (event) => {
             event.preventDefault();
-            this.#restart(new Error(event.message || "the worker that reads ended, perhaps as it was out of memory"));
+            this.#end(new Error(event.message || "the worker that reads has ended, perhaps out of memory"));
         };
-        this.#worker.onmessageerror = () => this.#restart(new Error("a result could not be received"));
+        this.#worker.onmessageerror = () => this.#end(new Error("a result could not be received"));
     }
 
     #receive({ id, result, error, progress }) {
@@ -52,21 +51,25 @@ export class WorkerLink {
         const id = ++this.#calls;
         return new Promise((resolve, reject) => {
             this.#waiting.set(id, { resolve, reject });
+            if (!this.#worker) {
+                this.#start();
+            }
             this.#worker.postMessage({ id, call: name, ...words }, transfer);
         });
     }
 
-    #restart(why) {
-        this.#worker.terminate();
+    /** Ends the worker; the next call starts another one. */
+    #end(why) {
+        this.#worker?.terminate();
+        this.#worker = undefined;
         const waiting = [...this.#waiting.values()];
         this.#waiting.clear();
-        this.#start();
         waiting.forEach(({ reject }) => reject(why));
     }
 
     /** Ends what is running; its calls throw `Stopped`. */
     stop() {
-        this.#restart(new Stopped("stopped"));
+        this.#end(new Stopped("stopped"));
     }
 }
 
