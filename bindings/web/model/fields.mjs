@@ -34,14 +34,14 @@ function fieldText(name, value, each) {
     return listText(name, value, each || 1);
 }
 
-/** All that a frame has, as pairs of a name and a text. */
+/** All that a frame has, as pairs of a name and a text. What its sample id has under a name of the record's own is
+ * `sample_id.NAME`. */
 export function fieldsOf(frame) {
-    const own = ["type", "misc", "pid", "tid", "time", "cpu", "id", "stream_id"]
-        .filter((name) => frame[name] !== undefined)
-        .map((name) => [name, name === "misc" ? hexOf(0, frame.misc) : String(frame[name])]);
-    const fields = Object.entries(frame.fields)
-        .map(([name, value]) => [name, fieldText(name, value, frame.itemLength(name))]);
-    return [...own, ...fields];
+    const { fields } = frame;
+    const own = ["pid", "tid", "time", "cpu", "id", "stream_id"].filter((name) => frame[name] !== undefined)
+        .map((name) => [name in fields ? `sample_id.${name}` : name, String(frame[name])]);
+    const all = Object.entries(fields).map(([name, value]) => [name, fieldText(name, value, frame.itemLength(name))]);
+    return [["type", String(frame.type)], ["misc", hexOf(0, frame.misc)], ...all, ...own];
 }
 
 const hex = (number) => `0x${number.toString(16)}`;

@@ -21,7 +21,6 @@ export const PERF = 64;
 
 /** In `event`: perf wrote the frame for itself, or its event is not known. */
 export const NO_EVENT = -1;
-export const UNKNOWN_EVENT = -2;
 
 export const NO_TASK = 0xffffffff;
 export const NO_CPU = 0xffffffff;
@@ -57,8 +56,7 @@ const MARKS = new Map([[0xffffff80, KERNEL_FOLLOWS], [0xfffffe00, USER_FOLLOWS]]
 export class SampleAddresses extends Table {
     constructor(room) {
         super({
-            frame: Uint32Array, period: Float64Array, ip: Int32Array, chainStart: Float64Array,
-            chainLength: Uint16Array,
+            period: Float64Array, ip: Int32Array, chainStart: Float64Array, chainLength: Uint16Array,
         }, room);
         // Numbers of addresses, and marks.
         this.chains = new Growing(Uint32Array, 16 * room);
@@ -66,9 +64,8 @@ export class SampleAddresses extends Table {
     }
 
     /** Puts a sample, and returns its number. */
-    put(frame, ip, period, chain) {
+    put(ip, period, chain) {
         const row = this.addRow();
-        this.frame[row] = frame;
         this.period[row] = period;
         this.ip[row] = ip === undefined ? -1 : this.addresses.numberOf(Number(ip >> 32n), Number(ip & 0xffffffffn), 0);
         this.chainStart[row] = this.chains.length;

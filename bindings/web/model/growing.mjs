@@ -32,9 +32,6 @@ export class Growing {
         more.set(this.array);
         this.array = more;
     }
-
-    /** The numbers, without the room after them. They stay the same memory until the next one is put. */
-    get numbers() { return this.array.subarray(0, this.length); }
 }
 
 /** Rows of numbers: a typed array for each column, by its name. There are `count` rows, and then room for more. */
@@ -102,9 +99,6 @@ export class Triples {
         this.slots[slot] = this.count + 1;
         return this.#put(first, second, third);
     }
-
-    /** The number of a triple, or -1. */
-    find(first, second, third) { return this.slots[this.#slotOf(first >>> 0, second >>> 0, third >>> 0)] - 1; }
 
     /** Where a triple's number is, and one more than it; or an empty slot, which has 0. */
     #slotOf(first, second, third) {

@@ -63,11 +63,13 @@ export class History {
     #apply(frame) {
         const { frames, tasks } = this;
         const [task, time] = [frames.task[frame], frames.time[frame]];
+        if (task !== NO_TASK) {
+            tasks.see(task, time);
+        }
         if (frames.isRefused[frame] === 0 && frames.event[frame] >= 0) {
             this.#applyRecord(frame, frames.type[frame], task, time);
         }
         if (task !== NO_TASK) {
-            tasks.see(task, time);
             this.names[frame] = tasks.nameOf(task);
         }
     }

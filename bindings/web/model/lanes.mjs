@@ -1,6 +1,6 @@
 // The timeline: a lane for each thread or processor, with samples as density, switches as intervals, and marks.
 
-import { FORK, NO_CPU, NO_TASK } from "./frames.mjs";
+import { NO_CPU, NO_TASK } from "./frames.mjs";
 import { MARKS } from "./history.mjs";
 import { placesWithin, select } from "./selection.mjs";
 
@@ -124,7 +124,7 @@ function putMarks(recording, lanes, kind, view) {
         counts = [...found.values()].map((places) => places.length);
         width *= 2;
     } while (counts.some((count) => count > MOST_MARKS)
-        || counts.length < MOST_MARKS_IN_ALL && counts.reduce((sum, count) => sum + count, 0) > MOST_MARKS_IN_ALL);
+        || counts.reduce((sum, count) => sum + count, 0) > MOST_MARKS_IN_ALL);
     for (const [key, places] of found) {
         lanes.get(key).marks = places.map((place) => {
             const mark = MARKS[marks.kind[place]];
@@ -136,14 +136,14 @@ function putMarks(recording, lanes, kind, view) {
 
 /** The lanes of a range of time. */
 export function lanes(recording, { by = "thread", from = 0, to = recording.duration, columns = 1000, filter = {},
-    limit }) {
+    limit = MOST_LANES }) {
     const kind = KINDS[by];
     if (kind === undefined) {
         throw new RangeError("lanes are by thread or by cpu");
     }
     const whole = Math.min(Math.max(Math.floor(columns) || 1, 1), MOST_COLUMNS);
     const view = { from, to: Math.max(to, from), columns: whole, width: Math.max(to - from, 1) / whole };
-    const [found, total] = emptyLanes(recording, kind, filter, { columns: whole, limit: limit ?? MOST_LANES });
+    const [found, total] = emptyLanes(recording, kind, filter, { columns: whole, limit: Math.min(limit, MOST_LANES) });
     putSamples(recording, found, kind, filter, view);
     putRunning(recording, found, kind, view);
     putMarks(recording, found, kind, view);

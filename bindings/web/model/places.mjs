@@ -15,8 +15,6 @@ export class Places {
         this.unknown = this.ids.numberOf(UNKNOWN, 0, 0);
     }
 
-    get count() { return this.ids.count; }
-
     kernel(upper, lower) { return this.ids.numberOf(KERNEL, upper, lower); }
 
     inFile(file, upper, lower) { return this.ids.numberOf(file + FILES, upper, lower); }

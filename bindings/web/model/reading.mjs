@@ -2,7 +2,7 @@
 
 import {
     COMM, EXIT, FORK, FrameTable, ITRACE_START, LOST, LOST_SAMPLES, MappingTable, MMAP, MMAP2, NAMESPACES, NO_CPU,
-    NO_EVENT, NO_TASK, NOTHING, PERF, READ, SAMPLE, SampleAddresses, SWITCH, SWITCH_CPU_WIDE, UNKNOWN_EVENT,
+    NO_EVENT, NO_TASK, NOTHING, PERF, READ, SAMPLE, SampleAddresses, SWITCH, SWITCH_CPU_WIDE,
 } from "./frames.mjs";
 import { Texts } from "./growing.mjs";
 import { Places } from "./places.mjs";
@@ -16,8 +16,6 @@ const MODE = 7;
 const IS_DATA = 0x2000;
 const EXECUTABLE = 4n;
 const NO_TIME = 0xffffffffffffffffn;
-const OWNER_PERF = 1;
-const OWNER_EVENT = 0;
 const MOST_REFUSED = 1000;
 const MOST_TYPES = 1000;
 /** The most bytes of a thread's name, of which the kernel writes 16, and of a path. */
@@ -65,7 +63,7 @@ export class Reading {
 
     #add(frame) {
         const { frames } = this;
-        const [index, isRefused, type] = [frames.count, frame.refusal !== 0, frame.type];
+        const [isRefused, type] = [frame.refusal !== 0, frame.type];
         const event = this.#eventOf(frame, type);
         const fields = !isRefused && event >= 0 && WITH_FIELDS.has(type) ? frame.fields : undefined;
         const time = this.#timeOf(frame, type, isRefused);
@@ -80,8 +78,8 @@ export class Reading {
         frames.time[row] = time;
         frames.task[row] = isRefused ? NO_TASK : this.#taskOf(frame, fields, type, time);
         frames.cpu[row] = cpu ?? NO_CPU;
-        frames.extra[row] = isRefused ? this.#refuse(frame, index)
-            : event < 0 ? NOTHING : this.#detail(frame, fields, type, index, event);
+        frames.extra[row] = isRefused ? this.#refuse(frame, row)
+            : event < 0 ? NOTHING : this.#detail(frame, fields, type, event);
         if (cpu !== undefined && (time > -Infinity || type === SAMPLE)) {
             this.cpus.add(cpu);
         }
@@ -102,7 +100,7 @@ export class Reading {
         if (frame.owner === undefined) {
             return type >= PERF ? NO_EVENT : 0;
         }
-        return frame.owner === OWNER_EVENT ? frame.event.number : frame.owner === OWNER_PERF ? NO_EVENT : UNKNOWN_EVENT;
+        return frame.event?.number ?? NO_EVENT;
     }
 
     /** The time after the first one that was read. perf's own records have 0 in place of a time. */
@@ -142,10 +140,10 @@ export class Reading {
     }
 
     /** Keeps what follows from a record, and returns its number. */
-    #detail(frame, fields, type, index, event) {
+    #detail(frame, fields, type, event) {
         switch (type) {
             case SAMPLE:
-                return this.#sample(frame, fields, index, event);
+                return this.#sample(frame, fields, event);
             case MMAP:
             case MMAP2:
                 return this.#mapping(frame, fields);
@@ -167,7 +165,7 @@ export class Reading {
         }
     }
 
-    #sample(frame, { ip, period, callchain }, index, event) {
+    #sample(frame, { ip, period, callchain }, event) {
         const { has, sums, input } = this;
         has.hasTime ||= frame.time !== undefined;
         has.hasCpu ||= frame.cpu !== undefined;
@@ -175,7 +173,7 @@ export class Reading {
         const weight = period ?? input.events[event].ownPeriod;
         sums[event].samples += 1;
         sums[event].period += weight;
-        return this.samples.put(index, ip, Number(weight), callchain);
+        return this.samples.put(ip, Number(weight), callchain);
     }
 
     #mapping({ misc, type }, fields) {

@@ -123,11 +123,11 @@ export class Recording {
         return this.bytes.slice(at, at + Math.min(size, MOST_BYTES));
     }
 
-    /** Adds a text of symbols, and returns how many it has. */
+    /** Adds a text of symbols: how many it has, and whether the recording has the file that they are of. */
     addSymbols({ text, file }) {
-        const count = this.symbols.add(text, file, (name, table) => this.#biasOf(name, table));
+        const { count, name } = this.symbols.add(text, file, (...words) => this.#biasOf(...words));
         this.shown = new ShownPlaces(this.places, this.symbols);
-        return { count };
+        return { count, isUsed: count > 0 && (name === undefined || this.places.files.numbers.has(name)) };
     }
 
     /** How far offsets in a file are below its addresses: in a program that is always at one place, by its mapping. */
@@ -135,10 +135,10 @@ export class Recording {
         const file = this.places.files.numbers.get(name);
         const { table } = this;
         const middle = symbols.addressOf(symbols.count >>> 1);
-        for (let mapping = 0; mapping < table.file.length; mapping++) {
+        for (let mapping = 0; mapping < table.count; mapping++) {
             const [first, last] = [table.number("first", mapping), table.number("last", mapping)];
-            if (table.file[mapping] === file && !table.keepsAddress[mapping] && first <= middle
-                && middle <= last) {
+            const isFile = table.file[mapping] === file && !table.keepsAddress[mapping];
+            if (isFile && first <= middle && middle <= last) {
                 return first - table.number("offset", mapping);
             }
         }

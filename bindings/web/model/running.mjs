@@ -10,10 +10,12 @@ export class Running extends Table {
         this.since = new Map();
         this.onCpu = new Map();
         this.wasSeen = new Set();
+        this.switched = new Set();
     }
 
     /** Nothing runs on a processor any more: what did ends, if its own record was lost. */
     idle(cpu, time) {
+        this.switched.add(cpu);
         const task = this.onCpu.get(cpu);
         if (task !== undefined) {
             this.#close(task, time);
@@ -25,6 +27,7 @@ export class Running extends Table {
         if (this.onCpu.get(cpu) !== task) {
             this.idle(cpu, time);
         }
+        this.switched.add(cpu);
         this.since.set(task, { time, cpu });
         if (cpu !== NO_CPU) {
             this.onCpu.set(cpu, task);
@@ -32,11 +35,14 @@ export class Running extends Table {
         this.wasSeen.add(task);
     }
 
-    /** A thread ends running; without a record of its begin it ran since `first`, when it was seen first. */
+    /** A thread ends running. Without a record of its begin it ran since `first`, when it was seen first, or on a
+     * processor without any switch before since the recording began. */
     end(task, cpu, time, first) {
         if (!this.since.has(task) && !this.wasSeen.has(task)) {
-            this.since.set(task, { time: first, cpu });
+            const isFirst = cpu !== NO_CPU && !this.switched.has(cpu);
+            this.since.set(task, { time: isFirst ? 0 : Math.min(first, time), cpu });
         }
+        this.switched.add(cpu);
         this.wasSeen.add(task);
         this.#close(task, time);
     }
@@ -53,11 +59,13 @@ export class Running extends Table {
         if (this.onCpu.get(begin.cpu) === task) {
             this.onCpu.delete(begin.cpu);
         }
-        const row = this.addRow();
-        this.from[row] = begin.time;
-        this.to[row] = time;
-        this.task[row] = task;
-        this.cpu[row] = begin.cpu;
+        if (begin.time < time) {
+            const row = this.addRow();
+            this.from[row] = begin.time;
+            this.to[row] = time;
+            this.task[row] = task;
+            this.cpu[row] = begin.cpu;
+        }
     }
 
     /** Nothing comes after that time. */

@@ -86,20 +86,26 @@ export class Symbols {
         this.kernel = undefined;
     }
 
-    /** Adds the symbols of a text, and returns how many code symbols it has. */
-    add(text, file, biasOf) {
-        const name = file?.replace(SUFFIXES, "");
-        const isMap = name !== undefined && MAP_FILE.test(name);
+    /** Adds the symbols of a text: how many of code it has, and the name of the file that they are of, undefined for
+     * the kernel. `biasOf` gives how far a file's offsets are below its addresses. */
+    add(text, file = "", biasOf) {
+        const name = file.replace(SUFFIXES, "");
+        const isMap = MAP_FILE.test(name);
         const symbols = text.split("\n").map((line) => symbolOf(line, isMap)).filter((it) => it !== undefined);
         const table = new SymbolTable(symbols);
-        const isKernel = table.count > 0 && table.upper[table.count >>> 1] >= 0x80000000;
-        if (isKernel) {
+        const { count } = table;
+        if (count > 0 && table.addressOf(count - 1) === 0) {
+            throw new RangeError("all addresses are 0: copy /proc/kallsyms as root");
+        }
+        if (count > 0 && table.upper[count >>> 1] >= 0x80000000) {
             this.kernel = table;
-        } else if (name !== undefined && table.count > 0) {
+            return { count };
+        }
+        if (count > 0) {
             table.bias = biasOf(name, table);
             this.files.set(name, table);
         }
-        return isKernel || name !== undefined ? table.count : 0;
+        return { count, name };
     }
 }
 

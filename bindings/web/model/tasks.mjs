@@ -15,6 +15,7 @@ export class Tasks extends Table {
         });
         this.texts = texts;
         this.ids = new Triples();
+        this.ownNames = new Map();
     }
 
     /** The number of a thread. */
@@ -26,9 +27,6 @@ export class Tasks extends Table {
         }
         return task;
     }
-
-    /** The number of a thread, or -1. */
-    find(pid, tid) { return this.ids.find(pid, tid, 0); }
 
     pid(task) { return this.ids.first[task]; }
 
@@ -49,11 +47,10 @@ export class Tasks extends Table {
             return name - 1;
         }
         const tid = this.tid(task);
-        this.ownName ??= new Map();
-        let own = this.ownName.get(tid);
+        let own = this.ownNames.get(tid);
         if (own === undefined) {
             own = this.texts.numberOf(tid === 0 ? "swapper" : `:${tid | 0}`);
-            this.ownName.set(tid, own);
+            this.ownNames.set(tid, own);
         }
         return own;
     }

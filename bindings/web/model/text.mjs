@@ -17,7 +17,7 @@ export function hexOf(upper, lower) {
     return upper === 0 ? `0x${lower.toString(16)}` : `0x${upper.toString(16)}${lower.toString(16).padStart(8, "0")}`;
 }
 
-/** The first `count` digits after the point of a number of nanoseconds, in seconds. */
+/** A number of nanoseconds in seconds, with all digits. */
 export function secondsOf(nanoseconds) {
     const digits = String(nanoseconds).padStart(10, "0");
     return `${digits.slice(0, -9)}.${digits.slice(-9)}`;

@@ -221,6 +221,7 @@ export async function followSwitches() {
     const out = 0x2000;
     const frames = [
         switched({ pid: 1, time: 100, misc: out }), switched({ pid: 2, time: 110 }), // 1 ran before
+        switched({ pid: 8, time: 112, cpu: 4, misc: out }), switched({ pid: 9, time: 113, cpu: 4, misc: out }), // and 8
         switched({ pid: 3, time: 150 }), switched({ pid: 2, time: 160, cpu: 1 }), // 2 stopped when 3 began
         switched({ pid: 0, tid: 0, time: 170 }), // so did 3
         switched({ pid: 3, time: 180, misc: out }), switched({ pid: 3, time: 190, misc: out }),
@@ -232,17 +233,17 @@ export async function followSwitches() {
     const words = { from: 0, to: 310, columns: 100000, filter: {} };
     const { lanes } = await model.call("lanes", { by: "thread", ...words });
     same("when threads ran", lanes.map((it) => `${it.tid}: ${[...it.running]}`).sort(),
-        ["1: 0,10", "2: 20,60,70,110", "3: 60,80", "4: 130,310"]);
+        ["1: 0,10", "2: 20,60,70,110", "3: 60,80", "4: 130,310", "8: 0,22", "9: "]);
     const cpus = await model.call("lanes", { by: "cpu", ...words });
     same("when processors ran", cpus.lanes.map((it) => `${it.cpu}: ${[...it.running]}`).sort(),
-        ["0: 0,10,20,80", "1: 70,110", "2: 130,310", "3: "]);
+        ["0: 0,10,20,80", "1: 70,110", "2: 130,310", "3: ", "4: 0,22"]);
     same("intervals that are near", [...(await model.call("lanes", { by: "cpu", ...words, columns: 2 }))
         .lanes[0].running], [0, 80]);
     const marks = lanes.flatMap((it) => it.marks.map(({ time, kind, text }) => `${it.tid} ${time} ${kind} ${text}`))
         .sort();
     same("marks", marks, ["1 0 exec one", "1 310 comm last", "2 110 exit exit", "4 120 lost lost"]);
     same("how many are lost", [model.overview.lost, model.overview.hasSwitches, model.overview.cpus.join()],
-        [5n, true, "0,1,2,3"]);
+        [5n, true, "0,1,2,3,4"]);
 }
 
 /** Without processors threads may run at the same time. */

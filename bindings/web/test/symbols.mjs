@@ -1,6 +1,6 @@
 // Names of places by files of symbols.
 
-import { folded, opened, same } from "./harness.mjs";
+import { folded, messageOf, opened, same } from "./harness.mjs";
 import { fileOf, mmap2, sample } from "./made.mjs";
 
 const NM = `                 U malloc@GLIBC_2.2.5
@@ -38,7 +38,12 @@ export async function nameOffsets() {
     same("names in a file", await folded(model), [":1;0xffffffff810001ff_[k] 1", ":1;first 2", ":1;liba.so+0x1028 1",
         ":1;operator new(unsigned long) 1", ":1;sized(int, char const*) 1", ":1;weak 1"].sort());
     same("before there were symbols", before.length, 7);
-    same("symbols of a file that is not there", (await model.call("symbols", { text: NM, file: "libb.so" })).count, 5);
+    same("symbols of files", await Promise.all(["liba.so", "libb.so"].map(async (file) => {
+        const { count, isUsed } = await model.call("symbols", { text: NM, file });
+        return `${count} ${isUsed}`;
+    })), ["5 true", "5 false"]);
+    same("addresses that are hidden", await messageOf(model.call("symbols", { text: "0000000000000000 T _text\n" })),
+        "all addresses are 0: copy /proc/kallsyms as root");
     same("no symbols", (await model.call("symbols", { text: "no\nsymbols\n", file: "liba.so" })).count, 0);
     const { nodes } = await model.call("flame", { filter: {}, inverted: true });
     same("names in an inverted graph", [...nodes.of].map((name, node) => [nodes.name[name],
