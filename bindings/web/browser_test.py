@@ -390,6 +390,27 @@ def hostile(page):
     page.must_open(EXAMPLES / "events.data")
 
 
+def extremes(page):
+    """Times, names and call chains as long as they can be are shown."""
+    recording, task = made.Recording(), (2**31 - 1, 2**31 - 1)
+    recording.put(0, task, 0, 3, 0, made.pack("II", *task) + made.padded("n" * 60000))
+    for time_ in (1, 2**63, 2**64 - 2 - made.BASE):
+        chain = made.pack("8000Q", *range(4096, 4096 + 8000))
+        body = made.pack("QQIIQIIQQ", 16, 2**64 - 1, *task, made.BASE + time_, 2**32 - 1, 0, 2**63, 8000) + chain
+        recording.frames.append((time_, time_, made.frame(9, 2, body)))
+    page.start()
+    page.must_open(page.write("extreme.data", made.bytes_of(recording)))
+    same(page.facts()["samples"], "3", "samples")
+    for words in ("tab=timeline", "tab=timeline&by=cpu", "tab=timeline&view=18000000000000000000-18400000000000000000",
+                  "tab=flame&weight=period", "tab=flame&inverted=1&search=0x1", "tab=tasks", "tab=records&frame=1"):
+        page.show(words)
+    page.show("tab=timeline")
+    page.browser.run("document.querySelector('canvas.is-timeline').focus()")
+    page.browser.press(*"+" * 60, "End", "ArrowLeft", "Home")
+    page.browser.press("ArrowRight", "End", shift=True)
+    same(page.count()[1], 3, "samples after all views")
+
+
 def refused_bytes(page):
     """A refused frame can be opened as bytes from the overview."""
     data = bytearray((EXAMPLES / "recording.stream").read_bytes())
@@ -592,7 +613,7 @@ def pictures(page, folder):
 
 
 TESTS = [streams, first_time, file_of_perf, header_of_perf, selected_range, timeline_keys, flame_keys, flame_weights,
-         tables, markup, dropping, hostile, refused_bytes, no_network, keys_reach_everything, contrast, address,
+         tables, markup, dropping, hostile, extremes, refused_bytes, no_network, keys_reach_everything, contrast, address,
          stopping, speed]
 
 
