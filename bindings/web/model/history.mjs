@@ -17,6 +17,8 @@ const BIT_13 = 0x2000;
 const MODE = 7;
 const MODES = { kernel: 1, user: 2 };
 const LONGEST_CHAIN = 1 << 13;
+/** In place of the number of a thread that ended already. */
+const GONE = 0xffffffff;
 
 export const MARKS = ["comm", "exec", "fork", "exit", "lost"];
 /** In `names`: the frame is about no thread. */
@@ -102,6 +104,7 @@ export class History {
                 break;
             case SWITCH:
             case SWITCH_CPU_WIDE:
+                this.running.isOfCpus ||= type === SWITCH_CPU_WIDE;
                 this.#switch(frames.cpu[frame], frames.misc[frame], task, time);
         }
     }
@@ -154,11 +157,14 @@ export class History {
         if (task === NO_TASK || time === -Infinity) {
             return;
         }
-        const isIdle = this.tasks.tid(task) === 0;
-        if ((misc & BIT_13) === 0) {
-            isIdle ? this.running.idle(cpu, time) : this.running.begin(task, cpu, time);
-        } else if (!isIdle) {
+        const tid = this.tasks.tid(task);
+        const isOut = (misc & BIT_13) !== 0;
+        if (tid === GONE || tid === 0 && !isOut) {
+            this.running.idle(cpu, time);
+        } else if (isOut && tid !== 0) {
             this.running.end(task, cpu, time, this.tasks.first[task]);
+        } else if (!isOut) {
+            this.running.begin(task, cpu, time);
         }
     }
 

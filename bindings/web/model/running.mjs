@@ -11,6 +11,8 @@ export class Running extends Table {
         this.onCpu = new Map();
         this.wasSeen = new Set();
         this.switched = new Set();
+        // Whether switches are recorded of processors, not of threads.
+        this.isOfCpus = false;
     }
 
     /** Nothing runs on a processor any more: what did ends, if its own record was lost. */
@@ -47,8 +49,16 @@ export class Running extends Table {
         this.#close(task, time);
     }
 
-    /** A thread is no more; of its last switch there is no record. */
-    exit(task, time) { this.#close(task, time); }
+    /** A thread is no more. If all switches of processors are recorded, it runs on until that of its own; else there is
+     * no record of its last one. */
+    exit(task, time) {
+        const begin = this.since.get(task);
+        if (begin !== undefined && this.isOfCpus) {
+            begin.exit = time;
+        } else {
+            this.#close(task, time);
+        }
+    }
 
     #close(task, time) {
         const begin = this.since.get(task);
@@ -70,6 +80,6 @@ export class Running extends Table {
 
     /** Nothing comes after that time. */
     finish(time) {
-        [...this.since.keys()].forEach((task) => this.#close(task, time));
+        [...this.since].forEach(([task, { exit }]) => this.#close(task, exit ?? time));
     }
 }

@@ -2,7 +2,9 @@
 
 import { orderOf } from "../model/order.mjs";
 import { check, folded, messageOf, opened, same } from "./harness.mjs";
-import { comm, exit, fileOf, fork, lost, mmap, mmap2, numbersFrom, sample, switched, writing } from "./made.mjs";
+import {
+    comm, exit, fileOf, fork, lost, mmap, mmap2, numbersFrom, sample, switched, switchedCpu, writing,
+} from "./made.mjs";
 
 const KERNEL = -128n;
 const USER = -512n;
@@ -244,6 +246,22 @@ export async function followSwitches() {
     same("marks", marks, ["1 0 exec one", "1 310 comm last", "2 110 exit exit", "4 120 lost lost"]);
     same("how many are lost", [model.overview.lost, model.overview.hasSwitches, model.overview.cpus.join()],
         [5n, true, "0,1,2,3,4"]);
+}
+
+/** Threads that end where all switches of processors are recorded: the last one is after the EXIT. */
+export async function followEnds() {
+    const out = 0x2000;
+    const frames = [
+        switchedCpu({ pid: 1, time: 100 }), exit({ pid: 1, time: 110 }), switchedCpu({ pid: 1, time: 115, misc: out }),
+        switchedCpu({ pid: 2, time: 120 }), exit({ pid: 2, time: 130 }),
+        switchedCpu({ pid: 0xffffffff, time: 136, misc: out }), switchedCpu({ pid: 0, time: 137 }),
+        switchedCpu({ pid: 0, time: 140, misc: out }), switchedCpu({ pid: 3, time: 141 }), exit({ pid: 3, time: 150 }),
+        comm({ pid: 4, name: "end", time: 200 }),
+    ];
+    const model = await opened(fileOf(frames));
+    const { lanes } = await model.call("lanes", { by: "thread", from: 0, to: 100, columns: 1000, filter: {} });
+    same("threads that end", lanes.map((it) => `${it.tid}: ${[...it.running]}`).sort(),
+        ["1: 0,15", "2: 20,36", "3: 41,50", "4: "]);
 }
 
 /** Without processors threads may run at the same time. */

@@ -75,6 +75,9 @@ export const lost = (it) => frame(2, 0, joined([bytesOf([8, 100], [8, it.lost]),
 /** Of a SWITCH 0x2000 in `misc` is out. */
 export const switched = (it) => frame(14, it.misc ?? 0, id(it));
 
+/** Of a SWITCH_CPU_WIDE too; the other thread is of no interest. */
+export const switchedCpu = (it) => frame(15, it.misc ?? 0, joined([bytesOf([4, 0], [4, 0]), id(it)]));
+
 export const sample = (it) => frame(9, it.misc ?? 2, bytesOf([8, 100 + (it.event ?? 0)], [8, it.ip ?? 0], [4, it.pid],
     [4, it.tid ?? it.pid], [8, it.time], ...writing.hasCpu ? [[4, it.cpu ?? 0], [4, 0]] : [], [8, it.period ?? 1],
     [8, it.chain?.length ?? 0],
