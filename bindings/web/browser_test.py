@@ -45,6 +45,18 @@ const opened = document.documentElement.dataset.opened;
 const notice = document.getElementById("notice");
 return opened ? { opened } : notice.hidden ? null : { message: notice.firstChild.textContent };
 """
+SETTLED = """
+const done = arguments[0];
+const look = (calm) => {
+    const isBusy = document.getElementById("main").getAttribute("aria-busy") === "true";
+    if (calm > 2 && !isBusy) {
+        requestAnimationFrame(() => done());
+    } else {
+        setTimeout(look, 30, isBusy ? 0 : calm + 1);
+    }
+};
+setTimeout(look, 270, 0);
+"""
 ROWS = """
 return [...document.querySelectorAll(`#panel-${arguments[0]} .grid-rows [role=row]`)]
     .map((row) => [...row.children].map((cell) => cell.textContent));
@@ -117,8 +129,8 @@ class Page:
         self.settle()
 
     def settle(self):
-        """Waits until nothing is under way any more."""
-        self.browser.run_later("const done = arguments[0]; setTimeout(() => requestAnimationFrame(() => done()), 350)")
+        """Waits until nothing is under way any more, and the address is written."""
+        self.browser.run_later(SETTLED)
 
     def facts(self):
         return self.browser.run(FACTS)
@@ -232,6 +244,23 @@ def selected_range(page):
     same(sum(int(line.rsplit(" ", 1)[1]) for line in folded), len(inside), "samples in the folded lines")
     page.show(f"tab=records&kind=sample&range={from_}-{to}")
     same(page.browser.text("#records-count").split()[0], str(len(inside)), "records of samples in the range")
+
+
+def chains(page):
+    """Folded lines have the calls in the kernel that perf printed of each sample, and as many samples."""
+    page.start("#tab=flame")
+    page.must_open(EXAMPLES / "recording.stream")
+    found, expected = Counter(), Counter()
+    for line in page.save("#export-folded", ".folded").splitlines():
+        stack, _, count = line.rpartition(" ")
+        found[";".join(name[:-4] for name in stack.split(";") if name.endswith("_[k]"))] += int(count)
+    for line in lines("recording.samples"):
+        addresses = re.search("kernel ((?:0x[0-9a-f]+ ?)*)", line)[1].split()
+        expected[";".join(reversed(addresses))] += 1
+    same(found, expected, "calls in the kernel")
+    page.show("tab=flame&search=_[k]")
+    total = sum(expected.values())
+    same(page.browser.text("#share"), f"100.0% match: {total} of {total} samples", "share of the kernel")
 
 
 def timeline_keys(page):
@@ -612,9 +641,9 @@ def pictures(page, folder):
         (folder / f"{name}.png").write_bytes(page.browser.picture())
 
 
-TESTS = [streams, first_time, file_of_perf, header_of_perf, selected_range, timeline_keys, flame_keys, flame_weights,
-         tables, markup, dropping, hostile, extremes, refused_bytes, no_network, keys_reach_everything, contrast, address,
-         stopping, speed]
+TESTS = [streams, first_time, file_of_perf, header_of_perf, selected_range, chains, timeline_keys, flame_keys,
+         flame_weights, tables, markup, dropping, hostile, extremes, refused_bytes, no_network, keys_reach_everything,
+         contrast, address, stopping, speed]
 
 
 def run(test, page):

@@ -39,6 +39,7 @@ export class WorkerLink {
         }
         const waiting = this.#waiting.get(id);
         this.#waiting.delete(id);
+        this.#tell();
         if (error === undefined) {
             waiting?.resolve(result);
         } else {
@@ -46,11 +47,17 @@ export class WorkerLink {
         }
     }
 
+    /** Tells readers of the screen whether more is to come. */
+    #tell() {
+        document.getElementById("main").setAttribute("aria-busy", String(this.#waiting.size > 0));
+    }
+
     /** Returns what the worker gives for a call. */
     call(name, words = {}, transfer = []) {
         const id = ++this.#calls;
         return new Promise((resolve, reject) => {
             this.#waiting.set(id, { resolve, reject });
+            this.#tell();
             if (!this.#worker) {
                 this.#start();
             }
@@ -64,6 +71,7 @@ export class WorkerLink {
         this.#worker = undefined;
         const waiting = [...this.#waiting.values()];
         this.#waiting.clear();
+        this.#tell();
         waiting.forEach(({ reject }) => reject(why));
     }
 
