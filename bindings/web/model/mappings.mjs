@@ -2,7 +2,7 @@
 // copy of another. An address space is the root of a tree whose nodes are shared until one of its owners changes them,
 // so a copy costs nothing, and a mapping a few nodes.
 
-import { Growing } from "./growing.mjs";
+import { Table } from "./growing.mjs";
 
 const NONE = 0;
 
@@ -10,49 +10,43 @@ const NONE = 0;
 const isBelow = (upper, lower, otherUpper, otherLower) =>
     upper < otherUpper || upper === otherUpper && lower < otherLower;
 
+const COLUMNS = ["firstUpper", "firstLower", "lastUpper", "lastLower", "left", "right", "priority", "mapping", "owner"];
+
 /** The nodes of all trees: a node has the addresses from `first` to `last` of one mapping. Nodes of one tree do not
  * overlap; they are in order of address, and each parent has a higher priority than its children. */
-export class Mappings {
+export class Mappings extends Table {
+    #random = (Math.random() * 0xffffffff >>> 0) + 1;
+
     constructor() {
-        const words = () => new Growing(Uint32Array, 256);
-        this.firstUpper = words();
-        this.firstLower = words();
-        this.lastUpper = words();
-        this.lastLower = words();
-        this.left = words();
-        this.right = words();
-        this.priority = words();
-        this.mapping = words();
-        this.owner = words();
-        this.random = (Math.random() * 0xffffffff >>> 0) + 1;
-        this.#make(0, 0, 0, 0, 0, 0);
+        super(Object.fromEntries(COLUMNS.map((name) => [name, Uint32Array])));
+        this.addRow(); // NONE
     }
 
     #make(firstUpper, firstLower, lastUpper, lastLower, mapping, owner) {
-        this.random ^= this.random << 13;
-        this.random ^= this.random >>> 17;
-        this.random ^= this.random << 5;
-        this.firstUpper.push(firstUpper);
-        this.firstLower.push(firstLower);
-        this.lastUpper.push(lastUpper);
-        this.lastLower.push(lastLower);
-        this.left.push(NONE);
-        this.right.push(NONE);
-        this.priority.push(this.random);
-        this.mapping.push(mapping);
-        return this.owner.push(owner);
+        this.#random ^= this.#random << 13;
+        this.#random ^= this.#random >>> 17;
+        this.#random ^= this.#random << 5;
+        const node = this.addRow();
+        this.firstUpper[node] = firstUpper;
+        this.firstLower[node] = firstLower;
+        this.lastUpper[node] = lastUpper;
+        this.lastLower[node] = lastLower;
+        this.priority[node] = this.#random;
+        this.mapping[node] = mapping;
+        this.owner[node] = owner;
+        return node;
     }
 
     /** The node itself if the owner may change it, else a copy that is its own. */
     #owned(node, owner) {
-        if (this.owner.array[node] === owner) {
+        if (this.owner[node] === owner) {
             return node;
         }
-        const copy = this.#make(this.firstUpper.array[node], this.firstLower.array[node], this.lastUpper.array[node],
-            this.lastLower.array[node], this.mapping.array[node], owner);
-        this.left.array[copy] = this.left.array[node];
-        this.right.array[copy] = this.right.array[node];
-        this.priority.array[copy] = this.priority.array[node];
+        const copy = this.#make(this.firstUpper[node], this.firstLower[node], this.lastUpper[node],
+            this.lastLower[node], this.mapping[node], owner);
+        this.left[copy] = this.left[node];
+        this.right[copy] = this.right[node];
+        this.priority[copy] = this.priority[node];
         return copy;
     }
 
@@ -62,13 +56,13 @@ export class Mappings {
             return [NONE, NONE];
         }
         const top = this.#owned(node, owner);
-        if (isBelow(this.firstUpper.array[top], this.firstLower.array[top], upper, lower)) {
-            const [before, after] = this.#split(this.right.array[top], upper, lower, owner);
-            this.right.array[top] = before;
+        if (isBelow(this.firstUpper[top], this.firstLower[top], upper, lower)) {
+            const [before, after] = this.#split(this.right[top], upper, lower, owner);
+            this.right[top] = before;
             return [top, after];
         }
-        const [before, after] = this.#split(this.left.array[top], upper, lower, owner);
-        this.left.array[top] = after;
+        const [before, after] = this.#split(this.left[top], upper, lower, owner);
+        this.left[top] = after;
         return [before, top];
     }
 
@@ -77,22 +71,22 @@ export class Mappings {
         if (before === NONE || after === NONE) {
             return before === NONE ? after : before;
         }
-        if (this.priority.array[before] > this.priority.array[after]) {
+        if (this.priority[before] > this.priority[after]) {
             const top = this.#owned(before, owner);
-            const rest = this.#joined(this.right.array[top], after, owner);
-            this.right.array[top] = rest;
+            const rest = this.#joined(this.right[top], after, owner);
+            this.right[top] = rest;
             return top;
         }
         const top = this.#owned(after, owner);
-        const rest = this.#joined(before, this.left.array[top], owner);
-        this.left.array[top] = rest;
+        const rest = this.#joined(before, this.left[top], owner);
+        this.left[top] = rest;
         return top;
     }
 
     #rightmost(node) {
         let found = node;
-        while (found !== NONE && this.right.array[found] !== NONE) {
-            found = this.right.array[found];
+        while (found !== NONE && this.right[found] !== NONE) {
+            found = this.right[found];
         }
         return found;
     }
@@ -100,13 +94,13 @@ export class Mappings {
     /** A tree whose rightmost node ends just before an address. */
     #shortened(node, upper, lower, owner) {
         const top = this.#owned(node, owner);
-        if (this.right.array[top] !== NONE) {
-            const rest = this.#shortened(this.right.array[top], upper, lower, owner);
-            this.right.array[top] = rest;
+        if (this.right[top] !== NONE) {
+            const rest = this.#shortened(this.right[top], upper, lower, owner);
+            this.right[top] = rest;
             return top;
         }
-        this.lastUpper.array[top] = lower === 0 ? upper - 1 : upper;
-        this.lastLower.array[top] = lower === 0 ? 0xffffffff : lower - 1;
+        this.lastUpper[top] = lower === 0 ? upper - 1 : upper;
+        this.lastLower[top] = lower === 0 ? 0xffffffff : lower - 1;
         return top;
     }
 
@@ -119,14 +113,14 @@ export class Mappings {
             const nextLower = lastLower === 0xffffffff ? 0 : lastLower + 1;
             [covered, after] = this.#split(rest, nextUpper, nextLower, owner);
             const cut = this.#rightmost(covered === NONE ? before : covered);
-            if (cut !== NONE && isBelow(lastUpper, lastLower, this.lastUpper.array[cut], this.lastLower.array[cut])) {
-                const left = this.#make(nextUpper, nextLower, this.lastUpper.array[cut], this.lastLower.array[cut],
-                    this.mapping.array[cut], owner);
+            if (cut !== NONE && isBelow(lastUpper, lastLower, this.lastUpper[cut], this.lastLower[cut])) {
+                const left = this.#make(nextUpper, nextLower, this.lastUpper[cut], this.lastLower[cut],
+                    this.mapping[cut], owner);
                 after = this.#joined(left, after, owner);
             }
         }
         const end = this.#rightmost(before);
-        if (end !== NONE && !isBelow(this.lastUpper.array[end], this.lastLower.array[end], firstUpper, firstLower)) {
+        if (end !== NONE && !isBelow(this.lastUpper[end], this.lastLower[end], firstUpper, firstLower)) {
             before = this.#shortened(before, firstUpper, firstLower, owner);
         }
         const node = this.#make(firstUpper, firstLower, lastUpper, lastLower, mapping, owner);
@@ -135,15 +129,14 @@ export class Mappings {
 
     /** The mapping that contains an address, or -1. */
     find(root, upper, lower) {
-        const [firstUpper, firstLower] = [this.firstUpper.array, this.firstLower.array];
         let node = root;
         while (node !== NONE) {
-            if (isBelow(upper, lower, firstUpper[node], firstLower[node])) {
-                node = this.left.array[node];
-            } else if (isBelow(this.lastUpper.array[node], this.lastLower.array[node], upper, lower)) {
-                node = this.right.array[node];
+            if (isBelow(upper, lower, this.firstUpper[node], this.firstLower[node])) {
+                node = this.left[node];
+            } else if (isBelow(this.lastUpper[node], this.lastLower[node], upper, lower)) {
+                node = this.right[node];
             } else {
-                return this.mapping.array[node];
+                return this.mapping[node];
             }
         }
         return -1;
