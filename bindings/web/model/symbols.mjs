@@ -1,4 +1,6 @@
 // Tables of symbols: what `nm -C` prints of a file, /proc/kallsyms, and maps of just-in-time compilers, perf-PID.map.
+// With sizes, by `nm -CS`, code that has no symbol has no name. With what `readelf -lW` prints in the same text, the
+// places of code whose addresses are not its offsets are known.
 
 import { Growing } from "./growing.mjs";
 import { nameOf } from "./text.mjs";
@@ -62,6 +64,8 @@ const HEX = "(?:0x)?([0-9a-fA-F]{1,16})";
 const LINE = new RegExp(`^${HEX}\\s+(?:${HEX}\\s+)?(\\S)\\s+(\\S.*)$`);
 const MAP_LINE = new RegExp(`^${HEX}\\s+${HEX}()\\s+(\\S.*)$`);
 const MAP_FILE = /^perf-\d+\.map$/;
+/** A part of a file that is executable, its offset and its address, as readelf prints it. */
+const EXECUTABLE = /^ *LOAD +0x([0-9a-f]{1,13}) +0x([0-9a-f]{1,16}) .* R ?E +0x/m;
 /** After a name: its module in kallsyms, or its version. */
 const MODULE = /\t\[[^\]\t]*\]$/;
 const VERSION = /@@?[\w.]+$/;
@@ -102,7 +106,9 @@ export class Symbols {
             return { count };
         }
         if (count > 0) {
-            table.bias = biasOf(name, table);
+            const part = EXECUTABLE.exec(text);
+            table.bias = part === null ? biasOf(name, table)
+                : Number.parseInt(part[2], 16) - Number.parseInt(part[1], 16);
             this.files.set(name, table);
         }
         return { count, name };

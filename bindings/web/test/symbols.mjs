@@ -65,6 +65,14 @@ export async function nameFixed() {
     const model = await modelOf({ chain: [0x401104n] }, { chain: [0x500010n] });
     await model.call("symbols", { text: "0000000000401100 T main\n0000000000401200 T next\n", file: "fixed" });
     same("a program at a place of its own", await folded(model), [":1;main 1", ":1;perf-1.map+0x500010 1"].sort());
+    // Of a file that lld linked, with an address that is 0x1000 above the offset.
+    const parts = `  LOAD           0x000000 0x0000000000000000 0x0000000000000000 0x000628 0x000628 R   0x1000
+  LOAD           0x001000 0x0000000000002000 0x0000000000002000 0x000195 0x000195 R E 0x1000
+`;
+    const other = await modelOf(at(0x1010n));
+    await other.call("symbols", { text: `0000000000001000 T wrong\n0000000000002000 T right\n${parts}`,
+        file: "liba.so" });
+    same("addresses that are not offsets", await folded(other), [":1;right 1"]);
     await model.call("symbols", { text: "500000 20 Lcom/Example;::run\n", file: "perf-1.map" });
     same("a map of a compiler", await folded(model), [":1;main 1", ":1;Lcom/Example_::run 1"].sort());
 }
