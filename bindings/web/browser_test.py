@@ -317,6 +317,9 @@ def flame_keys(page):
     same(page.browser.text("#share"), share, "share that matches")
     page.browser.press("Enter")
     true(page.browser.text("#said").startswith("c_parse_file "), "Enter goes to what is found")
+    page.show("tab=flame&range=1-2&search=c_parse_file")
+    true("No samples" in page.browser.text("#panel-flame .empty"), "an empty range has no flame graph")
+    page.show("tab=flame&search=c_parse_file")
     texts = texts_of(page.save("#export-svg", ".svg"))
     true("c_parse_file" in texts and "cc1" in texts, f"the SVG file has the names: {texts[:5]}")
 

@@ -1,4 +1,4 @@
-// Colours of what is drawn. Texts on them have a contrast of at most 1 to 4.5, marks and bars one of 1 to 3.
+// Colours of what is drawn. Texts have a contrast of at least 4.5 to 1, marks and bars one of 3 to 1.
 
 const LIGHT = {
     ground: "#ffffff", raised: "#f5f6f8", stripe: "#fafbfc", line: "#dde1e6", text: "#1a1f26", quiet: "#555f6b",

@@ -107,13 +107,14 @@ export class Flame {
 
     #ask() {
         const { state, overview } = this.#shell;
-        if (!overview || state.tab !== "flame" || this.#stage.width < 20) {
+        const width = this.root.clientWidth;
+        if (!overview || state.tab !== "flame" || width < 20) {
             return;
         }
         const layout = this.#layout;
         const part = layout && layout.total > 0 ? layout.worth[this.#zoomed] / layout.total : 1;
         // what is found is counted exactly, and a box that is not there may be one that was too narrow
-        const minimum = state.search || this.#isMissing && state.box ? 0 : part / Math.max(600, this.#stage.width);
+        const minimum = state.search || this.#isMissing && state.box ? 0 : part / Math.max(600, width);
         const words = { filter: filterOf(state), weight: state.weight, inverted: state.inverted, minimum };
         const asked = JSON.stringify(words) + this.#shell.symbols;
         if (asked !== this.#asked) {
@@ -199,8 +200,8 @@ export class Flame {
 
     /** Goes to the next box that is found, or to the one before, by rows. */
     #nextFound(way) {
-        const { rows } = this.#layout;
-        this.#order ??= rows.flatMap((row) => Array.from(row).filter((node) => this.#found?.found[node]));
+        const isFound = (node) => this.#found?.found[node];
+        this.#order ??= (this.#layout?.rows ?? []).flatMap((row) => Array.from(row).filter(isFound));
         const now = this.#order.indexOf(this.#active);
         const next = this.#order[now < 0 ? (way > 0 ? 0 : this.#order.length - 1) : now + way];
         this.#choose(next ?? -1);

@@ -55,8 +55,9 @@ export class FlameLayout {
 
     /** The box of a path; -1 if there is none. */
     find(path) {
-        return path.split(";").filter(Boolean).reduce((node, name) =>
-            node < 0 ? -1 : this.childrenOf(node).find((child) => this.nameOf(child) === name) ?? -1, this.root);
+        const child = (node, name) => this.childrenOf(node).find((one) => this.nameOf(one) === name) ?? -1;
+        const names = path === "" ? [] : path.split(";");
+        return names.reduce((node, name) => node < 0 ? -1 : child(node, name), this.root);
     }
 
     /** The boxes of a row that are at least partly between two worths. */

@@ -174,6 +174,7 @@ class Page {
             await this.#begin(overview, began);
         } catch (error) {
             if (opened === this.#opened) {
+                this.overview = undefined;
                 this.#landing.wait();
                 this.say(`${file.name} was not opened`);
                 this.complain(new Error(`${file.name}: ${error.message}`));

@@ -16,6 +16,7 @@ export class Records {
     #total = 0;
     #pages = new Map();
     #asked;
+    #symbols = 0;
     #work = new Latest();
     #time;
     #grid;
@@ -79,7 +80,7 @@ export class Records {
     }
 
     show() {
-        const { state, overview } = this.#shell;
+        const { state, overview, symbols } = this.#shell;
         if (!this.#kind.select.options.length) {
             const kinds = overview.records.map(({ name, count }) => [name, `${name} (${countText(count)})`]);
             setOptions(this.#kind.select, [["", "All"], ...kinds], "");
@@ -90,8 +91,9 @@ export class Records {
         }
         const words = { filter: filterOf(state), sort: state.order, kind: state.kind || undefined, text: state.text };
         const asked = JSON.stringify(words);
-        if (asked !== this.#asked) {
+        if (asked !== this.#asked || symbols !== this.#symbols) {
             this.#asked = asked;
+            this.#symbols = symbols;
             this.#count.textContent = "…";
             this.#work.run(() => this.#begin(words, asked));
         }
