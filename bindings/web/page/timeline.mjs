@@ -31,6 +31,7 @@ export class Timeline {
     #active = 0;
     #mark;
     #drag;
+    // Of a range that keys select: where it was begun, its other end, and the range.
     #cursor;
     #stage = new Stage(KEYS, "timeline", (painter, place) => drawTimeline(painter, place, this.#picture()));
     #empty = element("p", { class: "empty", hidden: true });
@@ -295,7 +296,6 @@ export class Timeline {
         const drag = this.#drag;
         this.#drop();
         if (drag?.range) {
-            this.#cursor = undefined;
             this.#shell.change({ range: drag.range }, true);
         } else if (drag && !drag.isStrip) {
             this.#choose(drag.lane, drag.mark);
@@ -330,7 +330,7 @@ export class Timeline {
 
     #nextMark(way) {
         const marks = [...this.#data.lanes[this.#active]?.marks ?? []].sort((one, other) => one.time - other.time);
-        const now = marks.indexOf(this.#mark);
+        const now = marks.findIndex(({ time, kind }) => time === this.#mark?.time && kind === this.#mark.kind);
         const next = marks[now < 0 ? (way > 0 ? 0 : marks.length - 1) : now + way];
         if (!next) {
             announce("No further mark in sight");
@@ -344,11 +344,12 @@ export class Timeline {
         const view = this.#view;
         const length = view.to - view.from;
         const middle = (view.from + view.to) / 2;
-        this.#cursor ??= { anchor: range?.from ?? middle, time: range?.to ?? middle };
-        this.#cursor.time = Math.max(0, Math.min(this.#all.to, this.#cursor.time + share * length));
-        const chosen = rangeOf(this.#cursor.anchor, this.#cursor.time, this.#all);
+        const isOwn = range && range === this.#cursor?.chosen;
+        const before = isOwn ? this.#cursor : { anchor: range?.from ?? middle, time: range?.to ?? middle };
+        const time = Math.max(0, Math.min(this.#all.to, before.time + share * length));
+        const chosen = rangeOf(before.anchor, time, this.#all);
+        this.#cursor = { anchor: before.anchor, time, chosen };
         this.#shell.change({ range: chosen });
-        const { time } = this.#cursor;
         const out = Math.min(0, time - view.from) + Math.max(0, time - view.to);
         if (out) {
             this.#pan(out / length);
@@ -377,10 +378,7 @@ export class Timeline {
             ArrowUp: () => this.#choose(Math.max(0, this.#active - 1)), ArrowDown: () => this.#choose(this.#active + 1),
             PageUp: () => this.#choose(Math.max(0, this.#active - 10)), PageDown: () => this.#choose(this.#active + 10),
             Enter: () => this.#filterByLane(), ".": () => this.#nextMark(1), ",": () => this.#nextMark(-1),
-            Escape: () => {
-                this.#cursor = undefined;
-                this.#shell.change({ range: undefined }, true);
-            },
+            Escape: () => this.#shell.change({ range: undefined }, true),
         };
         const act = event.shiftKey && event.key in selects ? () => this.#select(selects[event.key]) : moves[event.key];
         if (act) {
