@@ -3,7 +3,7 @@
 import { button, chooser, element, setOptions } from "./elements.mjs";
 import { announce, showTip, Stage } from "./stage.mjs";
 import { coloursOf, isDark } from "./colours.mjs";
-import { drawTimeline, GUTTER, LANE, MARKS, STRIP, timeOf, TOP, xOf } from "./timeline_picture.mjs";
+import { drawTimeline, GUTTER, highOf, MARKS, STRIP, timeOf, TOP, xOf } from "./timeline_picture.mjs";
 import { filterOf } from "./view_state.mjs";
 import { Latest } from "./worker_link.mjs";
 import { clockText, countText, plural, spanText } from "./words.mjs";
@@ -99,11 +99,20 @@ export class Timeline {
         return this.#shell.state.view ?? this.#all;
     }
 
+    /** How high a lane is, and all of them. */
+    get #high() {
+        return highOf(this.#data.lanes.length, this.#stage.height);
+    }
+
+    get #depth() {
+        return TOP + this.#data.lanes.length * this.#high + 8;
+    }
+
     #picture() {
         const { state } = this.#shell;
         const range = this.#drag?.range ?? state.range;
         return { view: this.#view, data: this.#data, whole: this.#whole, length: this.#all.to, range,
-            active: this.#active, mark: this.#mark };
+            active: this.#active, mark: this.#mark, high: this.#high };
     }
 
     /** Forgets a recording. */
@@ -171,7 +180,7 @@ export class Timeline {
             const active = this.#data.lanes[this.#active]?.key;
             this.#data = { from: words.from, to: words.to, lanes, most };
             this.#arrange(active);
-            this.#stage.setDepth(TOP + lanes.length * LANE + 8);
+            this.#stage.setDepth(this.#depth);
             this.#tell();
             this.#stage.redraw();
         } catch (error) {
@@ -241,7 +250,7 @@ export class Timeline {
     }
 
     #laneAt(y) {
-        return y < TOP ? -1 : Math.floor((y - TOP + this.#stage.root.scrollTop) / LANE);
+        return y < TOP ? -1 : Math.floor((y - TOP + this.#stage.root.scrollTop) / this.#high);
     }
 
     #markAt(event) {
@@ -313,7 +322,7 @@ export class Timeline {
         }
         this.#active = Math.max(0, Math.min(this.#data.lanes.length - 1, lane));
         this.#mark = mark;
-        this.#stage.reveal(TOP + this.#active * LANE, TOP + (this.#active + 1) * LANE, TOP);
+        this.#stage.reveal(TOP + this.#active * this.#high, TOP + (this.#active + 1) * this.#high, TOP);
         announce(this.#tell());
         this.#stage.redraw();
     }
@@ -389,7 +398,7 @@ export class Timeline {
 
     /** What is in view as an SVG file. */
     svg() {
-        return this.#stage.svg("Timeline", TOP + this.#data.lanes.length * LANE + 8);
+        return this.#stage.svg("Timeline", this.#depth);
     }
 }
 

@@ -6,8 +6,7 @@ import { spanText } from "./words.mjs";
 export const GUTTER = 190;
 export const STRIP = 24;
 export const TOP = STRIP + 24;
-export const LANE = 26;
-const BAR = 16;
+const [LEAST_HIGH, MOST_HIGH] = [26, 64];
 
 export const MARKS = {
     exec: { title: "exec", points: [[0, -5], [5, 4], [-5, 4]] },
@@ -16,6 +15,11 @@ export const MARKS = {
     exit: { title: "exit", points: [[-4, -4], [4, -4], [4, 4], [-4, 4]] },
     lost: { title: "lost", points: [[-1.5, -12], [1.5, -12], [1.5, 12], [-1.5, 12]] },
 };
+
+/** How high lanes are: few have more room. */
+export function highOf(count, height) {
+    return Math.max(LEAST_HIGH, Math.min(MOST_HIGH, Math.floor((height - TOP - 8) / Math.max(1, count))));
+}
 
 /** Where a time is in a view, in pixels from the left, and the time of a place. */
 export function xOf(time, view, width) {
@@ -109,26 +113,28 @@ export function markPoints(kind, x, y) {
 
 function drawLane(painter, place, picture, lane, y) {
     const { colours, width } = place;
-    const { view, data } = picture;
+    const { view, data, high } = picture;
     drawBars(painter, lane.density, data.most, { left: GUTTER, width }, {
-        from: xOf(data.from, view, width), to: xOf(data.to, view, width), y: y + 2, high: BAR, colour: colours.density,
+        from: xOf(data.from, view, width), to: xOf(data.to, view, width), y: y + 2, high: high - 10,
+        colour: colours.density,
     });
-    drawRunning(painter, lane.running, place, view, y + LANE - 6, colours.running);
+    drawRunning(painter, lane.running, place, view, y + high - 6, colours.running);
     for (const mark of lane.marks) {
         const x = xOf(mark.time, view, width);
         if (x > GUTTER - 6 && x < width + 6) {
-            painter.shape(markPoints(mark.kind, x, y + LANE / 2), colours.marks[mark.kind] ?? colours.text);
+            painter.shape(markPoints(mark.kind, x, y + high / 2), colours.marks[mark.kind] ?? colours.text);
         }
     }
 }
 
-function drawLabel(painter, { colours }, lane, y, isActive) {
-    painter.rect(0, y, GUTTER - 1, LANE, isActive ? colours.chosen : colours.ground);
+function drawLabel(painter, { colours }, lane, { y, high, isActive }) {
+    painter.rect(0, y, GUTTER - 1, high, isActive ? colours.chosen : colours.ground);
+    const base = y + high / 2 + 4;
     const weight = isActive ? "bold" : "normal";
     const number = lane.tid === undefined ? "" : String(lane.tid);
-    painter.text(GUTTER - 8, y + 17, number, colours.quiet, { align: "end" });
+    painter.text(GUTTER - 8, base, number, colours.quiet, { align: "end" });
     const name = fitText(lane.label, GUTTER - 28 - number.length * 7, 12, weight);
-    painter.text(10, y + 17, name, colours.text, { size: 12, weight });
+    painter.text(10, base, name, colours.text, { size: 12, weight });
 }
 
 function drawRange(painter, { width, height, colours }, { view, range }) {
@@ -147,29 +153,31 @@ function drawRange(painter, { width, height, colours }, { view, range }) {
     painter.text(middleOf(range, view, width), STRIP + 15, spanText(range.to - range.from), colours.accent, style);
 }
 
-/** Draws the lanes that are in sight; `picture` has `view`, `data`, `whole`, `length`, `range` and `active`. */
+/** Draws the lanes that are in sight; `picture` has `view`, `data`, `whole`, `length`, `range`, `active`, `mark` and
+ * `high`, how high a lane is. */
 export function drawTimeline(painter, place, picture) {
     const { width, height, top, colours } = place;
-    const { lanes } = picture.data;
+    const { data: { lanes }, high } = picture;
     painter.rect(0, 0, width, height, colours.ground);
-    const first = Math.floor(top / LANE);
-    const last = Math.min(lanes.length, Math.ceil((top + height - TOP) / LANE));
-    const places = Array.from(lanes.keys()).slice(first, last).map((index) => [index, TOP + index * LANE - top]);
+    const first = Math.floor(top / high);
+    const last = Math.min(lanes.length, Math.ceil((top + height - TOP) / high));
+    const places = Array.from(lanes.keys()).slice(first, last).map((index) => [index, TOP + index * high - top]);
     painter.inside(0, TOP, width, height - TOP, () => {
-        places.forEach(([index, y]) => index % 2 && painter.rect(GUTTER, y, width - GUTTER, LANE, colours.stripe));
+        places.forEach(([index, y]) => index % 2 && painter.rect(GUTTER, y, width - GUTTER, high, colours.stripe));
     });
     drawRuler(painter, place, picture);
     painter.inside(GUTTER, TOP, width - GUTTER, height - TOP, () => {
         places.forEach(([index, y]) => drawLane(painter, place, picture, lanes[index], y));
     });
     painter.inside(0, TOP, GUTTER, height - TOP, () => {
-        places.forEach(([index, y]) => drawLabel(painter, place, lanes[index], y, index === picture.active));
+        places.forEach(([index, y]) =>
+            drawLabel(painter, place, lanes[index], { y, high, isActive: index === picture.active }));
     });
     painter.rect(GUTTER - 1, 0, 1, height, colours.line);
     drawRange(painter, place, picture);
     drawStrip(painter, place, picture);
     if (picture.mark && lanes[picture.active]) {
-        const y = TOP + picture.active * LANE - top;
-        painter.outline(xOf(picture.mark.time, picture.view, width) - 8, y + LANE / 2 - 8, 16, 16, colours.accent, 2);
+        const y = TOP + picture.active * high - top;
+        painter.outline(xOf(picture.mark.time, picture.view, width) - 8, y + high / 2 - 8, 16, 16, colours.accent, 2);
     }
 }
