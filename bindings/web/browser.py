@@ -35,8 +35,7 @@ class Browser:
         made = self.post("session", {"capabilities": {"alwaysMatch": {
             "browserName": "chrome", "goog:chromeOptions": options, "timeouts": {"script": 20000, "pageLoad": 20000}}}})
         self.session = f"session/{made['sessionId']}/"
-        self.post("goog/cdp/execute", {"cmd": "Browser.setDownloadBehavior",
-                                       "params": {"behavior": "allow", "downloadPath": str(saved)}})
+        self.command("Browser.setDownloadBehavior", {"behavior": "allow", "downloadPath": str(saved)})
 
     def wait_for_driver(self):
         for _ in range(100):
@@ -60,6 +59,10 @@ class Browser:
 
     def post(self, path, words):
         return self.send("POST", path, words)
+
+    def command(self, name, words):
+        """A command of Chromium's own protocol."""
+        self.post("goog/cdp/execute", {"cmd": name, "params": words})
 
     def close(self):
         try:

@@ -560,6 +560,14 @@ def contrast(page):
         for tab in ("overview", "timeline", "flame", "tasks", "records"):
             page.show(f"tab={tab}&theme={theme}&range=0-90000000&frame=3&search=a")
             same(page.browser.run(CONTRAST), [], f"contrast of {tab}, {theme}")
+    grounds = []
+    page.start()
+    for scheme in ("light", "dark"):
+        features = [{"name": "prefers-color-scheme", "value": scheme}]
+        page.browser.command("Emulation.setEmulatedMedia", {"features": features})
+        grounds.append(page.browser.run("return getComputedStyle(document.body).backgroundColor"))
+    page.browser.command("Emulation.setEmulatedMedia", {"features": []})
+    same(grounds, ["rgb(255, 255, 255)", "rgb(21, 24, 28)"], "grounds that follow the reader's choice")
 
 
 def address(page):
