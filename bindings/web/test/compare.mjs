@@ -114,6 +114,10 @@ export async function compareFields() {
     }
     const comm = frames.filter((it) => it.name === "comm").map((it) => new Map(it.fields).get("comm"));
     same("names", comm, lines.filter((it) => it.name === "Comm").map((it) => Buffer.from(it.comm, "hex").toString()));
+    // The one that makes a task writes its FORK.
+    const forks = frames.filter((it) => it.name === "fork").map((it) => new Map(it.fields));
+    same("the sample ids of forks", forks.map((it) => `${it.get("pid")} ${it.get("sample_id.pid")}`),
+        lines.filter((it) => it.name === "Fork").map((it) => `${it.pid} ${it.ppid}`));
     const own = frames.filter((it) => it.event === undefined).map((it) => new Map(it.fields).get("data"));
     same("frames of perf itself", own, lines.filter((it) => it.event === "-").map((it) => it.data));
     const bytes = await model.call("bytes", { at: 1032, size: 88 });
