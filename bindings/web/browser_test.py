@@ -407,7 +407,8 @@ def hostile(page):
     for name, bad in refused.items():
         message = page.open(page.write(f"{name}.data", bad))
         true(message and len(message) > len(name) + 10, f"{name} is refused with a message: {message}")
-    true("pipe" in (page.open(page.write("pipe.data", refused["pipe"])) or "").lower(), "a pipe's stream is named")
+    message = page.open(page.write("x.data", refused["pipe"]))
+    true(message and "perf record -o -" in message, f"what perf writes to a pipe: {message}")
     page.must_open(page.write("cut.stream", stream[:2050]))
     true(page.facts()["refusedCount"] == "1" and page.facts()["refused"][0][2], "a cut frame is refused with a reason")
     numbers = random.Random(7)
