@@ -200,5 +200,5 @@ export function folded(recording, { filter, weight }) {
             lines.push(`${paths[box]} ${rest[box]}\n`);
         }
     }
-    return lines.join("");
+    return lines;
 }

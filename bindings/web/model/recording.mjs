@@ -1,8 +1,8 @@
 // A recording: everything that the page shows of one, made of its bytes once.
 
-import { csv } from "./exporting.mjs";
+import { exported } from "./exporting.mjs";
 import { fieldsOf, hexBytes, summaryOf } from "./fields.mjs";
-import { flame, folded } from "./flame.mjs";
+import { flame } from "./flame.mjs";
 import { History, NO_NAME } from "./history.mjs";
 import { openInput } from "./input.mjs";
 import { lanes } from "./lanes.mjs";
@@ -17,7 +17,6 @@ import { NAME_DEPTH } from "./tree.mjs";
 
 const MOST_BYTES = 65536;
 const HEADER = 8;
-const EXPORTS = { folded, csv };
 
 export class Recording {
     #library;
@@ -153,12 +152,5 @@ export class Recording {
 
     records(words) { return records(this, words); }
 
-    /** The selected samples as text. */
-    exportAs(words) {
-        const make = Object.hasOwn(EXPORTS, words.kind) ? EXPORTS[words.kind] : undefined;
-        if (make === undefined) {
-            throw new RangeError("samples are exported as folded or as csv");
-        }
-        return make(this, words);
-    }
+    exportAs(words) { return exported(this, words); }
 }

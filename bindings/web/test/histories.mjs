@@ -304,6 +304,8 @@ export async function selectSamples() {
         const tasks = await model.call("tasks", { filter });
         same(`tasks of ${JSON.stringify(filter)}`, tasks.reduce((sum, it) => sum + it.samples, 0), places.length);
     }
+    const bytes = await model.call("export", { kind: "csv", filter: {}, as: "bytes" });
+    same("an export as bytes", Buffer.from(bytes).toString(), [head, ...lines, ""].join("\r\n"));
     same("another export", await messageOf(model.call("export", { kind: "html", filter: {} })),
         "samples are exported as folded or as csv");
 }
