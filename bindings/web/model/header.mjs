@@ -16,7 +16,7 @@ const EVENT_DESC = 12;
 // The most bytes of a text and the most words of the command that are shown.
 const MOST = 10000;
 
-/** Numbers and texts of bytes, one after another. A number that is not there is NaN, and ends it. */
+/** Numbers and texts of bytes, one after another. Those that are not there are NaN or undefined. */
 class Words {
     constructor(bytes, isLittle) {
         this.bytes = bytes;
@@ -155,5 +155,5 @@ export class EventNames {
 
 /** The period of events whose samples have none: of the attribute's own, `sample_period`. */
 export function ownPeriod(bytes, at, isLittle) {
-    return Number(new DataView(bytes.buffer, bytes.byteOffset, bytes.byteLength).getBigUint64(at + 16, isLittle));
+    return new DataView(bytes.buffer, bytes.byteOffset, bytes.byteLength).getBigUint64(at + 16, isLittle);
 }

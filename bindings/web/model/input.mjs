@@ -19,7 +19,7 @@ function openFile(library, ped, bytes) {
     const [size, first] = [number(bytes, ENTRY_SIZE, isLittle), number(bytes, ATTRIBUTES, isLittle)];
     const events = file.events.map((event, index) => ({
         index, name: names.nameOf(event), type: event.type, config: event.event, reading: event.config,
-        ownPeriod: BigInt(ownPeriod(bytes, first + size * index, isLittle)),
+        ownPeriod: ownPeriod(bytes, first + size * index, isLittle),
     }));
     return {
         bytes, events, header, kind: "file", order: isLittle ? "little" : "big", isClosed: file.isClosed,
@@ -51,7 +51,7 @@ function openStream(library, ped, bytes, orders) {
         frames: ped.stream(bytes, config, { start: length }),
         events: [{
             index: 0, name: new EventNames([]).nameOf({ type, event, ids: [] }), type, config: event, reading: config,
-            ownPeriod: BigInt(ownPeriod(bytes, 0, isLittle)),
+            ownPeriod: ownPeriod(bytes, 0, isLittle),
         }],
     };
 }

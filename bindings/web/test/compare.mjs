@@ -30,11 +30,12 @@ const HEADER = {
 };
 
 export async function compareEvents() {
-    const { overview } = await opened(bytesIn("examples/events.data"));
+    const { overview, progress } = await opened(bytesIn("examples/events.data"));
+    check("how far reading is", progress.length > 0 && progress.every(({ done, of, what }) => done >= 0 && done <= of
+        && of === 14916 && what !== ""));
     const frames = linesIn("examples/events.time").map(frameOfLine);
     const samples = frames.filter(({ name }) => name === "Sample");
-    same("events", overview.events.map(({ index, name, type,
-        config }) => `${index} ${name} type=${type} config=${config}`),
+    same("events", overview.events.map((it) => `${it.index} ${it.name} type=${it.type} config=${it.config}`),
         linesIn("examples/events.events").map((line) => line.replace(/ sample_type=.*/, "")));
     same("samples of each event", overview.events.map((it) => it.samples),
         [0, 1, 2].map((event) => samples.filter((it) => it.event === String(event)).length));
@@ -47,10 +48,11 @@ export async function compareEvents() {
     const times = samples.map((it) => BigInt(it.time));
     check("samples are within the time", times.every((time) => time >= overview.start
         && time <= overview.start + BigInt(overview.duration)));
-    same("counts", [overview.frames, overview.samples, overview.refused.count, overview.threads, overview.kind,
-        overview.order,
-        overview.isClosed, overview.hasTime, overview.hasCpu, overview.hasChains, overview.hasSwitches],
-        [90, 48, 0, 4, "file", "little", true, true, false, true, false]);
+    same("counts", ["frames", "samples", "threads", "kind", "order", "isClosed"].map((name) => overview[name]),
+        [90, 48, 4, "file", "little", true]);
+    same("refused frames", overview.refused.count, 0);
+    same("what there is", ["hasTime", "hasCpu", "hasChains", "hasSwitches"].map((name) => overview[name]),
+        [true, false, true, false]);
 }
 
 const STATS = { recording: "examples/recording.stats.txt", samples: "examples/samples.stats.txt" };
@@ -150,15 +152,15 @@ export async function compareTasks() {
             found.push(samples === 0 ? "" : `task ${tid}, event ${event}: ${samples}`);
         }
     }
-    same("samples of each task and event", found.filter((it) => it !== "").sort(), linesIn("examples/events.samples")
-        .sort());
+    same("samples of each task and event", found.filter((it) => it !== "").sort(),
+        linesIn("examples/events.samples").sort());
     const lines = linesIn("examples/events.time").map(frameOfLine);
     const rows = await model.call("tasks", { filter: {} });
     // The last COMM of each in order of time.
     const names = new Map(lines.filter((it) => it.name === "Comm")
         .map((it) => [Number(it.tid), Buffer.from(it.comm, "hex").toString()]));
-    same("names of tasks", rows.map((it) => `${it.tid} ${it.name}`).sort(), [...names].map((it) => it.join(" "))
-        .sort());
+    same("names of tasks", rows.map((it) => `${it.tid} ${it.name}`).sort(),
+        [...names].map((it) => it.join(" ")).sort());
     const ends = new Map(lines.filter((it) => it.name === "Exit").map((it) => [Number(it.tid), BigInt(it.time)]));
     // A record's time is that of its sample id, which the kernel takes just before.
     check("ends of tasks", rows.length === 4 && rows.every((it) => {
@@ -230,10 +232,9 @@ export async function compareLanes() {
     const marks = fine.lanes.flatMap((lane) => lane.marks.map((it) => `${lane.tid} ${it.kind} ${it.text}`))
         .filter((it) => / (exec|comm) /.test(it));
     // The first COMM is perf's own, at no time; its text does not state which are of an exec.
+    const comms = linesIn("examples/recording.expected").filter((line) => line.startsWith("comm ")).slice(1);
     same("marks of names", marks.map((it) => it.replace(" exec ", " comm ")).sort(),
-        linesIn("examples/recording.expected")
-        .filter((line) => line.startsWith("comm ")).slice(1).map((line) => line.replace(/^comm \d+ (\d+) /, "$1 comm "))
-            .sort());
+        comms.map((line) => line.replace(/^comm \d+ (\d+) /, "$1 comm ")).sort());
     same("names without an exec", marks.filter((it) => it.includes(" comm ")).map((it) => it.split(" ")[2]),
         ["renamed"]);
     compareRunning(fine.lanes, start);
