@@ -3,7 +3,7 @@
 import { bytesIn, check, folded, messageOf, Model, opened, same } from "./harness.mjs";
 import { bytesOf, comm, fileOf, frame, joined, mmap2, numbersFrom, sample } from "./made.mjs";
 
-const MOST_MS = 2000;
+const MOST_MS = 5000;
 
 /** Whether bytes give a text as an error, or an overview of which all else can be asked. */
 async function isHandled(bytes) {
