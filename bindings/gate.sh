@@ -90,6 +90,15 @@ js_face() {
     fi
 }
 
+# The page that opens recordings, over the same module, in a browser if there is one.
+web_face() {
+    if [ -z "$(absent $js_tools)" ] && [ ! -f "$work/$wasm/libperf_event_c.a" ]; then
+        echo "skipped: the page: no archive for $wasm"
+    else
+        face "the page" "$js_tools" bindings/web/test.sh "$work/$wasm/libperf_event_c.a"
+    fi
+}
+
 replay=crates/perf_replay/out/perf_replay
 if [ -x $replay ]; then
     face "lying counts and sizes, in 128 MiB" "python3 timeout" bindings/lies_test.sh $replay
@@ -134,6 +143,7 @@ else
 fi
 arm_faces
 js_face
+web_face
 face "packages" "cc c++ make nm pkg-config tar gzip python3" bindings/install_test.sh "$archive"
 face "wheel" "cc make readelf python3" bindings/packages_test.sh wheel "$archive"
 face "package for Cargo" "cc make cargo git" bindings/packages_test.sh crate "$archive"

@@ -1,0 +1,699 @@
+#!/usr/bin/env python3
+"""Opens recordings in the page by Chromium, and compares what it shows with what perf printed of them:
+
+    bindings/web/browser_test.py PAGE.html [--only WORD] [--pictures FOLDER] [--megabytes 52]
+
+A line says of each test whether it passed, or what failed. The page is opened from the disk. `--only` runs the tests
+that have the word in their names, and `--pictures` writes those of docs/VIEW.md instead. The status is 0 if nothing
+failed.
+"""
+import argparse
+import base64
+import csv
+import random
+import re
+import sys
+import tempfile
+import threading
+import time
+import traceback
+import xml.etree.ElementTree
+from collections import Counter
+from http.server import BaseHTTPRequestHandler, HTTPServer
+from pathlib import Path
+from urllib.parse import parse_qs
+
+sys.dont_write_bytecode = True
+sys.path.insert(0, str(Path(__file__).resolve().parent))
+import made_recording as made  # noqa: E402
+from browser import Browser  # noqa: E402
+
+TOP = Path(__file__).resolve().parents[2]
+EXAMPLES = TOP / "examples"
+MARKUP = "<img src=x onerror=document.title='run'>"
+WATCH = """
+window.failures = [];
+addEventListener("error", (event) => failures.push(event.message));
+addEventListener("unhandledrejection", (event) => failures.push(String(event.reason)));
+window.longest = 0;
+new PerformanceObserver((list) => list.getEntries().forEach((entry) => {
+    window.longest = Math.max(window.longest, entry.duration);
+})).observe({ type: "longtask" });
+"""
+OPENED = """
+const opened = document.documentElement.dataset.opened;
+const notice = document.getElementById("notice");
+return opened ? { opened } : notice.hidden ? null : { message: notice.firstChild.textContent };
+"""
+SETTLED = """
+const done = arguments[0];
+const look = (calm) => {
+    const isBusy = document.getElementById("main").getAttribute("aria-busy") === "true";
+    if (calm > 2 && !isBusy) {
+        requestAnimationFrame(() => done());
+    } else {
+        setTimeout(look, 30, isBusy ? 0 : calm + 1);
+    }
+};
+setTimeout(look, 270, 0);
+"""
+ROWS = """
+return [...document.querySelectorAll(`#panel-${arguments[0]} .grid-rows [role=row]`)]
+    .map((row) => [...row.children].map((cell) => cell.textContent));
+"""
+FACTS = """
+const cells = (row) => [...row.children].map((cell) => cell.textContent);
+const table = (name) => [...document.querySelectorAll(`[aria-label="${name}"] tbody tr`)].map(cells);
+const text = (selector) => document.querySelector(selector)?.textContent;
+return { events: table("Events"), records: table("Records"), refused: table("Refused frames"), frames: text("#frames"),
+    samples: text("#samples"), lost: text("#lost"), refusedCount: text("#refused"), first: text("#first-time"),
+    last: text("#last-time"), host: text("[data-header=hostname]"), kernel: text("[data-header=osRelease]"),
+    command: text("[data-header=commandLine]") };
+"""
+
+
+def same(found, expected, what):
+    if found != expected:
+        raise AssertionError(f"{what}: {found!r}, not {expected!r}")
+
+
+def true(found, what):
+    if not found:
+        raise AssertionError(what)
+
+
+def lines(name):
+    return (EXAMPLES / name).read_text().splitlines()
+
+
+def stats(name):
+    """How many records of each type perf counted, by names in small letters."""
+    found = re.findall(r"^ +(\w+) events: +(\d+)", (EXAMPLES / name).read_text().split("stats:\n", 2)[1], re.MULTILINE)
+    return {kind.lower(): int(count) for kind, count in found}
+
+
+def texts_of(picture):
+    """The texts of an SVG file."""
+    parts = xml.etree.ElementTree.fromstring(picture.encode()).iter("{http://www.w3.org/2000/svg}text")
+    return [part.text or "" for part in parts]
+
+
+class Page:
+    """The page in a browser, and the folder where it saves."""
+
+    def __init__(self, path, folder, size=(1280, 800)):
+        self.address = f"file://{Path(path).resolve()}"
+        self.folder = Path(folder)
+        self.saved = self.folder / "saved"
+        self.saved.mkdir()
+        self.browser = Browser(self.saved, size)
+
+    def start(self, after=""):
+        self.browser.go("about:blank")
+        self.browser.go(self.address + after)
+        self.browser.run(WATCH)
+
+    def open(self, *paths, seconds=10):
+        """Opens files, and returns what the page says if the recording is refused."""
+        self.browser.run("delete document.documentElement.dataset.opened; "
+                         "document.getElementById('notice').hidden = true")
+        self.browser.upload("#file", *paths)
+        return self.browser.wait(OPENED, seconds=seconds).get("message")
+
+    def must_open(self, *paths, seconds=10):
+        same(self.open(*paths, seconds=seconds), None, f"opening {paths[0]}")
+
+    def show(self, words):
+        """Shows what an address has after #."""
+        self.browser.run("location.hash = arguments[0]", words)
+        self.settle()
+
+    def settle(self):
+        """Waits until nothing is under way any more, and the address is written."""
+        self.browser.run_later(SETTLED)
+
+    def facts(self):
+        return self.browser.run(FACTS)
+
+    def rows(self, tab):
+        return self.browser.run(ROWS, tab)
+
+    def state(self):
+        self.settle()
+        return {name: values[0] for name, values in parse_qs(self.browser.run("return location.hash.slice(1)")).items()}
+
+    def count(self):
+        """How many samples are selected, of how many."""
+        self.settle()
+        return [int(word.replace(",", "")) for word in re.findall(r"[\d,]+", self.browser.text("#count"))]
+
+    def save(self, item, ending):
+        """The text of a file that an item of the menu saves."""
+        for old in self.saved.iterdir():
+            old.unlink()
+        self.browser.click("#export")
+        self.browser.click(item)
+        for _ in range(200):
+            found = list(self.saved.glob(f"*{ending}"))
+            if found and found[0].stat().st_size:
+                return found[0].read_text()
+            time.sleep(0.03)
+        raise AssertionError(f"no file *{ending} is saved")
+
+    def write(self, name, data):
+        path = self.folder / name
+        path.write_bytes(data)
+        return path
+
+    def has_not_failed(self):
+        same(self.browser.run("return failures"), [], "errors in the page")
+
+
+def streams(page):
+    """Each stream shows what perf counted in it."""
+    for name in ("recording", "samples"):
+        page.start()
+        page.must_open(EXAMPLES / f"{name}.stream")
+        facts, counted = page.facts(), stats(f"{name}.stats.txt")
+        shown = {kind: int(count.replace(",", "")) for kind, count, _ in facts["records"]}
+        total = counted.pop("total")
+        same(shown, counted, f"records of {name}.stream")
+        same(facts["frames"], str(total), "frames")
+        same(facts["samples"], str(counted["sample"]), "samples")
+        same(facts["refusedCount"], "0", "refused frames")
+    times = [line.split()[0] for line in lines("samples.expected")]
+    first, last = (facts[name].replace(".", "") for name in ("first", "last"))
+    true(first <= times[0] and times[-1] <= last, f"times of samples.stream: {first} to {last}")
+
+
+def first_time(page):
+    """The first time of a recording is that of perf's script."""
+    page.start()
+    page.must_open(EXAMPLES / "recording.stream")
+    times = re.findall(r" (\d+\.\d{9}): PERF_RECORD", (EXAMPLES / "recording.script.txt").read_text())
+    same(page.facts()["first"], min(time for time in times if float(time) > 0), "first time")
+
+
+def file_of_perf(page):
+    """A file of perf record shows its events and its tasks as perf has them."""
+    page.start()
+    page.must_open(EXAMPLES / "events.data")
+    counts = re.findall(r"task (\d+), event (\d+): (\d+)", (EXAMPLES / "events.samples").read_text())
+    by_event = Counter()
+    for _, event, count in counts:
+        by_event[int(event)] += int(count)
+    shown = [(name, form, int(count)) for name, form, count, *_ in page.facts()["events"]]
+    expected = []
+    for line in lines("events.events"):
+        number, name, kind, config = re.match(r"(\d+) (.+) type=(\d+) config=(\w+)", line).groups()
+        expected.append((name, f"{kind}:{config}", by_event[int(number)]))
+    same(shown, expected, "events")
+    same(page.facts()["frames"], str(len(lines("events.dump"))), "frames")
+    for event in range(3):
+        page.show(f"tab=tasks&event={event}")
+        found = {row[2]: row[3] for row in page.rows("tasks") if row[3] != "0"}
+        same(found, {task: count for task, number, count in counts if int(number) == event}, f"tasks of event {event}")
+
+
+def header_of_perf(page):
+    """Host, kernel and command line are those of the file."""
+    page.start()
+    page.must_open(page.write("build.data", made.bytes_of(made.build(jobs=4))))
+    facts = page.facts()
+    same((facts["host"], facts["kernel"]), ("builder", "6.18.44-generic"), "host and kernel")
+    same(facts["command"], " ".join(made.COMMAND), "command line")
+    same(facts["lost"], "7", "lost records")
+
+
+def selected_range(page):
+    """A range that is dragged selects the samples that a filter by time gives."""
+    page.start("#tab=timeline")
+    page.must_open(EXAMPLES / "recording.stream")
+    page.settle()
+    page.browser.drag("canvas.is-timeline", (400, 120), (700, 150))
+    from_, to = map(int, page.state()["range"].split("-"))
+    times = [int(line.split()[0]) for line in lines("recording.samples")]
+    script = re.findall(r" (\d+\.\d{9}): PERF_RECORD", (EXAMPLES / "recording.script.txt").read_text())
+    start = min(int(time.replace(".", "")) for time in script if float(time) > 0)
+    inside = [time for time in times if start + from_ <= time <= start + to]
+    true(0 < len(inside) < len(times), f"the range has {len(inside)} samples: choose another one")
+    same(page.count(), [len(inside), len(times)], "selected samples")
+    rows = list(csv.DictReader(page.save("#export-csv", ".csv").splitlines()))
+    same([row["time"].replace(".", "") for row in rows], [str(time) for time in inside], "times in the CSV")
+    folded = page.save("#export-folded", ".folded").splitlines()
+    same(sum(int(line.rsplit(" ", 1)[1]) for line in folded), len(inside), "samples in the folded lines")
+    page.show(f"tab=records&kind=sample&range={from_}-{to}")
+    same(page.browser.text("#records-count").split()[0], str(len(inside)), "records of samples in the range")
+
+
+def chains(page):
+    """Folded lines have the calls in the kernel that perf printed of each sample, and as many samples."""
+    page.start("#tab=flame")
+    page.must_open(EXAMPLES / "recording.stream")
+    found, expected = Counter(), Counter()
+    for line in page.save("#export-folded", ".folded").splitlines():
+        stack, _, count = line.rpartition(" ")
+        found[";".join(name[:-4] for name in stack.split(";") if name.endswith("_[k]"))] += int(count)
+    for line in lines("recording.samples"):
+        addresses = re.search("kernel ((?:0x[0-9a-f]+ ?)*)", line)[1].split()
+        expected[";".join(reversed(addresses))] += 1
+    same(found, expected, "calls in the kernel")
+    page.show("tab=flame&search=_[k]")
+    total = sum(expected.values())
+    same(page.browser.text("#share"), f"100.0% match: {total} of {total} samples", "share of the kernel")
+
+
+def timeline_keys(page):
+    """Keys zoom, move, select and filter on the timeline, and the wheel zooms."""
+    page.start("#tab=timeline")
+    page.must_open(page.write("build.data", made.bytes_of(made.build(jobs=4))))
+    page.browser.run("document.querySelector('canvas.is-timeline').focus()")
+    page.browser.press("+", "+", "ArrowRight")
+    from_, to = map(int, page.state()["view"].split("-"))
+    page.browser.press("ArrowLeft")
+    true(int(page.state()["view"].split("-")[0]) < from_, "the left arrow moves to the left")
+    page.browser.press("ArrowRight", "ArrowRight", "ArrowRight", shift=True)
+    left, right = map(int, page.state()["range"].split("-"))
+    true(abs(right - left - 0.06 * (to - from_)) < 0.01 * (to - from_), f"shift and arrows select: {left} to {right}")
+    page.browser.press("z")
+    near = list(map(int, page.state()["view"].split("-")))
+    true(near[0] <= left and near[1] >= right and near[1] - near[0] < 1.2 * (right - left), "Z zooms to the selection")
+    page.browser.press("Escape", "0")
+    same([page.state().get("range"), page.state().get("view")], [None, None], "Escape and 0")
+    page.browser.press("ArrowDown", ".")
+    said = page.browser.text("#said")
+    true(re.search(r"(exec|fork|new name|exit): ", said), f"marks are said: {said}")
+    page.browser.press("Enter")
+    true("tid" in page.state(), "Enter filters by the lane")
+    page.browser.wheel("canvas.is-timeline", (600, 200), -300)
+    true("view" in page.state(), "the wheel zooms")
+    page.browser.click("#clear-filter")
+    page.browser.click("[data-by=cpu]")
+    same(page.state()["by"], "cpu", "lanes by processor")
+    found = [text for text in texts_of(page.save("#export-svg", ".svg")) if text.startswith("CPU ")]
+    same(found, [f"CPU {cpu}" for cpu in range(4)], "lanes in the SVG file")
+
+
+def flame_keys(page):
+    """Keys go through the boxes of the flame graph, zoom, and search with the share that matches."""
+    page.start("#tab=flame")
+    build = made.build(jobs=4)
+    page.must_open(page.write("build.data", made.bytes_of(build)), page.write("cc1.nm", build.symbols("cc1").encode()))
+    page.show("tab=flame&event=0")
+    samples = [line for line in page.save("#export-folded", ".folded").splitlines()]
+    total = sum(int(line.rsplit(" ", 1)[1]) for line in samples)
+    matching = sum(int(line.rsplit(" ", 1)[1]) for line in samples if "c_parse_file" in line)
+    true(matching > 0, "the symbols give names")
+    page.browser.run("document.querySelector('canvas.is-flame').focus()")
+    page.browser.press("ArrowDown")
+    true(page.browser.text("#said").startswith("cc1 "), f"the largest box is said: {page.browser.text('#said')}")
+    page.browser.press("Enter")
+    same(page.state()["box"], "cc1", "Enter zooms")
+    page.browser.press("Escape")
+    same(page.state().get("box"), None, "Escape zooms out")
+    page.browser.press("/", *"c_parse_file")
+    page.settle()
+    share = f"{100 * matching / total:.1f}% match: {matching:,} of {total:,} samples"
+    same(page.browser.text("#share"), share, "share that matches")
+    page.browser.press("Enter")
+    true(page.browser.text("#said").startswith("c_parse_file "), "Enter goes to what is found")
+    page.show("tab=flame&range=1-2&search=c_parse_file")
+    true("No samples" in page.browser.text("#panel-flame .empty"), "an empty range has no flame graph")
+    page.show("tab=flame&search=c_parse_file")
+    texts = texts_of(page.save("#export-svg", ".svg"))
+    true("c_parse_file" in texts and "cc1" in texts, f"the SVG file has the names: {texts[:5]}")
+
+
+def flame_weights(page):
+    """Weights by period and inverted graphs have the sums of the samples."""
+    page.start("#tab=flame&event=1&weight=period")
+    page.must_open(page.write("build.data", made.bytes_of(made.build(jobs=4))))
+    rows = list(csv.DictReader(page.save("#export-csv", ".csv").splitlines()))
+    periods = sum(int(row["period"]) for row in rows if row["event"] == "page-faults")
+    true(len(rows) < periods and rows, "the periods differ from one")
+    page.show("tab=flame&event=1&weight=period&inverted=1")
+    page.browser.run("document.querySelector('canvas.is-flame').focus()")
+    page.browser.press("Home")
+    true(f"all · {periods:,} events" in page.browser.text("#said"), f"the root: {page.browser.text('#said')}")
+    page.browser.press("ArrowDown")
+    true("_[k]" in page.browser.text("#said"), f"the innermost frame is first: {page.browser.text('#said')}")
+
+
+def tables(page):
+    """Tables sort, filter and open a frame's fields and bytes by keys."""
+    page.start("#tab=tasks")
+    page.must_open(EXAMPLES / "events.data")
+    page.settle()
+    counts = [int(row[3]) for row in page.rows("tasks")]
+    same(counts, sorted(counts, reverse=True), "tasks begin with most samples")
+    page.browser.click("#panel-tasks [role=columnheader]:nth-child(3) button")
+    page.settle()
+    numbers = [int(row[2]) for row in page.rows("tasks")]
+    same(numbers, sorted(numbers), "tasks by thread")
+    page.show("tab=records&kind=comm")
+    dump = [line.split() for line in lines("events.dump")]
+    expected = [(words[0].split(":")[0], words[1]) for words in dump if words[6] == "Comm"]
+    same([(row[0], row[1]) for row in page.rows("records")], expected, "COMM records and their places")
+    page.browser.run("document.querySelector('#panel-records .grid').focus()")
+    page.browser.press("ArrowDown", "ArrowDown")
+    page.settle()
+    fields = page.browser.text(".details")
+    true("comm" in fields and "tid" in fields, f"a frame's fields: {fields}")
+    page.browser.press("Enter")
+    text = page.browser.wait("return document.querySelector('dialog .dump')?.textContent")
+    place = int(expected[1][1])
+    data = (EXAMPLES / "events.data").read_bytes()[place:place + 16]
+    true(text.split("  ")[1].split() == [f"{byte:02x}" for byte in data[:8]], f"bytes of the frame: {text[:80]}")
+    page.browser.press("Escape")
+    page.browser.wait("return !document.querySelector('dialog')")
+    texts = texts_of(page.save("#export-svg", ".svg"))
+    true({"Summary", "comm", *expected[0]} <= set(texts), f"the table as an SVG file has its texts: {texts[:20]}")
+    page.show("tab=records&order=file&text=" + "ls")
+    true(0 < len(page.rows("records")) < len(dump), "words filter records")
+
+
+def markup(page):
+    """Names in a recording make no elements."""
+    recording = made.Recording()
+    task = (7, 7)
+    recording.put(1000, task, 0, 3, 0, made.pack("II", *task) + made.padded(MARKUP))
+    path = made.padded("/tmp/" + MARKUP.replace("/", "_"))
+    recording.put(1500, task, 0, 10, 2, made.pack("IIQQQIIQQII", *task, 0x400000, 0x200000, 0, 0, 0, 0, 0, 5, 2) + path)
+    for time_ in range(2000, 9000, 100):
+        recording.sample(time_, task, 0, "cc1")
+    data = made.bytes_of(recording, names=(MARKUP, f"</script>{MARKUP}"), host=MARKUP)
+    page.start()
+    page.must_open(page.write("markup.data", data))
+    same(page.facts()["host"], MARKUP, "host")
+    same(page.facts()["events"][0][0], MARKUP, "name of the event")
+    for tab in ("timeline", "flame", "tasks", "records"):
+        page.show(f"tab={tab}&frame=0")
+        same(page.browser.run("return [document.images.length, document.scripts.length]"), [0, 3], f"elements in {tab}")
+    page.show("tab=tasks")
+    same(page.rows("tasks")[0][0], MARKUP, "name of the task")
+    page.show(f"tab=flame&search=img")
+    true(page.browser.text("#share").startswith("100.0%"), "the name is in the flame graph")
+    picture = xml.etree.ElementTree.fromstring(page.save("#export-svg", ".svg").encode())
+    same([one for one in picture.iter() if "img" in one.tag], [], "elements in the SVG file")
+    true("run" not in page.browser.run("return document.title"), "nothing of the name is run")
+
+
+def hostile(page):
+    """Files that lie, that are cut, or whose bytes are changed give messages, and the page stays alive."""
+    data, stream = [(EXAMPLES / name).read_bytes() for name in ("events.data", "recording.stream")]
+    refused = {"empty": b"", "one": b"P", "text": b"no recording\n" * 9, "pipe": b"PERFILE2" + made.pack("Q", 16),
+               "old": b"PERFFILE" + data[8:], **{f"cut{at}": data[:at] for at in (8, 50, 103, 300, 500, 2000, 7000)}}
+    page.start()
+    for name, bad in refused.items():
+        message = page.open(page.write(f"{name}.data", bad))
+        true(message and len(message) > len(name) + 10, f"{name} is refused with a message: {message}")
+    message = page.open(page.write("x.data", refused["pipe"]))
+    true(message and "perf record -o -" in message, f"what perf writes to a pipe: {message}")
+    page.must_open(page.write("cut.stream", stream[:2050]))
+    true(page.facts()["refusedCount"] == "1" and page.facts()["refused"][0][2], "a cut frame is refused with a reason")
+    numbers = random.Random(7)
+    for turn in range(14):
+        changed = bytearray(data if turn % 2 else stream)
+        for _ in range(1 + 6 * turn):
+            changed[numbers.randrange(len(changed) if turn % 3 else 700)] = numbers.randrange(256)
+        message = page.open(page.write(f"changed{turn}.data", bytes(changed)))
+        for tab in ("timeline", "flame", "tasks", "records", "overview") if message is None else ():
+            page.browser.run("location.hash = `tab=${arguments[0]}`", tab)
+        true(message is None or len(message) > 20, f"a message for the changes of turn {turn}: {message}")
+    page.must_open(EXAMPLES / "events.data")
+
+
+def extremes(page):
+    """Times, names and call chains as long as they can be are shown."""
+    recording, task = made.Recording(), (2**31 - 1, 2**31 - 1)
+    recording.put(0, task, 0, 3, 0, made.pack("II", *task) + made.padded("n" * 60000))
+    for time_ in (1, 2**63, 2**64 - 2 - made.BASE):
+        chain = made.pack("8000Q", *range(4096, 4096 + 8000))
+        body = made.pack("QQIIQIIQQ", 16, 2**64 - 1, *task, made.BASE + time_, 2**32 - 1, 0, 2**63, 8000) + chain
+        recording.frames.append((time_, time_, made.frame(9, 2, body)))
+    page.start()
+    page.must_open(page.write("extreme.data", made.bytes_of(recording)))
+    same(page.facts()["samples"], "3", "samples")
+    for words in ("tab=timeline", "tab=timeline&by=cpu", "tab=timeline&view=18000000000000000000-18400000000000000000",
+                  "tab=flame&weight=period", "tab=flame&inverted=1&search=0x1", "tab=tasks", "tab=records&frame=1"):
+        page.show(words)
+    page.show("tab=timeline")
+    page.browser.run("document.querySelector('canvas.is-timeline').focus()")
+    page.browser.press(*"+" * 60, "End", "ArrowLeft", "Home")
+    page.browser.press("ArrowRight", "End", shift=True)
+    same(page.count()[1], 3, "samples after all views")
+
+
+def refused_bytes(page):
+    """A refused frame can be opened as bytes from the overview."""
+    data = bytearray((EXAMPLES / "recording.stream").read_bytes())
+    at = 128
+    for _ in range(30):
+        at += int.from_bytes(data[at + 6:at + 8], "little")
+    data[at + 8:at + 16] = b"\0" * 8
+    page.start()
+    size = int.from_bytes(data[at + 6:at + 8], "little")
+    page.must_open(page.write("bad.stream", bytes(data[:at + size - 3])))
+    page.browser.click("[aria-label='Refused frames'] button")
+    text = page.browser.wait("return document.querySelector('dialog .dump')?.textContent")
+    same(int(text.split()[0], 16), at, "place of the bytes")
+    page.browser.press("Escape")
+
+
+class Hits(BaseHTTPRequestHandler):
+    count = 0
+
+    def do_GET(self):
+        Hits.count += 1
+        self.send_response(200)
+        self.end_headers()
+
+    do_POST = do_GET
+
+    def log_message(self, *_):
+        pass
+
+
+def no_network(page):
+    """The page cannot reach a network, and says so."""
+    server = HTTPServer(("127.0.0.1", 0), Hits)
+    threading.Thread(target=server.serve_forever, daemon=True).start()
+    page.start()
+    page.must_open(EXAMPLES / "events.data")
+    page.browser.run_later("""
+        const [place, done] = arguments;
+        fetch(place).catch(() => 0);
+        navigator.sendBeacon(place, "x");
+        new Image().src = place;
+        document.head.append(Object.assign(document.createElement("link"), { rel: "stylesheet", href: place }));
+        try { new WebSocket(place.replace("http", "ws")); } catch {}
+        try { new EventSource(place); } catch {}
+        setTimeout(done, 700);
+    """, f"http://127.0.0.1:{server.server_port}/x")
+    server.shutdown()
+    same(Hits.count, 0, "requests that arrive")
+    policy = page.browser.run("return document.querySelector('meta[http-equiv]').content")
+    true("default-src 'none'" in policy, f"the policy: {policy}")
+    true(not re.search("http|unsafe-inline|connect-src", policy), f"what the policy allows: {policy}")
+    true("cannot reach a network" in page.browser.text("footer"), "the page says so")
+    page.browser.run("failures.length = 0")
+
+
+CONTRAST = """
+const dot = Object.assign(document.createElement("canvas"), { width: 1, height: 1 });
+const pen = dot.getContext("2d", { willReadFrequently: true });
+const over = (colours) => {
+    pen.clearRect(0, 0, 1, 1);
+    colours.forEach((colour) => { pen.fillStyle = colour; pen.fillRect(0, 0, 1, 1); });
+    return pen.getImageData(0, 0, 1, 1).data.slice(0, 3);
+};
+const linear = (part) => part <= 0.03928 ? part / 12.92 : ((part + 0.055) / 1.055) ** 2.4;
+const weights = [0.2126, 0.7152, 0.0722];
+const light = (rgb) => [...rgb].reduce((sum, part, index) => sum + linear(part / 255) * weights[index], 0);
+const poor = [];
+for (const node of document.querySelectorAll("body *")) {
+    const hasText = [...node.childNodes].some((child) => child.nodeType === 3 && child.textContent.trim());
+    const box = node.getBoundingClientRect();
+    if (!hasText || !box.width || node.closest("[hidden], :disabled, .heard-only, option, script, style")) continue;
+    const grounds = [];
+    for (let at = node; at; at = at.parentElement) grounds.unshift(getComputedStyle(at).backgroundColor);
+    const ground = over(["white", ...grounds]);
+    const text = over([`rgb(${[...ground]})`, getComputedStyle(node).color]);
+    const [one, other] = [light(text), light(ground)];
+    const ratio = (Math.max(one, other) + 0.05) / (Math.min(one, other) + 0.05);
+    if (ratio < 4.5) poor.push(`${node.textContent.trim().slice(0, 30)}: ${ratio.toFixed(2)}`);
+}
+return poor;
+"""
+UNREACHED = """
+const all = [...document.querySelectorAll("button, select, input, [tabindex='0']")];
+const isSeen = (one) => one.getClientRects().length && !one.disabled && one.tabIndex >= 0 && !one.closest("[hidden]");
+return all.filter((one) => isSeen(one) && !one.dataset.reached).map((one) => one.outerHTML.slice(0, 90));
+"""
+
+
+def keys_reach_everything(page):
+    """Tab reaches each control of each view, and arrows the views."""
+    page.start("#range=1000000-90000000")
+    page.must_open(EXAMPLES / "recording.stream")
+    page.browser.run("document.addEventListener('focusin', ({ target }) => { target.dataset.reached = '1'; })")
+    for turn in range(5):
+        page.settle()
+        page.browser.press(*["Tab"] * 60)
+        same(page.browser.run(UNREACHED), [], f"what Tab does not reach in view {turn}")
+        page.browser.run("document.querySelector('[role=tab][aria-selected=true]').focus()")
+        page.browser.press("ArrowRight")
+    same(page.state().get("tab"), None, "arrows go around the views")
+    page.browser.run("document.querySelector('#help').focus()")
+    page.browser.press("Enter")
+    page.browser.wait("return document.querySelector('dialog h3')")
+    page.browser.press("Escape")
+    page.browser.wait("return document.activeElement.id === 'help'")
+
+
+def contrast(page):
+    """Texts have a contrast of at least 4.5 to 1 in both themes."""
+    bad = bytearray((EXAMPLES / "recording.stream").read_bytes()[:9000])
+    for theme in ("light", "dark"):
+        page.start(f"#theme={theme}")
+        same(page.browser.run(CONTRAST), [], f"contrast before a file is open, {theme}")
+        page.must_open(page.write("cut.stream", bytes(bad)))
+        for tab in ("overview", "timeline", "flame", "tasks", "records"):
+            page.show(f"tab={tab}&theme={theme}&range=0-90000000&frame=3&search=a")
+            same(page.browser.run(CONTRAST), [], f"contrast of {tab}, {theme}")
+    grounds = []
+    page.start()
+    for scheme in ("light", "dark"):
+        features = [{"name": "prefers-color-scheme", "value": scheme}]
+        page.browser.command("Emulation.setEmulatedMedia", {"features": features})
+        grounds.append(page.browser.run("return getComputedStyle(document.body).backgroundColor"))
+    page.browser.command("Emulation.setEmulatedMedia", {"features": []})
+    same(grounds, ["rgb(255, 255, 255)", "rgb(21, 24, 28)"], "grounds that follow the reader's choice")
+
+
+def address(page):
+    """The address has the view, is read when it changes, and going back restores it."""
+    page.start("#tab=tasks&event=1&sorted=tid")
+    page.must_open(EXAMPLES / "events.data")
+    page.settle()
+    same(page.browser.text("[role=tab][aria-selected=true]"), "Tasks", "view")
+    same(page.browser.run("return document.getElementById('filter-event').value"), "1", "filter")
+    page.browser.click("#tab-flame")
+    same(page.state(), {"tab": "flame", "event": "1", "sorted": "tid"}, "state")
+    page.browser.run("history.back()")
+    page.settle()
+    same(page.state()["tab"], "tasks", "going back")
+    page.show("tab=nothing&range=9-1&event=x&pid=-4&weight=%00")
+    same(page.browser.text("[role=tab][aria-selected=true]"), "Overview", "view of a wrong address")
+
+
+def dropping(page):
+    """A recording and symbols that are dropped are opened."""
+    build = made.build(jobs=2)
+    page.start("#tab=flame&event=0")
+    files = [("build.data", made.bytes_of(build)), ("cc1.nm", build.symbols("cc1").encode())]
+    page.browser.run("""
+        const transfer = new DataTransfer();
+        for (const [name, text] of arguments[0]) {
+            transfer.items.add(new File([Uint8Array.from(atob(text), (sign) => sign.charCodeAt(0))], name));
+        }
+        const words = { bubbles: true, cancelable: true, dataTransfer: transfer };
+        ["dragover", "drop"].forEach((type) => document.body.dispatchEvent(new DragEvent(type, words)));
+    """, [[name, base64.b64encode(data).decode()] for name, data in files])
+    page.browser.wait("return document.getElementById('status').textContent.includes('symbols in cc1.nm')")
+    true("cc1;main;toplev::main;compile_file" in page.save("#export-folded", ".folded"), "names of the symbols")
+    page.start()
+    message = page.open(page.write("ls.nm", b"0000000000001139 T main\n"))
+    true(message and "recording first" in message, f"symbols alone: {message}")
+
+
+def stopping(page):
+    """The button stops reading, and another file can be opened."""
+    page.start()
+    page.browser.run("delete document.documentElement.dataset.opened")
+    page.browser.upload("#file", page.large)
+    page.browser.wait("return document.querySelector('progress').position > 0")
+    page.browser.click("#stop")
+    true("stopped" in page.browser.text("#status"), "the page says that reading was stopped")
+    true(page.browser.run("return document.querySelector('#choose') !== null"), "another file can be chosen")
+    page.must_open(EXAMPLES / "events.data")
+
+
+def speed(page):
+    """A large file opens within 5 seconds, and no task of the main thread takes 200 ms, also in the views."""
+    page.start()
+    began = time.monotonic()
+    page.must_open(page.large, seconds=60)
+    took = time.monotonic() - began
+    for tab in ("timeline", "flame", "tasks", "records"):
+        page.show(f"tab={tab}")
+        page.browser.wait("return !document.querySelector(`#panel-${arguments[0]}`).hidden", tab)
+    page.settle()
+    longest = page.browser.run("return longest")
+    print(f"    {page.large.stat().st_size / 1e6:.0f} MB in {took:.1f} s, longest task {longest:.0f} ms")
+    true(took < 5, f"it takes {took:.1f} s")
+    true(longest < 200, f"a task takes {longest:.0f} ms")
+
+
+def pictures(page, folder):
+    """Writes the pictures of docs/VIEW.md."""
+    folder.mkdir(parents=True, exist_ok=True)
+    build = made.build()
+    names = {"libc": "libc.so.6.nm", "kernel": "kallsyms", **{file: f"{file}.nm" for file in made.CALLS}}
+    symbols = [page.write(name, build.symbols(file).encode()) for file, name in names.items()]
+    page.start()
+    page.must_open(page.write("build.data", made.bytes_of(build)), *symbols)
+    page.settle()
+    views = {"overview": "theme=light", "timeline": "theme=light&tab=timeline&lanes=start&range=60000000-190000000",
+             "flame": "theme=dark&tab=flame&event=0&range=60000000-190000000"}
+    for name, words in views.items():
+        page.show(words)
+        page.browser.run("document.activeElement.blur()")
+        page.settle()
+        (folder / f"{name}.png").write_bytes(page.browser.picture())
+
+
+TESTS = [streams, first_time, file_of_perf, header_of_perf, selected_range, chains, timeline_keys, flame_keys,
+         flame_weights, tables, markup, dropping, hostile, extremes, refused_bytes, no_network, keys_reach_everything,
+         contrast, address, stopping, speed]
+
+
+def run(test, page):
+    title = test.__doc__.rstrip(".")
+    try:
+        test(page)
+        page.has_not_failed()
+    except Exception as error:
+        print(f"FAILED: {test.__name__}: {title}: {error}", flush=True)
+        if not isinstance(error, AssertionError):
+            traceback.print_exc()
+        return False
+    print(f"passed: {title}", flush=True)
+    return True
+
+
+def main():
+    parser = argparse.ArgumentParser(description=__doc__.splitlines()[0])
+    parser.add_argument("page")
+    parser.add_argument("--only", default="")
+    parser.add_argument("--pictures", type=Path)
+    parser.add_argument("--large", type=Path)
+    parser.add_argument("--megabytes", type=int, default=52)
+    words = parser.parse_args()
+    tests = [test for test in TESTS if words.only in test.__name__] if not words.pictures else []
+    with tempfile.TemporaryDirectory() as folder:
+        page = Page(words.page, folder, (1280, 863 if words.pictures else 800))
+        try:
+            page.large = words.large or page.folder / "large.data"
+            if {stopping, speed} & set(tests) and not words.large:
+                page.large.write_bytes(made.bytes_of(made.build(jobs=20 * words.megabytes)))
+            passed = [run(test, page) for test in tests]
+            if words.pictures:
+                pictures(page, words.pictures)
+        finally:
+            page.browser.close()
+    return 0 if all(passed) else 1
+
+
+if __name__ == "__main__":
+    sys.exit(main())

@@ -1,0 +1,72 @@
+// Opens the bytes of a recording by the library: a file of `perf record`, or a stream with its attribute in front.
+
+import { EventNames, headerOf, ownPeriod } from "./header.mjs";
+
+const FILES = ["PERFILE2", "2ELIFREP", "PERFFILE"];
+/** The place in the head of a file of the size of an attribute's entry, and of where the attributes are. */
+const ENTRY_SIZE = 16;
+const ATTRIBUTES = 24;
+
+function number(bytes, at, isLittle) {
+    return Number(new DataView(bytes.buffer, bytes.byteOffset, bytes.byteLength).getBigUint64(at, isLittle));
+}
+
+function openFile(library, ped, bytes) {
+    const file = ped.open(bytes);
+    const isLittle = file.order === library.LITTLE;
+    const { header, descriptions } = headerOf(bytes, isLittle);
+    const names = new EventNames(descriptions);
+    const [size, first] = [number(bytes, ENTRY_SIZE, isLittle), number(bytes, ATTRIBUTES, isLittle)];
+    const events = file.events.map((event, index) => ({
+        index, name: names.nameOf(event), type: event.type, config: event.event, reading: event.config,
+        ownPeriod: ownPeriod(bytes, first + size * index, isLittle),
+    }));
+    return {
+        bytes, events, header, kind: "file", order: isLittle ? "little" : "big", isClosed: file.isClosed,
+        frames: file.frames("file"),
+    };
+}
+
+/** The attribute at the front, in one order or the other. */
+function attributeOf(library, ped, bytes, orders) {
+    for (const order of orders) {
+        try {
+            return { ...ped.readAttribute(bytes, order), order };
+        } catch (error) {
+            if (order === orders.at(-1)) {
+                throw error;
+            }
+        }
+    }
+    return undefined;
+}
+
+function openStream(library, ped, bytes, orders) {
+    const { config, length, order } = attributeOf(library, ped, bytes, orders);
+    const isLittle = order === library.LITTLE;
+    const view = new DataView(bytes.buffer, bytes.byteOffset, bytes.byteLength);
+    const [type, event] = [view.getUint32(0, isLittle), view.getBigUint64(8, isLittle)];
+    return {
+        bytes, header: {}, kind: "stream", order: isLittle ? "little" : "big", isClosed: true,
+        frames: ped.stream(bytes, config, { start: length }),
+        events: [{
+            index: 0, name: new EventNames([]).nameOf({ type, event, ids: [] }), type, config: event, reading: config,
+            ownPeriod: ownPeriod(bytes, 0, isLittle),
+        }],
+    };
+}
+
+/** Opens bytes of a kind: "auto", "little attr" or "big attr". What is neither has the library's message. */
+export function openInput(library, ped, bytes, kind = "auto") {
+    if (kind === "little attr" || kind === "big attr") {
+        return openStream(library, ped, bytes, [kind === "big attr" ? library.BIG : library.LITTLE]);
+    }
+    if (FILES.includes(String.fromCharCode(...bytes.subarray(0, 8)))) {
+        return openFile(library, ped, bytes);
+    }
+    try {
+        return openStream(library, ped, bytes, [library.LITTLE, library.BIG]);
+    } catch {
+        return openFile(library, ped, bytes);
+    }
+}

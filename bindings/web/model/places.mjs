@@ -1,0 +1,97 @@
+// Places in code: a file and an offset in it, an address of the kernel, or unknown.
+
+import { Growing, Texts, Triples } from "./growing.mjs";
+import { hexOf } from "./text.mjs";
+
+const UNKNOWN = 0;
+const KERNEL = 1;
+const FILES = 2;
+
+/** Places by their numbers. What is at a place may have a name in a table of symbols. */
+export class Places {
+    constructor() {
+        this.ids = new Triples();
+        this.files = new Texts();
+        this.unknown = this.ids.numberOf(UNKNOWN, 0, 0);
+    }
+
+    kernel(upper, lower) { return this.ids.numberOf(KERNEL, upper, lower); }
+
+    inFile(file, upper, lower) { return this.ids.numberOf(file + FILES, upper, lower); }
+
+    textOf(place) {
+        const [kind, upper, lower] = [this.ids.first[place], this.ids.second[place], this.ids.third[place]];
+        if (kind === UNKNOWN) {
+            return "[unknown]";
+        }
+        return kind === KERNEL ? `${hexOf(upper, lower)}_[k]`
+            : `${this.files.list[kind - FILES]}+${hexOf(upper, lower)}`;
+    }
+
+    /** The name of a place by tables of symbols, or undefined. */
+    symbolOf(place, symbols) {
+        const [kind, upper, lower] = [this.ids.first[place], this.ids.second[place], this.ids.third[place]];
+        if (kind === UNKNOWN) {
+            return undefined;
+        }
+        const table = kind === KERNEL ? symbols.kernel : symbols.files.get(this.files.list[kind - FILES]);
+        const name = table?.find(upper, lower);
+        return name === undefined || kind !== KERNEL ? name : `${name}_[k]`;
+    }
+}
+
+/** Finds the places of addresses in the address spaces of processes. */
+export class PlaceFinder {
+    #kernel = new Growing(Int32Array);
+    #cachedSpace;
+    #cachedAddress;
+    #cachedPlace;
+
+    constructor(places, addresses, table, spaces) {
+        Object.assign(this, { places, addresses, table, spaces });
+        [this.#cachedSpace, this.#cachedAddress, this.#cachedPlace] = [0, 1, 2].map(() => new Int32Array(1 << 16));
+    }
+
+    kernel(address) {
+        while (this.#kernel.length <= address) {
+            this.#kernel.push(-1);
+        }
+        let place = this.#kernel.array[address];
+        if (place < 0) {
+            place = this.places.kernel(this.addresses.first[address], this.addresses.second[address]);
+            this.#kernel.array[address] = place;
+        }
+        return place;
+    }
+
+    /** The place of an address of a process: `state` is the number of what its address space is now. */
+    user(space, state, address) {
+        const slot = (Math.imul(address, 0x9e3779b1) ^ Math.imul(state, 0x85ebca6b)) >>> 16;
+        if (this.#cachedSpace[slot] === state && this.#cachedAddress[slot] === address) {
+            return this.#cachedPlace[slot];
+        }
+        const place = this.#find(space, address);
+        this.#cachedSpace[slot] = state;
+        this.#cachedAddress[slot] = address;
+        this.#cachedPlace[slot] = place;
+        return place;
+    }
+
+    #find(space, address) {
+        const [upper, lower] = [this.addresses.first[address], this.addresses.second[address]];
+        const { table } = this;
+        const mapping = this.spaces.find(space, upper, lower);
+        if (mapping < 0) {
+            return this.places.unknown;
+        }
+        const file = table.file[mapping];
+        if (table.keepsAddress[mapping]) {
+            return this.places.inFile(file, upper, lower);
+        }
+        const down = lower - table.firstLower[mapping];
+        const sum = down + table.offsetLower[mapping];
+        const carry = Math.floor(sum / 0x100000000);
+        return this.places.inFile(file, upper - table.firstUpper[mapping] + table.offsetUpper[mapping] + carry,
+            sum);
+    }
+}
