@@ -2,61 +2,44 @@
 """Runs the programs of README.md and docs/CALLING.md over `examples/recording.stream`, and compares what they print
 with what the page says of it.
 
-Usage, at the top of the repository: tools/calling/programs.py [WORD]
+Usage: tools/calling/programs.py
 
-With WORD it runs those whose first line has it. `rt try` compiles and interprets them in a repository of their own,
-without a proof. After a program its page has the output, as "prints `LINE`" or "prints N lines; the first is `LINE`".
+One `rt try` compiles and interprets them all, joined (`tools/quick`), without a proof. After a program its page has the
+output, as "prints `LINE`" or "prints N lines; the first is `LINE`".
 """
 
 import re
-import shutil
-import subprocess
 import sys
 import tempfile
 from pathlib import Path
 
+TOP = Path(__file__).resolve().parent.parent.parent
+sys.dont_write_bytecode = True
+sys.path.insert(0, str(TOP / "tools/quick"))
+from joined import Room, outcomes  # noqa: E402
+
 PROGRAM = "fn main(rt: HostRuntime)"
+PAGES = ("README.md", "docs/CALLING.md")
+USES = ["perf_event_data", "anyhow"]
 LINES = re.compile(r"prints\s+(\d+)\s+lines;\s+the\s+first\s+is\s+`([^`]+)`")
 LINE = re.compile(r"prints\s+`([^`]+)`")
-LIMITS = ["--steps", "1000000", "--seconds", "100"]
 
 
 def programs_of(page):
     """Each whole program of a page, with the text that follows it."""
-    parts = re.split(r"^```\w*\n", Path(page).read_text(), flags=re.M)
+    parts = re.split(r"^```\w*\n", (TOP / page).read_text(encoding="utf-8"), flags=re.M)
     return [(code, told) for code, told in zip(parts[1::2], parts[2::2]) if PROGRAM in code]
 
 
-def libraries():
-    """The lines of crates.txt of `perf_event_data` and the crates below it."""
-    lines = {line.split(":")[0]: line for line in Path("crates.txt").read_text().splitlines()}
-    wanted, found = ["perf_event_data"], {}
-    while wanted:
-        name = wanted.pop()
-        if name in lines and name not in found:
-            found[name] = lines[name]
-            wanted += lines[name].split(":")[1].split()
+def add_to(room):
+    """Adds the programs of the pages to a room, and returns for each name its first line and what its page says of it."""
+    stream = (TOP / "examples/recording.stream").read_bytes()
+    found = {}
+    for code, told in [it for page in PAGES for it in programs_of(page)]:
+        name = f"of_page_{len(found)}"
+        room.add_program(name, code, USES, stream)
+        found[name] = code.splitlines()[0].removeprefix("//! "), told
     return found
-
-
-def make_room(room):
-    """Makes a repository with these libraries and a crate for a program, whose folder it returns."""
-    found = libraries()
-    (room / "crates.txt").write_text("\n".join([*found.values(), "of_page: perf_event_data anyhow", ""]))
-    for name in found:
-        shutil.copytree(f"crates/{name}/src", room / f"crates/{name}/src")
-    crate = room / "crates/of_page"
-    (crate / "src").mkdir(parents=True)
-    return crate
-
-
-def printed(program, crate):
-    """What a program prints, or why it fails."""
-    (crate / "src/main.rt").write_text(program)
-    words = [sys.executable, Path("tools/quick/attempt.py").resolve(), *LIMITS]
-    with open("examples/recording.stream", "rb") as stream:
-        ran = subprocess.run(words, cwd=crate, stdin=stream, capture_output=True, text=True)
-    return ran.stdout if ran.returncode == 0 else f"status {ran.returncode}: {ran.stderr[-800:]}"
 
 
 def is_told(output, told):
@@ -67,18 +50,27 @@ def is_told(output, told):
     return bool(one) and lines == [one.group(1)]
 
 
-def main(words):
-    programs = programs_of("README.md") + programs_of("docs/CALLING.md")
-    chosen = [it for it in programs if all(word in it[0].splitlines()[0] for word in words)]
+def fault_of(told, status, output, why):
+    """What is wrong with how a program ended and with what it printed, or nothing."""
+    if status != 0:
+        return f"status {status}: {why[-800:]}"
+    output = output.decode(errors="replace")
+    return "" if is_told(output, told) else f"it prints something else than its page tells: {output[-800:]}"
+
+
+def main():
     wrong = 0
-    with tempfile.TemporaryDirectory() as room:
-        crate = make_room(Path(room))
-        for program, told in chosen:
-            name, output = program.splitlines()[0].removeprefix("//! "), printed(program, crate)
-            holds = is_told(output, told)
-            wrong += not holds
-            print(f"passed: {name}" if holds else f"FAILED: {name}\n{output[-800:]}", flush=True)
-    return 1 if wrong or not chosen else 0
+    with tempfile.TemporaryDirectory(prefix="pages-") as folder:
+        room = Room(TOP, folder)
+        found = add_to(room)
+        words = room.join_programs("programs", list(found))
+        for name, (status, output, why) in outcomes(room.run("programs", *words), found).items():
+            line, told = found[name]
+            fault = fault_of(told, status, output, why)
+            wrong += bool(fault)
+            print(f"FAILED: {line}\n{fault}" if fault else f"passed: {line}", flush=True)
+    return 1 if wrong or not found else 0
 
 
-sys.exit(main(sys.argv[1:]))
+if __name__ == "__main__":
+    sys.exit(main())
