@@ -83,7 +83,7 @@ class Browser:
         """What a function body gives to its last argument, a function."""
         return self.post("execute/async", {"script": script, "args": words})
 
-    def wait(self, script, *words, seconds=10):
+    def wait(self, script, *words, seconds=30):
         """Waits until a function body returns something."""
         end = time.monotonic() + seconds
         while True:
