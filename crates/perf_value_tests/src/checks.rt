@@ -6,30 +6,25 @@ use std::alloc::AllocError;
 use std::fmt::Debug;
 use std::process::Abort;
 
-/// Asserts that a value is the expected one.
-pub fn check_same<T: PartialEq + Debug + Drop>(rt: &impl Abort, what: &str, value: T, want: T) {
+// Asserts that a value is the expected one.
+fn check_same<T: PartialEq + Debug + Drop>(rt: &impl Abort, what: &str, value: T, want: T) {
     assert_eq!(rt; value, want, "{what}");
 }
 
-/// Asserts that a text is the expected one.
-pub fn check_text(rt: &impl Abort, answer: Result<String, AllocError>, want: &str) {
+// Asserts that a text is the expected one.
+fn check_text(rt: &impl Abort, answer: Result<String, AllocError>, want: &str) {
     match answer {
         Ok(text) => check_same(rt, "the text", text.as_str(), want),
         Err(_) => panic!(rt; "no memory"),
     }
 }
 
-/// Asserts the result of a case.
-pub fn check_answer(rt: &impl Abort, what: &str, answer: ParseResult<String>, want: &str) {
-    match answer {
-        Ok(text) => check_same(rt, what, text.as_str(), want),
-        Err(error) => panic!(rt; "{what}: {error}"),
-    }
-}
-
 /// Asserts a text.
 pub fn check_parsed_text(rt: &impl Abort, actual: ParseResult<String>, want: &str) {
-    check_answer(rt, "the text", actual, want);
+    match actual {
+        Ok(text) => check_same(rt, "the text", text.as_str(), want),
+        Err(error) => panic!(rt; "{error}"),
+    }
 }
 
 /// Asserts the `{:?}` of a value: all of its fields, and of each list whether it is borrowed.
