@@ -10,7 +10,7 @@ import sys
 from html import escape
 from pathlib import Path
 
-# What each crate returns. Examples, tests and measurements are in OTHERS.
+# What each crate returns. Examples, measurements and tests are in OTHERS.
 RETURNS = {
     "perf_words": "sets of flags, named numbers",
     "perf_base": "byte orders, errors, configurations",
@@ -35,7 +35,12 @@ RETURNS = {
     "perf_count": "three numbers",
 }
 FACES = ("perf_event_data", "perf_event_c", "perf_file")
-OTHERS = "perf_uses perf_unit_tests perf_file_tests perf_out_of_memory perf_replay perf_test_helpers perf_bench".split()
+OTHERS = {
+    "Examples and measurements": ["perf_uses", "perf_bench"],
+    "Tests": ["perf_value_tests", "perf_program_tests", "perf_unit_tests", "perf_file_tests", "perf_out_of_memory",
+              "perf_replay"],
+    "What tests share": ["perf_test_inputs", "perf_test_helpers"],
+}
 
 STYLE = """<style>
 text { font-family: sans-serif; fill: #1b1f24 }
@@ -74,7 +79,7 @@ def uses_of_crates():
     """The crates that each crate uses, but for those that another of these uses."""
     lines = [it.split(":") for it in Path("crates.txt").read_text().splitlines() if it and it[0] != "#"]
     every = {name.split()[0]: used.split() for name, used in lines}
-    unknown = set(every) - set(RETURNS) - set(OTHERS)
+    unknown = set(every) - set(RETURNS).union(*OTHERS.values())
     if unknown:
         sys.exit(f"the tables of {sys.argv[0]} do not have {', '.join(unknown)}")
     uses = {name: [it for it in every[name] if it in RETURNS] for name in RETURNS if name in every}
@@ -116,9 +121,10 @@ def layers():
     for name, (x, y, half) in places.items():
         kind = "first" if levels[name] == top else "second" if name in FACES else "box"
         parts += [box(x - half, y, 2 * half, high, kind), text(x, y + 17, name, "name"), text(x, y + 34, RETURNS[name])]
-    height = 30 + (top + 1) * step + 44
-    parts.append(text(width // 2, height - 40, "Each crate uses those below it that a line leads to. Green: programs. Yellow: what a program of yours names."))
-    parts.append(text(width // 2, height - 20, "Examples, tests and measurements: " + ", ".join(OTHERS)))
+    height = 30 + (top + 1) * step + 24 + 20 * len(OTHERS)
+    told = ["Each crate uses those below it that a line leads to. Green: programs. Yellow: what a program of yours names."]
+    told += [f"{what}: {', '.join(names)}" for what, names in OTHERS.items()]
+    parts += [text(width // 2, height - 20 * (len(told) - at), row) for at, row in enumerate(told)]
     return picture(width, height, parts)
 
 

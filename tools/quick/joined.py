@@ -131,16 +131,16 @@ class Room:
         return result
 
     def join_tests(self, name, others):
-        """Adds the modules of other crates of tests to one."""
+        """Adds the modules of other crates of tests to one, each under its crate's name and its own."""
         root = self.source(name) / "lib.rt"
         for other in others:
             for file in self.source(other).glob("*.rt"):
-                if file.name != "lib.rt" and (self.source(name) / file.name).exists():
-                    raise ValueError(f"{name} and {other} both have {file.name}")
+                text = re.sub(r"\bcrate::", f"crate::{other}_", file.read_text(encoding="utf-8"))
                 if file.name != "lib.rt":
-                    shutil.copy2(file, self.source(name))
+                    (self.source(name) / f"{other}_{file.name}").write_text(text, encoding="utf-8")
             modules = re.findall(r"^(?:#\[cfg\(test\)\]\n)?mod \w+;\n", (self.source(other) / "lib.rt").read_text(), re.MULTILINE)
-            root.write_text(root.read_text(encoding="utf-8") + "".join(modules), encoding="utf-8")
+            modules = "".join(modules).replace("mod ", f"mod {other}_")
+            root.write_text(root.read_text(encoding="utf-8") + modules, encoding="utf-8")
             self.uses[name] = list(dict.fromkeys(self.uses[name] + self.uses[other]))
         self.list()
 

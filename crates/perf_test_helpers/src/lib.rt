@@ -6,7 +6,6 @@ pub mod asks;
 pub mod attributes;
 pub mod everywhere;
 pub mod frames;
-pub mod orders;
 pub mod reasons;
 pub mod runs;
 pub mod sample_bytes;

@@ -45,16 +45,6 @@ pub fn check_debug<T: Debug + Drop>(rt: &(impl AllocGlobal + Abort), value: T, w
     check_text(rt, format!(in rt.alloc(); "{value:?}"), want);
 }
 
-/// Asserts numbers.
-pub fn check_numbers(rt: &impl Abort, actual: &[u64], want: &[u64]) {
-    check_same(rt, "the numbers", actual, want);
-}
-
-/// Asserts numbers, each of which may be absent.
-pub fn check_answers(rt: &impl Abort, actual: &[Option<u64>], want: &[Option<u64>]) {
-    check_same(rt, "the answers", actual, want);
-}
-
 /// Asserts that two values are equal, or that one is true, and names the text if not.
 #[macro_export]
 macro_rules! check {

@@ -1,12 +1,12 @@
 //! The texts of errors, and lists that may be borrowed.
 
 use crate::checks::{check_same, check_text};
-use crate::failing::Failing;
 use anyhow::anyhow;
 use perf_base::endian::Little;
 use perf_base::{CowSlice, ErrorKind, ParseConfig, ParseError, ParseResult};
 use perf_event_data::parse::{ParseBuf, Parser};
 use perf_test_helpers::asks::next_record;
+use perf_test_inputs::readers::Failing;
 use std::alloc::{AllocError, AllocFailed, Global};
 use std::io::{self, BufReader};
 use std::process::Abort;

@@ -1,16 +1,16 @@
 //! Byte orders, and some of a user's own.
 
-ghost use Rattle.std.specs.Prelude.{◌++◌, take, drop, true, false};
+ghost use Rattle.std.specs.Prelude.{◌++◌, take, drop, false};
 ghost use Rattle.std.specs.Int.{w16, w32, w64, from_le_bytes};
 
 use crate::cases::{Case, Request, check_cases, kind_of};
 use crate::checks::{check_answer, check_same};
 use perf_base::endian::{Big, Dynamic, Endian, Little, Native};
 use perf_base::sys::perf_event_header;
-use perf_base::{ErrorKind, ParseConfig, ParseError, ParseResult};
+use perf_base::{ErrorKind, ParseConfig, ParseResult};
 use perf_event_data::parse::{Parse, ParseBuf, Parser};
-use perf_test_helpers::orders::Counting;
 use perf_test_helpers::runs::text_of_runs;
+use perf_test_inputs::orders::{Counting, Single};
 use std::alloc::Global;
 use std::cell::Cell;
 use std::process::Abort;
@@ -92,36 +92,6 @@ impl Endian for Words {
 
     fn duplicate(&self) -> ParseResult<Self> {
         Ok(*self)
-    }
-}
-
-/// Little endian. There is never memory for a second one.
-#[derive(Copy, Clone)]
-pub struct Single;
-
-impl Endian for Single {
-    ghost order = { λ _. record {
-      two = from_le_bytes w16;
-      four = from_le_bytes w32;
-      eight = from_le_bytes w64;
-    } };
-
-    ghost may_refuse = { λ _. true };
-
-    fn convert_u16(&self, bytes: [u8; 2]) -> u16 {
-        u16::from_le_bytes(bytes)
-    }
-
-    fn convert_u32(&self, bytes: [u8; 4]) -> u32 {
-        u32::from_le_bytes(bytes)
-    }
-
-    fn convert_u64(&self, bytes: [u8; 8]) -> u64 {
-        u64::from_le_bytes(bytes)
-    }
-
-    fn duplicate(&self) -> ParseResult<Self> {
-        Err(ParseError::out_of_memory())
     }
 }
 

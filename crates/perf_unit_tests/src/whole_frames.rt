@@ -3,7 +3,6 @@
 ghost use Rattle.std.specs.Prelude.{⊤, ◌<◌};
 
 use crate::checks::{check_same, check_text};
-use crate::runs::{FIVE_LOST, TWO};
 use bitflags::Flags;
 use perf_event_data::endian::{Endian, Little};
 use perf_event_data::parse::{ParseConfig, ParseResult, Parser};
@@ -14,6 +13,7 @@ use perf_event_data::{
 use perf_test_helpers::attributes::ids_attribute;
 use perf_test_helpers::runs::write_debug_record;
 use perf_test_helpers::texts::write_error;
+use perf_test_inputs::bytes::{FIVE_LOST, TWO};
 use std::alloc::{AllocError, Global};
 
 // The fields of the samples.

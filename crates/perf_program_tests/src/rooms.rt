@@ -1,11 +1,11 @@
 //! The capacity of the list of a run's frames.
 
 use crate::checks::{check_same, check_that};
-use crate::runs::{FIVE_LOST, TWO};
 use perf_event_data::endian::Little;
 use perf_event_data::parse::{ParseBuf, ParseConfig, ParseResult, Parser};
 use perf_event_data::sys::perf_event_header;
 use perf_event_data::{PieceBuf, Record, read_records};
+use perf_test_inputs::bytes::{FIVE_LOST, TWO};
 use std::alloc::Global;
 use std::io::BufReader;
 use std::mem::size_of;

@@ -3,15 +3,16 @@
 ghost use Rattle.std.specs.Prelude.{◌<◌};
 
 use crate::checks::check_same;
-use crate::orders::Single;
 use crate::runs::{
-    FIVE_LOST, PLAIN_64, PLAIN_72, PLAIN_100, REFUSED, REFUSED_TEXT, RunCase, TEXT, TWO, check_run,
-    join,
+    PLAIN_64, PLAIN_72, PLAIN_100, REFUSED, REFUSED_TEXT, RunCase, TEXT, check_run, join,
 };
 use perf_event_data::endian::Little;
 use perf_lines::outcome::Outcome;
 use perf_lines::output::write_whole;
 use perf_lines::run::run;
+use perf_test_inputs::bytes::{FIVE_LOST, TWO};
+use perf_test_inputs::orders::Single;
+use perf_test_inputs::readers::Failing;
 use std::alloc::AllocError;
 use std::cell::Cell;
 use std::io;
@@ -19,27 +20,6 @@ use std::io::{Read, Write};
 use std::process::Abort;
 
 // ---- readers
-
-/// Gives some bytes, at most `most` at a time, and then ends, or fails with each read.
-#[derive(Copy, Clone)]
-pub struct Failing<'a> {
-    pub bytes: &'a [u8],
-    pub most: usize,
-    pub fault: Option<io::ErrorKind>,
-}
-
-impl Read for Failing<'_> {
-    fn read(&mut self, buf: &mut [u8]) -> io::Result<usize> {
-        if self.bytes.is_empty() {
-            return match self.fault {
-                Some(kind) => Err(io::Error::from(kind)),
-                None => Ok(0),
-            };
-        }
-        let count = buf.len().min(self.most);
-        self.bytes.read(&mut buf[..count])
-    }
-}
 
 // Asserts what is written for a reader that gives one byte at a time, seven or all that it has.
 fn check_reads(

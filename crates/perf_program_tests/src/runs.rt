@@ -8,17 +8,8 @@ use std::alloc::{AllocError, Global};
 use std::io::Read;
 use std::process::Abort;
 
-/// Two records of five lost samples, in little endian.
-pub const TWO: [u8; 32] = [
-    13, 0, 0, 0, 0, 0, 16, 0, 5, 0, 0, 0, 0, 0, 0, 0, 13, 0, 0, 0, 0, 0, 16, 0, 5, 0, 0, 0, 0, 0,
-    0, 0,
-];
-
-/// Their text.
+/// The text of two records of five lost samples.
 pub const TEXT: &str = "0 13 0 16 LostSamples lost=5\n1 13 0 16 LostSamples lost=5\nend done\n";
-
-/// One of them.
-pub const FIVE_LOST: [u8; 16] = [13, 0, 0, 0, 0, 0, 16, 0, 5, 0, 0, 0, 0, 0, 0, 0];
 
 /// A frame that is refused, and a record of five lost samples.
 pub const REFUSED: [u8; 24] = [

@@ -3,10 +3,11 @@
 ghost use Rattle.std.specs.Prelude.{◌<◌};
 
 use crate::checks::check_same;
-use crate::runs::{PLAIN_72, TEXT, TWO, join};
+use crate::runs::{PLAIN_72, TEXT, join};
 use perf_event_data::endian::Little;
 use perf_lines::outcome::Outcome;
 use perf_lines::run::run;
+use perf_test_inputs::bytes::TWO;
 use std::alloc::AllocError;
 use std::cell::Cell;
 use std::io;
