@@ -1,8 +1,8 @@
 // Opens the bytes of a recording by the library: a file of `perf record`, or a stream with its attribute in front.
 
+import { isFile } from "../../js/config.mjs";
 import { EventNames, headerOf, ownPeriod } from "./header.mjs";
 
-const FILES = ["PERFILE2", "2ELIFREP", "PERFFILE"];
 /** The place in the head of a file of the size of an attribute's entry, and of where the attributes are. */
 const ENTRY_SIZE = 16;
 const ATTRIBUTES = 24;
@@ -61,7 +61,7 @@ export function openInput(library, ped, bytes, kind = "auto") {
     if (kind === "little attr" || kind === "big attr") {
         return openStream(library, ped, bytes, [kind === "big attr" ? library.BIG : library.LITTLE]);
     }
-    if (FILES.includes(String.fromCharCode(...bytes.subarray(0, 8)))) {
+    if (isFile(bytes)) {
         return openFile(library, ped, bytes);
     }
     try {
