@@ -75,8 +75,9 @@ export class ExportMenu {
 
     async #saveText(kind, type) {
         const { state } = this.#shell;
-        const text = await this.#shell.call("export", { kind, filter: filterOf(state), weight: state.weight });
-        save(`${this.#base}.${kind}`, text, type);
+        const words = { kind, filter: filterOf(state), weight: state.weight, as: "bytes" };
+        const bytes = await this.#shell.call("export", words);
+        save(`${this.#base}.${kind}`, bytes, type);
         this.#shell.say(`Wrote ${this.#base}.${kind}`);
     }
 }

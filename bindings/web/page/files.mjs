@@ -23,8 +23,8 @@ export async function sorted(files) {
 }
 
 /** Writes a file into the folder of the reader's downloads. */
-export function save(name, text, type) {
-    const address = URL.createObjectURL(new Blob([text], { type }));
+export function save(name, contents, type) {
+    const address = URL.createObjectURL(new Blob([contents], { type }));
     element("a", { href: address, download: name }).click();
     setTimeout(() => URL.revokeObjectURL(address), 10000);
 }
