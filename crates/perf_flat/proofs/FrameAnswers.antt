@@ -28,9 +28,9 @@ use Rattle.perf_records.proofs.Splits.{split_small, split_short, split_no_room, 
 use Rattle.perf_flat.specs.Arrays.{filled}
 use Rattle.perf_flat.specs.Flat.{CarriesNumbers, StatesRecord, StatesRefusal, StatesAnswer, HasHeader, IsFlat, IsFlatAfter, IsBad, ids_of, numbers_under, refused_frame, first_frame}
 use Rattle.perf_flat.specs.CursorReads.{IsBodyOf, WritesRecord}
-use Rattle.perf_flat.specs.SampleIds.{TakesId}
+use Rattle.perf_records.specs.FrameEnds.{TakesId}
 use Rattle.perf_flat.specs.declared.frame.FlatFrame.{FlatFrame}
-use Rattle.perf_flat.specs.declared.sample_id.FrameEnd.{FrameEnd}
+use Rattle.perf_records.specs.declared.frame_end.FrameEnd.{FrameEnd}
 use Rattle.perf_flat.proofs.RecordWrites.{still_headed, now_carries}
 
 -- ---- the body of a frame

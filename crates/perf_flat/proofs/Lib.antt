@@ -7,7 +7,6 @@ pub mod Fields
 pub mod Lists
 pub mod Groups
 pub mod Samples
-pub mod SampleIds
 pub mod FrameAnswers
 pub mod ManyFrames
 pub mod SplitFrames

@@ -13,4 +13,3 @@ pub mod CursorReads
 pub mod SampleReads
 pub mod SampleContents
 pub mod BodyReads
-pub mod SampleIds

@@ -10,4 +10,3 @@ pub mod frame;
 pub mod read;
 pub mod refusals;
 mod sample;
-mod sample_id;

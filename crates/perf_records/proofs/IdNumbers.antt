@@ -1,13 +1,15 @@
 -- The numbers of a sample id are at their places in it.
-use Rattle.std.proofs.Common.{◌≡◌, ℕ, ◌+◌, ◌*◌, ◌≤◌, Bool, true, false, List, length, take, drop, Option, Some, None, refl, sym, ◌∙◌, ap, arith, if◌then◌else◌}
+use Rattle.std.proofs.Common.{◌≡◌, ℕ, ◌+◌, ◌*◌, ◌≤◌, Bool, true, false, List, [], ◌∷◌, length, take, drop, Option, Some, None, refl, sym, ◌∙◌, ap, arith, if◌then◌else◌}
 use Rattle.std.specs.Prelude.{option_map, nat_le}
 use Rattle.std.proofs.lemmas.Bool.{le-leb, lt-leb}
 use Rattle.std.proofs.lemmas.List.{drop-drop}
 use Rattle.perf_base.specs.Configuration.{Configuration}
-use Rattle.perf_base.specs.Layout.{done, optional, w4, w8, size, shape_value, slice, value}
+use Rattle.perf_base.specs.Layout.{done, optional, w4, w8, size, shape_value, slice, Spot, takes, holds, spots, value}
+use Rattle.perf_base.specs.LayoutReads.{one_if_any, part_reads, reads, layout_reads}
 use Rattle.perf_base.specs.Order.{Order}
 use Rattle.perf_reader.proofs.AtOnce.{in_front}
-use Rattle.perf_sample_types.specs.SampleId.{SampleIdValue, one_if, first_of, no_sample_id, sample_id_fields, sample_id_flags, has_tid, has_time, has_id, has_cpu, has_identifier}
+use Rattle.perf_sample_types.specs.SampleId.{SampleIdValue, one_if, first_of, no_sample_id, sample_id_fields, sample_id_flags, has_tid, has_time, has_id, has_stream_id, has_cpu, has_identifier}
+use Rattle.perf_records.specs.FrameEnds.{id_field_reads}
 use Rattle.perf_records.specs.FrameNumbers.{eight_at, bytes_of, time_field, task_field, id_field, cpu_field, identifier_field, first_half, second_half}
 use Rattle.perf_records.specs.Metadata.{carries_sample_id, id_of_type, id_length}
 
@@ -62,6 +64,10 @@ pub id_tid : (o : Order) (t : ℕ) (ids : List ℕ) → Long t ids →
     (value o ids 0 (sample_id_fields t)).tid ≡ option_map (second_half o) (if has_tid t then eight_at ids (bytes_of t task_field.in_id) else None)
 id_tid o t ids long = four_answer o (has_tid t) ids _ 0 4 _ (λ e. rw e refl) (omega arith) (omega arith)
 
+pub id_stream_id : (o : Order) (t : ℕ) (ids : List ℕ) → Long t ids →
+    (value o ids 0 (sample_id_fields t)).stream_id ≡ option_map o.eight (if has_stream_id t then eight_at ids (bytes_of t (1 ∷ 2 ∷ 6 ∷ [])) else None)
+id_stream_id o t ids long = eight_answer o (has_stream_id t) ids _ (bytes_of t (1 ∷ 2 ∷ 6 ∷ [])) _ (simp (optional_w4_size, optional_w8_size) (omega arith)) (omega arith)
+
 pub id_cpu : (o : Order) (t : ℕ) (ids : List ℕ) → Long t ids →
     (value o ids 0 (sample_id_fields t)).cpu ≡ option_map (first_half o) (if has_cpu t then eight_at ids (bytes_of t cpu_field.in_id) else None)
 id_cpu o t ids long = four_answer o (has_cpu t) ids _ (bytes_of t cpu_field.in_id) 0 _ (λ e. simp (optional_w4_size, optional_w8_size) (omega arith)) (omega arith) (omega arith)
@@ -87,6 +93,58 @@ pub id_id : (o : Order) (t : ℕ) (ids : List ℕ) → Long t ids →
 id_id o t ids long =
     either_answer o (has_id t) (has_identifier t) ids _ (bytes_of t id_field.in_id) _ _ (bytes_of t identifier_field.in_id) _
     (simp (optional_w4_size, optional_w8_size) (omega arith)) (omega arith) (simp (optional_w4_size, optional_w8_size, padding_if) (omega arith)) (omega arith)
+
+-- ---- the reads of its fields
+
+-- parts that are all there
+abbrev AllThere : ℕ → List Spot → Type 0
+AllThere len [] = Unit {0}
+AllThere len (takes s n shape ∷ xs) = (s + n ≤ len) × AllThere len xs
+AllThere len (holds s t e ∷ xs) = ⊥
+
+abbrev total : List Spot → ℕ
+total [] = 0
+total (takes s n shape ∷ xs) = part_reads shape n + total xs
+total (holds s t e ∷ xs) = total xs
+
+all_read : (len : ℕ) (xs : List Spot) → AllThere len xs → reads len xs ≡ total xs
+all_read len [] all = refl
+all_read len (takes s n shape ∷ xs) all = let t : nat_le (s + n) len ≡ true = le-leb (s + n) len all.0 in rw (t, reads) (ap (λ m. part_reads shape n + m) (all_read len xs all.1))
+all_read len (holds s t e ∷ xs) all = absurd all
+
+any_4 : (flag : Bool) → one_if_any (4 * one_if flag) ≡ one_if flag
+any_4 true = refl
+any_4 false = refl
+
+any_8 : (flag : Bool) → one_if_any (8 * one_if flag) ≡ one_if flag
+any_8 true = refl
+any_8 false = refl
+
+pub fields_read : (o : Order) (t : ℕ) (ids : List ℕ) → Long t ids → layout_reads o (sample_id_fields t) ids ≡ id_field_reads t
+fields_read o t ids long =
+    all_read (length ids) (spots o ids 0 (sample_id_fields t)) (
+      simp optional_w4_size (omega arith),
+      (
+        simp optional_w4_size (omega arith),
+        (
+          simp (optional_w4_size, optional_w8_size) (omega arith),
+          (
+            simp (optional_w4_size, optional_w8_size) (omega arith),
+            (
+              simp (optional_w4_size, optional_w8_size) (omega arith),
+              (
+                simp (optional_w4_size, optional_w8_size) (omega arith),
+                (
+                  simp (optional_w4_size, optional_w8_size, padding_if) (omega arith),
+                  (simp (optional_w4_size, optional_w8_size, padding_if) (omega arith), tt),
+                ),
+              ),
+            ),
+          ),
+        ),
+      ),
+    )
+    ∙ simp (optional_w4_size, optional_w8_size, padding_if, any_4, any_8) (omega arith)
 
 -- ---- and of the sample id of every type, which may be none
 

@@ -13,5 +13,6 @@ pub mod FrameList
 pub mod FramesAfter
 pub mod FrameFlags
 pub mod IdNumbers
+pub mod FrameEnds
 pub mod SampleNumbers
 pub mod FrameNumbers

@@ -5,7 +5,7 @@ pub mod RecordTypes
 pub mod Bodies
 pub mod Frames
 pub mod Answers
-pub mod Parts
+pub mod FrameEnds
 pub mod FrameNumbers
 pub mod Gives
 pub mod Shown

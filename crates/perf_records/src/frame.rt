@@ -7,9 +7,10 @@ ghost use Rattle.perf_records.specs.Prelude.{NoRoomForId};
 ghost use Rattle.perf_buffers.specs.Prelude.{chunk_bytes, chunk_is_borrowed};
 
 use crate::body_reader::BodyReader;
-use crate::parts::{FrameId, id_of};
+use crate::frame_end::{FrameEnd, frame_end};
+use crate::metadata::RecordMetadata;
 use perf_base::sys::perf_event_header;
-use perf_base::{Endian, ParseConfig, ReadCounter, ReadResult};
+use perf_base::{Endian, ParseConfig, ReadCounter, ReadResult, Refusal};
 use perf_buffers::parsebuf::ParseBufChunk;
 use std::alloc::Global;
 
@@ -96,17 +97,19 @@ impl<'c, 'p> Frame<'c, 'p> {
             IfErr result.0 (λ e. e ≡ NoRoomForId) }
     {
         let bytes = self.rest.as_bytes();
-        let FrameId {
-            len,
-            metadata,
+        let FrameEnd {
+            id,
+            body,
             mut reads,
-        } = match id_of(alloc, bytes, config, self.header) {
-            Ok(id) => id,
-            Err(refusal) => {
+        } = match frame_end(config, self.header.type_, bytes) {
+            Some(end) => end,
+            None => {
                 drop(maker);
-                return (Err(refusal), ReadCounter::new());
+                return (Err(Refusal::NoRoomForId), ReadCounter::new());
             }
         };
+        let len = body.len();
+        let metadata = RecordMetadata::from_parts(self.header.type_, self.header.misc, id);
         let mut under = config.lent();
         under.set_misc(self.header.misc);
         let (output, more) = maker.read(alloc, self.rest.first(len), under, metadata, state);

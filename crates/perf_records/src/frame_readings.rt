@@ -1,8 +1,7 @@
 //! What one whole frame contains.
 
-ghost use Rattle.std.specs.Prelude.{◌≡◌, false, Ok, Err, IfErr, OnErr};
+ghost use Rattle.std.specs.Prelude.{◌≡◌, false, Ok, IfErr, OnErr};
 ghost use Rattle.perf_base.specs.Refusals.{IsErrorOf, error_kinds};
-ghost use Rattle.perf_base.specs.declared.error.ParseError.{ParseError};
 ghost use Rattle.perf_buffers.specs.Prelude.{chunk_bytes, chunk_is_borrowed};
 ghost use Rattle.perf_records.specs.Answers.{split_after};
 ghost use Rattle.perf_records.specs.FrameReadings.{FrameGives, HasNoRoom, PutsSample, metadata_in};
@@ -12,8 +11,8 @@ ghost use Rattle.perf_sample_types.specs.SampleEmpty.{no_sample};
 
 use crate::body_reader::{AsRecord, BodyReader, ByVisitor, IntoSample};
 use crate::frame::Frame;
+use crate::frame_end::frame_end;
 use crate::metadata::RecordMetadata;
-use crate::parts::id_in;
 use crate::record::Record;
 use crate::record_type::RecordType;
 use crate::visitor::Visitor;
@@ -21,16 +20,6 @@ use perf_base::sys::PERF_RECORD_SAMPLE;
 use perf_base::{Endian, Kept, ParseConfig, ParseResult, Refusal};
 use perf_sample_types::sample::{Sample, clear_sample};
 use std::alloc::Global;
-
-// What a call returns for a frame that is refused. An error is large, so it is made where it is
-// returned: a caller that makes one itself clears space for it before it knows whether there is one.
-#[cold]
-#[inline(never)]
-fn refused<T>(refusal: Refusal) -> ParseResult<T>
-    ensures { (e : ParseError) × (result ≡ Err e) × IsErrorOf e refusal }
-{
-    Err(Kept::none().error_of(refusal))
-}
 
 impl<'c, 'p> Frame<'c, 'p> {
     // Makes an output from the frame's body; a refusal becomes an error.
@@ -50,7 +39,7 @@ impl<'c, 'p> Frame<'c, 'p> {
         let (answer, _reads) = self.read(alloc, config, maker, state);
         match answer {
             Ok(output) => Ok(output),
-            Err(refusal) => refused(refusal),
+            Err(refusal) => Err(Kept::none().error_of(refusal)),
         }
     }
 
@@ -72,7 +61,7 @@ impl<'c, 'p> Frame<'c, 'p> {
     #[inline]
     pub fn metadata<E: Endian>(
         &self,
-        alloc: Global,
+        _alloc: Global,
         config: &ParseConfig<E>,
     ) -> ParseResult<RecordMetadata>
         ensures parts { error_kinds result ≡ metadata_in (split_after (configuration_of config.now)
@@ -80,9 +69,10 @@ impl<'c, 'p> Frame<'c, 'p> {
         ensures no_room { IfErr result (λ e. IsErrorOf e NoRoomForId) }
         ensures room { OnErr result (HasNoRoom self.now.header (configuration_of config.now)) }
     {
-        match id_in(alloc, self.rest(), config, self.header()) {
-            Ok(id) => Ok(id.metadata),
-            Err(no_room) => refused(no_room),
+        let header = self.header();
+        match frame_end(config, header.type_, self.rest()) {
+            Some(end) => Ok(RecordMetadata::from_parts(header.type_, header.misc, end.id)),
+            None => Err(Kept::none().error_of(Refusal::NoRoomForId)),
         }
     }
 

@@ -5,6 +5,7 @@ pub mod body;
 pub mod body_reader;
 pub mod frame;
 pub mod frame_after;
+pub mod frame_end;
 pub mod frame_handler;
 pub mod frame_list;
 mod frame_numbers;

@@ -2,19 +2,18 @@
 
 ghost use Rattle.std.specs.Prelude.{◌≡◌, ◌≤◌, ◌<◌, ◌+◌, true, length, Err};
 ghost use Rattle.std.specs.Prelude.{IsTrue, IfOk, IfErr};
-ghost use Rattle.perf_records.specs.Parts.{FindsId};
 ghost use Rattle.perf_records.specs.Prelude.{configuration_of, endian_of, input_of, config_of, Call};
 ghost use Rattle.perf_records.specs.Prelude.{reads_of, kinds, refusal_kind, cursor_left, length_after};
 ghost use Rattle.perf_records.specs.Prelude as prelude;
 
+use crate::frame_end::{FrameEnd, frame_end};
 use crate::metadata::RecordMetadata;
 use perf_base::sys::{PERF_RECORD_SAMPLE, perf_event_header};
-use perf_base::{Endian, ParseConfig, ReadCounter, ReadResult, Refusal};
+use perf_base::{Endian, ParseConfig, ReadResult, Refusal};
 use perf_buffers::cursor::ParseBufCursor;
 use perf_buffers::input::Input;
 use perf_reader::reader::Reader;
 use perf_sample_types::sample_id::SampleId;
-use std::alloc::Global;
 
 /// Whether records of a type end with a sample id if the event has `sample_id_all`: those of the
 /// kernel do, except SAMPLE.
@@ -35,91 +34,6 @@ pub(crate) fn id_len<E>(config: &ParseConfig<E>, ty: u32) -> usize
     } else {
         0
     }
-}
-
-// The sample id in these bytes. With that many bytes it is never refused.
-#[inline]
-fn read_id<'x, E: Endian>(reader: &mut Reader<&'x [u8], E>, ty: u32) -> SampleId
-    requires { length (input_of reader.old).now
-        ≡ prelude.id_length (configuration_of (config_of reader.old)) ty }
-    ensures id { result ≡ prelude.value (E.order (endian_of (config_of reader.old)))
-        (input_of reader.old).now 0
-        (prelude.id_of_type (configuration_of (config_of reader.old)) ty) }
-    ensures reads { reads_of reader.new ≡ reads_of reader.old
-        + prelude.layout_reads (E.order (endian_of (config_of reader.old)))
-        (prelude.id_of_type (configuration_of (config_of reader.old)) ty) (input_of reader.old).now }
-    ensures bound { reads_of reader.new ≤ reads_of reader.old + length (input_of reader.old).now }
-{
-    if carries_sample_id(ty) {
-        match reader.read::<SampleId>() {
-            Ok(id) => id,
-            Err(_) => SampleId::default(),
-        }
-    } else {
-        SampleId::default()
-    }
-}
-
-// The metadata of a frame, the length of its body in bytes, and the number of reads made.
-#[derive(Drop)]
-pub(crate) struct FrameId {
-    pub(crate) len: usize,
-    pub(crate) metadata: RecordMetadata,
-    pub(crate) reads: ReadCounter,
-}
-
-// The metadata of the frame with these bytes after its header.
-#[inline]
-pub(crate) fn id_in<E: Endian>(
-    alloc: Global,
-    bytes: &[u8],
-    config: &ParseConfig<E>,
-    header: perf_event_header,
-) -> ReadResult<FrameId>
-    ensures { FindsId (configuration_of config.now) (E.order (endian_of config.now)) header
-        bytes.now result }
-{
-    if !carries_sample_id(header.type_) {
-        return Ok(FrameId {
-            len: bytes.len(),
-            metadata: RecordMetadata::from_parts(header.type_, header.misc, SampleId::default()),
-            reads: ReadCounter::new(),
-        });
-    }
-    let room = id_len(config, header.type_);
-    if bytes.len() < room {
-        return Err(Refusal::NoRoomForId);
-    }
-    let len = bytes.len() - room;
-    let mut tail = Reader::new(alloc, &bytes[len..], config.lent());
-    let id = read_id(&mut tail, header.type_);
-    Ok(FrameId {
-        len,
-        metadata: RecordMetadata::from_parts(header.type_, header.misc, id),
-        reads: tail.into_reads(),
-    })
-}
-
-// The same, inlined, so that a caller whose frame has no sample id, such as a SAMPLE, makes no
-// metadata that it does not use.
-#[inline(always)]
-pub(crate) fn id_of<E: Endian>(
-    alloc: Global,
-    bytes: &[u8],
-    config: &ParseConfig<E>,
-    header: perf_event_header,
-) -> ReadResult<FrameId>
-    ensures { FindsId (configuration_of config.now) (E.order (endian_of config.now)) header
-        bytes.now result }
-{
-    if !carries_sample_id(header.type_) || !config.sample_id_all() {
-        return Ok(FrameId {
-            len: bytes.len(),
-            metadata: RecordMetadata::from_parts(header.type_, header.misc, SampleId::default()),
-            reads: ReadCounter::new(),
-        });
-    }
-    id_in(alloc, bytes, config, header)
 }
 
 /// The bytes of the body of a frame whose header was read, and its metadata.
@@ -177,20 +91,17 @@ pub fn split<'p, I: Input<'p>, E: Endian>(
         Ok(frame) => frame,
         Err(refusal) => return Err(refusal),
     };
-    let FrameId {
-        len,
-        metadata,
-        reads,
-    } = match id_in(
-        reader.alloc(),
-        frame.last(frame.len()),
+    let FrameEnd { id, body, reads } = match frame_end(
         reader.config(),
-        header,
+        header.type_,
+        frame.last(frame.len()),
     ) {
-        Ok(id) => id,
-        Err(refusal) => return Err(refusal),
+        Some(end) => end,
+        None => return Err(Refusal::NoRoomForId),
     };
+    let len = body.len();
     frame.drop_last(frame.len() - len);
     reader.count(reads);
+    let metadata = RecordMetadata::from_parts(header.type_, header.misc, id);
     Ok((frame, metadata))
 }

@@ -7,7 +7,7 @@ use Rattle.perf_records.specs.Answers.{parts_of}
 use Rattle.perf_records.specs.Metadata.{id_length, id_of_type}
 use Rattle.perf_sample_types.specs.SampleId.{SampleIdValue}
 use Rattle.perf_flat.specs.Flat.{CarriesNumbers, IsFlatAfter, refused_frame}
-use Rattle.perf_flat.specs.SampleIds.{TakesId}
+use Rattle.perf_records.specs.FrameEnds.{TakesId}
 use Rattle.perf_flat.proofs.FrameAnswers.{room_split, end_placed, list_placed, list_refused, list_lacks}
 use Rattle.perf_flat.proofs.read.flat_frame.Goals as goal
 
@@ -21,8 +21,8 @@ returns-in-None g c =
     list_lacks settings order f.header (chunk_bytes f.rest) c.refuse_frame.new.frame f.sized f.whole (omega (arith, c.in-None.ensures, long, room, f.whole))
     (c.refuse_frame.ensures ∙ ap (λ h. refused_frame h NoRoomForId) c.header-header.ensures)
 
-pub returns-in-Some-put_record : goal.returns-in-Some-put_record
-returns-in-Some-put_record g c =
+pub returns : goal.returns
+returns g c =
     let f = c.args.whole in
     let k = c.header-header.result in
     let settings = configuration_of c.args.config.now in

@@ -9,13 +9,13 @@ use Rattle.perf_buffers.specs.Buffer.{Source, BufferInvariant}
 use Rattle.perf_buffers.specs.Cursor.{cursor_left}
 use Rattle.perf_buffers.specs.Taking.{Moves}
 use Rattle.perf_buffers.proofs.Takes.{takes_moves}
-use Rattle.perf_reader.specs.Calls.{Call}
 use Rattle.perf_reader.specs.ReaderState.{ReaderState, state_of}
 use Rattle.perf_reader.specs.Reading.{CallInvariant}
 use Rattle.perf_reader.proofs.Calls.{keeps_more, can_fault}
-use Rattle.perf_records.specs.Answers.{length_after, FrameParts, answered_parts, frame_parts, parts_of, SplitsAfter}
-use Rattle.perf_records.specs.Parts.{FindsId}
-use Rattle.perf_records.specs.Metadata.{id_length}
+use Rattle.perf_records.specs.Answers.{length_after, FrameParts, answered_parts, frame_parts, parts_of}
+use Rattle.perf_records.specs.FrameEnds.{TakesId}
+use Rattle.perf_records.specs.Metadata.{id_length, id_of_type}
+use Rattle.perf_records.proofs.FrameEnds.{body_long, parts_taken}
 use Rattle.perf_records.proofs.Preservation.{moved_keeps, stays_refused, within_kept, taken_pays}
 use Rattle.perf_records.proofs.Splits.{unsplit_cut, unsplit_room, split_made}
 use Rattle.perf_records.proofs.parts.split.Goals as goal
@@ -50,54 +50,55 @@ returns-clause-call g c =
     let new : ReaderState = state_of g.I.Input.source g.E.Endian.order c.count.new.self in
     let h = c.args.header in
     let frame : List ℕ = cursor_left c.in-Ok.frame in
-    let id = c.in-Ok-id_in.id in
-    let parts : FrameParts = answered_parts (c.drop_last.new.self, id.metadata) in
+    let end = c.in-Some.end in
+    let metadata = c.from_parts-metadata.result in
+    let len : ℕ = length end.body.now in
+    let parts : FrameParts = answered_parts (c.drop_last.new.self, metadata) in
     let e = c.in-Ok.ensures in
-    let t = c.in-Ok-id_in.ensures in
-    let all : c.last.result.now ≡ frame = last_all frame c.last.result.now c.len.result c.len.ensures c.last.ensures in
-    let body : length frame - (c.len-2.result - id.len) ≡ id.len = omega (arith, c.len-2.ensures, t.len, ap length all) in
-    let cut : cursor_left c.drop_last.new.self ≡ take id.len frame = c.drop_last.ensures.left ∙ ap (λ (n : ℕ). take n frame) body in
     let sized : 8 ≤ h.size = grind (arith, nat_tests) in
     let config : c.config.result.now ≡ c.args.reader.now.config = c.config.ensures ∙ e.config in
     let same : new.source ≡ mid.source = ap g.I.Input.source c.count.ensures.input in
-    let P : ParseConfig g.row.E.Denot → Type 0 = λ k. FindsId (configuration_of k) (g.E.Endian.order (endian_of k)) h frame (Ok id) in
-    let finds = subst P config (subst (λ xs. FindsId (configuration_of c.config.result.now) (g.E.Endian.order (endian_of c.config.result.now)) h xs (Ok id)) all t) in
-    let are : parts ≡ parts_of old.settings old.order h frame = ap (frame_parts id.metadata) cut ∙ finds.parts.1 in
-    let less : id.reads ≤ length_after h = omega (arith, finds.bound, finds.parts.0, e.count) in
-    let count : new.reads ≡ old.reads + id.reads = c.count.ensures.reads ∙ ap (λ n. n + id.reads) e.reads in
+    let all : c.last.result.now ≡ frame = last_all frame c.last.result.now c.len.result c.len.ensures c.last.ensures in
+    let P : ParseConfig g.row.E.Denot → Type 0 = λ k. TakesId (g.E.Endian.order (endian_of k)) (id_length (configuration_of k) h.type_) (id_of_type (configuration_of k) h.type_) frame end in
+    let takes = subst P config (subst (λ xs. TakesId (g.E.Endian.order (endian_of c.config.result.now)) (id_length (configuration_of c.config.result.now) h.type_) (id_of_type (configuration_of c.config.result.now) h.type_) xs end) all c.in-Some.ensures) in
+    let room = body_long old.settings old.order h.type_ frame end takes in
+    let body : length frame - (c.len-2.result - len) ≡ len = omega (arith, c.len-2.ensures, room, takes.room) in
+    let cut : cursor_left c.drop_last.new.self ≡ take len frame = c.drop_last.ensures.left ∙ ap (λ (n : ℕ). take n frame) body in
+    let are : parts ≡ parts_of old.settings old.order h frame = ap (frame_parts metadata) cut ∙ parts_taken old.settings old.order h frame end metadata len takes c.from_parts-metadata.ensures refl in
+    let less : end.reads ≤ length_after h = omega (arith, takes.bound, takes.room, e.count) in
+    let count : new.reads ≡ old.reads + end.reads = c.count.ensures.reads ∙ ap (λ n. n + end.reads) e.reads in
     let stays : BufferInvariant old.source None new.source = subst (λ s. BufferInvariant old.source None s) (sym same) e.stays in
-    let kept : CallInvariant old None new = moved_keeps old new None id.reads count stays (λ x. cc) (λ told.
+    let kept : CallInvariant old None new = moved_keeps old new None end.reads count stays (λ x. cc) (λ told.
     let o = e.ok told in
-    let paid : id.reads + length mid.source.left ≤ length old.source.left = taken_pays old.source mid.source (length_after h) id.reads o.0 less in
-    subst (λ (s : Source). Moves old.source s × (id.reads + length s.left ≤ length old.source.left + 0)) (sym same) (takes_moves old.source mid.source (length_after h) o.0, omega (arith, paid))) in record {
+    let paid : end.reads + length mid.source.left ≤ length old.source.left = taken_pays old.source mid.source (length_after h) end.reads o.0 less in
+    subst (λ (s : Source). Moves old.source s × (end.reads + length s.left ≤ length old.source.left + 0)) (sym same) (takes_moves old.source mid.source (length_after h) o.0, omega (arith, paid))) in record {
       config = c.count.ensures.config ∙ e.config;
       whole = stays.0;
       told = stays.3;
       answer = λ told.
           let o = e.ok told in
-          let m = split_made old.settings old.order h old.source.left frame parts sized o.0.0 o.1 finds.parts.0 are in
-          (m.0, ap (λ (s : Source). s.left) same ∙ o.0.1, count ∙ ap (λ n. old.reads + n) (finds.reads ∙ sym m.1));
+          let m = split_made old.settings old.order h old.source.left frame parts sized o.0.0 o.1 takes.room are in
+          (m.0, ap (λ (s : Source). s.left) same ∙ o.0.1, count ∙ ap (λ n. old.reads + n) (takes.reads ∙ sym m.1));
       keeps = λ start p. keeps_more start old new None p kept;
     }
 
 -- it is too short for its sample id
-pub returns-in-Err-id_in-clause-call : goal.returns-in-Err-id_in-clause-call
-returns-in-Err-id_in-clause-call g c =
+pub returns-in-None-clause-call : goal.returns-in-None-clause-call
+returns-in-None-clause-call g c =
     let old : ReaderState = state_of g.I.Input.source g.E.Endian.order c.args.reader.now in
     let new : ReaderState = state_of g.I.Input.source g.E.Endian.order c.cut.new.self in
     let h = c.args.header in
     let frame : List ℕ = cursor_left c.in-Ok.frame in
     let e = c.in-Ok.ensures in
-    let t = c.in-Err-id_in.ensures in
     let sized : 8 ≤ h.size = grind (arith, nat_tests) in
     let config : c.config.result.now ≡ c.args.reader.now.config = c.config.ensures ∙ e.config in
     let all : c.last.result.now ≡ frame = last_all frame c.last.result.now c.len.result c.len.ensures c.last.ensures in
     let short : length frame < id_length (configuration_of c.args.reader.now.config) h.type_ =
-    subst (λ (k : ParseConfig g.row.E.Denot). length frame < id_length (configuration_of k) h.type_) config (omega (arith, t.refused.1, ap length all)) in
+    subst (λ (k : ParseConfig g.row.E.Denot). length frame < id_length (configuration_of k) h.type_) config (omega (arith, c.in-None.ensures, ap length all)) in
     let stays : BufferInvariant old.source (Some InvalidRecord) new.source = stays_refused old.source new.source InvalidRecord refl e.stays in
     let kept : CallInvariant old (Some InvalidRecord) new = moved_keeps old new (Some InvalidRecord) 0 (omega (arith, e.reads)) stays (λ x. cc) (λ told.
     let m = takes_moves old.source new.source (length_after h) (e.ok told).0 in (m, omega (arith, m.0))) in
-    subst (λ k. Call g.I.Input.source g.E.Endian.order (SplitsAfter h) c.args.reader.now (Err k) c.cut.new.self) (sym (ap refusal_kind t.refused.0)) (record {
+    record {
       config = e.config;
       whole = stays.0;
       told = stays.3;
@@ -106,4 +107,4 @@ returns-in-Err-id_in-clause-call g c =
           let u = unsplit_room old.settings old.order h old.source.left frame sized o.0.0 o.1 short in
           (u.0, o.0.1, omega (arith, e.reads, u.1));
       keeps = λ start p. keeps_more start old new (Some InvalidRecord) p kept;
-    })
+    }

@@ -2,8 +2,8 @@ use Rattle.std.proofs.Common.{◌*◌, arith, refl}
 use Rattle.perf_words.specs.SetBits.{sample_flags_bits}
 use Rattle.perf_sample_types.specs.SampleId.{sample_id_flags, sample_id_fields}
 use Rattle.perf_sample_types.proofs.Flags.{contains_tid, contains_time, contains_id, contains_stream_id, contains_cpu, contains_identifier}
-use Rattle.perf_flat.proofs.SampleIds.{taken_if, lacks_if, lacks_before, id_taken, ends_short}
-use Rattle.perf_flat.proofs.sample_id.last_fields.Goals as goal
+use Rattle.perf_records.proofs.FrameEnds.{taken_if, lacks_if, lacks_before, id_taken, ends_short}
+use Rattle.perf_records.proofs.frame_end.last_fields.Goals as goal
 
 pub returns : goal.returns
 returns g c =
@@ -16,7 +16,7 @@ returns g c =
     (taken_if c.in_ok-time.ensures (c.contains-5.ensures tt) (contains_time t))
     (taken_if c.in_ok-task.ensures (c.contains-6.ensures tt) (contains_tid t))
     c.from_parts-made.ensures c.first_number.ensures c.second_number.ensures c.number.ensures c.number-2.ensures c.or.ensures c.number-3.ensures c.first_number-2.ensures
-    refl
+    refl c.field_reads.ensures
 
 pub returns-in_err-identifier : goal.returns-in_err-identifier
 returns-in_err-identifier g c =

@@ -1,18 +1,18 @@
-//! The sample id at the end of a frame. Its fields are taken off from the last one on, so its length is
-//! not needed before.
+//! The sample id at the end of a frame. Its fields are taken off from the last one on, so its length
+//! is not needed before.
 
 ghost use Rattle.std.specs.Prelude.{◌≡◌, ◌<◌, ◌*◌, length, MatchOption, option_map};
-ghost use Rattle.perf_flat.specs.SampleIds.{EndsWithId, TakesLast};
+ghost use Rattle.perf_records.specs.FrameEnds.{EndsWithId, TakesLast, id_field_reads};
 ghost use Rattle.perf_records.specs.FrameNumbers as numbers;
 ghost use Rattle.perf_records.specs.Metadata.{id_length, id_of_type};
 ghost use Rattle.perf_records.specs.Prelude.{configuration_of, endian_of};
 ghost use Rattle.perf_sample_types.specs.SampleId as ids;
 ghost use Rattle.perf_words.specs.SetBits.{sample_flags_bits};
 
+use crate::parts::carries_sample_id;
 use bitflags::Flags;
-use perf_base::{Endian, ParseConfig};
+use perf_base::{Endian, ParseConfig, ReadCounter};
 use perf_reader::halves::{first_half, second_half};
-use perf_records::parts::carries_sample_id;
 use perf_sample_types::sample_id::SampleId;
 use perf_words::SampleFlags;
 
@@ -77,11 +77,38 @@ fn second_number<E: Endian>(order: &E, word: Option<[u8; 8]>) -> Option<u32>
     }
 }
 
-// The sample id at the end of a frame, and the bytes before it.
+/// The sample id at the end of a frame.
 #[derive(Drop)]
-pub(crate) struct FrameEnd<'c> {
-    pub(crate) id: SampleId,
-    pub(crate) body: &'c [u8],
+pub struct FrameEnd<'c> {
+    /// The sample id. All fields are absent if the frame has none.
+    pub id: SampleId,
+    /// The bytes between the frame's header and its sample id.
+    pub body: &'c [u8],
+    /// How many elementary reads the sample id is.
+    pub reads: ReadCounter,
+}
+
+#[inline(always)]
+fn one_if(flag: bool) -> u64
+    ensures { result ≡ ids.one_if flag }
+{
+    if flag { 1 } else { 0 }
+}
+
+// How many elementary reads the fields of a sample type are: one each, and two for TID, which has two
+// numbers, and for CPU, whose number is followed by padding.
+#[inline(always)]
+#[tactic(auto, using(crate::proofs::FrameFlags::number_flags))]
+fn field_reads(flags: SampleFlags) -> ReadCounter
+    ensures { result ≡ id_field_reads (sample_flags_bits flags) }
+{
+    let task = one_if(flags.contains(SampleFlags::TID));
+    let time = one_if(flags.contains(SampleFlags::TIME));
+    let id = one_if(flags.contains(SampleFlags::ID));
+    let stream_id = one_if(flags.contains(SampleFlags::STREAM_ID));
+    let cpu = one_if(flags.contains(SampleFlags::CPU));
+    let identifier = one_if(flags.contains(SampleFlags::IDENTIFIER));
+    ReadCounter::of(2 * task + time + id + stream_id + 2 * cpu + identifier)
 }
 
 // Takes a sample id with the fields of a sample type off the end of bytes. `None` if there are fewer
@@ -112,12 +139,13 @@ fn last_fields<'c, E: Endian>(
     Some(FrameEnd {
         id: made,
         body: task.before,
+        reads: field_reads(flags),
     })
 }
 
-// Takes the sample id off the bytes after a frame's header. `None` if the frame is too short for it.
+/// Takes the sample id off the bytes after a frame's header. `None` if the frame is too short for it.
 #[inline(always)]
-pub(crate) fn frame_end<'c, E: Endian>(
+pub fn frame_end<'c, E: Endian>(
     config: &ParseConfig<E>,
     ty: u32,
     bytes: &'c [u8],
@@ -131,6 +159,7 @@ pub(crate) fn frame_end<'c, E: Endian>(
         Some(FrameEnd {
             id: SampleId::default(),
             body: bytes,
+            reads: ReadCounter::new(),
         })
     }
 }

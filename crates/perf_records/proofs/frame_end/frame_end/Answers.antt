@@ -3,10 +3,10 @@ use Rattle.perf_words.specs.SetBits.{sample_flags_bits}
 use Rattle.perf_base.specs.Configured.{configuration_of, endian_of}
 use Rattle.perf_sample_types.specs.SampleId.{sample_id_flags, sample_id_fields}
 use Rattle.perf_records.specs.Metadata.{carries_sample_id}
-use Rattle.perf_flat.specs.SampleIds.{EndsWithId}
-use Rattle.perf_flat.proofs.SampleIds.{type_there, type_absent}
-use Rattle.perf_flat.proofs.sample_id.frame_end.Goals.{else-carries_sample_id-via-then-carries_sample_id+else-sample_id_all, else-carries_sample_id-via-else-carries_sample_id}
-use Rattle.perf_flat.proofs.sample_id.frame_end.Goals as goal
+use Rattle.perf_records.specs.FrameEnds.{EndsWithId}
+use Rattle.perf_records.proofs.FrameEnds.{type_there, type_absent}
+use Rattle.perf_records.proofs.frame_end.frame_end.Goals.{else-carries_sample_id-via-then-carries_sample_id+else-sample_id_all, else-carries_sample_id-via-else-carries_sample_id}
+use Rattle.perf_records.proofs.frame_end.frame_end.Goals as goal
 
 pub returns-then-sample_id_all : goal.returns-then-sample_id_all
 returns-then-sample_id_all g c =
@@ -29,4 +29,4 @@ returns-else-carries_sample_id g c =
       | else-carries_sample_id-via-then-carries_sample_id+else-sample_id_all w ↦ inr (sym w.sample_id_all.ensures ∙ w.if-sample_id_all.false)
       | else-carries_sample_id-via-else-carries_sample_id w ↦ inl (sym c.carries_sample_id.ensures ∙ w.if-carries_sample_id.false)
     ])
-    c.default.ensures refl
+    c.default.ensures refl c.new.ensures

@@ -1,16 +1,20 @@
 -- The fields of a sample id are at their places before the end of a frame.
-use Rattle.std.proofs.Common.{◌≡◌, ℕ, ◌+◌, ◌-◌, ◌*◌, ◌≤◌, ◌<◌, ◌⊎◌, inl, inr, Bool, true, false, List, [], ◌∷◌, length, take, drop, Option, Some, None, refl, sym, ◌∙◌, ap, subst, arith, if◌then◌else◌}
+use Rattle.std.proofs.Common.{◌≡◌, ℕ, ◌+◌, ◌-◌, ◌*◌, ◌≤◌, ◌<◌, ◌⊎◌, inl, inr, Bool, true, false, List, [], ◌∷◌, length, take, drop, Option, Some, None, sym, ◌∙◌, ap, subst, arith, if◌then◌else◌}
 use Rattle.std.specs.Prelude.{option_map}
 use Rattle.std.specs.Option.{option_or}
 use Rattle.std.proofs.lemmas.List.{length-drop, length-take-le, take-take, take_all, drop-take, drop-drop}
-use Rattle.perf_base.specs.Layout.{Parts, done, optional, w4, w8, size, shape_value, slice, value}
+use Rattle.perf_base.specs.Layout.{Parts, done, slice, value}
 use Rattle.perf_base.specs.Order.{Order}
 use Rattle.perf_sample_types.specs.SampleId.{SampleIdValue, one_if, no_sample_id, sample_id_fields, sample_id_flags, has_tid, has_time, has_id, has_stream_id, has_cpu, has_identifier}
+use Rattle.perf_base.specs.Configuration.{Configuration}
+use Rattle.perf_base.specs.declared.sys.perf_event_header.{perf_event_header}
+use Rattle.perf_records.specs.Answers.{frame_parts, parts_of}
+use Rattle.perf_records.specs.Metadata.{MetadataValue, id_length, id_of_type}
 use Rattle.perf_records.specs.FrameNumbers.{eight_at, bytes_of, first_half, second_half, task_field, time_field, id_field, cpu_field, identifier_field}
-use Rattle.perf_records.proofs.IdNumbers.{there, id_pid, id_tid, id_time, id_id, id_cpu}
-use Rattle.perf_flat.specs.SampleIds.{TakesLast, TakesId, EndsWithId}
-use Rattle.perf_flat.specs.declared.sample_id.FrameEnd.{FrameEnd}
-use Rattle.perf_flat.specs.declared.sample_id.LastField.{LastField}
+use Rattle.perf_records.proofs.IdNumbers.{fields_read, there, id_pid, id_tid, id_time, id_id, id_stream_id, id_cpu}
+use Rattle.perf_records.specs.FrameEnds.{TakesLast, TakesId, EndsWithId, id_field_reads}
+use Rattle.perf_records.specs.declared.frame_end.FrameEnd.{FrameEnd}
+use Rattle.perf_records.specs.declared.frame_end.LastField.{LastField}
 
 -- ---- fields that are taken off one after another
 
@@ -60,25 +64,6 @@ word_there {bytes} {front} {n} {field} s p true left takes counted =
     ap (λ k. drop k front) at ∙ ap (drop (s + p)) left.is ∙ ap (λ k. drop (s + p) (take k bytes)) end ∙ drop-take (s + p) 8 bytes ∙ ap (take 8) (sym (drop-drop p s bytes)) in
     takes.word ∙ ap Some word ∙ sym (there (drop s bytes) p fits)
 
--- ---- the number that has no place of its own among the single numbers of a frame
-
-optional_w4_size : (flag : Bool) (left : ℕ) → size (optional flag w4) left ≡ 4 * one_if flag
-optional_w4_size true left = refl
-optional_w4_size false left = refl
-
-optional_w8_size : (flag : Bool) (left : ℕ) → size (optional flag w8) left ≡ 8 * one_if flag
-optional_w8_size true left = refl
-optional_w8_size false left = refl
-
-eight_there : (o : Order) (present : Bool) (ids : List ℕ) (s p left : ℕ) → s ≡ p → p + 8 * one_if present ≤ length ids →
-    shape_value o (optional present w8) (slice ids s (size (optional present w8) left)) ≡ option_map o.eight (if present then eight_at ids p else None)
-eight_there o false ids s p left e fits = refl
-eight_there o true ids s p left e fits = ap (λ n. Some (o.eight (slice ids n 8))) e ∙ sym (ap (option_map o.eight) (there ids p fits))
-
-id_stream_id : (o : Order) (t : ℕ) (ids : List ℕ) → length ids ≡ 8 * sample_id_flags t →
-    (value o ids 0 (sample_id_fields t)).stream_id ≡ option_map o.eight (if has_stream_id t then eight_at ids (bytes_of t (1 ∷ 2 ∷ 6 ∷ [])) else None)
-id_stream_id o t ids long = eight_there o (has_stream_id t) ids _ (bytes_of t (1 ∷ 2 ∷ 6 ∷ [])) _ (simp (optional_w4_size, optional_w8_size) (omega arith)) (omega arith)
-
 -- ---- the sample id
 
 -- the bytes of ID, or else of IDENTIFIER
@@ -105,8 +90,8 @@ pub id_taken : {bytes : List ℕ} {identifier cpu stream_id id time task : LastF
     TakesLast (has_id t) stream_id.before.now id → TakesLast (has_time t) id.before.now time → TakesLast (has_tid t) time.before.now task →
     made.id ≡ record { pid = pid_is; tid = tid_is; time = time_is; id = id_is; stream_id = stream_id_is; cpu = cpu_is } →
     pid_is ≡ option_map (first_half o) task.word → tid_is ≡ option_map (second_half o) task.word → time_is ≡ option_map o.eight time.word → id_is ≡ option_map o.eight either → either ≡ option_or id.word identifier.word →
-    stream_id_is ≡ option_map o.eight stream_id.word → cpu_is ≡ option_map (first_half o) cpu.word → made.body.now ≡ task.before.now → TakesId o (8 * sample_id_flags t) (sample_id_fields t) bytes made
-id_taken {bytes} {identifier} {cpu} {stream_id} {id} {time} {task} {pid_is} {tid_is} {time_is} {id_is} {stream_id_is} {cpu_is} {either} o t made six five four three two one fields pid tid at event of_two stream processor body =
+    stream_id_is ≡ option_map o.eight stream_id.word → cpu_is ≡ option_map (first_half o) cpu.word → made.body.now ≡ task.before.now → made.reads ≡ id_field_reads t → TakesId o (8 * sample_id_flags t) (sample_id_fields t) bytes made
+id_taken {bytes} {identifier} {cpu} {stream_id} {id} {time} {task} {pid_is} {tid_is} {time_is} {id_is} {stream_id_is} {cpu_is} {either} o t made six five four three two one fields pid tid at event of_two stream processor body counted =
     let n : ℕ = 8 * sample_id_flags t in
     let room : n ≤ length bytes = omega (arith, six.long, five.long, four.long, three.long, two.long, one.long) in
     let s : ℕ = length bytes - n in
@@ -135,6 +120,8 @@ id_taken {bytes} {identifier} {cpu} {stream_id} {id} {time} {task} {pid_is} {tid
           (stream ∙ ap (option_map o.eight) w_4 ∙ sym (id_stream_id o t ids long))
           (processor ∙ ap (option_map (first_half o)) w_5 ∙ sym (id_cpu o t ids long));
       body = body ∙ b_6.is ∙ ap (λ k. take k bytes) (omega arith);
+      reads = counted ∙ sym (fields_read o t ids long);
+      bound = omega (arith, counted);
     }
 
 -- there are too few bytes
@@ -151,17 +138,32 @@ type_there o t bytes result true false is is_all ends = absurd (cc)
 type_there o t bytes result false all is is_all ends = absurd (cc)
 
 -- nothing was taken off
-none_taken : (o : Order) (bytes : List ℕ) (made : FrameEnd) → made.id ≡ no_sample_id → made.body.now ≡ bytes → TakesId o 0 (done no_sample_id) bytes made
-none_taken o bytes made is_id is_body = record {
+none_taken : (o : Order) (bytes : List ℕ) (made : FrameEnd) → made.id ≡ no_sample_id → made.body.now ≡ bytes → made.reads ≡ 0 → TakesId o 0 (done no_sample_id) bytes made
+none_taken o bytes made is_id is_body none = record {
   room = omega arith;
   id = is_id;
   body = is_body ∙ sym (take_all (length bytes - 0) bytes (omega arith));
+  reads = none;
+  bound = omega (arith, none);
 }
 
 -- a frame that has none, by its type or by the configuration
-pub type_absent : (o : Order) (t : ℕ) (bytes : List ℕ) (made : FrameEnd) (carries all : Bool) → carries ≡ false ⊎ all ≡ false → made.id ≡ no_sample_id → made.body.now ≡ bytes →
+pub type_absent : (o : Order) (t : ℕ) (bytes : List ℕ) (made : FrameEnd) (carries all : Bool) → carries ≡ false ⊎ all ≡ false → made.id ≡ no_sample_id → made.body.now ≡ bytes → made.reads ≡ 0 →
     TakesId o (if carries then (if all then 8 * sample_id_flags t else 0) else 0) (if carries then (if all then sample_id_fields t else done no_sample_id) else done no_sample_id) bytes made
-type_absent o t bytes made true true (inl is) is_id is_body = absurd (cc)
-type_absent o t bytes made true true (inr is) is_id is_body = absurd (cc)
-type_absent o t bytes made true false is is_id is_body = none_taken o bytes made is_id is_body
-type_absent o t bytes made false all is is_id is_body = none_taken o bytes made is_id is_body
+type_absent o t bytes made true true (inl is) is_id is_body none = absurd (cc)
+type_absent o t bytes made true true (inr is) is_id is_body none = absurd (cc)
+type_absent o t bytes made true false is is_id is_body none = none_taken o bytes made is_id is_body none
+type_absent o t bytes made false all is is_id is_body none = none_taken o bytes made is_id is_body none
+
+-- ---- the parts of the frame
+
+-- the length of its body
+pub body_long : (c : Configuration) (o : Order) (ty : ℕ) (bytes : List ℕ) (made : FrameEnd) → TakesId o (id_length c ty) (id_of_type c ty) bytes made → length made.body.now ≡ length bytes - id_length c ty
+body_long c o ty bytes made takes = ap length takes.body ∙ length-take-le (length bytes - id_length c ty) bytes (omega (arith, takes.room))
+
+-- its metadata and its body
+pub parts_taken : (c : Configuration) (o : Order) (h : perf_event_header) (bytes : List ℕ) (made : FrameEnd) (m : MetadataValue) (n : ℕ) → TakesId o (id_length c h.type_) (id_of_type c h.type_) bytes made →
+    m ≡ record { ty = h.type_; misc = h.misc; sample_id = made.id } → n ≡ length made.body.now → frame_parts m (take n bytes) ≡ parts_of c o h bytes
+parts_taken c o h bytes made m n takes is long =
+    ap (λ k. frame_parts k (take n bytes)) (is ∙ ap (λ id. record { ty = h.type_; misc = h.misc; sample_id = id }) takes.id)
+    ∙ ap (λ k. frame_parts (parts_of c o h bytes).metadata (take k bytes)) (long ∙ body_long c o h.type_ bytes made takes)
