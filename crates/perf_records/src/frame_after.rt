@@ -12,6 +12,7 @@ ghost use Rattle.perf_records.specs.Prelude as prelude;
 use crate::body_reader::{AsRecord, BodyReader};
 use crate::frame::Frame;
 use crate::frame_handler::{BadFrame, FrameHandler};
+use crate::parts::is_small;
 use crate::record::Record;
 use perf_base::sys::perf_event_header;
 use perf_base::{Endian, ErrorKind, ParseConfig, ReadCounter, ReadResult, Refusal};
@@ -99,7 +100,7 @@ pub fn read_after<'p, S, B: ParseBuf<'p>, E: Endian, M: BodyReader<'p, S>>(
         (prelude.GivesFrameAfter (λ e x. M.gives e state.old x state.new) header)
         reader.old (kinds result) reader.new }
 {
-    if header.size < 8 {
+    if is_small(header) {
         drop(body);
         return Err(Refusal::SmallHeader);
     }
@@ -173,7 +174,7 @@ pub fn hand_after<'p, B: ParseBuf<'p>, E: Endian, H: FrameHandler<'p, E>>(
     ensures memory { IsTrue (B.source (buffer_of reader.old)).whole →
         prelude.NeedsNoMemory (kinds result) }
 {
-    if header.size < 8 {
+    if is_small(header) {
         let bad = BadFrame::new(header, Refusal::SmallHeader);
         return Ok(handler.frame(reader.config(), Err(bad)));
     }

@@ -8,6 +8,7 @@ ghost use Rattle.perf_records.specs.declared.frame_list.FrameIter.{FrameIter};
 
 use crate::frame::Frame;
 use crate::frame_handler::BadFrame;
+use crate::parts::is_small;
 use perf_base::{Endian, Refusal};
 use perf_buffers::parsebuf::ParseBufChunk;
 use perf_reader::header::header_in;
@@ -84,7 +85,7 @@ fn cut_first<'p, E: Endian>(
         None => return None,
     };
     let rest = &bytes[8..];
-    if header.size < 8 {
+    if is_small(header) {
         return Some((Err(BadFrame::new(header, Refusal::SmallHeader)), rest));
     }
     let len = header.size as usize - 8;

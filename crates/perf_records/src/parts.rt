@@ -1,6 +1,6 @@
 //! The parts of a frame: its body and its metadata.
 
-ghost use Rattle.std.specs.Prelude.{◌≡◌, ◌≤◌, ◌<◌, ◌+◌, true, length, Err};
+ghost use Rattle.std.specs.Prelude.{◌≡◌, ◌≤◌, ◌<◌, ◌+◌, true, length, nat_lt, Err};
 ghost use Rattle.std.specs.Prelude.{IsTrue, IfOk, IfErr};
 ghost use Rattle.perf_records.specs.Prelude.{configuration_of, endian_of, input_of, config_of, Call};
 ghost use Rattle.perf_records.specs.Prelude.{reads_of, kinds, refusal_kind, cursor_left, length_after};
@@ -34,6 +34,14 @@ pub(crate) fn id_len<E>(config: &ParseConfig<E>, ty: u32) -> usize
     } else {
         0
     }
+}
+
+/// Whether the size in a header does not count the header itself. It then has no frame.
+#[inline]
+pub fn is_small(header: perf_event_header) -> bool
+    ensures { result ≡ nat_lt header.size 8 }
+{
+    header.size < 8
 }
 
 /// The bytes of the body of a frame whose header was read, and its metadata.
@@ -84,7 +92,7 @@ pub fn split<'p, I: Input<'p>, E: Endian>(
     ensures call { Call I.source E.order (prelude.SplitsAfter header)
         reader.old (kinds result) reader.new }
 {
-    if header.size < 8 {
+    if is_small(header) {
         return Err(Refusal::SmallHeader);
     }
     let mut frame = match reader.cut(header.size as usize - 8) {

@@ -1,4 +1,5 @@
 use Rattle.std.proofs.Common.{◌≡◌, ℕ, ◌-◌, ◌≤◌, List, true, take, drop, length, arith, refl, sym, ◌∙◌, ap, subst}
+use Rattle.std.proofs.lemmas.Bool.Decides.{nat_tests}
 use Rattle.std.proofs.lemmas.List.{take_all, length-drop}
 use Rattle.perf_base.specs.Header.{header_of}
 use Rattle.perf_base.specs.Order.{Order}
@@ -16,6 +17,7 @@ returns g c =
     let bytes : List ℕ = c.args.bytes.now in
     let h : perf_event_header = c.header_in-header.result in
     let fits : 8 ≤ length bytes = c.in-Some.ensures.variant.0 refl in
+    let sized : 8 ≤ h.size = grind (arith, nat_tests) in
     let front = c.in-Some.ensures.cases in
     let e : h ≡ header_of o bytes = c.header_in-header.ensures ∙ ap (header_of o) front.same ∙ header_take o 0 bytes in
     let all : take (length bytes - 8) (drop 8 bytes) ≡ drop 8 bytes = take_all (length bytes - 8) (drop 8 bytes) (omega (arith, length-drop 8 bytes)) in
@@ -26,6 +28,6 @@ returns g c =
     let outcome : whole c.new-2.result.header (chunk_bytes c.new-2.result.rest) (chunk_is_borrowed c.new-2.result.rest) ≡ whole h (take (length_after h) (drop 8 bytes)) true =
     ap (λ k. whole k (chunk_bytes c.new-2.result.rest) (chunk_is_borrowed c.new-2.result.rest)) n.header ∙ ap (λ xs. whole h xs (chunk_is_borrowed c.new-2.result.rest)) body ∙ ap (λ b. whole h (take (length_after h) (drop 8 bytes)) b) n.chunk_is_borrowed in (
       fits,
-      outcome ∙ sym (finished h (drop 8 bytes) true c.if-header-lt8.false long) ∙ ap (λ k. sight_after k (drop 8 bytes) true) e,
+      outcome ∙ sym (finished h (drop 8 bytes) true sized long) ∙ ap (λ k. sight_after k (drop 8 bytes) true) e,
       after_frame o bytes (drop 8 bytes) c.split_at.result.1.now h e refl (s.back ∙ ap (drop (length_after h)) all),
     )
