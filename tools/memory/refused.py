@@ -45,8 +45,8 @@ LINES = {
     ],
 }
 # How many requests the calls of each test make, at most. A list of records has capacity for all frames that are shown at
-# once; a reader makes a request of its own. A sample with a list needs one for it, and as a record one for its box. A
-# parser's list that does not fit has capacity for as many items as there are bytes.
+# once; a reader makes a request of its own. A sample with a list needs one for it, and as a record one for its box; in the
+# place of another, only for a list that is longer than those before it. A parser's list that does not fit has capacity for as many items as there are bytes.
 MOST = {
     "single numbers": 0,
     "records without a list": 0,
@@ -61,9 +61,11 @@ MOST = {
     "a list of records of pieces": 1,
     "a lying list of a parser": 1,
     "counts of samples": 1,
+    "samples with a list, into a place": 1,
     "a list of records of a reader": 2,
     "visits with a list": 2,
-    "samples with a list, into a place": 2,
+    "samples with growing lists, into a place": 2,
+    "samples with each list, into a place": 6,
     "records with a box and a list": 4,
     "a report of samples": 5,
     "a report of tasks": 6,

@@ -15,7 +15,6 @@ ghost use Rattle.perf_flat.specs.SampleReads as reads;
 ghost use Rattle.perf_flat.specs.Samples as samples;
 ghost use Rattle.perf_records.specs.Prelude.{configuration_of};
 ghost use Rattle.perf_records.specs.Records.{sample_is};
-ghost use Rattle.perf_sample_types.specs.Registers as registers;
 ghost use Rattle.perf_sample_types.specs.Sample as sample;
 ghost use Rattle.perf_sample_types.specs.SampleGetters as getters;
 ghost use Rattle.perf_types.specs.ReadFormat.{has_group};
@@ -27,6 +26,7 @@ use crate::cursor::BodyCursor;
 use crate::frame::{FlatFrame, NO_SPAN, SPANS, Span, low_u32, put_id, put_numbers, put_spans};
 use bitflags::Flags;
 use perf_base::{Endian, ParseConfig, Refusal};
+use perf_sample_types::layout::{is_weighed, raw_padding, register_count};
 use perf_sample_types::sample_id::SampleId;
 use perf_words::{ReadFormat, SampleFlags};
 
@@ -54,18 +54,6 @@ struct Branches {
 struct Registers {
     abi: u64,
     regs: Span,
-}
-
-// How many registers there are: none if the ABI is 0.
-#[inline]
-fn register_count(mask: u64, abi: u64) -> u64
-    ensures { result ≡ registers.register_count mask abi }
-{
-    if abi == 0 {
-        0
-    } else {
-        u64::from(mask.count_ones())
-    }
 }
 
 // One more than the sum of all flags of a read format that are known.
@@ -134,14 +122,6 @@ struct Memory {
     data_page_size: Option<u64>,
     code_page_size: Option<u64>,
     aux: Span,
-}
-
-// The weight is present under either of two flags.
-#[inline]
-fn is_weighed(flags: SampleFlags) -> bool
-    ensures { result ≡ sample.has_one (sample_flags_bits flags) (14 ∷ 24 ∷ []) }
-{
-    flags.contains(SampleFlags::WEIGHT) || flags.contains(SampleFlags::WEIGHT_STRUCT)
 }
 
 impl BodyCursor<'_> {
@@ -255,7 +235,7 @@ impl BodyCursor<'_> {
     {
         if present {
             let abi = self.read_u64(order);
-            let regs = self.pass_items(register_count(mask, abi), 1);
+            let regs = self.pass_items(register_count(mask, abi) as u64, 1);
             Registers { abi, regs }
         } else {
             Registers {
@@ -440,9 +420,9 @@ impl BodyCursor<'_> {
             (λ frame v. samples.HasString frame result (getters.bytes_of_field v)) self.old self.new }
     {
         if flags.contains(SampleFlags::RAW) {
-            let len = u64::from(self.read_u32(order));
-            let bytes = self.pass(len);
-            self.pass((12 - len % 8) % 8);
+            let len = self.read_u32(order) as usize;
+            let bytes = self.pass(len as u64);
+            self.pass(raw_padding(len) as u64);
             bytes
         } else {
             NO_SPAN

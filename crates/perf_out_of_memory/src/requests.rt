@@ -12,7 +12,7 @@ use perf_event_data::parse::{ErrorKind, ParseBuf, ParseConfig, ParseResult, Pars
 use perf_event_data::sys::perf_event_attr;
 use perf_event_data::{
     BadFrame, Frame, FrameHandler, Partial, PartialVisitor, PieceBuf, Record, RecordMetadata,
-    Sample, SampleFields, SampleFlags, each_frame, frames, read_records,
+    Sample, SampleFlags, each_frame, frames, read_records,
 };
 use perf_flat::read::{identifier, read, read_into, read_many, read_split};
 use std::alloc::Global;
@@ -111,11 +111,38 @@ enum Call {
     Visit,
 }
 
-// The address and the call chain of a sample.
+// The sum of these numbers.
+fn sum_of(numbers: &[u64]) -> u64 {
+    let mut sum = 0u64;
+    for number in numbers {
+        sum = sum.wrapping_add(*number);
+    }
+    sum
+}
+
+// The sum of a sample's address and its call chain.
 fn value_of(sample: &Sample<'_>) -> u64 {
-    let mut sum = sample.ip().unwrap_or(0);
-    for address in sample.callchain().unwrap_or_default() {
-        sum = sum.wrapping_add(*address);
+    let calls = sum_of(sample.callchain().unwrap_or_default());
+    calls.wrapping_add(sample.ip().unwrap_or(0))
+}
+
+// The sum of the numbers in a sample's other lists: its counters, where its branches came from, and
+// its registers.
+fn lists_of(sample: &Sample<'_>) -> u64 {
+    let mut sum = 0u64;
+    if let Some(group) = sample.values() {
+        for entry in group.entries() {
+            sum = sum.wrapping_add(entry.value());
+        }
+    }
+    for branch in sample.lbr().unwrap_or_default() {
+        sum = sum.wrapping_add(branch.from());
+    }
+    if let Some(registers) = sample.regs_user() {
+        sum = sum.wrapping_add(sum_of(registers.regs.as_slice()));
+    }
+    if let Some(registers) = sample.regs_intr() {
+        sum = sum.wrapping_add(sum_of(registers.regs.as_slice()));
     }
     sum
 }
@@ -163,7 +190,7 @@ fn by_sample_into<'p>(
     place: &mut Sample<'p>,
 ) -> ParseResult<u64> {
     if frame.sample_into(alloc, config, place)? {
-        Ok(value_of(place))
+        Ok(value_of(place).wrapping_add(lists_of(place)))
     } else {
         Ok(0)
     }
@@ -172,7 +199,7 @@ fn by_sample_into<'p>(
 // What a call makes of the frames of these bytes.
 fn tally_of(alloc: Global, bytes: &[u8], attr: perf_event_attr, call: Call) -> Tally {
     let config = ParseConfig::<Little>::from(attr);
-    let mut place = Sample::from_fields(SampleFields::default());
+    let mut place = Sample::default();
     let (mut tally, mut bit) = (Tally::NONE, 1u32);
     for frame in frames(bytes, Little) {
         let Ok(frame) = frame else { continue };
@@ -258,6 +285,96 @@ fn samples_with_a_list(rt: HostRuntime) {
     let name = "samples with a list, into a place";
     let found = tally_of(rt.alloc(), CHAINS, with_chains(), Call::SampleInto);
     tell(&rt, name, found, &OF_CHAINS);
+}
+
+// Addresses 1 to 4 with the calls 10, then 20 to 40, 50 and 60, 70 to 90: the first two lists grow.
+const GROWING: &[u8] = b"\x09\0\0\0\0\0\x20\0\x01\0\0\0\0\0\0\0\x01\0\0\0\0\0\0\0\x0A\0\0\0\0\0\0\0\
+    \x09\0\0\0\0\0\x30\0\x02\0\0\0\0\0\0\0\x03\0\0\0\0\0\0\0\
+    \x14\0\0\0\0\0\0\0\x1E\0\0\0\0\0\0\0\x28\0\0\0\0\0\0\0\
+    \x09\0\0\0\0\0\x28\0\x03\0\0\0\0\0\0\0\x02\0\0\0\0\0\0\0\
+    \x32\0\0\0\0\0\0\0\x3C\0\0\0\0\0\0\0\
+    \x09\0\0\0\0\0\x30\0\x04\0\0\0\0\0\0\0\x03\0\0\0\0\0\0\0\
+    \x46\0\0\0\0\0\0\0\x50\0\0\0\0\0\0\0\x5A\0\0\0\0\0\0\0";
+
+// All of them, all but the first, or all but the second.
+const OF_GROWING: [Tally; 3] = [
+    Tally {
+        given: 15,
+        refused: 0,
+        starved: 0,
+        sum: 460,
+    },
+    Tally {
+        given: 14,
+        refused: 0,
+        starved: 1,
+        sum: 449,
+    },
+    Tally {
+        given: 13,
+        refused: 0,
+        starved: 2,
+        sum: 368,
+    },
+];
+
+#[test]
+fn samples_with_growing_lists(rt: HostRuntime) {
+    let name = "samples with growing lists, into a place";
+    let found = tally_of(rt.alloc(), GROWING, with_chains(), Call::SampleInto);
+    tell(&rt, name, found, &OF_GROWING);
+}
+
+// Three samples, each with a group of counters, branches, registers of the program and at the
+// interrupt: 2, 1, 2 and 1 of these, then 1, 1, 2 and 1, then 3, 2, 2 and 1. All numbers that count
+// are powers of two, from 1 on.
+const LISTS: &[u8] = b"\x09\0\0\0\0\0\x68\0\x02\0\0\0\0\0\0\0\x01\0\0\0\0\0\0\0\x02\0\0\0\0\0\0\0\
+    \x01\0\0\0\0\0\0\0\x04\0\0\0\0\0\0\0\x05\0\0\0\0\0\0\0\0\0\0\0\0\0\0\0\
+    \x02\0\0\0\0\0\0\0\x08\0\0\0\0\0\0\0\x10\0\0\0\0\0\0\0\
+    \x02\0\0\0\0\0\0\0\x20\0\0\0\0\0\0\0\
+    \x09\0\0\0\0\0\x60\0\x01\0\0\0\0\0\0\0\x40\0\0\0\0\0\0\0\
+    \x01\0\0\0\0\0\0\0\x80\0\0\0\0\0\0\0\x05\0\0\0\0\0\0\0\0\0\0\0\0\0\0\0\
+    \x02\0\0\0\0\0\0\0\0\x01\0\0\0\0\0\0\0\x02\0\0\0\0\0\0\
+    \x02\0\0\0\0\0\0\0\0\x04\0\0\0\0\0\0\
+    \x09\0\0\0\0\0\x88\0\x03\0\0\0\0\0\0\0\0\x08\0\0\0\0\0\0\0\x10\0\0\0\0\0\0\0\x20\0\0\0\0\0\0\
+    \x02\0\0\0\0\0\0\0\0\x40\0\0\0\0\0\0\x05\0\0\0\0\0\0\0\0\0\0\0\0\0\0\0\
+    \0\x80\0\0\0\0\0\0\x05\0\0\0\0\0\0\0\0\0\0\0\0\0\0\0\
+    \x02\0\0\0\0\0\0\0\0\0\x01\0\0\0\0\0\0\0\x02\0\0\0\0\0\
+    \x02\0\0\0\0\0\0\0\0\0\x04\0\0\0\0\0";
+
+fn with_lists() -> perf_event_attr {
+    let counts = SampleFlags::READ.bits() | SampleFlags::BRANCH_STACK.bits();
+    let registers = SampleFlags::REGS_USER.bits() | SampleFlags::REGS_INTR.bits();
+    perf_event_attr {
+        sample_type: counts | registers,
+        read_format: 0x8,
+        sample_regs_user: 0b11,
+        sample_regs_intr: 0b1,
+        ..Default::default()
+    }
+}
+
+// All of them, or all but the first.
+const OF_LISTS: [Tally; 2] = [
+    Tally {
+        given: 7,
+        refused: 0,
+        starved: 0,
+        sum: (1 << 19) - 1,
+    },
+    Tally {
+        given: 6,
+        refused: 0,
+        starved: 1,
+        sum: (1 << 19) - (1 << 6),
+    },
+];
+
+#[test]
+fn samples_with_each_list(rt: HostRuntime) {
+    let name = "samples with each list, into a place";
+    let found = tally_of(rt.alloc(), LISTS, with_lists(), Call::SampleInto);
+    tell(&rt, name, found, &OF_LISTS);
 }
 
 #[test]

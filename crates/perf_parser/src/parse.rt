@@ -15,7 +15,7 @@ pub use perf_buffers::cursor::ParseBufCursor;
 use perf_buffers::outer::Outer;
 pub use perf_buffers::parsebuf::{ParseBuf, ParseBufChunk};
 use perf_reader::read::{HasTransition, ReadFrom};
-use perf_sample_types::registers::Registers;
+use perf_sample_types::registers::{Registers, read_registers};
 
 /// The contract of parsing a type.
 ///
@@ -135,7 +135,8 @@ impl<'p, B: ParseBuf<'p>> ParseRegisters<'p, B> for Registers<'p> {
     #[inline]
     fn parse_user<E: Endian>(parser: &mut Parser<B, E>) -> ParseResult<Self> {
         let mask = parser.config().regs_user();
-        match Registers::read_by(&mut parser.reader, mask) {
+        let spare = Vec::new(parser.reader.alloc());
+        match read_registers(&mut parser.reader, mask, spare) {
             Ok(registers) => Ok(registers),
             Err(refusal) => Err(parser.reader.error_of(refusal)),
         }
@@ -144,7 +145,8 @@ impl<'p, B: ParseBuf<'p>> ParseRegisters<'p, B> for Registers<'p> {
     #[inline]
     fn parse_intr<E: Endian>(parser: &mut Parser<B, E>) -> ParseResult<Self> {
         let mask = parser.config().regs_intr();
-        match Registers::read_by(&mut parser.reader, mask) {
+        let spare = Vec::new(parser.reader.alloc());
+        match read_registers(&mut parser.reader, mask, spare) {
             Ok(registers) => Ok(registers),
             Err(refusal) => Err(parser.reader.error_of(refusal)),
         }

@@ -7,5 +7,6 @@ pub mod Calls
 pub mod NextFrame
 pub mod Headers
 pub mod Room
+pub mod Spare
 pub mod Prelude
 pub mod AttributeGroups

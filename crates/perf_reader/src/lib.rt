@@ -10,3 +10,4 @@ pub mod header;
 pub mod names;
 pub mod read;
 pub mod reader;
+pub mod spare;

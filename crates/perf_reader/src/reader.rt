@@ -244,6 +244,27 @@ impl<'p, I: Input<'p>, E> Reader<I, E> {
             Err(_) => Err(Refusal::OutOfMemory),
         }
     }
+
+    /// An empty list for `claimed` items, in the memory of a list that is not needed any more. If
+    /// that has less than the capacity of [`Reader::room_for`], it is dropped, and the list is that
+    /// of [`Reader::list_for`]. The only refusal is out of memory.
+    #[inline]
+    pub fn list_over<T: Copy>(&self, mut spare: Vec<T>, claimed: usize) -> ReadResult<Vec<T>>
+        ensures items { IfOk result (λ v. v.items ≡ []) }
+        ensures room { IfOk result (λ v. vec_capacity spare < vec_capacity v →
+            IsRoom (I.hint (input_of self.now)) claimed (vec_capacity v)) }
+        ensures kept { claimed ≤ vec_capacity spare →
+            IfOk result (λ v. vec_capacity v ≡ vec_capacity spare) }
+        ensures enough { claimed ≤ vec_capacity spare → IsOk result }
+        ensures refused { IfErr result (λ refusal. refusal ≡ Refusal.OutOfMemory) }
+    {
+        if spare.capacity() < self.room_for(claimed) {
+            drop(spare);
+            return self.list_for(claimed);
+        }
+        spare.clear();
+        Ok(spare)
+    }
 }
 
 // ---- values of a type
@@ -587,6 +608,7 @@ impl<'p, I: Input<'p>, E: Endian> Reader<I, E> {
     fn append_numbers(&mut self, mut numbers: Vec<u64>, count: usize) -> ReadResult<Vec<u64>>
         requires { numbers.items ≡ [] }
         ensures length { IfOk result (λ v. length v.items ≡ count) }
+        ensures enough { count ≤ vec_capacity numbers → NeedsNoMemory (kinds result) }
         ensures call { Call I.source E.order (ReadsOne (words count) (λ v. v.items))
             self.old (kinds result) self.new }
     {
@@ -613,10 +635,23 @@ impl<'p, I: Input<'p>, E: Endian> Reader<I, E> {
         ensures call { Call I.source E.order (ReadsOne (words count) (λ v. v.items))
             self.old (kinds result) self.new }
     {
+        self.read_numbers_over(Vec::new(self.alloc), count)
+    }
+
+    /// As [`Reader::read_numbers`], in the memory of a list that is not needed any more, by the rule
+    /// of [`Reader::list_over`]. No memory is needed if that has the capacity.
+    pub fn read_numbers_over(&mut self, spare: Vec<u64>, count: usize) -> ReadResult<Vec<u64>>
+        ensures length { IfOk result (λ v. length v.items ≡ count) }
+        ensures short { falls_short (I.hint (input_of self.old)) (8 * count) ≡ true →
+            NeedsNoMemory (kinds result) × IfOk result (λ v. ⊥) }
+        ensures enough { count ≤ vec_capacity spare → NeedsNoMemory (kinds result) }
+        ensures call { Call I.source E.order (ReadsOne (words count) (λ v. v.items))
+            self.old (kinds result) self.new }
+    {
         if self.has_items(count, NUMBER_SIZE) == Some(false) {
             return Err(self.read_to_the_end(1, count));
         }
-        let mut numbers = self.list_for(count)?;
+        let mut numbers = self.list_over(spare, count)?;
         if 0 < count && self.shows_numbers(count) {
             if numbers.resize(count, 0).is_err() {
                 return Err(Refusal::OutOfMemory);

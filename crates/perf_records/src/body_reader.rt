@@ -4,7 +4,9 @@ ghost use Rattle.std.specs.Prelude.{◌≡◌, ◌≤◌, ◌+◌, ℕ, ⊤, fal
 ghost use Rattle.perf_records.specs.Prelude.{Call, GivesBody, GivesWholeBody, IsRecordOf, IsSampleOf, IsSampleIn};
 ghost use Rattle.perf_records.specs.Prelude.{Event, kinds, input_of, body};
 ghost use Rattle.perf_records.specs.Prelude.{configuration_of, endian_of, kind_if_refused, is_external};
-ghost use Rattle.perf_records.specs.Prelude.{one_if_refused};
+ghost use Rattle.perf_records.specs.Prelude.{one_if_refused, config_of, NeedsNoMemory};
+ghost use Rattle.perf_base.specs.Configuration.{Configuration};
+ghost use Rattle.perf_sample_types.specs.SampleMemory.{HasNoLists};
 ghost use Rattle.perf_buffers.specs.Prelude.{chunk_bytes, chunk_is_borrowed};
 
 use crate::body::visit_body;
@@ -33,6 +35,9 @@ pub trait OfBody<'p, S>: Drop {
 
     // which outputs and new states belong to an event and a state
     ghost gives: { Event → S → Self.Output → S → Type 0 };
+
+    // under which configurations no memory is needed, if the bytes live as long as the input
+    ghost plain: { Configuration → Type 0 };
 }
 
 /// What is made from a body, whether or not its bytes live as long as the input.
@@ -53,7 +58,9 @@ pub trait BodyReader<'p, S>: OfBody<'p, S> {
             (chunk_bytes bytes.entry) (chunk_is_borrowed bytes.entry) (kinds result.0) result.1 }
         ensures faults { Self.reads metadata.ty → is_external (kind_if_refused (kinds result.0)) ≡ false }
         ensures cost { Self.reads metadata.ty → result.1 ≤ length (chunk_bytes bytes.entry)
-            + one_if_refused (kind_if_refused (kinds result.0)) };
+            + one_if_refused (kind_if_refused (kinds result.0)) }
+        ensures memory { Self.plain (configuration_of config) →
+            IsTrue (chunk_is_borrowed bytes.entry) → NeedsNoMemory (kinds result.0) };
 }
 
 /// The same, for one kind of input.
@@ -66,6 +73,8 @@ pub trait ReadBody<'p, S, I: Input<'p>>: OfBody<'p, S> {
         state: &mut S,
     ) -> ReadResult<Self::Output>
         requires { IsTrue (I.source (input_of reader.old)).told }
+        ensures memory { Self.plain (configuration_of (config_of reader.old)) →
+            IsTrue (I.source (input_of reader.old)).whole → NeedsNoMemory (kinds result) }
         ensures call { Self.reads metadata.ty → Call I.source E.order
             (GivesBody (λ e output. Self.gives e state.old output state.new) metadata)
             reader.old (kinds result) reader.new };
@@ -91,6 +100,8 @@ pub fn read_from<'p, S, I: Input<'p> + Drop, E: Endian, M: ReadBody<'p, S, I>>(
     ensures faults { M.reads metadata.ty → is_external (kind_if_refused (kinds result.0)) ≡ false }
     ensures cost { M.reads metadata.ty → result.1 ≤ length (I.source bytes).left
         + one_if_refused (kind_if_refused (kinds result.0)) }
+    ensures memory { M.plain (configuration_of config) → IsTrue (I.source bytes).whole →
+        NeedsNoMemory (kinds result.0) }
 {
     let mut reader = Reader::new(alloc, bytes, config);
     let output = maker.read_body(&mut reader, metadata, state);
@@ -125,6 +136,8 @@ impl<'p, V: Visitor<'p>> OfBody<'p, ()> for ByVisitor<V> {
     ghost reads = { λ _. ⊤ };
 
     ghost gives = { λ e _ output _. V.gives e output };
+
+    ghost plain = { λ _. ⊥ };
 }
 
 impl<'p, V: Visitor<'p>> BodyReader<'p, ()> for ByVisitor<V> {
@@ -164,6 +177,8 @@ impl<'p> OfBody<'p, ()> for AsRecord {
     ghost reads = { λ _. ⊤ };
 
     ghost gives = { λ e _ output _. IsRecordOf e output };
+
+    ghost plain = { λ _. ⊥ };
 }
 
 impl<'p> BodyReader<'p, ()> for AsRecord {
@@ -212,6 +227,8 @@ impl<'p> OfBody<'p, ()> for AsSample {
     ghost reads = { λ ty. ty ≡ 9 };
 
     ghost gives = { λ e _ output _. IsSampleOf e output };
+
+    ghost plain = { λ _. ⊥ };
 }
 
 impl<'p> BodyReader<'p, ()> for AsSample {
@@ -250,6 +267,8 @@ impl<'p> OfBody<'p, Sample<'p>> for IntoSample {
     ghost reads = { λ ty. ty ≡ 9 };
 
     ghost gives = { λ e _ _ now. IsSampleIn e now };
+
+    ghost plain = { HasNoLists };
 }
 
 impl<'p> BodyReader<'p, Sample<'p>> for IntoSample {

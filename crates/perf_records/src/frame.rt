@@ -1,9 +1,10 @@
 //! One whole frame, in place.
 
-ghost use Rattle.std.specs.Prelude.{◌≡◌, ◌≤◌, length, true, IfErr};
+ghost use Rattle.std.specs.Prelude.{◌≡◌, ◌≤◌, length, true, IfErr, IsTrue};
+ghost use Rattle.perf_base.specs.Configuration.{under_misc};
 ghost use Rattle.perf_records.specs.FrameReadings.{HasNoRoom};
 ghost use Rattle.perf_records.specs.Prelude.{configuration_of, endian_of, length_after, GivesFrameBytes};
-ghost use Rattle.perf_records.specs.Prelude.{NoRoomForId};
+ghost use Rattle.perf_records.specs.Prelude.{NoRoomForId, NeedsNoMemory, kinds};
 ghost use Rattle.perf_buffers.specs.Prelude.{chunk_bytes, chunk_is_borrowed};
 
 use crate::body_reader::BodyReader;
@@ -95,6 +96,8 @@ impl<'c, 'p> Frame<'c, 'p> {
             (chunk_bytes self.entry.rest) (chunk_is_borrowed self.entry.rest) result.0 result.1 }
         ensures no_room { HasNoRoom self.entry.header (configuration_of config.now) →
             IfErr result.0 (λ e. e ≡ NoRoomForId) }
+        ensures memory { M.plain (under_misc self.entry.header.misc (configuration_of config.now)) →
+            IsTrue (chunk_is_borrowed self.entry.rest) → NeedsNoMemory (kinds result.0) }
     {
         let bytes = self.rest.as_bytes();
         let FrameEnd {

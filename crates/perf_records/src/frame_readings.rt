@@ -1,13 +1,16 @@
 //! What one whole frame contains.
 
-ghost use Rattle.std.specs.Prelude.{◌≡◌, false, Ok, IfErr, OnErr};
+ghost use Rattle.std.specs.Prelude.{◌≡◌, false, Ok, IfErr, IsTrue, OnErr};
+ghost use Rattle.perf_base.specs.Configuration.{under_misc};
 ghost use Rattle.perf_base.specs.Refusals.{IsErrorOf, error_kinds};
 ghost use Rattle.perf_buffers.specs.Prelude.{chunk_bytes, chunk_is_borrowed};
 ghost use Rattle.perf_records.specs.Answers.{split_after};
 ghost use Rattle.perf_records.specs.FrameReadings.{FrameGives, HasNoRoom, PutsSample, metadata_in};
 ghost use Rattle.perf_records.specs.RecordTypes.{type_of};
 ghost use Rattle.perf_records.specs.Prelude.{configuration_of, endian_of, IsRecordOf, NoRoomForId};
+ghost use Rattle.perf_records.specs.Prelude.{NeedsNoMemory};
 ghost use Rattle.perf_sample_types.specs.SampleEmpty.{no_sample};
+ghost use Rattle.perf_sample_types.specs.SampleMemory.{HasNoLists};
 
 use crate::body_reader::{AsRecord, BodyReader, ByVisitor, IntoSample};
 use crate::frame::Frame;
@@ -31,10 +34,12 @@ impl<'c, 'p> Frame<'c, 'p> {
         maker: M,
         state: &mut S,
     ) -> ParseResult<M::Output>
-        ensures { M.reads self.now.header.type_ → FrameGives
+        ensures answer { M.reads self.now.header.type_ → FrameGives
             (λ e output. M.gives e state.old output state.new) self.now.header
             (configuration_of config.now) (E.order (endian_of config.now))
             (chunk_bytes self.now.rest) (chunk_is_borrowed self.now.rest) result }
+        ensures memory { M.plain (under_misc self.now.header.misc (configuration_of config.now)) →
+            IsTrue (chunk_is_borrowed self.now.rest) → NeedsNoMemory (error_kinds result) }
     {
         let (answer, _reads) = self.read(alloc, config, maker, state);
         match answer {
@@ -117,6 +122,10 @@ impl<'c, 'p> Frame<'c, 'p> {
     /// `false` is returned. This is for callers that read many samples into one place, without a
     /// box for each.
     ///
+    /// A list of the sample has the memory of the old one, and takes memory only if that does not
+    /// suffice; the lists of absent fields are dropped. So it is never `OutOfMemory` for a sample of
+    /// plain numbers and byte strings of a frame whose bytes live as long as the input.
+    ///
     /// The refusals are those of [`Frame::record`]. After one, all fields of the sample are absent.
     #[inline]
     pub fn sample_into<E: Endian>(
@@ -131,6 +140,8 @@ impl<'c, 'p> Frame<'c, 'p> {
         ensures other { (self.now.header.type_ ≡ 9 → ⊥) →
             (result ≡ Ok false) × (sample.new ≡ sample.old) }
         ensures empty { OnErr result (sample.new ≡ no_sample) }
+        ensures memory { IsTrue (chunk_is_borrowed self.now.rest) →
+            HasNoLists (configuration_of config.now) → NeedsNoMemory (error_kinds result) }
     {
         if self.header().type_ != PERF_RECORD_SAMPLE {
             return Ok(false);

@@ -17,7 +17,6 @@ use perf_event_data::endian::Endian;
 use perf_event_data::parse::{ErrorKind, ParseConfig, ParseError, ParseResult};
 use perf_event_data::sys::PERF_RECORD_SAMPLE;
 use perf_event_data::{BadFrame, Frame, FrameHandler, RunEnd, Sample};
-use perf_sample_types::sample::{empty_sample, least_len};
 use std::alloc::Global;
 
 /// Counts the frames that a run hands to it. If memory runs out for one, it ends the run and does
@@ -42,7 +41,7 @@ impl<'p> FrameCounter<'p> {
             alloc,
             counts: Counts::NONE,
             error: None,
-            sample: empty_sample(),
+            sample: Sample::default(),
         }
     }
 
@@ -87,7 +86,7 @@ fn is_short_sample<E: Endian>(config: &ParseConfig<E>, frame: &Frame<'_, '_>) ->
     ensures { result ≡ true → IsRefused (answer_after (configuration_of config.now)
         (E.order (endian_of config.now)) frame.now.header (chunk_bytes frame.now.rest)) }
 {
-    frame.header().type_ == PERF_RECORD_SAMPLE && frame.rest().len() < least_len(config)
+    frame.header().type_ == PERF_RECORD_SAMPLE && frame.rest().len() < Sample::least_len(config)
 }
 
 // What a call returned, with no more of an error than its kind.
@@ -184,7 +183,7 @@ fn own_place_sum<'s, E: Endian>(
     ensures { SumsAnswer (answer_after (configuration_of config.now)
         (E.order (endian_of config.now)) frame.now.header (chunk_bytes frame.now.rest)) result }
 {
-    let mut place: Sample<'s> = empty_sample();
+    let mut place: Sample<'s> = Sample::default();
     placed_sum(alloc, config, frame, &mut place)
 }
 

@@ -18,7 +18,6 @@ use perf_event_data::endian::Endian;
 use perf_event_data::parse::{ParseConfig, ParseError};
 use perf_event_data::sys::PERF_RECORD_SAMPLE;
 use perf_event_data::{BadFrame, Frame, FrameHandler, RunEnd, Sample};
-use perf_sample_types::sample::empty_sample;
 use std::alloc::Global;
 use std::io::Write;
 
@@ -144,7 +143,7 @@ impl<W: Write, E: Write> FramePrinter<W, E> {
         ensures { PrintsAnswer W.contents E.contents self.old (frame_answer
             (configuration_of config.now) (O.order (endian_of config.now)) frame.now) result self.new }
     {
-        let mut sample: Sample<'p> = empty_sample();
+        let mut sample: Sample<'p> = Sample::default();
         match &frame.sample_into(self.alloc, config, &mut sample) {
             Ok(_) => {
                 let found = Found::Sample(&sample);

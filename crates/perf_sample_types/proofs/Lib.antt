@@ -9,6 +9,8 @@ mod Origins
 pub mod RowFields
 mod Closed
 mod LawFlags
+pub mod ListFlags
+pub mod MappedParts
 pub mod SampleGetters
 pub mod SampleLaws
 pub mod SampleTable

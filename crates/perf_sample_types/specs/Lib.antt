@@ -8,6 +8,7 @@ pub mod SampleForms
 pub mod SampleGetters
 pub mod SampleGroups
 pub mod SampleLaws
+pub mod SampleMemory
 pub mod SampleParts
 pub mod SampleRows
 pub mod Prelude

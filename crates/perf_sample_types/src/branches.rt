@@ -95,10 +95,12 @@ fn append_branches<'p, I: Input<'p>, E: Endian>(
     Ok(entries)
 }
 
-// Reads n branches, all at once if the input shows their bytes. If the input reports how many bytes
-// it has, nothing is allocated for a list that does not fit.
+// Reads n branches, all at once if the input shows their bytes, into the memory of a list that is
+// not needed any more, by the rule of [`Reader::list_over`]. If the input reports how many bytes it
+// has, nothing is allocated for a list that does not fit.
 pub(crate) fn read_branches<'p, I: Input<'p>, E: Endian>(
     reader: &mut Reader<I, E>,
+    spare: Vec<BranchEntry>,
     count: usize,
 ) -> ReadResult<Vec<BranchEntry>>
     ensures short { falls_short (I.hint (input_of reader.old)) (24 * count) ≡ true →
@@ -110,7 +112,7 @@ pub(crate) fn read_branches<'p, I: Input<'p>, E: Endian>(
     if reader.has_items(count, SIZE) == Some(false) {
         return Err(reader.read_to_the_end(NUMBERS, count));
     }
-    let mut entries = reader.list_for(count)?;
+    let mut entries = reader.list_over(spare, count)?;
     if 0 < count && count <= reader.input().shown_bytes().len() / SIZE {
         let none = BranchEntry::from_words(0, 0, 0);
         if entries.resize(count, none).is_err() {

@@ -3,6 +3,7 @@
 
 mod branches;
 pub mod laws;
+pub mod layout;
 pub mod registers;
 pub mod sample;
 pub mod sample_boxed;

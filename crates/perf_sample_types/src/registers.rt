@@ -1,8 +1,9 @@
 //! The registers of a task.
 
-ghost use Rattle.std.specs.Prelude.{◌≡◌};
-ghost use Rattle.perf_sample_types.specs.Registers as registers;
+ghost use Rattle.perf_sample_types.specs.Registers.{registers_of, registers_value, registers_form};
+ghost use Rattle.perf_types.specs.Prelude.{Call, Reads, kinds, IsClone};
 
+use crate::layout::register_count;
 use perf_base::{CowSlice, Endian, ParseResult, ReadResult};
 use perf_buffers::input::Input;
 use perf_reader::reader::Reader;
@@ -27,29 +28,6 @@ pub struct Registers<'a> {
 }
 
 impl<'p> Registers<'p> {
-    ghost use Rattle.perf_sample_types.specs.Registers.{registers_of, registers_value, registers_form};
-    ghost use Rattle.perf_types.specs.Prelude.{Call, Reads, kinds, IsClone};
-
-    /// Reads the registers of a mask.
-    #[inline]
-    #[tactic(auto, using(perf_reader::proofs::Calls::chain))]
-    pub fn read_by<I: Input<'p>, E: Endian>(
-        reader: &mut Reader<I, E>,
-        mask: u64,
-    ) -> ReadResult<Registers<'p>>
-        ensures call { Call I.source E.order (Reads (λ _. registers_of mask) registers_value)
-            reader.old (kinds result) reader.new }
-    {
-        let abi = reader.read_u64()?;
-        let count = register_count(mask, abi);
-        let regs = reader.read_numbers(count)?;
-        Ok(Registers {
-            abi: SampleRegsAbi::new(abi),
-            mask,
-            regs: CowSlice::Owned(regs),
-        })
-    }
-
     /// The same registers. Allocates nothing if their values are borrowed.
     pub fn clone(&self, alloc: Global) -> ParseResult<Registers<'p>>
         ensures { IsClone registers_value registers_form self.now result }
@@ -62,14 +40,24 @@ impl<'p> Registers<'p> {
     }
 }
 
-// How many registers a mask has.
+/// Reads the registers of a mask, with their values in the memory of a list that is not needed any
+/// more, by the rule of [`Reader::list_over`].
 #[inline]
-fn register_count(mask: u64, abi: u64) -> usize
-    ensures { result ≡ registers.register_count mask abi }
+#[tactic(auto, using(perf_reader::proofs::Calls::chain))]
+pub fn read_registers<'p, I: Input<'p>, E: Endian>(
+    reader: &mut Reader<I, E>,
+    mask: u64,
+    spare: Vec<u64>,
+) -> ReadResult<Registers<'p>>
+    ensures call { Call I.source E.order (Reads (λ _. registers_of mask) registers_value)
+        reader.old (kinds result) reader.new }
 {
-    if abi == 0 {
-        0
-    } else {
-        mask.count_ones() as usize
-    }
+    let abi = reader.read_u64()?;
+    let count = register_count(mask, abi);
+    let regs = reader.read_numbers_over(spare, count)?;
+    Ok(Registers {
+        abi: SampleRegsAbi::new(abi),
+        mask,
+        regs: CowSlice::Owned(regs),
+    })
 }

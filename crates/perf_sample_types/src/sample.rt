@@ -1,11 +1,13 @@
 //! The SAMPLE record.
 
 ghost use Rattle.std.specs.Prelude.{◌≡◌, ℕ, ◌*◌, ◌%◌, ◌^◌, ◌<◌, List, length, count_ones, IfOk};
-ghost use Rattle.std.specs.Prelude.{option_map, OnErr};
+ghost use Rattle.std.specs.Prelude.{option_map, OnErr, true};
 ghost use Rattle.perf_base.specs.Configured.{configuration_of};
 ghost use Rattle.perf_base.specs.Layout.{layout};
 ghost use Rattle.perf_base.specs.Order.{Order};
-ghost use Rattle.perf_sample_types.specs.SampleEmpty.{fill_result, no_sample};
+ghost use Rattle.perf_reader.specs.Prelude.{config_of, NeedsNoMemory};
+ghost use Rattle.perf_sample_types.specs.SampleEmpty.{fill_result, no_moment, no_sample};
+ghost use Rattle.perf_sample_types.specs.SampleMemory.{HasNoLists, Lasts};
 ghost use Rattle.perf_sample_types.specs.Prelude as samples;
 ghost use Rattle.perf_sample_types.specs.Prelude.{Call, ReadsBorrowed, kinds, group_read};
 ghost use Rattle.perf_sample_types.specs.Prelude.{registers_value, txn_bits};
@@ -26,6 +28,9 @@ use perf_reader::reader::Reader;
 use perf_types::ReadGroup;
 use perf_words::{BranchEntry, DataSource, Txn};
 use std::alloc::Global;
+
+// The flags that have a field of their own: bits 0 to 23. `WEIGHT_STRUCT` shares `WEIGHT`'s.
+const FIELDS: u64 = (1 << 24) - 1;
 
 /// An event happened, and this was recorded with it (`PERF_RECORD_SAMPLE`). A field is present if
 /// the sample type has its flag.
@@ -84,6 +89,18 @@ impl<'a> Sample<'a> {
                 aux: aux_of(fields.aux),
             },
         }
+    }
+
+    /// The least number of bytes that a sample can have: each of its fields takes eight or more. A
+    /// shorter body is refused.
+    #[inline]
+    pub fn least_len<E>(config: &ParseConfig<E>) -> usize
+        ensures value { result ≡
+            8 * count_ones ((configuration_of config.now).sample_type % 2 ^ 24) }
+        ensures least { (o : Order) → (bytes : List ℕ) → length bytes < result →
+            IfOk (layout o (samples.sample (configuration_of config.now)) bytes) (λ v. ⊥) }
+    {
+        8 * (config.sample_type().bits() & FIELDS).count_ones() as usize
     }
 
     /// The instruction pointer: the address of an instruction (`PERF_SAMPLE_IP`).
@@ -349,6 +366,16 @@ impl<'a> Sample<'a> {
     }
 }
 
+/// A sample without fields, as a place to read samples into.
+impl Default for Sample<'_> {
+    ghost is_default = { λ sample. sample ≡ no_sample };
+
+    #[inline(always)]
+    fn default() -> Self {
+        empty_sample()
+    }
+}
+
 /// Fills a place with a sample, and returns what is made of it there; if it is refused, the second
 /// expression gives up the place. A sample is large, and each function that it is passed to moves
 /// it.
@@ -381,20 +408,6 @@ impl<'p, I: Input<'p>> ReadFrom<'p, I> for Sample<'p> {
     }
 }
 
-// The flags that have a field of their own: bits 0 to 23. `WEIGHT_STRUCT` shares `WEIGHT`'s.
-const FIELDS: u64 = (1 << 24) - 1;
-
-/// The least number of bytes that a sample can have: each of its fields takes eight or more. A
-/// shorter body is refused.
-#[inline]
-pub fn least_len<E>(config: &ParseConfig<E>) -> usize
-    ensures value { result ≡ 8 * count_ones ((configuration_of config.now).sample_type % 2 ^ 24) }
-    ensures least { (o : Order) → (bytes : List ℕ) → length bytes < result →
-        IfOk (layout o (samples.sample (configuration_of config.now)) bytes) (λ v. ⊥) }
-{
-    8 * (config.sample_type().bits() & FIELDS).count_ones() as usize
-}
-
 /// A sample without fields.
 #[inline(always)]
 pub fn empty_sample<'p>() -> Sample<'p>
@@ -415,10 +428,34 @@ pub fn clear_sample(sample: &mut Sample)
     ensures { sample.new ≡ no_sample }
 {
     sample.moment = Moment::none();
-    sample.counts.clear();
-    sample.state.clear();
-    sample.costs.clear();
-    sample.memory.clear();
+    sample.counts.clear(false);
+    sample.state.clear(false);
+    sample.costs.clear(false);
+    sample.memory.clear(false);
+}
+
+// Reads the fields of a sample in place, group by group. The first group is empty, and the others
+// may be known to be.
+#[inline(always)]
+fn fill_groups<'p, I: Input<'p>, E: Endian>(
+    sample: &mut Sample<'p>,
+    reader: &mut Reader<I, E>,
+    is_empty: bool,
+) -> ReadResult<()>
+    requires moment { sample.old.moment ≡ no_moment }
+    requires others { is_empty ≡ true → sample.old ≡ no_sample }
+    ensures memory { Lasts I.source reader.old →
+        HasNoLists (configuration_of (config_of reader.old)) → NeedsNoMemory (kinds result) }
+    ensures call { Call I.source E.order
+        (ReadsBorrowed samples.sample samples.sample_value samples.IsBorrowedSample)
+        reader.old (fill_result (kinds result) sample.new) reader.new }
+{
+    sample.moment.fill(reader)?;
+    sample.counts.fill(reader, is_empty)?;
+    sample.state.fill(reader, is_empty)?;
+    sample.costs.fill(reader, is_empty)?;
+    sample.memory.fill(reader, is_empty)?;
+    Ok(())
 }
 
 // Reads the fields of a sample into an empty one, in place. It is inlined into the function that
@@ -433,12 +470,7 @@ pub(crate) fn fill_fields<'p, I: Input<'p>, E: Endian>(
         (ReadsBorrowed samples.sample samples.sample_value samples.IsBorrowedSample)
         reader.old (fill_result (kinds result) sample.new) reader.new }
 {
-    sample.moment.fill(reader)?;
-    sample.counts.fill(reader)?;
-    sample.state.fill(reader)?;
-    sample.costs.fill(reader)?;
-    sample.memory.fill(reader)?;
-    Ok(())
+    fill_groups(sample, reader, true)
 }
 
 /// Reads the fields of a sample into an empty one, in place: a sample is large. It is not inlined,
@@ -456,20 +488,38 @@ pub fn fill_sample<'p, I: Input<'p>, E: Endian>(
     fill_fields(sample, reader)
 }
 
+// Reads the fields of a sample over those of another. It is not inlined, as `fill_sample`.
+#[inline(never)]
+fn fill_over<'p, I: Input<'p>, E: Endian>(
+    sample: &mut Sample<'p>,
+    reader: &mut Reader<I, E>,
+) -> ReadResult<()>
+    ensures memory { Lasts I.source reader.old →
+        HasNoLists (configuration_of (config_of reader.old)) → NeedsNoMemory (kinds result) }
+    ensures call { Call I.source E.order
+        (ReadsBorrowed samples.sample samples.sample_value samples.IsBorrowedSample)
+        reader.old (fill_result (kinds result) sample.new) reader.new }
+{
+    sample.moment = Moment::none();
+    fill_groups(sample, reader, false)
+}
+
 /// Reads a sample into the place of an existing one, whatever its contents, for callers that read
-/// many samples into one place. After an `Err` the place contains a sample without fields.
+/// many samples into one place. Lists of a field that both have keep their memory, by the rule of
+/// [`Reader::list_over`]. After an `Err` the place contains a sample without fields.
 #[inline]
 pub fn refill_sample<'p, I: Input<'p>, E: Endian>(
     sample: &mut Sample<'p>,
     reader: &mut Reader<I, E>,
 ) -> ReadResult<()>
     ensures empty { OnErr result (sample.new ≡ no_sample) }
+    ensures memory { Lasts I.source reader.old →
+        HasNoLists (configuration_of (config_of reader.old)) → NeedsNoMemory (kinds result) }
     ensures call { Call I.source E.order
         (ReadsBorrowed samples.sample samples.sample_value samples.IsBorrowedSample)
         reader.old (fill_result (kinds result) sample.new) reader.new }
 {
-    clear_sample(sample);
-    match fill_sample(sample, reader) {
+    match fill_over(sample, reader) {
         Ok(()) => Ok(()),
         Err(refusal) => {
             clear_sample(sample);

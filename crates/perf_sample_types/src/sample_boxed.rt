@@ -12,7 +12,7 @@ ghost use Rattle.perf_sample_types.specs.Prelude as samples;
 ghost use Rattle.perf_sample_types.specs.Prelude.{Call, ReadsBorrowed, ReadsTable, kinds};
 
 use crate::read_sample;
-use crate::sample::{Sample, empty_sample, fill_fields, least_len};
+use crate::sample::{Sample, empty_sample, fill_fields};
 use crate::sample_groups::{Costs, Counts, Memory, Moment, State};
 use perf_base::{Endian, ReadResult, Refusal};
 use perf_buffers::input::Input;
@@ -37,7 +37,7 @@ fn pass_counts<'p, I: Input<'p>, E: Endian>(reader: &mut Reader<I, E>) -> ReadRe
         reader.old (fill_result (kinds result) read) reader.new }
 {
     let mut read = Counts::none();
-    read.fill(reader)
+    read.fill(reader, true)
 }
 
 // Reads the `State` group of a sample that is refused, and keeps nothing.
@@ -49,7 +49,7 @@ fn pass_state<'p, I: Input<'p>, E: Endian>(reader: &mut Reader<I, E>) -> ReadRes
         reader.old (fill_result (kinds result) read) reader.new }
 {
     let mut read = State::none();
-    read.fill(reader)
+    read.fill(reader, true)
 }
 
 // Reads the `Costs` group of a sample that is refused, and keeps nothing.
@@ -60,7 +60,7 @@ fn pass_costs<'p, I: Input<'p>, E: Endian>(reader: &mut Reader<I, E>) -> ReadRes
         reader.old (fill_result (kinds result) read) reader.new }
 {
     let mut read = Costs::none();
-    read.fill(reader)
+    read.fill(reader, true)
 }
 
 // Reads the `Memory` group of a sample that is refused, and keeps nothing.
@@ -72,7 +72,7 @@ fn pass_memory<'p, I: Input<'p>, E: Endian>(reader: &mut Reader<I, E>) -> ReadRe
         reader.old (fill_result (kinds result) read) reader.new }
 {
     let mut read = Memory::none();
-    read.fill(reader)
+    read.fill(reader, true)
 }
 
 // Why there is no sample if it gets no box, because the input is too short or memory ran out: the
@@ -120,7 +120,7 @@ pub fn read_boxed_sample<'p, I: Input<'p>, E: Endian>(
         (ReadsBorrowed samples.sample samples.boxed_value samples.IsBorrowedBox)
         reader.old (kinds result) reader.new }
 {
-    if reader.has_bytes(least_len(reader.config())) == Some(false) {
+    if reader.has_bytes(Sample::least_len(reader.config())) == Some(false) {
         return Err(refuse_sample(reader));
     }
     let mut content = match Box::new(reader.alloc(), empty_sample()) {

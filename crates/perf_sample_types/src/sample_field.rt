@@ -1,12 +1,14 @@
 //! Fields of a sample, each present or absent.
 
-ghost use Rattle.std.specs.Prelude.{◌≡◌, ◌==◌, ⊤, IfSome, None, option_map};
+ghost use Rattle.std.specs.Prelude.{◌≡◌, ◌==◌, ⊤, Bool, IfSome, None, option_map, true, false};
 ghost use Rattle.perf_sample_types.specs.SampleEmpty.{fill_result};
 ghost use Rattle.std.specs.Int.RustNames.{bit_and};
 ghost use Rattle.perf_base.specs.Configuration.{Configuration};
 ghost use Rattle.perf_base.specs.Table.{present_if};
 ghost use Rattle.perf_sample_types.specs.Sample as sample;
 ghost use Rattle.perf_sample_types.specs.Prelude.{Call, Parts, ReadsBorrowed, ReadsField, kinds};
+ghost use Rattle.perf_sample_types.specs.SampleMemory.{Lasts};
+ghost use Rattle.perf_types.specs.Prelude.{NeedsNoMemory};
 ghost use Rattle.perf_words.specs.SetBits.{sample_flags_bits};
 
 use bitflags::Flags;
@@ -25,35 +27,58 @@ pub(crate) trait SampleField: Sized {
 
     // that no byte of it was copied
     ghost borrowed: { Self → Type 0 };
+
+    // whether it has a list of numbers, which takes memory
+    ghost takes_list: { Bool };
 }
 
 // A field that is read from an input.
 pub(crate) trait ReadField<'p, I: Input<'p>>: SampleField {
-    fn read_field<E: Endian>(reader: &mut Reader<I, E>) -> ReadResult<Self>
+    // Reads the field. Its lists may take the memory of those of an old one, of which nothing is
+    // known then.
+    fn read_field<E: Endian>(reader: &mut Reader<I, E>, old: &mut Option<Self>) -> ReadResult<Self>
+        ensures memory { Lasts I.source reader.old → Self.takes_list ≡ false →
+            NeedsNoMemory (kinds result) }
         ensures call { Call I.source E.order
             (ReadsBorrowed (λ c. Self.parts (sample.settings_of c)) Self.value Self.borrowed)
             reader.old (kinds result) reader.new };
 }
 
-// Puts a field, if present, into its place, which is empty. An absent field costs only the test of
-// its flag.
+// Drops what a place contains. It costs one test if the place is empty, and none if it is known to
+// be empty.
+#[inline(always)]
+pub(crate) fn clear_place<T: Drop>(place: &mut Option<T>, is_empty: bool)
+    requires { is_empty ≡ true → place.old ≡ None }
+    ensures { place.new ≡ None }
+{
+    if !is_empty && place.is_some() {
+        *place = None;
+    }
+}
+
+// Puts a field, if present, into its place, and otherwise empties the place. An absent field costs
+// only the test of its flag, if the place is known to be empty.
 #[inline(always)]
 #[tactic(auto, using(perf_reader::proofs::TableRuns::optional_fields))]
 pub(crate) fn fill_field_if<'p, I: Input<'p>, E: Endian, T: ReadField<'p, I> + Drop>(
     place: &mut Option<T>,
     reader: &mut Reader<I, E>,
     present: bool,
+    is_empty: bool,
 ) -> ReadResult<()>
-    requires { place.old ≡ None }
+    requires { is_empty ≡ true → place.old ≡ None }
+    ensures memory { Lasts I.source reader.old → (present ≡ true → T.takes_list ≡ false) →
+        NeedsNoMemory (kinds result) }
     ensures call { Call I.source E.order
         (ReadsField (λ c. present_if present (T.parts (sample.settings_of c)))
         (option_map T.value) (λ x. IfSome x T.borrowed))
         reader.old (fill_result (kinds result) place.new) reader.new }
 {
     if !present {
+        clear_place(place, is_empty);
         return Ok(());
     }
-    match T::read_field(reader) {
+    match T::read_field(reader, place) {
         Ok(field) => {
             *place = Some(field);
             Ok(())
@@ -70,8 +95,13 @@ pub(crate) fn fill_flagged<'p, I: Input<'p>, E: Endian, T: ReadField<'p, I> + Dr
     reader: &mut Reader<I, E>,
     flags: SampleFlags,
     flag: SampleFlags,
+    is_empty: bool,
 ) -> ReadResult<()>
-    requires { place.old ≡ None }
+    requires { is_empty ≡ true → place.old ≡ None }
+    ensures memory { Lasts I.source reader.old →
+        ((bit_and (sample_flags_bits flags) (sample_flags_bits flag) == sample_flags_bits flag)
+        ≡ true → T.takes_list ≡ false) →
+        NeedsNoMemory (kinds result) }
     ensures call { Call I.source E.order
         (ReadsField (λ c. present_if
         (bit_and (sample_flags_bits flags) (sample_flags_bits flag) == sample_flags_bits flag)
@@ -79,5 +109,5 @@ pub(crate) fn fill_flagged<'p, I: Input<'p>, E: Endian, T: ReadField<'p, I> + Dr
         (option_map T.value) (λ x. IfSome x T.borrowed))
         reader.old (fill_result (kinds result) place.new) reader.new }
 {
-    fill_field_if(place, reader, flags.contains(flag))
+    fill_field_if(place, reader, flags.contains(flag), is_empty)
 }

@@ -7,12 +7,15 @@ ghost use Rattle.perf_sample_types.specs.SampleEmpty.{fill_result};
 ghost use Rattle.perf_sample_types.specs.Sample as sample;
 ghost use Rattle.perf_sample_types.specs.SampleGroups as groups;
 ghost use Rattle.perf_base.specs.Configuration.{Configuration};
-ghost use Rattle.perf_reader.specs.Prelude.{refusal_kind};
+ghost use Rattle.perf_base.specs.Configured.{configuration_of};
+ghost use Rattle.perf_reader.specs.Prelude.{config_of, refusal_kind, NeedsNoMemory};
+ghost use Rattle.perf_sample_types.specs.SampleMemory.{HasNoLists, Lasts};
 ghost use Rattle.perf_sample_types.specs.SampleRows.{TakesFields};
 ghost use Rattle.perf_sample_types.specs.Prelude.{Call, ReadsTable, kinds};
 ghost use Rattle.perf_words.specs.SetBits.{sample_flags_bits};
 
-use crate::sample_field::{fill_field_if, fill_flagged};
+use crate::layout::is_weighed;
+use crate::sample_field::{clear_place, fill_field_if, fill_flagged};
 use crate::sample_parts::{
     AuxBytes, Branches, CallChain, Cpu, InterruptRegisters, RawData, Stack, Task, UserRegisters,
 };
@@ -38,16 +41,6 @@ fn lacks_all(flags: SampleFlags, bits: u64) -> bool
     ensures { result ≡ (bit_and (sample_flags_bits flags) bits == 0) }
 {
     flags.bits() & bits == 0
-}
-
-// Drops what a place contains. An empty place costs one test.
-#[inline(always)]
-fn clear_place<T: Drop>(place: &mut Option<T>)
-    ensures { place.new ≡ None }
-{
-    if place.is_some() {
-        *place = None;
-    }
 }
 
 // When and where it happened, and which event it was.
@@ -90,6 +83,7 @@ impl Moment {
         reader: &mut Reader<I, E>,
     ) -> ReadResult<()>
         requires { self.old ≡ empty.no_moment }
+        ensures memory { Lasts I.source reader.old → NeedsNoMemory (kinds result) }
         ensures call { Call I.source E.order
             (ReadsTable (λ c. sample.fields_under c sample.moment_fields) groups.moment_value
             (λ _. ⊤))
@@ -109,6 +103,7 @@ impl Moment {
         reader: &mut Reader<I, E>,
     ) -> ReadResult<bool>
         requires { self.old ≡ empty.no_moment }
+        ensures memory { NeedsNoMemory (kinds result) }
         ensures nothing { result ≡ Ok false → reader.new ≡ reader.old }
         ensures shown { result ≡ Ok true → Call I.source E.order
             (ReadsTable (λ c. sample.fields_under c sample.moment_fields) groups.moment_value
@@ -174,6 +169,7 @@ impl Moment {
         &mut self,
         reader: &mut Reader<I, E>,
     ) -> ReadResult<()>
+        ensures memory { Lasts I.source reader.old → NeedsNoMemory (kinds result) }
         ensures call { Call I.source E.order
             (ReadsTable (λ c. sample.fields_under c sample.moment_fields) groups.moment_value
             (λ _. ⊤))
@@ -181,15 +177,27 @@ impl Moment {
     {
         *self = Moment::none();
         let flags = reader.config().sample_type();
-        fill_flagged(&mut self.identifier, reader, flags, SampleFlags::IDENTIFIER)?;
-        fill_flagged(&mut self.ip, reader, flags, SampleFlags::IP)?;
-        fill_flagged(&mut self.task, reader, flags, SampleFlags::TID)?;
-        fill_flagged(&mut self.time, reader, flags, SampleFlags::TIME)?;
-        fill_flagged(&mut self.addr, reader, flags, SampleFlags::ADDR)?;
-        fill_flagged(&mut self.id, reader, flags, SampleFlags::ID)?;
-        fill_flagged(&mut self.stream_id, reader, flags, SampleFlags::STREAM_ID)?;
-        fill_flagged(&mut self.cpu, reader, flags, SampleFlags::CPU)?;
-        fill_flagged(&mut self.period, reader, flags, SampleFlags::PERIOD)?;
+        fill_flagged(
+            &mut self.identifier,
+            reader,
+            flags,
+            SampleFlags::IDENTIFIER,
+            true,
+        )?;
+        fill_flagged(&mut self.ip, reader, flags, SampleFlags::IP, true)?;
+        fill_flagged(&mut self.task, reader, flags, SampleFlags::TID, true)?;
+        fill_flagged(&mut self.time, reader, flags, SampleFlags::TIME, true)?;
+        fill_flagged(&mut self.addr, reader, flags, SampleFlags::ADDR, true)?;
+        fill_flagged(&mut self.id, reader, flags, SampleFlags::ID, true)?;
+        fill_flagged(
+            &mut self.stream_id,
+            reader,
+            flags,
+            SampleFlags::STREAM_ID,
+            true,
+        )?;
+        fill_flagged(&mut self.cpu, reader, flags, SampleFlags::CPU, true)?;
+        fill_flagged(&mut self.period, reader, flags, SampleFlags::PERIOD, true)?;
         Ok(())
     }
 }
@@ -212,30 +220,43 @@ impl<'p> Counts<'p> {
         }
     }
 
-    // Empties its places.
+    // Empties its places, unless they are known to be empty.
     #[inline(always)]
-    pub(crate) fn clear(&mut self)
+    pub(crate) fn clear(&mut self, is_empty: bool)
+        requires { is_empty ≡ true → self.old ≡ empty.no_counts }
         ensures { self.new ≡ empty.no_counts }
     {
-        clear_place(&mut self.values);
-        clear_place(&mut self.call_chain);
+        if is_empty {
+            return;
+        }
+        clear_place(&mut self.values, false);
+        clear_place(&mut self.call_chain, false);
     }
 
-    // Fills its places, which are empty.
+    // Fills its places, and empties those of absent fields, unless they are known to be empty.
     #[inline(always)]
     pub(crate) fn fill<I: Input<'p>, E: Endian>(
         &mut self,
         reader: &mut Reader<I, E>,
+        is_empty: bool,
     ) -> ReadResult<()>
-        requires { self.old ≡ empty.no_counts }
+        requires { is_empty ≡ true → self.old ≡ empty.no_counts }
+        ensures memory { Lasts I.source reader.old →
+            HasNoLists (configuration_of (config_of reader.old)) → NeedsNoMemory (kinds result) }
         ensures call { Call I.source E.order
             (ReadsTable (λ c. sample.fields_under c sample.count_fields) groups.counts_value
             (λ _. ⊤))
             reader.old (fill_result (kinds result) self.new) reader.new }
     {
         let flags = reader.config().sample_type();
-        fill_flagged(&mut self.values, reader, flags, SampleFlags::READ)?;
-        fill_flagged(&mut self.call_chain, reader, flags, SampleFlags::CALLCHAIN)?;
+        fill_flagged(&mut self.values, reader, flags, SampleFlags::READ, is_empty)?;
+        fill_flagged(
+            &mut self.call_chain,
+            reader,
+            flags,
+            SampleFlags::CALLCHAIN,
+            is_empty,
+        )?;
         Ok(())
     }
 }
@@ -262,24 +283,31 @@ impl<'p> State<'p> {
         }
     }
 
-    // Empties its places.
+    // Empties its places, unless they are known to be empty.
     #[inline(always)]
-    pub(crate) fn clear(&mut self)
+    pub(crate) fn clear(&mut self, is_empty: bool)
+        requires { is_empty ≡ true → self.old ≡ empty.no_state }
         ensures { self.new ≡ empty.no_state }
     {
-        clear_place(&mut self.raw);
-        clear_place(&mut self.branches);
-        clear_place(&mut self.regs_user);
-        clear_place(&mut self.stack_user);
+        if is_empty {
+            return;
+        }
+        clear_place(&mut self.raw, false);
+        clear_place(&mut self.branches, false);
+        clear_place(&mut self.regs_user, false);
+        clear_place(&mut self.stack_user, false);
     }
 
-    // Fills its places, which are empty.
+    // Fills its places, and empties those of absent fields, unless they are known to be empty.
     #[inline(always)]
     pub(crate) fn fill<I: Input<'p>, E: Endian>(
         &mut self,
         reader: &mut Reader<I, E>,
+        is_empty: bool,
     ) -> ReadResult<()>
-        requires { self.old ≡ empty.no_state }
+        requires { is_empty ≡ true → self.old ≡ empty.no_state }
+        ensures memory { Lasts I.source reader.old →
+            HasNoLists (configuration_of (config_of reader.old)) → NeedsNoMemory (kinds result) }
         ensures call { Call I.source E.order
             (ReadsTable (λ c. sample.fields_under c sample.state_fields) groups.state_value
             groups.IsBorrowedState)
@@ -287,12 +315,31 @@ impl<'p> State<'p> {
     {
         let flags = reader.config().sample_type();
         if lacks_all(flags, STATE) {
+            self.clear(is_empty);
             return Ok(());
         }
-        fill_flagged(&mut self.raw, reader, flags, SampleFlags::RAW)?;
-        fill_flagged(&mut self.branches, reader, flags, SampleFlags::BRANCH_STACK)?;
-        fill_flagged(&mut self.regs_user, reader, flags, SampleFlags::REGS_USER)?;
-        fill_flagged(&mut self.stack_user, reader, flags, SampleFlags::STACK_USER)?;
+        fill_flagged(&mut self.raw, reader, flags, SampleFlags::RAW, is_empty)?;
+        fill_flagged(
+            &mut self.branches,
+            reader,
+            flags,
+            SampleFlags::BRANCH_STACK,
+            is_empty,
+        )?;
+        fill_flagged(
+            &mut self.regs_user,
+            reader,
+            flags,
+            SampleFlags::REGS_USER,
+            is_empty,
+        )?;
+        fill_flagged(
+            &mut self.stack_user,
+            reader,
+            flags,
+            SampleFlags::STACK_USER,
+            is_empty,
+        )?;
         Ok(())
     }
 }
@@ -304,14 +351,6 @@ pub(crate) struct Costs<'a> {
     pub(crate) data_src: Option<DataSource>,
     pub(crate) transaction: Option<Txn>,
     pub(crate) regs_intr: Option<InterruptRegisters<'a>>,
-}
-
-// The weight is present under either of two flags.
-#[inline]
-fn is_weighed(flags: SampleFlags) -> bool
-    ensures { result ≡ sample.has_one (sample_flags_bits flags) (14 ∷ 24 ∷ []) }
-{
-    flags.contains(SampleFlags::WEIGHT) || flags.contains(SampleFlags::WEIGHT_STRUCT)
 }
 
 impl<'p> Costs<'p> {
@@ -327,24 +366,31 @@ impl<'p> Costs<'p> {
         }
     }
 
-    // Empties its places.
+    // Empties its places, unless they are known to be empty.
     #[inline(always)]
-    pub(crate) fn clear(&mut self)
+    pub(crate) fn clear(&mut self, is_empty: bool)
+        requires { is_empty ≡ true → self.old ≡ empty.no_costs }
         ensures { self.new ≡ empty.no_costs }
     {
+        if is_empty {
+            return;
+        }
         self.weight = None;
         self.data_src = None;
         self.transaction = None;
-        clear_place(&mut self.regs_intr);
+        clear_place(&mut self.regs_intr, false);
     }
 
-    // Fills its places, which are empty.
+    // Fills its places, and empties those of absent fields, unless they are known to be empty.
     #[inline(always)]
     pub(crate) fn fill<I: Input<'p>, E: Endian>(
         &mut self,
         reader: &mut Reader<I, E>,
+        is_empty: bool,
     ) -> ReadResult<()>
-        requires { self.old ≡ empty.no_costs }
+        requires { is_empty ≡ true → self.old ≡ empty.no_costs }
+        ensures memory { Lasts I.source reader.old →
+            HasNoLists (configuration_of (config_of reader.old)) → NeedsNoMemory (kinds result) }
         ensures call { Call I.source E.order
             (ReadsTable (λ c. sample.fields_under c sample.cost_fields) groups.costs_value
             (λ _. ⊤))
@@ -352,17 +398,31 @@ impl<'p> Costs<'p> {
     {
         let flags = reader.config().sample_type();
         if lacks_all(flags, COSTS) {
+            self.clear(is_empty);
             return Ok(());
         }
-        fill_field_if(&mut self.weight, reader, is_weighed(flags))?;
-        fill_flagged(&mut self.data_src, reader, flags, SampleFlags::DATA_SRC)?;
+        fill_field_if(&mut self.weight, reader, is_weighed(flags), is_empty)?;
+        fill_flagged(
+            &mut self.data_src,
+            reader,
+            flags,
+            SampleFlags::DATA_SRC,
+            is_empty,
+        )?;
         fill_flagged(
             &mut self.transaction,
             reader,
             flags,
             SampleFlags::TRANSACTION,
+            is_empty,
         )?;
-        fill_flagged(&mut self.regs_intr, reader, flags, SampleFlags::REGS_INTR)?;
+        fill_flagged(
+            &mut self.regs_intr,
+            reader,
+            flags,
+            SampleFlags::REGS_INTR,
+            is_empty,
+        )?;
         Ok(())
     }
 }
@@ -391,25 +451,31 @@ impl<'p> Memory<'p> {
         }
     }
 
-    // Empties its places.
+    // Empties its places, unless they are known to be empty.
     #[inline(always)]
-    pub(crate) fn clear(&mut self)
+    pub(crate) fn clear(&mut self, is_empty: bool)
+        requires { is_empty ≡ true → self.old ≡ empty.no_memory }
         ensures { self.new ≡ empty.no_memory }
     {
+        if is_empty {
+            return;
+        }
         self.phys_addr = None;
         self.cgroup = None;
         self.data_page_size = None;
         self.code_page_size = None;
-        clear_place(&mut self.aux);
+        clear_place(&mut self.aux, false);
     }
 
-    // Fills its places, which are empty.
+    // Fills its places, and empties those of absent fields, unless they are known to be empty.
     #[inline(always)]
     pub(crate) fn fill<I: Input<'p>, E: Endian>(
         &mut self,
         reader: &mut Reader<I, E>,
+        is_empty: bool,
     ) -> ReadResult<()>
-        requires { self.old ≡ empty.no_memory }
+        requires { is_empty ≡ true → self.old ≡ empty.no_memory }
+        ensures memory { Lasts I.source reader.old → NeedsNoMemory (kinds result) }
         ensures call { Call I.source E.order
             (ReadsTable (λ c. sample.fields_under c sample.memory_fields) groups.memory_value
             groups.IsBorrowedMemory)
@@ -417,23 +483,38 @@ impl<'p> Memory<'p> {
     {
         let flags = reader.config().sample_type();
         if lacks_all(flags, MEMORY) {
+            self.clear(is_empty);
             return Ok(());
         }
-        fill_flagged(&mut self.phys_addr, reader, flags, SampleFlags::PHYS_ADDR)?;
-        fill_flagged(&mut self.cgroup, reader, flags, SampleFlags::CGROUP)?;
+        fill_flagged(
+            &mut self.phys_addr,
+            reader,
+            flags,
+            SampleFlags::PHYS_ADDR,
+            is_empty,
+        )?;
+        fill_flagged(
+            &mut self.cgroup,
+            reader,
+            flags,
+            SampleFlags::CGROUP,
+            is_empty,
+        )?;
         fill_flagged(
             &mut self.data_page_size,
             reader,
             flags,
             SampleFlags::DATA_PAGE_SIZE,
+            is_empty,
         )?;
         fill_flagged(
             &mut self.code_page_size,
             reader,
             flags,
             SampleFlags::CODE_PAGE_SIZE,
+            is_empty,
         )?;
-        fill_flagged(&mut self.aux, reader, flags, SampleFlags::AUX)?;
+        fill_flagged(&mut self.aux, reader, flags, SampleFlags::AUX, is_empty)?;
         Ok(())
     }
 }

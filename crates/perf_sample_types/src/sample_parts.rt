@@ -1,21 +1,25 @@
 //! The kinds of fields that a sample has, and how each is read.
 #![tactic(auto, using(perf_reader::proofs::Calls::chain))]
 
-ghost use Rattle.std.specs.Prelude.{◌≡◌, ⊤, ℕ, ◌<◌, ◌^◌, IsTrue};
+ghost use Rattle.std.specs.Prelude.{◌≡◌, ⊤, ℕ, ◌<◌, ◌^◌, IsTrue, true, false};
 ghost use Rattle.perf_sample_types.specs.Sample as sample;
 ghost use Rattle.perf_sample_types.specs.SampleParts as parts;
 ghost use Rattle.perf_sample_types.specs.Prelude.{Call, Reads, ReadsBorrowed, is_borrowed, kinds};
 
 use crate::branches::read_branches;
-use crate::registers::Registers;
+use crate::layout::raw_padding;
+use crate::registers::{Registers, read_registers};
 use crate::sample_field::{ReadField, SampleField};
 use bitflags::Flags;
 use perf_base::{CowSlice, Endian, ReadResult, Refusal};
 use perf_buffers::input::Input;
 use perf_reader::read::ReadFrom;
 use perf_reader::reader::Reader;
+use perf_reader::spare::spare_of;
+use perf_types::group_memory::{group_of_value, read_group_over};
 use perf_types::{ReadGroup, ReadValue};
 use perf_words::{BranchEntry, DataSource, ReadFormat, Txn};
+use std::alloc::Global;
 
 impl SampleField for u64 {
     ghost parts = { λ _. sample.plain };
@@ -23,11 +27,16 @@ impl SampleField for u64 {
     ghost value = { sample.number_is };
 
     ghost borrowed = { λ _. ⊤ };
+
+    ghost takes_list = { false };
 }
 
 impl<'p, I: Input<'p>> ReadField<'p, I> for u64 {
     #[inline]
-    fn read_field<E: Endian>(reader: &mut Reader<I, E>) -> ReadResult<Self> {
+    fn read_field<E: Endian>(
+        reader: &mut Reader<I, E>,
+        _old: &mut Option<Self>,
+    ) -> ReadResult<Self> {
         reader.read_u64()
     }
 }
@@ -38,11 +47,16 @@ impl SampleField for DataSource {
     ghost value = { sample.number_is };
 
     ghost borrowed = { λ _. ⊤ };
+
+    ghost takes_list = { false };
 }
 
 impl<'p, I: Input<'p>> ReadField<'p, I> for DataSource {
     #[inline]
-    fn read_field<E: Endian>(reader: &mut Reader<I, E>) -> ReadResult<Self> {
+    fn read_field<E: Endian>(
+        reader: &mut Reader<I, E>,
+        _old: &mut Option<Self>,
+    ) -> ReadResult<Self> {
         reader.read::<DataSource>()
     }
 }
@@ -53,11 +67,16 @@ impl SampleField for Txn {
     ghost value = { parts.transaction_value };
 
     ghost borrowed = { λ _. ⊤ };
+
+    ghost takes_list = { false };
 }
 
 impl<'p, I: Input<'p>> ReadField<'p, I> for Txn {
     #[inline]
-    fn read_field<E: Endian>(reader: &mut Reader<I, E>) -> ReadResult<Self> {
+    fn read_field<E: Endian>(
+        reader: &mut Reader<I, E>,
+        _old: &mut Option<Self>,
+    ) -> ReadResult<Self> {
         reader.read::<Txn>()
     }
 }
@@ -75,11 +94,16 @@ impl SampleField for Task {
     ghost value = { parts.task_value };
 
     ghost borrowed = { λ _. ⊤ };
+
+    ghost takes_list = { false };
 }
 
 impl<'p, I: Input<'p>> ReadField<'p, I> for Task {
     #[inline]
-    fn read_field<E: Endian>(reader: &mut Reader<I, E>) -> ReadResult<Self> {
+    fn read_field<E: Endian>(
+        reader: &mut Reader<I, E>,
+        _old: &mut Option<Self>,
+    ) -> ReadResult<Self> {
         let pid = reader.read_u32()?;
         let tid = reader.read_u32()?;
         Ok(Task {
@@ -99,11 +123,16 @@ impl SampleField for Cpu {
     ghost value = { parts.cpu_value };
 
     ghost borrowed = { λ _. ⊤ };
+
+    ghost takes_list = { false };
 }
 
 impl<'p, I: Input<'p>> ReadField<'p, I> for Cpu {
     #[inline]
-    fn read_field<E: Endian>(reader: &mut Reader<I, E>) -> ReadResult<Self> {
+    fn read_field<E: Endian>(
+        reader: &mut Reader<I, E>,
+        _old: &mut Option<Self>,
+    ) -> ReadResult<Self> {
         let number = reader.read_u32()?;
         reader.skip(4)?;
         Ok(Cpu(number))
@@ -120,23 +149,30 @@ impl SampleField for CallChain<'_> {
     ghost value = { parts.call_chain_value };
 
     ghost borrowed = { λ _. ⊤ };
+
+    ghost takes_list = { true };
+}
+
+// The memory of a call chain's addresses. The place is emptied.
+#[inline(always)]
+fn spare_addresses(alloc: Global, old: &mut Option<CallChain<'_>>) -> Vec<u64> {
+    match old.take() {
+        Some(chain) => spare_of(alloc, Some(chain.0)),
+        None => Vec::new(alloc),
+    }
 }
 
 impl<'p, I: Input<'p>> ReadField<'p, I> for CallChain<'p> {
     #[inline]
-    fn read_field<E: Endian>(reader: &mut Reader<I, E>) -> ReadResult<Self> {
+    fn read_field<E: Endian>(
+        reader: &mut Reader<I, E>,
+        old: &mut Option<Self>,
+    ) -> ReadResult<Self> {
         let count = reader.read_u64()?;
-        let addresses = reader.read_numbers(count as usize)?;
+        let spare = spare_addresses(reader.alloc(), old);
+        let addresses = reader.read_numbers_over(spare, count as usize)?;
         Ok(CallChain(CowSlice::Owned(addresses)))
     }
-}
-
-// How many bytes pad raw bytes, with the four of their length, to a multiple of eight.
-#[inline]
-fn raw_padding(len: usize) -> usize
-    ensures { result ≡ sample.raw_padding len }
-{
-    (12 - len % 8) % 8
 }
 
 // Bytes that the event wrote.
@@ -149,11 +185,16 @@ impl SampleField for RawData<'_> {
     ghost value = { parts.raw_value };
 
     ghost borrowed = { λ raw. IsTrue (is_borrowed raw.0) };
+
+    ghost takes_list = { false };
 }
 
 impl<'p, I: Input<'p>> ReadField<'p, I> for RawData<'p> {
     #[inline]
-    fn read_field<E: Endian>(reader: &mut Reader<I, E>) -> ReadResult<Self> {
+    fn read_field<E: Endian>(
+        reader: &mut Reader<I, E>,
+        _old: &mut Option<Self>,
+    ) -> ReadResult<Self> {
         let len = reader.read_u32()? as usize;
         let bytes = reader.read_bytes(len)?;
         reader.skip(raw_padding(len))?;
@@ -175,16 +216,31 @@ impl SampleField for Branches<'_> {
     ghost value = { parts.branches_value };
 
     ghost borrowed = { λ _. ⊤ };
+
+    ghost takes_list = { true };
+}
+
+// The memory of branches. The place is emptied.
+#[inline(always)]
+fn spare_branches(alloc: Global, old: &mut Option<Branches<'_>>) -> Vec<BranchEntry> {
+    match old.take() {
+        Some(branches) => spare_of(alloc, branches.entries),
+        None => Vec::new(alloc),
+    }
 }
 
 impl<'p, I: Input<'p>> ReadField<'p, I> for Branches<'p> {
     #[inline]
     #[tactic(auto, using(crate::proofs::BranchLists::branch_reads), unfolding(crate::specs::Sample::branch_stack))]
-    fn read_field<E: Endian>(reader: &mut Reader<I, E>) -> ReadResult<Self> {
+    fn read_field<E: Endian>(
+        reader: &mut Reader<I, E>,
+        old: &mut Option<Self>,
+    ) -> ReadResult<Self> {
         let count = reader.read_u64()?;
         let with_index = reader.config().branch_hw_index();
         let hw_index = reader.read_u64_if(with_index)?;
-        let entries = read_branches(reader, count as usize)?;
+        let spare = spare_branches(reader.alloc(), old);
+        let entries = read_branches(reader, spare, count as usize)?;
         Ok(Branches {
             hw_index,
             entries: Some(CowSlice::Owned(entries)),
@@ -202,11 +258,16 @@ impl SampleField for Stack<'_> {
     ghost value = { parts.stack_value };
 
     ghost borrowed = { λ stack. IsTrue (is_borrowed stack.0) };
+
+    ghost takes_list = { false };
 }
 
 impl<'p, I: Input<'p>> ReadField<'p, I> for Stack<'p> {
     #[inline]
-    fn read_field<E: Endian>(reader: &mut Reader<I, E>) -> ReadResult<Self> {
+    fn read_field<E: Endian>(
+        reader: &mut Reader<I, E>,
+        _old: &mut Option<Self>,
+    ) -> ReadResult<Self> {
         let size = reader.read_u64()?;
         let mut bytes = reader.read_bytes(size as usize)?;
         let used_len = reader.read_u64_if(size > 0)?.unwrap_or(0);
@@ -228,11 +289,16 @@ impl SampleField for AuxBytes<'_> {
     ghost value = { parts.aux_area_value };
 
     ghost borrowed = { λ aux. IsTrue (is_borrowed aux.0) };
+
+    ghost takes_list = { false };
 }
 
 impl<'p, I: Input<'p>> ReadField<'p, I> for AuxBytes<'p> {
     #[inline]
-    fn read_field<E: Endian>(reader: &mut Reader<I, E>) -> ReadResult<Self> {
+    fn read_field<E: Endian>(
+        reader: &mut Reader<I, E>,
+        _old: &mut Option<Self>,
+    ) -> ReadResult<Self> {
         let size = reader.read_u64()?;
         let bytes = reader.read_bytes(size as usize)?;
         Ok(AuxBytes(bytes))
@@ -249,14 +315,29 @@ impl SampleField for UserRegisters<'_> {
     ghost value = { parts.user_value };
 
     ghost borrowed = { λ _. ⊤ };
+
+    ghost takes_list = { true };
+}
+
+// The memory of their values. The place is emptied.
+#[inline(always)]
+fn spare_user_values(alloc: Global, old: &mut Option<UserRegisters<'_>>) -> Vec<u64> {
+    match old.take() {
+        Some(registers) => spare_of(alloc, Some(registers.0.regs)),
+        None => Vec::new(alloc),
+    }
 }
 
 impl<'p, I: Input<'p>> ReadField<'p, I> for UserRegisters<'p> {
     #[inline]
     #[tactic(auto, using(perf_reader::proofs::Calls::chain), unfolding(crate::specs::Sample::registers))]
-    fn read_field<E: Endian>(reader: &mut Reader<I, E>) -> ReadResult<Self> {
+    fn read_field<E: Endian>(
+        reader: &mut Reader<I, E>,
+        old: &mut Option<Self>,
+    ) -> ReadResult<Self> {
         let mask = reader.config().regs_user();
-        Ok(UserRegisters(Registers::read_by(reader, mask)?))
+        let spare = spare_user_values(reader.alloc(), old);
+        Ok(UserRegisters(read_registers(reader, mask, spare)?))
     }
 }
 
@@ -270,14 +351,29 @@ impl SampleField for InterruptRegisters<'_> {
     ghost value = { parts.interrupt_value };
 
     ghost borrowed = { λ _. ⊤ };
+
+    ghost takes_list = { true };
+}
+
+// The memory of their values. The place is emptied.
+#[inline(always)]
+fn spare_interrupt_values(alloc: Global, old: &mut Option<InterruptRegisters<'_>>) -> Vec<u64> {
+    match old.take() {
+        Some(registers) => spare_of(alloc, Some(registers.0.regs)),
+        None => Vec::new(alloc),
+    }
 }
 
 impl<'p, I: Input<'p>> ReadField<'p, I> for InterruptRegisters<'p> {
     #[inline]
     #[tactic(auto, using(perf_reader::proofs::Calls::chain), unfolding(crate::specs::Sample::registers))]
-    fn read_field<E: Endian>(reader: &mut Reader<I, E>) -> ReadResult<Self> {
+    fn read_field<E: Endian>(
+        reader: &mut Reader<I, E>,
+        old: &mut Option<Self>,
+    ) -> ReadResult<Self> {
         let mask = reader.config().regs_intr();
-        Ok(InterruptRegisters(Registers::read_by(reader, mask)?))
+        let spare = spare_interrupt_values(reader.alloc(), old);
+        Ok(InterruptRegisters(read_registers(reader, mask, spare)?))
     }
 }
 
@@ -287,19 +383,24 @@ impl SampleField for ReadGroup<'_> {
     ghost value = { parts.group_value };
 
     ghost borrowed = { λ _. ⊤ };
+
+    ghost takes_list = { true };
 }
 
 impl<'p, I: Input<'p>> ReadField<'p, I> for ReadGroup<'p> {
     #[tactic(auto, using(perf_types::proofs::Flags::read_flags, perf_reader::proofs::Calls::chain), unfolding(crate::specs::Sample::values))]
-    fn read_field<E: Endian>(reader: &mut Reader<I, E>) -> ReadResult<Self> {
+    fn read_field<E: Endian>(
+        reader: &mut Reader<I, E>,
+        old: &mut Option<Self>,
+    ) -> ReadResult<Self> {
         if reader.config().read_format().contains(ReadFormat::GROUP) {
-            return match ReadGroup::read(reader) {
+            return match read_group_over(reader, old.take()) {
                 Ok(group) => Ok(group),
                 Err(refusal) => Err(refusal),
             };
         }
         let value = ReadValue::read(reader)?;
-        match ReadGroup::from_value(reader.alloc(), value) {
+        match group_of_value(reader.alloc(), old.take(), value) {
             Ok(group) => Ok(group),
             Err(_) => Err(Refusal::OutOfMemory),
         }

@@ -10,6 +10,7 @@ pub mod exit;
 pub mod group_entry;
 pub mod group_iter;
 pub mod group_laws;
+pub mod group_memory;
 mod hex;
 pub mod itrace_start;
 pub mod ksymbol;

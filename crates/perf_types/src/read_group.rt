@@ -1,6 +1,6 @@
 //! The read of a group of counters.
 
-ghost use Rattle.std.specs.Prelude.{◌≡◌, ◌%◌, length};
+ghost use Rattle.std.specs.Prelude.{◌≡◌, ◌%◌, ◌≤◌, length, vec_capacity};
 ghost use Rattle.perf_base.specs.Cow.{cow_items};
 ghost use Rattle.perf_types.specs.GroupEntry.{block_len};
 
@@ -72,11 +72,25 @@ impl<'a> ReadGroup<'a> {
         ensures owned { IfOk result (λ group. IsTrue (not (is_borrowed_group group))) }
         ensures refused { IfErr result (λ e. kind_of e ≡ ErrorKind.OutOfMemory) }
     {
-        let words = match (value.id(), value.lost()) {
-            (None, None) => Vec::from_slice(alloc, &[value.value()])?,
-            (Some(id), None) => Vec::from_slice(alloc, &[value.value(), id])?,
-            (None, Some(lost)) => Vec::from_slice(alloc, &[value.value(), lost])?,
-            (Some(id), Some(lost)) => Vec::from_slice(alloc, &[value.value(), id, lost])?,
+        ReadGroup::from_value_over(Vec::new(alloc), value)
+    }
+
+    // The same, in the memory of a list that is not needed any more.
+    pub(crate) fn from_value_over(
+        mut words: Vec<u64>,
+        value: ReadValue,
+    ) -> ParseResult<ReadGroup<'a>>
+        ensures same { IfOk result (λ group. group_read group ≡ group_of (single_read value)) }
+        ensures owned { IfOk result (λ group. IsTrue (not (is_borrowed_group group))) }
+        ensures enough { 3 ≤ vec_capacity words → IsOk result }
+        ensures refused { IfErr result (λ e. kind_of e ≡ ErrorKind.OutOfMemory) }
+    {
+        words.clear();
+        match (value.id(), value.lost()) {
+            (None, None) => words.extend_from_slice(&[value.value()])?,
+            (Some(id), None) => words.extend_from_slice(&[value.value(), id])?,
+            (None, Some(lost)) => words.extend_from_slice(&[value.value(), lost])?,
+            (Some(id), Some(lost)) => words.extend_from_slice(&[value.value(), id, lost])?,
         };
         Ok(ReadGroup {
             time_enabled: value.time_enabled(),
@@ -213,22 +227,27 @@ impl<'a> ReadGroup<'a> {
             words: words.into_owned(alloc)?,
         })
     }
+
+    // The numbers of its entries, where they are.
+    #[inline]
+    pub(crate) fn into_words(self) -> CowSlice<'a, u64> {
+        self.words
+    }
 }
 
-impl HasTransition for ReadGroup<'_> {
-    ghost use Rattle.perf_reader.specs.Prelude.{Reads};
+impl<'p> ReadGroup<'p> {
+    ghost use Rattle.perf_types.specs.Prelude.{Call, Reads, kinds};
     ghost use Rattle.perf_types.specs.ReadGroup.{read_group, group_read};
 
-    ghost transition = { Reads read_group group_read };
-}
-
-/// A read format without a group is [`Refusal::GroupRead`], and one with unknown flags is
-/// [`Refusal::ReadFormat`], both before the count. A list of more numbers than can be counted is
-/// [`Refusal::GroupLength`], after the times. Nothing is allocated from a claimed count alone, and
-/// a list needs no memory if the input reports that it has fewer.
-impl<'p, I: Input<'p>> ReadFrom<'p, I> for ReadGroup<'p> {
+    // Reads a group into the memory of a list that is not needed any more.
     #[tactic(auto, using(crate::proofs::Blocks::group_reads))]
-    fn read<E: Endian>(reader: &mut Reader<I, E>) -> ReadResult<Self> {
+    pub(crate) fn read_over<I: Input<'p>, E: Endian>(
+        reader: &mut Reader<I, E>,
+        spare: Vec<u64>,
+    ) -> ReadResult<ReadGroup<'p>>
+        ensures call { Call I.source E.order (Reads read_group group_read)
+            reader.old (kinds result) reader.new }
+    {
         let format = reader.config().read_format();
         if !format.contains(ReadFormat::GROUP) {
             return Err(Refusal::GroupRead);
@@ -243,7 +262,7 @@ impl<'p, I: Input<'p>> ReadFrom<'p, I> for ReadGroup<'p> {
             Some(len) => len,
             None => return Err(Refusal::GroupLength),
         };
-        let words = reader.read_numbers(len)?;
+        let words = reader.read_numbers_over(spare, len)?;
         Ok(ReadGroup {
             time_enabled,
             time_running,
@@ -251,5 +270,22 @@ impl<'p, I: Input<'p>> ReadFrom<'p, I> for ReadGroup<'p> {
             with_lost: format.contains(ReadFormat::LOST),
             words: CowSlice::Owned(words),
         })
+    }
+}
+
+impl HasTransition for ReadGroup<'_> {
+    ghost use Rattle.perf_reader.specs.Prelude.{Reads};
+    ghost use Rattle.perf_types.specs.ReadGroup.{read_group, group_read};
+
+    ghost transition = { Reads read_group group_read };
+}
+
+/// A read format without a group is [`Refusal::GroupRead`], and one with unknown flags is
+/// [`Refusal::ReadFormat`], both before the count. A list of more numbers than can be counted is
+/// [`Refusal::GroupLength`], after the times. Nothing is allocated from a claimed count alone, and
+/// a list needs no memory if the input reports that it has fewer.
+impl<'p, I: Input<'p>> ReadFrom<'p, I> for ReadGroup<'p> {
+    fn read<E: Endian>(reader: &mut Reader<I, E>) -> ReadResult<Self> {
+        ReadGroup::read_over(reader, Vec::new(reader.alloc()))
     }
 }

@@ -45,3 +45,9 @@ returns-clause-cost g c = λ reads.
     let told : IsTrue old.source.told = subst (λ (s : Source). IsTrue s.told) (sym same) c.requires.told in
     let k = ((c.read_body-output.ensures.call reads).keeps old (keeps_none old)).cost told in
     inside_pays c.into_reads.result c.read_body-output.new.reader.reads c.new-reader.result.reads (length from.left) (length old.source.left) _ _ c.into_reads.ensures n.reads (ap (λ (s : Source). length s.left) same) k.1
+
+pub returns-clause-memory : goal.returns-clause-memory
+returns-clause-memory g c = λ plain whole.
+    let n = c.new-reader.ensures in
+    c.read_body-output.ensures.memory (subst (λ k. g.M.OfBody.plain (configuration_of k)) (sym n.config) plain)
+    (subst (λ i. IsTrue (g.I.Input.source i).whole) (sym n.input) whole)

@@ -16,5 +16,5 @@ returns-in-Err g c =
     let same = c.error_of.ensures in
     let mask : c.regs_intr-mask.result ≡ (configuration_of (config_of c.args.parser.now)).regs_intr = c.regs_intr-mask.ensures ∙ ap (λ k. (configuration_of k).regs_intr) c.config.ensures in
     record {
-      call = answered _ _ _ _ _ c.read_by.new.reader _ _ (by_mask _ _ _ _ _ _ (λ (k : Configuration). k.regs_intr) mask c.in-Err.ensures.call) same.error.kind_is same.buf same.config same.reads;
+      call = answered _ _ _ _ _ c.read_registers.new.reader _ _ (by_mask _ _ _ _ _ _ (λ (k : Configuration). k.regs_intr) mask c.in-Err.ensures.call) same.error.kind_is same.buf same.config same.reads;
     }

@@ -12,6 +12,7 @@ loop-block-init g c =
       row_cast s o 0 (length c.args.numbers.items) c.args.self.now c.args.self.now [] c.args.numbers.items (sym none)
           (sym c.requires) (row_none s o c.args.self.now),
       refl,
+      omega arith,
     )
 
 pub overflow_sub-count : goal.overflow_sub-count
@@ -80,6 +81,7 @@ loop-block-preserved g c =
           (row_further s o (length ys) n c.args.self.now c.loop-block.self c.read_block.new.self ys zs c.loop-block.invariant.1
           (row_seen s o (λ (none : Unit {0}). zs) n c.loop-block.self c.read_block.new.self c.in-Ok.field-0 c.in-Ok.ensures.call)),
       filled zs block n more k (omega (arith, c.min-more.ensures)) c.read_block.auto.numbers c.loop-block.invariant.2,
+      omega (arith, c.loop-block.invariant.3, c.extend_from_slice.ensures.capacity),
     )
 
 pub returns-clause-length : goal.returns-clause-length

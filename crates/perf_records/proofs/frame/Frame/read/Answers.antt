@@ -1,5 +1,6 @@
 use Rattle.std.proofs.Common.{◌≡◌, ℕ, ◌+◌, ◌≤◌, List, Bool, length, take, arith, refl, sym, ◌∙◌, ap, subst}
 use Rattle.std.proofs.lemmas.List.{length-take-le}
+use Rattle.std.specs.Prelude.{IsTrue}
 use Rattle.perf_base.specs.Configuration.{Configuration, under_misc}
 use Rattle.perf_base.specs.Configured.{configuration_of, endian_of}
 use Rattle.perf_base.specs.Order.{Order}
@@ -44,3 +45,11 @@ returns-clause-answer g c = λ reads.
     bytes_visited gives h settings (configuration_of under) order (g.E.Endian.order (endian_of under).now) frame borrowed parts end.reads made c.add.new.self output
     c.args.self.sized c.args.self.whole i.room are i.reads i.bound
     (c.set_misc.ensures.changed ∙ ap (under_misc h.misc) c.lent-under.ensures.same) (ap (λ e. g.E.Endian.order e.now) c.set_misc.ensures.endian ∙ ap g.E.Endian.order c.lent-under.ensures.order) visits (r.faults mine) cost c.add.ensures
+
+-- the body's bytes live as long as the frame's
+pub returns-clause-memory : goal.returns-clause-memory
+returns-clause-memory g c = λ plain lasts.
+    let h = c.args.self.header in
+    let settings : Configuration = configuration_of c.args.config.now in
+    let same : configuration_of c.set_misc.new.self ≡ under_misc h.misc settings = c.set_misc.ensures.changed ∙ ap (under_misc h.misc) c.lent-under.ensures.same in
+    c.read-output.ensures.memory (subst g.M.OfBody.plain (sym same) plain) (subst IsTrue (sym c.first.ensures.borrowed) lasts)

@@ -5,14 +5,15 @@ use Rattle.perf_reader.proofs.RequestedParts.{fields_give, of_row}
 use Rattle.perf_types.proofs.Readings.{came_up}
 use Rattle.perf_sample_types.proofs.AbsentGroups.{absent_costs}
 use Rattle.perf_sample_types.proofs.FlaggedFields.{flags_after, flags_stop, flag_after, flag_stops}
+use Rattle.perf_sample_types.proofs.ListFlags.{lasts_after, no_regs_intr}
 use Rattle.perf_sample_types.specs.Sample.{has_one}
 use Rattle.perf_sample_types.proofs.sample_groups.Costs.fill.Goals as goal
 
 -- no field is present
 pub returns-then-lacks_all : goal.returns-then-lacks_all
 returns-then-lacks_all g c =
-    let asked : sample_flags_bits c.sample_type-flags.result ≡ (configuration_of c.args.reader.now.config).sample_type = c.sample_type-flags.ensures ∙ ap (λ k. (configuration_of k).sample_type) c.config.ensures in rw c.requires (
-    record { call = absent_costs _ asked c.lacks_all.ensures c.if-lacks_all.true })
+    let asked : sample_flags_bits c.sample_type-flags.result ≡ (configuration_of c.args.reader.now.config).sample_type = c.sample_type-flags.ensures ∙ ap (λ k. (configuration_of k).sample_type) c.config.ensures in rw c.clear.ensures (
+    record { memory = λ lasts none. tt; call = absent_costs _ asked c.lacks_all.ensures c.if-lacks_all.true })
 
 pub returns-in_err-fill_field_if : goal.returns-in_err-fill_field_if
 returns-in_err-fill_field_if g c =
@@ -22,6 +23,7 @@ returns-in_err-fill_field_if g c =
     record {
       call = of_row _ _ _ (λ t w. tt) (
           flags_stop _ _ (14 ∷ 24 ∷ []) _ _ _ (λ left m. refl) refl weighed c.in_err-fill_field_if.ensures.call);
+      memory = λ lasts none. c.in_err-fill_field_if.ensures.memory lasts (λ set. refl);
     })
 
 pub returns-in_err-fill_flagged : goal.returns-in_err-fill_flagged
@@ -33,6 +35,7 @@ returns-in_err-fill_flagged g c =
       call = of_row _ _ _ (λ t w. tt) (
           flags_after _ _ (14 ∷ 24 ∷ []) _ _ _ refl weighed c.in_ok-fill_field_if.ensures.call (λ kept.
           flag_stops _ _ 15 _ _ (λ left m. refl) kept asked c.in_err-fill_flagged.ensures.call));
+      memory = λ lasts none. c.in_err-fill_flagged.ensures.memory (lasts_after c.in_ok-fill_field_if.ensures.call lasts) (λ set. refl);
     })
 
 pub returns-in_err-fill_flagged-2 : goal.returns-in_err-fill_flagged-2
@@ -45,6 +48,7 @@ returns-in_err-fill_flagged-2 g c =
           flags_after _ _ (14 ∷ 24 ∷ []) _ _ _ refl weighed c.in_ok-fill_field_if.ensures.call (λ kept.
           flag_after _ _ 15 _ _ kept asked c.in_ok-fill_flagged.ensures.call (λ kept.
           flag_stops _ _ 17 _ _ (λ left m. refl) kept asked c.in_err-fill_flagged-2.ensures.call)));
+      memory = λ lasts none. c.in_err-fill_flagged-2.ensures.memory (lasts_after c.in_ok-fill_flagged.ensures.call (lasts_after c.in_ok-fill_field_if.ensures.call lasts)) (λ set. refl);
     })
 
 pub returns-in_err-fill_flagged-3 : goal.returns-in_err-fill_flagged-3
@@ -58,6 +62,7 @@ returns-in_err-fill_flagged-3 g c =
           flag_after _ _ 15 _ _ kept asked c.in_ok-fill_flagged.ensures.call (λ kept.
           flag_after _ _ 17 _ _ kept asked c.in_ok-fill_flagged-2.ensures.call (λ kept.
           flag_stops _ _ 18 _ _ (λ left m. refl) kept asked c.in_err-fill_flagged-3.ensures.call))));
+      memory = λ lasts none. c.in_err-fill_flagged-3.ensures.memory (lasts_after c.in_ok-fill_flagged-2.ensures.call (lasts_after c.in_ok-fill_flagged.ensures.call (lasts_after c.in_ok-fill_field_if.ensures.call lasts))) (no_regs_intr asked none);
     })
 
 pub returns : goal.returns
@@ -71,4 +76,5 @@ returns g c =
           flag_after _ _ 17 _ _ kept asked c.in_ok-fill_flagged-2.ensures.call (λ kept.
           flag_after _ _ 18 _ _ kept asked c.in_ok-fill_flagged-3.ensures.call (λ kept.
           fields_give _ _ (λ left m. refl))))));
+      memory = λ lasts none. tt;
     }

@@ -4,6 +4,7 @@ use Rattle.perf_base.specs.Configured.{configuration_of}
 use Rattle.perf_reader.proofs.RequestedParts.{fields_give, of_row}
 use Rattle.perf_types.proofs.Readings.{came_up}
 use Rattle.perf_sample_types.proofs.FlaggedFields.{flag_after, flag_stops}
+use Rattle.perf_sample_types.proofs.ListFlags.{lasts_after, no_call_chain, no_values}
 use Rattle.perf_sample_types.proofs.sample_groups.Counts.fill.Goals as goal
 
 pub returns-in_err-fill_flagged : goal.returns-in_err-fill_flagged
@@ -13,6 +14,7 @@ returns-in_err-fill_flagged g c =
     record {
       call = of_row _ _ _ (λ t w. tt) (
           flag_stops _ _ 4 _ _ (λ left m. refl) refl asked c.in_err-fill_flagged.ensures.call);
+      memory = λ lasts none. c.in_err-fill_flagged.ensures.memory lasts (no_values asked none);
     })
 
 pub returns-in_err-fill_flagged-2 : goal.returns-in_err-fill_flagged-2
@@ -23,6 +25,7 @@ returns-in_err-fill_flagged-2 g c =
       call = of_row _ _ _ (λ t w. tt) (
           flag_after _ _ 4 _ _ refl asked c.in_ok-fill_flagged.ensures.call (λ kept.
           flag_stops _ _ 5 _ _ (λ left m. refl) kept asked c.in_err-fill_flagged-2.ensures.call));
+      memory = λ lasts none. c.in_err-fill_flagged-2.ensures.memory (lasts_after c.in_ok-fill_flagged.ensures.call lasts) (no_call_chain asked none);
     })
 
 pub returns : goal.returns
@@ -33,4 +36,5 @@ returns g c =
           flag_after _ _ 4 _ _ refl asked c.in_ok-fill_flagged.ensures.call (λ kept.
           flag_after _ _ 5 _ _ kept asked c.in_ok-fill_flagged-2.ensures.call (λ kept.
           fields_give _ _ (λ left m. refl))));
+      memory = λ lasts none. tt;
     }

@@ -6,13 +6,14 @@ use Rattle.perf_reader.proofs.RequestedParts.{fields_give, of_row}
 use Rattle.perf_types.proofs.Readings.{came_up}
 use Rattle.perf_sample_types.proofs.AbsentGroups.{absent_memory}
 use Rattle.perf_sample_types.proofs.FlaggedFields.{flag_after, flag_stops}
+use Rattle.perf_sample_types.proofs.ListFlags.{lasts_after}
 use Rattle.perf_sample_types.proofs.sample_groups.Memory.fill.Goals as goal
 
 -- no field is present
 pub returns-then-lacks_all : goal.returns-then-lacks_all
 returns-then-lacks_all g c =
-    let asked : sample_flags_bits c.sample_type-flags.result ≡ (configuration_of c.args.reader.now.config).sample_type = c.sample_type-flags.ensures ∙ ap (λ k. (configuration_of k).sample_type) c.config.ensures in rw c.requires (
-    record { call = absent_memory _ asked c.lacks_all.ensures c.if-lacks_all.true })
+    let asked : sample_flags_bits c.sample_type-flags.result ≡ (configuration_of c.args.reader.now.config).sample_type = c.sample_type-flags.ensures ∙ ap (λ k. (configuration_of k).sample_type) c.config.ensures in rw c.clear.ensures (
+    record { memory = λ lasts. tt; call = absent_memory _ asked c.lacks_all.ensures c.if-lacks_all.true })
 
 pub returns-in_err-fill_flagged : goal.returns-in_err-fill_flagged
 returns-in_err-fill_flagged g c =
@@ -21,6 +22,7 @@ returns-in_err-fill_flagged g c =
     record {
       call = of_row _ _ _ (λ t w. tt) (
           flag_stops _ _ 19 _ _ (λ left m. refl) refl asked c.in_err-fill_flagged.ensures.call);
+      memory = λ lasts. c.in_err-fill_flagged.ensures.memory lasts (λ set. refl);
     })
 
 pub returns-in_err-fill_flagged-2 : goal.returns-in_err-fill_flagged-2
@@ -31,6 +33,7 @@ returns-in_err-fill_flagged-2 g c =
       call = of_row _ _ _ (λ t w. tt) (
           flag_after _ _ 19 _ _ refl asked c.in_ok-fill_flagged.ensures.call (λ kept.
           flag_stops _ _ 21 _ _ (λ left m. refl) kept asked c.in_err-fill_flagged-2.ensures.call));
+      memory = λ lasts. c.in_err-fill_flagged-2.ensures.memory (lasts_after c.in_ok-fill_flagged.ensures.call lasts) (λ set. refl);
     })
 
 pub returns-in_err-fill_flagged-3 : goal.returns-in_err-fill_flagged-3
@@ -42,6 +45,7 @@ returns-in_err-fill_flagged-3 g c =
           flag_after _ _ 19 _ _ refl asked c.in_ok-fill_flagged.ensures.call (λ kept.
           flag_after _ _ 21 _ _ kept asked c.in_ok-fill_flagged-2.ensures.call (λ kept.
           flag_stops _ _ 22 _ _ (λ left m. refl) kept asked c.in_err-fill_flagged-3.ensures.call)));
+      memory = λ lasts. c.in_err-fill_flagged-3.ensures.memory (lasts_after c.in_ok-fill_flagged-2.ensures.call (lasts_after c.in_ok-fill_flagged.ensures.call lasts)) (λ set. refl);
     })
 
 pub returns-in_err-fill_flagged-4 : goal.returns-in_err-fill_flagged-4
@@ -54,6 +58,7 @@ returns-in_err-fill_flagged-4 g c =
           flag_after _ _ 21 _ _ kept asked c.in_ok-fill_flagged-2.ensures.call (λ kept.
           flag_after _ _ 22 _ _ kept asked c.in_ok-fill_flagged-3.ensures.call (λ kept.
           flag_stops _ _ 23 _ _ (λ left m. refl) kept asked c.in_err-fill_flagged-4.ensures.call))));
+      memory = λ lasts. c.in_err-fill_flagged-4.ensures.memory (lasts_after c.in_ok-fill_flagged-3.ensures.call (lasts_after c.in_ok-fill_flagged-2.ensures.call (lasts_after c.in_ok-fill_flagged.ensures.call lasts))) (λ set. refl);
     })
 
 pub returns-in_err-fill_flagged-5 : goal.returns-in_err-fill_flagged-5
@@ -67,6 +72,7 @@ returns-in_err-fill_flagged-5 g c =
           flag_after _ _ 22 _ _ kept asked c.in_ok-fill_flagged-3.ensures.call (λ kept.
           flag_after _ _ 23 _ _ kept asked c.in_ok-fill_flagged-4.ensures.call (λ kept.
           flag_stops _ _ 20 _ _ (λ left m. refl) kept asked c.in_err-fill_flagged-5.ensures.call)))));
+      memory = λ lasts. c.in_err-fill_flagged-5.ensures.memory (lasts_after c.in_ok-fill_flagged-4.ensures.call (lasts_after c.in_ok-fill_flagged-3.ensures.call (lasts_after c.in_ok-fill_flagged-2.ensures.call (lasts_after c.in_ok-fill_flagged.ensures.call lasts)))) (λ set. refl);
     })
 
 pub returns : goal.returns
@@ -80,4 +86,5 @@ returns g c =
           flag_after _ _ 23 _ _ kept asked c.in_ok-fill_flagged-4.ensures.call (λ kept.
           flag_after _ _ 20 _ _ kept asked c.in_ok-fill_flagged-5.ensures.call (λ kept.
           fields_give _ _ (λ left m. refl)))))));
+      memory = λ lasts. tt;
     }

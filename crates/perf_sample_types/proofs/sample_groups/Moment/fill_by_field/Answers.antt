@@ -4,6 +4,7 @@ use Rattle.perf_base.specs.Configured.{configuration_of}
 use Rattle.perf_reader.proofs.RequestedParts.{fields_give, of_row}
 use Rattle.perf_types.proofs.Readings.{came_up}
 use Rattle.perf_sample_types.proofs.FlaggedFields.{flag_after, flag_stops}
+use Rattle.perf_sample_types.proofs.ListFlags.{lasts_after}
 use Rattle.perf_sample_types.proofs.sample_groups.Moment.fill_by_field.Goals as goal
 
 pub returns-in_err-fill_flagged : goal.returns-in_err-fill_flagged
@@ -13,6 +14,7 @@ returns-in_err-fill_flagged g c =
     record {
       call = of_row _ _ _ (λ t w. tt) (
           flag_stops _ _ 16 _ _ (λ left m. refl) refl asked c.in_err-fill_flagged.ensures.call);
+      memory = λ lasts. c.in_err-fill_flagged.ensures.memory lasts (λ set. refl);
     })
 
 pub returns-in_err-fill_flagged-2 : goal.returns-in_err-fill_flagged-2
@@ -23,6 +25,7 @@ returns-in_err-fill_flagged-2 g c =
       call = of_row _ _ _ (λ t w. tt) (
           flag_after _ _ 16 _ _ refl asked c.in_ok-fill_flagged.ensures.call (λ kept.
           flag_stops _ _ 0 _ _ (λ left m. refl) kept asked c.in_err-fill_flagged-2.ensures.call));
+      memory = λ lasts. c.in_err-fill_flagged-2.ensures.memory (lasts_after c.in_ok-fill_flagged.ensures.call lasts) (λ set. refl);
     })
 
 pub returns-in_err-fill_flagged-3 : goal.returns-in_err-fill_flagged-3
@@ -34,6 +37,7 @@ returns-in_err-fill_flagged-3 g c =
           flag_after _ _ 16 _ _ refl asked c.in_ok-fill_flagged.ensures.call (λ kept.
           flag_after _ _ 0 _ _ kept asked c.in_ok-fill_flagged-2.ensures.call (λ kept.
           flag_stops _ _ 1 _ _ (λ left m. refl) kept asked c.in_err-fill_flagged-3.ensures.call)));
+      memory = λ lasts. c.in_err-fill_flagged-3.ensures.memory (lasts_after c.in_ok-fill_flagged-2.ensures.call (lasts_after c.in_ok-fill_flagged.ensures.call lasts)) (λ set. refl);
     })
 
 pub returns-in_err-fill_flagged-4 : goal.returns-in_err-fill_flagged-4
@@ -46,6 +50,7 @@ returns-in_err-fill_flagged-4 g c =
           flag_after _ _ 0 _ _ kept asked c.in_ok-fill_flagged-2.ensures.call (λ kept.
           flag_after _ _ 1 _ _ kept asked c.in_ok-fill_flagged-3.ensures.call (λ kept.
           flag_stops _ _ 2 _ _ (λ left m. refl) kept asked c.in_err-fill_flagged-4.ensures.call))));
+      memory = λ lasts. c.in_err-fill_flagged-4.ensures.memory (lasts_after c.in_ok-fill_flagged-3.ensures.call (lasts_after c.in_ok-fill_flagged-2.ensures.call (lasts_after c.in_ok-fill_flagged.ensures.call lasts))) (λ set. refl);
     })
 
 pub returns-in_err-fill_flagged-5 : goal.returns-in_err-fill_flagged-5
@@ -59,6 +64,7 @@ returns-in_err-fill_flagged-5 g c =
           flag_after _ _ 1 _ _ kept asked c.in_ok-fill_flagged-3.ensures.call (λ kept.
           flag_after _ _ 2 _ _ kept asked c.in_ok-fill_flagged-4.ensures.call (λ kept.
           flag_stops _ _ 3 _ _ (λ left m. refl) kept asked c.in_err-fill_flagged-5.ensures.call)))));
+      memory = λ lasts. c.in_err-fill_flagged-5.ensures.memory (lasts_after c.in_ok-fill_flagged-4.ensures.call (lasts_after c.in_ok-fill_flagged-3.ensures.call (lasts_after c.in_ok-fill_flagged-2.ensures.call (lasts_after c.in_ok-fill_flagged.ensures.call lasts)))) (λ set. refl);
     })
 
 pub returns-in_err-fill_flagged-6 : goal.returns-in_err-fill_flagged-6
@@ -73,6 +79,7 @@ returns-in_err-fill_flagged-6 g c =
           flag_after _ _ 2 _ _ kept asked c.in_ok-fill_flagged-4.ensures.call (λ kept.
           flag_after _ _ 3 _ _ kept asked c.in_ok-fill_flagged-5.ensures.call (λ kept.
           flag_stops _ _ 6 _ _ (λ left m. refl) kept asked c.in_err-fill_flagged-6.ensures.call))))));
+      memory = λ lasts. c.in_err-fill_flagged-6.ensures.memory (lasts_after c.in_ok-fill_flagged-5.ensures.call (lasts_after c.in_ok-fill_flagged-4.ensures.call (lasts_after c.in_ok-fill_flagged-3.ensures.call (lasts_after c.in_ok-fill_flagged-2.ensures.call (lasts_after c.in_ok-fill_flagged.ensures.call lasts))))) (λ set. refl);
     })
 
 pub returns-in_err-fill_flagged-7 : goal.returns-in_err-fill_flagged-7
@@ -88,6 +95,7 @@ returns-in_err-fill_flagged-7 g c =
           flag_after _ _ 3 _ _ kept asked c.in_ok-fill_flagged-5.ensures.call (λ kept.
           flag_after _ _ 6 _ _ kept asked c.in_ok-fill_flagged-6.ensures.call (λ kept.
           flag_stops _ _ 9 _ _ (λ left m. refl) kept asked c.in_err-fill_flagged-7.ensures.call)))))));
+      memory = λ lasts. c.in_err-fill_flagged-7.ensures.memory (lasts_after c.in_ok-fill_flagged-6.ensures.call (lasts_after c.in_ok-fill_flagged-5.ensures.call (lasts_after c.in_ok-fill_flagged-4.ensures.call (lasts_after c.in_ok-fill_flagged-3.ensures.call (lasts_after c.in_ok-fill_flagged-2.ensures.call (lasts_after c.in_ok-fill_flagged.ensures.call lasts)))))) (λ set. refl);
     })
 
 pub returns-in_err-fill_flagged-8 : goal.returns-in_err-fill_flagged-8
@@ -104,6 +112,7 @@ returns-in_err-fill_flagged-8 g c =
           flag_after _ _ 6 _ _ kept asked c.in_ok-fill_flagged-6.ensures.call (λ kept.
           flag_after _ _ 9 _ _ kept asked c.in_ok-fill_flagged-7.ensures.call (λ kept.
           flag_stops _ _ 7 _ _ (λ left m. refl) kept asked c.in_err-fill_flagged-8.ensures.call))))))));
+      memory = λ lasts. c.in_err-fill_flagged-8.ensures.memory (lasts_after c.in_ok-fill_flagged-7.ensures.call (lasts_after c.in_ok-fill_flagged-6.ensures.call (lasts_after c.in_ok-fill_flagged-5.ensures.call (lasts_after c.in_ok-fill_flagged-4.ensures.call (lasts_after c.in_ok-fill_flagged-3.ensures.call (lasts_after c.in_ok-fill_flagged-2.ensures.call (lasts_after c.in_ok-fill_flagged.ensures.call lasts))))))) (λ set. refl);
     })
 
 pub returns-in_err-fill_flagged-9 : goal.returns-in_err-fill_flagged-9
@@ -121,6 +130,7 @@ returns-in_err-fill_flagged-9 g c =
           flag_after _ _ 9 _ _ kept asked c.in_ok-fill_flagged-7.ensures.call (λ kept.
           flag_after _ _ 7 _ _ kept asked c.in_ok-fill_flagged-8.ensures.call (λ kept.
           flag_stops _ _ 8 _ _ (λ left m. refl) kept asked c.in_err-fill_flagged-9.ensures.call)))))))));
+      memory = λ lasts. c.in_err-fill_flagged-9.ensures.memory (lasts_after c.in_ok-fill_flagged-8.ensures.call (lasts_after c.in_ok-fill_flagged-7.ensures.call (lasts_after c.in_ok-fill_flagged-6.ensures.call (lasts_after c.in_ok-fill_flagged-5.ensures.call (lasts_after c.in_ok-fill_flagged-4.ensures.call (lasts_after c.in_ok-fill_flagged-3.ensures.call (lasts_after c.in_ok-fill_flagged-2.ensures.call (lasts_after c.in_ok-fill_flagged.ensures.call lasts)))))))) (λ set. refl);
     })
 
 pub returns : goal.returns
@@ -138,4 +148,5 @@ returns g c =
           flag_after _ _ 7 _ _ kept asked c.in_ok-fill_flagged-8.ensures.call (λ kept.
           flag_after _ _ 8 _ _ kept asked c.in_ok-fill_flagged-9.ensures.call (λ kept.
           fields_give _ _ (λ left m. refl)))))))))));
+      memory = λ lasts. tt;
     }

@@ -1,6 +1,6 @@
 use Rattle.std.proofs.Common.{sym, ◌∙◌}
 use Rattle.perf_sample_types.proofs.Flags.{contains_weight, contains_weight_struct, one_of_two, other_of_two}
-use Rattle.perf_sample_types.proofs.sample_groups.is_weighed.Goals as goal
+use Rattle.perf_sample_types.proofs.layout.is_weighed.Goals as goal
 
 pub returns-then-contains : goal.returns-then-contains
 returns-then-contains c =

@@ -4,7 +4,7 @@ use Rattle.std.proofs.lemmas.Nat.{and_mask}
 use Rattle.perf_base.specs.Configured.{configuration_of}
 use Rattle.perf_base.specs.Configuration.{Configuration}
 use Rattle.perf_sample_types.proofs.LeastSamples.{short_sample}
-use Rattle.perf_sample_types.proofs.sample.least_len.Goals as goal
+use Rattle.perf_sample_types.proofs.sample.Sample.least_len.Goals as goal
 
 pub returns-clause-least : goal.returns-clause-least
 returns-clause-least g c = λ o bytes short.

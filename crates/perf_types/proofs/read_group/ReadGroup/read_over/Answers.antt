@@ -11,7 +11,7 @@ use Rattle.perf_types.proofs.Flags.{contains_group, contains_time_enabled, conta
 use Rattle.perf_types.specs.ReadFormat.{has_group, has_known_bits, has_time_enabled, has_time_running, has_counter_id, has_lost}
 use Rattle.perf_words.specs.Sets.{element_len}
 use Rattle.perf_types.specs.ReadGroup.{GroupRead, all_entries}
-use Rattle.perf_types.proofs.read_group.ReadGroupReadFrom.read.Goals as goal
+use Rattle.perf_types.proofs.read_group.ReadGroup.read_over.Goals as goal
 
 pub returns-in_err-words : goal.returns-in_err-words
 returns-in_err-words g c =
