@@ -60,6 +60,8 @@ class Run:
         self.rtlib = load_rt()
         self.rtlib.Crate.cuts_libraries = True
         self.log, self.print, self.bodies = Log(options.after), threading.Lock(), []
+        # what the prover calls the folder of the files of proof that it offers
+        self.offers = set()
 
     def crate(self, name, edits):
         """Tries the bodies of a crate, and prints a line for each of its edits."""

@@ -33,10 +33,11 @@ class Body:
             self.first, self.last = item_start(lines, own), min(closed, end)
             self.names = FUNCTION.findall(lines[own - 1])
         self.names += FUNCTION.findall(self.text) or ["?"]
-        for text in lines[: self.first]:
+        for at, text in enumerate(lines[: self.first]):
             trait = TRAIT.match(text)
             if text.startswith("impl"):
-                self.owner, self.others = owner_of(text), other_owners(text)
+                header = header_of(lines, at)
+                self.owner, self.others = owner_of(header), other_owners(header)
             elif trait or text.startswith("}"):
                 self.owner, self.others = trait[1] if trait else "", []
             self.is_declared = bool(trait) or self.is_declared and not text.startswith("}")
@@ -77,6 +78,12 @@ def is_function(text):
 def begins(text):
     """Whether a line begins with a function or an impl, and does not end another one first."""
     return text.lstrip().startswith("impl") or "}" not in FUNCTION.split(text)[0]
+
+
+def header_of(lines, at):
+    """The header of an impl, which may be written in several lines."""
+    end = next((it for it in range(at, len(lines)) if "{" in lines[it]), at)
+    return " ".join(it.strip() for it in lines[at : end + 1])
 
 
 def closing(lines, at):

@@ -75,7 +75,9 @@ class Trial:
         self.unknown, self.types, self.traits = set(), types_of(self.source), traits_of(self.source)
         self.proofs = self.source / "proofs"
         self.command = [run.rtlib.RATTLE, "check", *crate.words(["--jobs", "1"], keeps=False), "--allow-holes"]
-        self.command += ["--incremental", f"{room}/kept"]
+        self.kept = Path(room) / "kept"
+        self.command += ["--incremental", str(self.kept)]
+        self.environment = {**os.environ, "TMPDIR": f"{room}/absent"}
         for part in ("src", "specs"):
             if (self.source / part).is_dir():
                 shutil.copytree(self.source / part, self.folder / part)
@@ -126,8 +128,7 @@ class Trial:
             if place.lines is not None:
                 copy_proof(place, self.folder / "proofs")
         asked = {it for place in places for it in place.functions}
-        for name in self.functions - asked:
-            self.assume(name)
+        self.assume_all(self.functions - asked)
         for path, text in {**texts_of(self.source), **texts}.items():
             text = hollow(path, text, self.functions - asked, self.types, self.traits)
             (self.folder / path).write_text(text, encoding="utf-8")
@@ -136,27 +137,50 @@ class Trial:
         if ran.returncode == -signal.SIGKILL:
             # most likely for memory
             ran = self.started(only)
+        self.whole.offers |= {it.name for it in self.kept.glob("*-offers")}
         for path in texts_of(self.source):
             shutil.copy2(self.source / path, self.folder / path)
         return ran.stdout.split("\n")
 
+    def refuse_offers(self):
+        """Leaves the prover no folder for the files of proof that it would offer, for which it runs once more: no one reads
+        them. What it calls that folder is known once a check has ended."""
+        for name in list(self.whole.offers):
+            self.kept.mkdir(exist_ok=True)
+            shutil.rmtree(self.kept / name, ignore_errors=True)
+            (self.kept / name).touch()
+
     def started(self, only):
         """Runs the prover once there is memory for it. What rt ci still proves goes first."""
+        self.refuse_offers()
         while free_memory() < LEAST_MEMORY and not self.whole.log.ended:
             time.sleep(5)
         gently = [] if self.whole.log.ended else ["nice", "-n", "19"]
-        return subprocess.run([*gently, *self.command, *only], cwd=self.folder, stdin=subprocess.DEVNULL,
+        return subprocess.run([*gently, *self.command, *only], cwd=self.folder, env=self.environment, stdin=subprocess.DEVNULL,
                               stdout=subprocess.PIPE, stderr=subprocess.STDOUT, errors="replace")
 
+    def assume_all(self, names):
+        """Puts one hole in the place of the proofs of these functions: rt ci has proved them. Each gets its proof from that
+        hole, since the prover writes out the goal of every hole."""
+        proofs = self.folder / "proofs"
+        proofs.mkdir(exist_ok=True)
+        hole = "pub proved_before : (S : Type 2) → S\nproved_before S = ?\n"
+        (proofs / "ProvedBefore.antt").write_text(hole, encoding="utf-8")
+        with open(proofs / "Lib.antt", "a", encoding="utf-8") as it:
+            it.write("\nmod ProvedBefore\n")
+        for name in names:
+            self.assume(name)
+
     def assume(self, name):
-        """Puts a hole in the place of a function's proof: rt ci has proved it."""
+        """Gives a function its proof from the hole."""
         folder, own = self.folder / "proofs" / name.replace("::", "/"), name.split("::")[-1]
         for proof in ("Answers.antt", "Invariants.antt"):
             (folder / proof).unlink(missing_ok=True)
         folder.mkdir(parents=True, exist_ok=True)
         module = f"Rattle.{self.name}.proofs.{name.replace('::', '.')}"
-        (folder / "Proof.antt").write_text(f"use {module}.Statement.{{statement}}\n\n"
-                                           f"pub {own}_spec : {{M : Type 1}} → statement M\n{own}_spec = ?\n", encoding="utf-8")
+        uses = f"use {module}.Statement.{{statement}}\nuse Rattle.{self.name}.proofs.ProvedBefore.{{proved_before}}\n\n"
+        proof = f"pub {own}_spec : {{M : Type 1}} → statement M\n{own}_spec {{M}} = proved_before (statement M)\n"
+        (folder / "Proof.antt").write_text(uses + proof, encoding="utf-8")
 
     def run(self, bodies):
         """Tries all bodies, and notes with each what the prover said of it, or nothing. Those that do not fit beside
