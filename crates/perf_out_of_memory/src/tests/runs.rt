@@ -124,14 +124,16 @@ fn a_call_chain(rt: HostRuntime) {
     check_run(&rt, "a call chain", of_chains, 10, (&lines, "done"));
 }
 
+// The line of a sample that is refused.
+const REFUSED: [&str; 1] = ["0 9 0 24 refused Eof"];
+
 // A call chain that claims four numbers and contains one. The sample is refused for that, even if
 // the allocation of its box fails.
 #[test]
 fn a_call_chain_that_is_too_short(rt: HostRuntime) {
     let bytes = b"\x09\0\0\0\0\0\x18\0\x04\0\0\0\0\0\0\0\x01\0\0\0\0\0\0\0";
-    let lines = ["0 9 0 24 refused Eof"];
     let of_chains = (bytes.as_slice(), SampleFlags::CALLCHAIN.bits());
-    check_run(&rt, "a short chain", of_chains, 10, (&lines, "done"));
+    check_run(&rt, "a short chain", of_chains, 10, (&REFUSED, "done"));
 }
 
 // A call chain without the raw bytes that should follow. The sample is refused for that, even if
@@ -140,12 +142,14 @@ fn a_call_chain_that_is_too_short(rt: HostRuntime) {
 #[test]
 fn a_call_chain_without_raw_bytes(rt: HostRuntime) {
     let bytes = b"\x09\0\0\0\0\0\x18\0\x01\0\0\0\0\0\0\0\x07\0\0\0\0\0\0\0";
-    let lines = ["0 9 0 24 refused Eof"];
-    let of_both = (
-        bytes.as_slice(),
-        SampleFlags::CALLCHAIN.bits() | SampleFlags::RAW.bits(),
+    let flags = SampleFlags::CALLCHAIN.bits() | SampleFlags::RAW.bits();
+    check_run(
+        &rt,
+        "a chain alone",
+        (bytes.as_slice(), flags),
+        10,
+        (&REFUSED, "done"),
     );
-    check_run(&rt, "a chain alone", of_both, 10, (&lines, "done"));
 }
 
 // ---- the text of a run

@@ -11,7 +11,7 @@ use perf_lines::outcome::Outcome;
 use perf_lines::output::write_whole;
 use perf_lines::run::run;
 use perf_test_inputs::bytes::{FIVE_LOST, TWO};
-use perf_test_inputs::orders::Single;
+use perf_test_inputs::orders::Counting;
 use perf_test_inputs::readers::Failing;
 use std::alloc::AllocError;
 use std::cell::Cell;
@@ -345,7 +345,7 @@ const WITHOUT_MEMORY: &str = "end fault OutOfMemory\n";
 // limit and what is written. The configuration after the attribute has a byte order of its own.
 #[test]
 fn a_refused_order_ends_the_text_out_of_memory(rt: HostRuntime) -> Result<(), AllocError> {
-    let input = join(rt.alloc(), &PLAIN_64, &FIVE_LOST)?;
+    let (calls, input) = (Cell::new(0), join(rt.alloc(), &PLAIN_64, &FIVE_LOST)?);
     for &(limit, bytes, text, outcome) in &[
         (10, PLAIN_64.as_slice(), WITHOUT_MEMORY, Outcome::Faulted),
         (10, input.as_slice(), WITHOUT_MEMORY, Outcome::Faulted),
@@ -363,13 +363,14 @@ fn a_refused_order_ends_the_text_out_of_memory(rt: HostRuntime) -> Result<(), Al
             text,
             outcome,
         };
-        check_run(&rt, bytes, Single, actual);
+        check_run(&rt, bytes, Counting::single(&calls), actual);
     }
     Ok(())
 }
 
 #[test]
 fn a_run_without_an_attribute_borrows_its_order(rt: HostRuntime) {
+    let calls = Cell::new(0);
     for &(bytes, text, outcome) in &ENDING {
         let actual = RunCase {
             limit: 10,
@@ -377,6 +378,6 @@ fn a_run_without_an_attribute_borrows_its_order(rt: HostRuntime) {
             text,
             outcome,
         };
-        check_run(&rt, bytes, Single, actual);
+        check_run(&rt, bytes, Counting::single(&calls), actual);
     }
 }

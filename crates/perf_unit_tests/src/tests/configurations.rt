@@ -45,70 +45,44 @@ fn another_order_keeps_all_flags_and_masks(rt: HostRuntime) {
     check!(rt; *config.endian(), Dynamic::Big);
 }
 
-// What changes.
-#[derive(Copy, Clone)]
-enum Change {
-    Misc(u16),
-    SampleType(u64),
-    ReadFormat(u64),
-}
-
-// Changes, and the texts of what is left: of a sample type 40 bits are kept, and of a read format five,
-// of which the next is set for all others.
-const CHANGES: [(Change, &str); 10] = [
-    (Change::Misc(1), "([65543, 13], [true, true], [17, 34], 1)"),
-    (
-        Change::Misc(0x8000),
-        "([65543, 13], [true, true], [17, 34], 32768)",
-    ),
-    (
-        Change::Misc(0xFFFF),
-        "([65543, 13], [true, true], [17, 34], 65535)",
-    ),
-    (
-        Change::SampleType(0x2),
-        "([2, 13], [true, true], [17, 34], 7)",
-    ),
-    (
-        Change::SampleType(0xFF_FFFF_FFFF),
-        "([1099511627775, 13], [true, true], [17, 34], 7)",
-    ),
-    (
-        Change::SampleType(0x100_0000_0004),
-        "([4, 13], [true, true], [17, 34], 7)",
-    ),
-    (
-        Change::ReadFormat(0x2),
-        "([65543, 2], [true, true], [17, 34], 7)",
-    ),
-    (
-        Change::ReadFormat(0x1F),
-        "([65543, 31], [true, true], [17, 34], 7)",
-    ),
-    (
-        Change::ReadFormat(0x41),
-        "([65543, 33], [true, true], [17, 34], 7)",
-    ),
-    (
-        Change::ReadFormat(1 << 63),
-        "([65543, 32], [true, true], [17, 34], 7)",
-    ),
+const MISCS: [(u16, &str); 3] = [
+    (1, "([65543, 13], [true, true], [17, 34], 1)"),
+    (0x8000, "([65543, 13], [true, true], [17, 34], 32768)"),
+    (0xFFFF, "([65543, 13], [true, true], [17, 34], 65535)"),
 ];
 
-// The full configuration, with the misc 7, after a change.
-fn changed(change: Change) -> ParseConfig<Little> {
-    let config = full().with_misc(7);
-    match change {
-        Change::Misc(misc) => config.with_misc(misc),
-        Change::SampleType(bits) => config.with_sample_type(SampleFlags::from_bits_retain(bits)),
-        Change::ReadFormat(bits) => config.with_read_format(ReadFormat::from_bits_retain(bits)),
-    }
-}
+// Sample types, and their texts: 40 bits are kept.
+const SAMPLE_TYPES: [(u64, &str); 3] = [
+    (0x2, "([2, 13], [true, true], [17, 34], 7)"),
+    (
+        0xFF_FFFF_FFFF,
+        "([1099511627775, 13], [true, true], [17, 34], 7)",
+    ),
+    (0x100_0000_0004, "([4, 13], [true, true], [17, 34], 7)"),
+];
+
+// Read formats, and their texts: five bits are kept, and the next is set for all others.
+const READ_FORMATS: [(u64, &str); 4] = [
+    (0x2, "([65543, 2], [true, true], [17, 34], 7)"),
+    (0x1F, "([65543, 31], [true, true], [17, 34], 7)"),
+    (0x41, "([65543, 33], [true, true], [17, 34], 7)"),
+    (1 << 63, "([65543, 32], [true, true], [17, 34], 7)"),
+];
 
 #[test]
-fn a_change_keeps_the_rest(rt: HostRuntime) {
-    for &(change, want) in &CHANGES {
-        check_config(&rt, &changed(change), want);
+fn another_part_keeps_the_rest(rt: HostRuntime) {
+    for &(misc, want) in &MISCS {
+        check_config(&rt, &full().with_misc(0x5555).with_misc(misc), want);
+    }
+    for &(bits, want) in &SAMPLE_TYPES {
+        let sample_type = SampleFlags::from_bits_retain(bits);
+        let config = full().with_misc(7).with_sample_type(sample_type);
+        check_config(&rt, &config, want);
+    }
+    for &(bits, want) in &READ_FORMATS {
+        let read_format = ReadFormat::from_bits_retain(bits);
+        let config = full().with_misc(7).with_read_format(read_format);
+        check_config(&rt, &config, want);
     }
 }
 

@@ -10,7 +10,7 @@ use perf_base::sys::perf_event_header;
 use perf_base::{ErrorKind, ParseConfig, ParseResult};
 use perf_event_data::parse::{Parse, ParseBuf, Parser};
 use perf_test_helpers::runs::text_of_runs;
-use perf_test_inputs::orders::{Counting, Single};
+use perf_test_inputs::orders::Counting;
 use std::alloc::Global;
 use std::cell::Cell;
 use std::process::Abort;
@@ -120,8 +120,15 @@ fn text_of_refusals<'p, B: ParseBuf<'p>, E: Endian>(
 }
 
 fn text_of_refused_body<'p, B: ParseBuf<'p> + Drop>(alloc: Global, buf: B) -> ParseResult<String> {
-    let config = ParseConfig::<Little>::default().with_endian(Single);
+    let calls = Cell::new(0);
+    let config = ParseConfig::<Little>::default().with_endian(Counting::single(&calls));
     text_of_refusals(alloc, &mut Parser::new(alloc, buf, config))
+}
+
+// Two runs.
+fn text_of_single<'p, B: ParseBuf<'p> + Drop>(alloc: Global, buf: B) -> ParseResult<String> {
+    let calls = Cell::new(0);
+    Ok(text_of_runs(alloc, buf, Counting::single(&calls), &[10, 10])?)
 }
 
 fn text_of_count<'p, B: ParseBuf<'p> + Drop>(
@@ -130,7 +137,7 @@ fn text_of_count<'p, B: ParseBuf<'p> + Drop>(
     most: u64,
 ) -> ParseResult<String> {
     let calls = Cell::new(0);
-    let text = text_of_runs(alloc, buf, Counting { calls: &calls }, &[1])?;
+    let text = text_of_runs(alloc, buf, Counting::new(&calls), &[1])?;
     let is_within = calls.get() >= 1 && calls.get() <= most;
     Ok(format!(in alloc; "{text}, {is_within}")?)
 }
@@ -144,7 +151,7 @@ pub fn text_by_order<'p, B: ParseBuf<'p> + Drop>(
     match request {
         OrderRequest::Eights => Ok(text_of_runs(alloc, buf, Eights, &[10])?),
         OrderRequest::Words => Ok(text_of_runs(alloc, buf, Words, &[10])?),
-        OrderRequest::Single => Ok(text_of_runs(alloc, buf, Single, &[10, 10])?),
+        OrderRequest::Single => text_of_single(alloc, buf),
         OrderRequest::Body => text_of_refused_body(alloc, buf),
         OrderRequest::Count(most) => text_of_count(alloc, buf, most),
     }
@@ -236,7 +243,8 @@ fn orders_of_ones_own_are_asked(rt: HostRuntime) {
 
 #[test]
 fn a_refused_duplicate_refuses_the_configuration(rt: HostRuntime) {
-    let config = ParseConfig::<Little>::default().with_endian(Single);
+    let calls = Cell::new(0);
+    let config = ParseConfig::<Little>::default().with_endian(Counting::single(&calls));
     let kind = kind_of(config.duplicate());
     check_same(
         &rt,
@@ -282,6 +290,7 @@ fn orders_convert_as_they_are_named(rt: HostRuntime) {
 
 #[test]
 fn the_little_orders_are_native(rt: HostRuntime) {
+    let calls = Cell::new(0);
     let actual = [
         Native.is_native(),
         Little.is_native(),
@@ -290,7 +299,7 @@ fn the_little_orders_are_native(rt: HostRuntime) {
         Dynamic::Big.is_native(),
         Eights.is_native(),
         Words.is_native(),
-        Single.is_native(),
+        Counting::single(&calls).is_native(),
     ];
     let want = [true, true, true, false, false, false, false, false];
     check_same(&rt, "which are native", actual, want);

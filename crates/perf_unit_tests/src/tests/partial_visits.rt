@@ -1,15 +1,12 @@
-//! Visits by a partial visitor: its own calls are made, and no others.
+//! Partial visitors: their own calls are made, and no others.
 
 ghost use Rattle.std.specs.Prelude.{⊤};
 
-use crate::tests::cases::{Case, Request, check_cases};
-use crate::tests::visits::Gives;
 use perf_event_data::{
     Aux, AuxOutputHwId, BpfEvent, CGroup, Comm, CowSlice, Exit, Fork, ITraceStart, KSymbol, Lost,
     LostSamples, Mmap, Mmap2, Namespaces, PartialVisitor, Read, RecordMetadata, Sample,
     SwitchCpuWide, TextPoke, Throttle,
 };
-use perf_test_helpers::frames::BY_BUILD_ID;
 use perf_test_helpers::texts::WriteText;
 use std::alloc::AllocError;
 use std::cell::Cell;
@@ -187,43 +184,4 @@ impl PartialVisitor for Mappings<'_> {
         drop(content);
         self.moment_of("mmap", &metadata)
     }
-}
-
-// MMAP2 with a build id of length 21.
-const BY_LONG_BUILD_ID: &[u8] = b"\x0A\0\0\0\0\x40\x50\0\x01\0\0\0\x02\0\0\0\
-    \0\x10\0\0\0\0\0\0\0\x20\0\0\0\0\0\0\0\0\0\0\0\0\0\0\
-    \x15\0\0\0\x01\x02\x03\x04\x05\x06\x07\x08\x09\x0A\x0B\x0C\x0D\x0E\x0F\x10\x11\x12\x13\x14\
-    \x05\0\0\0\x02\0\0\0\x61\x62\0\0\0\0\0\0";
-
-// What the visitor of mappings makes of frames, and the number of visits.
-const CASES: [Case; 4] = [
-    Case {
-        name: "MMAP2 goes to its own call for mappings",
-        request: Request::Visited(Gives::Mappings),
-        bytes: BY_BUILD_ID,
-        want: "mmap None None 10; Eof, 1",
-    },
-    Case {
-        name: "LOST_SAMPLES goes the default way",
-        request: Request::Visited(Gives::Mappings),
-        bytes: b"\x0D\0\0\0\0\0\x10\0\x05\0\0\0\0\0\0\0",
-        want: "unimplemented None None 13; Eof, 1",
-    },
-    Case {
-        name: "SWITCH goes the default way",
-        request: Request::Visited(Gives::Mappings),
-        bytes: b"\x0E\0\0\0\0\0\x08\0",
-        want: "unimplemented None None 14; Eof, 1",
-    },
-    Case {
-        name: "a frame that is refused is not visited",
-        request: Request::Visited(Gives::Mappings),
-        bytes: BY_LONG_BUILD_ID,
-        want: "InvalidRecord, 0",
-    },
-];
-
-#[test]
-fn what_is_left_out_goes_the_default_way(rt: HostRuntime) {
-    check_cases(&rt, &CASES);
 }

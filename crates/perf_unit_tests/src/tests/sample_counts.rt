@@ -41,7 +41,7 @@ fn conversions<'p, B: ParseBuf<'p> + Drop>(
     attr: perf_event_attr,
 ) -> u64 {
     let calls = Cell::new(0);
-    match text_of_runs_under(rt.alloc(), buf, Counting { calls: &calls }, &attr, &[1]) {
+    match text_of_runs_under(rt.alloc(), buf, Counting::new(&calls), &attr, &[1]) {
         Ok(text) => check_that(rt, text.as_str(), text.ends_with(" refused Eof; limit")),
         Err(_) => panic!(rt; "no memory"),
     }

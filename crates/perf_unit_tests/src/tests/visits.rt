@@ -1,6 +1,6 @@
 //! Visits of frames.
 
-use crate::tests::cases::{Case, Request, check_case, check_cases};
+use crate::tests::cases::{Case, Request, check_case};
 use crate::tests::partial_visits::{Mappings, OwnCalls};
 use bitflags::Flags;
 use perf_event_data::endian::{Endian, Little, Native};
@@ -8,7 +8,7 @@ use perf_event_data::parse::{ParseBuf, ParseConfig, ParseResult, Parser};
 use perf_event_data::sys::perf_event_attr;
 use perf_event_data::{Partial, RecordVisitor, SampleFlags};
 use perf_test_helpers::attributes::ids_attribute;
-use perf_test_helpers::frames::zero_frames;
+use perf_test_helpers::frames::{BY_BUILD_ID, zero_frames};
 use perf_test_helpers::texts::{WriteText, write_error};
 use std::alloc::{AllocError, Global};
 use std::cell::Cell;
@@ -146,23 +146,53 @@ const TIMED: &[u8] = b"\x0D\0\0\0\0\0\x20\0\x05\0\0\0\0\0\0\0\
     \x03\0\0\0\0\0\x28\0\x01\0\0\0\x02\0\0\0\x61\0\0\0\0\0\0\0\
     \x09\0\0\0\0\0\0\0\x01\0\0\0\0\0\0\0";
 
-const CASES: [Case; 2] = [
-    Case {
-        name: "a timeline is made of sample ids",
-        request: Request::Visited(Gives::TimedMappings),
-        bytes: TIMED,
-        want: "unimplemented Some(7) Some(3) 13; unimplemented Some(8) Some(2) 14; \
+// MMAP2 with a build id of length 21.
+const BY_LONG_BUILD_ID: &[u8] = b"\x0A\0\0\0\0\x40\x50\0\x01\0\0\0\x02\0\0\0\
+    \0\x10\0\0\0\0\0\0\0\x20\0\0\0\0\0\0\0\0\0\0\0\0\0\0\
+    \x15\0\0\0\x01\x02\x03\x04\x05\x06\x07\x08\x09\x0A\x0B\x0C\x0D\x0E\x0F\x10\x11\x12\x13\x14\
+    \x05\0\0\0\x02\0\0\0\x61\x62\0\0\0\0\0\0";
+
+const LOST_SAMPLES: &[u8] = b"\x0D\0\0\0\0\0\x10\0\x05\0\0\0\0\0\0\0";
+
+const SWITCH: &[u8] = b"\x0E\0\0\0\0\0\x08\0";
+
+// A visitor, frames, and what it makes of them; of mappings also the number of visits. An MMAP2 goes
+// to its own call for mappings, other records the default way, and a refused frame is not visited.
+const VISITED: [(Gives, &[u8], &str); 6] = [
+    (Gives::Mappings, BY_BUILD_ID, "mmap None None 10; Eof, 1"),
+    (
+        Gives::Mappings,
+        LOST_SAMPLES,
+        "unimplemented None None 13; Eof, 1",
+    ),
+    (
+        Gives::Mappings,
+        SWITCH,
+        "unimplemented None None 14; Eof, 1",
+    ),
+    (Gives::Mappings, BY_LONG_BUILD_ID, "InvalidRecord, 0"),
+    (
+        Gives::TimedMappings,
+        TIMED,
+        "unimplemented Some(7) Some(3) 13; unimplemented Some(8) Some(2) 14; \
             unimplemented Some(9) Some(1) 3; Eof, 3",
-    },
-    Case {
-        name: "the visitor of records makes them",
-        request: Request::Visited(Gives::TimedRecords),
-        bytes: TIMED,
-        want: "LostSamples lost=5; Switch; Comm pid=1 tid=2 comm=61; Eof",
-    },
+    ),
+    (
+        Gives::TimedRecords,
+        TIMED,
+        "LostSamples lost=5; Switch; Comm pid=1 tid=2 comm=61; Eof",
+    ),
 ];
 
 #[test]
-fn records_with_sample_ids_are_visited(rt: HostRuntime) {
-    check_cases(&rt, &CASES);
+fn frames_are_visited(rt: HostRuntime) {
+    for &(visitor, bytes, want) in &VISITED {
+        let case = Case {
+            name: want,
+            request: Request::Visited(visitor),
+            bytes,
+            want,
+        };
+        check_case(&rt, &case);
+    }
 }
