@@ -85,6 +85,13 @@ impl Digest {
         self.number(number.unwrap_or(ABSENT));
     }
 
+    // Numbers that may be absent.
+    fn each(&mut self, numbers: &[Option<u64>]) {
+        for number in numbers {
+            self.maybe(*number);
+        }
+    }
+
     fn maybe_short(&mut self, number: Option<u32>) {
         self.maybe(number.map(u64::from));
     }
@@ -167,9 +174,7 @@ impl Digest {
         let id = metadata.sample_id();
         self.maybe_short(id.pid());
         self.maybe_short(id.tid());
-        self.maybe(id.time());
-        self.maybe(id.id());
-        self.maybe(id.stream_id());
+        self.each(&[id.time(), id.id(), id.stream_id()]);
         self.maybe_short(id.cpu());
     }
 
@@ -300,10 +305,8 @@ impl Digest {
         self.short(read.pid);
         self.short(read.tid);
         self.number(read.values.value());
-        self.maybe(read.values.time_enabled());
-        self.maybe(read.values.time_running());
-        self.maybe(read.values.id());
-        self.maybe(read.values.lost());
+        let (enabled, running) = (read.values.time_enabled(), read.values.time_running());
+        self.each(&[enabled, running, read.values.id(), read.values.lost()]);
     }
 
     /// A sample was read.
@@ -311,10 +314,8 @@ impl Digest {
         self.maybe(sample.ip());
         self.maybe_short(sample.pid());
         self.maybe_short(sample.tid());
-        self.maybe(sample.time());
-        self.maybe(sample.addr());
-        self.maybe(sample.id());
-        self.maybe(sample.stream_id());
+        let (addr, id) = (sample.addr(), sample.id());
+        self.each(&[sample.time(), addr, id, sample.stream_id()]);
         self.maybe_short(sample.cpu());
         self.maybe(sample.period());
         self.costs(sample);
@@ -325,11 +326,9 @@ impl Digest {
         self.maybe(sample.weight());
         self.maybe(sample.data_src().map(|word| word.bits()));
         self.maybe(sample.transaction().map(|word| word.bits()));
-        self.maybe(sample.phys_addr());
-        self.maybe(sample.cgroup());
-        self.maybe(sample.data_page_size());
-        self.maybe(sample.code_page_size());
-        self.maybe(sample.lbr_hw_index());
+        self.each(&[sample.phys_addr(), sample.cgroup()]);
+        let (of_data, of_code) = (sample.data_page_size(), sample.code_page_size());
+        self.each(&[of_data, of_code, sample.lbr_hw_index()]);
     }
 
     fn lists(&mut self, sample: &Sample) {

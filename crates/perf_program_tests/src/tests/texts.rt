@@ -45,13 +45,17 @@ fn writeln(text: &mut String, alloc: Global, index: usize) -> Result<(), AllocEr
     text.push_str(&line)
 }
 
+const DONE: &str = "end done\n";
+
+const LIMIT: &str = "end limit\n";
+
 // The number of frames, more than are kept at a time, the limit, and the last line.
 const MANY: [(usize, usize, &str); 5] = [
-    (256, 256, "end limit\n"),
-    (256, 257, "end done\n"),
-    (257, 256, "end limit\n"),
-    (600, 1000, "end done\n"),
-    (600, 513, "end limit\n"),
+    (256, 256, LIMIT),
+    (256, 257, DONE),
+    (257, 256, LIMIT),
+    (600, 1000, DONE),
+    (600, 513, LIMIT),
 ];
 
 #[test]
